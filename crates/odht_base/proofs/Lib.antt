@@ -1,0 +1,2 @@
+-- laws over the definitions, for the crates above too
+pub mod lemmas

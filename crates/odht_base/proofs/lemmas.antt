@@ -1,0 +1,66 @@
+-- The library of laws over the definitions in specs/, lowest first.
+-- ---- Lists
+-- answers that are there or not
+pub mod Options
+-- the first item of a list that passes a test
+pub mod Firsts
+-- different items that all stand in a list no longer than theirs are that list in another order
+pub mod Pigeons
+-- what is read and written at a place between two lists
+pub mod ByteRanges
+-- ---- Numbers, slot counts and the probe order
+-- numbers and their bytes
+pub mod Numbers
+-- numbers as the machine reads and writes them; lists compared by words
+pub mod Words
+-- the pieces of `fx`, one after the other
+pub mod Pieces
+-- slot counts are the powers of two from 16 to 2 ^ 63
+pub mod SlotCounts
+-- `slots_for` answers the least slot count that holds the items
+pub mod Least
+-- and the next power of two is that
+pub mod NextPower
+-- two places of an order are two slots
+pub mod Distinct
+-- an order lists each slot once; the first of its slots that passes a test
+pub mod Orders
+-- ---- Cells
+-- cells by the keys that they hold
+pub mod Keys
+-- how many pairs cells hold, and how many after a cell is set
+pub mod Counts
+-- tables that tests show to be placed
+pub mod Placed
+-- cells whose pairs are of the format, after a cell is set or taken away
+pub mod Fits
+-- ---- Bytes: parts, images and writes to them
+-- the two parts of any bytes
+pub mod PartsOf
+-- the parts of cells: how long they are, what stands where, and that they show the cells
+pub mod Parts
+-- the image of a table: what its header says and what it shows
+pub mod Image
+-- a pair written to a slot of the parts, and of an image
+pub mod Writes
+-- ---- Placing, growth and runs of inserts
+-- where the search for a key ends in a placed table
+pub mod Targets
+-- the pairs of cells and the map that they are
+pub mod Pairs
+-- what `place` does to a placed table
+pub mod Places
+-- a valid table has a free slot; empty and fresh tables
+pub mod Rooms
+-- inserts in turn, by any insert that keeps a property and overwrites the map at its key
+pub mod Runs
+-- lists of pairs of different keys, such as a walk
+pub mod Apart
+-- pairs placed in turn, and the grown table
+pub mod Grown
+-- the inserts of both tables
+pub mod Puts
+-- inserts into a table that has room for them all
+pub mod FreshRuns
+-- what a search in a placed table tells of its map
+pub mod Lookups

@@ -1,0 +1,78 @@
+-- `slots_for` answers the least slot count that holds the items, or none where there is none.
+use Rattle.std.proofs.Common.{◌≡◌, ◌<◌, ◌≤◌, ◌∙◌, ◌+◌, ◌*◌, ◌-◌, ◌^◌, ℕ, Bool, true, false, sym, ap, subst, refl, Option, Some, None, slice_get, arith, nat_le, pow_mono, leb-true, le-leb, ltb-true, ltb-false, nat_lt, true≢false}
+use Rattle.std.proofs.lemmas.Option.{slice_get_within, slice_get-get_or, none-some}
+use Rattle.std.proofs.lemmas.List.FromFn.{get_or-map-range_with_len}
+use Rattle.odht_base.specs.Load.{slots_for, slot_counts, IsSlotCount, IsLeastSlots}
+use Rattle.odht_base.proofs.lemmas.Firsts.{IsFirst, find-Some, find-None}
+use Rattle.odht_base.proofs.lemmas.Options.{some_same}
+
+-- the slot count at place q
+slice_get-slot_counts : (q e : ℕ) → q < 60 → 4 + q ≡ e → slice_get slot_counts q ≡ Some (2 ^ e)
+slice_get-slot_counts q e h g = slice_get-get_or slot_counts q 0 h ∙ ap Some (get_or-map-range_with_len (λ n. 2 ^ n) 4 60 q e 0 h g)
+
+-- every slot count is in the list
+slot_count-in_list : (e : ℕ) → 4 ≤ e → e < 64 → slice_get slot_counts (e - 4) ≡ Some (2 ^ e)
+slot_count-in_list e lo hi = slice_get-slot_counts (e - 4) e (omega arith) (omega arith)
+
+module _ (n f : ℕ) where
+  -- s slots hold n items
+  abbrev fits : ℕ → Bool
+  fits s = nat_le (65536 * n) (s * f)
+
+  -- none before the first that passes is as small as one that passes
+  first_is_least : (s : ℕ) → IsFirst fits slot_counts s → (t : ℕ) → IsSlotCount t → fits t ≡ true → s ≤ t
+  first_is_least s first t (e, lo, hi, te) h = go (nat_lt e (4 + first.place)) refl
+    where
+      in_range : first.place < 60
+      in_range = slice_get_within slot_counts first.place s first.is
+
+      power : 2 ^ (4 + first.place) ≡ s
+      power = some_same _ _ (sym (slice_get-slot_counts first.place (4 + first.place) in_range refl) ∙ first.is)
+
+      go : (b : Bool) → nat_lt e (4 + first.place) ≡ b → s ≤ t
+      go true g =
+          let below = ltb-true e (4 + first.place) g in
+          let fails = first.before (e - 4) (2 ^ e) (omega arith) (slot_count-in_list e lo hi) in
+          absurd (true≢false (sym h ∙ ap fits te ∙ fails))
+      go false g =
+          let above = ltb-false e (4 + first.place) g in
+          subst (λ u. u ≤ t) power (subst (λ u. 2 ^ (4 + first.place) ≤ u) (sym te) (pow_mono above))
+
+  -- what it answers is least
+  pub slots_for-IsLeastSlots : (s : ℕ) → slots_for n f ≡ Some s → IsLeastSlots n f s
+  unfolding slots_for
+  slots_for-IsLeastSlots s e =
+      let first = find-Some fits slot_counts s e in
+      let in_range : first.place < 60 = slice_get_within slot_counts first.place s first.is in
+      record {
+        is_count = (4 + first.place, omega arith, omega arith, some_same _ _ (sym first.is ∙ slice_get-slot_counts first.place (4 + first.place) in_range refl));
+        holds = leb-true (65536 * n) (s * f) first.passes;
+        least = λ t c h. first_is_least s first t c (le-leb (65536 * n) (t * f) h);
+      }
+
+  -- where it answers none, no slot count holds the items
+  pub slots_for-None : slots_for n f ≡ None → (t : ℕ) → IsSlotCount t → 65536 * n ≤ t * f → ⊥
+  unfolding slots_for
+  slots_for-None e t (k, lo, hi, te) h =
+      let fails = find-None fits slot_counts e (k - 4) (2 ^ k) (slot_count-in_list k lo hi) in
+      true≢false (sym (le-leb (65536 * n) (t * f) h) ∙ ap fits te ∙ fails)
+
+  -- a least slot count is what it answers
+  pub slots_for-least : (s : ℕ) → IsLeastSlots n f s → slots_for n f ≡ Some s
+  slots_for-least s least = go (slots_for n f) refl
+    where
+      go : (o : Option ℕ) → slots_for n f ≡ o → o ≡ Some s
+      go None e = absurd (slots_for-None e s least.is_count least.holds)
+      go (Some t) e =
+          let other = slots_for-IsLeastSlots t e in
+          let up = other.least s least.is_count least.holds in
+          let down = least.least t other.is_count other.holds in
+          let same : t ≡ s = omega arith in ap Some same
+
+  -- where no slot count holds the items, it answers none
+  pub slots_for-none : ((t : ℕ) → IsSlotCount t → 65536 * n ≤ t * f → ⊥) → slots_for n f ≡ None
+  slots_for-none never = go (slots_for n f) refl
+    where
+      go : (o : Option ℕ) → slots_for n f ≡ o → o ≡ None
+      go None e = refl
+      go (Some t) e = let other = slots_for-IsLeastSlots t e in absurd (never t other.is_count other.holds)

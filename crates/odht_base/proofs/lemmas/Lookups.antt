@@ -1,0 +1,89 @@
+-- What a search in a placed table tells.
+use Rattle.std.proofs.Common.{◌≡◌, ◌<◌, ◌∙◌, ℕ, true, false, true≢false, sym, ap, refl, List, Option, Some, None, length, arith}
+use Rattle.std.specs.Prelude.{is_none, option_map, option_and_then}
+use Rattle.std.proofs.lemmas.Bool.{or_from, or_right, false_from_ne_true}
+use Rattle.odht_base.specs.Format.{Format, home}
+use Rattle.odht_base.specs.Insert.{search_end, reach, stops_at}
+use Rattle.odht_base.specs.Map.{map_of}
+use Rattle.odht_base.specs.Probe.{place_slot}
+use Rattle.odht_base.specs.Table.{Pair, Table, Cells, slot_count, cell_at, has_key}
+use Rattle.odht_base.specs.Valid.{IsPlaced}
+use Rattle.odht_base.proofs.lemmas.Options.{some_same}
+use Rattle.odht_base.proofs.lemmas.Orders.{place_slot-apart, find-order, find-order_none, find-order_some, find-order_all, position-order, position-order_none}
+use Rattle.odht_base.proofs.lemmas.Pairs.{value_in-Some}
+use Rattle.odht_base.proofs.lemmas.Placed.{AllArrive}
+use Rattle.odht_base.proofs.lemmas.Places.{is_free-target}
+use Rattle.odht_base.proofs.lemmas.Targets.{IsTarget, has_key-holds, has_key-one, search_end-IsTarget}
+use Rattle.std.proofs.lemmas.Option.{none-some}
+
+-- in a placed table each pair stands where a search for its key ends
+pub AllArrive-IsPlaced : (F : Format) (P : Table) → IsPlaced F P → AllArrive F P
+unfolding search_end
+AllArrive-IsPlaced F P ok i p h =
+    let r = ok.reached i p h in
+    let here = has_key-holds P i p h in
+    let b = home F p.key (slot_count P) in
+    find-order (stops_at P.cells p.key) b (slot_count P) r.place r.in_order
+    (ap (stops_at P.cells p.key) r.stands ∙ or_right _ _ here)
+    (λ q l. or_from _ _ (r.behind_filled q l) (false_from_ne_true _ (λ g.
+    let same = has_key-one F P p.key ok (place_slot b (slot_count P) q) i g here in
+    let lq : q < slot_count P = omega (arith, r.in_order) in
+    let z = place_slot-apart b (slot_count P) q r.place ok.slots lq r.in_order (same ∙ sym r.stands) in omega arith)))
+    ∙ ap Some r.stands
+
+-- a walk over the places of k's order that met no stop before place n, and one at place n
+pub search_end-at : (F : Format) (cs : Cells) (k : List ℕ) (n : ℕ) → n < length cs
+    → ((m : ℕ) → m < n → stops_at cs k (place_slot (home F k (length cs)) (length cs) m) ≡ false)
+    → stops_at cs k (place_slot (home F k (length cs)) (length cs) n) ≡ true
+    → search_end F cs k ≡ Some (place_slot (home F k (length cs)) (length cs) n)
+unfolding search_end
+search_end-at F cs k n l below here = find-order (stops_at cs k) (home F k (length cs)) (length cs) n l here below
+
+-- one that met no stop at all
+pub search_end-nowhere : (F : Format) (cs : Cells) (k : List ℕ)
+    → ((m : ℕ) → m < length cs → stops_at cs k (place_slot (home F k (length cs)) (length cs) m) ≡ false)
+    → search_end F cs k ≡ None
+unfolding search_end
+search_end-nowhere F cs k none = find-order_none (stops_at cs k) (home F k (length cs)) (length cs) none
+
+-- the map has the value of the slot where the search ends
+pub map_of-search_end : (F : Format) (P : Table) (k : List ℕ) → IsPlaced F P → map_of P k ≡ option_and_then (λ i. option_map (λ (p : Pair). p.value) (cell_at P.cells i)) (search_end F P.cells k)
+map_of-search_end F P k ok = go (search_end F P.cells k) refl
+  where
+    at : (i : ℕ) → IsTarget F P k i → (c : Option Pair) → cell_at P.cells i ≡ c → (o : Option (List ℕ)) → map_of P k ≡ o → o ≡ option_map (λ (p : Pair). p.value) c
+    at i t None e None m = refl
+    at i t None e (Some v) m = absurd (true≢false (sym (ap is_none e) ∙ is_free-target F P k i t ∙ ap is_none m))
+    at i t (Some p) e None m = absurd (true≢false (sym (ap is_none m) ∙ sym (is_free-target F P k i t) ∙ ap is_none e))
+    at i t (Some p) e (Some v) m =
+        let h = value_in-Some P.cells k v m in
+        let j = t.others h.0 (ap (λ x. has_key x (cell_at P.cells h.0)) h.3 ∙ has_key-holds P h.0 h.1 h.2) in
+        let same : h.1 ≡ p = some_same _ _ (sym h.2 ∙ ap (cell_at P.cells) j ∙ e) in
+        ap Some (sym h.4 ∙ ap (λ (x : Pair). x.value) same)
+
+    absent : search_end F P.cells k ≡ None → (o : Option (List ℕ)) → map_of P k ≡ o → o ≡ None
+    absent e None m = refl
+    absent e (Some v) m =
+        let h = value_in-Some P.cells k v m in
+        let a = AllArrive-IsPlaced F P ok h.0 h.1 h.2 in
+        absurd (none-some h.0 (sym e ∙ ap (search_end F P.cells) h.3 ∙ a))
+
+    go : (o : Option ℕ) → search_end F P.cells k ≡ o → map_of P k ≡ option_and_then (λ i. option_map (λ (p : Pair). p.value) (cell_at P.cells i)) o
+    go None e = absent e (map_of P k) refl
+    go (Some i) e = at i (search_end-IsTarget F P k ok i e) (cell_at P.cells i) refl (map_of P k) refl
+
+-- the reach is the place of the slot where the search ends, in any cells
+pub search_end-reach : (F : Format) (cs : Cells) (k : List ℕ) → search_end F cs k ≡ option_map (λ p. place_slot (home F k (length cs)) (length cs) p) (reach F cs k)
+unfolding search_end reach
+search_end-reach F cs k = go (search_end F cs k) refl
+  where
+    go : (o : Option ℕ) → search_end F cs k ≡ o → o ≡ option_map (λ p. place_slot (home F k (length cs)) (length cs) p) (reach F cs k)
+    go None e =
+        let b = home F k (length cs) in
+        let all = find-order_all (stops_at cs k) b (length cs) e in
+        let none = position-order_none (stops_at cs k) b (length cs) all in
+        ap (option_map (λ p. place_slot b (length cs) p)) (sym none)
+    go (Some i) e =
+        let b = home F k (length cs) in
+        let f = find-order_some (stops_at cs k) b (length cs) i e in
+        let first = position-order (stops_at cs k) b (length cs) f.place f.within (ap (stops_at cs k) f.stands ∙ f.passes) f.before in
+        ap Some (sym f.stands) ∙ ap (option_map (λ p. place_slot b (length cs) p)) (sym first)

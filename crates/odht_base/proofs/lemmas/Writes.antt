@@ -1,0 +1,241 @@
+-- The parts of cells, and the image of a table, after a cell is set.
+use Rattle.std.proofs.Common.{◌≡◌, ◌<◌, ◌≤◌, ◌∙◌, ◌+◌, ◌-◌, ◌*◌, ◌++◌, ℕ, zero, suc, Bool, true, false, cond, ltb, ltb-true, ltb-false, inl, IsTrue, Ok, sym, ap, subst, refl, List, [], ◌∷◌, Option, Some, None, is_none, map, take, drop, set, length, arith, length-append, length-set, append_assoc}
+use Rattle.std.proofs.lemmas.List.{length-map, map-set, set-append_left, set-append_right, take-set-le}
+use Rattle.std.specs.Prelude.{slice_index}
+use Rattle.std.specs.List.{filter_map}
+use Rattle.std.proofs.Math.Seq.{take-set-lt}
+use Rattle.odht_base.specs.Bytes.{overwritten_at}
+use Rattle.odht_base.specs.Format.{Format, entry_len, tag}
+use Rattle.odht_base.specs.Image.{header_bytes, entry_bytes, control_byte, entries, controls, parts, image}
+use Rattle.odht_base.specs.Numbers.{le_bytes}
+use Rattle.odht_base.specs.Shown.{slot_value, counts_as_free, stated_slots, stated_count}
+use Rattle.odht_base.specs.Table.{Pair, Table, Cells, cell_at, slot_count, count}
+use Rattle.odht_base.specs.Writes.{tagged, with_value, with_entry, with_control, with_tag, with_pair, with_count, with_parts}
+use Rattle.odht_base.proofs.lemmas.ByteRanges.{overwritten_at-between, overwritten_at-append_left, overwritten_at-append_right, length-overwritten_at}
+use Rattle.odht_base.proofs.lemmas.Counts.{count_set_free, count_set_again}
+use Rattle.odht_base.proofs.lemmas.Fits.{HasLengths, IsSized}
+use Rattle.odht_base.proofs.lemmas.Image.{stated_slots-image, stated_count-image}
+use Rattle.odht_base.proofs.lemmas.Keys.{cell_at-within}
+use Rattle.odht_base.proofs.lemmas.Parts.{length-header_bytes, length-entry_bytes, length-entries, length-entries-take, length-controls, entries-split, entries-set, slot_key-entries, slot_value-entries, slice_index-controls}
+use Rattle.odht_base.proofs.lemmas.PartsOf.{slot_within}
+
+-- a pair written into a slot
+pub overwritten_at-entries : (F : Format) (cs : Cells) (i : ℕ) (p : Pair) → HasLengths F cs → i < length cs → length p.key ≡ F.key_len → length p.value ≡ F.value_len
+    → overwritten_at (entries F cs) (i * entry_len F) (p.key ++ p.value) ≡ entries F (set cs i (Some p))
+overwritten_at-entries F cs i p h lt k v =
+    let front = entries F (take i cs) in
+    let old = entry_bytes F (cell_at cs i) in
+    let back = entries F (drop (suc i) cs) in
+    let same : length old ≡ length (p.key ++ p.value) = length-entry_bytes F cs i h ∙ omega (arith, length-append p.key p.value, k, v) in
+    ap (λ es. overwritten_at es (i * entry_len F) (p.key ++ p.value)) (entries-split F cs i lt)
+    ∙ overwritten_at-between front old back (i * entry_len F) (p.key ++ p.value) (length-entries-take F cs i h lt) same
+    ∙ sym (entries-set F cs i (Some p) lt)
+
+-- a value written into the slot that holds its key
+pub overwritten_at-entries_value : (F : Format) (cs : Cells) (i : ℕ) (p q : Pair) → HasLengths F cs → cell_at cs i ≡ Some q → q.key ≡ p.key → length p.value ≡ F.value_len
+    → overwritten_at (entries F cs) (i * entry_len F + F.key_len) p.value ≡ entries F (set cs i (Some p))
+overwritten_at-entries_value F cs i p q h g k v =
+    let lt = cell_at-within cs i q g in
+    let front = entries F (take i cs) in
+    let back = entries F (drop (suc i) cs) in
+    let at = i * entry_len F + F.key_len in
+    let kl = h.keys i q g in
+    let vl = h.values i q g in
+    let fl = length-entries-take F cs i h lt in
+    let long : length (front ++ q.key) ≡ at = length-append front q.key ∙ omega (arith, fl, kl) in
+    let same : length q.value ≡ length p.value = omega (arith, vl, v) in
+    let split : entries F cs ≡ (front ++ q.key) ++ (q.value ++ back) =
+    entries-split F cs i lt ∙ ap (λ c. front ++ (entry_bytes F c ++ back)) g
+    ∙ ap (λ t. front ++ t) (append_assoc q.key q.value back) ∙ sym (append_assoc front q.key (q.value ++ back)) in
+    ap (λ es. overwritten_at es at p.value) split
+    ∙ overwritten_at-between (front ++ q.key) q.value back at p.value long same
+    ∙ ap (λ t. (front ++ t) ++ (p.value ++ back)) k
+    ∙ append_assoc front p.key (p.value ++ back)
+    ∙ ap (λ t. front ++ t) (sym (append_assoc p.key p.value back))
+    ∙ sym (entries-set F cs i (Some p) lt)
+
+-- a control byte and its mirror set
+pub tagged-controls : (F : Format) (cs : Cells) (i : ℕ) (c : Option Pair) → 16 ≤ length cs → i < length cs → tagged (controls F cs) i (control_byte F c) ≡ controls F (set cs i c)
+unfolding controls
+tagged-controls F cs i c enough lt = go (ltb i 16) refl ∙ sym after
+  where
+    each : List ℕ
+    each = map (control_byte F) cs
+
+    b : ℕ
+    b = control_byte F c
+
+    long : length (map (control_byte F) cs) ≡ length cs
+    long = length-map cs (control_byte F)
+
+    after : controls F (set cs i c) ≡ set each i b ++ take 16 (set each i b)
+    after = ap (λ t. t ++ take 16 t) (map-set (control_byte F) cs i c)
+
+    first : set (each ++ take 16 each) i b ≡ set each i b ++ take 16 each
+    first = set-append_left each (take 16 each) i b (omega (arith, long))
+
+    go : (t : Bool) → ltb i 16 ≡ t → cond t (set (set (controls F cs) i b) (length (controls F cs) - 16 + i) b) (set (controls F cs) i b) ≡ set each i b ++ take 16 (set each i b)
+    go true e =
+        let low = ltb-true i 16 e in
+        let n : length (controls F cs) - 16 + i ≡ length cs + i = omega (arith, length-controls F cs enough) in
+        let m : length cs + i - length cs ≡ i = omega arith in
+        ap (λ k. set (set (each ++ take 16 each) i b) k b) n
+        ∙ ap (λ t. set t (length cs + i) b) first
+        ∙ set-append_right (set each i b) (take 16 each) (length cs) (length cs + i) b (length-set each i b ∙ long) (omega arith)
+        ∙ ap (λ k. set each i b ++ set (take 16 each) k b) m
+        ∙ ap (λ t. set each i b ++ t) (sym (take-set-lt 16 each i b low))
+    go false e =
+        let high = ltb-false i 16 e in
+        first ∙ ap (λ t. set each i b ++ t) (sym (take-set-le 16 each i b high))
+
+-- a value alone leaves the control bytes
+pub controls-set_value : (F : Format) (cs : Cells) (i : ℕ) (p q : Pair) → cell_at cs i ≡ Some q → q.key ≡ p.key → controls F (set cs i (Some p)) ≡ controls F cs
+unfolding controls
+controls-set_value F cs i p q g k = ap (λ t. t ++ take 16 t) (map-set (control_byte F) cs i (Some p) ∙ same cs i g)
+  where
+    same : (ds : Cells) (j : ℕ) → cell_at ds j ≡ Some q → set (map (control_byte F) ds) j (tag F p.key) ≡ map (control_byte F) ds
+    same [] j e = refl
+    same (d ∷ ds) zero e = ap (λ t. t ∷ map (control_byte F) ds) (ap (tag F) (sym k) ∙ ap (control_byte F) (sym e))
+    same (d ∷ ds) (suc j) e = ap (λ t. control_byte F d ∷ t) (same ds j e)
+
+-- both parts, with a pair in a slot
+pub parts-set : (F : Format) (cs : Cells) (i : ℕ) (p : Pair) → HasLengths F cs → 16 ≤ length cs → i < length cs → length p.key ≡ F.key_len → length p.value ≡ F.value_len
+    → parts F (set cs i (Some p)) ≡ overwritten_at (entries F cs) (i * entry_len F) (p.key ++ p.value) ++ tagged (controls F cs) i (tag F p.key)
+parts-set F cs i p h enough lt k v =
+    ap (λ es. es ++ controls F (set cs i (Some p))) (sym (overwritten_at-entries F cs i p h lt k v))
+    ∙ ap (λ t. overwritten_at (entries F cs) (i * entry_len F) (p.key ++ p.value) ++ t) (sym (tagged-controls F cs i (Some p) enough lt))
+
+-- both parts, with a value alone
+pub parts-set_value : (F : Format) (cs : Cells) (i : ℕ) (p q : Pair) → HasLengths F cs → cell_at cs i ≡ Some q → q.key ≡ p.key → length p.value ≡ F.value_len
+    → parts F (set cs i (Some p)) ≡ overwritten_at (entries F cs) (i * entry_len F + F.key_len) p.value ++ controls F cs
+parts-set_value F cs i p q h g k v =
+    ap (λ es. es ++ controls F (set cs i (Some p))) (sym (overwritten_at-entries_value F cs i p q h g k v))
+    ∙ ap (λ t. overwritten_at (entries F cs) (i * entry_len F + F.key_len) p.value ++ t) (controls-set_value F cs i p q g k)
+
+-- the image after a pair in a free slot, as its header and its parts
+pub image-set_free : (F : Format) (P : Table) (i : ℕ) (p : Pair) → i < slot_count P → cell_at P.cells i ≡ None
+    → image F (record P { cells = set P.cells i (Some p) }) ≡ header_bytes F (slot_count P) (count P + 1) P.factor ++ parts F (set P.cells i (Some p))
+unfolding image
+image-set_free F P i p lt g =
+    ap (λ s. header_bytes F s (length (filter_map (λ c. c) (set P.cells i (Some p)))) P.factor ++ parts F (set P.cells i (Some p))) (length-set P.cells i (Some p))
+    ∙ ap (λ c. header_bytes F (slot_count P) c P.factor ++ parts F (set P.cells i (Some p))) (count_set_free P.cells i p lt (ap is_none g))
+
+-- the image after a value, as its header and its parts
+pub image-set_filled : (F : Format) (P : Table) (i : ℕ) (p q : Pair) → cell_at P.cells i ≡ Some q
+    → image F (record P { cells = set P.cells i (Some p) }) ≡ header_bytes F (slot_count P) (count P) P.factor ++ parts F (set P.cells i (Some p))
+unfolding image
+image-set_filled F P i p q g =
+    ap (λ s. header_bytes F s (length (filter_map (λ c. c) (set P.cells i (Some p)))) P.factor ++ parts F (set P.cells i (Some p))) (length-set P.cells i (Some p))
+    ∙ ap (λ c. header_bytes F (slot_count P) c P.factor ++ parts F (set P.cells i (Some p))) (count_set_again P.cells i p (ap is_none g))
+
+-- a byte set behind two lists
+pub set-append_behind : (xs ys zs : List ℕ) (at i b : ℕ) → length xs + length ys + i ≡ at → set (xs ++ (ys ++ zs)) at b ≡ xs ++ (ys ++ set zs i b)
+set-append_behind xs ys zs at i b e =
+    let m : at - length xs - length ys ≡ i = omega arith in
+    set-append_right xs (ys ++ zs) (length xs) at b refl (omega arith)
+    ∙ ap (λ t. xs ++ t) (set-append_right ys zs (length ys) (at - length xs) b refl (omega arith) ∙ ap (λ k. ys ++ set zs k b) m)
+
+-- a count written into a header
+pub with_count-append : (H xs : List ℕ) (n : ℕ) → 16 ≤ length H → with_count (H ++ xs) n ≡ with_count H n ++ xs
+with_count-append H xs n h = overwritten_at-append_left H xs 8 (le_bytes 8 n) h
+
+-- a header with another count
+pub with_count-header_bytes : (F : Format) (s c f n : ℕ) → with_count (header_bytes F s c f) n ≡ header_bytes F s n f
+with_count-header_bytes F s c f n = refl
+
+-- an entry written behind a header
+pub with_entry-append : (F : Format) (s : ℕ) (H es cs : List ℕ) (i : ℕ) (p : Pair) → length H ≡ 32 → length es ≡ s * entry_len F → i < s → length p.key ≡ F.key_len → length p.value ≡ F.value_len
+    → with_entry F (H ++ (es ++ cs)) i p ≡ H ++ (overwritten_at es (i * entry_len F) (p.key ++ p.value) ++ cs)
+with_entry-append F s H es cs i p h e lt k v =
+    let d = p.key ++ p.value in
+    let n = length-append p.key p.value in
+    let w = slot_within i s (entry_len F) lt in
+    let inside : i * entry_len F + length d ≤ length es = omega (arith, n, w, e, k, v) in
+    let more : i * entry_len F + length d ≤ length (es ++ cs) = omega (arith, inside, length-append es cs) in
+    overwritten_at-append_right H (es ++ cs) 32 (32 + i * entry_len F) (i * entry_len F) d h refl more
+    ∙ ap (λ t. H ++ t) (overwritten_at-append_left es cs (i * entry_len F) d inside)
+
+-- a value written behind a header
+pub with_value-append : (F : Format) (s : ℕ) (H es cs : List ℕ) (i : ℕ) (v : List ℕ) → length H ≡ 32 → length es ≡ s * entry_len F → i < s → length v ≡ F.value_len
+    → with_value F (H ++ (es ++ cs)) i v ≡ H ++ (overwritten_at es (i * entry_len F + F.key_len) v ++ cs)
+with_value-append F s H es cs i v h e lt n =
+    let at = i * entry_len F + F.key_len in
+    let w = slot_within i s (entry_len F) lt in
+    let inside : at + length v ≤ length es = omega (arith, n, w, e) in
+    let more : at + length v ≤ length (es ++ cs) = omega (arith, inside, length-append es cs) in
+    overwritten_at-append_right H (es ++ cs) 32 (32 + i * entry_len F + F.key_len) at v h (omega arith) more
+    ∙ ap (λ t. H ++ t) (overwritten_at-append_left es cs at v inside)
+
+-- a control byte and its mirror set behind a header and entries
+pub with_tag-append : (F : Format) (s : ℕ) (H es cs : List ℕ) (i c : ℕ) → length H ≡ 32 → length es ≡ s * entry_len F → length cs ≡ s + 16
+    → with_tag F s (H ++ (es ++ cs)) i c ≡ H ++ (es ++ tagged cs i c)
+with_tag-append F s H es cs i c h e n = go (ltb i 16)
+  where
+    first : with_control F s (H ++ (es ++ cs)) i c ≡ H ++ (es ++ set cs i c)
+    first = set-append_behind H es cs (32 + s * entry_len F + i) i c (omega (arith, h, e))
+
+    go : (t : Bool) → cond t (with_control F s (with_control F s (H ++ (es ++ cs)) i c) (s + i) c) (with_control F s (H ++ (es ++ cs)) i c)
+        ≡ H ++ (es ++ cond t (set (set cs i c) (length cs - 16 + i) c) (set cs i c))
+    go true =
+        let m : s + i ≡ length cs - 16 + i = omega (arith, n) in
+        ap (λ t. with_control F s t (s + i) c) first
+        ∙ set-append_behind H es (set cs i c) (32 + s * entry_len F + (s + i)) (s + i) c (omega (arith, h, e))
+        ∙ ap (λ k. H ++ (es ++ set (set cs i c) k c)) m
+    go false = first
+
+-- an entry and its control byte
+pub with_pair-append : (F : Format) (s : ℕ) (H es cs : List ℕ) (i : ℕ) (p : Pair) → length H ≡ 32 → length es ≡ s * entry_len F → length cs ≡ s + 16 → i < s → length p.key ≡ F.key_len → length p.value ≡ F.value_len
+    → with_pair F s (H ++ (es ++ cs)) i p ≡ H ++ (overwritten_at es (i * entry_len F) (p.key ++ p.value) ++ tagged cs i (tag F p.key))
+with_pair-append F s H es cs i p h e n lt k v =
+    let d = p.key ++ p.value in
+    let inside : i * entry_len F + length d ≤ length es = omega (arith, length-append p.key p.value, slot_within i s (entry_len F) lt, e, k, v) in
+    let long : length (overwritten_at es (i * entry_len F) d) ≡ s * entry_len F = length-overwritten_at es (i * entry_len F) d inside ∙ e in
+    ap (λ t. with_tag F s t i (tag F p.key)) (with_entry-append F s H es cs i p h e lt k v)
+    ∙ with_tag-append F s H (overwritten_at es (i * entry_len F) d) cs i (tag F p.key) h long n
+
+-- a value written into an image
+pub with_value-image : (F : Format) (P : Table) (i : ℕ) (p q : Pair) → IsSized F P → cell_at P.cells i ≡ Some q → q.key ≡ p.key → length p.value ≡ F.value_len
+    → with_value F (image F P) i p.value ≡ image F (record P { cells = set P.cells i (Some p) })
+unfolding image
+with_value-image F P i p q h g k v =
+    let H = header_bytes F (slot_count P) (count P) P.factor in
+    with_value-append F (slot_count P) H (entries F P.cells) (controls F P.cells) i p.value (length-header_bytes F (slot_count P) (count P) P.factor) (length-entries F P.cells h.lengths) (cell_at-within P.cells i q g) v
+    ∙ ap (λ t. H ++ t) (sym (parts-set_value F P.cells i p q h.lengths g k v))
+    ∙ sym (image-set_filled F P i p q g)
+
+-- a pair written into a free slot of an image, and counted
+pub with_pair-image : (F : Format) (P : Table) (i : ℕ) (p : Pair) → IsSized F P → i < slot_count P → cell_at P.cells i ≡ None → length p.key ≡ F.key_len → length p.value ≡ F.value_len
+    → with_count (with_pair F (slot_count P) (image F P) i p) (count P + 1) ≡ image F (record P { cells = set P.cells i (Some p) })
+unfolding image
+with_pair-image F P i p h lt g k v =
+    let H = header_bytes F (slot_count P) (count P) P.factor in
+    let X = overwritten_at (entries F P.cells) (i * entry_len F) (p.key ++ p.value) ++ tagged (controls F P.cells) i (tag F p.key) in
+    ap (λ t. with_count t (count P + 1))
+    (with_pair-append F (slot_count P) H (entries F P.cells) (controls F P.cells) i p (length-header_bytes F (slot_count P) (count P) P.factor) (length-entries F P.cells h.lengths) (length-controls F P.cells h.enough) lt k v)
+    ∙ with_count-append H X (count P + 1) (omega (arith, length-header_bytes F (slot_count P) (count P) P.factor))
+    ∙ ap (λ t. header_bytes F (slot_count P) (count P + 1) P.factor ++ t) (sym (parts-set F P.cells i p h.lengths h.enough lt k v))
+    ∙ sym (image-set_free F P i p lt g)
+
+-- the same with what the image states
+pub with_pair-image_stated : (F : Format) (P : Table) (i : ℕ) (p : Pair) → IsSized F P → i < slot_count P → cell_at P.cells i ≡ None → length p.key ≡ F.key_len → length p.value ≡ F.value_len
+    → with_count (with_pair F (stated_slots (image F P)) (image F P) i p) (stated_count (image F P) + 1) ≡ image F (record P { cells = set P.cells i (Some p) })
+with_pair-image_stated F P i p h lt g k v =
+    ap (λ s. with_count (with_pair F s (image F P) i p) (stated_count (image F P) + 1)) (stated_slots-image F P h)
+    ∙ ap (λ c. with_count (with_pair F (slot_count P) (image F P) i p) (c + 1)) (stated_count-image F P h)
+    ∙ with_pair-image F P i p h lt g k v
+
+-- an image with the parts of a table with as many slots and pairs and the same factor
+pub with_parts-image : (F : Format) (P Q : Table) → slot_count Q ≡ slot_count P → count Q ≡ count P → Q.factor ≡ P.factor → with_parts (image F P) (entries F Q.cells) (controls F Q.cells) ≡ image F Q
+unfolding image
+with_parts-image F P Q s c f =
+    ap (λ n. header_bytes F n (count P) P.factor ++ parts F Q.cells) (sym s)
+    ∙ ap (λ n. header_bytes F (slot_count Q) n P.factor ++ parts F Q.cells) (sym c)
+    ∙ ap (λ n. header_bytes F (slot_count Q) (count Q) n ++ parts F Q.cells) (sym f)
+
+-- with another count too
+pub with_count-with_parts_image : (F : Format) (P Q : Table) → slot_count Q ≡ slot_count P → Q.factor ≡ P.factor → with_count (with_parts (image F P) (entries F Q.cells) (controls F Q.cells)) (count Q) ≡ image F Q
+unfolding image
+with_count-with_parts_image F P Q s f =
+    with_count-append (header_bytes F (slot_count P) (count P) P.factor) (parts F Q.cells) (count Q) (omega arith)
+    ∙ ap (λ n. header_bytes F n (count Q) P.factor ++ parts F Q.cells) (sym s)
+    ∙ ap (λ n. header_bytes F (slot_count Q) (count Q) n ++ parts F Q.cells) (sym f)

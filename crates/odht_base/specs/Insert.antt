@@ -1,0 +1,70 @@
+-- Inserts into a plain table. An answer `None` is a refusal, after which the table is as before.
+--     stops_at cs k i      slot i is free or holds k: a search for k ends there
+--     search_order F cs k  the slots in the order of k
+--     search_end F cs k    the slot where a search for k ends, if there is one
+--     is_at i o            the answer o is the slot i
+--     reach F cs k         the place in the order where a search for k ends
+--     groups F cs k        how many groups of sixteen a search for k reads
+--     target F cs k        the slot that holds k, or else the first free one of its order
+--     place_in F cs p      the pair p in its key's target; place F P p the same of a table
+--     run put P ps         the inserts `put` of the pairs in turn; place_all F P ps is that of `place`
+--     grown_slots P        the slots for twice as many pairs, and for one at least
+--     grown F P            the pairs of P, in slot order, in so many slots
+--     put_owned F P p      an insert of the owned table, which grows where P is full
+--     put_view F P p       an insert of a view, which refuses there
+use Rattle.std.specs.Prelude.{ℕ, ◌+◌, ◌*◌, ◌/◌, max, Bool, false, ◌||◌, nat_lt, ◌==◌, List, [], ◌∷◌, length, set, position, find, Option, Some, None, option_map, option_and_then, if◌then◌else◌}
+use Rattle.std.specs.Option.{option_or, option_map_or}
+use Rattle.odht_base.specs.Format.{Format, home}
+use Rattle.odht_base.specs.Load.{max_items, slots_for}
+use Rattle.odht_base.specs.Probe.{order}
+use Rattle.odht_base.specs.Table.{Pair, Table, Cells, slot_count, empty, cell_at, is_free, has_key, walk, count}
+
+abbrev pub stops_at : Cells → List ℕ → ℕ → Bool
+stops_at cs k i = is_free cs i || has_key k (cell_at cs i)
+
+abbrev pub search_order : Format → Cells → List ℕ → List ℕ
+search_order F cs k = order (home F k (length cs)) (length cs)
+
+unfoldable pub search_end : Format → Cells → List ℕ → Option ℕ
+search_end F cs k = find (stops_at cs k) (search_order F cs k)
+
+abbrev pub is_at : ℕ → Option ℕ → Bool
+is_at i None = false
+is_at i (Some j) = i == j
+
+unfoldable pub reach : Format → Cells → List ℕ → Option ℕ
+reach F cs k = position (stops_at cs k) (search_order F cs k)
+
+abbrev pub groups : Format → Cells → List ℕ → ℕ
+groups F cs k = option_map_or (λ p. p / 16 + 1) (reach F cs k) (length cs / 16)
+
+unfoldable pub target : Format → Cells → List ℕ → Option ℕ
+target F cs k = option_or (position (has_key k) cs) (find (is_free cs) (search_order F cs k))
+
+abbrev pub place_in : Format → Cells → Pair → Option Cells
+place_in F cs p = option_map (λ i. set cs i (Some p)) (target F cs p.key)
+
+unfoldable pub place : Format → Table → Pair → Option Table
+place F P p = option_map (λ cs. record P { cells = cs }) (place_in F P.cells p)
+
+abbrev pub run : (Table → Pair → Option Table) → Table → List Pair → Option Table
+run put P [] = Some P
+run put P (p ∷ ps) = option_and_then (λ Q. run put Q ps) (put P p)
+
+abbrev pub place_all : Format → Table → List Pair → Option Table
+place_all F = run (place F)
+
+abbrev pub grown_slots : Table → Option ℕ
+grown_slots P = slots_for (max 1 (2 * count P)) P.factor
+
+unfoldable pub grown : Format → Table → Option Table
+grown F P = option_and_then (λ s. place_all F (empty s P.factor) (walk P)) (grown_slots P)
+
+abbrev pub is_full : Table → Bool
+is_full P = count P == max_items (slot_count P) P.factor
+
+unfoldable pub put_owned : Format → Table → Pair → Option Table
+put_owned F P p = if is_full P then option_and_then (λ Q. place F Q p) (grown F P) else place F P p
+
+unfoldable pub put_view : Format → Table → Pair → Option Table
+put_view F P p = if nat_lt (count P) (max_items (slot_count P) P.factor) then place F P p else None

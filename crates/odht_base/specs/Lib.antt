@@ -1,0 +1,31 @@
+-- The vocabulary of all contracts, from numbers up to tables and their bytes.
+-- numbers as bytes
+pub mod Numbers
+-- lists of bytes: a piece of them, and a write to them
+pub mod Bytes
+-- the hash functions
+pub mod Hashes
+-- their law: a hash has 32 bits
+pub mod HashLaws
+-- load factors and slot counts
+pub mod Load
+-- what a configuration fixes of a table's bytes
+pub mod Format
+-- the order in which a search looks at the slots
+pub mod Probe
+-- plain tables: a load factor and a list of cells
+pub mod Table
+-- plain tables as finite maps
+pub mod Map
+-- inserts into plain tables, growth included
+pub mod Insert
+-- the bytes of a plain table
+pub mod Image
+-- which plain tables, and which bytes, are valid
+pub mod Valid
+-- what any bytes show as a table
+pub mod Shown
+-- the writes of an insert
+pub mod Writes
+-- groups of control bytes
+pub mod Groups

@@ -1,0 +1,75 @@
+-- What any bytes show as a table.
+--     Of parts, es the entries' bytes and cs the control bytes with their mirror:
+--     slot_entry F es i    the entry of slot i; slot_key and slot_value are its two ends
+--     counts_as_free c     the control byte c is 128 or more
+--     shown_cells F es cs  a cell for each slot, free where its own control byte counts as free
+--     Of a whole list of bytes B, at the offsets of the slot count that its header states:
+--     stated_count B, stated_slots B, stated_factor B      the header's numbers
+--     entries_of F B, controls_of F B                      the two parts
+--     control_at F B i     control byte i; the mirror is control bytes s to s + 15
+--     entry_at F B i       the entry of slot i, key_at and value_at its two ends
+--     shown F B            the table of the cells that the parts show
+--     seen F B             the pairs of that table: the entries whose own control byte is below 128, in slot order
+--     Stores F B p         some slot's entry is the pair p, whatever its control byte
+use Rattle.std.specs.Prelude.{◌≡◌, ℕ, ◌+◌, ◌-◌, ◌*◌, ◌<◌, Bool, nat_le, List, ◌++◌, length, take, drop, map, slice_index, Option, Some, None, if◌then◌else◌}
+use Rattle.std.specs.List.{range_with_len}
+use Rattle.odht_base.specs.Bytes.{bytes_at}
+use Rattle.odht_base.specs.Format.{Format, entry_len}
+use Rattle.odht_base.specs.Numbers.{num}
+use Rattle.odht_base.specs.Table.{Pair, Table, Cells, walk}
+
+abbrev pub slot_entry : Format → List ℕ → ℕ → List ℕ
+slot_entry F es i = bytes_at es (i * entry_len F) (entry_len F)
+
+abbrev pub slot_key : Format → List ℕ → ℕ → List ℕ
+slot_key F es i = take F.key_len (slot_entry F es i)
+
+abbrev pub slot_value : Format → List ℕ → ℕ → List ℕ
+slot_value F es i = drop F.key_len (slot_entry F es i)
+
+abbrev pub counts_as_free : ℕ → Bool
+counts_as_free c = nat_le 128 c
+
+abbrev pub shown_cell : Format → List ℕ → List ℕ → ℕ → Option Pair
+shown_cell F es cs i =
+    if counts_as_free (slice_index cs i) then None
+    else Some (record { key = slot_key F es i; value = slot_value F es i })
+
+unfoldable pub shown_cells : Format → List ℕ → List ℕ → Cells
+shown_cells F es cs = map (shown_cell F es cs) (range_with_len 0 (length cs - 16))
+
+abbrev pub stated_count : List ℕ → ℕ
+stated_count B = num (bytes_at B 8 8)
+
+abbrev pub stated_slots : List ℕ → ℕ
+stated_slots B = num (bytes_at B 16 8)
+
+abbrev pub stated_factor : List ℕ → ℕ
+stated_factor B = num (bytes_at B 28 2)
+
+abbrev pub entries_of : Format → List ℕ → List ℕ
+entries_of F B = bytes_at B 32 (stated_slots B * entry_len F)
+
+abbrev pub controls_of : Format → List ℕ → List ℕ
+controls_of F B = drop (32 + stated_slots B * entry_len F) B
+
+abbrev pub control_at : Format → List ℕ → ℕ → ℕ
+control_at F B i = slice_index (controls_of F B) i
+
+abbrev pub entry_at : Format → List ℕ → ℕ → List ℕ
+entry_at F B i = slot_entry F (entries_of F B) i
+
+abbrev pub key_at : Format → List ℕ → ℕ → List ℕ
+key_at F B i = slot_key F (entries_of F B) i
+
+abbrev pub value_at : Format → List ℕ → ℕ → List ℕ
+value_at F B i = slot_value F (entries_of F B) i
+
+abbrev pub shown : Format → List ℕ → Table
+shown F B = record { factor = stated_factor B; cells = shown_cells F (entries_of F B) (controls_of F B) }
+
+abbrev pub seen : Format → List ℕ → List Pair
+seen F B = walk (shown F B)
+
+abbrev pub Stores : Format → List ℕ → Pair → Type 0
+Stores F B p = (i : ℕ) × (i < stated_slots B) × (entry_at F B i ≡ p.key ++ p.value)

@@ -1,0 +1,57 @@
+-- Which plain tables, and which bytes, are valid.
+--     IsPairOf F p         key and value of p are bytes of the lengths that F says
+--     HasPairsOf F cs      so is each pair of the cells
+--     HoldsPair P i p      slot i holds the pair p
+--     IsReached F P k i    slot i stands in the order of k, with only filled slots before it
+--     IsPlaced F P         each pair is one of F, its slot is reached for its key, and no key stands twice
+--     IsValid F P          the load factor and the count are in bounds too
+--     IsImage F P B        B is the image of P, which is valid
+--     IsValidBytes F B     B is the image of some valid table
+--     IsPartsOf F P es cs  es and cs are the entries and the control bytes of P, which is placed
+use Rattle.std.specs.Prelude.{◌≡◌, ℕ, ◌<◌, ◌≤◌, List, Some, IsFalse}
+use Rattle.odht_base.specs.Format.{Format, home}
+use Rattle.odht_base.specs.Image.{entries, controls, image}
+use Rattle.odht_base.specs.Load.{max_items, IsSlotCount}
+use Rattle.odht_base.specs.Numbers.{IsBytes}
+use Rattle.odht_base.specs.Probe.{place_slot}
+use Rattle.odht_base.specs.Table.{cell_at, Pair, Cells, Table, slot_count, count, is_free}
+
+pub record IsPairOf (F : Format) (p : Pair) : Type 0 where
+  pub key : IsBytes F.key_len p.key
+  pub value : IsBytes F.value_len p.value
+
+abbrev pub HasPairsOf : Format → Cells → Type 0
+HasPairsOf F cs = (i : ℕ) (p : Pair) → cell_at cs i ≡ Some p → IsPairOf F p
+
+abbrev pub HoldsPair : Table → ℕ → Pair → Type 0
+HoldsPair P i p = cell_at P.cells i ≡ Some p
+
+pub record IsReached (F : Format) (P : Table) (k : List ℕ) (i : ℕ) : Type 0 where
+  pub place : ℕ
+  pub in_order : place < slot_count P
+  pub stands : place_slot (home F k (slot_count P)) (slot_count P) place ≡ i
+  pub behind_filled : (q : ℕ) → q < place → IsFalse (is_free P.cells (place_slot (home F k (slot_count P)) (slot_count P) q))
+
+pub record IsPlaced (F : Format) (P : Table) : Type 0 where
+  pub slots : IsSlotCount (slot_count P)
+  pub pairs : HasPairsOf F P.cells
+  pub distinct : (i j : ℕ) (p q : Pair) → HoldsPair P i p → HoldsPair P j q → p.key ≡ q.key → i ≡ j
+  pub reached : (i : ℕ) (p : Pair) → HoldsPair P i p → IsReached F P p.key i
+
+pub record IsValid (F : Format) (P : Table) : Type 0 where
+  pub placed : IsPlaced F P
+  pub factor_low : 655 ≤ P.factor
+  pub factor_high : P.factor ≤ 65535
+  pub room : count P ≤ max_items (slot_count P) P.factor
+
+pub record IsImage (F : Format) (P : Table) (B : List ℕ) : Type 0 where
+  pub valid : IsValid F P
+  pub bytes : B ≡ image F P
+
+abbrev pub IsValidBytes : Format → List ℕ → Type 0
+IsValidBytes F B = (P : Table) × IsImage F P B
+
+pub record IsPartsOf (F : Format) (P : Table) (es cs : List ℕ) : Type 0 where
+  pub placed : IsPlaced F P
+  pub entries_are : es ≡ entries F P.cells
+  pub controls_are : cs ≡ controls F P.cells

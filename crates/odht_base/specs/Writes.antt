@@ -1,0 +1,41 @@
+-- The writes of an insert.
+--     Of bytes B with s slots:
+--     with_value F B i v       the value v in slot i
+--     with_entry F B i p       the pair p in slot i
+--     with_control F s B i c   the control byte c at i
+--     with_tag F s B i c       the same, and for a slot below 16 its mirror too
+--     with_pair F s B i p      the pair p in slot i, with its tag
+--     with_count B n           the item count n
+--     Of control bytes cs with their mirror:
+--     tagged cs i c            the control byte c at i, and for a slot below 16 its mirror too
+--     Of both:
+--     with_parts B es cs       the header of B before these entries and control bytes
+use Rattle.std.specs.Prelude.{ℕ, ◌+◌, ◌-◌, ◌*◌, length, take, set, nat_lt, List, ◌++◌, if◌then◌else◌}
+use Rattle.odht_base.specs.Bytes.{overwritten_at}
+use Rattle.odht_base.specs.Format.{Format, entry_len, tag}
+use Rattle.odht_base.specs.Numbers.{le_bytes}
+use Rattle.odht_base.specs.Table.{Pair}
+
+abbrev pub with_value : Format → List ℕ → ℕ → List ℕ → List ℕ
+with_value F B i v = overwritten_at B (32 + i * entry_len F + F.key_len) v
+
+abbrev pub with_entry : Format → List ℕ → ℕ → Pair → List ℕ
+with_entry F B i p = overwritten_at B (32 + i * entry_len F) (p.key ++ p.value)
+
+abbrev pub with_control : Format → ℕ → List ℕ → ℕ → ℕ → List ℕ
+with_control F s B i c = set B (32 + s * entry_len F + i) c
+
+abbrev pub with_tag : Format → ℕ → List ℕ → ℕ → ℕ → List ℕ
+with_tag F s B i c = if nat_lt i 16 then with_control F s (with_control F s B i c) (s + i) c else with_control F s B i c
+
+abbrev pub with_pair : Format → ℕ → List ℕ → ℕ → Pair → List ℕ
+with_pair F s B i p = with_tag F s (with_entry F B i p) i (tag F p.key)
+
+abbrev pub with_count : List ℕ → ℕ → List ℕ
+with_count B n = overwritten_at B 8 (le_bytes 8 n)
+
+abbrev pub tagged : List ℕ → ℕ → ℕ → List ℕ
+tagged cs i c = if nat_lt i 16 then set (set cs i c) (length cs - 16 + i) c else set cs i c
+
+abbrev pub with_parts : List ℕ → List ℕ → List ℕ → List ℕ
+with_parts B es cs = take 32 B ++ (es ++ cs)

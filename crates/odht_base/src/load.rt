@@ -1,0 +1,78 @@
+//! Load factors: how many items a table may hold, and how many slots it needs for them.
+//!
+//! The rules are those of docs/FORMAT.md, "Load factors".
+ghost use Rattle.std.specs.Prelude.{◌≡◌, ℕ, ◌*◌, ◌<◌, ◌≤◌, IfSome};
+ghost use Rattle.odht_base.specs.Load.{factor_of, percent_of, max_items, slots_for, IsLeastSlots};
+
+/// A load factor in units of 1/65536: of `s` slots at most `s * factor / 65536`, rounded down, are filled.
+///
+/// 100 percent is 65535, so a full table always has a free slot.
+#[derive(Debug, Clone, Copy, PartialEq, Eq)]
+pub struct Factor(pub u16);
+
+impl Factor {
+    /// The load factor of 100 percent.
+    pub const BASE: usize = 65535;
+
+    /// The load factor of `percent` percent, rounded down.
+    #[inline]
+    pub fn from_percent(percent: u8) -> Factor
+        requires { percent ≤ 100 }
+        ensures { result.0 ≡ factor_of percent }
+    {
+        Factor((percent as usize * Self::BASE / 100) as u16)
+    }
+
+    /// The percentage, rounded down. It may be one below that which the factor was made from.
+    #[inline]
+    pub fn to_percent(self) -> usize
+        ensures { result ≡ percent_of self.0 }
+    {
+        self.0 as usize * 100 / Self::BASE
+    }
+
+    /// The most items that `x` slots may hold.
+    ///
+    /// The divisor is 65536 here and 65535 in `apply_inverse`.
+    #[inline]
+    pub fn apply(self, x: usize) -> usize
+        ensures { result ≡ max_items x self.0 }
+    {
+        (x as u128 * self.0 as u128 / 65536) as usize
+    }
+
+    /// `x * 65535 / self`, rounded up.
+    #[inline]
+    pub fn apply_inverse(self, x: usize) -> u128
+        requires { 1 ≤ self.0 }
+        ensures enough { 65535 * x ≤ result * self.0 }
+        ensures least { (n : ℕ) → 65535 * x ≤ n * self.0 → result ≤ n }
+    {
+        (Self::BASE as u128 * x as u128).div_ceil(self.0 as u128)
+    }
+}
+
+/// The least slot count for `max_item_count` items: the least power of two from 16 on whose maximum item count is
+/// no less. None exactly where no power of two up to 2^63 is enough.
+#[inline]
+pub fn slots_needed(max_item_count: usize, max_load_factor: Factor) -> Option<usize>
+    requires { 1 ≤ max_load_factor.0 }
+    ensures value { result ≡ slots_for max_item_count max_load_factor.0 }
+    ensures least { IfSome result (IsLeastSlots max_item_count max_load_factor.0) }
+    ensures room { IfSome result (λ s. max_item_count ≤ max_items s max_load_factor.0) }
+{
+    let filled = (max_item_count as u128 * 65536).div_ceil(max_load_factor.0 as u128);
+    if filled > 1 << 63 {
+        return None;
+    }
+    Some((filled as usize).max(16).next_power_of_two())
+}
+
+/// The maximum item count of `slot_count` slots: at least one slot stays free.
+#[inline]
+pub fn max_item_count_for(slot_count: usize, max_load_factor: Factor) -> usize
+    ensures value { result ≡ max_items slot_count max_load_factor.0 }
+    ensures below { 1 ≤ slot_count → result < slot_count }
+{
+    max_load_factor.apply(slot_count)
+}
