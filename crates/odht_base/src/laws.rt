@@ -1,1 +1,75 @@
-//! Laws of the definitions. Each function does nothing: its contract is the law.
+//! Laws of the definitions that no call carries by itself. Each function does nothing: its contract is the law.
+//!
+//! They are said for every format `F`: every pair of lengths up to 255 and every hash of 32 bits.
+ghost use Rattle.std.specs.Prelude.{◌≡◌, ℕ, ◌+◌, ◌*◌, ◌%◌, ◌<◌, ◌≤◌, ◌^◌, List, length, All, Some, IsTrue, IsPermutation, bytes_eq, if◌then◌else◌};
+ghost use Rattle.std.specs.List.{range_with_len};
+ghost use Rattle.odht_base.specs.Numbers.{num, le_bytes, IsBytes};
+ghost use Rattle.odht_base.specs.Load.{factor_of, IsSlotCount};
+ghost use Rattle.odht_base.specs.Format.{Format, IsFormat};
+ghost use Rattle.odht_base.specs.Probe.{place_slot, order};
+ghost use Rattle.odht_base.specs.Table.{Pair, Table, slot_count, is_free, walk, count, fresh};
+ghost use Rattle.odht_base.specs.Map.{map_of, last, overwritten};
+ghost use Rattle.odht_base.specs.Insert.{place, grown, run, put_owned, put_view};
+ghost use Rattle.odht_base.specs.Image.{image, image_len};
+ghost use Rattle.odht_base.specs.Valid.{IsPairOf, IsPlaced, IsValid};
+ghost use Rattle.odht_base.specs.Shown.{shown};
+
+/// A number and its bytes determine one another.
+pub fn numbers_are_their_bytes()
+    ensures number { (w n : ℕ) → n < 256 ^ w → num (le_bytes w n) ≡ n }
+    ensures bytes { (w : ℕ) (b : List ℕ) → IsBytes w b → le_bytes w (num b) ≡ b }
+{}
+
+/// The probe order from any home lists each slot exactly once; place `16 * j + i` of it is slot
+/// `(b + 8 * j * (j + 1) + i) mod s`.
+pub fn orders_list_each_slot_once()
+    ensures place { (b s j i : ℕ) → i < 16 → place_slot b s (16 * j + i) ≡ (b + 8 * j * (j + 1) + i) % s }
+    ensures each_once { (b s : ℕ) → IsSlotCount s → IsPermutation (order b s) (range_with_len 0 s) }
+{}
+
+/// The image of a valid table has the length of its slot count and shows the table, so different valid tables have
+/// different images.
+pub fn images_determine_tables()
+    ensures len { (F : Format) (P : Table) → IsValid F P → length (image F P) ≡ image_len F (slot_count P) }
+    ensures shown { (F : Format) (P : Table) → IsFormat F → IsValid F P → shown F (image F P) ≡ P }
+    ensures one { (F : Format) (P Q : Table) → IsFormat F → IsValid F P → IsValid F Q → image F P ≡ image F Q → P ≡ Q }
+{}
+
+/// A valid table has a free slot, so it takes any pair; a fresh table for `n` items takes its first `n` items, by
+/// either insert, without growth or refusal.
+pub fn valid_tables_have_room()
+    ensures free { (F : Format) (P : Table) → IsValid F P → (i : ℕ) × (i < slot_count P) × IsTrue (is_free P.cells i) }
+    ensures takes { (F : Format) (P : Table) (p : Pair) → IsValid F P → (Q : Table) × (place F P p ≡ Some Q) }
+    ensures owned { (F : Format) (n p : ℕ) (P : Table) (ps : List Pair)
+        → 1 ≤ p → p ≤ 100 → fresh n p ≡ Some P → All (IsPairOf F) ps → length ps ≤ n
+        → (Q : Table) × (run (put_owned F) P ps ≡ Some Q) × (slot_count Q ≡ slot_count P) }
+    ensures view { (F : Format) (n p : ℕ) (P : Table) (ps : List Pair)
+        → 1 ≤ p → p ≤ 100 → fresh n p ≡ Some P → All (IsPairOf F) ps → length ps ≤ n
+        → (Q : Table) × (run (put_view F) P ps ≡ Some Q) × (slot_count Q ≡ slot_count P) }
+{}
+
+/// Placing a pair keeps a table placed, and changes its map at the pair's key alone.
+pub fn placing_changes_one_key()
+    ensures placed { (F : Format) (P Q : Table) (p : Pair)
+        → IsPlaced F P → IsPairOf F p → place F P p ≡ Some Q → IsPlaced F Q }
+    ensures maps { (F : Format) (P Q : Table) (p : Pair)
+        → IsPlaced F P → place F P p ≡ Some Q
+        → (k : List ℕ) → map_of Q k ≡ (if bytes_eq k p.key then Some p.value else map_of P k) }
+{}
+
+/// A growth keeps a table valid, with the same pairs and the same map.
+pub fn growth_keeps_the_map()
+    ensures valid { (F : Format) (P Q : Table) → IsValid F P → grown F P ≡ Some Q → IsValid F Q }
+    ensures pairs { (F : Format) (P Q : Table) → IsValid F P → grown F P ≡ Some Q → IsPermutation (walk Q) (walk P) }
+    ensures maps { (F : Format) (P Q : Table) → IsValid F P → grown F P ≡ Some Q → (k : List ℕ) → map_of Q k ≡ map_of P k }
+{}
+
+/// Inserts in turn keep a table valid, and have the map of the last values over the former one.
+pub fn runs_have_the_last_values()
+    ensures owned { (F : Format) (P Q : Table) (ps : List Pair)
+        → IsValid F P → All (IsPairOf F) ps → run (put_owned F) P ps ≡ Some Q
+        → IsValid F Q × ((k : List ℕ) → map_of Q k ≡ overwritten (map_of P) (last ps) k) }
+    ensures view { (F : Format) (P Q : Table) (ps : List Pair)
+        → IsValid F P → All (IsPairOf F) ps → run (put_view F) P ps ≡ Some Q
+        → IsValid F Q × ((k : List ℕ) → map_of Q k ≡ overwritten (map_of P) (last ps) k) }
+{}

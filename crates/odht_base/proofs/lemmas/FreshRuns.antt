@@ -1,5 +1,5 @@
 -- Inserts into a table that has room for them all neither grow it nor are refused.
-use Rattle.std.proofs.Common.{◌≡◌, ◌<◌, ◌≤◌, ◌+◌, ◌∙◌, inl, ℕ, sym, ap, subst, refl, List, [], ◌∷◌, Option, Some, length, arith, All}
+use Rattle.std.proofs.Common.{◌≡◌, ◌<◌, ◌≤◌, ◌+◌, ◌∙◌, ℕ, sym, ap, subst, refl, List, [], ◌∷◌, Option, Some, length, arith, All}
 use Rattle.std.specs.Prelude.{option_and_then}
 use Rattle.std.specs.Option.{option_or}
 use Rattle.std.proofs.lemmas.List.Elements.{All-head, All-tail}

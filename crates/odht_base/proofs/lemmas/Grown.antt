@@ -8,7 +8,7 @@ use Rattle.std.proofs.lemmas.List.Elements.{All-head, All-tail}
 use Rattle.std.proofs.lemmas.List.Sorted.{IsPermutation-refl, IsPermutation-trans, IsPermutation-append_right, IsPermutation-middle, length_permutation}
 use Rattle.odht_base.specs.Format.{Format}
 use Rattle.odht_base.specs.Insert.{place, place_all, grown, grown_slots, run}
-use Rattle.odht_base.specs.Load.{max_items, slots_for, IsLeastSlots}
+use Rattle.odht_base.specs.Load.{max_items, IsLeastSlots}
 use Rattle.odht_base.specs.Map.{value_in, map_of, last}
 use Rattle.odht_base.specs.Table.{Pair, Table, slot_count, walk, count, empty}
 use Rattle.odht_base.specs.Valid.{IsPairOf, IsPlaced, IsValid}

@@ -1,6 +1,6 @@
 -- `slots_for` answers the least slot count that holds the items, or none where there is none.
 use Rattle.std.proofs.Common.{◌≡◌, ◌<◌, ◌≤◌, ◌∙◌, ◌+◌, ◌*◌, ◌-◌, ◌^◌, ℕ, Bool, true, false, sym, ap, subst, refl, Option, Some, None, slice_get, arith, nat_le, pow_mono, leb-true, le-leb, ltb-true, ltb-false, nat_lt, true≢false}
-use Rattle.std.proofs.lemmas.Option.{slice_get_within, slice_get-get_or, none-some}
+use Rattle.std.proofs.lemmas.Option.{slice_get_within, slice_get-get_or}
 use Rattle.std.proofs.lemmas.List.FromFn.{get_or-map-range_with_len}
 use Rattle.odht_base.specs.Load.{slots_for, slot_counts, IsSlotCount, IsLeastSlots}
 use Rattle.odht_base.proofs.lemmas.Firsts.{IsFirst, find-Some, find-None}

@@ -1,5 +1,5 @@
 -- The next power of two from the slots that n items fill on is their least slot count.
-use Rattle.std.proofs.Common.{◌≡◌, ◌<◌, ◌≤◌, ◌∙◌, ◌+◌, ◌*◌, ◌-◌, ◌/◌, ◌%◌, ◌^◌, ℕ, suc, inl, inr, arith, pow_mono, pow-suc, mul-le-mul_right, None}
+use Rattle.std.proofs.Common.{◌≡◌, ◌<◌, ◌≤◌, ◌*◌, ◌/◌, ◌^◌, ℕ, suc, inl, inr, arith, pow_mono, pow-suc, mul-le-mul_right, None}
 use Rattle.std.specs.Prelude.{max}
 use Rattle.std.specs.Int.{div_ceil}
 use Rattle.std.proofs.Math.Nat.{le-max_left, le-max_right}

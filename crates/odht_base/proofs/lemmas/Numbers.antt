@@ -1,6 +1,6 @@
 -- Numbers and their bytes.
-use Rattle.std.proofs.Common.{◌≡◌, ◌<◌, ◌∙◌, ◌/◌, ◌%◌, ◌^◌, ℕ, zero, suc, sym, ap, subst, refl, List, [], ◌∷◌, arith, pow-suc, length, All}
-use Rattle.std.proofs.lemmas.List.Elements.{All-nil, All-cons, All-head, All-tail}
+use Rattle.std.proofs.Common.{◌≡◌, ◌<◌, ◌∙◌, ◌/◌, ◌%◌, ◌^◌, ℕ, zero, suc, sym, ap, refl, List, [], ◌∷◌, arith, pow-suc, length, All}
+use Rattle.std.proofs.lemmas.List.Elements.{All-nil, All-cons}
 use Rattle.odht_base.specs.Numbers.{num, le_bytes, IsBytes}
 
 -- the bytes of a number have that number

@@ -3,8 +3,8 @@ use Rattle.std.proofs.Common.{◌≡◌, ◌<◌, ◌∙◌, ℕ, zero, suc, Boo
 use Rattle.std.specs.Prelude.{is_none, option_map, if◌then◌else◌}
 use Rattle.std.proofs.lemmas.Option.{none-some}
 use Rattle.std.proofs.lemmas.List.Sorted.{IsPermutation-refl, IsPermutation-cons, IsPermutation-trans, IsPermutation-middle}
-use Rattle.odht_base.specs.Map.{value_in, map_of}
-use Rattle.odht_base.specs.Table.{Pair, Table, Cells, cell_at, has_key}
+use Rattle.odht_base.specs.Map.{value_in}
+use Rattle.odht_base.specs.Table.{Pair, Cells, cell_at, has_key}
 use Rattle.odht_base.proofs.lemmas.Counts.{pairs}
 use Rattle.odht_base.proofs.lemmas.Keys.{same_bytes, key_itself}
 use Rattle.odht_base.proofs.lemmas.Options.{some_same}

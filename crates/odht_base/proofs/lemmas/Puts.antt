@@ -1,6 +1,6 @@
 -- The inserts of both tables, on valid tables.
-use Rattle.std.proofs.Common.{◌≡◌, ◌<◌, ◌≤◌, ◌+◌, ◌∙◌, ◌⊎◌, inl, inr, ℕ, Bool, true, false, true≢false, cond, ◌&&◌, sym, ap, subst, refl, List, Option, Some, None, arith, bytes_eq, eqb-true, eq-eqb, ltb-true, ltb-false, lt-ltb, le-ltb, nat_lt}
-use Rattle.std.specs.Prelude.{is_none, is_some, not, option_and_then, if◌then◌else◌, ◌↔◌}
+use Rattle.std.proofs.Common.{◌≡◌, ◌<◌, ◌≤◌, ◌+◌, ◌∙◌, ◌⊎◌, inl, inr, ℕ, Bool, true, false, cond, sym, ap, subst, refl, List, Option, Some, None, arith, bytes_eq, eqb-true, eq-eqb, ltb-true, ltb-false, lt-ltb, le-ltb, nat_lt}
+use Rattle.std.specs.Prelude.{is_none, option_and_then, if◌then◌else◌, ◌↔◌}
 use Rattle.std.proofs.lemmas.Bool.{eqb-false, ne_eqb}
 use Rattle.std.proofs.lemmas.Option.{none-some}
 use Rattle.odht_base.specs.Format.{Format}

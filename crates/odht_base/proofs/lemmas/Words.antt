@@ -1,9 +1,7 @@
 -- Numbers as the machine reads and writes them, and lists of bytes that are compared by words.
-use Rattle.std.proofs.Common.{◌≡◌, ◌↔◌, ◌<◌, ◌≤◌, ◌∙◌, ◌+◌, ◌-◌, ◌*◌, ◌/◌, ◌%◌, ◌^◌, ℕ, zero, suc, refl, sym, ap, ap₂, arith, pow-suc, pow-add, List, [], ◌∷◌, ◌++◌, length, take, drop, get_or, length-take, length-drop, All, IsTrue, nat_eq, Bool, eqb-true, eq-eqb, mul_comm, mul_assoc}
-use Rattle.std.specs.Int.{Width, byte_len, byte_worth, byte_at, sum_through, bytes_low_first, from_le_bytes, to_le_bytes}
-use Rattle.std.proofs.Math.Seq.{take-suc, take-add, take-length}
-use Rattle.std.proofs.lemmas.List.{drop-drop, drop-take}
-use Rattle.std.proofs.lemmas.List.Elements.{All-take, All-drop}
+use Rattle.std.proofs.Common.{◌≡◌, ◌↔◌, ◌<◌, ◌≤◌, ◌∙◌, ◌+◌, ◌-◌, ◌*◌, ◌^◌, ℕ, zero, suc, refl, sym, ap, ap₂, arith, pow-suc, List, [], ◌∷◌, ◌++◌, length, take, get_or, length-take, All, IsTrue, nat_eq, Bool, eqb-true, eq-eqb, mul_assoc}
+use Rattle.std.specs.Int.{Width, byte_len, byte_worth, sum_through, from_le_bytes}
+use Rattle.std.proofs.Math.Seq.{take-suc, take-length}
 use Rattle.odht_base.specs.Numbers.{num, le_bytes}
 use Rattle.odht_base.specs.Bytes.{bytes_at}
 use Rattle.odht_base.proofs.lemmas.ByteRanges.{length-bytes_at, bytes_at-whole, bytes_at-add, bytes_at-bytes_at, All-bytes_at}

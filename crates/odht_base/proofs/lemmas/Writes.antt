@@ -1,14 +1,13 @@
 -- The parts of cells, and the image of a table, after a cell is set.
-use Rattle.std.proofs.Common.{◌≡◌, ◌<◌, ◌≤◌, ◌∙◌, ◌+◌, ◌-◌, ◌*◌, ◌++◌, ℕ, zero, suc, Bool, true, false, cond, ltb, ltb-true, ltb-false, inl, IsTrue, Ok, sym, ap, subst, refl, List, [], ◌∷◌, Option, Some, None, is_none, map, take, drop, set, length, arith, length-append, length-set, append_assoc}
+use Rattle.std.proofs.Common.{◌≡◌, ◌<◌, ◌≤◌, ◌∙◌, ◌+◌, ◌-◌, ◌*◌, ◌++◌, ℕ, zero, suc, Bool, true, false, cond, ltb, ltb-true, ltb-false, sym, ap, refl, List, [], ◌∷◌, Option, Some, None, is_none, map, take, drop, set, length, arith, length-append, length-set, append_assoc}
 use Rattle.std.proofs.lemmas.List.{length-map, map-set, set-append_left, set-append_right, take-set-le}
-use Rattle.std.specs.Prelude.{slice_index}
 use Rattle.std.specs.List.{filter_map}
 use Rattle.std.proofs.Math.Seq.{take-set-lt}
 use Rattle.odht_base.specs.Bytes.{overwritten_at}
 use Rattle.odht_base.specs.Format.{Format, entry_len, tag}
 use Rattle.odht_base.specs.Image.{header_bytes, entry_bytes, control_byte, entries, controls, parts, image}
 use Rattle.odht_base.specs.Numbers.{le_bytes}
-use Rattle.odht_base.specs.Shown.{slot_value, counts_as_free, stated_slots, stated_count}
+use Rattle.odht_base.specs.Shown.{stated_slots, stated_count}
 use Rattle.odht_base.specs.Table.{Pair, Table, Cells, cell_at, slot_count, count}
 use Rattle.odht_base.specs.Writes.{tagged, with_value, with_entry, with_control, with_tag, with_pair, with_count, with_parts}
 use Rattle.odht_base.proofs.lemmas.ByteRanges.{overwritten_at-between, overwritten_at-append_left, overwritten_at-append_right, length-overwritten_at}
@@ -16,7 +15,7 @@ use Rattle.odht_base.proofs.lemmas.Counts.{count_set_free, count_set_again}
 use Rattle.odht_base.proofs.lemmas.Fits.{HasLengths, IsSized}
 use Rattle.odht_base.proofs.lemmas.Image.{stated_slots-image, stated_count-image}
 use Rattle.odht_base.proofs.lemmas.Keys.{cell_at-within}
-use Rattle.odht_base.proofs.lemmas.Parts.{length-header_bytes, length-entry_bytes, length-entries, length-entries-take, length-controls, entries-split, entries-set, slot_key-entries, slot_value-entries, slice_index-controls}
+use Rattle.odht_base.proofs.lemmas.Parts.{length-header_bytes, length-entry_bytes, length-entries, length-entries-take, length-controls, entries-split, entries-set}
 use Rattle.odht_base.proofs.lemmas.PartsOf.{slot_within}
 
 -- a pair written into a slot

@@ -1,6 +1,5 @@
-use Rattle.std.proofs.Common.{◌≡◌, ◌<◌, ◌≤◌, ◌^◌, ◌/◌, sym, ap, ◌∙◌, subst}
+use Rattle.std.proofs.Common.{◌<◌, ◌≤◌, ◌^◌, ◌/◌, sym, ap, ◌∙◌, subst}
 use Rattle.std.specs.Prelude.{max}
-use Rattle.odht_base.specs.Load.{IsLeastSlots}
 use Rattle.odht_base.proofs.lemmas.Least.{slots_for-least}
 use Rattle.odht_base.proofs.lemmas.NextPower.{next-IsLeastSlots, next_none}
 use Rattle.odht_base.proofs.load.slots_needed.Goals as goal

@@ -1,6 +1,5 @@
-use Rattle.std.proofs.Common.{ap, arith, length-drop, ◌∙◌}
+use Rattle.std.proofs.Common.{ap, arith, ◌∙◌}
 use Rattle.std.specs.Int.{w32, from_le_bytes}
-use Rattle.odht_base.specs.Numbers.{num}
 use Rattle.odht_base.specs.Hashes.{un}
 use Rattle.odht_base.proofs.lemmas.Words.{from_le_bytes-num}
 use Rattle.odht_base.proofs.hash.UnHashFnHashFn.hash.Goals as goal
