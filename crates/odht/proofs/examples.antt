@@ -1,0 +1,11 @@
+-- Worked examples of what is refused, each a closed theorem by computation.
+-- one name that opens every definition
+pub mod Opened
+-- forged headers and cut bytes
+pub mod Refused
+-- each header byte set to each of its values
+pub mod HeaderBytes
+-- bytes that a view accepts and the whole check refuses
+pub mod Invalid
+-- inserts into such bytes
+pub mod Frames

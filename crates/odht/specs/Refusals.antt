@@ -1,0 +1,153 @@
+-- Which bytes are refused as a table, and why. Each refusal is a condition on the bytes with the error that it gives; the
+-- first in its list whose condition holds is the answer.
+--     c gives e                  the error e where the condition c holds
+--     first_of rs                the first error of the list
+--     first_slot f n             the first of the errors that f gives the first n slots
+--     header_refusal F n B       of the header, for n bytes in all; header_refusals is its list
+--     opening_refusal F B        of what is looked at before any slot: the length and the header
+--     hashes_refusal F es cs n   of the first n slots of the parts, as a view looks at them
+--     view_refusal F B           of what a view looks at: all of opening_refusal, then the first ten slots
+--     slots_refusal F es cs n    of the first n slots of the parts, as the whole check looks at them
+--     late_refusal F B           of what the whole check looks at beyond a view; late_refusals is its list
+--     check_refusal F B          of everything: view_refusal, then late_refusal
+--     checked o                  the answer of a check whose refusal is o
+use Rattle.std.specs.Prelude.{Result, Ok, Err, ℕ, ◌+◌, Bool, not, ◌&&◌, nat_lt, ◌==◌, List, [], ◌∷◌, length, map, bytes_eq, slice_index, Option, Some, None}
+use Rattle.std.specs.List.{range_with_len, list_all}
+use Rattle.std.specs.Option.{option_or}
+use Rattle.std.specs.Bool.{then_some}
+use Rattle.odht_base.specs.Format.{Format, tag}
+use Rattle.odht_base.specs.Load.{max_items, is_power_of_two}
+use Rattle.odht_base.specs.Table.{count}
+use Rattle.odht_base.specs.Image.{image_len}
+use Rattle.odht_base.specs.Insert.{search_end, is_at}
+use Rattle.odht_base.specs.Bytes.{bytes_at}
+use Rattle.odht_base.specs.Shown.{stated_count, stated_slots, stated_factor, control_at, key_at, counts_as_free, shown, slot_entry, slot_key, entries_of, controls_of}
+use Rattle.odht.specs.declared.error.Error.{Error}
+use Rattle.odht.specs.declared.error.Error.TheVariants.{TooShort, WrongTag, WrongVersion, WrongSizeOf, SlotCountNotPowerOfTwo, SlotCountTooSmall, WrongLength, NonZeroEmpty, ControlMismatch, LoadFactorTooSmall, NonZeroPadding, BadFreeControl, MirrorMismatch, WrongItemCount, TooManyItems, Unreachable}
+use Rattle.odht.specs.declared.error.Part.{Part}
+use Rattle.odht.specs.declared.error.Part.TheVariants.{EntryMetadata, EncodedKey, EncodedValue, Header}
+
+infix 10 ◌gives◌
+abbrev pub ◌gives◌ : Bool → Error → Option Error
+c gives e = then_some c e
+
+abbrev pub first_of : List (Option Error) → Option Error
+first_of [] = None
+first_of (r ∷ rs) = option_or r (first_of rs)
+
+abbrev pub differs : ℕ → ℕ → Bool
+differs m n = not (m == n)
+
+abbrev pub lists_differ : List ℕ → List ℕ → Bool
+lists_differ xs ys = not (bytes_eq xs ys)
+
+-- one of the four sizes that the header states, at this byte
+abbrev pub wrong_size : List ℕ → ℕ → Part → ℕ → Option Error
+wrong_size B at part expected = differs (slice_index B at) expected gives WrongSizeOf part expected (slice_index B at)
+
+-- the field refusals, of at least 32 bytes that stand for n
+abbrev pub header_refusals : Format → ℕ → List ℕ → List (Option Error)
+header_refusals F n B =
+    (lists_differ (bytes_at B 0 4) (79 ∷ 68 ∷ 72 ∷ 84 ∷ []) gives WrongTag (bytes_at B 0 4))
+    ∷ (lists_differ (bytes_at B 24 4) (0 ∷ 0 ∷ 0 ∷ 2 ∷ []) gives WrongVersion (bytes_at B 24 4))
+    ∷ wrong_size B 4 EntryMetadata 1
+    ∷ wrong_size B 5 EncodedKey F.key_len
+    ∷ wrong_size B 6 EncodedValue F.value_len
+    ∷ wrong_size B 7 Header 32
+    ∷ (not (is_power_of_two (stated_slots B)) gives SlotCountNotPowerOfTwo (stated_slots B))
+    ∷ (nat_lt (stated_slots B) 16 gives SlotCountTooSmall (stated_slots B))
+    ∷ (differs n (image_len F (stated_slots B)) gives WrongLength (stated_slots B) n (image_len F (stated_slots B)))
+    ∷ []
+
+unfoldable pub header_refusal : Format → ℕ → List ℕ → Option Error
+header_refusal F n B = first_of (header_refusals F n B)
+
+-- what is refused before any slot is looked at
+unfoldable pub opening_refusal : Format → List ℕ → Option Error
+opening_refusal F B = option_or (nat_lt (length B) 32 gives TooShort (length B)) (header_refusal F (length B) B)
+
+-- what one slot of the parts is refused for
+abbrev pub non_zero_empty : Format → List ℕ → List ℕ → ℕ → Option Error
+non_zero_empty F es cs i =
+    counts_as_free (slice_index cs i) && not (list_all (λ x. x == 0) (slot_entry F es i)) gives NonZeroEmpty i
+
+abbrev pub bad_free_control : List ℕ → ℕ → Option Error
+bad_free_control cs i =
+    counts_as_free (slice_index cs i) && differs (slice_index cs i) 255 gives BadFreeControl i (slice_index cs i)
+
+abbrev pub control_mismatch : Format → List ℕ → List ℕ → ℕ → Option Error
+control_mismatch F es cs i =
+    let expected = tag F (slot_key F es i) in
+    not (counts_as_free (slice_index cs i)) && differs (slice_index cs i) expected gives
+    ControlMismatch i expected (slice_index cs i)
+
+-- the first of the errors that f gives the first n slots, in slot order
+abbrev pub first_slot : (ℕ → Option Error) → ℕ → Option Error
+first_slot f n = first_of (map f (range_with_len 0 n))
+
+-- what a view refuses slot i for, and what the whole check does
+abbrev pub hashes_refusal_at : Format → List ℕ → List ℕ → ℕ → Option Error
+hashes_refusal_at F es cs i = first_of (non_zero_empty F es cs i ∷ control_mismatch F es cs i ∷ [])
+
+abbrev pub slot_refusal_at : Format → List ℕ → List ℕ → ℕ → Option Error
+slot_refusal_at F es cs i = first_of (non_zero_empty F es cs i ∷ bad_free_control cs i ∷ control_mismatch F es cs i ∷ [])
+
+unfoldable pub hashes_refusal : Format → List ℕ → List ℕ → ℕ → Option Error
+hashes_refusal F es cs n = first_slot (hashes_refusal_at F es cs) n
+
+unfoldable pub view_refusal : Format → List ℕ → Option Error
+view_refusal F B = option_or (opening_refusal F B) (hashes_refusal F (entries_of F B) (controls_of F B) 10)
+
+unfoldable pub slots_refusal : Format → List ℕ → List ℕ → ℕ → Option Error
+slots_refusal F es cs n = first_slot (slot_refusal_at F es cs) n
+
+abbrev pub mirror_refusal_at : Format → List ℕ → ℕ → Option Error
+mirror_refusal_at F B i = differs (control_at F B (stated_slots B + i)) (control_at F B i) gives MirrorMismatch i
+
+unfoldable pub mirror_refusal : Format → List ℕ → Option Error
+mirror_refusal F B = first_slot (mirror_refusal_at F B) 16
+
+-- slot i holds a key, and a search for it ends elsewhere
+abbrev pub unreachable : Format → List ℕ → ℕ → Option Error
+unreachable F B i =
+    not (counts_as_free (control_at F B i)) && not (is_at i (search_end F (shown F B).cells (key_at F B i))) gives Unreachable i
+
+unfoldable pub reach_refusal : Format → List ℕ → Option Error
+reach_refusal F B = first_slot (unreachable F B) (stated_slots B)
+
+abbrev pub factor_refusal : List ℕ → Option Error
+factor_refusal B = nat_lt (stated_factor B) 655 gives LoadFactorTooSmall (stated_factor B)
+
+abbrev pub padding_refusal : List ℕ → Option Error
+padding_refusal B = lists_differ (bytes_at B 30 2) (0 ∷ 0 ∷ []) gives NonZeroPadding (bytes_at B 30 2)
+
+abbrev pub count_refusal : Format → List ℕ → Option Error
+count_refusal F B = differs (stated_count B) (count (shown F B)) gives WrongItemCount (stated_count B) (count (shown F B))
+
+abbrev pub room_refusal : List ℕ → Option Error
+room_refusal B =
+    nat_lt (max_items (stated_slots B) (stated_factor B)) (stated_count B) gives
+    TooManyItems (stated_count B) (max_items (stated_slots B) (stated_factor B))
+
+-- of bytes that a view accepts
+abbrev pub late_refusals : Format → List ℕ → List (Option Error)
+late_refusals F B =
+    factor_refusal B
+    ∷ padding_refusal B
+    ∷ slots_refusal F (entries_of F B) (controls_of F B) (stated_slots B)
+    ∷ mirror_refusal F B
+    ∷ count_refusal F B
+    ∷ room_refusal B
+    ∷ reach_refusal F B
+    ∷ []
+
+unfoldable pub late_refusal : Format → List ℕ → Option Error
+late_refusal F B = first_of (late_refusals F B)
+
+unfoldable pub check_refusal : Format → List ℕ → Option Error
+check_refusal F B = option_or (view_refusal F B) (late_refusal F B)
+
+-- the answer of a check
+abbrev pub checked : Option Error → Result (Unit {0}) Error
+checked None = Ok tt
+checked (Some e) = Err e

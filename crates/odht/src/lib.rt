@@ -1,0 +1,7 @@
+//! `odht`: a hash table that is used in the very form in which it is stored.
+#![tactic(auto)]
+
+pub use odht_base::hash::{FxHashFn, HashFn, UnHashFn};
+pub use odht_base::{bytes, hash, load};
+
+pub mod error;
