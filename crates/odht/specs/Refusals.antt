@@ -1,17 +1,19 @@
 -- Which bytes are refused as a table, and why. Each refusal is a condition on the bytes with the error that it gives; the
--- first in its list whose condition holds is the answer.
---     c gives e                  the error e where the condition c holds
---     first_of rs                the first error of the list
---     first_slot f n             the first of the errors that f gives the first n slots
---     header_refusal F n B       of the header, for n bytes in all; header_refusals is its list
---     opening_refusal F B        of what is looked at before any slot: the length and the header
---     hashes_refusal F es cs n   of the first n slots of the parts, as a view looks at them
---     view_refusal F B           of what a view looks at: all of opening_refusal, then the first ten slots
---     slots_refusal F es cs n    of the first n slots of the parts, as the whole check looks at them
---     late_refusal F B           of what the whole check looks at beyond a view; late_refusals is its list
---     check_refusal F B          of everything: view_refusal, then late_refusal
---     checked o                  the answer of a check whose refusal is o
-use Rattle.std.specs.Prelude.{Result, Ok, Err, ℕ, ◌+◌, Bool, not, ◌&&◌, nat_lt, ◌==◌, List, [], ◌∷◌, length, map, bytes_eq, slice_index, Option, Some, None}
+-- first in its list whose condition holds is the answer. B is all bytes; es and ctrl are entries and control bytes.
+--     c gives e                    the error e where the condition c holds
+--     first_of rs                  the first error of the list
+--     first_slot f n               the first of the errors that f gives the first n slots
+--     header_refusal F n B         of the header, for n bytes in all: tag, version, sizes, slot count, length
+--     opening_refusal F B          of what is looked at before any slot: too few bytes, then the header
+--     hashes_refusal F es ctrl n   of the first n slots, as a view looks at them: a free slot that is not zero, or a
+--                                  control byte that is not its key's tag
+--     view_refusal F B             of what a view looks at: opening_refusal, then the first ten slots
+--     slots_refusal F es ctrl      of all slots, as the whole check looks at them: a free slot's control byte is 255 too
+--     late_refusal F B             of what the whole check looks at beyond a view: load factor, padding, all slots, the
+--                                  mirror, the item count, its maximum, and that each key is reached by its search
+--     check_refusal F B            of everything: view_refusal, then late_refusal
+--     checked o                    the answer of a check whose refusal is o
+use Rattle.std.specs.Prelude.{Result, Ok, Err, ℕ, ◌+◌, ◌-◌, min, Bool, not, ◌&&◌, nat_lt, ◌==◌, List, [], ◌∷◌, length, map, bytes_eq, slice_index, Option, Some, None}
 use Rattle.std.specs.List.{range_with_len, list_all}
 use Rattle.std.specs.Option.{option_or}
 use Rattle.std.specs.Bool.{then_some}
@@ -19,7 +21,7 @@ use Rattle.odht_base.specs.Format.{Format, tag}
 use Rattle.odht_base.specs.Load.{max_items, is_power_of_two}
 use Rattle.odht_base.specs.Table.{count}
 use Rattle.odht_base.specs.Image.{image_len}
-use Rattle.odht_base.specs.Insert.{search_end, is_at}
+use Rattle.odht_base.specs.Search.{search_end, is_at}
 use Rattle.odht_base.specs.Bytes.{bytes_at}
 use Rattle.odht_base.specs.Shown.{stated_count, stated_slots, stated_factor, control_at, key_at, counts_as_free, shown, slot_entry, slot_key, entries_of, controls_of}
 use Rattle.odht.specs.declared.error.Error.{Error}
@@ -68,18 +70,18 @@ opening_refusal F B = option_or (nat_lt (length B) 32 gives TooShort (length B))
 
 -- what one slot of the parts is refused for
 abbrev pub non_zero_empty : Format → List ℕ → List ℕ → ℕ → Option Error
-non_zero_empty F es cs i =
-    counts_as_free (slice_index cs i) && not (list_all (λ x. x == 0) (slot_entry F es i)) gives NonZeroEmpty i
+non_zero_empty F es ctrl i =
+    counts_as_free (slice_index ctrl i) && not (list_all (λ x. x == 0) (slot_entry F es i)) gives NonZeroEmpty i
 
 abbrev pub bad_free_control : List ℕ → ℕ → Option Error
-bad_free_control cs i =
-    counts_as_free (slice_index cs i) && differs (slice_index cs i) 255 gives BadFreeControl i (slice_index cs i)
+bad_free_control ctrl i =
+    counts_as_free (slice_index ctrl i) && differs (slice_index ctrl i) 255 gives BadFreeControl i (slice_index ctrl i)
 
 abbrev pub control_mismatch : Format → List ℕ → List ℕ → ℕ → Option Error
-control_mismatch F es cs i =
+control_mismatch F es ctrl i =
     let expected = tag F (slot_key F es i) in
-    not (counts_as_free (slice_index cs i)) && differs (slice_index cs i) expected gives
-    ControlMismatch i expected (slice_index cs i)
+    not (counts_as_free (slice_index ctrl i)) && differs (slice_index ctrl i) expected gives
+    ControlMismatch i expected (slice_index ctrl i)
 
 -- the first of the errors that f gives the first n slots, in slot order
 abbrev pub first_slot : (ℕ → Option Error) → ℕ → Option Error
@@ -87,19 +89,19 @@ first_slot f n = first_of (map f (range_with_len 0 n))
 
 -- what a view refuses slot i for, and what the whole check does
 abbrev pub hashes_refusal_at : Format → List ℕ → List ℕ → ℕ → Option Error
-hashes_refusal_at F es cs i = first_of (non_zero_empty F es cs i ∷ control_mismatch F es cs i ∷ [])
+hashes_refusal_at F es ctrl i = first_of (non_zero_empty F es ctrl i ∷ control_mismatch F es ctrl i ∷ [])
 
 abbrev pub slot_refusal_at : Format → List ℕ → List ℕ → ℕ → Option Error
-slot_refusal_at F es cs i = first_of (non_zero_empty F es cs i ∷ bad_free_control cs i ∷ control_mismatch F es cs i ∷ [])
+slot_refusal_at F es ctrl i = first_of (non_zero_empty F es ctrl i ∷ bad_free_control ctrl i ∷ control_mismatch F es ctrl i ∷ [])
 
 unfoldable pub hashes_refusal : Format → List ℕ → List ℕ → ℕ → Option Error
-hashes_refusal F es cs n = first_slot (hashes_refusal_at F es cs) n
+hashes_refusal F es ctrl n = first_slot (hashes_refusal_at F es ctrl) (min n (length ctrl - 16))
 
 unfoldable pub view_refusal : Format → List ℕ → Option Error
 view_refusal F B = option_or (opening_refusal F B) (hashes_refusal F (entries_of F B) (controls_of F B) 10)
 
-unfoldable pub slots_refusal : Format → List ℕ → List ℕ → ℕ → Option Error
-slots_refusal F es cs n = first_slot (slot_refusal_at F es cs) n
+unfoldable pub slots_refusal : Format → List ℕ → List ℕ → Option Error
+slots_refusal F es ctrl = first_slot (slot_refusal_at F es ctrl) (length ctrl - 16)
 
 abbrev pub mirror_refusal_at : Format → List ℕ → ℕ → Option Error
 mirror_refusal_at F B i = differs (control_at F B (stated_slots B + i)) (control_at F B i) gives MirrorMismatch i
@@ -134,7 +136,7 @@ abbrev pub late_refusals : Format → List ℕ → List (Option Error)
 late_refusals F B =
     factor_refusal B
     ∷ padding_refusal B
-    ∷ slots_refusal F (entries_of F B) (controls_of F B) (stated_slots B)
+    ∷ slots_refusal F (entries_of F B) (controls_of F B)
     ∷ mirror_refusal F B
     ∷ count_refusal F B
     ∷ room_refusal B

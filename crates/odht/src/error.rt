@@ -23,11 +23,17 @@ pub enum Part {
 #[derive(Clone, Copy, PartialEq, Eq, Debug)]
 pub enum Error {
     /// There are fewer bytes than the 32 of a header.
-    TooShort { found: usize },
+    TooShort {
+        found: usize,
+    },
     /// The first four bytes are not `ODHT`.
-    WrongTag { found: [u8; 4] },
+    WrongTag {
+        found: [u8; 4],
+    },
     /// The file format version is not 0, 0, 0, 2.
-    WrongVersion { found: [u8; 4] },
+    WrongVersion {
+        found: [u8; 4],
+    },
     /// The header states another size of a part than the configuration has.
     WrongSizeOf {
         part: Part,
@@ -35,9 +41,13 @@ pub enum Error {
         found: u8,
     },
     /// The slot count is no power of two.
-    SlotCountNotPowerOfTwo { found: usize },
+    SlotCountNotPowerOfTwo {
+        found: usize,
+    },
     /// The slot count is below 16.
-    SlotCountTooSmall { found: usize },
+    SlotCountTooSmall {
+        found: usize,
+    },
     /// There are more or fewer bytes than so many slots need.
     WrongLength {
         slot_count: usize,
@@ -45,7 +55,9 @@ pub enum Error {
         expected: u128,
     },
     /// A free slot's entry is not zero.
-    NonZeroEmpty { slot: usize },
+    NonZeroEmpty {
+        slot: usize,
+    },
     /// A filled slot's control byte is not the tag of its key.
     ControlMismatch {
         slot: usize,
@@ -53,21 +65,41 @@ pub enum Error {
         found: u8,
     },
     /// The load factor field is below that of 1 percent, 655.
-    LoadFactorTooSmall { found: u16 },
+    LoadFactorTooSmall {
+        found: u16,
+    },
     /// The last two bytes of the header are not zero.
-    NonZeroPadding { found: [u8; 2] },
+    NonZeroPadding {
+        found: [u8; 2],
+    },
     /// A free slot's control byte is not 255.
-    BadFreeControl { slot: usize, found: u8 },
+    BadFreeControl {
+        slot: usize,
+        found: u8,
+    },
     /// Control byte `index` is not repeated in the mirror.
-    MirrorMismatch { index: usize },
+    MirrorMismatch {
+        index: usize,
+    },
     /// The header states another item count than there are filled slots.
-    WrongItemCount { stated: usize, found: usize },
+    WrongItemCount {
+        stated: usize,
+        found: usize,
+    },
     /// The item count is above the maximum of the slot count and load factor.
-    TooManyItems { count: usize, max: usize },
+    TooManyItems {
+        count: usize,
+        max: usize,
+    },
     /// A filled slot is not where a search for its key ends.
-    Unreachable { slot: usize },
+    Unreachable {
+        slot: usize,
+    },
     /// The data in which a table is to be made has another length than the table.
-    InitLength { found: usize, expected: usize },
+    InitLength {
+        found: usize,
+        expected: usize,
+    },
     /// The view is at its maximum item count, or its search met neither the key nor a free slot.
     Full,
     /// A request for memory was refused.

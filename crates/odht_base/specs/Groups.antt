@@ -1,9 +1,9 @@
 -- A group of control bytes, and what a search of it for the byte h may report.
 --     equal g h              the indices of the bytes h, rising
---     free g                 the least index of a byte of 128 or more, if any
---     IsReport g h xs        xs rise, each index of h is among them, and none of a free byte
---     IsWordReport g h xs    what the search by a word reports: beside the indices of h only such of its neighbour
---                            h xor 1 as stand directly above a reported one
+--     first_free g           the least index of a byte of 128 or more, if any
+--     IsReport g h xs        the indices xs rise, each index of h is among them, and none of a free byte
+--     IsWordReport g h xs    what the search by a word reports: any other index than of h has the neighbour h xor 1, and
+--                            the index one below it is reported too
 use Rattle.std.specs.Prelude.{◌≡◌, ℕ, ◌+◌, ◌<◌, ◌==◌, ◌⊎◌, List, length, filter, position, slice_index, bit_xor, Option, Contains}
 use Rattle.std.specs.List.{range_with_len}
 use Rattle.std.specs.List.Sorted.{IsStrictlyIncreasing}
@@ -12,8 +12,8 @@ use Rattle.odht_base.specs.Shown.{counts_as_free}
 abbrev pub equal : List ℕ → ℕ → List ℕ
 equal g h = filter (λ i. slice_index g i == h) (range_with_len 0 (length g))
 
-abbrev pub free : List ℕ → Option ℕ
-free g = position counts_as_free g
+abbrev pub first_free : List ℕ → Option ℕ
+first_free g = position counts_as_free g
 
 pub record IsReport (g : List ℕ) (h : ℕ) (xs : List ℕ) : Type 0 where
   pub rising : IsStrictlyIncreasing xs
@@ -21,7 +21,5 @@ pub record IsReport (g : List ℕ) (h : ℕ) (xs : List ℕ) : Type 0 where
   pub filled : (i : ℕ) → Contains xs i → (i < length g) × (slice_index g i < 128)
 
 pub record IsWordReport (g : List ℕ) (h : ℕ) (xs : List ℕ) : Type 0 where
-  pub rising : IsStrictlyIncreasing xs
-  pub complete : (i : ℕ) → i < length g → slice_index g i ≡ h → Contains xs i
-  pub within : (i : ℕ) → Contains xs i → i < length g
+  pub report : IsReport g h xs
   pub others : (i : ℕ) → Contains xs i → (slice_index g i ≡ h) ⊎ ((slice_index g i ≡ bit_xor h 1) × ((j : ℕ) × (j + 1 ≡ i) × Contains xs j))

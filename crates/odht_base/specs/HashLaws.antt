@@ -1,8 +1,8 @@
 -- A hash has 32 bits: the law that `HashFn` asks for, of both hash functions.
 use Rattle.std.proofs.Common.{◌≡◌, ℕ, zero, suc, ◌-◌, ◌^◌, ◌<◌, ◌≤◌, List, [], ◌∷◌, length, drop, All, arith, length-drop, pow-suc, sym, subst}
 use Rattle.std.proofs.lemmas.List.Elements.{All-head, All-tail, All-drop}
-use Rattle.odht_base.specs.Numbers.{num, IsBytes}
 use Rattle.odht_base.specs.Hashes.{fx, un}
+use Rattle.odht_base.specs.Numbers.{num, IsBytes}
 
 -- the number of w bytes is below 256 ^ w
 pub num-lt : (w : ℕ) (b : List ℕ) → IsBytes w b → num b < 256 ^ w

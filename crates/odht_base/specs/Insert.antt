@@ -1,42 +1,19 @@
 -- Inserts into a plain table. An answer `None` is a refusal, after which the table is as before.
---     stops_at cs k i      slot i is free or holds k: a search for k ends there
---     search_order F cs k  the slots in the order of k
---     search_end F cs k    the slot where a search for k ends, if there is one
---     is_at i o            the answer o is the slot i
---     reach F cs k         the place in the order where a search for k ends
---     groups F cs k        how many groups of sixteen a search for k reads
 --     target F cs k        the slot that holds k, or else the first free one of its order
 --     place_in F cs p      the pair p in its key's target; place F P p the same of a table
---     run put P ps         the inserts `put` of the pairs in turn; place_all F P ps is that of `place`
+--     run put P ps         the inserts `put` of the pairs in turn, None as soon as one is refused
+--     place_all F P ps     the same of `place`
 --     grown_slots P        the slots for twice as many pairs, and for one at least
 --     grown F P            the pairs of P, in slot order, in so many slots
+--     is_full P            P holds the most items that its slots may
 --     put_owned F P p      an insert of the owned table, which grows where P is full
 --     put_view F P p       an insert of a view, which refuses there
-use Rattle.std.specs.Prelude.{ℕ, ◌+◌, ◌*◌, ◌/◌, max, Bool, false, ◌||◌, nat_lt, ◌==◌, List, [], ◌∷◌, length, set, position, find, Option, Some, None, option_map, option_and_then, if◌then◌else◌}
-use Rattle.std.specs.Option.{option_or, option_map_or}
-use Rattle.odht_base.specs.Format.{Format, home}
+use Rattle.std.specs.Prelude.{ℕ, ◌*◌, max, Bool, nat_lt, ◌==◌, List, [], ◌∷◌, set, position, find, Option, Some, None, option_map, option_and_then, if◌then◌else◌}
+use Rattle.std.specs.Option.{option_or}
+use Rattle.odht_base.specs.Format.{Format}
 use Rattle.odht_base.specs.Load.{max_items, slots_for}
-use Rattle.odht_base.specs.Probe.{order}
-use Rattle.odht_base.specs.Table.{Pair, Table, Cells, slot_count, empty, cell_at, is_free, has_key, walk, count}
-
-abbrev pub stops_at : Cells → List ℕ → ℕ → Bool
-stops_at cs k i = is_free cs i || has_key k (cell_at cs i)
-
-abbrev pub search_order : Format → Cells → List ℕ → List ℕ
-search_order F cs k = order (home F k (length cs)) (length cs)
-
-unfoldable pub search_end : Format → Cells → List ℕ → Option ℕ
-search_end F cs k = find (stops_at cs k) (search_order F cs k)
-
-abbrev pub is_at : ℕ → Option ℕ → Bool
-is_at i None = false
-is_at i (Some j) = i == j
-
-unfoldable pub reach : Format → Cells → List ℕ → Option ℕ
-reach F cs k = position (stops_at cs k) (search_order F cs k)
-
-abbrev pub groups : Format → Cells → List ℕ → ℕ
-groups F cs k = option_map_or (λ p. p / 16 + 1) (reach F cs k) (length cs / 16)
+use Rattle.odht_base.specs.Search.{search_order}
+use Rattle.odht_base.specs.Table.{Pair, Table, Cells, slot_count, empty, is_free, has_key, walk, count}
 
 unfoldable pub target : Format → Cells → List ℕ → Option ℕ
 target F cs k = option_or (position (has_key k) cs) (find (is_free cs) (search_order F cs k))

@@ -17,6 +17,8 @@ pub mod Probe
 pub mod Table
 -- plain tables as finite maps
 pub mod Map
+-- where the search for a key ends, and how many groups it reads
+pub mod Search
 -- inserts into plain tables, growth included
 pub mod Insert
 -- the bytes of a plain table

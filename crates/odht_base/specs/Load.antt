@@ -1,11 +1,12 @@
--- How many items a table may hold, and how many slots it needs. A load factor f stands for f / 65536.
---     factor_of p           the load factor of p percent, and percent_of f its percentage, both rounded down
---     max_items s f         the most items that s slots may hold
---     powers_of_two         1, 2, .., 2 ^ 63, and is_power_of_two s says whether s is one of these
---     slot_counts           16, 32, .., 2 ^ 63, and IsSlotCount s says that s is one of these
---     slots_for n f         the least slot count that holds n items, if there is one
---     IsLeastSlots n f s    the same as a relation
-use Rattle.std.specs.Prelude.{◌≡◌, ℕ, ◌*◌, ◌/◌, ◌^◌, ◌<◌, ◌≤◌, Bool, nat_le, ◌==◌, List, map, find, Option}
+-- How many items a table may hold, and how many slots it needs.
+--     factor_of p           the load factor of p percent, rounded down: 65535 for 100 percent
+--     percent_of f          the percentage of a load factor, rounded down
+--     max_items s f         the most items that s slots may hold: s * f / 65536, which is below s
+--     is_power_of_two s     s is one of powers_of_two: 1, 2, .., 2 ^ 63
+--     IsSlotCount s         s is one of these and at least 16
+--     slots_for n f         the least of slot_counts, 16, 32, .., 2 ^ 63, that may hold n items, if there is one
+--     IsLeastSlots n f s    s is that slot count
+use Rattle.std.specs.Prelude.{ℕ, ◌*◌, ◌/◌, ◌^◌, ◌≤◌, Bool, nat_le, ◌==◌, List, map, find, Option, IsTrue}
 use Rattle.std.specs.List.{range_with_len, list_any}
 
 abbrev pub factor_of : ℕ → ℕ
@@ -20,14 +21,15 @@ max_items s f = s * f / 65536
 abbrev pub powers_of_two : List ℕ
 powers_of_two = map (λ e. 2 ^ e) (range_with_len 0 64)
 
-abbrev pub is_power_of_two : ℕ → Bool
+unfoldable pub is_power_of_two : ℕ → Bool
 is_power_of_two s = list_any (λ t. s == t) powers_of_two
 
 abbrev pub slot_counts : List ℕ
 slot_counts = map (λ e. 2 ^ e) (range_with_len 4 60)
 
-abbrev pub IsSlotCount : ℕ → Type 0
-IsSlotCount s = (e : ℕ) × (4 ≤ e) × (e < 64) × (s ≡ 2 ^ e)
+pub record IsSlotCount (s : ℕ) : Type 0 where
+  pub power : IsTrue (is_power_of_two s)
+  pub least : 16 ≤ s
 
 unfoldable pub slots_for : ℕ → ℕ → Option ℕ
 slots_for n f = find (λ s. nat_le (65536 * n) (s * f)) slot_counts

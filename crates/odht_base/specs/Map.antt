@@ -1,4 +1,5 @@
 -- Tables and lists of pairs as finite maps, from a key to its value.
+--     Values               such a map: none where it has no value
 --     value_in ps k        the value of the first pair with the key k
 --     map_of P k           the value that P holds for k
 --     last ps k            the value of the last pair with the key k

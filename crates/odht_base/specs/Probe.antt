@@ -1,7 +1,7 @@
 -- The order in which a search from the slot b looks at the s slots of a table.
 --     place_slot b s p     the slot at place p of the order
 --     order b s            the slots at places 0 to s - 1
--- Group j is the sixteen places from 16 * j on: sixteen neighbouring slots modulo s, 16 * j slots behind group j - 1.
+-- Group j is the sixteen places from 16 * j on: sixteen neighbouring slots modulo s, 16 * j slots further on than group j - 1.
 use Rattle.std.specs.Prelude.{ℕ, ◌+◌, ◌*◌, ◌/◌, ◌%◌, List, map}
 use Rattle.std.specs.List.{range_with_len}
 

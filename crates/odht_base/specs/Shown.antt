@@ -1,17 +1,18 @@
--- What any bytes show as a table.
---     Of parts, es the entries' bytes and cs the control bytes with their mirror:
---     slot_entry F es i    the entry of slot i; slot_key and slot_value are its two ends
---     counts_as_free c     the control byte c is 128 or more
---     shown_cells F es cs  a cell for each slot, free where its own control byte counts as free
---     Of a whole list of bytes B, at the offsets of the slot count that its header states:
+-- What bytes show as a table, also bytes that are no valid table.
+--     Of parts, es the entries' bytes and ctrl the control bytes with their mirror:
+--     slot_entry F es i      the entry of slot i; slot_key and slot_value are its two ends
+--     counts_as_free c       the control byte c is 128 or more
+--     shown_cell F es ctrl i what slot i shows: free where its own control byte counts as free, else its key and value
+--     shown_cells F es ctrl  the same of each slot
+--     Of a whole list of bytes B that is as long as its header states, at the offsets of that slot count:
 --     stated_count B, stated_slots B, stated_factor B      the header's numbers
 --     entries_of F B, controls_of F B                      the two parts
 --     control_at F B i     control byte i; the mirror is control bytes s to s + 15
 --     entry_at F B i       the entry of slot i, key_at and value_at its two ends
 --     shown F B            the table of the cells that the parts show
 --     seen F B             the pairs of that table: the entries whose own control byte is below 128, in slot order
---     Stores F B p         some slot's entry is the pair p, whatever its control byte
-use Rattle.std.specs.Prelude.{◌≡◌, ℕ, ◌+◌, ◌-◌, ◌*◌, ◌<◌, Bool, nat_le, List, ◌++◌, length, take, drop, map, slice_index, Option, Some, None, if◌then◌else◌}
+--     Stores F B k v       some slot's entry is the key k and the value v, whatever its control byte
+use Rattle.std.specs.Prelude.{◌≡◌, ℕ, ◌+◌, ◌-◌, ◌*◌, ◌<◌, Bool, nat_le, List, length, take, drop, map, slice_index, Option, Some, None, if◌then◌else◌}
 use Rattle.std.specs.List.{range_with_len}
 use Rattle.odht_base.specs.Bytes.{bytes_at}
 use Rattle.odht_base.specs.Format.{Format, entry_len}
@@ -31,12 +32,12 @@ abbrev pub counts_as_free : ℕ → Bool
 counts_as_free c = nat_le 128 c
 
 abbrev pub shown_cell : Format → List ℕ → List ℕ → ℕ → Option Pair
-shown_cell F es cs i =
-    if counts_as_free (slice_index cs i) then None
+shown_cell F es ctrl i =
+    if counts_as_free (slice_index ctrl i) then None
     else Some (record { key = slot_key F es i; value = slot_value F es i })
 
 unfoldable pub shown_cells : Format → List ℕ → List ℕ → Cells
-shown_cells F es cs = map (shown_cell F es cs) (range_with_len 0 (length cs - 16))
+shown_cells F es ctrl = map (shown_cell F es ctrl) (range_with_len 0 (length ctrl - 16))
 
 abbrev pub stated_count : List ℕ → ℕ
 stated_count B = num (bytes_at B 8 8)
@@ -71,5 +72,5 @@ shown F B = record { factor = stated_factor B; cells = shown_cells F (entries_of
 abbrev pub seen : Format → List ℕ → List Pair
 seen F B = walk (shown F B)
 
-abbrev pub Stores : Format → List ℕ → Pair → Type 0
-Stores F B p = (i : ℕ) × (i < stated_slots B) × (entry_at F B i ≡ p.key ++ p.value)
+abbrev pub Stores : Format → List ℕ → List ℕ → List ℕ → Type 0
+Stores F B k v = (i : ℕ) × (i < stated_slots B) × (key_at F B i ≡ k) × (value_at F B i ≡ v)

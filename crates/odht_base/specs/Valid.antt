@@ -2,12 +2,13 @@
 --     IsPairOf F p         key and value of p are bytes of the lengths that F says
 --     HasPairsOf F cs      so is each pair of the cells
 --     HoldsPair P i p      slot i holds the pair p
---     IsReached F P k i    slot i stands in the order of k, with only filled slots before it
---     IsPlaced F P         each pair is one of F, its slot is reached for its key, and no key stands twice
---     IsValid F P          the load factor and the count are in bounds too
+--     IsReached F P k i    slot i stands in the probe order of k, and each earlier place of the order is filled
+--     IsPlaced F P         the slot count is a power of two from 16 to 2 ^ 63, each pair is one of F and stands in a slot
+--                          that is reached for its key, and no key stands twice
+--     IsValid F P          P is placed, its load factor is from 655 to 65535, and it holds at most max_items pairs
 --     IsImage F P B        B is the image of P, which is valid
 --     IsValidBytes F B     B is the image of some valid table
---     IsPartsOf F P es cs  es and cs are the entries and the control bytes of P, which is placed
+--     IsPartsOf F P es ctrl  es and ctrl are the entries and the control bytes of P, which is placed
 use Rattle.std.specs.Prelude.{◌≡◌, ℕ, ◌<◌, ◌≤◌, List, Some, IsFalse}
 use Rattle.odht_base.specs.Format.{Format, home}
 use Rattle.odht_base.specs.Image.{entries, controls, image}
@@ -30,7 +31,7 @@ pub record IsReached (F : Format) (P : Table) (k : List ℕ) (i : ℕ) : Type 0 
   pub place : ℕ
   pub in_order : place < slot_count P
   pub stands : place_slot (home F k (slot_count P)) (slot_count P) place ≡ i
-  pub behind_filled : (q : ℕ) → q < place → IsFalse (is_free P.cells (place_slot (home F k (slot_count P)) (slot_count P) q))
+  pub earlier_filled : (q : ℕ) → q < place → IsFalse (is_free P.cells (place_slot (home F k (slot_count P)) (slot_count P) q))
 
 pub record IsPlaced (F : Format) (P : Table) : Type 0 where
   pub slots : IsSlotCount (slot_count P)
@@ -51,7 +52,7 @@ pub record IsImage (F : Format) (P : Table) (B : List ℕ) : Type 0 where
 abbrev pub IsValidBytes : Format → List ℕ → Type 0
 IsValidBytes F B = (P : Table) × IsImage F P B
 
-pub record IsPartsOf (F : Format) (P : Table) (es cs : List ℕ) : Type 0 where
+pub record IsPartsOf (F : Format) (P : Table) (es ctrl : List ℕ) : Type 0 where
   pub placed : IsPlaced F P
   pub entries_are : es ≡ entries F P.cells
-  pub controls_are : cs ≡ controls F P.cells
+  pub controls_are : ctrl ≡ controls F P.cells

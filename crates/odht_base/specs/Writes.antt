@@ -1,4 +1,4 @@
--- The writes of an insert.
+-- The writes of an insert, for a pair p of the format F and a slot i below the slot count.
 --     Of bytes B with s slots:
 --     with_value F B i v       the value v in slot i
 --     with_entry F B i p       the pair p in slot i
@@ -6,10 +6,10 @@
 --     with_tag F s B i c       the same, and for a slot below 16 its mirror too
 --     with_pair F s B i p      the pair p in slot i, with its tag
 --     with_count B n           the item count n
---     Of control bytes cs with their mirror:
---     tagged cs i c            the control byte c at i, and for a slot below 16 its mirror too
+--     Of control bytes ctrl with their mirror:
+--     tagged ctrl i c          the control byte c at i, and for a slot below 16 its mirror too
 --     Of both:
---     with_parts B es cs       the header of B before these entries and control bytes
+--     with_parts B es ctrl     the header of B before these entries and control bytes
 use Rattle.std.specs.Prelude.{ℕ, ◌+◌, ◌-◌, ◌*◌, length, take, set, nat_lt, List, ◌++◌, if◌then◌else◌}
 use Rattle.odht_base.specs.Bytes.{overwritten_at}
 use Rattle.odht_base.specs.Format.{Format, entry_len, tag}
@@ -35,7 +35,7 @@ abbrev pub with_count : List ℕ → ℕ → List ℕ
 with_count B n = overwritten_at B 8 (le_bytes 8 n)
 
 abbrev pub tagged : List ℕ → ℕ → ℕ → List ℕ
-tagged cs i c = if nat_lt i 16 then set (set cs i c) (length cs - 16 + i) c else set cs i c
+tagged ctrl i c = if nat_lt i 16 then set (set ctrl i c) (length ctrl - 16 + i) c else set ctrl i c
 
 abbrev pub with_parts : List ℕ → List ℕ → List ℕ → List ℕ
-with_parts B es cs = take 32 B ++ (es ++ cs)
+with_parts B es ctrl = take 32 B ++ (es ++ ctrl)

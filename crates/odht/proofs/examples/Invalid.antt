@@ -7,7 +7,7 @@ use Rattle.odht_base.specs.Bytes.{overwritten_at}
 use Rattle.odht_base.specs.Load.{factor_of}
 use Rattle.odht_base.specs.Table.{Table}
 use Rattle.odht_base.specs.Image.{image}
-use Rattle.odht_base.specs.Insert.{groups}
+use Rattle.odht_base.specs.Search.{groups_read}
 use Rattle.odht_base.specs.Shown.{shown, seen, stated_count}
 use Rattle.odht_base.proofs.examples.Configs.{my_config, test_config, direct_config, pair32, owned_of}
 use Rattle.odht_base.proofs.examples.Tables.{three_pairs}
@@ -59,7 +59,7 @@ all_filled c = overwritten_at (image direct_config (record { factor = factor_of 
 pub no_free_slot : (view_refusal direct_config (all_filled 13) ≡ None)
     × (check_refusal direct_config (all_filled 13) ≡ Some (WrongItemCount 13 16))
     × (check_refusal direct_config (all_filled 16) ≡ Some (TooManyItems 16 13))
-    × (groups direct_config (shown direct_config (all_filled 13)).cells (le_bytes 4 99) ≡ 1)
+    × (groups_read direct_config (shown direct_config (all_filled 13)).cells (le_bytes 4 99) ≡ 1)
 unfolding opened
 no_free_slot = (refl, refl, refl, refl)
 

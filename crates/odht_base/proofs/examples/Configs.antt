@@ -7,11 +7,11 @@
 --     squares n                the pairs (0, 0) to (n - 1, n - 1)
 use Rattle.std.specs.Prelude.{ℕ, List, map, Option, option_and_then}
 use Rattle.std.specs.List.{range_with_len}
-use Rattle.odht_base.specs.Numbers.{le_bytes}
 use Rattle.odht_base.specs.Format.{Format}
 use Rattle.odht_base.specs.Hashes.{fx, un}
-use Rattle.odht_base.specs.Table.{Pair, Table, fresh}
 use Rattle.odht_base.specs.Insert.{run, put_owned, put_view}
+use Rattle.odht_base.specs.Numbers.{le_bytes}
+use Rattle.odht_base.specs.Table.{Pair, Table, fresh}
 
 abbrev pub my_config : Format
 my_config = record { key_len = 8; value_len = 4; hash = fx }

@@ -1,13 +1,14 @@
 -- Worked examples: inserts at the maximum.
 use Rattle.std.proofs.Common.{◌≡◌, ℕ, refl, List, [], ◌∷◌, Option, Some, None, option_map, option_and_then, map}
 use Rattle.std.specs.List.{range_with_len}
-use Rattle.odht_base.proofs.examples.Opened.{opened}
-use Rattle.odht_base.proofs.examples.Configs.{test_config, direct_config, pair32, view_of, owned_of, squares}
-use Rattle.odht_base.specs.Numbers.{le_bytes}
+use Rattle.odht_base.specs.Insert.{put_owned, put_view}
 use Rattle.odht_base.specs.Load.{max_items}
-use Rattle.odht_base.specs.Table.{Table, Pair, count, slot_count}
-use Rattle.odht_base.specs.Insert.{search_end, put_owned, put_view}
 use Rattle.odht_base.specs.Map.{map_of}
+use Rattle.odht_base.specs.Numbers.{le_bytes}
+use Rattle.odht_base.specs.Search.{search_end}
+use Rattle.odht_base.specs.Table.{Table, Pair, count, slot_count}
+use Rattle.odht_base.proofs.examples.Configs.{test_config, direct_config, pair32, view_of, owned_of, squares}
+use Rattle.odht_base.proofs.examples.Opened.{opened}
 
 -- what is told of a table
 abbrev sizes : Option Table → Option (List ℕ)

@@ -1,11 +1,11 @@
 -- Worked examples: hashes, load factors and slot counts.
 use Rattle.std.proofs.Common.{◌≡◌, ◌^◌, ◌-◌, refl, [], ◌∷◌, Some, None, map, option_map}
-use Rattle.odht_base.proofs.examples.Opened.{opened}
-use Rattle.odht_base.proofs.examples.Configs.{my_config, test_config}
-use Rattle.odht_base.specs.Numbers.{le_bytes}
-use Rattle.odht_base.specs.Load.{slots_for, max_items, factor_of, percent_of}
-use Rattle.odht_base.specs.Image.{image_len}
 use Rattle.odht_base.specs.Hashes.{fx, un}
+use Rattle.odht_base.specs.Image.{image_len}
+use Rattle.odht_base.specs.Load.{slots_for, max_items, factor_of, percent_of}
+use Rattle.odht_base.specs.Numbers.{le_bytes}
+use Rattle.odht_base.proofs.examples.Configs.{my_config, test_config}
+use Rattle.odht_base.proofs.examples.Opened.{opened}
 
 pub fx_values : (fx [] ≡ 0)
     × (fx (1 ∷ []) ≡ 0x27220a95)

@@ -1,13 +1,13 @@
 -- Worked examples: tables of a few inserts, and their bytes.
 use Rattle.std.proofs.Common.{◌≡◌, ◌++◌, ℕ, refl, List, [], ◌∷◌, Option, Some, option_map, map, length, replicate, slice_range, slice_index}
-use Rattle.odht_base.proofs.examples.Opened.{opened}
-use Rattle.odht_base.proofs.examples.Configs.{my_config, test_config, direct_config, pair64, pair32, view_of, owned_of}
-use Rattle.odht_base.specs.Numbers.{le_bytes}
 use Rattle.odht_base.specs.Format.{Format, home, tag}
 use Rattle.odht_base.specs.Hashes.{fx, un}
-use Rattle.odht_base.specs.Table.{Pair, Table, walk, count, fresh}
 use Rattle.odht_base.specs.Image.{image}
 use Rattle.odht_base.specs.Map.{map_of, last}
+use Rattle.odht_base.specs.Numbers.{le_bytes}
+use Rattle.odht_base.specs.Table.{Pair, Table, walk, count, fresh}
+use Rattle.odht_base.proofs.examples.Configs.{my_config, test_config, direct_config, pair64, pair32, view_of, owned_of}
+use Rattle.odht_base.proofs.examples.Opened.{opened}
 
 -- a fresh table: 192 bytes, of which the slots' are zeros and 255s
 pub fresh_bytes : option_map (image test_config) (fresh 0 87)

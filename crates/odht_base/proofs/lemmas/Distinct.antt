@@ -1,7 +1,8 @@
 -- The probe order lists each slot once: two places of an order are two slots.
-use Rattle.std.proofs.Common.{◌≡◌, ◌<◌, ◌∙◌, ◌+◌, ◌*◌, ◌-◌, ◌/◌, ◌%◌, ◌^◌, ℕ, zero, suc, sym, ap, subst, refl, arith, pow-suc, Bool, true, false, nat_lt, ltb-true, ltb-false, mul_comm, div-add-mod', mul-le-mul_left}
+use Rattle.std.proofs.Common.{◌≡◌, ◌<◌, ◌≤◌, ◌∙◌, ◌+◌, ◌*◌, ◌-◌, ◌/◌, ◌%◌, ◌^◌, ℕ, zero, suc, sym, ap, subst, refl, arith, pow-suc, Bool, true, false, nat_lt, ltb-true, ltb-false, mul_comm, div-add-mod', mul-le-mul_left}
 use Rattle.odht_base.specs.Load.{IsSlotCount}
 use Rattle.odht_base.specs.Probe.{place_slot}
+use Rattle.odht_base.proofs.lemmas.SlotCounts.{exponent}
 
 -- a power of two that divides a product with an odd factor divides the other factor
 odd_factor : (k a b c : ℕ) → (2 * a + 1) * b ≡ c * 2 ^ k → (d : ℕ) × (b ≡ d * 2 ^ k)
@@ -87,10 +88,13 @@ at_power k b p q u v before within e =
 
 -- two places of an order are two slots
 pub place_slot-injective : (b s p q : ℕ) → IsSlotCount s → p < q → q < s → place_slot b s p ≡ place_slot b s q → ⊥
-place_slot-injective b s p q (suc (suc (suc (suc k))), lo, hi, power) before within same =
-    let size : s ≡ 8 * 2 ^ suc k = power ∙ eight_times k in
-    let x = b + 8 * (p / 16) * (p / 16 + 1) + p % 16 in
-    let y = b + 8 * (q / 16) * (q / 16 + 1) + q % 16 in
-    let t = differ_by s x y same in
-    at_power k b p q (x / s) (y / s) before (omega (arith, size, within)) (subst (λ m. x + m * (y / s) ≡ y + m * (x / s)) size t)
-place_slot-injective b s p q (_, lo, hi, power) before within same = omega (arith, lo)
+place_slot-injective b s p q c before within same = at_exponent (exponent s c).0 (exponent s c).1 (exponent s c).3
+  where
+    at_exponent : (e : ℕ) → 4 ≤ e → s ≡ 2 ^ e → ⊥
+    at_exponent (suc (suc (suc (suc k)))) lo power =
+        let size : s ≡ 8 * 2 ^ suc k = power ∙ eight_times k in
+        let x = b + 8 * (p / 16) * (p / 16 + 1) + p % 16 in
+        let y = b + 8 * (q / 16) * (q / 16 + 1) + q % 16 in
+        let t = differ_by s x y same in
+        at_power k b p q (x / s) (y / s) before (omega (arith, size, within)) (subst (λ m. x + m * (y / s) ≡ y + m * (x / s)) size t)
+    at_exponent _ lo power = omega (arith, lo)

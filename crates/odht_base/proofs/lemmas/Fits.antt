@@ -8,7 +8,7 @@ use Rattle.odht_base.specs.Table.{Pair, Cells, Table, cell_at, empty, slot_count
 use Rattle.odht_base.specs.Valid.{IsPlaced, IsPairOf, HasPairsOf}
 use Rattle.odht_base.proofs.lemmas.Counts.{cell_at-free}
 use Rattle.odht_base.proofs.lemmas.Options.{some_same}
-use Rattle.odht_base.proofs.lemmas.SlotCounts.{slots_least, slots_fit}
+use Rattle.odht_base.proofs.lemmas.SlotCounts.{slots_fit}
 use Rattle.std.proofs.lemmas.Option.{none-some}
 
 -- ---- the lengths alone
@@ -78,13 +78,13 @@ tag-lt F k f h = let small = f.hash_small k h in omega (arith, small)
 
 -- a placed table is sized
 pub IsSized-IsPlaced : (F : Format) (P : Table) → IsPlaced F P → IsSized F P
-IsSized-IsPlaced F P h = record { lengths = HasLengths-IsPlaced F P h; enough = slots_least (slot_count P) h.slots; few = slots_fit (slot_count P) h.slots }
+IsSized-IsPlaced F P h = record { lengths = HasLengths-IsPlaced F P h; enough = h.slots.least; few = slots_fit (slot_count P) h.slots }
 
 -- an empty table of a slot count is sized
 pub IsSized-empty : (F : Format) (s f : ℕ) → IsSlotCount s → IsSized F (empty s f)
 IsSized-empty F s f h =
     let n : slot_count (empty s f) ≡ s = length-replicate s None in
-    record { lengths = HasLengths-HasPairsOf F (empty s f).cells (HasPairsOf-empty F s f); enough = omega (arith, n, slots_least s h); few = omega (arith, n, slots_fit s h) }
+    record { lengths = HasLengths-HasPairsOf F (empty s f).cells (HasPairsOf-empty F s f); enough = omega (arith, n, h.least); few = omega (arith, n, slots_fit s h) }
 
 -- a pair more or another keeps it
 pub IsSized-set : (F : Format) (P : Table) (i : ℕ) (q : Pair) → IsSized F P → length q.key ≡ F.key_len → length q.value ≡ F.value_len → IsSized F (record P { cells = set P.cells i (Some q) })

@@ -5,6 +5,7 @@ use Rattle.std.proofs.lemmas.List.FromFn.{get_or-map-range_with_len}
 use Rattle.odht_base.specs.Load.{slots_for, slot_counts, IsSlotCount, IsLeastSlots}
 use Rattle.odht_base.proofs.lemmas.Firsts.{IsFirst, find-Some, find-None}
 use Rattle.odht_base.proofs.lemmas.Options.{some_same}
+use Rattle.odht_base.proofs.lemmas.SlotCounts.{exponent, IsSlotCount-pow}
 
 -- the slot count at place q
 slice_get-slot_counts : (q e : ℕ) → q < 60 → 4 + q ≡ e → slice_get slot_counts q ≡ Some (2 ^ e)
@@ -21,8 +22,14 @@ module _ (n f : ℕ) where
 
   -- none before the first that passes is as small as one that passes
   first_is_least : (s : ℕ) → IsFirst fits slot_counts s → (t : ℕ) → IsSlotCount t → fits t ≡ true → s ≤ t
-  first_is_least s first t (e, lo, hi, te) h = go (nat_lt e (4 + first.place)) refl
+  first_is_least s first t c h = go (nat_lt e (4 + first.place)) refl
     where
+      e : ℕ
+      e = (exponent t c).0
+
+      te : t ≡ 2 ^ e
+      te = (exponent t c).3
+
       in_range : first.place < 60
       in_range = slice_get_within slot_counts first.place s first.is
 
@@ -31,8 +38,9 @@ module _ (n f : ℕ) where
 
       go : (b : Bool) → nat_lt e (4 + first.place) ≡ b → s ≤ t
       go true g =
+          let x = exponent t c in
           let below = ltb-true e (4 + first.place) g in
-          let fails = first.before (e - 4) (2 ^ e) (omega arith) (slot_count-in_list e lo hi) in
+          let fails = first.before (e - 4) (2 ^ e) (omega (arith, below, x.1)) (slot_count-in_list e x.1 x.2) in
           absurd (true≢false (sym h ∙ ap fits te ∙ fails))
       go false g =
           let above = ltb-false e (4 + first.place) g in
@@ -45,7 +53,7 @@ module _ (n f : ℕ) where
       let first = find-Some fits slot_counts s e in
       let in_range : first.place < 60 = slice_get_within slot_counts first.place s first.is in
       record {
-        is_count = (4 + first.place, omega arith, omega arith, some_same _ _ (sym first.is ∙ slice_get-slot_counts first.place (4 + first.place) in_range refl));
+        is_count = IsSlotCount-pow s (4 + first.place) (omega arith) (omega arith) (some_same _ _ (sym first.is ∙ slice_get-slot_counts first.place (4 + first.place) in_range refl));
         holds = leb-true (65536 * n) (s * f) first.passes;
         least = λ t c h. first_is_least s first t c (le-leb (65536 * n) (t * f) h);
       }
@@ -53,9 +61,10 @@ module _ (n f : ℕ) where
   -- where it answers none, no slot count holds the items
   pub slots_for-None : slots_for n f ≡ None → (t : ℕ) → IsSlotCount t → 65536 * n ≤ t * f → ⊥
   unfolding slots_for
-  slots_for-None e t (k, lo, hi, te) h =
-      let fails = find-None fits slot_counts e (k - 4) (2 ^ k) (slot_count-in_list k lo hi) in
-      true≢false (sym (le-leb (65536 * n) (t * f) h) ∙ ap fits te ∙ fails)
+  slots_for-None e t c h =
+      let k = exponent t c in
+      let fails = find-None fits slot_counts e (k.0 - 4) (2 ^ k.0) (slot_count-in_list k.0 k.1 k.2) in
+      true≢false (sym (le-leb (65536 * n) (t * f) h) ∙ ap fits k.3 ∙ fails)
 
   -- a least slot count is what it answers
   pub slots_for-least : (s : ℕ) → IsLeastSlots n f s → slots_for n f ≡ Some s

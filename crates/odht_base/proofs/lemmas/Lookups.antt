@@ -3,9 +3,9 @@ use Rattle.std.proofs.Common.{◌≡◌, ◌<◌, ◌∙◌, ℕ, true, false, t
 use Rattle.std.specs.Prelude.{is_none, option_map, option_and_then}
 use Rattle.std.proofs.lemmas.Bool.{or_from, or_right, false_from_ne_true}
 use Rattle.odht_base.specs.Format.{Format, home}
-use Rattle.odht_base.specs.Insert.{search_end, reach, stops_at}
 use Rattle.odht_base.specs.Map.{map_of}
 use Rattle.odht_base.specs.Probe.{place_slot}
+use Rattle.odht_base.specs.Search.{search_end, reach, stops_at}
 use Rattle.odht_base.specs.Table.{Pair, Table, Cells, slot_count, cell_at, has_key}
 use Rattle.odht_base.specs.Valid.{IsPlaced}
 use Rattle.odht_base.proofs.lemmas.Options.{some_same}
@@ -25,7 +25,7 @@ AllArrive-IsPlaced F P ok i p h =
     let b = home F p.key (slot_count P) in
     find-order (stops_at P.cells p.key) b (slot_count P) r.place r.in_order
     (ap (stops_at P.cells p.key) r.stands ∙ or_right _ _ here)
-    (λ q l. or_from _ _ (r.behind_filled q l) (false_from_ne_true _ (λ g.
+    (λ q l. or_from _ _ (r.earlier_filled q l) (false_from_ne_true _ (λ g.
     let same = has_key-one F P p.key ok (place_slot b (slot_count P) q) i g here in
     let lq : q < slot_count P = omega (arith, r.in_order) in
     let z = place_slot-apart b (slot_count P) q r.place ok.slots lq r.in_order (same ∙ sym r.stands) in omega arith)))

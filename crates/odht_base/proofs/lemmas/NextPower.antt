@@ -5,8 +5,8 @@ use Rattle.std.specs.Int.{div_ceil}
 use Rattle.std.proofs.Math.Nat.{le-max_left, le-max_right}
 use Rattle.std.proofs.lemmas.Bool.{cases_lt}
 use Rattle.odht_base.specs.Load.{slots_for, IsSlotCount, IsLeastSlots}
-use Rattle.odht_base.proofs.lemmas.SlotCounts.{slots_least, few_slots}
 use Rattle.odht_base.proofs.lemmas.Least.{slots_for-none}
+use Rattle.odht_base.proofs.lemmas.SlotCounts.{exponent, IsSlotCount-pow, few_slots}
 
 -- a quotient rounded up is enough
 pub div_ceil-enough : (x d : ℕ) → 1 ≤ d → x ≤ div_ceil x d * d
@@ -38,7 +38,7 @@ module _ (n f : ℕ) (pos : 1 ≤ f) where
 
   pub next-IsLeastSlots : (e s : ℕ) → s ≡ 2 ^ e → max filled 16 ≤ s → s / 2 < max 1 (max filled 16) → filled ≤ 2 ^ 63 → IsLeastSlots n f s
   next-IsLeastSlots e s is low high few = record {
-    is_count = (e, four, sixty_four, is);
+    is_count = IsSlotCount-pow s e four sixty_four is;
     holds = filled-holds s (omega (arith, le-max_left filled 16));
     least = least;
   }
@@ -57,10 +57,12 @@ module _ (n f : ℕ) (pos : 1 ≤ f) where
       sixty_four = elim (cases_lt e 64) [ inl l ↦ l | inr m ↦ absurd (let h = half 63 (omega arith) in omega arith) ]
 
       least : (t : ℕ) → IsSlotCount t → 65536 * n ≤ t * f → s ≤ t
-      least t c h = elim (cases_lt c.0 e) [
-        | inl l ↦ absurd (let p = half c.0 l in let m = filled-least t h in let k = slots_least t c in omega (arith, c.3))
-        | inr m ↦ let p : 2 ^ e ≤ 2 ^ c.0 = pow_mono {i = e} {j = c.0} m in omega (arith, is, c.3)
-      ]
+      least t c h =
+          let x = exponent t c in
+          elim (cases_lt x.0 e) [
+            | inl l ↦ absurd (let p = half x.0 l in let m = filled-least t h in omega (arith, x.3, c.least))
+            | inr m ↦ let p : 2 ^ e ≤ 2 ^ x.0 = pow_mono {i = e} {j = x.0} m in omega (arith, is, x.3)
+          ]
 
   -- more than 2 ^ 63 are in no slot count
   pub next_none : 2 ^ 63 < filled → slots_for n f ≡ None

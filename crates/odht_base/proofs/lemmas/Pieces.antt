@@ -1,8 +1,8 @@
 -- The pieces of bytes, one after the other, and the state of `fx` after them.
 use Rattle.std.proofs.Common.{◌≡◌, ℕ, ◌+◌, ◌-◌, ◌/◌, ◌%◌, ◌<◌, ◌≤◌, suc, zero, List, [], ◌∷◌, length, take, drop, map, fold, get_or, refl, sym, ap, ◌∙◌, arith, length-drop, length-take}
 use Rattle.std.specs.Int.{Width, w16, w32, w64, byte_len, from_le_bytes}
-use Rattle.odht_base.specs.Numbers.{num}
 use Rattle.odht_base.specs.Hashes.{fx_step, piece_lengths, pieces}
+use Rattle.odht_base.specs.Numbers.{num}
 use Rattle.odht_base.proofs.lemmas.Words.{from_le_bytes-num}
 
 -- ---- the lengths of the pieces

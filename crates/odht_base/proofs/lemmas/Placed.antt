@@ -5,10 +5,10 @@ use Rattle.std.proofs.lemmas.Option.{slice_get_within}
 use Rattle.std.proofs.lemmas.Bool.{and_parts, or_parts}
 use Rattle.std.proofs.lemmas.List.Sums.{AllPass-from_list_all}
 use Rattle.odht_base.specs.Format.{Format, home}
-use Rattle.odht_base.specs.Insert.{search_end, stops_at, is_at}
 use Rattle.odht_base.specs.Load.{IsSlotCount}
 use Rattle.odht_base.specs.Numbers.{IsBytes}
 use Rattle.odht_base.specs.Probe.{order, place_slot}
+use Rattle.odht_base.specs.Search.{search_end, stops_at, is_at}
 use Rattle.odht_base.specs.Table.{Pair, Table, Cells, slot_count, cell_at}
 use Rattle.odht_base.specs.Valid.{HasPairsOf, HoldsPair, IsReached, IsPlaced}
 use Rattle.odht_base.proofs.lemmas.Firsts.{find-Some}
@@ -32,7 +32,7 @@ IsReached-search_end F P k i e =
       place = first.place;
       in_order = in_order;
       stands = some_same _ _ (sym (slice_get-order b s first.place in_order) ∙ first.is);
-      behind_filled = λ q h. (or_parts _ _ (first.before q (place_slot b s q) h (slice_get-order b s q (below q first.place s h in_order)))).0;
+      earlier_filled = λ q h. (or_parts _ _ (first.before q (place_slot b s q) h (slice_get-order b s q (below q first.place s h in_order)))).0;
     }
   where
     below : (q n s : ℕ) → q < n → n < s → q < s

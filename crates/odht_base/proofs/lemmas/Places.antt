@@ -4,10 +4,11 @@ use Rattle.std.specs.Prelude.{IsFalse, ◌↔◌, is_none, option_map, if◌then
 use Rattle.std.proofs.lemmas.Bool.{cases_eq, or_parts, or_from, or_cases, false_from_ne_true}
 use Rattle.std.proofs.lemmas.Option.{none-some}
 use Rattle.odht_base.specs.Format.{Format, home}
-use Rattle.odht_base.specs.Insert.{search_end, place}
+use Rattle.odht_base.specs.Insert.{place}
 use Rattle.odht_base.specs.Load.{IsSlotCount}
 use Rattle.odht_base.specs.Map.{map_of}
 use Rattle.odht_base.specs.Probe.{place_slot}
+use Rattle.odht_base.specs.Search.{search_end}
 use Rattle.odht_base.specs.Table.{Pair, Table, slot_count, cell_at, is_free, has_key, walk, count}
 use Rattle.odht_base.specs.Valid.{IsPairOf, HoldsPair, IsReached, IsPlaced}
 use Rattle.odht_base.proofs.lemmas.Counts.{count_set}
@@ -109,7 +110,7 @@ IsReached-filled F P Q k i len filled r =
       place = r.place;
       in_order = subst (λ s. r.place < s) len r.in_order;
       stands = sym (at r.place) ∙ r.stands;
-      behind_filled = λ q l. ap (is_free Q.cells) (sym (at q)) ∙ filled _ (r.behind_filled q l);
+      earlier_filled = λ q l. ap (is_free Q.cells) (sym (at q)) ∙ filled _ (r.earlier_filled q l);
     }
 
 -- so the table stays placed

@@ -3,8 +3,9 @@ use Rattle.std.proofs.Common.{◌≡◌, ◌<◌, ◌∙◌, inl, inr, ℕ, true
 use Rattle.std.proofs.lemmas.Bool.{cases_order, or_parts, or_cases, false_from_ne_true}
 use Rattle.std.specs.Option.{option_or}
 use Rattle.odht_base.specs.Format.{Format, home}
-use Rattle.odht_base.specs.Insert.{search_end, search_order, stops_at, target}
+use Rattle.odht_base.specs.Insert.{target}
 use Rattle.odht_base.specs.Probe.{place_slot}
+use Rattle.odht_base.specs.Search.{search_end, search_order, stops_at}
 use Rattle.odht_base.specs.Table.{Pair, Table, slot_count, cell_at, is_free, has_key}
 use Rattle.odht_base.specs.Valid.{HoldsPair, IsReached, IsPlaced}
 use Rattle.odht_base.proofs.lemmas.Firsts.{position_is, position_none}
@@ -46,7 +47,7 @@ module _ (F : Format) (P : Table) (k : List ℕ) (ok : IsPlaced F P) where
   search_end-IsTarget i e =
       let f = find-order_some (stops_at P.cells k) (home F k (slot_count P)) (slot_count P) i e in
       record {
-        reached = record { place = f.place; in_order = f.within; stands = f.stands; behind_filled = λ q l. (or_parts _ _ (f.before q l)).0 };
+        reached = record { place = f.place; in_order = f.within; stands = f.stands; earlier_filled = λ q l. (or_parts _ _ (f.before q l)).0 };
         within = subst (λ x. x < slot_count P) f.stands (place_slot-lt (home F k (slot_count P)) (slot_count P) f.place (slots_pos (slot_count P) ok.slots));
         stops = f.passes;
         others = λ j h.
@@ -58,7 +59,7 @@ module _ (F : Format) (P : Table) (k : List ℕ) (ok : IsPlaced F P) where
                     let no = (or_parts _ _ (f.before r.place below)).1 in
                     absurd (true≢false (sym h ∙ ap (λ x. has_key k (cell_at P.cells x)) (sym r.stands) ∙ no))
                 | inr above ↦
-                    let filled : is_free P.cells i ≡ false = ap (is_free P.cells) (sym f.stands) ∙ r.behind_filled f.place above in
+                    let filled : is_free P.cells i ≡ false = ap (is_free P.cells) (sym f.stands) ∙ r.earlier_filled f.place above in
                     elim (or_cases _ _ f.passes) [
                       | inl free ↦ absurd (true≢false (sym free ∙ filled))
                       | inr here ↦ has_key-one j i h here
@@ -96,7 +97,7 @@ module _ (F : Format) (P : Table) (k : List ℕ) (ok : IsPlaced F P) where
   find-free i t free =
       find-order (is_free P.cells) (home F k (slot_count P)) (slot_count P) t.reached.place t.reached.in_order
       (ap (is_free P.cells) t.reached.stands ∙ free)
-      t.reached.behind_filled
+      t.reached.earlier_filled
       ∙ ap Some t.reached.stands
 
   -- a pair with the key goes where the search ends

@@ -2,8 +2,8 @@
 use Rattle.std.proofs.Common.{◌≡◌, ◌↔◌, ◌<◌, ◌≤◌, ◌∙◌, ◌+◌, ◌-◌, ◌*◌, ◌^◌, ℕ, zero, suc, refl, sym, ap, ap₂, arith, pow-suc, List, [], ◌∷◌, ◌++◌, length, take, get_or, length-take, All, IsTrue, nat_eq, Bool, eqb-true, eq-eqb, mul_assoc}
 use Rattle.std.specs.Int.{Width, byte_len, byte_worth, sum_through, from_le_bytes}
 use Rattle.std.proofs.Math.Seq.{take-suc, take-length}
-use Rattle.odht_base.specs.Numbers.{num, le_bytes}
 use Rattle.odht_base.specs.Bytes.{bytes_at}
+use Rattle.odht_base.specs.Numbers.{num, le_bytes}
 use Rattle.odht_base.proofs.lemmas.ByteRanges.{length-bytes_at, bytes_at-whole, bytes_at-add, bytes_at-bytes_at, All-bytes_at}
 use Rattle.odht_base.proofs.lemmas.Numbers.{le_bytes-num}
 

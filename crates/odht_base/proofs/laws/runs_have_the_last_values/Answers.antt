@@ -1,7 +1,7 @@
 use Rattle.odht_base.specs.Insert.{put_owned, put_view}
 use Rattle.odht_base.specs.Valid.{IsValid}
-use Rattle.odht_base.proofs.lemmas.Runs.{run-keeps, map_of-run}
 use Rattle.odht_base.proofs.lemmas.Puts.{put_owned-IsInsert, put_view-IsInsert}
+use Rattle.odht_base.proofs.lemmas.Runs.{run-keeps, map_of-run}
 use Rattle.odht_base.proofs.laws.runs_have_the_last_values.Goals as goal
 
 pub returns-clause-owned : goal.returns-clause-owned

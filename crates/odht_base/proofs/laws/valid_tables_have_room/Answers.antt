@@ -1,7 +1,7 @@
 use Rattle.odht_base.specs.Insert.{put_owned, put_view}
-use Rattle.odht_base.proofs.lemmas.Rooms.{IsValid-free, place-IsValid_fits}
-use Rattle.odht_base.proofs.lemmas.Puts.{put_owned-IsInsert, put_view-IsInsert}
 use Rattle.odht_base.proofs.lemmas.FreshRuns.{put_owned-PlacesBelow, put_view-PlacesBelow, run-fresh}
+use Rattle.odht_base.proofs.lemmas.Puts.{put_owned-IsInsert, put_view-IsInsert}
+use Rattle.odht_base.proofs.lemmas.Rooms.{IsValid-free, place-IsValid_fits}
 use Rattle.odht_base.proofs.laws.valid_tables_have_room.Goals as goal
 
 pub returns-clause-free : goal.returns-clause-free

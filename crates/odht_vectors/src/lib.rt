@@ -1,0 +1,13 @@
+//! Tests of `odht` through its public calls: vectors from outside, and each call and each impl once as run.
+#![tactic(auto)]
+
+#[cfg(test)]
+mod byte_arrays;
+#[cfg(test)]
+mod byte_stores;
+#[cfg(test)]
+mod errors;
+#[cfg(test)]
+mod hashes;
+#[cfg(test)]
+mod load_factors;
