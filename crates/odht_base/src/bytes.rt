@@ -201,8 +201,14 @@ impl ByteStore for BorrowedMut<'_> {
 }
 
 impl ByteStoreMut for BorrowedMut<'_> {
+    // Beside what every store promises: the store is still that of the slice which it was made from.
     #[inline]
-    fn write_at(&mut self, at: usize, data: &[u8]) {
+    fn write_at(&mut self, at: usize, data: &[u8])
+        requires { at + length «data».now ≤ length self.old.0.now }
+        ensures bytes { self.new.0.now ≡ overwritten_at self.old.0.now at «data».now }
+        ensures len { length self.new.0.now ≡ length self.old.0.now }
+        ensures same_slice { self.new.0.ghost_name ≡ self.old.0.ghost_name }
+    {
         write_slice(self.0, at, data)
     }
 }
