@@ -1,4 +1,10 @@
--- The words that speak of errors; those of numbers, tables and bytes stand in `odht_base`.
+-- The words that speak of errors and of configurations; those of numbers, tables and bytes stand in `odht_base`.
+-- how keys and values become bytes
+pub mod Coding
+-- the parts of a table as code sees them
+pub mod Parts
+-- what a search answers
+pub mod Answers
 -- which bytes are refused as a table, and why
 pub mod Refusals
 -- what an insert may do to bytes that a view accepts, valid or not

@@ -2,6 +2,10 @@
 #![tactic(auto)]
 
 pub use odht_base::hash::{FxHashFn, HashFn, UnHashFn};
-pub use odht_base::{bytes, hash, load};
+pub use odht_base::{bytes, hash, load, swisstable_group_query};
 
+pub use config::Config;
+
+pub mod config;
 pub mod error;
+pub mod raw_table;

@@ -1,6 +1,6 @@
 //! Byte arrays of a fixed length, which keys and values are encoded to, and stores of bytes, which tables live in.
-ghost use Rattle.std.specs.Prelude.{◌≡◌, ◌↔◌, ℕ, ◌+◌, ◌≤◌, List, length, replicate, IsTrue, refl};
-ghost use Rattle.odht_base.specs.Numbers.{num};
+ghost use Rattle.std.specs.Prelude.{◌≡◌, ◌↔◌, ℕ, ◌+◌, ◌<◌, ◌≤◌, List, length, replicate, All, IsTrue, refl};
+ghost use Rattle.odht_base.specs.Numbers.{num, IsBytes};
 ghost use Rattle.odht_base.specs.Bytes.{bytes_at, overwritten_at};
 
 use std::fmt::Debug;
@@ -29,7 +29,7 @@ pub trait ByteArray: Sized + Copy + Eq + Debug + 'static {
     /// The bytes.
     fn as_slice(&self) -> &[u8]
         ensures value { result.now ≡ bytes self.now }
-        ensures len { length (bytes self.now) ≡ LEN };
+        ensures bytes { IsBytes LEN (bytes self.now) };
 
     /// Whether the bytes are equal.
     fn equals(&self, other: &Self) -> bool
@@ -76,7 +76,7 @@ impl<const LEN: usize> ByteArray for [u8; LEN] {
 
     #[inline]
     fn as_slice(&self) -> &[u8] {
-        self
+        as_bytes(self)
     }
 
     // A word at a time at the lengths of one to four words.
@@ -93,9 +93,18 @@ impl<const LEN: usize> ByteArray for [u8; LEN] {
     }
 }
 
-// The eight bytes from `at` on, as one number.
+// The slice itself, of which each item is a byte.
 #[inline]
-fn word(bytes: &[u8], at: usize) -> u64
+fn as_bytes(slice: &[u8]) -> &[u8]
+    ensures value { result.now ≡ slice.now }
+    ensures each { All (λ x. x < 256) slice.now }
+{
+    slice
+}
+
+/// The number of the eight bytes from `at` on, lowest byte first, at any alignment.
+#[inline]
+pub fn read_u64(bytes: &[u8], at: usize) -> u64
     requires { at + 8 ≤ length bytes.now }
     ensures { result ≡ num (bytes_at bytes.now at 8) }
 {
@@ -112,7 +121,7 @@ fn is_same_word(left: &[u8], right: &[u8], at: usize) -> bool
     requires right { at + 8 ≤ length right.now }
     ensures { IsTrue result ↔ (bytes_at left.now at 8 ≡ bytes_at right.now at 8) }
 {
-    word(left, at) == word(right, at)
+    read_u64(left, at) == read_u64(right, at)
 }
 
 // Whether the sixteen bytes from `at` on are equal.
@@ -258,9 +267,9 @@ impl ByteStoreMut for OwnedBytes {
     }
 }
 
-// Writes the piece into the slice from the byte `at` on.
+/// Writes `piece` into the slice from the byte `at` on. No other byte changes.
 #[inline]
-fn write_slice(all: &mut [u8], at: usize, piece: &[u8])
+pub fn write_slice(all: &mut [u8], at: usize, piece: &[u8])
     requires { at + length piece.now ≤ length all.old }
     ensures { all.new ≡ overwritten_at all.old at piece.now }
 {

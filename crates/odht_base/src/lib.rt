@@ -7,3 +7,4 @@ pub mod bytes;
 pub mod hash;
 pub mod laws;
 pub mod load;
+pub mod swisstable_group_query;

@@ -108,6 +108,21 @@ drop-overwritten_at B at n d h l =
     ap (λ j. drop j (overwritten_at B at d)) (sym e) ∙ sym (drop-drop k m (overwritten_at B at d))
     ∙ ap (drop k) (drop_at (take at B ++ d) (drop m B) m f) ∙ drop-drop k m B ∙ ap (λ j. drop j B) e
 
+-- the list up to the end of a write
+pub take-overwritten_at_end : (B : List ℕ) (at : ℕ) (d : List ℕ) → at ≤ length B → take (at + length d) (overwritten_at B at d) ≡ take at B ++ d
+take-overwritten_at_end B at d l = take_at (take at B ++ d) (drop (at + length d) B) (at + length d) (length-append (take at B) d ∙ omega (arith, length-take at B))
+
+-- a write behind a write is one write
+pub overwritten_at-twice : (B : List ℕ) (at to : ℕ) (d e : List ℕ) → at + length d ≡ to → to ≤ length B → overwritten_at (overwritten_at B at d) to e ≡ overwritten_at B at (d ++ e)
+overwritten_at-twice B at to d e n l =
+    let front : take to (overwritten_at B at d) ≡ take at B ++ d = ap (λ m. take m (overwritten_at B at d)) (sym n) ∙ take-overwritten_at_end B at d (omega arith) in
+    let back : drop (to + length e) (overwritten_at B at d) ≡ drop (to + length e) B = drop-overwritten_at B at (to + length e) d (omega arith) (omega arith) in
+    let end : to + length e ≡ at + length (d ++ e) = omega (arith, length-append d e) in
+    ap (λ t. (t ++ e) ++ drop (to + length e) (overwritten_at B at d)) front
+    ∙ ap (λ t. ((take at B ++ d) ++ e) ++ t) back
+    ∙ ap (λ t. t ++ drop (to + length e) B) (append_assoc (take at B) d e)
+    ∙ ap (λ m. (take at B ++ (d ++ e)) ++ drop m B) end
+
 -- bytes of the front of a list
 pub bytes_at-take_front : (B : List ℕ) (at n m : ℕ) → at + n ≤ m → bytes_at (take m B) at n ≡ bytes_at B at n
 bytes_at-take_front B at n m h =

@@ -27,7 +27,8 @@ abbrev pub IsFullWithout : Table → List ℕ → Type 0
 IsFullWithout P k = (i : ℕ) → i < slot_count P → IsFalse (is_free P.cells i) × IsFalse (has_key k (cell_at P.cells i))
 
 module _ (F : Format) (P : Table) (p : Pair) (ok : IsPlaced F P) where
-  place-search_end : (o : Option ℕ) → search_end F P.cells p.key ≡ o → place F P p ≡ option_map (λ i. written P i p) o
+  -- a pair goes where the search for its key ends, if it does
+  pub place-search_end : (o : Option ℕ) → search_end F P.cells p.key ≡ o → place F P p ≡ option_map (λ i. written P i p) o
   unfolding place
   place-search_end None e = rw (target-search_end F P p.key ok ∙ e) refl
   place-search_end (Some i) e = rw (target-search_end F P p.key ok ∙ e) refl

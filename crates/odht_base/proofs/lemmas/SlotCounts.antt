@@ -1,6 +1,7 @@
 -- Slot counts: the powers of two from 16 to 2 ^ 63.
-use Rattle.std.proofs.Common.{◌≡◌, ℕ, ◌^◌, ◌<◌, ◌≤◌, ◌*◌, ◌+◌, ◌-◌, ◌==◌, inl, inr, sym, ap, ◌∙◌, arith, true, eqb-true, get_or, pow_mono, pow-add}
+use Rattle.std.proofs.Common.{◌≡◌, ℕ, ◌^◌, ◌<◌, ◌≤◌, ◌*◌, ◌+◌, ◌-◌, ◌%◌, ◌==◌, bit_and, inl, inr, sym, ap, ◌∙◌, arith, true, eqb-true, get_or, pow_mono, pow-add}
 use Rattle.std.proofs.lemmas.Bool.{cases_lt, eq-eqb}
+use Rattle.std.proofs.lemmas.Nat.{and_mask}
 use Rattle.std.proofs.lemmas.List.FromFn.{length-map-range_with_len, get_or-map-range_with_len}
 use Rattle.std.proofs.lemmas.List.Folds.{Any-from_list_any, list_any_at}
 use Rattle.odht_base.specs.Load.{is_power_of_two, IsSlotCount, powers_of_two}
@@ -55,3 +56,11 @@ few_slots s c = let x = exponent s c in let h : 2 ^ x.0 ≤ 2 ^ 63 = pow_mono {i
 -- so it fits 8 bytes
 pub slots_fit : (s : ℕ) → IsSlotCount s → s < 256 ^ 8
 slots_fit s c = let h = few_slots s c in omega arith
+
+-- ---- by a mask
+-- a mask of the slots but one keeps the number modulo the slots
+pub bit_and-slots : (x s : ℕ) → IsSlotCount s → bit_and x (s - 1) ≡ x % s
+bit_and-slots x s c =
+    let e = exponent s c in
+    let mask : s - 1 ≡ 2 ^ e.0 - 1 = omega (arith, e.3) in
+    ap (bit_and x) mask ∙ and_mask x e.0 ∙ ap (λ m. x % m) (sym e.3)

@@ -1,0 +1,170 @@
+//! The search slot by slot along the probe order, and find and insert over it: the reference forms.
+ghost use Rattle.std.specs.Prelude.{◌≡◌, ◌+◌, ◌-◌, ◌*◌, ◌%◌, ◌<◌, ◌≤◌, ◌↔◌, ◌++◌, ⊤, length, slice_index, option_map, IfOk, OnErr, IsTrue};
+ghost use Rattle.odht_base.specs.Bytes.{overwritten_at};
+ghost use Rattle.odht_base.specs.Load.{IsSlotCount};
+ghost use Rattle.odht_base.specs.Format.{format_of, tag};
+ghost use Rattle.odht_base.specs.Probe.{place_slot};
+ghost use Rattle.odht_base.specs.Table.{Pair, Table};
+ghost use Rattle.odht_base.specs.Map.{map_of};
+ghost use Rattle.odht_base.specs.Insert.{place};
+ghost use Rattle.odht_base.specs.Valid.{IsPartsOf};
+ghost use Rattle.odht_base.specs.Shown.{counts_as_free, slot_key};
+ghost use Rattle.odht_base.specs.Writes.{tagged};
+ghost use Rattle.odht.specs.Answers.{answer, MatchSearch};
+
+use super::{Entries, EntryMetadata, Search};
+use crate::bytes::{ByteArray, write_slice};
+use crate::error::Error;
+use crate::hash::HashFn;
+use crate::swisstable_group_query::REFERENCE_GROUP_SIZE;
+
+/// The value beside the key, looked for slot by slot along the probe order.
+///
+/// On the parts of a table whose keys are all reached it is the map's answer. At most each slot is looked at once.
+pub fn plain_find<K: ByteArray, V: ByteArray, H: HashFn>(
+    control: &[EntryMetadata],
+    entries: &Entries<'_, K, V>,
+    key: &K,
+) -> Option<V>
+    requires slots { IsSlotCount entries.now.slots }
+    requires control { length control.now ≡ entries.now.slots + 16 }
+    requires hashes { H.MIN_LEN ≤ K.LEN }
+    requires key { K.LEN ≤ 255 }
+    requires value { V.LEN ≤ 255 }
+    ensures on_placed { (P : Table)
+        → IsPartsOf (format_of K.LEN V.LEN H.hash) P entries.now.bytes control.now
+        → result ≡ option_map V.of_bytes (map_of P (K.bytes key.now)) }
+{
+    match plain_search::<K, V, H>(control, entries, key) {
+        Search::Found(slot) => Some(entries.get(slot).value),
+        Search::Free(_) => None,
+        Search::Neither => None,
+    }
+}
+
+/// Overwrites the value beside the key, or writes the pair into the first free slot of the key's probe order: entry,
+/// tag, and for a slot below 16 the mirror. Answers the former value.
+///
+/// On the parts of a table whose keys are all reached it leaves those of the table with the pair placed, and answers
+/// `Full`, with nothing changed, exactly where there is no place.
+pub fn plain_insert<K: ByteArray, V: ByteArray, H: HashFn>(
+    control: &mut [EntryMetadata],
+    entries: &mut [u8],
+    key: K,
+    value: V,
+) -> Result<Option<V>, Error>
+    requires slots { IsSlotCount (length control.old - 16) }
+    requires entries { length entries.old ≡ (length control.old - 16) * (K.LEN + V.LEN) }
+    requires hashes { H.MIN_LEN ≤ K.LEN }
+    requires key { K.LEN ≤ 255 }
+    requires value { V.LEN ≤ 255 }
+    ensures ok { let F = format_of K.LEN V.LEN H.hash
+        in (P : Table)
+        → IsPartsOf F P entries.old control.old
+        → IfOk result (λ old. (old ≡ option_map V.of_bytes (map_of P (K.bytes key))) × ((Q : Table) × (place F P (record { key = K.bytes key; value = V.bytes value }) ≡ Some Q) × IsPartsOf F Q entries.new control.new)) }
+    ensures full { let F = format_of K.LEN V.LEN H.hash
+        in (P : Table)
+        → IsPartsOf F P entries.old control.old
+        → (result ≡ Err Error.Full) ↔ (place F P (record { key = K.bytes key; value = V.bytes value }) ≡ None) }
+    ensures only_full { OnErr result (result ≡ Err Error.Full) }
+    ensures refused_control { OnErr result (control.new ≡ control.old) }
+    ensures refused_entries { OnErr result (entries.new ≡ entries.old) }
+{
+    let slots = control.len() - REFERENCE_GROUP_SIZE;
+    let shown: Entries<'_, K, V> = Entries::new(entries, slots);
+    match plain_search::<K, V, H>(control, &shown, &key) {
+        Search::Found(slot) => {
+            let old = shown.get(slot).value;
+            write_slice(entries, slot * (K::LEN + V::LEN) + K::LEN, value.as_slice());
+            Ok(Some(old))
+        }
+        Search::Free(slot) => {
+            write_pair(
+                entries,
+                slot * (K::LEN + V::LEN),
+                key.as_slice(),
+                value.as_slice(),
+            );
+            write_tag(control, slot, tag_of::<K, H>(&key));
+            Ok(None)
+        }
+        Search::Neither => Err(Error::Full),
+    }
+}
+
+// Writes the key from the byte `at` on, and the value behind it.
+fn write_pair(entries: &mut [u8], at: usize, key: &[u8], value: &[u8])
+    requires { at + length key.now + length value.now ≤ length entries.old }
+    ensures { entries.new ≡ overwritten_at entries.old at (key.now ++ value.now) }
+{
+    write_slice(entries, at, key);
+    write_slice(entries, at + key.len(), value);
+}
+
+// Writes the tag into the control byte of a slot, and for a slot below 16 into the mirror.
+fn write_tag(control: &mut [EntryMetadata], slot: usize, tag: u8)
+    requires { slot + 16 < length control.old }
+    ensures { control.new ≡ tagged control.old slot tag }
+{
+    control[slot] = tag;
+    if slot < REFERENCE_GROUP_SIZE {
+        let mirror = control.len() - REFERENCE_GROUP_SIZE + slot;
+        control[mirror] = tag;
+    }
+}
+
+/// The tag of a key: the seven highest bits of its hash.
+#[inline]
+pub(crate) fn tag_of<K: ByteArray, H: HashFn>(key: &K) -> u8
+    requires { H.MIN_LEN ≤ K.LEN }
+    ensures { result ≡ tag (format_of K.LEN 0 H.hash) (K.bytes key.now) }
+{
+    (H::hash(key.as_slice()) >> 25) as u8
+}
+
+/// Looks for the key slot by slot along its probe order, and stops at the first slot that is free or holds it.
+#[inline]
+pub(crate) fn plain_search<K: ByteArray, V: ByteArray, H: HashFn>(
+    control: &[EntryMetadata],
+    entries: &Entries<'_, K, V>,
+    key: &K,
+) -> Search
+    requires slots { IsSlotCount entries.now.slots }
+    requires control { length control.now ≡ entries.now.slots + 16 }
+    requires hashes { H.MIN_LEN ≤ K.LEN }
+    requires key { K.LEN ≤ 255 }
+    requires value { V.LEN ≤ 255 }
+    ensures slot { MatchSearch result
+        (λ i. (i < entries.now.slots) × (slot_key (format_of K.LEN V.LEN H.hash) entries.now.bytes i ≡ K.bytes key.now))
+        (λ i. (i < entries.now.slots) × IsTrue (counts_as_free (slice_index control.now i)))
+        ⊤ }
+    ensures on_placed { (P : Table)
+        → IsPartsOf (format_of K.LEN V.LEN H.hash) P entries.now.bytes control.now
+        → result ≡ answer (format_of K.LEN V.LEN H.hash) P.cells (K.bytes key.now) }
+{
+    let slots = entries.len();
+    let hash = H::hash(key.as_slice());
+    for place in 0..slots {
+        let slot = slot_at(hash, slots, place);
+        if control[slot] >= 128 {
+            return Search::Free(slot);
+        }
+        if entries.get(slot).key.equals(key) {
+            return Search::Found(slot);
+        }
+    }
+    Search::Neither
+}
+
+// The slot at a place of the probe order of a hash.
+#[inline]
+fn slot_at(hash: u32, slots: usize, place: usize) -> usize
+    requires slots { IsSlotCount slots }
+    requires place { place < slots }
+    ensures value { result ≡ place_slot (hash % slots) slots place }
+    ensures below { result < slots }
+{
+    let group = (place / REFERENCE_GROUP_SIZE) as u128;
+    let from_home = 8 * group * (group + 1) + (place % REFERENCE_GROUP_SIZE) as u128;
+    ((hash as u128 + from_home) & (slots as u128 - 1)) as usize
+}
