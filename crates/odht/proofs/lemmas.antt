@@ -7,3 +7,13 @@ pub mod PlainSearch
 pub mod Lookups
 -- what the writes of an insert leave on the parts
 pub mod Inserts
+-- the first error of a list
+pub mod FirstErrors
+-- bytes that a view accepts, and writes that leave them accepted
+pub mod Accepted
+-- a write of one byte again and again
+pub mod Fills
+-- a header that is written field by field
+pub mod HeaderWrites
+-- what the writes of a new table leave
+pub mod NewTables

@@ -4,7 +4,6 @@
 --     IsEntries kl vl E    E is as long as its slots say, and a key and a value have at most 255 bytes
 use Rattle.std.specs.Prelude.{◌≡◌, ℕ, ◌+◌, ◌*◌, ◌≤◌, List, length}
 use Rattle.odht_base.specs.Format.{Format, format_of}
-use Rattle.odht_base.specs.Load.{IsSlotCount}
 
 pub record EntryBytes : Type 0 where
   pub slots : ℕ
@@ -12,7 +11,6 @@ pub record EntryBytes : Type 0 where
 
 abbrev pub entry_format : ℕ → ℕ → Format
 entry_format key_len value_len = format_of key_len value_len (λ b. 0)
-
 
 pub record IsEntries (key_len value_len : ℕ) (E : EntryBytes) : Type 0 where
   pub key_short : key_len ≤ 255

@@ -1,11 +1,11 @@
 //! `odht`: a hash table that is used in the very form in which it is stored.
 #![tactic(auto)]
 
+pub use config::Config;
 pub use odht_base::hash::{FxHashFn, HashFn, UnHashFn};
 pub use odht_base::{bytes, hash, load, swisstable_group_query};
 
-pub use config::Config;
-
 pub mod config;
 pub mod error;
+pub mod memory_layout;
 pub mod raw_table;

@@ -11,7 +11,6 @@ mod plain;
 
 pub use outcome::Search;
 pub use plain::{plain_find, plain_insert};
-
 pub(crate) use plain::{plain_search, tag_of};
 
 /// A control byte: the tag of a filled slot, below 128, or a free slot's 255.

@@ -1,5 +1,5 @@
 -- Formats of short lengths, and of a hash that fits 32 bits on long enough keys, fit.
-use Rattle.std.proofs.Common.{◌≡◌, ◌<◌, ◌≤◌, ◌^◌, ℕ, List, length, arith, All}
+use Rattle.std.proofs.Common.{◌<◌, ◌≤◌, ◌^◌, ℕ, List, length, arith, All}
 use Rattle.odht_base.specs.Format.{IsFormat, format_of}
 
 pub IsFormat-format_of : (key_len value_len min_len : ℕ) (hash : List ℕ → ℕ) → key_len ≤ 255 → value_len ≤ 255 → min_len ≤ key_len

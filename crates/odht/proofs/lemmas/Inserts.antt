@@ -1,11 +1,9 @@
 -- What the writes of an insert leave where its search ended, on the parts of a placed table.
-use Rattle.std.proofs.Common.{◌≡◌, ◌<◌, ◌∙◌, ◌+◌, ◌*◌, ◌++◌, ℕ, sym, ap, List, Option, Some, None, length}
+use Rattle.std.proofs.Common.{◌≡◌, ◌∙◌, ◌+◌, ◌*◌, ◌++◌, ℕ, sym, ap, List, Some}
 use Rattle.odht_base.specs.Numbers.{IsBytes}
 use Rattle.odht_base.specs.Bytes.{overwritten_at}
 use Rattle.odht_base.specs.Format.{Format, entry_len, tag}
 use Rattle.odht_base.specs.Table.{Pair, Table}
-use Rattle.odht_base.specs.Image.{entries, controls}
-use Rattle.odht_base.specs.Insert.{place}
 use Rattle.odht_base.specs.Valid.{IsPairOf, IsPartsOf}
 use Rattle.odht_base.specs.Shown.{slot_value}
 use Rattle.odht_base.specs.Writes.{tagged}

@@ -2,7 +2,6 @@
 use Rattle.std.proofs.Common.{◌≡◌, ◌<◌, ◌∙◌, ◌||◌, ℕ, Bool, true, false, true≢false, sym, ap, subst, refl, List, Option, Some, None}
 use Rattle.std.specs.Prelude.{is_none, option_map, option_and_then, if◌then◌else◌}
 use Rattle.std.specs.Option.{option_map_or}
-use Rattle.std.proofs.lemmas.Bool.{or_parts}
 use Rattle.odht_base.specs.Format.{Format}
 use Rattle.odht_base.specs.Table.{Pair, Table, slot_count, cell_at, is_free, has_key}
 use Rattle.odht_base.specs.Search.{search_end}
@@ -10,11 +9,10 @@ use Rattle.odht_base.specs.Insert.{place}
 use Rattle.odht_base.specs.Map.{map_of}
 use Rattle.odht_base.specs.Valid.{HoldsPair, IsPlaced}
 use Rattle.odht_base.proofs.lemmas.Keys.{key_pair}
-use Rattle.odht_base.proofs.lemmas.Targets.{IsTarget, search_end-IsTarget}
+use Rattle.odht_base.proofs.lemmas.Targets.{search_end-IsTarget}
 use Rattle.odht_base.proofs.lemmas.Places.{written, place-at, place-search_end, is_free-target, map_of-holds}
 use Rattle.odht_base.proofs.lemmas.Lookups.{map_of-search_end}
 use Rattle.odht.specs.Answers.{answer}
-use Rattle.odht.specs.declared.raw_table.outcome.Search.{Search}
 use Rattle.odht.specs.declared.raw_table.outcome.Search.TheVariants.{Found, Free, Neither}
 
 -- what a found key tells: its slot's pair, the map's value, and that a pair with the key goes there

@@ -1,11 +1,10 @@
 -- A search slot by slot on the parts of a placed table.
-use Rattle.std.proofs.Common.{◌≡◌, ◌<◌, ◌≤◌, ◌∙◌, ◌+◌, ◌%◌, inl, inr, ℕ, true, false, true≢false, sym, ap, subst, refl, List, Option, Some, None, length, arith, leb-true, le-leb, nat_le}
-use Rattle.std.specs.Prelude.{slice_index, is_none, if◌then◌else◌}
-use Rattle.std.specs.Option.{option_map_or}
+use Rattle.std.proofs.Common.{◌≡◌, ◌<◌, ◌≤◌, ◌∙◌, ◌+◌, ◌%◌, inl, inr, ℕ, true, false, true≢false, sym, ap, subst, refl, List, Option, Some, None, length, arith, leb-true, le-leb}
+use Rattle.std.specs.Prelude.{slice_index, is_none}
 use Rattle.std.proofs.lemmas.Bool.{cases_lt, or_left, or_right, or_from, false_from_ne_true}
 use Rattle.odht_base.specs.Format.{Format, IsFormat, home}
 use Rattle.odht_base.specs.Probe.{place_slot}
-use Rattle.odht_base.specs.Table.{Pair, Table, Cells, slot_count, cell_at, is_free, has_key}
+use Rattle.odht_base.specs.Table.{Pair, Table, slot_count, cell_at, is_free, has_key}
 use Rattle.odht_base.specs.Search.{search_end, stops_at}
 use Rattle.odht_base.specs.Valid.{IsPartsOf}
 use Rattle.odht_base.specs.Shown.{counts_as_free, slot_key}
@@ -14,7 +13,6 @@ use Rattle.odht_base.proofs.lemmas.Fits.{HasLengths-HasPairsOf}
 use Rattle.odht_base.proofs.lemmas.Parts.{length-controls, slice_index-controls, counts_as_free-control_byte, slot_key-entries}
 use Rattle.odht_base.proofs.lemmas.Lookups.{search_end-at, search_end-nowhere}
 use Rattle.odht.specs.Answers.{answer}
-use Rattle.odht.specs.declared.raw_table.outcome.Search.{Search}
 use Rattle.odht.specs.declared.raw_table.outcome.Search.TheVariants.{Found, Free, Neither}
 
 -- the slot at place n of the order of k

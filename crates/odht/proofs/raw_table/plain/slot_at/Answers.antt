@@ -1,4 +1,4 @@
-use Rattle.std.proofs.Common.{◌+◌, ◌%◌, ◌∙◌, sym, ap, arith}
+use Rattle.std.proofs.Common.{◌%◌, ◌∙◌, sym, ap, arith}
 use Rattle.std.proofs.Math.Nat.{mod-add-mod}
 use Rattle.odht_base.proofs.lemmas.SlotCounts.{bit_and-slots}
 use Rattle.odht.proofs.raw_table.plain.slot_at.Goals as goal

@@ -1,0 +1,47 @@
+-- What the writes of a new table leave.
+use Rattle.std.proofs.Common.{◌≡◌, ◌∙◌, ◌+◌, ◌-◌, ◌*◌, ◌++◌, ℕ, sym, ap, subst, List, [], take, drop, replicate, length, length-append, arith, lit≤}
+use Rattle.std.proofs.lemmas.List.{length-replicate, drop_all, append-nil}
+use Rattle.odht_base.specs.Bytes.{overwritten_at}
+use Rattle.odht_base.specs.Format.{Format, entry_len}
+use Rattle.odht_base.specs.Load.{IsSlotCount}
+use Rattle.odht_base.specs.Table.{empty}
+use Rattle.odht_base.specs.Image.{header_bytes, image, image_len}
+use Rattle.odht_base.specs.Writes.{with_count}
+use Rattle.odht_base.proofs.lemmas.ByteRanges.{overwritten_at-twice}
+use Rattle.odht_base.proofs.lemmas.Fits.{IsSized-empty}
+use Rattle.odht_base.proofs.lemmas.Image.{image-empty}
+use Rattle.odht_base.proofs.lemmas.Writes.{with_count-append, with_count-header_bytes}
+use Rattle.std.specs.Prelude.{None}
+use Rattle.odht.specs.Frame.{IsAccepted}
+use Rattle.odht.proofs.lemmas.Accepted.{IsAccepted-image, IsAccepted-with_count}
+
+-- a write up to the end
+overwritten_at-to_end : (B : List ℕ) (at : ℕ) (d : List ℕ) → at + length d ≡ length B → overwritten_at B at d ≡ take at B ++ d
+overwritten_at-to_end B at d end =
+    let nothing : drop (at + length d) B ≡ [] = drop_all (at + length d) B (omega (arith, end)) in
+    ap (λ t. take at B ++ d ++ t) nothing ∙ append-nil (take at B ++ d)
+
+module _ (F : Format) (s c f : ℕ) (count : IsSlotCount s) where
+  -- an empty table's bytes with the count c are accepted
+  pub IsAccepted-new : IsAccepted F (with_count (image F (empty s f)) c)
+  IsAccepted-new =
+      IsAccepted-with_count F (image F (empty s f))
+      (IsAccepted-image F (empty s f) (subst IsSlotCount (sym (length-replicate s None)) count) (IsSized-empty F s f count)) c
+
+  -- the header, the zeros of the entries and the control bytes are these bytes
+  pub written-new : (A : List ℕ) (at : ℕ) → take 32 A ≡ header_bytes F s c f → length A ≡ image_len F s → at + (s + 16) ≡ length A
+      → overwritten_at (overwritten_at A 32 (replicate (at - 32) 0)) at (replicate (length A - at) 255) ≡ with_count (image F (empty s f)) c
+  written-new A at front long end =
+      let zeros : at - 32 ≡ s * entry_len F = omega (arith, long, end) in
+      let ones : length A - at ≡ s + 16 = omega (arith, end) in
+      let es : List ℕ = replicate (s * entry_len F) 0 in
+      let cs : List ℕ = replicate (s + 16) 255 in
+      let es_long : length es ≡ s * entry_len F = length-replicate (s * entry_len F) 0 in
+      let cs_long : length cs ≡ s + 16 = length-replicate (s + 16) 255 in
+      let all_long : length (es ++ cs) ≡ s * entry_len F + (s + 16) = length-append es cs ∙ (λ i. es_long i + cs_long i) in
+      let whole : overwritten_at A 32 (es ++ cs) ≡ header_bytes F s c f ++ (es ++ cs) = overwritten_at-to_end A 32 (es ++ cs) (omega (arith, all_long, long)) ∙ ap (λ h. h ++ (es ++ cs)) front in
+      (λ i. overwritten_at (overwritten_at A 32 (replicate (zeros i) 0)) at (replicate (ones i) 255))
+      ∙ overwritten_at-twice A 32 at es cs (omega (arith, es_long, long, end)) (omega (arith, end))
+      ∙ whole
+      ∙ sym (ap (λ b. with_count b c) (image-empty F s f count.least)
+      ∙ with_count-append (header_bytes F s 0 f) (es ++ cs) c (lit≤ tt) ∙ ap (λ h. h ++ (es ++ cs)) (with_count-header_bytes F s 0 f c))

@@ -1,0 +1,304 @@
+//! The bytes of a table: the header, the entries, and the control bytes with their mirror.
+//!
+//! Offsets and lengths are those of docs/FORMAT.md, "Layout".
+ghost use Rattle.std.specs.Prelude.{◌≡◌, ◌+◌, ◌-◌, ◌*◌, ◌<◌, ◌≤◌, ◌^◌, length, take, replicate, MatchOption};
+ghost use Rattle.odht_base.specs.Bytes.{overwritten_at};
+ghost use Rattle.odht_base.specs.Load.{IsSlotCount};
+ghost use Rattle.odht_base.specs.Format.{format_of};
+ghost use Rattle.odht_base.specs.Table.{Pair, Table, empty};
+ghost use Rattle.odht_base.specs.Image.{header_bytes, image, image_len};
+ghost use Rattle.odht_base.specs.Valid.{IsImage, IsPartsOf};
+ghost use Rattle.odht_base.specs.Shown.{stated_count, stated_slots, stated_factor, entries_of, controls_of};
+ghost use Rattle.odht_base.specs.Writes.{with_count, with_entry, with_control, with_tag, with_value};
+ghost use Rattle.odht.specs.Frame.{IsAccepted};
+
+use crate::bytes::{ByteArray, ByteStore, ByteStoreMut, read_u64};
+use crate::config::{Coded, Config};
+use crate::load::Factor;
+pub use crate::raw_table::{Entries, EntryMetadata};
+use crate::swisstable_group_query::REFERENCE_GROUP_SIZE;
+use std::marker::{Model, PhantomData};
+
+const HEADER_SIZE: usize = 32;
+
+/// A reader of a table's header, field by field, at any alignment.
+#[derive(Drop)]
+pub struct Header<'a> {
+    bytes: &'a [u8],
+}
+
+impl<'a> Model for Header<'a> {
+    ghost use Rattle.std.specs.Prelude.{ℕ, List, ◌≤◌, length};
+
+    ghost Value = { List ℕ };
+
+    ghost view = { λ h. h.bytes.now };
+
+    ghost invariant = { λ h. 32 ≤ length h.bytes.now };
+}
+
+impl<'a> Header<'a> {
+    /// The header of the bytes, which are at least its 32.
+    #[inline]
+    pub fn of(bytes: &'a [u8]) -> Self
+        requires { 32 ≤ length bytes.now }
+        ensures { result ≡ bytes.now }
+    {
+        Header { bytes }
+    }
+
+    /// How many items the header states.
+    #[inline]
+    pub fn item_count(&self) -> usize
+        ensures { result ≡ stated_count self.now }
+    {
+        let bytes = self.bytes;
+        read_u64(bytes, 8) as usize
+    }
+
+    /// How many slots the header states.
+    #[inline]
+    pub fn slot_count(&self) -> usize
+        ensures { result ≡ stated_slots self.now }
+    {
+        let bytes = self.bytes;
+        read_u64(bytes, 16) as usize
+    }
+
+    /// The load factor that the header states.
+    #[inline]
+    pub fn max_load_factor(&self) -> Factor
+        ensures { result.0 ≡ stated_factor self.now }
+    {
+        let bytes = self.bytes;
+        Factor(u16::from_le_bytes([bytes[28], bytes[29]]))
+    }
+}
+
+/// How many bytes a table of `slot_count` slots has. None exactly where that passes `usize`.
+#[inline]
+pub fn bytes_needed<C: Config>(slot_count: usize) -> Option<usize>
+    ensures { let len = image_len ⟦<C as Coded>⟧.coding.format slot_count
+        in MatchOption result (usize.MAX < len) (λ n. n ≡ len) }
+{
+    let entry = C::EncodedKey::LEN as u128 + C::EncodedValue::LEN as u128;
+    let slots = slot_count as u128;
+    let len = HEADER_SIZE as u128 + slots * entry + slots + REFERENCE_GROUP_SIZE as u128;
+    if len > usize::MAX as u128 {
+        return None;
+    }
+    Some(len as usize)
+}
+
+/// Makes the table of `slot_count` free slots that states `item_count` items in `data`, whatever stood there.
+pub fn init_in_place<C: Config, M: ByteStoreMut>(
+    mut data: M,
+    slot_count: usize,
+    item_count: usize,
+    max_load_factor: Factor,
+) -> Allocation<C, M>
+    requires slots { IsSlotCount slot_count }
+    requires len { length (M.bytes «data») ≡ image_len ⟦<C as Coded>⟧.coding.format slot_count }
+    ensures { result ≡ with_count (image ⟦<C as Coded>⟧.coding.format (empty slot_count max_load_factor.0)) item_count }
+{
+    let len = data.bytes().len();
+    let control = len - (slot_count + REFERENCE_GROUP_SIZE);
+    write_header::<C, M>(&mut data, slot_count, item_count, max_load_factor);
+    fill(&mut data, HEADER_SIZE, control, 0);
+    fill(&mut data, control, len, 255);
+    Allocation {
+        store: data,
+        config: PhantomData,
+    }
+}
+
+// Writes the header.
+fn write_header<C: Config, M: ByteStoreMut>(
+    data: &mut M,
+    slot_count: usize,
+    item_count: usize,
+    max_load_factor: Factor,
+)
+    requires { 32 ≤ length (M.bytes «data».old) }
+    ensures front { take 32 (M.bytes «data».new) ≡ header_bytes ⟦<C as Coded>⟧.coding.format slot_count item_count max_load_factor.0 }
+    ensures len { length (M.bytes «data».new) ≡ length (M.bytes «data».old) }
+{
+    let sizes = [
+        b'O',
+        b'D',
+        b'H',
+        b'T',
+        1,
+        C::EncodedKey::LEN as u8,
+        C::EncodedValue::LEN as u8,
+        HEADER_SIZE as u8,
+    ];
+    data.write_at(0, &sizes);
+    data.write_at(8, &(item_count as u64).to_le_bytes());
+    data.write_at(16, &(slot_count as u64).to_le_bytes());
+    data.write_at(24, &[0, 0, 0, 2]);
+    data.write_at(28, &max_load_factor.0.to_le_bytes());
+    data.write_at(30, &[0, 0]);
+}
+
+// Writes one byte again and again, from `from` up to `to`.
+fn fill<M: ByteStoreMut>(data: &mut M, from: usize, to: usize, byte: u8)
+    requires order { from ≤ to }
+    requires fits { to ≤ length (M.bytes «data».old) }
+    ensures bytes { M.bytes «data».new ≡ overwritten_at (M.bytes «data».old) from (replicate (to - from) byte) }
+    ensures len { length (M.bytes «data».new) ≡ length (M.bytes «data».old) }
+{
+    let chunk = [byte; 64];
+    let mut at = from;
+    'chunks: while at < to {
+        let size = (to - at).min(64);
+        data.write_at(at, &chunk[..size]);
+        at += size;
+    }
+}
+
+/// The bytes of a table, whose header and length fit.
+#[derive(Drop)]
+pub struct Allocation<C: Config, M: ByteStore> {
+    store: M,
+    config: PhantomData<C>,
+}
+
+impl<C: Config, M: ByteStore> Model for Allocation<C, M> {
+    ghost use Rattle.std.specs.Prelude.{ℕ, List, ◌<◌, ◌^◌, length};
+    ghost use Rattle.odht_base.specs.Format.{format_of};
+    ghost use Rattle.odht.specs.Frame.{IsAccepted};
+
+    ghost Value = { List ℕ };
+
+    ghost view = { λ a. M.bytes a.store };
+
+    ghost invariant = { λ a. IsAccepted (format_of C.EncodedKey.LEN C.EncodedValue.LEN C.H.hash) (M.bytes a.store) × (length (M.bytes a.store) < 2 ^ 64) };
+}
+
+impl<C: Config, M: ByteStore> Allocation<C, M> {
+    /// All bytes.
+    #[inline]
+    pub fn raw_bytes(&self) -> &[u8]
+        ensures { result.now ≡ self.now }
+    {
+        self.store.bytes()
+    }
+
+    /// A reader of the header.
+    #[inline]
+    pub fn header(&self) -> Header<'_>
+        ensures bytes { result ≡ self.now }
+        ensures len { length self.now ≡ image_len ⟦<C as Coded>⟧.coding.format (stated_slots self.now) }
+        ensures fits { length self.now < 2 ^ 64 }
+    {
+        Header::of(self.store.bytes())
+    }
+
+    /// The control bytes with their mirror, and the entries. Of the bytes of a valid table they are its parts.
+    #[inline]
+    pub fn data_slices(
+        &self,
+    ) -> (
+        &[EntryMetadata],
+        Entries<'_, C::EncodedKey, C::EncodedValue>,
+    )
+        ensures control { result.0.now ≡ controls_of ⟦<C as Coded>⟧.coding.format self.now }
+        ensures entries { result.1.bytes ≡ entries_of ⟦<C as Coded>⟧.coding.format self.now }
+        ensures slots { result.1.slots ≡ stated_slots self.now }
+        ensures count { IsSlotCount result.1.slots }
+        ensures len { length result.0.now ≡ result.1.slots + 16 }
+        ensures parts { (P : Table)
+            → IsImage ⟦<C as Coded>⟧.coding.format P self.now
+            → IsPartsOf ⟦<C as Coded>⟧.coding.format P result.1.bytes result.0.now }
+    {
+        let bytes = self.store.bytes();
+        let slots = Header::of(bytes).slot_count();
+        let control = HEADER_SIZE + slots * (C::EncodedKey::LEN + C::EncodedValue::LEN);
+        (
+            &bytes[control..],
+            Entries::new(&bytes[HEADER_SIZE..control], slots),
+        )
+    }
+}
+
+impl<C: Config, M: ByteStoreMut> Allocation<C, M> {
+    /// Writes the item count.
+    #[inline]
+    pub fn set_item_count(&mut self, item_count: usize)
+        ensures { self.new ≡ with_count self.old item_count }
+    {
+        self.store.write_at(8, &(item_count as u64).to_le_bytes());
+    }
+
+    /// Writes the pair into the entry of a slot, and the tag into its control byte and, for a slot below 16, its mirror.
+    #[inline]
+    pub fn write_entry(
+        &mut self,
+        slot: usize,
+        key: &C::EncodedKey,
+        value: &C::EncodedValue,
+        tag: EntryMetadata,
+    )
+        requires { slot < stated_slots self.old }
+        ensures { let F = ⟦<C as Coded>⟧.coding.format
+            in let p : Pair = record { key = C.EncodedKey.bytes key.now; value = C.EncodedValue.bytes value.now }
+            in self.new ≡ with_tag F (stated_slots self.old) (with_entry F self.old slot p) slot tag }
+    {
+        self.write_pair(slot, key, value);
+        self.write_tag(slot, tag);
+    }
+
+    // Writes the pair into the entry of a slot.
+    #[inline]
+    fn write_pair(&mut self, slot: usize, key: &C::EncodedKey, value: &C::EncodedValue)
+        requires { slot < stated_slots self.old }
+        ensures bytes { let F = ⟦<C as Coded>⟧.coding.format
+            in let p : Pair = record { key = C.EncodedKey.bytes key.now; value = C.EncodedValue.bytes value.now }
+            in self.new ≡ with_entry F self.old slot p }
+        ensures slots { stated_slots self.new ≡ stated_slots self.old }
+    {
+        let store = &mut self.store;
+        let at = HEADER_SIZE + slot * (C::EncodedKey::LEN + C::EncodedValue::LEN);
+        store.write_at(at, key.as_slice());
+        store.write_at(at + C::EncodedKey::LEN, value.as_slice());
+    }
+
+    // Writes the tag into the control byte of a slot and, for a slot below 16, its mirror.
+    #[inline]
+    fn write_tag(&mut self, slot: usize, tag: EntryMetadata)
+        requires { slot < stated_slots self.old }
+        ensures { self.new ≡ with_tag ⟦<C as Coded>⟧.coding.format (stated_slots self.old) self.old slot tag }
+    {
+        let slots = self.header().slot_count();
+        self.write_control(slot, tag);
+        if slot < REFERENCE_GROUP_SIZE {
+            self.write_control(slots + slot, tag);
+        }
+    }
+
+    // Writes the control byte at `index`, of which those behind the slot count are the mirror.
+    #[inline]
+    fn write_control(&mut self, index: usize, tag: EntryMetadata)
+        requires { index < stated_slots self.old + 16 }
+        ensures bytes { self.new ≡ with_control ⟦<C as Coded>⟧.coding.format (stated_slots self.old) self.old index tag }
+        ensures slots { stated_slots self.new ≡ stated_slots self.old }
+    {
+        let store = &mut self.store;
+        let slots = Header::of(store.bytes()).slot_count();
+        let control = HEADER_SIZE + slots * (C::EncodedKey::LEN + C::EncodedValue::LEN);
+        let at = control + index;
+        store.write_at(at, &[tag]);
+    }
+
+    /// Writes the value alone into the entry of a slot.
+    #[inline]
+    pub fn write_value(&mut self, slot: usize, value: &C::EncodedValue)
+        requires { slot < stated_slots self.old }
+        ensures { self.new ≡ with_value ⟦<C as Coded>⟧.coding.format self.old slot (C.EncodedValue.bytes value.now) }
+    {
+        let store = &mut self.store;
+        let at = HEADER_SIZE + slot * (C::EncodedKey::LEN + C::EncodedValue::LEN);
+        store.write_at(at + C::EncodedKey::LEN, value.as_slice());
+    }
+}
