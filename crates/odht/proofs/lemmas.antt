@@ -17,3 +17,7 @@ pub mod Fills
 pub mod HeaderWrites
 -- what the writes of a new table leave
 pub mod NewTables
+-- what bytes for a new table are refused for
+pub mod NewRefusals
+-- what an insert leaves on the bytes of a valid table below its maximum
+pub mod ViewInserts

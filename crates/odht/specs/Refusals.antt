@@ -12,20 +12,21 @@
 --     late_refusal F B             of what the whole check looks at beyond a view: load factor, padding, all slots, the
 --                                  mirror, the item count, its maximum, and that each key is reached by its search
 --     check_refusal F B            of everything: view_refusal, then late_refusal
+--     new_refusal F n f len        of a new table for n items at the load factor f in len bytes: capacity, then length
 --     checked o                    the answer of a check whose refusal is o
-use Rattle.std.specs.Prelude.{Result, Ok, Err, ℕ, ◌+◌, ◌-◌, min, Bool, not, ◌&&◌, nat_lt, ◌==◌, List, [], ◌∷◌, length, map, bytes_eq, slice_index, Option, Some, None}
+use Rattle.std.specs.Prelude.{Result, Ok, Err, ℕ, ◌+◌, ◌-◌, ◌^◌, min, Bool, not, ◌&&◌, nat_le, nat_lt, ◌==◌, List, [], ◌∷◌, length, map, bytes_eq, slice_index, Option, Some, None}
 use Rattle.std.specs.List.{range_with_len, list_all}
-use Rattle.std.specs.Option.{option_or}
+use Rattle.std.specs.Option.{option_or, option_map_or}
 use Rattle.std.specs.Bool.{then_some}
 use Rattle.odht_base.specs.Format.{Format, tag}
-use Rattle.odht_base.specs.Load.{max_items, is_power_of_two}
+use Rattle.odht_base.specs.Load.{max_items, is_power_of_two, slots_for}
 use Rattle.odht_base.specs.Table.{count}
 use Rattle.odht_base.specs.Image.{image_len}
 use Rattle.odht_base.specs.Search.{search_end, is_at}
 use Rattle.odht_base.specs.Bytes.{bytes_at}
 use Rattle.odht_base.specs.Shown.{stated_count, stated_slots, stated_factor, control_at, key_at, counts_as_free, shown, slot_entry, slot_key, entries_of, controls_of}
 use Rattle.odht.specs.declared.error.Error.{Error}
-use Rattle.odht.specs.declared.error.Error.TheVariants.{TooShort, WrongTag, WrongVersion, WrongSizeOf, SlotCountNotPowerOfTwo, SlotCountTooSmall, WrongLength, NonZeroEmpty, ControlMismatch, LoadFactorTooSmall, NonZeroPadding, BadFreeControl, MirrorMismatch, WrongItemCount, TooManyItems, Unreachable}
+use Rattle.odht.specs.declared.error.Error.TheVariants.{TooShort, WrongTag, WrongVersion, WrongSizeOf, SlotCountNotPowerOfTwo, SlotCountTooSmall, WrongLength, NonZeroEmpty, ControlMismatch, LoadFactorTooSmall, NonZeroPadding, BadFreeControl, MirrorMismatch, WrongItemCount, TooManyItems, Unreachable, InitLength, Capacity}
 use Rattle.odht.specs.declared.error.Part.{Part}
 use Rattle.odht.specs.declared.error.Part.TheVariants.{EntryMetadata, EncodedKey, EncodedValue, Header}
 
@@ -148,6 +149,14 @@ late_refusal F B = first_of (late_refusals F B)
 
 unfoldable pub check_refusal : Format → List ℕ → Option Error
 check_refusal F B = option_or (view_refusal F B) (late_refusal F B)
+
+-- what the bytes for a new table of s slots are refused for
+abbrev pub slots_new_refusal : Format → ℕ → ℕ → Option Error
+slots_new_refusal F len s =
+    first_of ((nat_le (2 ^ 64) (image_len F s) gives Capacity) ∷ (differs len (image_len F s) gives InitLength len (image_len F s)) ∷ [])
+
+unfoldable pub new_refusal : Format → ℕ → ℕ → ℕ → Option Error
+new_refusal F n f len = option_map_or (slots_new_refusal F len) (slots_for n f) (Some Capacity)
 
 -- the answer of a check
 abbrev pub checked : Option Error → Result (Unit {0}) Error

@@ -2,10 +2,12 @@
 #![tactic(auto)]
 
 pub use config::Config;
+pub use hash_table::HashTable;
 pub use odht_base::hash::{FxHashFn, HashFn, UnHashFn};
 pub use odht_base::{bytes, hash, load, swisstable_group_query};
 
 pub mod config;
 pub mod error;
+mod hash_table;
 pub mod memory_layout;
 pub mod raw_table;

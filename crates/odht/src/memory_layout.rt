@@ -1,13 +1,14 @@
 //! The bytes of a table: the header, the entries, and the control bytes with their mirror.
 //!
 //! Offsets and lengths are those of docs/FORMAT.md, "Layout".
-ghost use Rattle.std.specs.Prelude.{◌≡◌, ◌+◌, ◌-◌, ◌*◌, ◌<◌, ◌≤◌, ◌^◌, length, take, replicate, MatchOption};
+ghost use Rattle.std.specs.Prelude.{◌≡◌, ◌+◌, ◌-◌, ◌*◌, ◌<◌, ◌≤◌, ◌^◌, length, take, replicate, MatchOption, IfSome};
+ghost use Rattle.odht_base.specs.Numbers.{IsBytes};
 ghost use Rattle.odht_base.specs.Bytes.{overwritten_at};
 ghost use Rattle.odht_base.specs.Load.{IsSlotCount};
 ghost use Rattle.odht_base.specs.Format.{format_of};
 ghost use Rattle.odht_base.specs.Table.{Pair, Table, empty};
 ghost use Rattle.odht_base.specs.Image.{header_bytes, image, image_len};
-ghost use Rattle.odht_base.specs.Valid.{IsImage, IsPartsOf};
+ghost use Rattle.odht_base.specs.Valid.{IsImage, IsPairOf, IsPartsOf};
 ghost use Rattle.odht_base.specs.Shown.{stated_count, stated_slots, stated_factor, entries_of, controls_of};
 ghost use Rattle.odht_base.specs.Writes.{with_count, with_entry, with_control, with_tag, with_value};
 ghost use Rattle.odht.specs.Frame.{IsAccepted};
@@ -78,8 +79,9 @@ impl<'a> Header<'a> {
 /// How many bytes a table of `slot_count` slots has. None exactly where that passes `usize`.
 #[inline]
 pub fn bytes_needed<C: Config>(slot_count: usize) -> Option<usize>
-    ensures { let len = image_len ⟦<C as Coded>⟧.coding.format slot_count
+    ensures len { let len = image_len ⟦<C as Coded>⟧.coding.format slot_count
         in MatchOption result (usize.MAX < len) (λ n. n ≡ len) }
+    ensures fits { IfSome result (λ n. n < 2 ^ 64) }
 {
     let entry = C::EncodedKey::LEN as u128 + C::EncodedValue::LEN as u128;
     let slots = slot_count as u128;
@@ -241,9 +243,10 @@ impl<C: Config, M: ByteStoreMut> Allocation<C, M> {
         tag: EntryMetadata,
     )
         requires { slot < stated_slots self.old }
-        ensures { let F = ⟦<C as Coded>⟧.coding.format
+        ensures bytes { let F = ⟦<C as Coded>⟧.coding.format
             in let p : Pair = record { key = C.EncodedKey.bytes key.now; value = C.EncodedValue.bytes value.now }
             in self.new ≡ with_tag F (stated_slots self.old) (with_entry F self.old slot p) slot tag }
+        ensures pair { IsPairOf ⟦<C as Coded>⟧.coding.format (record { key = C.EncodedKey.bytes key.now; value = C.EncodedValue.bytes value.now }) }
     {
         self.write_pair(slot, key, value);
         self.write_tag(slot, tag);
@@ -257,6 +260,7 @@ impl<C: Config, M: ByteStoreMut> Allocation<C, M> {
             in let p : Pair = record { key = C.EncodedKey.bytes key.now; value = C.EncodedValue.bytes value.now }
             in self.new ≡ with_entry F self.old slot p }
         ensures slots { stated_slots self.new ≡ stated_slots self.old }
+        ensures pair { IsPairOf ⟦<C as Coded>⟧.coding.format (record { key = C.EncodedKey.bytes key.now; value = C.EncodedValue.bytes value.now }) }
     {
         let store = &mut self.store;
         let at = HEADER_SIZE + slot * (C::EncodedKey::LEN + C::EncodedValue::LEN);
@@ -295,7 +299,8 @@ impl<C: Config, M: ByteStoreMut> Allocation<C, M> {
     #[inline]
     pub fn write_value(&mut self, slot: usize, value: &C::EncodedValue)
         requires { slot < stated_slots self.old }
-        ensures { self.new ≡ with_value ⟦<C as Coded>⟧.coding.format self.old slot (C.EncodedValue.bytes value.now) }
+        ensures bytes { self.new ≡ with_value ⟦<C as Coded>⟧.coding.format self.old slot (C.EncodedValue.bytes value.now) }
+        ensures value { IsBytes C.EncodedValue.LEN (C.EncodedValue.bytes value.now) }
     {
         let store = &mut self.store;
         let at = HEADER_SIZE + slot * (C::EncodedKey::LEN + C::EncodedValue::LEN);

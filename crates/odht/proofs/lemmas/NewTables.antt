@@ -45,3 +45,11 @@ module _ (F : Format) (s c f : ℕ) (count : IsSlotCount s) where
       ∙ whole
       ∙ sym (ap (λ b. with_count b c) (image-empty F s f count.least)
       ∙ with_count-append (header_bytes F s 0 f) (es ++ cs) c (lit≤ tt) ∙ ap (λ h. h ++ (es ++ cs)) (with_count-header_bytes F s 0 f c))
+
+  -- with the count 0 they are the empty table's
+  pub with_count-new : with_count (image F (empty s f)) 0 ≡ image F (empty s f)
+  with_count-new =
+      let rest : List ℕ = replicate (s * entry_len F) 0 ++ replicate (s + 16) 255 in
+      ap (λ b. with_count b 0) (image-empty F s f count.least)
+      ∙ with_count-append (header_bytes F s 0 f) rest 0 (lit≤ tt) ∙ ap (λ h. h ++ rest) (with_count-header_bytes F s 0 f 0)
+      ∙ sym (image-empty F s f count.least)

@@ -7,7 +7,7 @@ pub write_tag-requires : goal.write_tag-requires
 write_tag-requires g c =
     (c.type_bounds.static-C-EncodedKey, (c.type_bounds.static-C-EncodedValue, subst (λ s. c.args.slot < s) (sym c.write_pair.ensures.slots) c.requires))
 
-pub returns : goal.returns
-returns g c =
+pub returns-clause-bytes : goal.returns-clause-bytes
+returns-clause-bytes g c =
     let F = format_of g.C.EncodedKey.ByteArray.LEN g.C.EncodedValue.ByteArray.LEN g.C.H.HashFn.hash in
     c.write_tag.ensures ∙ (λ i. with_tag F (c.write_pair.ensures.slots i) (c.write_pair.ensures.bytes i) c.args.slot c.args.tag)

@@ -1,0 +1,106 @@
+use Rattle.std.proofs.Common.{◌≡◌, ◌+◌, ◌∙◌, sym, ap, subst, refl, arith, Some}
+use Rattle.std.specs.Prelude.{option_map}
+use Rattle.odht_base.specs.Format.{Format, format_of, tag}
+use Rattle.odht_base.specs.Load.{max_items}
+use Rattle.odht_base.specs.Table.{Pair, count, slot_count}
+use Rattle.odht_base.specs.Shown.{stated_count, stated_slots, stated_factor}
+use Rattle.odht_base.specs.Valid.{IsPairOf}
+use Rattle.odht_base.specs.Writes.{with_value, with_count, with_entry, with_tag}
+use Rattle.odht.proofs.lemmas.Lookups.{IsFoundAt, IsFreeAt, answer-Found, answer-Free, answer-Neither}
+use Rattle.odht.proofs.lemmas.Inserts.{found_value, found_key}
+use Rattle.odht.proofs.lemmas.ViewInserts.{IsPut, count_stated, max_stated, never_nowhere, found_put, free_put}
+use Rattle.odht.proofs.hash_table.HashTable.insert.Goals as goal
+
+pub returns-then-count-max-clause-full : goal.returns-then-count-max-clause-full
+returns-then-count-max-clause-full g c P is =
+    let F : Format = format_of g.C.EncodedKey.ByteArray.LEN g.C.EncodedValue.ByteArray.LEN g.C.H.HashFn.hash in
+    let B = c.args.self.now in
+    let header : c.header-header.result ≡ B = c.header-header.ensures.bytes ∙ c.self.view_is in
+    let items : c.item_count-count.result ≡ count P = c.item_count-count.ensures ∙ ap stated_count header ∙ count_stated F P B is in
+    let most : c.max_item_count_for-max.result ≡ max_items (slot_count P) P.factor =
+    c.max_item_count_for-max.ensures.value
+    ∙ (λ i. max_items ((c.slot_count.ensures ∙ ap stated_slots header) i) ((c.max_load_factor.ensures ∙ ap stated_factor header) i))
+    ∙ max_stated F P B is in
+    let full : count P ≡ max_items (slot_count P) P.factor = omega (arith, items, most, is.valid.room, c.if-count-max.true) in
+    (λ e. full, λ e. refl)
+
+pub returns-in-Found-clause-ok : goal.returns-in-Found-clause-ok
+returns-in-Found-clause-ok g c P is =
+    let F : Format = format_of g.C.EncodedKey.ByteArray.LEN g.C.EncodedValue.ByteArray.LEN g.C.H.HashFn.hash in
+    let B = c.args.self.now in
+    let header : c.header-header.result ≡ B = c.header-header.ensures.bytes ∙ c.self.view_is in
+    let items : c.item_count-count.result ≡ count P = c.item_count-count.ensures ∙ ap stated_count header ∙ count_stated F P B is in
+    let most : c.max_item_count_for-max.result ≡ max_items (slot_count P) P.factor =
+    c.max_item_count_for-max.ensures.value
+    ∙ (λ i. max_items ((c.slot_count.ensures ∙ ap stated_slots header) i) ((c.max_load_factor.ensures ∙ ap stated_factor header) i))
+    ∙ max_stated F P B is in
+    let p : Pair = record { key = g.C.EncodedKey.ByteArray.bytes (g.C.Config.encode_key c.args.key.now); value = g.C.EncodedValue.ByteArray.bytes (g.C.Config.encode_value c.args.value.now) } in
+    let slot = c.in-Found.slot in
+    let parts = c.data_slices-entries.ensures.parts P (record { valid = is.valid; bytes = c.self.view_is ∙ is.bytes }) in
+    let at : IsFoundAt F P p.key slot =
+    subst (λ k. IsFoundAt F P (g.C.EncodedKey.ByteArray.bytes k) slot) c.encode_key-key.ensures (answer-Found F P _ is.valid.placed slot (c.in-Found.ensures.on_placed P parts)) in
+    let value : g.C.EncodedValue.ByteArray.bytes c.encode_value-value.result ≡ p.value = ap g.C.EncodedValue.ByteArray.bytes c.encode_value-value.ensures in
+    let fits : IsPairOf F p = record { key = found_key F P _ _ parts p.key slot at; value = rw (← value) c.write_value.ensures.value } in
+    let old = c.decode_value-old.ensures ∙ ap g.C.Config.decode_value (c.get.ensures.value ∙ ap g.C.EncodedValue.ByteArray.of_bytes (found_value F P _ _ parts p.key slot at)) in
+    let written : c.write_value.new.self ≡ with_value F B slot p.value = c.write_value.ensures.bytes ∙ (λ i. with_value F (c.self.view_is i) slot (value i)) in (
+      ap Some old ∙ sym (ap (option_map (λ b. g.C.Config.decode_value (g.C.EncodedValue.ByteArray.of_bytes b))) at.value),
+      subst (IsPut F P p) (sym written) (found_put F P B is (omega (arith, items, most, c.if-count-max.false)) p fits slot at),
+    )
+
+pub returns-in-Found-clause-full : goal.returns-in-Found-clause-full
+returns-in-Found-clause-full g c P is =
+    let F : Format = format_of g.C.EncodedKey.ByteArray.LEN g.C.EncodedValue.ByteArray.LEN g.C.H.HashFn.hash in
+    let B = c.args.self.now in
+    let header : c.header-header.result ≡ B = c.header-header.ensures.bytes ∙ c.self.view_is in
+    let items : c.item_count-count.result ≡ count P = c.item_count-count.ensures ∙ ap stated_count header ∙ count_stated F P B is in
+    let most : c.max_item_count_for-max.result ≡ max_items (slot_count P) P.factor =
+    c.max_item_count_for-max.ensures.value
+    ∙ (λ i. max_items ((c.slot_count.ensures ∙ ap stated_slots header) i) ((c.max_load_factor.ensures ∙ ap stated_factor header) i))
+    ∙ max_stated F P B is in
+    (λ e. cc, λ e. absurd (omega (arith, items, most, e, c.if-count-max.false)))
+
+pub returns-in-Free-clause-ok : goal.returns-in-Free-clause-ok
+returns-in-Free-clause-ok g c P is =
+    let F : Format = format_of g.C.EncodedKey.ByteArray.LEN g.C.EncodedValue.ByteArray.LEN g.C.H.HashFn.hash in
+    let B = c.args.self.now in
+    let header : c.header-header.result ≡ B = c.header-header.ensures.bytes ∙ c.self.view_is in
+    let stated : c.item_count-count.result ≡ stated_count B = c.item_count-count.ensures ∙ ap stated_count header in
+    let items : c.item_count-count.result ≡ count P = stated ∙ count_stated F P B is in
+    let most : c.max_item_count_for-max.result ≡ max_items (slot_count P) P.factor =
+    c.max_item_count_for-max.ensures.value
+    ∙ (λ i. max_items ((c.slot_count.ensures ∙ ap stated_slots header) i) ((c.max_load_factor.ensures ∙ ap stated_factor header) i))
+    ∙ max_stated F P B is in
+    let p : Pair = record { key = g.C.EncodedKey.ByteArray.bytes (g.C.Config.encode_key c.args.key.now); value = g.C.EncodedValue.ByteArray.bytes (g.C.Config.encode_value c.args.value.now) } in
+    let slot = c.in-Free.slot in
+    let parts = c.data_slices-entries.ensures.parts P (record { valid = is.valid; bytes = c.self.view_is ∙ is.bytes }) in
+    let at : IsFreeAt F P p.key slot =
+    subst (λ k. IsFreeAt F P (g.C.EncodedKey.ByteArray.bytes k) slot) c.encode_key-key.ensures (answer-Free F P _ is.valid.placed slot (c.in-Free.ensures.on_placed P parts)) in
+    let key : g.C.EncodedKey.ByteArray.bytes c.encode_key-key.result ≡ p.key = ap g.C.EncodedKey.ByteArray.bytes c.encode_key-key.ensures in
+    let value : g.C.EncodedValue.ByteArray.bytes c.encode_value-value.result ≡ p.value = ap g.C.EncodedValue.ByteArray.bytes c.encode_value-value.ensures in
+    let fits : IsPairOf F p = subst (IsPairOf F) (λ i. record { key = key i; value = value i }) c.write_entry.ensures.pair in
+    let tagged : c.tag_of-tag.result ≡ tag F p.key = c.tag_of-tag.ensures ∙ ap (tag F) key in
+    let written : c.set_item_count.new.self ≡ with_count (with_tag F (stated_slots B) (with_entry F B slot p) slot (tag F p.key)) (stated_count B + 1) =
+    c.set_item_count.ensures
+    ∙ (λ i. with_count (c.write_entry.ensures.bytes i) (stated i + 1))
+    ∙ (λ i. with_count (with_tag F (stated_slots (c.self.view_is i)) (with_entry F (c.self.view_is i) slot (record { key = key i; value = value i })) slot (tagged i)) (stated_count B + 1)) in (
+      sym (ap (option_map (λ b. g.C.Config.decode_value (g.C.EncodedValue.ByteArray.of_bytes b))) at.value),
+      subst (IsPut F P p) (sym written) (free_put F P B is (omega (arith, items, most, c.if-count-max.false)) p fits slot at),
+    )
+
+pub returns-in-Free-clause-full : goal.returns-in-Free-clause-full
+returns-in-Free-clause-full g c P is =
+    let F : Format = format_of g.C.EncodedKey.ByteArray.LEN g.C.EncodedValue.ByteArray.LEN g.C.H.HashFn.hash in
+    let B = c.args.self.now in
+    let header : c.header-header.result ≡ B = c.header-header.ensures.bytes ∙ c.self.view_is in
+    let items : c.item_count-count.result ≡ count P = c.item_count-count.ensures ∙ ap stated_count header ∙ count_stated F P B is in
+    let most : c.max_item_count_for-max.result ≡ max_items (slot_count P) P.factor =
+    c.max_item_count_for-max.ensures.value
+    ∙ (λ i. max_items ((c.slot_count.ensures ∙ ap stated_slots header) i) ((c.max_load_factor.ensures ∙ ap stated_factor header) i))
+    ∙ max_stated F P B is in
+    (λ e. cc, λ e. absurd (omega (arith, items, most, e, c.if-count-max.false)))
+
+pub returns-in-Neither-clause-full : goal.returns-in-Neither-clause-full
+returns-in-Neither-clause-full g c P is =
+    let F : Format = format_of g.C.EncodedKey.ByteArray.LEN g.C.EncodedValue.ByteArray.LEN g.C.H.HashFn.hash in
+    let parts = c.data_slices-entries.ensures.parts P (record { valid = is.valid; bytes = c.self.view_is ∙ is.bytes }) in
+    absurd (never_nowhere F P c.args.self.now is _ (answer-Neither F P _ is.valid.placed (c.in-Neither.ensures.on_placed P parts)))

@@ -1,0 +1,48 @@
+-- What bytes for a new table are refused for, case by case.
+use Rattle.std.proofs.Common.{◌≡◌, ◌≢◌, ◌≤◌, ◌<◌, ◌^◌, ◌∙◌, ℕ, Bool, true, false, not, nat_le, ap, refl, [], ◌∷◌, Some, None, arith, leb-true, le-leb, ne_eqb}
+use Rattle.odht_base.specs.Format.{Format}
+use Rattle.odht_base.specs.Load.{slots_for}
+use Rattle.odht_base.specs.Image.{image_len}
+use Rattle.std.specs.Option.{option_map_or}
+use Rattle.odht.specs.Refusals.{new_refusal, slots_new_refusal, first_of, differs, ◌gives◌}
+use Rattle.odht.specs.declared.error.Error.TheVariants.{Capacity, InitLength}
+use Rattle.odht.proofs.lemmas.FirstErrors.{false-differs}
+
+-- what is not below is no less
+not_le : (a b : ℕ) → b < a → nat_le a b ≡ false
+not_le a b h = go (nat_le a b) refl
+  where
+    go : (t : Bool) → nat_le a b ≡ t → t ≡ false
+    go false e = refl
+    go true e = let le = leb-true a b e in absurd (omega (arith, le, h))
+
+module _ (F : Format) (n f len : ℕ) where
+  -- no slot count is enough
+  pub new_refusal-none : slots_for n f ≡ None → new_refusal F n f len ≡ Some Capacity
+  unfolding new_refusal
+  new_refusal-none e = ap (λ o. option_map_or (slots_new_refusal F len) o (Some Capacity)) e
+
+  module _ (s : ℕ) (e : slots_for n f ≡ Some s) where
+    -- the bytes are those of the slot count
+    some_slots : new_refusal F n f len ≡ slots_new_refusal F len s
+    unfolding new_refusal
+    some_slots = ap (λ o. option_map_or (slots_new_refusal F len) o (Some Capacity)) e
+
+    -- they pass the largest length
+    pub new_refusal-too_long : 2 ^ 64 ≤ image_len F s → new_refusal F n f len ≡ Some Capacity
+    new_refusal-too_long h =
+        some_slots ∙ ap (λ c. first_of ((c gives Capacity) ∷ (differs len (image_len F s) gives InitLength len (image_len F s)) ∷ [])) (le-leb (2 ^ 64) (image_len F s) h)
+
+    -- there are more or fewer
+    pub new_refusal-wrong : image_len F s < 2 ^ 64 → len ≢ image_len F s → new_refusal F n f len ≡ Some (InitLength len (image_len F s))
+    new_refusal-wrong low other =
+        let short = not_le (2 ^ 64) (image_len F s) low in
+        let wrong = ap not (ne_eqb len (image_len F s) other) in
+        some_slots ∙ (λ i. first_of ((short i gives Capacity) ∷ (wrong i gives InitLength len (image_len F s)) ∷ []))
+
+    -- there are as many
+    pub new_refusal-fits : image_len F s < 2 ^ 64 → len ≡ image_len F s → new_refusal F n f len ≡ None
+    new_refusal-fits low same =
+        let short = not_le (2 ^ 64) (image_len F s) low in
+        let right = false-differs len (image_len F s) same in
+        some_slots ∙ (λ i. first_of ((short i gives Capacity) ∷ (right i gives InitLength len (image_len F s)) ∷ []))

@@ -1,0 +1,139 @@
+//! The table over bytes of any kind.
+ghost use Rattle.std.specs.Prelude.{◌≡◌, ℕ, ◌≤◌, ◌↔◌, length, IfOk, OnErr};
+ghost use Rattle.std.specs.Result.{result_err};
+ghost use Rattle.odht_base.specs.Load.{factor_of};
+ghost use Rattle.odht_base.specs.Table.{Table, count, slot_count, fresh};
+ghost use Rattle.odht_base.specs.Load.{max_items};
+ghost use Rattle.odht_base.specs.Insert.{put_view};
+ghost use Rattle.odht_base.specs.Shown.{stated_count};
+ghost use Rattle.odht_base.specs.Valid.{IsImage};
+ghost use Rattle.odht.specs.Coding.{value_for, encoded};
+ghost use Rattle.odht.specs.Refusals.{new_refusal};
+
+use crate::bytes::{ByteStore, ByteStoreMut};
+use crate::config::{Coded, Config};
+use crate::error::Error;
+use crate::load::{Factor, max_item_count_for, slots_needed};
+use crate::memory_layout::{self, Allocation};
+use crate::raw_table::{Search, plain_find, plain_search, tag_of};
+use std::marker::Model;
+
+/// A table in the bytes of a store. A contract speaks of it as of these bytes.
+#[derive(Drop)]
+pub struct HashTable<C: Config, D: ByteStore> {
+    allocation: Allocation<C, D>,
+}
+
+impl<C: Config, D: ByteStore> Model for HashTable<C, D> {
+    ghost use Rattle.std.specs.Prelude.{ℕ, List};
+
+    ghost Value = { List ℕ };
+
+    ghost view = { λ t. t.allocation };
+}
+
+impl<C: Config, D: ByteStore> HashTable<C, D> {
+    /// The value of a key: on valid bytes that of the key's last insert.
+    ///
+    /// At most each slot is looked at once.
+    pub fn get(&self, key: &C::Key) -> Option<C::Value>
+        ensures on_valid { (P : Table)
+            → IsImage ⟦<C as Coded>⟧.coding.format P self.now
+            → result ≡ value_for ⟦<C as Coded>⟧.coding P key.now }
+    {
+        let (control, entries) = self.allocation.data_slices();
+        let key = C::encode_key(key);
+        match plain_find::<C::EncodedKey, C::EncodedValue, C::H>(control, &entries, &key) {
+            Some(value) => Some(C::decode_value(&value)),
+            None => None,
+        }
+    }
+
+    /// How many items the header states: of valid bytes, how many there are.
+    #[inline]
+    pub fn len(&self) -> usize
+        ensures stated { result ≡ stated_count self.now }
+        ensures on_valid { (P : Table) → IsImage ⟦<C as Coded>⟧.coding.format P self.now → result ≡ count P }
+    {
+        self.allocation.header().item_count()
+    }
+
+    /// All bytes.
+    #[inline]
+    pub fn raw_bytes(&self) -> &[u8]
+        ensures { result.now ≡ self.now }
+    {
+        self.allocation.raw_bytes()
+    }
+}
+
+impl<C: Config, D: ByteStoreMut> HashTable<C, D> {
+    /// Makes an empty table for `max_item_count` items in `data`, whatever stood there.
+    ///
+    /// `Capacity` where no slot count is enough, or its length passes `usize`; otherwise `InitLength` where `data` has
+    /// another length. On a refusal `data` is dropped, with its bytes as they were.
+    pub fn init_in_place(
+        data: D,
+        max_item_count: usize,
+        max_load_factor_percent: u8,
+    ) -> Result<Self, Error>
+        requires low { 1 ≤ max_load_factor_percent }
+        requires high { max_load_factor_percent ≤ 100 }
+        ensures ok { IfOk result (λ t. (P : Table) × (fresh max_item_count max_load_factor_percent ≡ Some P) × IsImage ⟦<C as Coded>⟧.coding.format P t) }
+        ensures err { result_err result ≡ new_refusal ⟦<C as Coded>⟧.coding.format max_item_count (factor_of max_load_factor_percent) (length (D.bytes «data»)) }
+    {
+        let factor = Factor::from_percent(max_load_factor_percent);
+        let Some(slot_count) = slots_needed(max_item_count, factor) else {
+            return Err(Error::Capacity);
+        };
+        let Some(expected) = memory_layout::bytes_needed::<C>(slot_count) else {
+            return Err(Error::Capacity);
+        };
+        let found = data.bytes().len();
+        if found != expected {
+            return Err(Error::InitLength { found, expected });
+        }
+        Ok(HashTable {
+            allocation: memory_layout::init_in_place(data, slot_count, 0, factor),
+        })
+    }
+
+    /// Gives the key this value, and answers its former one: on valid bytes that of its last insert.
+    ///
+    /// `Full` where the table holds its maximum item count, or the search meets neither the key nor a free slot: then
+    /// nothing changes. On valid bytes it comes exactly at the maximum, even where the key is there.
+    pub fn insert(&mut self, key: &C::Key, value: &C::Value) -> Result<Option<C::Value>, Error>
+        ensures ok { (P : Table)
+            → IsImage ⟦<C as Coded>⟧.coding.format P self.old
+            → IfOk result (λ old. (old ≡ value_for ⟦<C as Coded>⟧.coding P key.now) × ((Q : Table) × (put_view ⟦<C as Coded>⟧.coding.format P (encoded ⟦<C as Coded>⟧.coding key.now value.now) ≡ Some Q) × IsImage ⟦<C as Coded>⟧.coding.format Q self.new)) }
+        ensures full { (P : Table)
+            → IsImage ⟦<C as Coded>⟧.coding.format P self.old
+            → (result ≡ Err Error.Full) ↔ (count P ≡ max_items (slot_count P) P.factor) }
+        ensures only_full { OnErr result (result ≡ Err Error.Full) }
+        ensures refused { OnErr result (self.new ≡ self.old) }
+    {
+        let header = self.allocation.header();
+        let count = header.item_count();
+        let max = max_item_count_for(header.slot_count(), header.max_load_factor());
+        if count >= max {
+            return Err(Error::Full);
+        }
+        let key = C::encode_key(key);
+        let value = C::encode_value(value);
+        let (control, entries) = self.allocation.data_slices();
+        match plain_search::<C::EncodedKey, C::EncodedValue, C::H>(control, &entries, &key) {
+            Search::Found(slot) => {
+                let old = C::decode_value(&entries.get(slot).value);
+                self.allocation.write_value(slot, &value);
+                Ok(Some(old))
+            }
+            Search::Free(slot) => {
+                let tag = tag_of::<C::EncodedKey, C::H>(&key);
+                self.allocation.write_entry(slot, &key, &value, tag);
+                self.allocation.set_item_count(count + 1);
+                Ok(None)
+            }
+            Search::Neither => Err(Error::Full),
+        }
+    }
+}
