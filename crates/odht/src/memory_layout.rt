@@ -303,7 +303,7 @@ impl<C: Config, M: ByteStoreMut> Allocation<C, M> {
         ensures value { IsBytes C.EncodedValue.LEN (C.EncodedValue.bytes value.now) }
     {
         let store = &mut self.store;
-        let at = HEADER_SIZE + slot * (C::EncodedKey::LEN + C::EncodedValue::LEN);
-        store.write_at(at + C::EncodedKey::LEN, value.as_slice());
+        let entry = HEADER_SIZE + slot * (C::EncodedKey::LEN + C::EncodedValue::LEN);
+        store.write_at(entry + C::EncodedKey::LEN, value.as_slice());
     }
 }

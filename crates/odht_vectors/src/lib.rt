@@ -6,8 +6,14 @@ mod byte_arrays;
 #[cfg(test)]
 mod byte_stores;
 #[cfg(test)]
+mod configs;
+#[cfg(test)]
 mod errors;
 #[cfg(test)]
 mod hashes;
 #[cfg(test)]
 mod load_factors;
+#[cfg(test)]
+mod plain_tables;
+#[cfg(test)]
+mod table_bytes;

@@ -5,20 +5,20 @@ use Rattle.odht.specs.Frame.{IsAccepted}
 use Rattle.odht.proofs.lemmas.Accepted.{accepted_entry, IsAccepted-overwritten_at}
 use Rattle.odht.proofs.memory_layout.Allocation.write_value.Goals as goal
 
-pub overflow_mul-at : goal.overflow_mul-at
-overflow_mul-at g c =
+pub overflow_mul-entry : goal.overflow_mul-entry
+overflow_mul-entry g c =
     let F = format_of g.C.EncodedKey.ByteArray.LEN g.C.EncodedValue.ByteArray.LEN g.C.H.HashFn.hash in
     let within = accepted_entry F (g.M.ByteStore.bytes c.self.inside.store) c.self.invariant.0 c.args.slot (subst (λ b. c.args.slot < stated_slots b) (sym c.self.view_is) c.requires) in
     rw (c.LEN.ensures, c.LEN-2.ensures) (omega (arith, within, c.self.invariant.1))
 
-pub overflow_add-at-2 : goal.overflow_add-at-2
-overflow_add-at-2 g c =
+pub overflow_add-entry-2 : goal.overflow_add-entry-2
+overflow_add-entry-2 g c =
     let F = format_of g.C.EncodedKey.ByteArray.LEN g.C.EncodedValue.ByteArray.LEN g.C.H.HashFn.hash in
     let within = accepted_entry F (g.M.ByteStore.bytes c.self.inside.store) c.self.invariant.0 c.args.slot (subst (λ b. c.args.slot < stated_slots b) (sym c.self.view_is) c.requires) in
     rw (c.LEN.ensures, c.LEN-2.ensures) (omega (arith, within, c.self.invariant.1))
 
-pub overflow_add-at-3 : goal.overflow_add-at-3
-overflow_add-at-3 g c =
+pub overflow_add-entry-3 : goal.overflow_add-entry-3
+overflow_add-entry-3 g c =
     let F = format_of g.C.EncodedKey.ByteArray.LEN g.C.EncodedValue.ByteArray.LEN g.C.H.HashFn.hash in
     let within = accepted_entry F (g.M.ByteStore.bytes c.self.inside.store) c.self.invariant.0 c.args.slot (subst (λ b. c.args.slot < stated_slots b) (sym c.self.view_is) c.requires) in
     rw (c.LEN-3.ensures, c.LEN.ensures, c.LEN-2.ensures) (omega (arith, within, c.self.invariant.1))

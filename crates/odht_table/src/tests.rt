@@ -1,0 +1,249 @@
+//! Scripts and their answers, and runs that stop early.
+use crate::script::{Fault, run};
+use std::alloc::Global;
+use std::io::{self, ErrorKind, Read, Write};
+use std::test::Fail;
+
+fn answers(alloc: Global, script: &[u8]) -> Result<Vec<u8>, Fault> {
+    let mut output = Vec::new(alloc);
+    run(alloc, &mut &*script, &mut output)?;
+    Ok(output)
+}
+
+#[test]
+fn scripts_are_answered(rt: HostRuntime) -> Result<(), Fail> {
+    let cases = [
+        ("", ""),
+        ("\n", "malformed\n"),
+        ("\n\nget 1", "malformed\nmalformed\nno table\n"),
+        ("get 1\nput 1 2\nhex\n", "no table\nno table\nno table\n"),
+        (
+            "new 0 6\nput 1 2\nget 1\n\n",
+            "slots 16 max 0\nfull\nnone\nmalformed\n",
+        ),
+        (
+            "new 3 95\nput 1 2\nput 3 4\nput 5 6\nget 3\nget 7\n",
+            "slots 16 max 15\nnone\nnone\nnone\n4\nnone\n",
+        ),
+        (
+            "new 3 95\nput 1 2\nput 1 3\nget 1",
+            "slots 16 max 15\nnone\nwas 2\n3\n",
+        ),
+        (
+            "new 0003 095\nput 007 000\nput 7 0000000000000000000000001\nget 0000000000000000000000007\n",
+            "slots 16 max 15\nnone\nwas 0\n1\n",
+        ),
+        (
+            "new 3 95\nput 18446744073709551615 4294967295\nget 18446744073709551615\n",
+            "slots 16 max 15\nnone\n4294967295\n",
+        ),
+        (
+            "new 13 87\nnew 14 87\nnew 40 87\nnew 0 1\n",
+            "slots 16 max 13\nslots 32 max 27\nslots 64 max 55\nslots 16 max 0\n",
+        ),
+        (
+            "new 15 100\nnew 16 100\nnew 1000 100\n",
+            "slots 16 max 15\nslots 32 max 31\nslots 1024 max 1023\n",
+        ),
+        (
+            "new 1 0\nnew 1 101\nnew 1 18446744073709551615\n",
+            "bad percent\nbad percent\nbad percent\n",
+        ),
+        (
+            "new 4611686018427387904 101\nnew 4611686018427387904 100\nnew 576460752303423488 100\n",
+            "bad percent\ncapacity\nmemory\n",
+        ),
+        (
+            "new 3 95\nput 1 2\nnew 1 0\nnew 4611686018427387904 100\nnew 576460752303423488 100\nget 1\n",
+            "slots 16 max 15\nnone\nbad percent\ncapacity\nmemory\n2\n",
+        ),
+        (
+            "new 3 95\nput 1 2\nnew 16 100\nget 1\n",
+            "slots 16 max 15\nnone\nslots 32 max 31\nnone\n",
+        ),
+    ];
+    for (script, expected) in cases {
+        let output = answers(rt.alloc(), script.as_bytes())?;
+        let text = std::str::from_utf8(output.as_slice())?;
+        assert_eq!(rt; text, expected, "the answers to {script:?}");
+    }
+    Ok(())
+}
+
+// Each is malformed before there is a table and afterwards.
+#[test]
+fn malformed_lines(rt: HostRuntime) -> Result<(), Fail> {
+    let lines: [&[u8]; 36] = [
+        b"",
+        b" ",
+        b"put 1  2",
+        b" put 1 2",
+        b"put 1 2 ",
+        b"get  1",
+        b"get 1 ",
+        b"hex ",
+        b" hex",
+        b"get",
+        b"get 1 2",
+        b"put 1",
+        b"put 1 2 3",
+        b"new 3",
+        b"new 3 95 1",
+        b"hex 1",
+        b"get 1\r",
+        b"hex\r",
+        b"get\t1",
+        b"PUT 1 2",
+        b"Get 1",
+        b"get +1",
+        b"get -1",
+        b"get 1.0",
+        b"get 0x1",
+        b"get one",
+        b"get \xd9\xa1",
+        b"\xff",
+        b"get \xff",
+        b"get 18446744073709551616",
+        b"put 18446744073709551616 1",
+        b"put 1 4294967296",
+        b"new 18446744073709551616 95",
+        b"new 3 18446744073709551616",
+        b"new x 0",
+        b"remove 1",
+    ];
+    for line in lines {
+        let mut script = line.to_vec(rt.alloc())?;
+        script.extend_from_slice(b"\nnew 3 95\n")?;
+        script.extend_from_slice(line)?;
+        script.push(b'\n')?;
+        let output = answers(rt.alloc(), script.as_slice())?;
+        let text = std::str::from_utf8(output.as_slice())?;
+        assert_eq!(rt;
+            text,
+            "malformed\nslots 16 max 15\nmalformed\n",
+            "at {line:?}"
+        );
+    }
+    Ok(())
+}
+
+#[test]
+fn long_lines(rt: HostRuntime) -> Result<(), Fail> {
+    let alloc = rt.alloc();
+    let zeros = vec![in alloc; b'0'; 5000]?;
+    let nines = vec![in alloc; b'9'; 5000]?;
+    let mut script = b"new 3 95\nput ".to_vec(alloc)?;
+    script.extend_from_slice(zeros.as_slice())?;
+    script.extend_from_slice(b"1 7\nget 1\nget ")?;
+    script.extend_from_slice(nines.as_slice())?;
+    let output = answers(alloc, script.as_slice())?;
+    let text = std::str::from_utf8(output.as_slice())?;
+    assert_eq!(rt; text, "slots 16 max 15\nnone\n7\nmalformed\n");
+    Ok(())
+}
+
+#[test]
+fn hex_is_one_line_of_digits(rt: HostRuntime) -> Result<(), Fail> {
+    let output = answers(
+        rt.alloc(),
+        b"new 3 95\nput 18446744073709551615 4294967295\nhex",
+    )?;
+    let mut lines = output.split(|byte| *byte == b'\n').skip(2);
+    let digits = lines.next().ok_or("no line of digits")?;
+    assert_eq!(rt; digits.len(), 512);
+    assert!(rt;
+        digits
+            .iter()
+            .all(|byte| matches!(*byte, b'0'..=b'9' | b'a'..=b'f'))
+    );
+    assert_eq!(rt; lines.next(), Some(b"".as_slice()));
+    assert_eq!(rt; lines.next(), None);
+    Ok(())
+}
+
+/// A reader that gives its bytes one at a time.
+#[derive(Drop)]
+struct Slow<'a>(&'a [u8]);
+
+impl Read for Slow<'_> {
+    fn read(&mut self, buf: &mut [u8]) -> io::Result<usize> {
+        let (Some((first, rest)), Some(place)) = (self.0.split_first(), buf.first_mut()) else {
+            return Ok(0);
+        };
+        *place = *first;
+        self.0 = rest;
+        Ok(1)
+    }
+}
+
+/// A reader that fails.
+#[derive(Drop)]
+struct Broken;
+
+impl Read for Broken {
+    fn read(&mut self, _buf: &mut [u8]) -> io::Result<usize> {
+        Err(io::Error::from(ErrorKind::ConnectionReset))
+    }
+}
+
+#[test]
+fn readers(rt: HostRuntime) -> Result<(), Fail> {
+    let script = b"new 3 95\nput 1 2\nget 1\n";
+    let mut output = Vec::new(rt.alloc());
+    run(rt.alloc(), &mut Slow(script), &mut output)?;
+    assert_eq!(rt; output.as_slice(), b"slots 16 max 15\nnone\n2\n".as_slice());
+
+    // No line is answered before the script is read to its end.
+    let mut output = Vec::new(rt.alloc());
+    let outcome = run(rt.alloc(), &mut Slow(script).chain(Broken), &mut output);
+    assert_eq!(rt; outcome, Err(Fault::Read));
+    assert!(rt; output.is_empty());
+    Ok(())
+}
+
+/// A writer with room for so many bytes.
+#[derive(Drop)]
+struct Narrow {
+    room: usize,
+    can_flush: bool,
+}
+
+impl Write for Narrow {
+    fn write(&mut self, buf: &[u8]) -> io::Result<usize> {
+        if self.room == 0 {
+            return Err(io::Error::from(ErrorKind::StorageFull));
+        }
+        let count = buf.len().min(self.room);
+        self.room -= count;
+        Ok(count)
+    }
+
+    fn flush(&mut self) -> io::Result<()> {
+        if !self.can_flush {
+            return Err(io::Error::from(ErrorKind::StorageFull));
+        }
+        Ok(())
+    }
+}
+
+#[test]
+fn writers(rt: HostRuntime) {
+    // The answers are `slots 16 max 15` and `none`, 21 bytes with their ends.
+    let script = b"new 3 95\nput 1 2\n";
+    for room in 0..30 {
+        for can_flush in [false, true] {
+            let mut output = Narrow { room, can_flush };
+            let outcome = run(rt.alloc(), &mut script.as_slice(), &mut output);
+            let expected = if room >= 21 && can_flush {
+                Ok(())
+            } else {
+                Err(Fault::Write)
+            };
+            assert_eq!(rt;
+                outcome,
+                expected,
+                "room for {room} bytes, flush {can_flush}"
+            );
+        }
+    }
+}
