@@ -17,3 +17,5 @@ mod load_factors;
 mod plain_tables;
 #[cfg(test)]
 mod table_bytes;
+#[cfg(test)]
+mod view_tables;
