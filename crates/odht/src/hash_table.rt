@@ -1,9 +1,8 @@
 //! The table over bytes of any kind.
 ghost use Rattle.std.specs.Prelude.{◌≡◌, ℕ, ◌≤◌, ◌↔◌, length, IfOk, OnErr};
 ghost use Rattle.std.specs.Result.{result_err};
-ghost use Rattle.odht_base.specs.Load.{factor_of};
+ghost use Rattle.odht_base.specs.Load.{factor_of, max_items};
 ghost use Rattle.odht_base.specs.Table.{Table, count, slot_count, fresh};
-ghost use Rattle.odht_base.specs.Load.{max_items};
 ghost use Rattle.odht_base.specs.Insert.{put_view};
 ghost use Rattle.odht_base.specs.Shown.{stated_count};
 ghost use Rattle.odht_base.specs.Valid.{IsImage};
@@ -71,7 +70,7 @@ impl<C: Config, D: ByteStoreMut> HashTable<C, D> {
     /// Makes an empty table for `max_item_count` items in `data`, whatever stood there.
     ///
     /// `Capacity` where no slot count is enough, or its length passes `usize`; otherwise `InitLength` where `data` has
-    /// another length. On a refusal `data` is dropped, with its bytes as they were.
+    /// another length. On a refusal `data` is dropped.
     pub fn init_in_place(
         data: D,
         max_item_count: usize,
