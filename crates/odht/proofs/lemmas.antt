@@ -9,8 +9,16 @@ pub mod Lookups
 pub mod Inserts
 -- the first error of a list
 pub mod FirstErrors
+-- std's test for a power of two
+pub mod PowersOfTwo
+-- what one slot is refused for
+pub mod SlotChecks
+-- what a header is refused for
+pub mod HeaderChecks
 -- bytes that a view accepts, and writes that leave them accepted
 pub mod Accepted
+-- what bytes are refused for when they are opened
+pub mod Openings
 -- a write of one byte again and again
 pub mod Fills
 -- a header that is written field by field

@@ -2,8 +2,12 @@
 --     EntryBytes           the bytes of the entries of so many slots
 --     entry_format kl vl   a format of these lengths, for what no hash matters to
 --     IsEntries kl vl E    E is as long as its slots say, and a key and a value have at most 255 bytes
+--     TableParts           control bytes with their mirror, and entries
+--     IsTableParts ml kl vl T   T has a slot count, and as many control bytes with their mirror and entries; a key is long
+--                          enough for its hash
 use Rattle.std.specs.Prelude.{◌≡◌, ℕ, ◌+◌, ◌*◌, ◌≤◌, List, length}
 use Rattle.odht_base.specs.Format.{Format, format_of}
+use Rattle.odht_base.specs.Load.{IsSlotCount}
 
 pub record EntryBytes : Type 0 where
   pub slots : ℕ
@@ -16,3 +20,13 @@ pub record IsEntries (key_len value_len : ℕ) (E : EntryBytes) : Type 0 where
   pub key_short : key_len ≤ 255
   pub value_short : value_len ≤ 255
   pub long : length E.bytes ≡ E.slots * (key_len + value_len)
+
+pub record TableParts : Type 0 where
+  pub control : List ℕ
+  pub entries : EntryBytes
+
+pub record IsTableParts (min_len key_len value_len : ℕ) (T : TableParts) : Type 0 where
+  pub fitting : IsEntries key_len value_len T.entries
+  pub slots : IsSlotCount T.entries.slots
+  pub mirrored : length T.control ≡ T.entries.slots + 16
+  pub hashes : min_len ≤ key_len

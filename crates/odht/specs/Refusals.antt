@@ -48,18 +48,33 @@ lists_differ xs ys = not (bytes_eq xs ys)
 abbrev pub wrong_size : List ℕ → ℕ → Part → ℕ → Option Error
 wrong_size B at part expected = differs (slice_index B at) expected gives WrongSizeOf part expected (slice_index B at)
 
+abbrev pub tag_refusal : List ℕ → Option Error
+tag_refusal B = lists_differ (bytes_at B 0 4) (79 ∷ 68 ∷ 72 ∷ 84 ∷ []) gives WrongTag (bytes_at B 0 4)
+
+abbrev pub version_refusal : List ℕ → Option Error
+version_refusal B = lists_differ (bytes_at B 24 4) (0 ∷ 0 ∷ 0 ∷ 2 ∷ []) gives WrongVersion (bytes_at B 24 4)
+
+abbrev pub power_refusal : List ℕ → Option Error
+power_refusal B = not (is_power_of_two (stated_slots B)) gives SlotCountNotPowerOfTwo (stated_slots B)
+
+abbrev pub few_slots_refusal : List ℕ → Option Error
+few_slots_refusal B = nat_lt (stated_slots B) 16 gives SlotCountTooSmall (stated_slots B)
+
+abbrev pub length_refusal : Format → ℕ → List ℕ → Option Error
+length_refusal F n B = differs n (image_len F (stated_slots B)) gives WrongLength (stated_slots B) n (image_len F (stated_slots B))
+
 -- the field refusals, of at least 32 bytes that stand for n
 abbrev pub header_refusals : Format → ℕ → List ℕ → List (Option Error)
 header_refusals F n B =
-    (lists_differ (bytes_at B 0 4) (79 ∷ 68 ∷ 72 ∷ 84 ∷ []) gives WrongTag (bytes_at B 0 4))
-    ∷ (lists_differ (bytes_at B 24 4) (0 ∷ 0 ∷ 0 ∷ 2 ∷ []) gives WrongVersion (bytes_at B 24 4))
+    tag_refusal B
+    ∷ version_refusal B
     ∷ wrong_size B 4 EntryMetadata 1
     ∷ wrong_size B 5 EncodedKey F.key_len
     ∷ wrong_size B 6 EncodedValue F.value_len
     ∷ wrong_size B 7 Header 32
-    ∷ (not (is_power_of_two (stated_slots B)) gives SlotCountNotPowerOfTwo (stated_slots B))
-    ∷ (nat_lt (stated_slots B) 16 gives SlotCountTooSmall (stated_slots B))
-    ∷ (differs n (image_len F (stated_slots B)) gives WrongLength (stated_slots B) n (image_len F (stated_slots B)))
+    ∷ power_refusal B
+    ∷ few_slots_refusal B
+    ∷ length_refusal F n B
     ∷ []
 
 unfoldable pub header_refusal : Format → ℕ → List ℕ → Option Error

@@ -7,7 +7,7 @@ ghost use Rattle.odht_base.specs.Insert.{put_view};
 ghost use Rattle.odht_base.specs.Shown.{stated_count};
 ghost use Rattle.odht_base.specs.Valid.{IsImage};
 ghost use Rattle.odht.specs.Coding.{value_for, encoded};
-ghost use Rattle.odht.specs.Refusals.{new_refusal};
+ghost use Rattle.odht.specs.Refusals.{new_refusal, view_refusal};
 
 use crate::bytes::{ByteStore, ByteStoreMut};
 use crate::config::{Coded, Config};
@@ -32,6 +32,19 @@ impl<C: Config, D: ByteStore> Model for HashTable<C, D> {
 }
 
 impl<C: Config, D: ByteStore> HashTable<C, D> {
+    /// Opens bytes as a table, and answers the first refusal where there is one: of too few bytes, of the header, of the
+    /// length, of the first ten slots. Then the data is dropped.
+    ///
+    /// Nothing else is looked at: a view of bytes that are accepted and not valid is safe to use, but what it answers is
+    /// within a frame only, which the calls state.
+    pub fn from_raw_bytes(data: D) -> Result<Self, Error>
+        ensures ok { IfOk result (λ t. t ≡ D.bytes «data») }
+        ensures err { result_err result ≡ view_refusal ⟦<C as Coded>⟧.coding.format (D.bytes «data») }
+    {
+        let allocation = Allocation::from_raw_bytes(data)?;
+        Ok(HashTable { allocation })
+    }
+
     /// The value of a key: on valid bytes that of the key's last insert.
     ///
     /// At most each slot is looked at once.

@@ -3,7 +3,7 @@
 //! Offsets and lengths are those of docs/FORMAT.md, "Layout".
 ghost use Rattle.std.specs.Prelude.{◌≡◌, ◌+◌, ◌-◌, ◌*◌, ◌<◌, ◌≤◌, ◌^◌, length, take, replicate, MatchOption, IfSome};
 ghost use Rattle.odht_base.specs.Numbers.{IsBytes};
-ghost use Rattle.odht_base.specs.Bytes.{overwritten_at};
+ghost use Rattle.odht_base.specs.Bytes.{bytes_at, overwritten_at};
 ghost use Rattle.odht_base.specs.Load.{IsSlotCount};
 ghost use Rattle.odht_base.specs.Format.{format_of};
 ghost use Rattle.odht_base.specs.Table.{Pair, Table, empty};
@@ -11,16 +11,28 @@ ghost use Rattle.odht_base.specs.Image.{header_bytes, image, image_len};
 ghost use Rattle.odht_base.specs.Valid.{IsImage, IsPairOf, IsPartsOf};
 ghost use Rattle.odht_base.specs.Shown.{stated_count, stated_slots, stated_factor, entries_of, controls_of};
 ghost use Rattle.odht_base.specs.Writes.{with_count, with_entry, with_control, with_tag, with_value};
+ghost use Rattle.std.specs.Prelude.{IfOk};
+ghost use Rattle.std.specs.Option.{option_or};
+ghost use Rattle.std.specs.Result.{result_err};
 ghost use Rattle.odht.specs.Frame.{IsAccepted};
+ghost use Rattle.odht.specs.Refusals.{checked, tag_refusal, version_refusal, wrong_size, power_refusal, few_slots_refusal, length_refusal, header_refusal, view_refusal};
 
 use crate::bytes::{ByteArray, ByteStore, ByteStoreMut, read_u64};
 use crate::config::{Coded, Config};
+use crate::error::{Error, Part};
 use crate::load::Factor;
+use crate::raw_table::RawTable;
 pub use crate::raw_table::{Entries, EntryMetadata};
 use crate::swisstable_group_query::REFERENCE_GROUP_SIZE;
 use std::marker::{Model, PhantomData};
 
+const HEADER_TAG: [u8; 4] = *b"ODHT";
+
+const CURRENT_FILE_FORMAT_VERSION: [u8; 4] = [0, 0, 0, 2];
+
 const HEADER_SIZE: usize = 32;
+// How many slots a view looks at when it is opened.
+const SLOTS_TO_CHECK: usize = 10;
 
 /// A reader of a table's header, field by field, at any alignment.
 #[derive(Drop)]
@@ -46,6 +58,104 @@ impl<'a> Header<'a> {
         ensures { result ≡ bytes.now }
     {
         Header { bytes }
+    }
+
+    /// Looks at the header as that of a table of `raw_bytes_len` bytes, and answers the first refusal: `WrongTag`,
+    /// `WrongVersion`, `WrongSizeOf` of a control byte, key, value or header, `SlotCountNotPowerOfTwo`,
+    /// `SlotCountTooSmall`, `WrongLength`.
+    ///
+    /// The length that so many slots need is computed in 128 bits, so a forged count is refused for what it says.
+    pub fn sanity_check<C: Config>(&self, raw_bytes_len: usize) -> Result<(), Error>
+        ensures { result ≡ checked (header_refusal ⟦<C as Coded>⟧.coding.format raw_bytes_len self.now) }
+    {
+        self.check_tag()?;
+        self.check_version()?;
+        self.check_expected_size(4, Part::EntryMetadata, 1)?;
+        self.check_expected_size(5, Part::EncodedKey, C::EncodedKey::LEN)?;
+        self.check_expected_size(6, Part::EncodedValue, C::EncodedValue::LEN)?;
+        self.check_expected_size(7, Part::Header, HEADER_SIZE)?;
+        self.check_slot_count()?;
+        self.check_length::<C>(raw_bytes_len)
+    }
+
+    fn check_tag(&self) -> Result<(), Error>
+        ensures { result ≡ checked (tag_refusal self.now) }
+    {
+        let found = self.word(0);
+        if found == HEADER_TAG {
+            Ok(())
+        } else {
+            Err(Error::WrongTag { found })
+        }
+    }
+
+    fn check_version(&self) -> Result<(), Error>
+        ensures { result ≡ checked (version_refusal self.now) }
+    {
+        let found = self.word(24);
+        if found == CURRENT_FILE_FORMAT_VERSION {
+            Ok(())
+        } else {
+            Err(Error::WrongVersion { found })
+        }
+    }
+
+    // The four bytes from `at` on.
+    #[inline]
+    fn word(&self, at: usize) -> [u8; 4]
+        requires { at + 4 ≤ 32 }
+        ensures { result ≡ bytes_at self.now at 4 }
+    {
+        let bytes = self.bytes;
+        [bytes[at], bytes[at + 1], bytes[at + 2], bytes[at + 3]]
+    }
+
+    // Whether the byte `at` states this size of the part.
+    fn check_expected_size(&self, at: usize, part: Part, expected: usize) -> Result<(), Error>
+        requires { at < 32 }
+        ensures { result ≡ checked (wrong_size self.now at part expected) }
+    {
+        let bytes = self.bytes;
+        let found = bytes[at];
+        if found as usize == expected {
+            Ok(())
+        } else {
+            Err(Error::WrongSizeOf {
+                part,
+                expected,
+                found,
+            })
+        }
+    }
+
+    fn check_slot_count(&self) -> Result<(), Error>
+        ensures { result ≡ checked (option_or (power_refusal self.now) (few_slots_refusal self.now)) }
+    {
+        let found = self.slot_count();
+        if !found.is_power_of_two() {
+            Err(Error::SlotCountNotPowerOfTwo { found })
+        } else if found < REFERENCE_GROUP_SIZE {
+            Err(Error::SlotCountTooSmall { found })
+        } else {
+            Ok(())
+        }
+    }
+
+    // Whether so many bytes are the table of so many slots as the header states.
+    fn check_length<C: Config>(&self, found: usize) -> Result<(), Error>
+        ensures { result ≡ checked (length_refusal ⟦<C as Coded>⟧.coding.format found self.now) }
+    {
+        let slot_count = self.slot_count();
+        let expected = table_len::<C>(slot_count);
+        if found as u128 == expected {
+            Ok(())
+        } else {
+            Err(Error::WrongLength {
+                slot_count,
+                found,
+                expected,
+            })
+        }
     }
 
     /// How many items the header states.
@@ -83,13 +193,21 @@ pub fn bytes_needed<C: Config>(slot_count: usize) -> Option<usize>
         in MatchOption result (usize.MAX < len) (λ n. n ≡ len) }
     ensures fits { IfSome result (λ n. n < 2 ^ 64) }
 {
-    let entry = C::EncodedKey::LEN as u128 + C::EncodedValue::LEN as u128;
-    let slots = slot_count as u128;
-    let len = HEADER_SIZE as u128 + slots * entry + slots + REFERENCE_GROUP_SIZE as u128;
+    let len = table_len::<C>(slot_count);
     if len > usize::MAX as u128 {
         return None;
     }
     Some(len as usize)
+}
+
+// How many bytes a table of `slot_count` slots has.
+#[inline]
+fn table_len<C: Config>(slot_count: usize) -> u128
+    ensures { result ≡ image_len ⟦<C as Coded>⟧.coding.format slot_count }
+{
+    let entry = C::EncodedKey::LEN as u128 + C::EncodedValue::LEN as u128;
+    let slots = slot_count as u128;
+    HEADER_SIZE as u128 + slots * entry + slots + REFERENCE_GROUP_SIZE as u128
 }
 
 /// Makes the table of `slot_count` free slots that states `item_count` items in `data`, whatever stood there.
@@ -179,6 +297,32 @@ impl<C: Config, M: ByteStore> Model for Allocation<C, M> {
 }
 
 impl<C: Config, M: ByteStore> Allocation<C, M> {
+    /// Takes the bytes as those of a table where nothing is refused: `TooShort`, then what
+    /// [`Header::sanity_check`] refuses, then what [`RawTable::sanity_check_hashes`] refuses of the first ten slots.
+    ///
+    /// The answer is the first refusal; then the data is dropped.
+    pub fn from_raw_bytes(data: M) -> Result<Self, Error>
+        ensures ok { IfOk result (λ a. a ≡ M.bytes «data») }
+        ensures err { result_err result ≡ view_refusal ⟦<C as Coded>⟧.coding.format (M.bytes «data») }
+    {
+        let bytes = data.bytes();
+        let found = bytes.len();
+        if found < HEADER_SIZE {
+            return Err(Error::TooShort { found });
+        }
+        Header::of(bytes).sanity_check::<C>(found)?;
+        let allocation = Allocation {
+            store: data,
+            config: PhantomData,
+        };
+        let (control, entries) = allocation.data_slices();
+        let table: RawTable<'_, C::EncodedKey, C::EncodedValue, C::H> = RawTable::new(
+            control, entries,
+        );
+        table.sanity_check_hashes(SLOTS_TO_CHECK)?;
+        Ok(allocation)
+    }
+
     /// All bytes.
     #[inline]
     pub fn raw_bytes(&self) -> &[u8]

@@ -1,9 +1,14 @@
 //! The parts of a table, control bytes and entries, and searches in them.
 ghost use Rattle.std.specs.Prelude.{◌≡◌, ◌+◌, ◌*◌, ◌<◌, ◌≤◌, length};
-ghost use Rattle.odht_base.specs.Shown.{slot_key, slot_value};
+ghost use Rattle.odht_base.specs.Format.{format_of};
+ghost use Rattle.odht_base.specs.Load.{IsSlotCount};
+ghost use Rattle.odht_base.specs.Shown.{slot_key, slot_value, counts_as_free};
 ghost use Rattle.odht.specs.Parts.{entry_format};
+ghost use Rattle.odht.specs.Refusals.{checked, hashes_refusal, hashes_refusal_at};
 
 use crate::bytes::ByteArray;
+use crate::error::Error;
+use crate::hash::HashFn;
 use std::marker::{Model, PhantomData};
 
 mod outcome;
@@ -92,5 +97,86 @@ impl<'a, K: ByteArray, V: ByteArray> Entries<'a, K, V> {
             key: K::from_slice(&entry[..K::LEN]),
             value: V::from_slice(&entry[K::LEN..]),
         }
+    }
+}
+
+// Whether a control byte counts as free.
+#[inline]
+fn is_empty_or_deleted(control: EntryMetadata) -> bool
+    ensures { result ≡ counts_as_free control }
+{
+    control >= 128
+}
+
+/// The control bytes with their mirror, and the entries of as many slots.
+#[derive(Drop)]
+pub struct RawTable<'a, K: ByteArray, V: ByteArray, H: HashFn> {
+    control: &'a [EntryMetadata],
+    entries: Entries<'a, K, V>,
+    hash: PhantomData<H>,
+}
+
+impl<'a, K: ByteArray, V: ByteArray, H: HashFn> Model for RawTable<'a, K, V, H> {
+    ghost use Rattle.odht.specs.Parts.{TableParts, IsTableParts};
+
+    ghost Value = { TableParts };
+
+    ghost view = { λ t. record { control = t.control.now; entries = t.entries } };
+
+    ghost invariant = { λ t. IsTableParts H.MIN_LEN K.LEN V.LEN (record { control = t.control.now; entries = t.entries }) };
+}
+
+impl<'a, K: ByteArray, V: ByteArray, H: HashFn> RawTable<'a, K, V, H> {
+    /// The table of these parts, on which a view looks at slots before it trusts them.
+    #[inline]
+    pub fn new(control: &'a [EntryMetadata], entries: Entries<'a, K, V>) -> Self
+        requires slots { IsSlotCount entries.slots }
+        requires control { length control.now ≡ entries.slots + 16 }
+        requires hashes { H.MIN_LEN ≤ K.LEN }
+        ensures { result ≡ record { control = control.now; entries = entries.entry } }
+    {
+        RawTable {
+            control,
+            entries,
+            hash: PhantomData,
+        }
+    }
+
+    /// Looks at the first `slots_to_check` slots, or at all where there are fewer, and answers the first refusal:
+    /// `NonZeroEmpty` of a slot that counts as free, `ControlMismatch` of any other.
+    ///
+    /// A mismatch tells of bytes that were written with another hash function.
+    pub fn sanity_check_hashes(&self, slots_to_check: usize) -> Result<(), Error>
+        ensures { result ≡ checked (hashes_refusal (format_of K.LEN V.LEN H.hash) self.now.entries.bytes self.now.control slots_to_check) }
+    {
+        let slots = slots_to_check.min(self.entries.len());
+        for slot in 0..slots {
+            self.check_slot(slot)?;
+        }
+        Ok(())
+    }
+
+    // What a view looks at in one slot.
+    fn check_slot(&self, slot: usize) -> Result<(), Error>
+        requires { slot < self.now.entries.slots }
+        ensures { result ≡ checked (hashes_refusal_at (format_of K.LEN V.LEN H.hash) self.now.entries.bytes self.now.control slot) }
+    {
+        let found = self.control[slot];
+        let entry = self.entries.get(slot);
+        if is_empty_or_deleted(found) {
+            if entry.key.is_all_zeros() && entry.value.is_all_zeros() {
+                return Ok(());
+            }
+            return Err(Error::NonZeroEmpty { slot });
+        }
+        let expected = tag_of::<K, H>(&entry.key);
+        if found != expected {
+            return Err(Error::ControlMismatch {
+                slot,
+                expected,
+                found,
+            });
+        }
+        Ok(())
     }
 }
