@@ -3,10 +3,12 @@
 --     coding_of ..         the coding made of what `Config` and its arrays name
 --     encoded c k v        the pair of the key k and the value v
 --     value_for c P k      the value that the table P has for the key k
-use Rattle.std.specs.Prelude.{ℕ, List, Option, option_map}
+--     HasStored c B k v    some slot's entry is the key k beside the value v, whatever its control byte
+use Rattle.std.specs.Prelude.{◌≡◌, ℕ, List, Option, option_map}
 use Rattle.odht_base.specs.Format.{Format, format_of}
 use Rattle.odht_base.specs.Table.{Pair, Table}
 use Rattle.odht_base.specs.Map.{map_of}
+use Rattle.odht_base.specs.Shown.{Stores}
 
 pub record Coding (K V : Type 0) : Type 0 where
   pub format : Format
@@ -30,3 +32,6 @@ encoded c k v = record { key = c.key_bytes k; value = c.value_bytes v }
 
 abbrev pub value_for : {K V : Type 0} → Coding K V → Table → K → Option V
 value_for c P k = option_map c.value_of (map_of P (c.key_bytes k))
+
+abbrev pub HasStored : {K V : Type 0} → Coding K V → List ℕ → K → V → Type 0
+HasStored c B k v = (b : List ℕ) × (v ≡ c.value_of b) × Stores c.format B (c.key_bytes k) b

@@ -1,12 +1,13 @@
 //! The table over bytes of any kind.
-ghost use Rattle.std.specs.Prelude.{◌≡◌, ℕ, ◌≤◌, ◌↔◌, length, IfOk, OnErr};
+ghost use Rattle.std.specs.Prelude.{◌≡◌, ℕ, ◌≤◌, ◌↔◌, length, IfOk, IfSome, OnErr};
 ghost use Rattle.std.specs.Result.{result_err};
 ghost use Rattle.odht_base.specs.Load.{factor_of, max_items};
 ghost use Rattle.odht_base.specs.Table.{Table, count, slot_count, fresh};
 ghost use Rattle.odht_base.specs.Insert.{put_view};
 ghost use Rattle.odht_base.specs.Shown.{stated_count};
 ghost use Rattle.odht_base.specs.Valid.{IsImage};
-ghost use Rattle.odht.specs.Coding.{value_for, encoded};
+ghost use Rattle.odht.specs.Coding.{value_for, encoded, HasStored};
+ghost use Rattle.odht.specs.Frame.{IsFramed};
 ghost use Rattle.odht.specs.Refusals.{new_refusal, view_refusal};
 
 use crate::bytes::{ByteStore, ByteStoreMut};
@@ -45,13 +46,15 @@ impl<C: Config, D: ByteStore> HashTable<C, D> {
         Ok(HashTable { allocation })
     }
 
-    /// The value of a key: on valid bytes that of the key's last insert.
+    /// The value of a key: on valid bytes that of the key's last insert, and on any bytes one that is stored beside this
+    /// very key.
     ///
     /// At most each slot is looked at once.
     pub fn get(&self, key: &C::Key) -> Option<C::Value>
         ensures on_valid { (P : Table)
             → IsImage ⟦<C as Coded>⟧.coding.format P self.now
             → result ≡ value_for ⟦<C as Coded>⟧.coding P key.now }
+        ensures on_any { IfSome result (λ v. HasStored ⟦<C as Coded>⟧.coding self.now key.now v) }
     {
         let (control, entries) = self.allocation.data_slices();
         let key = C::encode_key(key);
@@ -114,6 +117,9 @@ impl<C: Config, D: ByteStoreMut> HashTable<C, D> {
     ///
     /// `Full` where the table holds its maximum item count, or the search meets neither the key nor a free slot: then
     /// nothing changes. On valid bytes it comes exactly at the maximum, even where the key is there.
+    ///
+    /// On any bytes one value beside an equal key changes, or one entry is written with its tag into a slot that counted as
+    /// free and the count rises by one, and no other byte changes.
     pub fn insert(&mut self, key: &C::Key, value: &C::Value) -> Result<Option<C::Value>, Error>
         ensures ok { (P : Table)
             → IsImage ⟦<C as Coded>⟧.coding.format P self.old
@@ -121,6 +127,7 @@ impl<C: Config, D: ByteStoreMut> HashTable<C, D> {
         ensures full { (P : Table)
             → IsImage ⟦<C as Coded>⟧.coding.format P self.old
             → (result ≡ Err Error.Full) ↔ (count P ≡ max_items (slot_count P) P.factor) }
+        ensures frame { IsFramed ⟦<C as Coded>⟧.coding self.old key.now value.now result self.new }
         ensures only_full { OnErr result (result ≡ Err Error.Full) }
         ensures refused { OnErr result (self.new ≡ self.old) }
     {

@@ -1,5 +1,5 @@
 //! The search slot by slot along the probe order, and find and insert over it: the reference forms.
-ghost use Rattle.std.specs.Prelude.{◌≡◌, ◌+◌, ◌-◌, ◌*◌, ◌%◌, ◌<◌, ◌≤◌, ◌↔◌, ◌++◌, ⊤, length, slice_index, option_map, IfOk, OnErr, IsTrue};
+ghost use Rattle.std.specs.Prelude.{◌≡◌, ◌+◌, ◌-◌, ◌*◌, ◌%◌, ◌<◌, ◌≤◌, ◌↔◌, ◌++◌, ⊤, ℕ, length, slice_index, option_map, IfSome, IfOk, OnErr, IsTrue};
 ghost use Rattle.odht_base.specs.Bytes.{overwritten_at};
 ghost use Rattle.odht_base.specs.Load.{IsSlotCount};
 ghost use Rattle.odht_base.specs.Format.{format_of, tag};
@@ -8,9 +8,10 @@ ghost use Rattle.odht_base.specs.Table.{Pair, Table};
 ghost use Rattle.odht_base.specs.Map.{map_of};
 ghost use Rattle.odht_base.specs.Insert.{place};
 ghost use Rattle.odht_base.specs.Valid.{IsPartsOf};
-ghost use Rattle.odht_base.specs.Shown.{counts_as_free, slot_key};
+ghost use Rattle.odht_base.specs.Shown.{counts_as_free, slot_key, slot_value};
 ghost use Rattle.odht_base.specs.Writes.{tagged};
 ghost use Rattle.odht.specs.Answers.{answer, MatchSearch};
+ghost use Rattle.odht.specs.Frame.{IsPartsFramed};
 
 use super::{Entries, EntryMetadata, Search};
 use crate::bytes::{ByteArray, write_slice};
@@ -20,7 +21,8 @@ use crate::swisstable_group_query::REFERENCE_GROUP_SIZE;
 
 /// The value beside the key, looked for slot by slot along the probe order.
 ///
-/// On the parts of a table whose keys are all reached it is the map's answer. At most each slot is looked at once.
+/// On the parts of a table whose keys are all reached it is the map's answer, and on any parts a value that is stored
+/// beside this very key. At most each slot is looked at once.
 pub fn plain_find<K: ByteArray, V: ByteArray, H: HashFn>(
     control: &[EntryMetadata],
     entries: &Entries<'_, K, V>,
@@ -34,6 +36,8 @@ pub fn plain_find<K: ByteArray, V: ByteArray, H: HashFn>(
     ensures on_placed { (P : Table)
         → IsPartsOf (format_of K.LEN V.LEN H.hash) P entries.now.bytes control.now
         → result ≡ option_map V.of_bytes (map_of P (K.bytes key.now)) }
+    ensures on_any { let F = format_of K.LEN V.LEN H.hash
+        in IfSome result (λ v. (i : ℕ) × (i < entries.now.slots) × (slot_key F entries.now.bytes i ≡ K.bytes key.now) × (v ≡ V.of_bytes (slot_value F entries.now.bytes i))) }
 {
     match plain_search::<K, V, H>(control, entries, key) {
         Search::Found(slot) => Some(entries.get(slot).value),
@@ -46,7 +50,8 @@ pub fn plain_find<K: ByteArray, V: ByteArray, H: HashFn>(
 /// tag, and for a slot below 16 the mirror. Answers the former value.
 ///
 /// On the parts of a table whose keys are all reached it leaves those of the table with the pair placed, and answers
-/// `Full`, with nothing changed, exactly where there is no place.
+/// `Full`, with nothing changed, exactly where there is no place. On any parts one value beside an equal key changes, or
+/// one entry is written with its tag into a slot that counted as free, and nothing else.
 pub fn plain_insert<K: ByteArray, V: ByteArray, H: HashFn>(
     control: &mut [EntryMetadata],
     entries: &mut [u8],
@@ -66,6 +71,7 @@ pub fn plain_insert<K: ByteArray, V: ByteArray, H: HashFn>(
         in (P : Table)
         → IsPartsOf F P entries.old control.old
         → (result ≡ Err Error.Full) ↔ (place F P (record { key = K.bytes key; value = V.bytes value }) ≡ None) }
+    ensures frame { IsPartsFramed (format_of K.LEN V.LEN H.hash) V.of_bytes entries.old control.old (record { key = K.bytes key; value = V.bytes value }) result entries.new control.new }
     ensures only_full { OnErr result (result ≡ Err Error.Full) }
     ensures refused_control { OnErr result (control.new ≡ control.old) }
     ensures refused_entries { OnErr result (entries.new ≡ entries.old) }

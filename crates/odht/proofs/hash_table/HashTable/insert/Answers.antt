@@ -1,11 +1,13 @@
-use Rattle.std.proofs.Common.{◌≡◌, ◌+◌, ◌∙◌, sym, ap, subst, refl, arith, Some}
+use Rattle.std.proofs.Common.{◌≡◌, ◌+◌, ◌∙◌, sym, ap, subst, refl, arith, Some, None, Ok, Err, ◌<◌, inl, IsTrue, slice_index}
 use Rattle.std.specs.Prelude.{option_map}
 use Rattle.odht_base.specs.Format.{Format, format_of, tag}
 use Rattle.odht_base.specs.Load.{max_items}
 use Rattle.odht_base.specs.Table.{Pair, count, slot_count}
-use Rattle.odht_base.specs.Shown.{stated_count, stated_slots, stated_factor}
+use Rattle.odht_base.specs.Shown.{stated_count, stated_slots, stated_factor, entries_of, controls_of, counts_as_free, key_at, value_at, slot_key, slot_value}
 use Rattle.odht_base.specs.Valid.{IsPairOf}
 use Rattle.odht_base.specs.Writes.{with_value, with_count, with_entry, with_tag}
+use Rattle.odht.specs.Frame.{InsertFrame, CountsAsFree}
+use Rattle.odht.specs.declared.error.Error.TheVariants.{Full}
 use Rattle.odht.proofs.lemmas.Lookups.{IsFoundAt, IsFreeAt, answer-Found, answer-Free, answer-Neither}
 use Rattle.odht.proofs.lemmas.Inserts.{found_value, found_key}
 use Rattle.odht.proofs.lemmas.ViewInserts.{IsPut, count_stated, max_stated, never_nowhere, found_put, free_put}
@@ -104,3 +106,45 @@ returns-in-Neither-clause-full g c P is =
     let F : Format = format_of g.C.EncodedKey.ByteArray.LEN g.C.EncodedValue.ByteArray.LEN g.C.H.HashFn.hash in
     let parts = c.data_slices-entries.ensures.parts P (record { valid = is.valid; bytes = c.self.view_is ∙ is.bytes }) in
     absurd (never_nowhere F P c.args.self.now is _ (answer-Neither F P _ is.valid.placed (c.in-Neither.ensures.on_placed P parts)))
+
+pub returns-then-count-max-clause-frame : goal.returns-then-count-max-clause-frame
+returns-then-count-max-clause-frame g c = (Err Full, refl, InsertFrame.full)
+
+pub returns-in-Found-clause-frame : goal.returns-in-Found-clause-frame
+returns-in-Found-clause-frame g c =
+    let F : Format = format_of g.C.EncodedKey.ByteArray.LEN g.C.EncodedValue.ByteArray.LEN g.C.H.HashFn.hash in
+    let B = c.args.self.now in
+    let p : Pair = record { key = g.C.EncodedKey.ByteArray.bytes (g.C.Config.encode_key c.args.key.now); value = g.C.EncodedValue.ByteArray.bytes (g.C.Config.encode_value c.args.value.now) } in
+    let slot = c.in-Found.slot in
+    let entries = c.data_slices-entries.ensures.entries ∙ ap (entries_of F) c.self.view_is in
+    let within : slot < stated_slots B = subst (λ n. slot < n) (c.data_slices-entries.ensures.slots ∙ ap stated_slots c.self.view_is) c.in-Found.ensures.slot.0 in
+    let key : key_at F B slot ≡ p.key = ap (λ e. slot_key F e slot) (sym entries) ∙ c.in-Found.ensures.slot.1 ∙ ap g.C.EncodedKey.ByteArray.bytes c.encode_key-key.ensures in
+    let old = c.decode_value-old.ensures ∙ ap g.C.Config.decode_value (c.get.ensures.value ∙ ap (λ e. g.C.EncodedValue.ByteArray.of_bytes (slot_value F e slot)) entries) in
+    let value : g.C.EncodedValue.ByteArray.bytes c.encode_value-value.result ≡ p.value = ap g.C.EncodedValue.ByteArray.bytes c.encode_value-value.ensures in
+    let written : c.write_value.new.self ≡ with_value F B slot p.value = c.write_value.ensures.bytes ∙ (λ i. with_value F (c.self.view_is i) slot (value i)) in (
+      Ok (Some (value_at F B slot)),
+      ap (λ o. Ok (Some o)) old,
+      subst (InsertFrame F B p (Ok (Some (value_at F B slot)))) (sym written) (InsertFrame.overwrote slot within key),
+    )
+
+pub returns-in-Free-clause-frame : goal.returns-in-Free-clause-frame
+returns-in-Free-clause-frame g c =
+    let F : Format = format_of g.C.EncodedKey.ByteArray.LEN g.C.EncodedValue.ByteArray.LEN g.C.H.HashFn.hash in
+    let B = c.args.self.now in
+    let p : Pair = record { key = g.C.EncodedKey.ByteArray.bytes (g.C.Config.encode_key c.args.key.now); value = g.C.EncodedValue.ByteArray.bytes (g.C.Config.encode_value c.args.value.now) } in
+    let slot = c.in-Free.slot in
+    let header : c.header-header.result ≡ B = c.header-header.ensures.bytes ∙ c.self.view_is in
+    let stated : c.item_count-count.result ≡ stated_count B = c.item_count-count.ensures ∙ ap stated_count header in
+    let within : slot < stated_slots B = subst (λ n. slot < n) (c.data_slices-entries.ensures.slots ∙ ap stated_slots c.self.view_is) c.in-Free.ensures.slot.0 in
+    let free : CountsAsFree (controls_of F B) slot = inl (subst (λ b. IsTrue (counts_as_free (slice_index b slot))) (c.data_slices-entries.ensures.control ∙ ap (controls_of F) c.self.view_is) c.in-Free.ensures.slot.1) in
+    let key : g.C.EncodedKey.ByteArray.bytes c.encode_key-key.result ≡ p.key = ap g.C.EncodedKey.ByteArray.bytes c.encode_key-key.ensures in
+    let value : g.C.EncodedValue.ByteArray.bytes c.encode_value-value.result ≡ p.value = ap g.C.EncodedValue.ByteArray.bytes c.encode_value-value.ensures in
+    let tagged : c.tag_of-tag.result ≡ tag F p.key = c.tag_of-tag.ensures ∙ ap (tag F) key in
+    let written : c.set_item_count.new.self ≡ with_count (with_tag F (stated_slots B) (with_entry F B slot p) slot (tag F p.key)) (stated_count B + 1) =
+    c.set_item_count.ensures
+    ∙ (λ i. with_count (c.write_entry.ensures.bytes i) (stated i + 1))
+    ∙ (λ i. with_count (with_tag F (stated_slots (c.self.view_is i)) (with_entry F (c.self.view_is i) slot (record { key = key i; value = value i })) slot (tagged i)) (stated_count B + 1)) in
+    (Ok None, refl, subst (InsertFrame F B p (Ok None)) (sym written) (InsertFrame.added slot within free))
+
+pub returns-in-Neither-clause-frame : goal.returns-in-Neither-clause-frame
+returns-in-Neither-clause-frame g c = (Err Full, refl, InsertFrame.full)
