@@ -29,3 +29,5 @@ pub mod NewTables
 pub mod NewRefusals
 -- what an insert leaves on the bytes of a valid table below its maximum
 pub mod ViewInserts
+-- what is written of bytes in the text of an error
+pub mod ErrorTexts

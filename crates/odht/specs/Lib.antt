@@ -9,3 +9,5 @@ pub mod Answers
 pub mod Refusals
 -- what an insert may do to bytes that a view accepts, valid or not
 pub mod Frame
+-- what is written of an error
+pub mod ErrorTexts

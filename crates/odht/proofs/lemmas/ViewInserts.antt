@@ -23,15 +23,23 @@ IsPut F P p B = (Q : Table) × (put_view F P p ≡ Some Q) × IsImage F Q B
 -- ---- what the header of a valid table's bytes states
 module _ (F : Format) (P : Table) (B : List ℕ) (is : IsImage F P B) where
   -- the count
-  pub count_stated : stated_count B ≡ count P
+  count_stated : stated_count B ≡ count P
   count_stated = ap stated_count is.bytes ∙ stated_count-image F P (IsSized-IsPlaced F P is.valid.placed)
 
   -- and the maximum that its slot count and load factor give
-  pub max_stated : max_items (stated_slots B) (stated_factor B) ≡ max_items (slot_count P) P.factor
+  max_stated : max_items (stated_slots B) (stated_factor B) ≡ max_items (slot_count P) P.factor
   max_stated =
       let slots = ap stated_slots is.bytes ∙ stated_slots-image F P (IsSized-IsPlaced F P is.valid.placed) in
       let factor = ap stated_factor is.bytes ∙ stated_factor-image F P is.valid.factor_high in
       λ i. max_items (slots i) (factor i)
+
+  -- so the numbers that an insert reads are the table's own
+  pub numbers_read : {header : List ℕ} {items most slots factor : ℕ} → header ≡ B → items ≡ stated_count header → slots ≡ stated_slots header → factor ≡ stated_factor header
+      → most ≡ max_items slots factor → (items ≡ count P) × (most ≡ max_items (slot_count P) P.factor)
+  numbers_read at n s f m = (
+    n ∙ ap stated_count at ∙ count_stated,
+    m ∙ (λ i. max_items ((s ∙ ap stated_slots at) i) ((f ∙ ap stated_factor at) i)) ∙ max_stated,
+  )
 
   -- a search that ends nowhere is none of a valid table
   pub never_nowhere : (k : List ℕ) → IsNowhere F P k → ⊥

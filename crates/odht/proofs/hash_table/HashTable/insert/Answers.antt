@@ -10,32 +10,22 @@ use Rattle.odht.specs.Frame.{InsertFrame, CountsAsFree}
 use Rattle.odht.specs.declared.error.Error.TheVariants.{Full}
 use Rattle.odht.proofs.lemmas.Lookups.{IsFoundAt, IsFreeAt, answer-Found, answer-Free, answer-Neither}
 use Rattle.odht.proofs.lemmas.Inserts.{found_value, found_key}
-use Rattle.odht.proofs.lemmas.ViewInserts.{IsPut, count_stated, max_stated, never_nowhere, found_put, free_put}
+use Rattle.odht.proofs.lemmas.ViewInserts.{IsPut, numbers_read, never_nowhere, found_put, free_put}
 use Rattle.odht.proofs.hash_table.HashTable.insert.Goals as goal
 
 pub returns-then-count-max-clause-full : goal.returns-then-count-max-clause-full
 returns-then-count-max-clause-full g c P is =
     let F : Format = format_of g.C.EncodedKey.ByteArray.LEN g.C.EncodedValue.ByteArray.LEN g.C.H.HashFn.hash in
     let B = c.args.self.now in
-    let header : c.header-header.result ≡ B = c.header-header.ensures.bytes ∙ c.self.view_is in
-    let items : c.item_count-count.result ≡ count P = c.item_count-count.ensures ∙ ap stated_count header ∙ count_stated F P B is in
-    let most : c.max_item_count_for-max.result ≡ max_items (slot_count P) P.factor =
-    c.max_item_count_for-max.ensures.value
-    ∙ (λ i. max_items ((c.slot_count.ensures ∙ ap stated_slots header) i) ((c.max_load_factor.ensures ∙ ap stated_factor header) i))
-    ∙ max_stated F P B is in
-    let full : count P ≡ max_items (slot_count P) P.factor = omega (arith, items, most, is.valid.room, c.if-count-max.true) in
+    let read = numbers_read F P B is (c.header-header.ensures.bytes ∙ c.self.view_is) c.item_count-count.ensures c.slot_count.ensures c.max_load_factor.ensures c.max_item_count_for-max.ensures.value in
+    let full : count P ≡ max_items (slot_count P) P.factor = omega (arith, read, is.valid.room, c.if-count-max.true) in
     (λ e. full, λ e. refl)
 
 pub returns-in-Found-clause-ok : goal.returns-in-Found-clause-ok
 returns-in-Found-clause-ok g c P is =
     let F : Format = format_of g.C.EncodedKey.ByteArray.LEN g.C.EncodedValue.ByteArray.LEN g.C.H.HashFn.hash in
     let B = c.args.self.now in
-    let header : c.header-header.result ≡ B = c.header-header.ensures.bytes ∙ c.self.view_is in
-    let items : c.item_count-count.result ≡ count P = c.item_count-count.ensures ∙ ap stated_count header ∙ count_stated F P B is in
-    let most : c.max_item_count_for-max.result ≡ max_items (slot_count P) P.factor =
-    c.max_item_count_for-max.ensures.value
-    ∙ (λ i. max_items ((c.slot_count.ensures ∙ ap stated_slots header) i) ((c.max_load_factor.ensures ∙ ap stated_factor header) i))
-    ∙ max_stated F P B is in
+    let read = numbers_read F P B is (c.header-header.ensures.bytes ∙ c.self.view_is) c.item_count-count.ensures c.slot_count.ensures c.max_load_factor.ensures c.max_item_count_for-max.ensures.value in
     let p : Pair = record { key = g.C.EncodedKey.ByteArray.bytes (g.C.Config.encode_key c.args.key.now); value = g.C.EncodedValue.ByteArray.bytes (g.C.Config.encode_value c.args.value.now) } in
     let slot = c.in-Found.slot in
     let parts = c.data_slices-entries.ensures.parts P (record { valid = is.valid; bytes = c.self.view_is ∙ is.bytes }) in
@@ -46,20 +36,15 @@ returns-in-Found-clause-ok g c P is =
     let old = c.decode_value-old.ensures ∙ ap g.C.Config.decode_value (c.get.ensures.value ∙ ap g.C.EncodedValue.ByteArray.of_bytes (found_value F P _ _ parts p.key slot at)) in
     let written : c.write_value.new.self ≡ with_value F B slot p.value = c.write_value.ensures.bytes ∙ (λ i. with_value F (c.self.view_is i) slot (value i)) in (
       ap Some old ∙ sym (ap (option_map (λ b. g.C.Config.decode_value (g.C.EncodedValue.ByteArray.of_bytes b))) at.value),
-      subst (IsPut F P p) (sym written) (found_put F P B is (omega (arith, items, most, c.if-count-max.false)) p fits slot at),
+      subst (IsPut F P p) (sym written) (found_put F P B is (omega (arith, read, c.if-count-max.false)) p fits slot at),
     )
 
 pub returns-in-Found-clause-full : goal.returns-in-Found-clause-full
 returns-in-Found-clause-full g c P is =
     let F : Format = format_of g.C.EncodedKey.ByteArray.LEN g.C.EncodedValue.ByteArray.LEN g.C.H.HashFn.hash in
     let B = c.args.self.now in
-    let header : c.header-header.result ≡ B = c.header-header.ensures.bytes ∙ c.self.view_is in
-    let items : c.item_count-count.result ≡ count P = c.item_count-count.ensures ∙ ap stated_count header ∙ count_stated F P B is in
-    let most : c.max_item_count_for-max.result ≡ max_items (slot_count P) P.factor =
-    c.max_item_count_for-max.ensures.value
-    ∙ (λ i. max_items ((c.slot_count.ensures ∙ ap stated_slots header) i) ((c.max_load_factor.ensures ∙ ap stated_factor header) i))
-    ∙ max_stated F P B is in
-    (λ e. cc, λ e. absurd (omega (arith, items, most, e, c.if-count-max.false)))
+    let read = numbers_read F P B is (c.header-header.ensures.bytes ∙ c.self.view_is) c.item_count-count.ensures c.slot_count.ensures c.max_load_factor.ensures c.max_item_count_for-max.ensures.value in
+    (λ e. cc, λ e. absurd (omega (arith, read, e, c.if-count-max.false)))
 
 pub returns-in-Free-clause-ok : goal.returns-in-Free-clause-ok
 returns-in-Free-clause-ok g c P is =
@@ -67,11 +52,7 @@ returns-in-Free-clause-ok g c P is =
     let B = c.args.self.now in
     let header : c.header-header.result ≡ B = c.header-header.ensures.bytes ∙ c.self.view_is in
     let stated : c.item_count-count.result ≡ stated_count B = c.item_count-count.ensures ∙ ap stated_count header in
-    let items : c.item_count-count.result ≡ count P = stated ∙ count_stated F P B is in
-    let most : c.max_item_count_for-max.result ≡ max_items (slot_count P) P.factor =
-    c.max_item_count_for-max.ensures.value
-    ∙ (λ i. max_items ((c.slot_count.ensures ∙ ap stated_slots header) i) ((c.max_load_factor.ensures ∙ ap stated_factor header) i))
-    ∙ max_stated F P B is in
+    let read = numbers_read F P B is (c.header-header.ensures.bytes ∙ c.self.view_is) c.item_count-count.ensures c.slot_count.ensures c.max_load_factor.ensures c.max_item_count_for-max.ensures.value in
     let p : Pair = record { key = g.C.EncodedKey.ByteArray.bytes (g.C.Config.encode_key c.args.key.now); value = g.C.EncodedValue.ByteArray.bytes (g.C.Config.encode_value c.args.value.now) } in
     let slot = c.in-Free.slot in
     let parts = c.data_slices-entries.ensures.parts P (record { valid = is.valid; bytes = c.self.view_is ∙ is.bytes }) in
@@ -86,20 +67,15 @@ returns-in-Free-clause-ok g c P is =
     ∙ (λ i. with_count (c.write_entry.ensures.bytes i) (stated i + 1))
     ∙ (λ i. with_count (with_tag F (stated_slots (c.self.view_is i)) (with_entry F (c.self.view_is i) slot (record { key = key i; value = value i })) slot (tagged i)) (stated_count B + 1)) in (
       sym (ap (option_map (λ b. g.C.Config.decode_value (g.C.EncodedValue.ByteArray.of_bytes b))) at.value),
-      subst (IsPut F P p) (sym written) (free_put F P B is (omega (arith, items, most, c.if-count-max.false)) p fits slot at),
+      subst (IsPut F P p) (sym written) (free_put F P B is (omega (arith, read, c.if-count-max.false)) p fits slot at),
     )
 
 pub returns-in-Free-clause-full : goal.returns-in-Free-clause-full
 returns-in-Free-clause-full g c P is =
     let F : Format = format_of g.C.EncodedKey.ByteArray.LEN g.C.EncodedValue.ByteArray.LEN g.C.H.HashFn.hash in
     let B = c.args.self.now in
-    let header : c.header-header.result ≡ B = c.header-header.ensures.bytes ∙ c.self.view_is in
-    let items : c.item_count-count.result ≡ count P = c.item_count-count.ensures ∙ ap stated_count header ∙ count_stated F P B is in
-    let most : c.max_item_count_for-max.result ≡ max_items (slot_count P) P.factor =
-    c.max_item_count_for-max.ensures.value
-    ∙ (λ i. max_items ((c.slot_count.ensures ∙ ap stated_slots header) i) ((c.max_load_factor.ensures ∙ ap stated_factor header) i))
-    ∙ max_stated F P B is in
-    (λ e. cc, λ e. absurd (omega (arith, items, most, e, c.if-count-max.false)))
+    let read = numbers_read F P B is (c.header-header.ensures.bytes ∙ c.self.view_is) c.item_count-count.ensures c.slot_count.ensures c.max_load_factor.ensures c.max_item_count_for-max.ensures.value in
+    (λ e. cc, λ e. absurd (omega (arith, read, e, c.if-count-max.false)))
 
 pub returns-in-Neither-clause-full : goal.returns-in-Neither-clause-full
 returns-in-Neither-clause-full g c P is =
