@@ -19,6 +19,8 @@ pub mod HeaderChecks
 pub mod Accepted
 -- what bytes are refused for when they are opened
 pub mod Openings
+-- valid bytes are never refused
+pub mod ImagesOpen
 -- a write of one byte again and again
 pub mod Fills
 -- a header that is written field by field

@@ -1,5 +1,5 @@
 //! The table over bytes of any kind.
-ghost use Rattle.std.specs.Prelude.{◌≡◌, ℕ, ◌≤◌, ◌↔◌, length, IfOk, IfSome, OnErr};
+ghost use Rattle.std.specs.Prelude.{◌≡◌, ℕ, ◌≤◌, ◌↔◌, length, IfOk, IfSome, IsOk, OnErr};
 ghost use Rattle.std.specs.Result.{result_err};
 ghost use Rattle.odht_base.specs.Load.{factor_of, max_items};
 ghost use Rattle.odht_base.specs.Table.{Table, count, slot_count, fresh};
@@ -41,6 +41,7 @@ impl<C: Config, D: ByteStore> HashTable<C, D> {
     pub fn from_raw_bytes(data: D) -> Result<Self, Error>
         ensures ok { IfOk result (λ t. t ≡ D.bytes «data») }
         ensures err { result_err result ≡ view_refusal ⟦<C as Coded>⟧.coding.format (D.bytes «data») }
+        ensures valid { (P : Table) → IsImage ⟦<C as Coded>⟧.coding.format P (D.bytes «data») → IsOk result }
     {
         let allocation = Allocation::from_raw_bytes(data)?;
         Ok(HashTable { allocation })

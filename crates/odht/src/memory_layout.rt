@@ -1,7 +1,7 @@
 //! The bytes of a table: the header, the entries, and the control bytes with their mirror.
 //!
 //! Offsets and lengths are those of docs/FORMAT.md, "Layout".
-ghost use Rattle.std.specs.Prelude.{◌≡◌, ◌+◌, ◌-◌, ◌*◌, ◌<◌, ◌≤◌, ◌^◌, length, take, replicate, MatchOption, IfSome};
+ghost use Rattle.std.specs.Prelude.{◌≡◌, ◌+◌, ◌-◌, ◌*◌, ◌<◌, ◌≤◌, ◌^◌, length, take, replicate, MatchOption, IfSome, IsOk};
 ghost use Rattle.odht_base.specs.Numbers.{IsBytes};
 ghost use Rattle.odht_base.specs.Bytes.{bytes_at, overwritten_at};
 ghost use Rattle.odht_base.specs.Load.{IsSlotCount};
@@ -304,6 +304,7 @@ impl<C: Config, M: ByteStore> Allocation<C, M> {
     pub fn from_raw_bytes(data: M) -> Result<Self, Error>
         ensures ok { IfOk result (λ a. a ≡ M.bytes «data») }
         ensures err { result_err result ≡ view_refusal ⟦<C as Coded>⟧.coding.format (M.bytes «data») }
+        ensures valid { (P : Table) → IsImage ⟦<C as Coded>⟧.coding.format P (M.bytes «data») → IsOk result }
     {
         let bytes = data.bytes();
         let found = bytes.len();

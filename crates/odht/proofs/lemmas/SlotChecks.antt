@@ -42,11 +42,17 @@ module _ (F : Format) (es ctrl : List ℕ) (i : ℕ) where
   pub filled_refusal : counts_as_free (slice_index ctrl i) ≡ false → hashes_refusal_at F es ctrl i ≡ (differs (slice_index ctrl i) (tag F (slot_key F es i)) gives ControlMismatch i (tag F (slot_key F es i)) (slice_index ctrl i))
   filled_refusal h = refusal_is ∙ rw h refl
 
+  -- any other is not refused where its entry is zeros
+  pub zero_entry_passes : counts_as_free (slice_index ctrl i) ≡ true → (n : ℕ) → slot_entry F es i ≡ replicate n 0 → hashes_refusal_at F es ctrl i ≡ None
+  zero_entry_passes h n e =
+      let zeros : list_all is_zero (slot_entry F es i) ≡ true = ap (list_all is_zero) e ∙ list_all-zeros n in
+      refusal_is ∙ rw (h, zeros) refl
+
   -- an entry is zero where both its ends are
   zero_ends : list_all is_zero (slot_entry F es i) ≡ (list_all is_zero (slot_key F es i) && list_all is_zero (slot_value F es i))
   zero_ends = ap (list_all is_zero) (sym (take-append-drop F.key_len (slot_entry F es i))) ∙ list_all-append is_zero (slot_key F es i) (slot_value F es i)
 
-  -- and any other is not refused where key and value are zeros
+  -- so it is not refused where key and value are zeros
   pub zeros_pass : (m n : ℕ) → counts_as_free (slice_index ctrl i) ≡ true → slot_key F es i ≡ replicate m 0 → slot_value F es i ≡ replicate n 0 → hashes_refusal_at F es ctrl i ≡ None
   zeros_pass m n h k v =
       let key : list_all is_zero (slot_key F es i) ≡ true = ap (list_all is_zero) k ∙ list_all-zeros m in

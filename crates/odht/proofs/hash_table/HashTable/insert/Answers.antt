@@ -3,7 +3,7 @@ use Rattle.std.specs.Prelude.{option_map}
 use Rattle.odht_base.specs.Format.{Format, format_of, tag}
 use Rattle.odht_base.specs.Load.{max_items}
 use Rattle.odht_base.specs.Table.{Pair, count, slot_count}
-use Rattle.odht_base.specs.Shown.{stated_count, stated_slots, stated_factor, entries_of, controls_of, counts_as_free, key_at, value_at, slot_key, slot_value}
+use Rattle.odht_base.specs.Shown.{stated_count, stated_slots, entries_of, controls_of, counts_as_free, key_at, value_at, slot_key, slot_value}
 use Rattle.odht_base.specs.Valid.{IsPairOf}
 use Rattle.odht_base.specs.Writes.{with_value, with_count, with_entry, with_tag}
 use Rattle.odht.specs.Frame.{InsertFrame, CountsAsFree}

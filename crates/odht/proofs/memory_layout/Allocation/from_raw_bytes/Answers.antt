@@ -7,6 +7,8 @@ use Rattle.odht.specs.Frame.{IsAccepted}
 use Rattle.odht.specs.Parts.{TableParts}
 use Rattle.odht.specs.Refusals.{checked, header_refusal, hashes_refusal}
 use Rattle.odht.proofs.lemmas.FirstErrors.{Ok-checked, Err-checked}
+use Rattle.odht.proofs.lemmas.Formats.{IsFormat-format_of}
+use Rattle.odht.proofs.lemmas.ImagesOpen.{image_is_accepted}
 use Rattle.odht.proofs.lemmas.Openings.{view_refusal-short, view_refusal-header, accepted, view_refusal-slots}
 use Rattle.odht.proofs.memory_layout.Allocation.from_raw_bytes.Goals as goal
 
@@ -64,3 +66,18 @@ returns-clause-err g c =
     let is : IsAccepted F B = accepted F B long (Ok-checked _ (sym c.in_ok-sanity_check.was ∙ header)) in
     let slots : c.sanity_check_hashes.result ≡ checked (hashes_refusal F (entries_of F B) (controls_of F B) 10) = c.sanity_check_hashes.ensures ∙ ap (λ (t : TableParts). checked (hashes_refusal F t.entries.bytes t.control 10)) c.new-table.ensures ∙ (λ i. checked (hashes_refusal F (c.data_slices-entries.ensures.entries i) (c.data_slices-entries.ensures.control i) 10)) in
     sym (view_refusal-slots F B is ∙ Ok-checked _ (sym c.in_ok-sanity_check_hashes.was ∙ slots))
+
+pub returns-then-found-lt-HEADER_SIZE-clause-valid : goal.returns-then-found-lt-HEADER_SIZE-clause-valid
+returns-then-found-lt-HEADER_SIZE-clause-valid g c P is =
+    let f = IsFormat-format_of _ _ _ _ g.met.C.Config.key_fits g.met.C.Config.value_fits g.met.C.Config.key_hashes g.met.C.H.HashFn.fits in
+    image_is_accepted {T = Unit {0}} _ f P (g.M.ByteStore.bytes c.args.data) is (Err (TooShort (length c.bytes-bytes.result.now))) (returns-then-found-lt-HEADER_SIZE-clause-err g c)
+
+pub returns-in_err-sanity_check-clause-valid : goal.returns-in_err-sanity_check-clause-valid
+returns-in_err-sanity_check-clause-valid g c P is =
+    let f = IsFormat-format_of _ _ _ _ g.met.C.Config.key_fits g.met.C.Config.value_fits g.met.C.Config.key_hashes g.met.C.H.HashFn.fits in
+    image_is_accepted _ f P (g.M.ByteStore.bytes c.args.data) is c.from_residual.result (returns-in_err-sanity_check-clause-err g c)
+
+pub returns-in_err-sanity_check_hashes-clause-valid : goal.returns-in_err-sanity_check_hashes-clause-valid
+returns-in_err-sanity_check_hashes-clause-valid g c P is =
+    let f = IsFormat-format_of _ _ _ _ g.met.C.Config.key_fits g.met.C.Config.value_fits g.met.C.Config.key_hashes g.met.C.H.HashFn.fits in
+    image_is_accepted _ f P (g.M.ByteStore.bytes c.args.data) is c.from_residual-in_err-sanity_check_hashes.result (returns-in_err-sanity_check_hashes-clause-err g c)
