@@ -2,7 +2,8 @@
 --     IsAccepted F B       the header and the length fit
 --     CountsAsFree ctrl i  the control byte of slot i, or for a slot below 16 its mirror, counts as free
 --     InsertFrame F B p r B'              an insert of p, a pair of F, may answer r and leave B'
---     IsFramed c B k v r B'               the same of a key and a value, with the answer decoded
+--     IsBytesFramed F f B p r B'          the same with the answer decoded by f
+--     IsFramed c B k v r B'               the same of a key and a value
 --     PartsFrame F es ctrl p r es' ctrl'  the same of the parts
 --     IsPartsFramed F f es ctrl p r es' ctrl'  the same with the answer decoded by f
 use Rattle.std.specs.Prelude.{◌≡◌, ℕ, ◌+◌, ◌-◌, ◌*◌, ◌<◌, length, slice_index, List, ◌++◌, Option, option_map, Some, None, Result, Ok, Err, ◌⊎◌, IsTrue}
@@ -28,9 +29,11 @@ pub data InsertFrame (F : Format) (B : List ℕ) (p : Pair) : Result (Option (Li
   overwrote : (i : ℕ) → i < stated_slots B → key_at F B i ≡ p.key → InsertFrame F B p (Ok (Some (value_at F B i))) (with_value F B i p.value)
   added : (i : ℕ) → i < stated_slots B → CountsAsFree (controls_of F B) i → InsertFrame F B p (Ok None) (with_count (with_pair F (stated_slots B) B i p) (stated_count B + 1))
 
+abbrev pub IsBytesFramed : {V : Type 0} → Format → (List ℕ → V) → List ℕ → Pair → Result (Option V) Error → List ℕ → Type 0
+IsBytesFramed F f B p r B' = (a : Result (Option (List ℕ)) Error) × (r ≡ result_map_both (option_map f) (λ e. e) a) × InsertFrame F B p a B'
+
 abbrev pub IsFramed : {K V : Type 0} → Coding K V → List ℕ → K → V → Result (Option V) Error → List ℕ → Type 0
-IsFramed c B k v r C =
-    (a : Result (Option (List ℕ)) Error) × (r ≡ result_map_both (option_map c.value_of) (λ e. e) a) × InsertFrame c.format B (encoded c k v) a C
+IsFramed c B k v r B' = IsBytesFramed c.format c.value_of B (encoded c k v) r B'
 
 pub data PartsFrame (F : Format) (es ctrl : List ℕ) (p : Pair) : Result (Option (List ℕ)) Error → List ℕ → List ℕ → Type 0 where
   full : PartsFrame F es ctrl p (Err Full) es ctrl

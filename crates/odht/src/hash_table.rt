@@ -1,18 +1,20 @@
 //! The table over bytes of any kind.
-ghost use Rattle.std.specs.Prelude.{◌≡◌, ℕ, ◌≤◌, ◌↔◌, length, IfOk, IfSome, IsOk, OnErr};
+ghost use Rattle.std.specs.Prelude.{◌≡◌, ℕ, ◌≤◌, ◌↔◌, length, option_map, IfOk, IfSome, IsOk, OnErr};
 ghost use Rattle.std.specs.Result.{result_err};
 ghost use Rattle.odht_base.specs.Load.{factor_of, max_items};
 ghost use Rattle.odht_base.specs.Table.{Table, count, slot_count, fresh};
+ghost use Rattle.odht_base.specs.Map.{map_of};
 ghost use Rattle.odht_base.specs.Insert.{put_view};
 ghost use Rattle.odht_base.specs.Shown.{stated_count};
 ghost use Rattle.odht_base.specs.Valid.{IsImage};
 ghost use Rattle.odht.specs.Coding.{value_for, encoded, HasStored};
-ghost use Rattle.odht.specs.Frame.{IsFramed};
+ghost use Rattle.odht.specs.Frame.{IsFramed, IsBytesFramed};
 ghost use Rattle.odht.specs.Refusals.{new_refusal, view_refusal};
 
-use crate::bytes::{ByteStore, ByteStoreMut};
+use crate::bytes::{ByteArray, ByteStore, ByteStoreMut};
 use crate::config::{Coded, Config};
 use crate::error::Error;
+use crate::hash::HashFn;
 use crate::load::{Factor, max_item_count_for, slots_needed};
 use crate::memory_layout::{self, Allocation};
 use crate::raw_table::{Search, plain_find, plain_search, tag_of};
@@ -132,24 +134,49 @@ impl<C: Config, D: ByteStoreMut> HashTable<C, D> {
         ensures only_full { OnErr result (result ≡ Err Error.Full) }
         ensures refused { OnErr result (self.new ≡ self.old) }
     {
+        let key = C::encode_key(key);
+        let value = C::encode_value(value);
+        match self.insert_encoded(&key, &value) {
+            Ok(Some(old)) => Ok(Some(C::decode_value(&old))),
+            Ok(None) => Ok(None),
+            Err(refused) => Err(refused),
+        }
+    }
+
+    /// `insert` of a pair that is encoded, with the former value as it stood in the bytes.
+    #[inline]
+    pub(crate) fn insert_encoded(
+        &mut self,
+        key: &C::EncodedKey,
+        value: &C::EncodedValue,
+    ) -> Result<Option<C::EncodedValue>, Error>
+        ensures ok { let F = ⟦<C as Coded>⟧.coding.format
+            in (P : Table)
+            → IsImage F P self.old
+            → IfOk result (λ old. (old ≡ option_map C.EncodedValue.of_bytes (map_of P (C.EncodedKey.bytes key.now))) × ((Q : Table) × (put_view F P (record { key = C.EncodedKey.bytes key.now; value = C.EncodedValue.bytes value.now }) ≡ Some Q) × IsImage F Q self.new)) }
+        ensures full { (P : Table)
+            → IsImage ⟦<C as Coded>⟧.coding.format P self.old
+            → (result ≡ Err Error.Full) ↔ (count P ≡ max_items (slot_count P) P.factor) }
+        ensures frame { IsBytesFramed ⟦<C as Coded>⟧.coding.format C.EncodedValue.of_bytes self.old (record { key = C.EncodedKey.bytes key.now; value = C.EncodedValue.bytes value.now }) result self.new }
+        ensures only_full { OnErr result (result ≡ Err Error.Full) }
+        ensures refused { OnErr result (self.new ≡ self.old) }
+    {
         let header = self.allocation.header();
         let count = header.item_count();
         let max = max_item_count_for(header.slot_count(), header.max_load_factor());
         if count >= max {
             return Err(Error::Full);
         }
-        let key = C::encode_key(key);
-        let value = C::encode_value(value);
+        let hash = C::H::hash(key.as_slice());
         let (control, entries) = self.allocation.data_slices();
-        match plain_search::<C::EncodedKey, C::EncodedValue, C::H>(control, &entries, &key) {
+        match plain_search::<C::EncodedKey, C::EncodedValue, C::H>(control, &entries, key, hash) {
             Search::Found(slot) => {
-                let old = C::decode_value(&entries.get(slot).value);
-                self.allocation.write_value(slot, &value);
+                let old = entries.get(slot).value;
+                self.allocation.write_value(slot, value);
                 Ok(Some(old))
             }
             Search::Free(slot) => {
-                let tag = tag_of::<C::EncodedKey, C::H>(&key);
-                self.allocation.write_entry(slot, &key, &value, tag);
+                self.allocation.write_entry(slot, key, value, tag_of(hash));
                 self.allocation.set_item_count(count + 1);
                 Ok(None)
             }

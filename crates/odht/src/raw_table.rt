@@ -169,7 +169,7 @@ impl<'a, K: ByteArray, V: ByteArray, H: HashFn> RawTable<'a, K, V, H> {
             }
             return Err(Error::NonZeroEmpty { slot });
         }
-        let expected = tag_of::<K, H>(&entry.key);
+        let expected = tag_of(H::hash(entry.key.as_slice()));
         if found != expected {
             return Err(Error::ControlMismatch {
                 slot,

@@ -1,8 +1,8 @@
 //! The search slot by slot along the probe order, and find and insert over it: the reference forms.
-ghost use Rattle.std.specs.Prelude.{◌≡◌, ◌+◌, ◌-◌, ◌*◌, ◌%◌, ◌<◌, ◌≤◌, ◌↔◌, ◌++◌, ⊤, ℕ, length, slice_index, option_map, IfSome, IfOk, OnErr, IsTrue};
+ghost use Rattle.std.specs.Prelude.{◌≡◌, ◌+◌, ◌-◌, ◌*◌, ◌/◌, ◌%◌, ◌^◌, ◌<◌, ◌≤◌, ◌↔◌, ◌++◌, ⊤, ℕ, length, slice_index, option_map, IfSome, IfOk, OnErr, IsTrue};
 ghost use Rattle.odht_base.specs.Bytes.{overwritten_at};
 ghost use Rattle.odht_base.specs.Load.{IsSlotCount};
-ghost use Rattle.odht_base.specs.Format.{format_of, tag};
+ghost use Rattle.odht_base.specs.Format.{format_of};
 ghost use Rattle.odht_base.specs.Probe.{place_slot};
 ghost use Rattle.odht_base.specs.Table.{Pair, Table};
 ghost use Rattle.odht_base.specs.Map.{map_of};
@@ -39,7 +39,8 @@ pub fn plain_find<K: ByteArray, V: ByteArray, H: HashFn>(
     ensures on_any { let F = format_of K.LEN V.LEN H.hash
         in IfSome result (λ v. (i : ℕ) × (i < entries.now.slots) × (slot_key F entries.now.bytes i ≡ K.bytes key.now) × (v ≡ V.of_bytes (slot_value F entries.now.bytes i))) }
 {
-    match plain_search::<K, V, H>(control, entries, key) {
+    let hash = H::hash(key.as_slice());
+    match plain_search::<K, V, H>(control, entries, key, hash) {
         Search::Found(slot) => Some(entries.get(slot).value),
         Search::Free(_) => None,
         Search::Neither => None,
@@ -77,8 +78,9 @@ pub fn plain_insert<K: ByteArray, V: ByteArray, H: HashFn>(
     ensures refused_entries { OnErr result (entries.new ≡ entries.old) }
 {
     let slots = control.len() - REFERENCE_GROUP_SIZE;
+    let hash = H::hash(key.as_slice());
     let shown: Entries<'_, K, V> = Entries::new(entries, slots);
-    match plain_search::<K, V, H>(control, &shown, &key) {
+    match plain_search::<K, V, H>(control, &shown, &key, hash) {
         Search::Found(slot) => {
             let old = shown.get(slot).value;
             write_slice(entries, slot * (K::LEN + V::LEN) + K::LEN, value.as_slice());
@@ -91,7 +93,7 @@ pub fn plain_insert<K: ByteArray, V: ByteArray, H: HashFn>(
                 key.as_slice(),
                 value.as_slice(),
             );
-            write_tag(control, slot, tag_of::<K, H>(&key));
+            write_tag(control, slot, tag_of(hash));
             Ok(None)
         }
         Search::Neither => Err(Error::Full),
@@ -119,24 +121,26 @@ fn write_tag(control: &mut [EntryMetadata], slot: usize, tag: u8)
     }
 }
 
-/// The tag of a key: the seven highest bits of its hash.
+/// The tag of a key with this hash: its seven highest bits.
 #[inline]
-pub(crate) fn tag_of<K: ByteArray, H: HashFn>(key: &K) -> u8
-    requires { H.MIN_LEN ≤ K.LEN }
-    ensures { result ≡ tag (format_of K.LEN 0 H.hash) (K.bytes key.now) }
+pub(crate) fn tag_of(hash: u32) -> u8
+    ensures { result ≡ hash / 2 ^ 25 }
 {
-    (H::hash(key.as_slice()) >> 25) as u8
+    (hash >> 25) as u8
 }
 
-/// Looks for the key slot by slot along its probe order, and stops at the first slot that is free or holds it.
+/// Looks for the key with this hash slot by slot along its probe order, and stops at the first slot that is free or holds
+/// it.
 #[inline]
 pub(crate) fn plain_search<K: ByteArray, V: ByteArray, H: HashFn>(
     control: &[EntryMetadata],
     entries: &Entries<'_, K, V>,
     key: &K,
+    hash: u32,
 ) -> Search
     requires slots { IsSlotCount entries.now.slots }
     requires control { length control.now ≡ entries.now.slots + 16 }
+    requires hash { hash ≡ H.hash (K.bytes key.now) }
     requires hashes { H.MIN_LEN ≤ K.LEN }
     requires key { K.LEN ≤ 255 }
     requires value { V.LEN ≤ 255 }
@@ -149,7 +153,6 @@ pub(crate) fn plain_search<K: ByteArray, V: ByteArray, H: HashFn>(
         → result ≡ answer (format_of K.LEN V.LEN H.hash) P.cells (K.bytes key.now) }
 {
     let slots = entries.len();
-    let hash = H::hash(key.as_slice());
     for place in 0..slots {
         let slot = slot_at(hash, slots, place);
         if control[slot] >= 128 {

@@ -19,9 +19,9 @@ returns-in-Found-clause-ok g c P h =
     let told = rw c.new-shown.ensures at c.in-Found.ensures in
     let old = rw c.new-shown.ensures at c.get-old.ensures.value in
     let at = answer-Found F P p.key h.placed c.in-Found.slot (told.on_placed P h) in
-    let fits : IsPairOf F p = record { key = found_key F P _ _ h p.key _ at; value = c.as_slice.ensures.bytes } in
+    let fits : IsPairOf F p = record { key = found_key F P _ _ h p.key _ at; value = c.as_slice-in-Found.ensures.bytes } in
     let parts : IsPartsOf F (written P c.in-Found.slot p) c.write_slice.new.all c.args.control.now =
-    rw (c.write_slice.ensures, c.LEN.ensures, c.LEN-in-Found.ensures, c.LEN-in-Found-2.ensures, c.as_slice.ensures.value) (found_parts F P _ _ h p.key c.in-Found.slot p refl fits at) in (
+    rw (c.write_slice.ensures, c.LEN.ensures, c.LEN-in-Found.ensures, c.LEN-in-Found-2.ensures, c.as_slice-in-Found.ensures.value) (found_parts F P _ _ h p.key c.in-Found.slot p refl fits at) in (
       ap Some (old ∙ ap g.V.ByteArray.of_bytes (found_value F P _ _ h p.key c.in-Found.slot at)) ∙ sym (ap (option_map g.V.ByteArray.of_bytes) at.value),
       (written P c.in-Found.slot p, at.places p refl, parts),
     )
@@ -40,7 +40,7 @@ returns-in-Free-clause-ok g c P h =
     let at = answer-Free F P p.key h.placed c.in-Free.slot (told.on_placed P h) in
     let fits : IsPairOf F p = record { key = c.as_slice-in-Free.ensures.bytes; value = c.as_slice-in-Free-2.ensures.bytes } in
     let parts : IsPartsOf F (written P c.in-Free.slot p) c.write_pair.new.entries c.write_tag.new.control =
-    rw (c.write_tag.ensures, c.tag_of.ensures, c.write_pair.ensures, c.LEN-in-Free.ensures, c.LEN-in-Free-2.ensures, c.as_slice-in-Free.ensures.value, c.as_slice-in-Free-2.ensures.value) (free_parts F P _ _ h p.key c.in-Free.slot p refl fits at) in (
+    rw (c.write_tag.ensures, c.tag_of.ensures, c.hash-hash.ensures, c.as_slice.ensures.value, c.write_pair.ensures, c.LEN-in-Free.ensures, c.LEN-in-Free-2.ensures, c.as_slice-in-Free.ensures.value, c.as_slice-in-Free-2.ensures.value) (free_parts F P _ _ h p.key c.in-Free.slot p refl fits at) in (
       sym (ap (option_map g.V.ByteArray.of_bytes) at.value),
       (written P c.in-Free.slot p, at.places p refl, parts),
     )
@@ -67,7 +67,7 @@ returns-in-Found-clause-frame g c =
     let told = rw c.new-shown.ensures at c.in-Found.ensures in
     let old = rw c.new-shown.ensures at c.get-old.ensures.value in
     let framed : PartsFrame F es ctrl p (Ok (Some (slot_value F es slot))) c.write_slice.new.all ctrl =
-    rw (c.write_slice.ensures, c.LEN.ensures, c.LEN-in-Found.ensures, c.LEN-in-Found-2.ensures, c.as_slice.ensures.value) (PartsFrame.overwrote slot told.slot.0 told.slot.1) in
+    rw (c.write_slice.ensures, c.LEN.ensures, c.LEN-in-Found.ensures, c.LEN-in-Found-2.ensures, c.as_slice-in-Found.ensures.value) (PartsFrame.overwrote slot told.slot.0 told.slot.1) in
     (Ok (Some (slot_value F es slot)), ap (λ o. Ok (Some o)) old, framed)
 
 pub returns-in-Free-clause-frame : goal.returns-in-Free-clause-frame
@@ -79,7 +79,7 @@ returns-in-Free-clause-frame g c =
     let slot = c.in-Free.slot in
     let told = rw c.new-shown.ensures at c.in-Free.ensures in
     let framed : PartsFrame F es ctrl p (Ok None) c.write_pair.new.entries c.write_tag.new.control =
-    rw (c.write_tag.ensures, c.tag_of.ensures, c.write_pair.ensures, c.LEN-in-Free.ensures, c.LEN-in-Free-2.ensures, c.as_slice-in-Free.ensures.value, c.as_slice-in-Free-2.ensures.value) (PartsFrame.added slot told.slot.0 (inl told.slot.1)) in
+    rw (c.write_tag.ensures, c.tag_of.ensures, c.hash-hash.ensures, c.as_slice.ensures.value, c.write_pair.ensures, c.LEN-in-Free.ensures, c.LEN-in-Free-2.ensures, c.as_slice-in-Free.ensures.value, c.as_slice-in-Free-2.ensures.value) (PartsFrame.added slot told.slot.0 (inl told.slot.1)) in
     (Ok None, refl, framed)
 
 pub returns-in-Neither-clause-frame : goal.returns-in-Neither-clause-frame

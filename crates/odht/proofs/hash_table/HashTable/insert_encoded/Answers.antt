@@ -1,4 +1,4 @@
-use Rattle.std.proofs.Common.{◌≡◌, ◌+◌, ◌∙◌, sym, ap, subst, refl, arith, Some, None, Ok, Err, ◌<◌, inl, IsTrue, slice_index}
+use Rattle.std.proofs.Common.{◌≡◌, ◌+◌, ◌/◌, ◌^◌, ◌∙◌, sym, ap, subst, refl, arith, Some, None, Ok, Err, ◌<◌, inl, IsTrue, slice_index}
 use Rattle.std.specs.Prelude.{option_map}
 use Rattle.odht_base.specs.Format.{Format, format_of, tag}
 use Rattle.odht_base.specs.Load.{max_items}
@@ -11,7 +11,7 @@ use Rattle.odht.specs.declared.error.Error.TheVariants.{Full}
 use Rattle.odht.proofs.lemmas.Lookups.{IsFoundAt, IsFreeAt, answer-Found, answer-Free, answer-Neither}
 use Rattle.odht.proofs.lemmas.Inserts.{found_value, found_key}
 use Rattle.odht.proofs.lemmas.ViewInserts.{IsPut, numbers_read, never_nowhere, found_put, free_put}
-use Rattle.odht.proofs.hash_table.HashTable.insert.Goals as goal
+use Rattle.odht.proofs.hash_table.HashTable.insert_encoded.Goals as goal
 
 pub returns-then-count-max-clause-full : goal.returns-then-count-max-clause-full
 returns-then-count-max-clause-full g c P is =
@@ -26,16 +26,14 @@ returns-in-Found-clause-ok g c P is =
     let F : Format = format_of g.C.EncodedKey.ByteArray.LEN g.C.EncodedValue.ByteArray.LEN g.C.H.HashFn.hash in
     let B = c.args.self.now in
     let read = numbers_read F P B is (c.header-header.ensures.bytes ∙ c.self.view_is) c.item_count-count.ensures c.slot_count.ensures c.max_load_factor.ensures c.max_item_count_for-max.ensures.value in
-    let p : Pair = record { key = g.C.EncodedKey.ByteArray.bytes (g.C.Config.encode_key c.args.key.now); value = g.C.EncodedValue.ByteArray.bytes (g.C.Config.encode_value c.args.value.now) } in
+    let p : Pair = record { key = g.C.EncodedKey.ByteArray.bytes c.args.key.now; value = g.C.EncodedValue.ByteArray.bytes c.args.value.now } in
     let slot = c.in-Found.slot in
     let parts = c.data_slices-entries.ensures.parts P (record { valid = is.valid; bytes = c.self.view_is ∙ is.bytes }) in
-    let at : IsFoundAt F P p.key slot =
-    subst (λ k. IsFoundAt F P (g.C.EncodedKey.ByteArray.bytes k) slot) c.encode_key-key.ensures (answer-Found F P _ is.valid.placed slot (c.in-Found.ensures.on_placed P parts)) in
-    let value : g.C.EncodedValue.ByteArray.bytes c.encode_value-value.result ≡ p.value = ap g.C.EncodedValue.ByteArray.bytes c.encode_value-value.ensures in
-    let fits : IsPairOf F p = record { key = found_key F P _ _ parts p.key slot at; value = rw (← value) c.write_value.ensures.value } in
-    let old = c.decode_value-old.ensures ∙ ap g.C.Config.decode_value (c.get.ensures.value ∙ ap g.C.EncodedValue.ByteArray.of_bytes (found_value F P _ _ parts p.key slot at)) in
-    let written : c.write_value.new.self ≡ with_value F B slot p.value = c.write_value.ensures.bytes ∙ (λ i. with_value F (c.self.view_is i) slot (value i)) in (
-      ap Some old ∙ sym (ap (option_map (λ b. g.C.Config.decode_value (g.C.EncodedValue.ByteArray.of_bytes b))) at.value),
+    let at : IsFoundAt F P p.key slot = answer-Found F P _ is.valid.placed slot (c.in-Found.ensures.on_placed P parts) in
+    let fits : IsPairOf F p = record { key = found_key F P _ _ parts p.key slot at; value = c.write_value.ensures.value } in
+    let old = c.get-old.ensures.value ∙ ap g.C.EncodedValue.ByteArray.of_bytes (found_value F P _ _ parts p.key slot at) in
+    let written : c.write_value.new.self ≡ with_value F B slot p.value = c.write_value.ensures.bytes ∙ ap (λ b. with_value F b slot p.value) c.self.view_is in (
+      ap Some old ∙ sym (ap (option_map g.C.EncodedValue.ByteArray.of_bytes) at.value),
       subst (IsPut F P p) (sym written) (found_put F P B is (omega (arith, read, c.if-count-max.false)) p fits slot at),
     )
 
@@ -50,24 +48,19 @@ pub returns-in-Free-clause-ok : goal.returns-in-Free-clause-ok
 returns-in-Free-clause-ok g c P is =
     let F : Format = format_of g.C.EncodedKey.ByteArray.LEN g.C.EncodedValue.ByteArray.LEN g.C.H.HashFn.hash in
     let B = c.args.self.now in
-    let header : c.header-header.result ≡ B = c.header-header.ensures.bytes ∙ c.self.view_is in
-    let stated : c.item_count-count.result ≡ stated_count B = c.item_count-count.ensures ∙ ap stated_count header in
     let read = numbers_read F P B is (c.header-header.ensures.bytes ∙ c.self.view_is) c.item_count-count.ensures c.slot_count.ensures c.max_load_factor.ensures c.max_item_count_for-max.ensures.value in
-    let p : Pair = record { key = g.C.EncodedKey.ByteArray.bytes (g.C.Config.encode_key c.args.key.now); value = g.C.EncodedValue.ByteArray.bytes (g.C.Config.encode_value c.args.value.now) } in
+    let p : Pair = record { key = g.C.EncodedKey.ByteArray.bytes c.args.key.now; value = g.C.EncodedValue.ByteArray.bytes c.args.value.now } in
     let slot = c.in-Free.slot in
     let parts = c.data_slices-entries.ensures.parts P (record { valid = is.valid; bytes = c.self.view_is ∙ is.bytes }) in
-    let at : IsFreeAt F P p.key slot =
-    subst (λ k. IsFreeAt F P (g.C.EncodedKey.ByteArray.bytes k) slot) c.encode_key-key.ensures (answer-Free F P _ is.valid.placed slot (c.in-Free.ensures.on_placed P parts)) in
-    let key : g.C.EncodedKey.ByteArray.bytes c.encode_key-key.result ≡ p.key = ap g.C.EncodedKey.ByteArray.bytes c.encode_key-key.ensures in
-    let value : g.C.EncodedValue.ByteArray.bytes c.encode_value-value.result ≡ p.value = ap g.C.EncodedValue.ByteArray.bytes c.encode_value-value.ensures in
-    let fits : IsPairOf F p = subst (IsPairOf F) (λ i. record { key = key i; value = value i }) c.write_entry.ensures.pair in
-    let tagged : c.tag_of-tag.result ≡ tag F p.key = c.tag_of-tag.ensures ∙ ap (tag F) key in
+    let at : IsFreeAt F P p.key slot = answer-Free F P _ is.valid.placed slot (c.in-Free.ensures.on_placed P parts) in
+    let stated : c.item_count-count.result ≡ stated_count B = c.item_count-count.ensures ∙ ap stated_count (c.header-header.ensures.bytes ∙ c.self.view_is) in
+    let tagged : c.tag_of.result ≡ tag F p.key = c.tag_of.ensures ∙ ap (λ h. h / 2 ^ 25) (c.hash-hash.ensures ∙ ap F.hash c.as_slice.ensures.value) in
     let written : c.set_item_count.new.self ≡ with_count (with_tag F (stated_slots B) (with_entry F B slot p) slot (tag F p.key)) (stated_count B + 1) =
     c.set_item_count.ensures
     ∙ (λ i. with_count (c.write_entry.ensures.bytes i) (stated i + 1))
-    ∙ (λ i. with_count (with_tag F (stated_slots (c.self.view_is i)) (with_entry F (c.self.view_is i) slot (record { key = key i; value = value i })) slot (tagged i)) (stated_count B + 1)) in (
-      sym (ap (option_map (λ b. g.C.Config.decode_value (g.C.EncodedValue.ByteArray.of_bytes b))) at.value),
-      subst (IsPut F P p) (sym written) (free_put F P B is (omega (arith, read, c.if-count-max.false)) p fits slot at),
+    ∙ (λ i. with_count (with_tag F (stated_slots (c.self.view_is i)) (with_entry F (c.self.view_is i) slot p) slot (tagged i)) (stated_count B + 1)) in (
+      sym (ap (option_map g.C.EncodedValue.ByteArray.of_bytes) at.value),
+      subst (IsPut F P p) (sym written) (free_put F P B is (omega (arith, read, c.if-count-max.false)) p c.write_entry.ensures.pair slot at),
     )
 
 pub returns-in-Free-clause-full : goal.returns-in-Free-clause-full
@@ -90,14 +83,13 @@ pub returns-in-Found-clause-frame : goal.returns-in-Found-clause-frame
 returns-in-Found-clause-frame g c =
     let F : Format = format_of g.C.EncodedKey.ByteArray.LEN g.C.EncodedValue.ByteArray.LEN g.C.H.HashFn.hash in
     let B = c.args.self.now in
-    let p : Pair = record { key = g.C.EncodedKey.ByteArray.bytes (g.C.Config.encode_key c.args.key.now); value = g.C.EncodedValue.ByteArray.bytes (g.C.Config.encode_value c.args.value.now) } in
+    let p : Pair = record { key = g.C.EncodedKey.ByteArray.bytes c.args.key.now; value = g.C.EncodedValue.ByteArray.bytes c.args.value.now } in
     let slot = c.in-Found.slot in
     let entries = c.data_slices-entries.ensures.entries ∙ ap (entries_of F) c.self.view_is in
     let within : slot < stated_slots B = subst (λ n. slot < n) (c.data_slices-entries.ensures.slots ∙ ap stated_slots c.self.view_is) c.in-Found.ensures.slot.0 in
-    let key : key_at F B slot ≡ p.key = ap (λ e. slot_key F e slot) (sym entries) ∙ c.in-Found.ensures.slot.1 ∙ ap g.C.EncodedKey.ByteArray.bytes c.encode_key-key.ensures in
-    let old = c.decode_value-old.ensures ∙ ap g.C.Config.decode_value (c.get.ensures.value ∙ ap (λ e. g.C.EncodedValue.ByteArray.of_bytes (slot_value F e slot)) entries) in
-    let value : g.C.EncodedValue.ByteArray.bytes c.encode_value-value.result ≡ p.value = ap g.C.EncodedValue.ByteArray.bytes c.encode_value-value.ensures in
-    let written : c.write_value.new.self ≡ with_value F B slot p.value = c.write_value.ensures.bytes ∙ (λ i. with_value F (c.self.view_is i) slot (value i)) in (
+    let key : key_at F B slot ≡ p.key = ap (λ e. slot_key F e slot) (sym entries) ∙ c.in-Found.ensures.slot.1 in
+    let old = c.get-old.ensures.value ∙ ap (λ e. g.C.EncodedValue.ByteArray.of_bytes (slot_value F e slot)) entries in
+    let written : c.write_value.new.self ≡ with_value F B slot p.value = c.write_value.ensures.bytes ∙ ap (λ b. with_value F b slot p.value) c.self.view_is in (
       Ok (Some (value_at F B slot)),
       ap (λ o. Ok (Some o)) old,
       subst (InsertFrame F B p (Ok (Some (value_at F B slot)))) (sym written) (InsertFrame.overwrote slot within key),
@@ -107,19 +99,17 @@ pub returns-in-Free-clause-frame : goal.returns-in-Free-clause-frame
 returns-in-Free-clause-frame g c =
     let F : Format = format_of g.C.EncodedKey.ByteArray.LEN g.C.EncodedValue.ByteArray.LEN g.C.H.HashFn.hash in
     let B = c.args.self.now in
-    let p : Pair = record { key = g.C.EncodedKey.ByteArray.bytes (g.C.Config.encode_key c.args.key.now); value = g.C.EncodedValue.ByteArray.bytes (g.C.Config.encode_value c.args.value.now) } in
+    let p : Pair = record { key = g.C.EncodedKey.ByteArray.bytes c.args.key.now; value = g.C.EncodedValue.ByteArray.bytes c.args.value.now } in
     let slot = c.in-Free.slot in
-    let header : c.header-header.result ≡ B = c.header-header.ensures.bytes ∙ c.self.view_is in
-    let stated : c.item_count-count.result ≡ stated_count B = c.item_count-count.ensures ∙ ap stated_count header in
     let within : slot < stated_slots B = subst (λ n. slot < n) (c.data_slices-entries.ensures.slots ∙ ap stated_slots c.self.view_is) c.in-Free.ensures.slot.0 in
-    let free : CountsAsFree (controls_of F B) slot = inl (subst (λ b. IsTrue (counts_as_free (slice_index b slot))) (c.data_slices-entries.ensures.control ∙ ap (controls_of F) c.self.view_is) c.in-Free.ensures.slot.1) in
-    let key : g.C.EncodedKey.ByteArray.bytes c.encode_key-key.result ≡ p.key = ap g.C.EncodedKey.ByteArray.bytes c.encode_key-key.ensures in
-    let value : g.C.EncodedValue.ByteArray.bytes c.encode_value-value.result ≡ p.value = ap g.C.EncodedValue.ByteArray.bytes c.encode_value-value.ensures in
-    let tagged : c.tag_of-tag.result ≡ tag F p.key = c.tag_of-tag.ensures ∙ ap (tag F) key in
+    let free : CountsAsFree (controls_of F B) slot =
+    inl (subst (λ b. IsTrue (counts_as_free (slice_index b slot))) (c.data_slices-entries.ensures.control ∙ ap (controls_of F) c.self.view_is) c.in-Free.ensures.slot.1) in
+    let stated : c.item_count-count.result ≡ stated_count B = c.item_count-count.ensures ∙ ap stated_count (c.header-header.ensures.bytes ∙ c.self.view_is) in
+    let tagged : c.tag_of.result ≡ tag F p.key = c.tag_of.ensures ∙ ap (λ h. h / 2 ^ 25) (c.hash-hash.ensures ∙ ap F.hash c.as_slice.ensures.value) in
     let written : c.set_item_count.new.self ≡ with_count (with_tag F (stated_slots B) (with_entry F B slot p) slot (tag F p.key)) (stated_count B + 1) =
     c.set_item_count.ensures
     ∙ (λ i. with_count (c.write_entry.ensures.bytes i) (stated i + 1))
-    ∙ (λ i. with_count (with_tag F (stated_slots (c.self.view_is i)) (with_entry F (c.self.view_is i) slot (record { key = key i; value = value i })) slot (tagged i)) (stated_count B + 1)) in
+    ∙ (λ i. with_count (with_tag F (stated_slots (c.self.view_is i)) (with_entry F (c.self.view_is i) slot p) slot (tagged i)) (stated_count B + 1)) in
     (Ok None, refl, subst (InsertFrame F B p (Ok None)) (sym written) (InsertFrame.added slot within free))
 
 pub returns-in-Neither-clause-frame : goal.returns-in-Neither-clause-frame
