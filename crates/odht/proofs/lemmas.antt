@@ -31,5 +31,7 @@ pub mod NewTables
 pub mod NewRefusals
 -- what an insert leaves on the bytes of a valid table below its maximum
 pub mod ViewInserts
+-- a growth, slot by slot
+pub mod Growths
 -- what is written of bytes in the text of an error
 pub mod ErrorTexts

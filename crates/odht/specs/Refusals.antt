@@ -13,8 +13,9 @@
 --                                  mirror, the item count, its maximum, and that each key is reached by its search
 --     check_refusal F B            of everything: view_refusal, then late_refusal
 --     new_refusal F n f len        of a new table for n items at the load factor f in len bytes: capacity, then length
+--     IsTooLarge F n f             the bytes of each slot count that is enough for n items at f pass 2 ^ 64 - 1
 --     checked o                    the answer of a check whose refusal is o
-use Rattle.std.specs.Prelude.{Result, Ok, Err, ℕ, ◌+◌, ◌-◌, ◌^◌, min, Bool, not, ◌&&◌, nat_le, nat_lt, ◌==◌, List, [], ◌∷◌, length, map, bytes_eq, slice_index, Option, Some, None}
+use Rattle.std.specs.Prelude.{◌≡◌, ◌≤◌, Result, Ok, Err, ℕ, ◌+◌, ◌-◌, ◌^◌, min, Bool, not, ◌&&◌, nat_le, nat_lt, ◌==◌, List, [], ◌∷◌, length, map, bytes_eq, slice_index, Option, Some, None}
 use Rattle.std.specs.List.{range_with_len, list_all}
 use Rattle.std.specs.Option.{option_or, option_map_or}
 use Rattle.std.specs.Bool.{then_some}
@@ -172,6 +173,9 @@ slots_new_refusal F len s =
 
 unfoldable pub new_refusal : Format → ℕ → ℕ → ℕ → Option Error
 new_refusal F n f len = option_map_or (slots_new_refusal F len) (slots_for n f) (Some Capacity)
+
+abbrev pub IsTooLarge : Format → ℕ → ℕ → Type 0
+IsTooLarge F n f = (s : ℕ) → slots_for n f ≡ Some s → 2 ^ 64 ≤ image_len F s
 
 -- the answer of a check
 abbrev pub checked : Option Error → Result (Unit {0}) Error

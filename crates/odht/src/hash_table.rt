@@ -1,14 +1,14 @@
 //! The table over bytes of any kind.
-ghost use Rattle.std.specs.Prelude.{◌≡◌, ℕ, ◌≤◌, ◌↔◌, length, option_map, IfOk, IfSome, IsOk, OnErr};
+ghost use Rattle.std.specs.Prelude.{◌≡◌, ℕ, ◌≤◌, ◌↔◌, length, option_map, IfOk, IfSome, IsOk, IsSome, IsTrue, OnErr};
 ghost use Rattle.std.specs.Result.{result_err};
 ghost use Rattle.odht_base.specs.Load.{factor_of, max_items};
 ghost use Rattle.odht_base.specs.Table.{Table, count, slot_count, fresh};
 ghost use Rattle.odht_base.specs.Map.{map_of};
 ghost use Rattle.odht_base.specs.Insert.{put_view};
-ghost use Rattle.odht_base.specs.Shown.{stated_count};
+ghost use Rattle.odht_base.specs.Shown.{stated_count, HoldsKey};
 ghost use Rattle.odht_base.specs.Valid.{IsImage};
 ghost use Rattle.odht.specs.Coding.{value_for, encoded, HasStored};
-ghost use Rattle.odht.specs.Frame.{IsFramed, IsBytesFramed};
+ghost use Rattle.odht.specs.Frame.{IsAccepted, IsFramed, IsBytesFramed};
 ghost use Rattle.odht.specs.Refusals.{new_refusal, view_refusal};
 
 use crate::bytes::{ByteArray, ByteStore, ByteStoreMut};
@@ -49,6 +49,17 @@ impl<C: Config, D: ByteStore> HashTable<C, D> {
         Ok(HashTable { allocation })
     }
 
+    /// Takes the bytes as those of a table, which the caller knows them to be: nothing is looked at.
+    #[inline]
+    pub fn from_raw_bytes_unchecked(data: D) -> Self
+        requires { IsAccepted ⟦<C as Coded>⟧.coding.format (D.bytes «data») }
+        ensures { result ≡ D.bytes «data» }
+    {
+        HashTable {
+            allocation: Allocation::from_raw_bytes_unchecked(data),
+        }
+    }
+
     /// The value of a key: on valid bytes that of the key's last insert, and on any bytes one that is stored beside this
     /// very key.
     ///
@@ -67,6 +78,20 @@ impl<C: Config, D: ByteStore> HashTable<C, D> {
         }
     }
 
+    /// Whether the key has a value: on any bytes only where some slot's entry holds this very key.
+    ///
+    /// At most each slot is looked at once.
+    pub fn contains_key(&self, key: &C::Key) -> bool
+        ensures on_valid { (P : Table)
+            → IsImage ⟦<C as Coded>⟧.coding.format P self.now
+            → IsTrue result ↔ IsSome (map_of P (⟦<C as Coded>⟧.coding.key_bytes key.now)) }
+        ensures on_any { IsTrue result → HoldsKey ⟦<C as Coded>⟧.coding.format self.now (⟦<C as Coded>⟧.coding.key_bytes key.now) }
+    {
+        let (control, entries) = self.allocation.data_slices();
+        let key = C::encode_key(key);
+        plain_find::<C::EncodedKey, C::EncodedValue, C::H>(control, &entries, &key).is_some()
+    }
+
     /// How many items the header states: of valid bytes, how many there are.
     #[inline]
     pub fn len(&self) -> usize
@@ -82,6 +107,22 @@ impl<C: Config, D: ByteStore> HashTable<C, D> {
         ensures { result.now ≡ self.now }
     {
         self.allocation.raw_bytes()
+    }
+
+    /// The bytes and their parts.
+    #[inline]
+    pub(crate) fn allocation(&self) -> &Allocation<C, D>
+        ensures { result.now ≡ self.now }
+    {
+        &self.allocation
+    }
+
+    /// The table of these bytes.
+    #[inline]
+    pub(crate) fn from_allocation(allocation: Allocation<C, D>) -> Self
+        ensures { result ≡ allocation }
+    {
+        HashTable { allocation }
     }
 }
 

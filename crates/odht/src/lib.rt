@@ -3,11 +3,13 @@
 
 pub use config::Config;
 pub use hash_table::HashTable;
+pub use hash_table_owned::HashTableOwned;
 pub use odht_base::hash::{FxHashFn, HashFn, UnHashFn};
 pub use odht_base::{bytes, hash, load, swisstable_group_query};
 
 pub mod config;
 pub mod error;
 mod hash_table;
+mod hash_table_owned;
 pub mod memory_layout;
 pub mod raw_table;

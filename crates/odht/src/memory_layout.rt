@@ -1,7 +1,7 @@
 //! The bytes of a table: the header, the entries, and the control bytes with their mirror.
 //!
 //! Offsets and lengths are those of docs/FORMAT.md, "Layout".
-ghost use Rattle.std.specs.Prelude.{◌≡◌, ◌+◌, ◌-◌, ◌*◌, ◌<◌, ◌≤◌, ◌^◌, length, take, replicate, MatchOption, IfSome, IsOk};
+ghost use Rattle.std.specs.Prelude.{◌≡◌, ◌+◌, ◌-◌, ◌*◌, ◌<◌, ◌≤◌, ◌^◌, ◌↔◌, ◌⊎◌, length, take, replicate, MatchOption, IfSome, IfOk, IsOk, OnErr};
 ghost use Rattle.odht_base.specs.Numbers.{IsBytes};
 ghost use Rattle.odht_base.specs.Bytes.{bytes_at, overwritten_at};
 ghost use Rattle.odht_base.specs.Load.{IsSlotCount};
@@ -11,19 +11,19 @@ ghost use Rattle.odht_base.specs.Image.{header_bytes, image, image_len};
 ghost use Rattle.odht_base.specs.Valid.{IsImage, IsPairOf, IsPartsOf};
 ghost use Rattle.odht_base.specs.Shown.{stated_count, stated_slots, stated_factor, entries_of, controls_of};
 ghost use Rattle.odht_base.specs.Writes.{with_count, with_entry, with_control, with_tag, with_value};
-ghost use Rattle.std.specs.Prelude.{IfOk};
 ghost use Rattle.std.specs.Option.{option_or};
 ghost use Rattle.std.specs.Result.{result_err};
 ghost use Rattle.odht.specs.Frame.{IsAccepted};
 ghost use Rattle.odht.specs.Refusals.{checked, tag_refusal, version_refusal, wrong_size, power_refusal, few_slots_refusal, length_refusal, header_refusal, view_refusal};
 
-use crate::bytes::{ByteArray, ByteStore, ByteStoreMut, read_u64};
+use crate::bytes::{ByteArray, ByteStore, ByteStoreMut, OwnedBytes, read_u64};
 use crate::config::{Coded, Config};
 use crate::error::{Error, Part};
 use crate::load::Factor;
 use crate::raw_table::RawTable;
 pub use crate::raw_table::{Entries, EntryMetadata};
 use crate::swisstable_group_query::REFERENCE_GROUP_SIZE;
+use std::alloc::Global;
 use std::marker::{Model, PhantomData};
 
 const HEADER_TAG: [u8; 4] = *b"ODHT";
@@ -232,6 +232,32 @@ pub fn init_in_place<C: Config, M: ByteStoreMut>(
     }
 }
 
+/// Makes the table of `slot_count` free slots that states `item_count` items in memory of its own.
+///
+/// `Capacity` exactly where its length passes `usize`; `Memory` where the memory was refused.
+pub fn allocate<C: Config>(
+    alloc: Global,
+    slot_count: usize,
+    item_count: usize,
+    max_load_factor: Factor,
+) -> Result<Allocation<C, OwnedBytes>, Error>
+    requires slots { IsSlotCount slot_count }
+    ensures ok { IfOk result (λ a. a ≡ with_count (image ⟦<C as Coded>⟧.coding.format (empty slot_count max_load_factor.0)) item_count) }
+    ensures capacity { (result ≡ Err Error.Capacity) ↔ (2 ^ 64 ≤ image_len ⟦<C as Coded>⟧.coding.format slot_count) }
+    ensures memory { OnErr result ((result ≡ Err Error.Capacity) ⊎ (result ≡ Err Error.Memory)) }
+{
+    let Some(len) = bytes_needed::<C>(slot_count) else {
+        return Err(Error::Capacity);
+    };
+    let bytes = OwnedBytes::new(vec![in alloc; 0; len]?);
+    Ok(init_in_place(
+        bytes,
+        slot_count,
+        item_count,
+        max_load_factor,
+    ))
+}
+
 // Writes the header.
 fn write_header<C: Config, M: ByteStoreMut>(
     data: &mut M,
@@ -322,6 +348,20 @@ impl<C: Config, M: ByteStore> Allocation<C, M> {
         );
         table.sanity_check_hashes(SLOTS_TO_CHECK)?;
         Ok(allocation)
+    }
+
+    /// Takes the bytes as those of a table, which the caller knows them to be: nothing is looked at.
+    #[inline]
+    pub fn from_raw_bytes_unchecked(data: M) -> Self
+        requires { IsAccepted ⟦<C as Coded>⟧.coding.format (M.bytes «data») }
+        ensures { result ≡ M.bytes «data» }
+    {
+        // A slice's length is below 2^64, and with it that of the store.
+        let _ = data.bytes();
+        Allocation {
+            store: data,
+            config: PhantomData,
+        }
     }
 
     /// All bytes.

@@ -100,9 +100,9 @@ impl<'a, K: ByteArray, V: ByteArray> Entries<'a, K, V> {
     }
 }
 
-// Whether a control byte counts as free.
+/// Whether a control byte counts as free.
 #[inline]
-fn is_empty_or_deleted(control: EntryMetadata) -> bool
+pub(crate) fn is_empty_or_deleted(control: EntryMetadata) -> bool
     ensures { result ≡ counts_as_free control }
 {
     control >= 128

@@ -11,6 +11,7 @@
 --     entry_at F B i       the entry of slot i, key_at and value_at its two ends
 --     shown F B            the table of the cells that the parts show
 --     seen F B             the pairs of that table: the entries whose own control byte is below 128, in slot order
+--     HoldsKey F B k       some slot's entry has the key k, whatever its control byte
 --     Stores F B k v       some slot's entry is the key k and the value v, whatever its control byte
 use Rattle.std.specs.Prelude.{◌≡◌, ℕ, ◌+◌, ◌-◌, ◌*◌, ◌<◌, Bool, nat_le, List, length, take, drop, map, slice_index, Option, Some, None, if◌then◌else◌}
 use Rattle.std.specs.List.{range_with_len}
@@ -71,6 +72,9 @@ shown F B = record { factor = stated_factor B; cells = shown_cells F (entries_of
 
 abbrev pub seen : Format → List ℕ → List Pair
 seen F B = walk (shown F B)
+
+abbrev pub HoldsKey : Format → List ℕ → List ℕ → Type 0
+HoldsKey F B k = (i : ℕ) × (i < stated_slots B) × (key_at F B i ≡ k)
 
 abbrev pub Stores : Format → List ℕ → List ℕ → List ℕ → Type 0
 Stores F B k v = (i : ℕ) × (i < stated_slots B) × (key_at F B i ≡ k) × (value_at F B i ≡ v)

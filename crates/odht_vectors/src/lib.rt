@@ -10,9 +10,13 @@ mod configs;
 #[cfg(test)]
 mod errors;
 #[cfg(test)]
+mod foreign_bytes;
+#[cfg(test)]
 mod hashes;
 #[cfg(test)]
 mod load_factors;
+#[cfg(test)]
+mod opened_tables;
 #[cfg(test)]
 mod plain_tables;
 #[cfg(test)]

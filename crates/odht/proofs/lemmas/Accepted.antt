@@ -14,7 +14,8 @@ use Rattle.odht_base.specs.Table.{Table, slot_count}
 use Rattle.odht_base.specs.Image.{image, image_len}
 use Rattle.odht_base.specs.Shown.{stated_slots}
 use Rattle.odht_base.specs.Writes.{with_count}
-use Rattle.odht_base.proofs.lemmas.Fits.{IsSized}
+use Rattle.odht_base.specs.Valid.{IsValidBytes}
+use Rattle.odht_base.proofs.lemmas.Fits.{IsSized, IsSized-IsPlaced}
 use Rattle.odht_base.proofs.lemmas.Image.{stated_slots-image, length-image}
 use Rattle.odht_base.proofs.lemmas.ByteRanges.{bytes_at-take_front, bytes_at-drop, length-overwritten_at, take-overwritten_at, drop-overwritten_at}
 use Rattle.odht.specs.Refusals.{opening_refusal, header_refusal, first_of, differs, lists_differ, ◌gives◌}
@@ -186,3 +187,7 @@ IsAccepted-image F P count sized =
         length_is = long ∙ ap (image_len F) (sym slots_are);
       };
     })
+
+-- so valid bytes are
+pub IsAccepted-IsValidBytes : (F : Format) (B : List ℕ) → IsValidBytes F B → IsAccepted F B
+IsAccepted-IsValidBytes F B (P, is) = subst (IsAccepted F) (sym is.bytes) (IsAccepted-image F P is.valid.placed.slots (IsSized-IsPlaced F P is.valid.placed))

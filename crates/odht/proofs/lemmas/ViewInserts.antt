@@ -23,15 +23,18 @@ IsPut F P p B = (Q : Table) × (put_view F P p ≡ Some Q) × IsImage F Q B
 -- ---- what the header of a valid table's bytes states
 module _ (F : Format) (P : Table) (B : List ℕ) (is : IsImage F P B) where
   -- the count
-  count_stated : stated_count B ≡ count P
+  pub count_stated : stated_count B ≡ count P
   count_stated = ap stated_count is.bytes ∙ stated_count-image F P (IsSized-IsPlaced F P is.valid.placed)
+
+  -- the load factor
+  pub factor_stated : stated_factor B ≡ P.factor
+  factor_stated = ap stated_factor is.bytes ∙ stated_factor-image F P is.valid.factor_high
 
   -- and the maximum that its slot count and load factor give
   max_stated : max_items (stated_slots B) (stated_factor B) ≡ max_items (slot_count P) P.factor
   max_stated =
       let slots = ap stated_slots is.bytes ∙ stated_slots-image F P (IsSized-IsPlaced F P is.valid.placed) in
-      let factor = ap stated_factor is.bytes ∙ stated_factor-image F P is.valid.factor_high in
-      λ i. max_items (slots i) (factor i)
+      λ i. max_items (slots i) (factor_stated i)
 
   -- so the numbers that an insert reads are the table's own
   pub numbers_read : {header : List ℕ} {items most slots factor : ℕ} → header ≡ B → items ≡ stated_count header → slots ≡ stated_slots header → factor ≡ stated_factor header

@@ -93,7 +93,7 @@ module _ (F : Format) (P : Table) (ok : IsValid F P) (s : ℕ) (least : IsLeastS
       omega (arith, least.holds, le-max_right 1 (2 * count P))
 
   -- and for more below its maximum
-  room_above : count P < max_items s P.factor
+  pub room_above : count P < max_items s P.factor
   room_above =
       let h = max_items-holds (max 1 (2 * count P)) s P.factor least.holds in
       omega (arith, le-max_left 1 (2 * count P), le-max_right 1 (2 * count P))

@@ -1,0 +1,19 @@
+use Rattle.std.proofs.Common.{◌∙◌, ◌≡◌, rules, sym, arith}
+use Rattle.odht_base.specs.Format.{format_of}
+use Rattle.odht_base.proofs.lemmas.Rooms.{empty-IsValid}
+use Rattle.odht.proofs.lemmas.NewTables.{with_count-new}
+use Rattle.odht.proofs.hash_table_owned.empty_table.Goals as goal
+
+pub returns-clause-ok : goal.returns-clause-ok
+returns-clause-ok g c =
+    let F = format_of g.C.EncodedKey.ByteArray.LEN g.C.EncodedValue.ByteArray.LEN g.C.H.HashFn.hash in
+    let s = c.in-Some.slot_count in
+    let f = c.args.max_load_factor.0 in
+    let count = c.in-Some.ensures.least.is_count in (
+      s,
+      sym c.in-Some.ensures.value,
+      record {
+        valid = empty-IsValid s f F count c.requires.low (search rules);
+        bytes = c.from_allocation.ensures ∙ c.in_ok-allocation.ensures.ok ∙ with_count-new F s 0 f count;
+      },
+    )

@@ -1,0 +1,194 @@
+//! The table that owns its bytes, and grows.
+ghost use Rattle.std.specs.Prelude.{◌≡◌, ℕ, ◌≤◌, ◌↔◌, ◌⊎◌, option_map, IfOk, IsSome, IsTrue, OnErr};
+ghost use Rattle.odht_base.specs.Load.{factor_of, max_items, slots_for};
+ghost use Rattle.odht_base.specs.Table.{Table, count, slot_count, empty, fresh};
+ghost use Rattle.odht_base.specs.Map.{map_of};
+ghost use Rattle.odht_base.specs.Insert.{grown, put_owned};
+ghost use Rattle.odht_base.specs.Valid.{IsImage, IsValidBytes};
+ghost use Rattle.odht.specs.Coding.{value_for, encoded};
+ghost use Rattle.odht.specs.Refusals.{IsTooLarge};
+
+use crate::bytes::OwnedBytes;
+use crate::config::{Coded, Config};
+use crate::error::Error;
+use crate::hash_table::HashTable;
+use crate::load::{Factor, slots_needed};
+use crate::memory_layout;
+use crate::raw_table::is_empty_or_deleted;
+use std::alloc::Global;
+use std::marker::Model;
+
+/// A table in memory of its own, which grows as it fills. Its bytes are always valid, and a contract speaks of it as of
+/// these bytes.
+#[derive(Drop)]
+pub struct HashTableOwned<C: Config> {
+    table: HashTable<C, OwnedBytes>,
+    alloc: Global,
+}
+
+impl<C: Config> Model for HashTableOwned<C> {
+    ghost use Rattle.std.specs.Prelude.{ℕ, List};
+    ghost use Rattle.odht_base.specs.Format.{format_of};
+    ghost use Rattle.odht_base.specs.Valid.{IsValidBytes};
+
+    ghost Value = { List ℕ };
+
+    ghost view = { λ t. t.table };
+
+    ghost invariant = { λ t. IsValidBytes (format_of C.EncodedKey.LEN C.EncodedValue.LEN C.H.hash) t.table };
+}
+
+impl<C: Config> HashTableOwned<C> {
+    /// An empty table that takes `max_item_count` items before it grows.
+    ///
+    /// `Capacity` exactly where no slot count is enough, or its length passes `usize`; `Memory` where the memory was
+    /// refused.
+    pub fn with_capacity(
+        alloc: Global,
+        max_item_count: usize,
+        max_load_factor_percent: u8,
+    ) -> Result<Self, Error>
+        requires low { 1 ≤ max_load_factor_percent }
+        requires high { max_load_factor_percent ≤ 100 }
+        ensures ok { IfOk result (λ t. (P : Table) × (fresh max_item_count max_load_factor_percent ≡ Some P) × IsImage ⟦<C as Coded>⟧.coding.format P t) }
+        ensures capacity { (result ≡ Err Error.Capacity) ↔ IsTooLarge ⟦<C as Coded>⟧.coding.format max_item_count (factor_of max_load_factor_percent) }
+        ensures memory { OnErr result ((result ≡ Err Error.Capacity) ⊎ (result ≡ Err Error.Memory)) }
+    {
+        let factor = Factor::from_percent(max_load_factor_percent);
+        let table = empty_table(alloc, max_item_count, factor)?;
+        Ok(HashTableOwned { table, alloc })
+    }
+
+    /// The value of a key: that of its last insert.
+    ///
+    /// At most each slot is looked at once.
+    pub fn get(&self, key: &C::Key) -> Option<C::Value>
+        ensures { (P : Table)
+            → IsImage ⟦<C as Coded>⟧.coding.format P self.now
+            → result ≡ value_for ⟦<C as Coded>⟧.coding P key.now }
+    {
+        self.table.get(key)
+    }
+
+    /// Whether the key has a value.
+    ///
+    /// At most each slot is looked at once.
+    pub fn contains_key(&self, key: &C::Key) -> bool
+        ensures { (P : Table)
+            → IsImage ⟦<C as Coded>⟧.coding.format P self.now
+            → IsTrue result ↔ IsSome (map_of P (⟦<C as Coded>⟧.coding.key_bytes key.now)) }
+    {
+        self.table.contains_key(key)
+    }
+
+    /// How many items there are.
+    #[inline]
+    pub fn len(&self) -> usize
+        ensures { (P : Table) → IsImage ⟦<C as Coded>⟧.coding.format P self.now → result ≡ count P }
+    {
+        self.table.len()
+    }
+
+    /// All bytes.
+    #[inline]
+    pub fn raw_bytes(&self) -> &[u8]
+        ensures bytes { result.now ≡ self.now }
+        ensures valid { IsValidBytes ⟦<C as Coded>⟧.coding.format self.now }
+    {
+        self.table.raw_bytes()
+    }
+
+    /// A copy of the bytes, which the caller knows to be valid: nothing is looked at.
+    ///
+    /// `Memory` where the memory was refused.
+    pub fn from_raw_bytes_unchecked(alloc: Global, raw_bytes: &[u8]) -> Result<Self, Error>
+        requires { IsValidBytes ⟦<C as Coded>⟧.coding.format raw_bytes.now }
+        ensures ok { IfOk result (λ t. t ≡ raw_bytes.now) }
+        ensures memory { OnErr result (result ≡ Err Error.Memory) }
+    {
+        let bytes = OwnedBytes::new(raw_bytes.to_vec(alloc)?);
+        Ok(HashTableOwned {
+            table: HashTable::from_raw_bytes_unchecked(bytes),
+            alloc,
+        })
+    }
+
+    /// A table of the same bytes.
+    ///
+    /// `Memory` where the memory was refused.
+    pub fn clone(&self) -> Result<Self, Error>
+        ensures ok { IfOk result (λ t. t ≡ self.now) }
+        ensures memory { OnErr result (result ≡ Err Error.Memory) }
+    {
+        Self::from_raw_bytes_unchecked(self.alloc, self.table.raw_bytes())
+    }
+
+    /// Gives the key this value, and answers its former one: that of its last insert. At the maximum the table grows
+    /// first, even where the key is there.
+    ///
+    /// `Memory` only at the maximum, where the memory for the grown table was refused, or no slot count or no length in
+    /// `usize` is enough for it. Then nothing changes.
+    pub fn insert(&mut self, key: &C::Key, value: &C::Value) -> Result<Option<C::Value>, Error>
+        ensures ok { (P : Table)
+            → IsImage ⟦<C as Coded>⟧.coding.format P self.old
+            → IfOk result (λ old. (old ≡ value_for ⟦<C as Coded>⟧.coding P key.now) × ((Q : Table) × (put_owned ⟦<C as Coded>⟧.coding.format P (encoded ⟦<C as Coded>⟧.coding key.now value.now) ≡ Some Q) × IsImage ⟦<C as Coded>⟧.coding.format Q self.new)) }
+        ensures at_maximum { (P : Table)
+            → IsImage ⟦<C as Coded>⟧.coding.format P self.old
+            → OnErr result (count P ≡ max_items (slot_count P) P.factor) }
+        ensures memory { OnErr result (result ≡ Err Error.Memory) }
+        ensures refused { OnErr result (self.new ≡ self.old) }
+    {
+        if let Ok(old) = self.table.insert(key, value) {
+            return Ok(old);
+        }
+        let mut grown = self.grown()?;
+        let Ok(old) = grown.insert(key, value) else {
+            // The grown table is below its maximum.
+            unreachable!()
+        };
+        self.table = grown;
+        Ok(old)
+    }
+
+    // The pairs of this table, in slot order, in a table with the slots for twice as many, and for one at least.
+    fn grown(&self) -> Result<HashTable<C, OwnedBytes>, Error>
+        ensures ok { (P : Table)
+            → IsImage ⟦<C as Coded>⟧.coding.format P self.now
+            → IfOk result (λ t. (Q : Table) × (grown ⟦<C as Coded>⟧.coding.format P ≡ Some Q) × IsImage ⟦<C as Coded>⟧.coding.format Q t) }
+        ensures memory { OnErr result (result ≡ Err Error.Memory) }
+    {
+        let header = self.table.allocation().header();
+        let max_item_count = (2 * header.item_count()).max(1);
+        let factor = header.max_load_factor();
+        let Ok(mut grown) = empty_table(self.alloc, max_item_count, factor) else {
+            return Err(Error::Memory);
+        };
+        let (control, entries) = self.table.allocation().data_slices();
+        for slot in 0..entries.len() {
+            if !is_empty_or_deleted(control[slot]) {
+                let entry = entries.get(slot);
+                // There is room for each pair.
+                let _ = grown.insert_encoded(&entry.key, &entry.value);
+            }
+        }
+        Ok(grown)
+    }
+}
+
+// An empty table of the slots for so many items at this load factor.
+fn empty_table<C: Config>(
+    alloc: Global,
+    max_item_count: usize,
+    max_load_factor: Factor,
+) -> Result<HashTable<C, OwnedBytes>, Error>
+    requires low { 655 ≤ max_load_factor.0 }
+    ensures ok { IfOk result (λ t. (s : ℕ) × (slots_for max_item_count max_load_factor.0 ≡ Some s) × IsImage ⟦<C as Coded>⟧.coding.format (empty s max_load_factor.0) t) }
+    ensures capacity { (result ≡ Err Error.Capacity) ↔ IsTooLarge ⟦<C as Coded>⟧.coding.format max_item_count max_load_factor.0 }
+    ensures memory { OnErr result ((result ≡ Err Error.Capacity) ⊎ (result ≡ Err Error.Memory)) }
+{
+    let Some(slot_count) = slots_needed(max_item_count, max_load_factor) else {
+        return Err(Error::Capacity);
+    };
+    let allocation = memory_layout::allocate(alloc, slot_count, 0, max_load_factor)?;
+    Ok(HashTable::from_allocation(allocation))
+}
