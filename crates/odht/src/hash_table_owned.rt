@@ -59,6 +59,16 @@ impl<C: Config> HashTableOwned<C> {
         Ok(HashTableOwned { table, alloc })
     }
 
+    /// An empty table that takes twelve items before it grows: sixteen slots at a load factor of 87 percent.
+    ///
+    /// `Memory` where the memory was refused.
+    pub fn default(alloc: Global) -> Result<Self, Error>
+        ensures ok { IfOk result (λ t. (P : Table) × (fresh 12 87 ≡ Some P) × IsImage ⟦<C as Coded>⟧.coding.format P t) }
+        ensures memory { OnErr result (result ≡ Err Error.Memory) }
+    {
+        Self::with_capacity(alloc, 12, 87)
+    }
+
     /// The value of a key: that of its last insert.
     ///
     /// At most each slot is looked at once.

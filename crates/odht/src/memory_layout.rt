@@ -250,12 +250,7 @@ pub fn allocate<C: Config>(
         return Err(Error::Capacity);
     };
     let bytes = OwnedBytes::new(vec![in alloc; 0; len]?);
-    Ok(init_in_place(
-        bytes,
-        slot_count,
-        item_count,
-        max_load_factor,
-    ))
+    Ok(init_in_place(bytes, slot_count, item_count, max_load_factor))
 }
 
 // Writes the header.

@@ -8,7 +8,7 @@ use Rattle.odht_base.specs.Format.{Format, IsFormat}
 use Rattle.odht_base.specs.Load.{max_items}
 use Rattle.odht_base.specs.Insert.{grown, grown_slots, place, place_all, put_owned, put_view}
 use Rattle.odht_base.specs.Map.{map_of}
-use Rattle.odht_base.specs.Table.{Pair, Table, Cells, cell_at, slot_count, count, empty, walk}
+use Rattle.odht_base.specs.Table.{Pair, Table, cell_at, slot_count, count, empty, walk}
 use Rattle.odht_base.specs.Valid.{IsImage, IsValid, IsPartsOf}
 use Rattle.odht_base.specs.Shown.{counts_as_free, slot_key, slot_value}
 use Rattle.odht_base.proofs.lemmas.Fits.{HasLengths, HasLengths-HasPairsOf}
@@ -66,7 +66,7 @@ pairs_below-all P = ap pairs (take_all (slot_count P) P.cells (omega arith))
 pairs_below-few : (P : Table) (n : ℕ) → length (pairs_below P n) ≤ count P
 pairs_below-few P n =
     let whole : count P ≡ length (pairs_below P n) + length (pairs (drop n P.cells)) =
-        ap (λ cs. length (pairs cs)) (sym (take-append-drop n P.cells)) ∙ ap length (filter_map-append (λ c. c) (take n P.cells) (drop n P.cells)) ∙ length-append (pairs_below P n) (pairs (drop n P.cells)) in
+    ap (λ cs. length (pairs cs)) (sym (take-append-drop n P.cells)) ∙ ap length (filter_map-append (λ c. c) (take n P.cells) (drop n P.cells)) ∙ length-append (pairs_below P n) (pairs (drop n P.cells)) in
     omega (arith, whole)
 
 -- the items of a valid table are fewer than 2 ^ 63
@@ -143,7 +143,7 @@ module _ (F : Format) (P : Table) (ok : IsValid F P) where
   grown_all B h = (
     h.table,
     ap (option_and_then (λ s. place_all F (empty s P.factor) (walk P))) h.enough
-    ∙ ap (place_all F (empty h.slots P.factor)) (sym (pairs_below-all P)) ∙ h.placed,
+        ∙ ap (place_all F (empty h.slots P.factor)) (sym (pairs_below-all P)) ∙ h.placed,
     h.image,
   )
 

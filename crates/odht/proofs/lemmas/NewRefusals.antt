@@ -1,11 +1,12 @@
--- What bytes for a new table are refused for, case by case.
-use Rattle.std.proofs.Common.{◌≡◌, ◌≢◌, ◌≤◌, ◌<◌, ◌^◌, ◌∙◌, ℕ, Bool, true, false, not, nat_le, ap, refl, [], ◌∷◌, Some, None, arith, leb-true, le-leb, ne_eqb}
+-- What a new table is refused for, case by case.
+use Rattle.std.proofs.Common.{◌≡◌, ◌≢◌, ◌≤◌, ◌<◌, ◌^◌, ◌∙◌, ℕ, Bool, true, false, not, nat_le, ap, refl, [], ◌∷◌, Some, None, Result, Ok, Err, OnErr, ◌⊎◌, inl, inr, arith, leb-true, le-leb, ne_eqb}
 use Rattle.odht_base.specs.Format.{Format}
-use Rattle.odht_base.specs.Load.{slots_for}
+use Rattle.odht_base.specs.Load.{slots_for, factor_of}
 use Rattle.odht_base.specs.Image.{image_len}
 use Rattle.std.specs.Option.{option_map_or}
-use Rattle.odht.specs.Refusals.{new_refusal, slots_new_refusal, first_of, differs, ◌gives◌}
-use Rattle.odht.specs.declared.error.Error.TheVariants.{Capacity, InitLength}
+use Rattle.odht.specs.Refusals.{IsTooLarge, new_refusal, slots_new_refusal, first_of, differs, ◌gives◌}
+use Rattle.odht.specs.declared.error.Error.TheVariants.{Capacity, InitLength, Memory}
+use Rattle.odht.specs.declared.error.Error.{Error}
 use Rattle.odht.proofs.lemmas.FirstErrors.{false-differs}
 
 -- what is not below is no less
@@ -46,3 +47,15 @@ module _ (F : Format) (n f len : ℕ) where
         let short = not_le (2 ^ 64) (image_len F s) low in
         let right = false-differs len (image_len F s) same in
         some_slots ∙ (λ i. first_of ((short i gives Capacity) ∷ (right i gives InitLength len (image_len F s)) ∷ []))
+
+-- ---- a new table in memory of its own
+-- the default table is not too large
+pub default_fits : (F : Format) → F.key_len ≤ 255 → F.value_len ≤ 255 → IsTooLarge F 12 (factor_of 87) → ⊥
+unfolding slots_for
+default_fits F key value large = let long = large 16 refl in omega (arith, long, key, value)
+
+-- what is refused, and not for its capacity, is refused for want of memory
+pub only_memory : {T : Type 0} (r : Result T Error) → OnErr r ((r ≡ Err Capacity) ⊎ (r ≡ Err Memory)) → (r ≡ Err Capacity → ⊥) → OnErr r (r ≡ Err Memory)
+only_memory (Ok t) either fits = tt
+only_memory (Err e) (inl large) fits = absurd (fits large)
+only_memory (Err e) (inr refused) fits = refused

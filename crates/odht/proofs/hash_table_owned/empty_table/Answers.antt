@@ -1,4 +1,4 @@
-use Rattle.std.proofs.Common.{◌∙◌, ◌≡◌, rules, sym, arith}
+use Rattle.std.proofs.Common.{◌∙◌, rules, sym}
 use Rattle.odht_base.specs.Format.{format_of}
 use Rattle.odht_base.proofs.lemmas.Rooms.{empty-IsValid}
 use Rattle.odht.proofs.lemmas.NewTables.{with_count-new}

@@ -1,11 +1,10 @@
-use Rattle.std.proofs.Common.{◌∙◌, ◌≡◌, ◌<◌, ◌^◌, ◌*◌, rules, sym, ap, subst, arith, length, ◌+◌, [], Some}
+use Rattle.std.proofs.Common.{◌∙◌, ◌≡◌, ◌<◌, ◌^◌, ◌*◌, sym, ap, subst, arith, ◌+◌, [], Some}
 use Rattle.std.proofs.Math.Nat.{max_comm}
-use Rattle.std.specs.Prelude.{max, slice_index}
+use Rattle.std.specs.Prelude.{max}
 use Rattle.odht_base.specs.Format.{Format, format_of}
-use Rattle.odht_base.specs.Insert.{grown_slots}
 use Rattle.odht_base.specs.Load.{slots_for}
 use Rattle.odht_base.specs.Shown.{stated_count, stated_factor}
-use Rattle.odht_base.specs.Table.{Table, count, empty, slot_count}
+use Rattle.odht_base.specs.Table.{count, empty, slot_count}
 use Rattle.odht_base.specs.Valid.{IsImage}
 use Rattle.odht.proofs.lemmas.Growths.{IsGrownBelow, grown_none, grown_free, grown_insert, grown_all, count_small, cell_free, cell_filled}
 use Rattle.odht.proofs.lemmas.Formats.{IsFormat-format_of}
