@@ -1,5 +1,12 @@
 //! Runs a script: a list of lines, each of which makes, changes or shows a table.
-ghost use Rattle.std.specs.Prelude.{◌≡◌, ◌*◌, ◌/◌, ◌↔◌, ◌⊎◌, ◌<◌, ◌≤◌, IfOk, IfSome, IsErrOf};
+ghost use Rattle.std.specs.Prelude.{◌≡◌, ◌≢◌, ◌*◌, ◌/◌, ◌↔◌, ◌⊎◌, ◌<◌, ◌≤◌, false, IfOk, OnOk, IfSome, IsErrOf, IsNone, ℕ, List, Option, Result, codes};
+ghost use Rattle.std.specs.Io.KnownBytes.{IsAtEnd, Appends};
+ghost use Rattle.std.specs.Fmt.{digit_glyph};
+ghost use Rattle.odht.specs.declared.error.Error.{Error as Refused};
+ghost use Rattle.odht_table.specs.Answers.{line_of, hex_digits, hex_text, value_text, former_text, LacksRoom, IsGoodPercent, IsNewText, IsAnswerText, MayChange};
+ghost use Rattle.odht_table.specs.Commands.{IsCommandText};
+ghost use Rattle.odht_table.specs.declared.script.command.Request.{Request};
+ghost use Rattle.odht_table.specs.declared.script.command.Command.{Command};
 ghost use Rattle.odht_table.specs.declared.script.Refusal.TheVariants.{Memory};
 
 mod command;
@@ -8,6 +15,7 @@ use crate::my_config::MyConfig;
 use command::{Command, Request, parse};
 use odht::HashTable;
 use odht::bytes::OwnedBytes;
+use odht::config::Coded;
 use odht::error::Error;
 use odht::load::{Factor, max_item_count_for, slots_needed};
 use odht::memory_layout::bytes_needed;
@@ -30,6 +38,11 @@ pub enum Fault {
 }
 
 impl fmt::Display for Fault {
+    ghost use Rattle.std.specs.Prelude.{Some};
+    ghost use Rattle.odht_table.specs.Messages.{fault_text};
+
+    ghost output = { λ fault. Some (fault_text fault) };
+
     fn fmt<W: fmt::Write>(&self, f: &mut fmt::Formatter<W>) -> fmt::Result {
         match self {
             Fault::Read => write!(f, "read failed"),
@@ -58,7 +71,9 @@ pub fn run(alloc: Global, input: &mut impl Read, output: &mut impl Write) -> Res
 }
 
 fn read_script<R: Read>(alloc: Global, input: &mut R) -> Result<Vec<u8>, Fault>
-    ensures { IfOk result (λ script. IfSome (R.remaining input.old) (λ bytes. script.items ≡ bytes)) }
+    ensures bytes { IfOk result (λ script. IfSome (R.remaining input.old) (λ bytes. script.items ≡ bytes)) }
+    ensures end { OnOk result (IsAtEnd (R.remaining input.new)) }
+    ensures not_write { result ≢ Err Fault.Write }
 {
     let mut script = Vec::new(alloc);
     match input.read_to_end(&mut script) {
@@ -78,12 +93,17 @@ fn answer_lines(alloc: Global, script: &[u8], output: &mut impl Write) -> io::Re
     output.flush()
 }
 
-fn answer(
+fn answer<W: Write>(
     alloc: Global,
     line: &[u8],
     table: &mut Option<Table>,
-    output: &mut impl Write,
-) -> io::Result<()> {
+    output: &mut W,
+) -> io::Result<()>
+    ensures malformed { ((command : Command) → ¬ (IsCommandText line.now command))
+        → OnOk result (Appends (W.contents output.old) (W.contents output.new) (line_of (codes "malformed"))) }
+    ensures no_table { (request : Request) → IsCommandText line.now (Command.OnTable request) → IsNone table.old
+        → OnOk result (Appends (W.contents output.old) (W.contents output.new) (line_of (codes "no table"))) }
+{
     let Some(command) = parse(line) else {
         return writeln!(output, "malformed");
     };
@@ -99,7 +119,10 @@ fn answer(
     }
 }
 
-fn serve(table: &mut Table, request: Request, output: &mut impl Write) -> io::Result<()> {
+fn serve<W: Write>(table: &mut Table, request: Request, output: &mut W) -> io::Result<()>
+    ensures answer { OnOk result ((text : List ℕ) × IsAnswerText request table.old text × Appends (W.contents output.old) (W.contents output.new) (line_of text)) }
+    ensures kept { ¬ (MayChange request) → table.new ≡ table.old }
+{
     match request {
         Request::Put { key, value } => put(table, key, value, output),
         Request::Get { key } => get(table, key, output),
@@ -116,6 +139,11 @@ enum Refusal {
 }
 
 impl fmt::Display for Refusal {
+    ghost use Rattle.std.specs.Prelude.{Some};
+    ghost use Rattle.odht_table.specs.Messages.{refusal_text};
+
+    ghost output = { λ refusal. Some (refusal_text refusal) };
+
     fn fmt<W: fmt::Write>(&self, f: &mut fmt::Formatter<W>) -> fmt::Result {
         match self {
             Refusal::BadPercent => write!(f, "bad percent"),
@@ -142,13 +170,17 @@ struct Fresh {
 }
 
 // Puts a fresh table in the place of the former one, which stays where the fresh one is refused.
-fn renew(
+fn renew<W: Write>(
     alloc: Global,
     table: &mut Option<Table>,
     max_item_count: usize,
     percent: u64,
-    output: &mut impl Write,
-) -> io::Result<()> {
+    output: &mut W,
+) -> io::Result<()>
+    ensures answer { OnOk result ((text : List ℕ) × IsNewText ⟦<MyConfig as Coded>⟧.coding max_item_count percent text × Appends (W.contents output.old) (W.contents output.new) (line_of text)) }
+    ensures bad_percent { ¬ (IsGoodPercent percent) → table.new ≡ table.old }
+    ensures capacity { IsGoodPercent percent → LacksRoom ⟦<MyConfig as Coded>⟧.coding max_item_count (percent * 65535 / 100) → table.new ≡ table.old }
+{
     match make_fresh(alloc, max_item_count, percent) {
         Ok(fresh) => {
             *table = Some(fresh.table);
@@ -164,6 +196,7 @@ fn renew(
 
 fn make_fresh(alloc: Global, max_item_count: usize, percent: u64) -> Result<Fresh, Refusal>
     ensures bad_percent { IsErrOf result Refusal.BadPercent ↔ ((percent < 1) ⊎ (100 < percent)) }
+    ensures capacity { 1 ≤ percent → percent ≤ 100 → (IsErrOf result Refusal.Capacity ↔ LacksRoom ⟦<MyConfig as Coded>⟧.coding max_item_count (percent * 65535 / 100)) }
     ensures room { IfOk result (λ fresh. max_item_count ≤ fresh.max_item_count) }
     ensures most { IfOk result (λ fresh. fresh.max_item_count ≡ fresh.slot_count * (percent * 65535 / 100) / 65536) }
 {
@@ -175,9 +208,9 @@ fn make_fresh(alloc: Global, max_item_count: usize, percent: u64) -> Result<Fres
     let slot_count = slots_needed(max_item_count, factor).ok_or(Refusal::Capacity)?;
     let len = bytes_needed::<MyConfig>(slot_count).ok_or(Refusal::Capacity)?;
     let bytes = OwnedBytes::new(vec![in alloc; 0; len]?);
-    // The bytes have the length of the table, so nothing else can be refused.
     let Ok(table) = HashTable::init_in_place(bytes, max_item_count, percent) else {
-        return Err(Refusal::Capacity);
+        // There are slots enough, and the bytes have their length.
+        unreachable!()
     };
     Ok(Fresh {
         table,
@@ -186,27 +219,61 @@ fn make_fresh(alloc: Global, max_item_count: usize, percent: u64) -> Result<Fres
     })
 }
 
-fn put(table: &mut Table, key: u64, value: u32, output: &mut impl Write) -> io::Result<()> {
-    match table.insert(&key, &value) {
+fn put<W: Write>(table: &mut Table, key: u64, value: u32, output: &mut W) -> io::Result<()>
+    ensures { OnOk result ((former : Result (Option ℕ) Refused) × Appends (W.contents output.old) (W.contents output.new) (line_of (former_text former))) }
+{
+    write_former(table.insert(&key, &value), output)
+}
+
+// What stood at the key. A view refuses an insert only where it is full.
+fn write_former<W: Write>(former: Result<Option<u32>, Error>, output: &mut W) -> io::Result<()>
+    ensures { OnOk result (Appends (W.contents output.old) (W.contents output.new) (line_of (former_text former))) }
+{
+    match former {
         Ok(None) => writeln!(output, "none"),
-        Ok(Some(old)) => writeln!(output, "was {old}"),
-        Err(Error::Memory) => writeln!(output, "memory"),
-        // A view refuses an insert for no other reason.
+        Ok(Some(value)) => writeln!(output, "was {value}"),
         Err(_) => writeln!(output, "full"),
     }
 }
 
-fn get(table: &Table, key: u64, output: &mut impl Write) -> io::Result<()> {
-    match table.get(&key) {
+fn get<W: Write>(table: &Table, key: u64, output: &mut W) -> io::Result<()>
+    ensures { OnOk result ((value : Option ℕ) × Appends (W.contents output.old) (W.contents output.new) (line_of (value_text value))) }
+{
+    write_value(table.get(&key), output)
+}
+
+fn write_value<W: Write>(value: Option<u32>, output: &mut W) -> io::Result<()>
+    ensures { OnOk result (Appends (W.contents output.old) (W.contents output.new) (line_of (value_text value))) }
+{
+    match value {
         None => writeln!(output, "none"),
         Some(value) => writeln!(output, "{value}"),
     }
 }
 
 // Two lower-case digits for each byte, on one line.
-fn write_hex(bytes: &[u8], output: &mut impl Write) -> io::Result<()> {
+fn write_hex<W: Write>(bytes: &[u8], output: &mut W) -> io::Result<()>
+    ensures { OnOk result (Appends (W.contents output.old) (W.contents output.new) (line_of (hex_text bytes.now))) }
+{
     for byte in bytes {
-        write!(output, "{byte:02x}")?;
+        output.write_all(&hex_digits(*byte))?;
     }
-    writeln!(output)
+    output.write_all(b"\n")
+}
+
+fn hex_digits(byte: u8) -> [u8; 2]
+    ensures { result ≡ hex_digits byte }
+{
+    [hex_digit(byte / 16), hex_digit(byte % 16)]
+}
+
+fn hex_digit(value: u8) -> u8
+    requires { value < 16 }
+    ensures { result ≡ digit_glyph false value }
+{
+    if value < 10 {
+        b'0' + value
+    } else {
+        b'a' + (value - 10)
+    }
 }

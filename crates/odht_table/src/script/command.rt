@@ -1,6 +1,7 @@
 //! The lines of a script, and what they ask for.
-ghost use Rattle.std.specs.Prelude.{◌<◌, ◌^◌, SomeIff};
+ghost use Rattle.std.specs.Prelude.{◌≡◌, ℕ, ◌<◌, ◌^◌, SomeIff, IfSome};
 ghost use Rattle.std.specs.Str.Parse.{IsNumeral, digits_value};
+ghost use Rattle.odht_table.specs.Commands.{IsCommandText, IsPairText};
 
 /// What one line of a script asks for.
 #[derive(Clone, Copy, Debug, PartialEq, Eq)]
@@ -25,27 +26,44 @@ pub enum Request {
 /// The command of a line, which is given without its end. None where the line is malformed.
 ///
 /// Words are separated by exactly one space, so a further space is an empty word, which is no command and no number.
-pub fn parse(line: &[u8]) -> Option<Command> {
-    let mut words = std::str::from_utf8(line).ok()?.split(' ');
-    let command = match words.next()? {
-        "new" => Command::New {
-            max_item_count: parse_number(words.next()?)? as usize,
-            percent: parse_number(words.next()?)?,
-        },
-        "put" => Command::OnTable(Request::Put {
-            key: parse_number(words.next()?)?,
-            value: u32::try_from(parse_number(words.next()?)?).ok()?,
-        }),
-        "get" => Command::OnTable(Request::Get {
-            key: parse_number(words.next()?)?,
-        }),
-        "hex" => Command::OnTable(Request::Hex),
-        _ => return None,
+pub fn parse(line: &[u8]) -> Option<Command>
+    ensures reads { IfSome result (λ command. IsCommandText line.now command) }
+    ensures misses_none { (command : Command) → IsCommandText line.now command → result ≡ Some command }
+{
+    let line = std::str::from_utf8(line).ok()?;
+    let Some((name, numbers)) = line.split_once(' ') else {
+        return (line == "hex").then_some(Command::OnTable(Request::Hex));
     };
-    match words.next() {
-        None => Some(command),
-        Some(_) => None,
+    match name {
+        "new" => {
+            let (max_item_count, percent) = parse_pair(numbers)?;
+            Some(Command::New {
+                max_item_count: max_item_count as usize,
+                percent,
+            })
+        }
+        "put" => {
+            let (key, value) = parse_pair(numbers)?;
+            let value = u32::try_from(value).ok()?;
+            Some(Command::OnTable(Request::Put { key, value }))
+        }
+        "get" => {
+            let key = parse_number(numbers)?;
+            Some(Command::OnTable(Request::Get { key }))
+        }
+        _ => None,
     }
+}
+
+// The two numbers of two words.
+fn parse_pair(words: &str) -> Option<(u64, u64)>
+    ensures reads { IfSome result (λ pair. IsPairText words.now pair.0 pair.1) }
+    ensures misses_none { (m n : ℕ) → IsPairText words.now m n → result ≡ Some (m, n) }
+{
+    let (first, second) = words.split_once(' ')?;
+    let first = parse_number(first)?;
+    let second = parse_number(second)?;
+    Some((first, second))
 }
 
 // The number that a word of digits writes. A sign is no digit, and `parse` alone would take a plus.

@@ -1,0 +1,4 @@
+-- laws over the texts of commands
+pub mod CommandTexts
+-- laws over the answers to `new`
+pub mod NewTexts

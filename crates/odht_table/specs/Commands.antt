@@ -1,0 +1,29 @@
+-- Which lines of a script are commands. A line is its bytes, without its end.
+--     IsNumberText word n      the word is decimal digits, one or more, that write n, which is below 2 ^ 64
+--     IsPairText words m n     the words are two numbers' texts, m and n, with one space between them
+--     IsCommandText line c     the line is the word `new`, `put` or `get`, one space and the numbers of the command c;
+--                              or the word `hex` alone
+-- A space is the byte 32. Digits may begin with zeros; a sign is no digit.
+use Rattle.std.specs.Prelude.{◌≡◌, ℕ, ◌^◌, ◌<◌, List, ◌∷◌, ◌++◌, codes}
+use Rattle.std.specs.Str.Parse.{IsNumeral, digits_value}
+use Rattle.odht_table.specs.declared.script.command.Command.{Command}
+use Rattle.odht_table.specs.declared.script.command.Command.TheVariants.{New, OnTable}
+use Rattle.odht_table.specs.declared.script.command.Request.TheVariants.{Put, Get, Hex}
+
+pub record IsNumberText (word : List ℕ) (n : ℕ) : Type 0 where
+  pub numeral : IsNumeral 10 word
+  pub value : digits_value 10 word ≡ n
+  pub fits : n < 2 ^ 64
+
+pub record IsPairText (words : List ℕ) (m n : ℕ) : Type 0 where
+  pub first : List ℕ
+  pub second : List ℕ
+  pub whole : words ≡ first ++ (32 ∷ second)
+  pub first_number : IsNumberText first m
+  pub second_number : IsNumberText second n
+
+abbrev pub IsCommandText : List ℕ → Command → Type 0
+IsCommandText line (New items percent) = (words : List ℕ) × (line ≡ codes "new " ++ words) × IsPairText words items percent
+IsCommandText line (OnTable (Put key value)) = (words : List ℕ) × (line ≡ codes "put " ++ words) × IsPairText words key value × (value < 2 ^ 32)
+IsCommandText line (OnTable (Get key)) = (word : List ℕ) × (line ≡ codes "get " ++ word) × IsNumberText word key
+IsCommandText line (OnTable Hex) = line ≡ codes "hex"

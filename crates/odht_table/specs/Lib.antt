@@ -1,0 +1,4 @@
+-- What the contracts of the program say: its commands, its answers and its messages.
+pub mod Answers
+pub mod Commands
+pub mod Messages
