@@ -33,5 +33,7 @@ pub mod NewRefusals
 pub mod ViewInserts
 -- a growth, slot by slot
 pub mod Growths
+-- inserts in turn
+pub mod Fillings
 -- what is written of bytes in the text of an error
 pub mod ErrorTexts

@@ -11,3 +11,5 @@ pub mod Refusals
 pub mod Frame
 -- what is written of an error
 pub mod ErrorTexts
+-- lists of keys and values that are inserted in turn
+pub mod Lists

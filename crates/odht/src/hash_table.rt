@@ -1,5 +1,5 @@
 //! The table over bytes of any kind.
-ghost use Rattle.std.specs.Prelude.{◌≡◌, ℕ, ◌≤◌, ◌↔◌, length, option_map, IfOk, IfSome, IsOk, IsSome, IsTrue, OnErr};
+ghost use Rattle.std.specs.Prelude.{◌≡◌, ℕ, ◌≤◌, ◌↔◌, length, take, option_map, IfOk, IfSome, IsOk, IsSome, IsTrue, OnErr};
 ghost use Rattle.std.specs.Result.{result_err};
 ghost use Rattle.odht_base.specs.Load.{factor_of, max_items};
 ghost use Rattle.odht_base.specs.Table.{Table, count, slot_count, fresh};
@@ -8,6 +8,7 @@ ghost use Rattle.odht_base.specs.Insert.{put_view};
 ghost use Rattle.odht_base.specs.Shown.{stated_count, HoldsKey};
 ghost use Rattle.odht_base.specs.Valid.{IsImage};
 ghost use Rattle.odht.specs.Coding.{value_for, encoded, HasStored};
+ghost use Rattle.odht.specs.Lists.{encoded_all, IsFilled};
 ghost use Rattle.odht.specs.Frame.{IsAccepted, IsFramed, IsBytesFramed};
 ghost use Rattle.odht.specs.Refusals.{new_refusal, view_refusal};
 
@@ -109,6 +110,15 @@ impl<C: Config, D: ByteStore> HashTable<C, D> {
         self.allocation.raw_bytes()
     }
 
+    /// The data, with the bytes as they are now.
+    #[inline]
+    pub fn into_data(self) -> D
+        ensures { D.bytes result ≡ self }
+    {
+        let HashTable { allocation } = self;
+        allocation.into_store()
+    }
+
     /// The bytes and their parts.
     #[inline]
     pub(crate) fn allocation(&self) -> &Allocation<C, D>
@@ -182,6 +192,28 @@ impl<C: Config, D: ByteStoreMut> HashTable<C, D> {
             Ok(None) => Ok(None),
             Err(refused) => Err(refused),
         }
+    }
+
+    /// Inserts the items in their order, and stops at the first that is refused. Answers how many were accepted, and `Full`
+    /// where there was a refusal: the table is then as the accepted ones left it.
+    pub fn insert_all(&mut self, items: &[(C::Key, C::Value)]) -> (usize, Result<(), Error>)
+        ensures bound { result.0 ≤ length items.now }
+        ensures all { IsOk result.1 ↔ (result.0 ≡ length items.now) }
+        ensures filled { (P : Table)
+            → IsImage ⟦<C as Coded>⟧.coding.format P self.old
+            → IsFilled ⟦<C as Coded>⟧.coding.format (put_view ⟦<C as Coded>⟧.coding.format) P (encoded_all ⟦<C as Coded>⟧.coding (take result.0 items.now)) self.new }
+        ensures at_maximum { (P : Table)
+            → IsImage ⟦<C as Coded>⟧.coding.format P self.new
+            → OnErr result.1 (count P ≡ max_items (slot_count P) P.factor) }
+        ensures only_full { OnErr result.1 (result.1 ≡ Err Error.Full) }
+    {
+        for accepted in 0..items.len() {
+            let (key, value) = &items[accepted];
+            if let Err(refused) = self.insert(key, value) {
+                return (accepted, Err(refused));
+            }
+        }
+        (items.len(), Ok(()))
     }
 
     /// `insert` of a pair that is encoded, with the former value as it stood in the bytes.

@@ -1,11 +1,12 @@
 //! The table that owns its bytes, and grows.
-ghost use Rattle.std.specs.Prelude.{◌≡◌, ℕ, ◌≤◌, ◌↔◌, ◌⊎◌, option_map, IfOk, IsSome, IsTrue, OnErr};
+ghost use Rattle.std.specs.Prelude.{◌≡◌, ℕ, ◌≤◌, ◌↔◌, ◌⊎◌, length, take, option_map, IfOk, IsOk, IsSome, IsTrue, OnErr};
 ghost use Rattle.odht_base.specs.Load.{factor_of, max_items, slots_for};
 ghost use Rattle.odht_base.specs.Table.{Table, count, slot_count, empty, fresh};
 ghost use Rattle.odht_base.specs.Map.{map_of};
 ghost use Rattle.odht_base.specs.Insert.{grown, put_owned};
 ghost use Rattle.odht_base.specs.Valid.{IsImage, IsValidBytes};
 ghost use Rattle.odht.specs.Coding.{value_for, encoded};
+ghost use Rattle.odht.specs.Lists.{encoded_all, IsFilled};
 ghost use Rattle.odht.specs.Refusals.{IsTooLarge};
 
 use crate::bytes::OwnedBytes;
@@ -158,6 +159,28 @@ impl<C: Config> HashTableOwned<C> {
         };
         self.table = grown;
         Ok(old)
+    }
+
+    /// Inserts the items in their order, and stops at the first that is refused. Answers how many were accepted, and
+    /// `Memory` where there was a refusal: the table is then as the accepted ones left it, at its maximum.
+    pub fn insert_all(&mut self, items: &[(C::Key, C::Value)]) -> (usize, Result<(), Error>)
+        ensures bound { result.0 ≤ length items.now }
+        ensures all { IsOk result.1 ↔ (result.0 ≡ length items.now) }
+        ensures filled { (P : Table)
+            → IsImage ⟦<C as Coded>⟧.coding.format P self.old
+            → IsFilled ⟦<C as Coded>⟧.coding.format (put_owned ⟦<C as Coded>⟧.coding.format) P (encoded_all ⟦<C as Coded>⟧.coding (take result.0 items.now)) self.new }
+        ensures at_maximum { (P : Table)
+            → IsImage ⟦<C as Coded>⟧.coding.format P self.new
+            → OnErr result.1 (count P ≡ max_items (slot_count P) P.factor) }
+        ensures memory { OnErr result.1 (result.1 ≡ Err Error.Memory) }
+    {
+        for accepted in 0..items.len() {
+            let (key, value) = &items[accepted];
+            if let Err(refused) = self.insert(key, value) {
+                return (accepted, Err(refused));
+            }
+        }
+        (items.len(), Ok(()))
     }
 
     // The pairs of this table, in slot order, in a table with the slots for twice as many, and for one at least.

@@ -367,6 +367,15 @@ impl<C: Config, M: ByteStore> Allocation<C, M> {
         self.store.bytes()
     }
 
+    /// The store, with the bytes as they are now.
+    #[inline]
+    pub fn into_store(self) -> M
+        ensures { M.bytes result ≡ self }
+    {
+        let Allocation { store, config: _ } = self;
+        store
+    }
+
     /// A reader of the header.
     #[inline]
     pub fn header(&self) -> Header<'_>
