@@ -1,20 +1,34 @@
 -- Lists of keys and values that are inserted in turn.
 --     encoded_all c items  the items as pairs
 --     IsFilled F put P ps B  B are the bytes of the table after the inserts `put` of the pairs ps into P, which has their
---                          last values over those of P
-use Rattle.std.specs.Prelude.{◌≡◌, ℕ, List, map, Option, Some}
+--                          last values over those of P; where all have room below its maximum, its size stays
+--     HasSizeOf P Q        Q has the slot count and the load factor of P
+--     IsFreshFilled c p items B  B are the bytes of the fresh table for as many items at p percent, after these are put into
+--                          it by the owned table; it has not grown
+use Rattle.std.specs.Prelude.{◌≡◌, ℕ, ◌+◌, ◌≤◌, List, length, map, Option, Some}
 use Rattle.odht_base.specs.Format.{Format}
-use Rattle.odht_base.specs.Insert.{run}
+use Rattle.odht_base.specs.Insert.{run, put_owned}
+use Rattle.odht_base.specs.Load.{max_items}
 use Rattle.odht_base.specs.Map.{map_of, last, overwritten}
-use Rattle.odht_base.specs.Table.{Pair, Table}
+use Rattle.odht_base.specs.Table.{Pair, Table, fresh, slot_count, count}
 use Rattle.odht_base.specs.Valid.{IsImage}
 use Rattle.odht.specs.Coding.{Coding, encoded}
 
 abbrev pub encoded_all : {K V : Type 0} → Coding K V → List (K × V) → List Pair
 encoded_all c items = map (λ item. encoded c item.0 item.1) items
 
+abbrev pub HasSizeOf : Table → Table → Type 0
+HasSizeOf P Q = (slot_count Q ≡ slot_count P) × (Q.factor ≡ P.factor)
+
 pub record IsFilled (F : Format) (put : Table → Pair → Option Table) (P : Table) (ps : List Pair) (B : List ℕ) : Type 0 where
   pub table : Table
   pub runs : run put P ps ≡ Some table
   pub image : IsImage F table B
   pub maps : (k : List ℕ) → map_of table k ≡ overwritten (map_of P) (last ps) k
+  pub stays : count P + length ps ≤ max_items (slot_count P) P.factor → HasSizeOf P table × (count table ≤ count P + length ps)
+
+pub record IsFreshFilled {K V : Type 0} (c : Coding K V) (percent : ℕ) (items : List (K × V)) (B : List ℕ) : Type 0 where
+  pub start : Table
+  pub new : fresh (length items) percent ≡ Some start
+  pub filled : IsFilled c.format (put_owned c.format) start (encoded_all c items) B
+  pub never_grown : HasSizeOf start filled.table

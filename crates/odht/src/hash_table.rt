@@ -1,7 +1,8 @@
 //! The table over bytes of any kind.
-ghost use Rattle.std.specs.Prelude.{◌≡◌, ℕ, ◌≤◌, ◌↔◌, length, take, option_map, IfOk, IfSome, IsOk, IsSome, IsTrue, OnErr};
+ghost use Rattle.std.specs.Prelude.{◌≡◌, ℕ, ◌≤◌, ◌↔◌, length, take, option_map, IfOk, IfSome, IsOk, IsSome, IsNone, IsTrue, OnErr};
 ghost use Rattle.std.specs.Result.{result_err};
-ghost use Rattle.odht_base.specs.Load.{factor_of, max_items};
+ghost use Rattle.odht_base.specs.Load.{factor_of, max_items, slots_for};
+ghost use Rattle.odht_base.specs.Image.{image_len};
 ghost use Rattle.odht_base.specs.Table.{Table, count, slot_count, fresh};
 ghost use Rattle.odht_base.specs.Map.{map_of};
 ghost use Rattle.odht_base.specs.Insert.{put_view};
@@ -10,7 +11,7 @@ ghost use Rattle.odht_base.specs.Valid.{IsImage};
 ghost use Rattle.odht.specs.Coding.{value_for, encoded, HasStored};
 ghost use Rattle.odht.specs.Lists.{encoded_all, IsFilled};
 ghost use Rattle.odht.specs.Frame.{IsAccepted, IsFramed, IsBytesFramed};
-ghost use Rattle.odht.specs.Refusals.{new_refusal, view_refusal};
+ghost use Rattle.odht.specs.Refusals.{IsTooLarge, new_refusal, view_refusal};
 
 use crate::bytes::{ByteArray, ByteStore, ByteStoreMut};
 use crate::config::{Coded, Config};
@@ -20,6 +21,19 @@ use crate::load::{Factor, max_item_count_for, slots_needed};
 use crate::memory_layout::{self, Allocation};
 use crate::raw_table::{Search, plain_find, plain_search, tag_of};
 use std::marker::Model;
+
+/// How many bytes a new table for `max_item_count` items has. None exactly where no slot count is enough, or the length
+/// passes `usize`.
+pub fn bytes_needed<C: Config>(max_item_count: usize, max_load_factor_percent: u8) -> Option<usize>
+    requires low { 1 ≤ max_load_factor_percent }
+    requires high { max_load_factor_percent ≤ 100 }
+    ensures len { IfSome result (λ len. (s : ℕ) × (slots_for max_item_count (factor_of max_load_factor_percent) ≡ Some s) × (len ≡ image_len ⟦<C as Coded>⟧.coding.format s)) }
+    ensures none { IsNone result ↔ IsTooLarge ⟦<C as Coded>⟧.coding.format max_item_count (factor_of max_load_factor_percent) }
+{
+    let factor = Factor::from_percent(max_load_factor_percent);
+    let slot_count = slots_needed(max_item_count, factor)?;
+    memory_layout::bytes_needed::<C>(slot_count)
+}
 
 /// A table in the bytes of a store. A contract speaks of it as of these bytes.
 #[derive(Drop)]

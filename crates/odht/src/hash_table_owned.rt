@@ -1,12 +1,13 @@
 //! The table that owns its bytes, and grows.
-ghost use Rattle.std.specs.Prelude.{◌≡◌, ℕ, ◌≤◌, ◌↔◌, ◌⊎◌, length, take, option_map, IfOk, IsOk, IsSome, IsTrue, OnErr};
+ghost use Rattle.std.specs.Prelude.{◌≡◌, ℕ, List, ◌≤◌, ◌↔◌, ◌⊎◌, length, take, option_map, IfOk, IsOk, IsSome, IsTrue, IsErrOf, OnErr};
 ghost use Rattle.odht_base.specs.Load.{factor_of, max_items, slots_for};
 ghost use Rattle.odht_base.specs.Table.{Table, count, slot_count, empty, fresh};
 ghost use Rattle.odht_base.specs.Map.{map_of};
 ghost use Rattle.odht_base.specs.Insert.{grown, put_owned};
 ghost use Rattle.odht_base.specs.Valid.{IsImage, IsValidBytes};
 ghost use Rattle.odht.specs.Coding.{value_for, encoded};
-ghost use Rattle.odht.specs.Lists.{encoded_all, IsFilled};
+ghost use Rattle.odht.specs.Lists.{encoded_all, IsFilled, IsFreshFilled};
+ghost use Rattle.std.specs.Iterator.{Drains, IsFinite};
 ghost use Rattle.odht.specs.Refusals.{IsTooLarge};
 
 use crate::bytes::OwnedBytes;
@@ -68,6 +69,30 @@ impl<C: Config> HashTableOwned<C> {
         ensures memory { OnErr result (result ≡ Err Error.Memory) }
     {
         Self::with_capacity(alloc, 12, 87)
+    }
+
+    /// A table of the items, which are collected first: made for as many as there are, so it never grows. An item with the
+    /// key of an earlier one gives it its value.
+    ///
+    /// `Capacity` only where no slot count is enough for so many items, or its length passes `usize`; `Memory` where memory
+    /// was refused.
+    pub fn from_iterator<I: Iterator<Item = (C::Key, C::Value)> + Drop>(
+        alloc: Global,
+        items: I,
+        max_load_factor_percent: u8,
+    ) -> Result<Self, Error>
+        requires can { I.can_next items }
+        requires ends { IsFinite (I.remaining items) }
+        requires low { 1 ≤ max_load_factor_percent }
+        requires high { max_load_factor_percent ≤ 100 }
+        ensures ok { IfOk result (λ t. (xs : List (C.Key × C.Value)) × Drains I.next_gives items xs × IsFreshFilled ⟦<C as Coded>⟧.coding max_load_factor_percent xs t) }
+        ensures capacity { IsErrOf result Error.Capacity → (xs : List (C.Key × C.Value)) × Drains I.next_gives items xs × IsTooLarge ⟦<C as Coded>⟧.coding.format (length xs) (factor_of max_load_factor_percent) }
+        ensures memory { OnErr result ((result ≡ Err Error.Capacity) ⊎ (result ≡ Err Error.Memory)) }
+    {
+        let items: Vec<(C::Key, C::Value)> = items.collect(alloc)?;
+        let mut table = Self::with_capacity(alloc, items.len(), max_load_factor_percent)?;
+        table.insert_all(items.as_slice()).1?;
+        Ok(table)
     }
 
     /// The value of a key: that of its last insert.

@@ -2,7 +2,7 @@
 #![tactic(auto)]
 
 pub use config::Config;
-pub use hash_table::HashTable;
+pub use hash_table::{HashTable, bytes_needed};
 pub use hash_table_owned::HashTableOwned;
 pub use odht_base::hash::{FxHashFn, HashFn, UnHashFn};
 pub use odht_base::{bytes, hash, load, swisstable_group_query};

@@ -1,21 +1,25 @@
 -- Inserts in turn: one more pair.
-use Rattle.std.proofs.Common.{◌≡◌, ◌<◌, ◌+◌, ◌∙◌, ◌++◌, ℕ, Bool, true, false, cond, sym, ap, refl, List, [], ◌∷◌, Option, Some, None, map, take, length, bytes_eq, get_or}
-use Rattle.std.proofs.lemmas.List.{take_more, map-append}
+use Rattle.std.proofs.Common.{◌≡◌, ◌<◌, ◌≤◌, ◌+◌, ◌∙◌, ◌++◌, ℕ, Bool, true, false, cond, sym, ap, refl, List, [], ◌∷◌, Option, Some, None, take, length, bytes_eq, get_or, arith, length-append}
+use Rattle.std.proofs.lemmas.List.{take_more, map-append, length-map}
 use Rattle.std.specs.Prelude.{option_and_then}
 use Rattle.std.specs.Option.{option_or}
 use Rattle.odht_base.specs.Format.{Format}
-use Rattle.odht_base.specs.Insert.{run}
+use Rattle.odht_base.specs.Insert.{place, put_owned}
+use Rattle.odht_base.specs.Load.{max_items, factor_of}
 use Rattle.odht_base.specs.Map.{map_of, last, overwritten}
-use Rattle.odht_base.specs.Table.{Pair, Table}
+use Rattle.odht_base.specs.Table.{Pair, Table, count, slot_count, fresh}
 use Rattle.odht_base.specs.Valid.{IsImage, IsValid}
+use Rattle.odht_base.proofs.lemmas.FreshRuns.{PlacesBelow}
+use Rattle.odht_base.proofs.lemmas.Places.{slot_count-place, factor-place, count-place_le}
+use Rattle.odht_base.proofs.lemmas.Rooms.{fresh-slots, slot_count-empty, count-empty, max_items-holds}
 use Rattle.odht_base.proofs.lemmas.Runs.{IsInsert, run-push, last-append, last-cons}
 use Rattle.odht.specs.Coding.{Coding, encoded}
-use Rattle.odht.specs.Lists.{encoded_all, IsFilled}
+use Rattle.odht.specs.Lists.{encoded_all, HasSizeOf, IsFilled, IsFreshFilled}
 
-module _ (F : Format) (put : Table → Pair → Option Table) (is : IsInsert F (IsValid F) put) (P : Table) where
+module _ (F : Format) (put : Table → Pair → Option Table) (is : IsInsert F (IsValid F) put) (places : PlacesBelow F put) (P : Table) where
   -- no inserts leave the table
   pub filled_none : (B : List ℕ) → IsImage F P B → IsFilled F put P [] B
-  filled_none B image = record { table = P; runs = refl; image = image; maps = λ k. refl }
+  filled_none B image = record { table = P; runs = refl; image = image; maps = λ k. refl; stays = λ room. ((refl, refl), omega arith) }
 
   -- one more gives its key this value
   pub filled_more : (ps : List Pair) (p : Pair) (B C : List ℕ) (h : IsFilled F put P ps B) (Q : Table) → put h.table p ≡ Some Q → IsImage F Q C → IsFilled F put P (ps ++ p ∷ []) C
@@ -24,8 +28,21 @@ module _ (F : Format) (put : Table → Pair → Option Table) (is : IsInsert F (
     runs = run-push put P ps p ∙ ap (option_and_then (λ R. put R p)) h.runs ∙ e;
     image = image;
     maps = λ k. is.maps h.table Q p h.image.valid e k ∙ go k (bytes_eq k p.key) refl;
+    stays = stays;
   }
     where
+      long : length (ps ++ p ∷ []) ≡ length ps + 1
+      long = length-append ps (p ∷ [])
+
+      stays : count P + length (ps ++ p ∷ []) ≤ max_items (slot_count P) P.factor → HasSizeOf P Q × (count Q ≤ count P + length (ps ++ p ∷ []))
+      stays room =
+          let so_far = h.stays (omega (arith, room, long)) in
+          let max_is : max_items (slot_count h.table) h.table.factor ≡ max_items (slot_count P) P.factor = λ i. max_items (so_far.0.0 i) (so_far.0.1 i) in
+          let placed : place F h.table p ≡ Some Q = sym (places h.table p h.image.valid (omega (arith, so_far.1, room, long, max_is))) ∙ e in
+          let valid = h.image.valid.placed in
+          let few = count-place_le F h.table Q p valid placed in
+          ((slot_count-place F h.table Q p valid placed ∙ so_far.0.0, factor-place F h.table Q p valid placed ∙ so_far.0.1), omega (arith, few, so_far.1, long))
+
       -- the last value of a key, by whether it is the last pair's
       latest : (k : List ℕ) (b : Bool) → bytes_eq k p.key ≡ b → last (ps ++ p ∷ []) k ≡ option_or (cond b (Some p.value) None) (last ps k)
       latest k b t = last-append ps (p ∷ []) k ∙ ap (λ o. option_or o (last ps k)) (last-cons p [] k ∙ ap (λ c. cond c (Some p.value) None) t)
@@ -39,3 +56,16 @@ pub encoded_all-more : {K V : Type 0} (c : Coding K V) (items : List (K × V)) (
     → encoded_all c (take (n + 1) items) ≡ encoded_all c (take n items) ++ encoded c item.0 item.1 ∷ []
 encoded_all-more {K = K} {V = V} c items n item low at =
     ap (encoded_all c) (take_more items n item low ∙ ap (λ t. take n items ++ t ∷ []) at) ∙ map-append (λ (t : K × V). encoded c t.0 t.1) (take n items) (item ∷ [])
+
+-- the fresh table for as many items as are put into it never grows
+pub fresh_filled : {K V : Type 0} (c : Coding K V) (percent : ℕ) (items : List (K × V)) (B : List ℕ) (P : Table) → fresh (length items) percent ≡ Some P
+    → IsFilled c.format (put_owned c.format) P (encoded_all c items) B → IsFreshFilled c percent items B
+fresh_filled {K = K} {V = V} c percent items B P new filled =
+    let s = fresh-slots (length items) percent P new in
+    let long : length (encoded_all c items) ≡ length items = length-map items (λ (t : K × V). encoded c t.0 t.1) in
+    let holds = max_items-holds (length items) s.0 (factor_of percent) s.1.holds in
+    let empty : count P ≡ 0 = ap count (sym s.2) ∙ count-empty s.0 (factor_of percent) in
+    let slots : slot_count P ≡ s.0 = ap slot_count (sym s.2) ∙ slot_count-empty s.0 (factor_of percent) in
+    let factor : P.factor ≡ factor_of percent = ap (λ (Q : Table). Q.factor) (sym s.2) in
+    let most : max_items (slot_count P) P.factor ≡ max_items s.0 (factor_of percent) = λ i. max_items (slots i) (factor i) in
+    record { start = P; new = new; filled = filled; never_grown = (filled.stays (omega (arith, long, holds, empty, most))).0 }
