@@ -18,6 +18,8 @@ mod load_factors;
 #[cfg(test)]
 mod opened_tables;
 #[cfg(test)]
+mod owned_tables;
+#[cfg(test)]
 mod plain_tables;
 #[cfg(test)]
 mod table_bytes;
