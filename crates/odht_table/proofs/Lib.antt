@@ -2,3 +2,5 @@
 pub mod CommandTexts
 -- laws over the answers to `new`
 pub mod NewTexts
+-- what a `put` answers and leaves
+pub mod Puts

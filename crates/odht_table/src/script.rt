@@ -1,9 +1,12 @@
 //! Runs a script: a list of lines, each of which makes, changes or shows a table.
-ghost use Rattle.std.specs.Prelude.{◌≡◌, ◌≢◌, ◌*◌, ◌/◌, ◌↔◌, ◌⊎◌, ◌<◌, ◌≤◌, false, IfOk, OnOk, IfSome, IsErrOf, IsNone, ℕ, List, Option, Result, codes};
+ghost use Rattle.std.specs.Prelude.{◌≡◌, ◌≢◌, ◌*◌, ◌/◌, ◌↔◌, ◌⊎◌, ◌<◌, ◌≤◌, false, IfOk, OnOk, IfSome, IsErrOf, IsNone, Some, ℕ, List, Option, Result, codes};
 ghost use Rattle.std.specs.Io.KnownBytes.{IsAtEnd, Appends};
 ghost use Rattle.std.specs.Fmt.{digit_glyph};
+ghost use Rattle.odht_base.specs.Table.{Table as Plain, fresh};
+ghost use Rattle.odht_base.specs.Valid.{IsImage};
+ghost use Rattle.odht.specs.Coding.{encoded, value_for};
 ghost use Rattle.odht.specs.declared.error.Error.{Error as Refused};
-ghost use Rattle.odht_table.specs.Answers.{line_of, hex_digits, hex_text, value_text, former_text, LacksRoom, IsGoodPercent, IsNewText, IsAnswerText, MayChange};
+ghost use Rattle.odht_table.specs.Answers.{line_of, hex_digits, hex_text, value_text, former_text, former_value, request_text, after_put, after_request, LacksRoom, IsGoodPercent, IsNewText, IsAnswerText, MayChange};
 ghost use Rattle.odht_table.specs.Commands.{IsCommandText};
 ghost use Rattle.odht_table.specs.declared.script.command.Request.{Request};
 ghost use Rattle.odht_table.specs.declared.script.command.Command.{Command};
@@ -103,6 +106,16 @@ fn answer<W: Write>(
         → OnOk result (Appends (W.contents output.old) (W.contents output.new) (line_of (codes "malformed"))) }
     ensures no_table { (request : Request) → IsCommandText line.now (Command.OnTable request) → IsNone table.old
         → OnOk result (Appends (W.contents output.old) (W.contents output.new) (line_of (codes "no table"))) }
+    ensures on_valid { (request : Request) (bytes : List ℕ) (P : Plain)
+        → IsCommandText line.now (Command.OnTable request)
+        → table.old ≡ Some bytes
+        → IsImage ⟦<MyConfig as Coded>⟧.coding.format P bytes
+        → OnOk result (Appends (W.contents output.old) (W.contents output.new) (line_of (request_text ⟦<MyConfig as Coded>⟧.coding P bytes request))) }
+    ensures table { (request : Request) (bytes : List ℕ) (P : Plain)
+        → IsCommandText line.now (Command.OnTable request)
+        → table.old ≡ Some bytes
+        → IsImage ⟦<MyConfig as Coded>⟧.coding.format P bytes
+        → IfSome table.new (IsImage ⟦<MyConfig as Coded>⟧.coding.format (after_request ⟦<MyConfig as Coded>⟧.coding P request)) }
 {
     let Some(command) = parse(line) else {
         return writeln!(output, "malformed");
@@ -121,6 +134,12 @@ fn answer<W: Write>(
 
 fn serve<W: Write>(table: &mut Table, request: Request, output: &mut W) -> io::Result<()>
     ensures answer { OnOk result ((text : List ℕ) × IsAnswerText request table.old text × Appends (W.contents output.old) (W.contents output.new) (line_of text)) }
+    ensures on_valid { (P : Plain)
+        → IsImage ⟦<MyConfig as Coded>⟧.coding.format P table.old
+        → OnOk result (Appends (W.contents output.old) (W.contents output.new) (line_of (request_text ⟦<MyConfig as Coded>⟧.coding P table.old request))) }
+    ensures table { (P : Plain)
+        → IsImage ⟦<MyConfig as Coded>⟧.coding.format P table.old
+        → IsImage ⟦<MyConfig as Coded>⟧.coding.format (after_request ⟦<MyConfig as Coded>⟧.coding P request) table.new }
     ensures kept { ¬ (MayChange request) → table.new ≡ table.old }
 {
     match request {
@@ -178,6 +197,7 @@ fn renew<W: Write>(
     output: &mut W,
 ) -> io::Result<()>
     ensures answer { OnOk result ((text : List ℕ) × IsNewText ⟦<MyConfig as Coded>⟧.coding max_item_count percent text × Appends (W.contents output.old) (W.contents output.new) (line_of text)) }
+    ensures table { (table.new ≡ table.old) ⊎ IfSome table.new (λ made. (P : Plain) × (fresh max_item_count percent ≡ Some P) × IsImage ⟦<MyConfig as Coded>⟧.coding.format P made) }
     ensures bad_percent { ¬ (IsGoodPercent percent) → table.new ≡ table.old }
     ensures capacity { IsGoodPercent percent → LacksRoom ⟦<MyConfig as Coded>⟧.coding max_item_count (percent * 65535 / 100) → table.new ≡ table.old }
 {
@@ -197,6 +217,7 @@ fn renew<W: Write>(
 fn make_fresh(alloc: Global, max_item_count: usize, percent: u64) -> Result<Fresh, Refusal>
     ensures bad_percent { IsErrOf result Refusal.BadPercent ↔ ((percent < 1) ⊎ (100 < percent)) }
     ensures capacity { 1 ≤ percent → percent ≤ 100 → (IsErrOf result Refusal.Capacity ↔ LacksRoom ⟦<MyConfig as Coded>⟧.coding max_item_count (percent * 65535 / 100)) }
+    ensures table { IfOk result (λ made. (P : Plain) × (fresh max_item_count percent ≡ Some P) × IsImage ⟦<MyConfig as Coded>⟧.coding.format P made.table) }
     ensures room { IfOk result (λ fresh. max_item_count ≤ fresh.max_item_count) }
     ensures most { IfOk result (λ fresh. fresh.max_item_count ≡ fresh.slot_count * (percent * 65535 / 100) / 65536) }
 {
@@ -220,7 +241,13 @@ fn make_fresh(alloc: Global, max_item_count: usize, percent: u64) -> Result<Fres
 }
 
 fn put<W: Write>(table: &mut Table, key: u64, value: u32, output: &mut W) -> io::Result<()>
-    ensures { OnOk result ((former : Result (Option ℕ) Refused) × Appends (W.contents output.old) (W.contents output.new) (line_of (former_text former))) }
+    ensures answer { OnOk result ((former : Result (Option ℕ) Refused) × Appends (W.contents output.old) (W.contents output.new) (line_of (former_text former))) }
+    ensures former { (P : Plain)
+        → IsImage ⟦<MyConfig as Coded>⟧.coding.format P table.old
+        → OnOk result (Appends (W.contents output.old) (W.contents output.new) (line_of (former_text (former_value ⟦<MyConfig as Coded>⟧.coding P key)))) }
+    ensures table { (P : Plain)
+        → IsImage ⟦<MyConfig as Coded>⟧.coding.format P table.old
+        → IsImage ⟦<MyConfig as Coded>⟧.coding.format (after_put ⟦<MyConfig as Coded>⟧.coding.format P (encoded ⟦<MyConfig as Coded>⟧.coding key value)) table.new }
 {
     write_former(table.insert(&key, &value), output)
 }
@@ -237,7 +264,10 @@ fn write_former<W: Write>(former: Result<Option<u32>, Error>, output: &mut W) ->
 }
 
 fn get<W: Write>(table: &Table, key: u64, output: &mut W) -> io::Result<()>
-    ensures { OnOk result ((value : Option ℕ) × Appends (W.contents output.old) (W.contents output.new) (line_of (value_text value))) }
+    ensures answer { OnOk result ((value : Option ℕ) × Appends (W.contents output.old) (W.contents output.new) (line_of (value_text value))) }
+    ensures on_valid { (P : Plain)
+        → IsImage ⟦<MyConfig as Coded>⟧.coding.format P table.now
+        → OnOk result (Appends (W.contents output.old) (W.contents output.new) (line_of (value_text (value_for ⟦<MyConfig as Coded>⟧.coding P key)))) }
 {
     write_value(table.get(&key), output)
 }
