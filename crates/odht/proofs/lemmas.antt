@@ -1,6 +1,8 @@
 -- The library of laws over the definitions in specs/; that of plain tables stands in `odht_base`.
 -- formats of short lengths and of a hash fit
 pub mod Formats
+-- the cells that the parts of a placed table show
+pub mod PartCells
 -- a search slot by slot
 pub mod PlainSearch
 -- what the answer of a search tells of a placed table

@@ -14,6 +14,8 @@ mod foreign_bytes;
 #[cfg(test)]
 mod hashes;
 #[cfg(test)]
+mod list_properties;
+#[cfg(test)]
 mod load_factors;
 #[cfg(test)]
 mod opened_tables;
@@ -25,3 +27,5 @@ mod plain_tables;
 mod table_bytes;
 #[cfg(test)]
 mod view_tables;
+#[cfg(test)]
+mod whole_lists;

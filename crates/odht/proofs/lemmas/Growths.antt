@@ -1,18 +1,15 @@
 -- A growth: the pairs of a table, inserted in slot order into an empty table of the grown slots.
-use Rattle.std.proofs.Common.{◌≡◌, ◌<◌, ◌≤◌, ◌∙◌, ◌+◌, ◌^◌, ◌++◌, ℕ, true, false, sym, ap, subst, refl, List, [], ◌∷◌, Option, Some, None, Result, Ok, Err, IfOk, OnErr, is_none, take, drop, length, slice_index, length-append, arith, true≢false, inl, inr}
+use Rattle.std.proofs.Common.{◌≡◌, ◌<◌, ◌≤◌, ◌∙◌, ◌+◌, ◌^◌, ◌++◌, ℕ, sym, ap, subst, refl, List, [], ◌∷◌, Some, None, Result, Ok, Err, IfOk, OnErr, take, drop, length, length-append, arith, inl, inr}
 use Rattle.std.proofs.lemmas.Bool.{cases_lt}
 use Rattle.std.specs.Prelude.{option_and_then}
 use Rattle.std.proofs.lemmas.List.{take_more, take-append-drop, take_all, append-nil}
 use Rattle.std.proofs.lemmas.List.Elements.{filter_map-append}
-use Rattle.odht_base.specs.Format.{Format, IsFormat}
+use Rattle.odht_base.specs.Format.{Format}
 use Rattle.odht_base.specs.Load.{max_items}
 use Rattle.odht_base.specs.Insert.{grown, grown_slots, place, place_all, put_owned, put_view}
 use Rattle.odht_base.specs.Map.{map_of}
 use Rattle.odht_base.specs.Table.{Pair, Table, cell_at, slot_count, count, empty, walk}
-use Rattle.odht_base.specs.Valid.{IsImage, IsValid, IsPartsOf}
-use Rattle.odht_base.specs.Shown.{counts_as_free, slot_key, slot_value}
-use Rattle.odht_base.proofs.lemmas.Fits.{HasLengths, HasLengths-HasPairsOf}
-use Rattle.odht_base.proofs.lemmas.Parts.{slice_index-controls, counts_as_free-control_byte, slot_key-entries, slot_value-entries}
+use Rattle.odht_base.specs.Valid.{IsImage, IsValid}
 use Rattle.odht_base.proofs.lemmas.Counts.{pairs}
 use Rattle.odht_base.proofs.lemmas.Grown.{room_above, grown-IsGrown}
 use Rattle.odht_base.proofs.lemmas.Least.{slots_for-IsLeastSlots}
@@ -167,32 +164,3 @@ module _ (F : Format) (P : Table) (p : Pair) (ok : IsValid F P) where
 
   pub grown_maps : (Q : Table) → grown F P ≡ Some Q → (k : List ℕ) → map_of Q k ≡ map_of P k
   grown_maps Q e = (grown-IsGrown F P ok Q e).maps
-
--- ---- the cells of a placed table, as its parts show them
-module _ (F : Format) (f : IsFormat F) (P : Table) (es ctrl : List ℕ) (h : IsPartsOf F P es ctrl) (i : ℕ) (low : i < slot_count P) where
-  shown_free : counts_as_free (slice_index ctrl i) ≡ is_none (cell_at P.cells i)
-  shown_free =
-      ap (λ c. counts_as_free (slice_index c i)) h.controls_are
-      ∙ ap counts_as_free (slice_index-controls F P.cells i low) ∙ counts_as_free-control_byte F P.cells i f h.placed.pairs
-
-  -- a control byte that counts as free is that of a free cell
-  pub cell_free : counts_as_free (slice_index ctrl i) ≡ true → cell_at P.cells i ≡ None
-  cell_free e = go (cell_at P.cells i) (sym shown_free ∙ e)
-    where
-      go : (c : Option Pair) → is_none c ≡ true → c ≡ None
-      go None t = refl
-      go (Some p) t = absurd (true≢false (sym t))
-
-  -- any other that of a cell whose pair stands in the entry
-  pub cell_filled : counts_as_free (slice_index ctrl i) ≡ false → cell_at P.cells i ≡ Some (record { key = slot_key F es i; value = slot_value F es i })
-  cell_filled e = go (cell_at P.cells i) refl (sym shown_free ∙ e)
-    where
-      lengths : HasLengths F P.cells
-      lengths = HasLengths-HasPairsOf F P.cells h.placed.pairs
-
-      go : (c : Option Pair) → cell_at P.cells i ≡ c → is_none c ≡ false → c ≡ Some (record { key = slot_key F es i; value = slot_value F es i })
-      go None g t = absurd (true≢false t)
-      go (Some p) g t =
-          let key = ap (λ b. slot_key F b i) h.entries_are ∙ slot_key-entries F P.cells i p lengths g in
-          let value = ap (λ b. slot_value F b i) h.entries_are ∙ slot_value-entries F P.cells i p lengths g in
-          λ j. Some (record { key = sym key j; value = sym value j })

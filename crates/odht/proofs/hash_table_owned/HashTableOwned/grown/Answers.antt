@@ -1,4 +1,4 @@
-use Rattle.std.proofs.Common.{◌∙◌, ◌≡◌, ◌<◌, ◌^◌, ◌*◌, sym, ap, subst, arith, ◌+◌, [], Some}
+use Rattle.std.proofs.Common.{◌∙◌, ◌≡◌, ◌<◌, ◌^◌, ◌*◌, sym, ap, subst, arith, ◌+◌, Some}
 use Rattle.std.proofs.Math.Nat.{max_comm}
 use Rattle.std.specs.Prelude.{max}
 use Rattle.odht_base.specs.Format.{Format, format_of}
@@ -6,9 +6,9 @@ use Rattle.odht_base.specs.Load.{slots_for}
 use Rattle.odht_base.specs.Shown.{stated_count, stated_factor}
 use Rattle.odht_base.specs.Table.{count, empty, slot_count}
 use Rattle.odht_base.specs.Valid.{IsImage}
-use Rattle.odht.proofs.lemmas.Growths.{IsGrownBelow, grown_none, grown_free, grown_insert, grown_all, count_small, cell_free, cell_filled}
+use Rattle.odht.proofs.lemmas.Growths.{IsGrownBelow, grown_none, grown_free, grown_insert, grown_all, count_small}
 use Rattle.odht.proofs.lemmas.Formats.{IsFormat-format_of}
-use Rattle.odht.proofs.lemmas.PlainSearch.{slots_are}
+use Rattle.odht.proofs.lemmas.PartCells.{slots_are, cell_free, cell_filled}
 use Rattle.odht.proofs.lemmas.ViewInserts.{count_stated, factor_stated}
 use Rattle.odht.proofs.hash_table_owned.HashTableOwned.grown.Goals.{then-not-is_empty_or_deleted, else-not-is_empty_or_deleted}
 use Rattle.odht.proofs.hash_table_owned.HashTableOwned.grown.Goals as goal
@@ -46,7 +46,7 @@ loop-slot-preserved g c P is =
     let f = IsFormat-format_of _ _ _ _ g.met.C.Config.key_fits g.met.C.Config.value_fits g.met.C.Config.key_hashes g.met.C.H.HashFn.fits in
     let so_far = c.loop-slot.invariant P is in
     let parts = c.data_slices-entries.ensures.parts P (record { valid = is.valid; bytes = c.allocation-2.ensures ∙ c.self.view_is ∙ is.bytes }) in
-    let slots = slots_are F P [] _ _ f parts c.data_slices-entries.result.1.slots c.data_slices-entries.ensures.len in
+    let slots = slots_are F f P _ _ parts c.data_slices-entries.result.1.slots c.data_slices-entries.ensures.len in
     let low : c.loop-slot.slot < slot_count P = omega (arith, c.loop-slot-test.true, c.len-slot-end.ensures, slots) in
     elim c.if-not-is_empty_or_deleted.branch [
       | then-not-is_empty_or_deleted w ↦
@@ -65,6 +65,6 @@ returns-clause-ok g c P is =
     let F : Format = format_of g.C.EncodedKey.ByteArray.LEN g.C.EncodedValue.ByteArray.LEN g.C.H.HashFn.hash in
     let f = IsFormat-format_of _ _ _ _ g.met.C.Config.key_fits g.met.C.Config.value_fits g.met.C.Config.key_hashes g.met.C.H.HashFn.fits in
     let parts = c.data_slices-entries.ensures.parts P (record { valid = is.valid; bytes = c.allocation-2.ensures ∙ c.self.view_is ∙ is.bytes }) in
-    let slots = slots_are F P [] _ _ f parts c.data_slices-entries.result.1.slots c.data_slices-entries.ensures.len in
+    let slots = slots_are F f P _ _ parts c.data_slices-entries.result.1.slots c.data_slices-entries.ensures.len in
     let all : c.loop-slot.slot ≡ slot_count P = omega (arith, c.loop-slot-test.false, c.loop-slot.auto.slot-end, c.len-slot-end.ensures, slots) in
     grown_all F P is.valid c.loop-slot.grown (subst (λ n. IsGrownBelow F P n c.loop-slot.grown) all (c.loop-slot.invariant P is))

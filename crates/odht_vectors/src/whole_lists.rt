@@ -1,0 +1,271 @@
+//! Whole lists: inserted at once, collected to a table, and copied to each alignment.
+use crate::configs::{DirectU32ToU32, U32ToU32, U64ToU32};
+use odht::bytes::{Borrowed, BorrowedMut, ByteStore, OwnedBytes};
+use odht::error::Error;
+use odht::{HashTable, HashTableOwned, bytes_needed};
+use std::alloc::{AllocError, Global};
+use std::process::Abort;
+
+// Whether the header states this slot count.
+fn states_slots(rt: &impl Abort, bytes: &[u8], slots: u8) -> bool {
+    assert!(rt; bytes.len() >= 32);
+    bytes[16..24] == [slots, 0, 0, 0, 0, 0, 0, 0]
+}
+
+// The pairs of each key from 0 to 14 with itself.
+const FIFTEEN: [(u32, u32); 15] = [
+    (0, 0),
+    (1, 1),
+    (2, 2),
+    (3, 3),
+    (4, 4),
+    (5, 5),
+    (6, 6),
+    (7, 7),
+    (8, 8),
+    (9, 9),
+    (10, 10),
+    (11, 11),
+    (12, 12),
+    (13, 13),
+    (14, 14),
+];
+
+#[test]
+fn a_list_that_a_view_has_no_room_for(rt: HostRuntime) {
+    let mut bytes = [0xa7; 192];
+    let made: Result<HashTable<DirectU32ToU32, BorrowedMut<'_>>, Error> = HashTable::init_in_place(
+        BorrowedMut::new(&mut bytes),
+        13,
+        87,
+    );
+    let Ok(mut table) = made else {
+        panic!(rt; "no table")
+    };
+    assert_eq!(rt; table.insert_all(&[]), (0, Ok(())));
+    assert_eq!(rt; table.len(), 0);
+    assert_eq!(rt; table.insert_all(&FIFTEEN), (13, Err(Error::Full)));
+    assert_eq!(rt; table.len(), 13);
+    for (key, value) in FIFTEEN {
+        let expected = if key < 13 { Some(value) } else { None };
+        assert_eq!(rt; table.get(&key), expected, "key {key}");
+    }
+    assert!(rt; states_slots(&rt, table.raw_bytes(), 16));
+}
+
+#[test]
+fn a_list_that_a_table_grows_for(rt: HostRuntime) -> Result<(), Error> {
+    let mut table: HashTableOwned<DirectU32ToU32> = HashTableOwned::with_capacity(
+        rt.alloc(),
+        13,
+        87,
+    )?;
+    assert!(rt; states_slots(&rt, table.raw_bytes(), 16));
+    assert_eq!(rt; table.insert_all(&[]), (0, Ok(())));
+    assert_eq!(rt; table.len(), 0);
+    assert_eq!(rt; table.insert_all(&FIFTEEN), (15, Ok(())));
+    assert_eq!(rt; table.len(), 15);
+    assert!(rt; states_slots(&rt, table.raw_bytes(), 32));
+    for (key, value) in FIFTEEN {
+        assert_eq!(rt; table.get(&key), Some(value), "key {key}");
+    }
+    Ok(())
+}
+
+// An earlier value of a key gives way to a later one.
+#[test]
+fn a_table_of_a_key_twice(rt: HostRuntime) -> Result<(), Error> {
+    let items = [(1, 10), (2, 20), (1, 30)];
+    let table: HashTableOwned<U32ToU32> = HashTableOwned::from_iterator(
+        rt.alloc(),
+        items.into_iter(),
+        87,
+    )?;
+    assert!(rt; states_slots(&rt, table.raw_bytes(), 16));
+    assert_eq!(rt; table.len(), 2);
+    assert_eq!(rt; table.get(&1), Some(30));
+    assert_eq!(rt; table.get(&2), Some(20));
+    assert_eq!(rt; table.get(&3), None);
+    Ok(())
+}
+
+// A table is never filled: sixteen items need more than sixteen slots.
+#[test]
+fn sixteen_items_at_100_percent(rt: HostRuntime) -> Result<(), Error> {
+    let items = make_test_items(rt.alloc(), 16)?;
+    assert_eq!(rt; items.len(), 16);
+    let table: HashTableOwned<U32ToU32> = HashTableOwned::from_iterator(
+        rt.alloc(),
+        items.into_iter(),
+        100,
+    )?;
+    assert!(rt; states_slots(&rt, table.raw_bytes(), 32));
+    assert_eq!(rt; table.len(), 16);
+    Ok(())
+}
+
+#[test]
+fn bytes_of_new_tables(rt: HostRuntime) -> Result<(), Error> {
+    assert_eq!(rt; bytes_needed::<U64ToU32>(3, 95), Some(256));
+    assert_eq!(rt; bytes_needed::<U32ToU32>(0, 87), Some(192));
+    assert_eq!(rt; bytes_needed::<U64ToU32>(1 << 62, 100), None);
+    assert_eq!(rt;
+        bytes_needed::<U64ToU32>(1 << 59, 100),
+        Some(14987979559889010736)
+    );
+    let made: Result<HashTableOwned<U64ToU32>, Error> = HashTableOwned::with_capacity(
+        rt.alloc(),
+        1 << 63,
+        100,
+    );
+    assert_eq!(rt; made.err(), Some(Error::Capacity));
+    Ok(())
+}
+
+// The table of 16 slots from u64 to u32 at 95 percent, with the values 2, 4 and 6 of the keys 1, 3 and 5.
+fn of_three_pairs() -> [u8; 256] {
+    let mut bytes = [0; 256];
+    bytes[..32].copy_from_slice(&[
+        79, 68, 72, 84, 1, 8, 4, 32, 3, 0, 0, 0, 0, 0, 0, 0, 16, 0, 0, 0, 0, 0, 0, 0, 0, 0, 0, 2,
+        0x32, 0xf3, 0, 0,
+    ]);
+    // slot 5, slot 9 and slot 15
+    bytes[92..104].copy_from_slice(&[1, 0, 0, 0, 0, 0, 0, 0, 2, 0, 0, 0]);
+    bytes[140..152].copy_from_slice(&[5, 0, 0, 0, 0, 0, 0, 0, 6, 0, 0, 0]);
+    bytes[212..224].copy_from_slice(&[3, 0, 0, 0, 0, 0, 0, 0, 4, 0, 0, 0]);
+    let control = [
+        255, 255, 255, 255, 255, 19, 255, 255, 255, 97, 255, 255, 255, 255, 255, 58,
+    ];
+    bytes[224..240].copy_from_slice(&control);
+    bytes[240..].copy_from_slice(&control);
+    bytes
+}
+
+#[test]
+fn three_pairs(rt: HostRuntime) -> Result<(), Error> {
+    let mut table: HashTableOwned<U64ToU32> = HashTableOwned::with_capacity(rt.alloc(), 3, 95)?;
+    let pairs = [(1, 2), (3, 4), (5, 6)];
+    assert_eq!(rt; table.insert_all(&pairs), (3, Ok(())));
+    assert_eq!(rt; table.raw_bytes(), of_three_pairs().as_slice());
+    Ok(())
+}
+
+#[test]
+fn three_pairs_at_each_alignment(rt: HostRuntime) {
+    for before in 0..4 {
+        let mut all = [255; 259];
+        all[before..before + 256].copy_from_slice(&of_three_pairs());
+        let opened: Result<HashTable<U64ToU32, Borrowed<'_>>, Error> = HashTable::from_raw_bytes(
+            Borrowed::new(&all[before..before + 256]),
+        );
+        let Ok(table) = opened else {
+            panic!(rt; "not opened behind {before} bytes")
+        };
+        for (key, expected) in [(1, Some(2)), (2, None), (3, Some(4)), (5, Some(6))] {
+            assert_eq!(rt;
+                table.get(&key),
+                expected,
+                "key {key} behind {before} bytes"
+            );
+        }
+    }
+}
+
+// As many pairs as asked for. The keys are the multiples of one step, spread over all of u32, and last the highest key.
+// The value of a key is what the highest key is above it.
+fn make_test_items(alloc: Global, count: u32) -> Result<Vec<(u32, u32)>, AllocError> {
+    let mut items = Vec::new(alloc);
+    if count > 1 {
+        let step = u32::MAX / (count - 1);
+        for i in 0..count - 1 {
+            let key = step.wrapping_mul(i);
+            items.push((key, u32::MAX - key))?;
+        }
+    }
+    if count > 0 {
+        items.push((u32::MAX, 0))?;
+    }
+    Ok(items)
+}
+
+#[test]
+fn items_far_apart(rt: HostRuntime) -> Result<(), AllocError> {
+    assert_eq!(rt; make_test_items(rt.alloc(), 0)?.as_slice(), [].as_slice());
+    assert_eq!(rt;
+        make_test_items(rt.alloc(), 1)?.as_slice(),
+        [(4294967295, 0)].as_slice()
+    );
+    assert_eq!(rt;
+        make_test_items(rt.alloc(), 2)?.as_slice(),
+        [(0, 4294967295), (4294967295, 0)].as_slice()
+    );
+    assert_eq!(rt;
+        make_test_items(rt.alloc(), 4)?.as_slice(),
+        [
+            (0, 4294967295),
+            (1431655765, 2863311530),
+            (2863311530, 1431655765),
+            (4294967295, 0)
+        ]
+        .as_slice()
+    );
+    Ok(())
+}
+
+// Each item is found with its value, and there is no other.
+fn holds_all<D: ByteStore>(
+    rt: &impl Abort,
+    opened: Result<HashTable<U32ToU32, D>, Error>,
+    items: &[(u32, u32)],
+) {
+    let Ok(table) = opened else {
+        panic!(rt; "not opened")
+    };
+    assert_eq!(rt; table.len(), items.len());
+    for (key, value) in items {
+        assert_eq!(rt; table.get(key), Some(*value), "key {key}");
+    }
+}
+
+#[test]
+fn many_pairs_at_each_alignment(rt: HostRuntime) -> Result<(), Error> {
+    let items = make_test_items(rt.alloc(), 33)?;
+    assert_eq!(rt; items.len(), 33);
+    let table: HashTableOwned<U32ToU32> = HashTableOwned::from_iterator(
+        rt.alloc(),
+        items.as_slice().to_vec(rt.alloc())?.into_iter(),
+        95,
+    )?;
+    let bytes = table.raw_bytes();
+    assert_eq!(rt; bytes.len(), 624);
+    for before in 0..4 {
+        let mut all = [0xa7; 627];
+        all[before..before + 624].copy_from_slice(bytes);
+        let borrowed = Borrowed::new(&all[before..before + 624]);
+        holds_all(&rt, HashTable::from_raw_bytes(borrowed), items.as_slice());
+        let borrowed = BorrowedMut::new(&mut all[before..before + 624]);
+        holds_all(&rt, HashTable::from_raw_bytes(borrowed), items.as_slice());
+    }
+    Ok(())
+}
+
+#[test]
+fn the_data_of_a_view(rt: HostRuntime) -> Result<(), Error> {
+    let owned = OwnedBytes::new(of_three_pairs().to_vec(rt.alloc())?);
+    let table: HashTable<U64ToU32, OwnedBytes> = HashTable::from_raw_bytes(owned)?;
+    let vec = table.into_data().into_vec();
+    assert_eq!(rt; vec.as_slice(), of_three_pairs().as_slice());
+
+    let mut bytes = of_three_pairs();
+    let borrowed = BorrowedMut::new(&mut bytes);
+    let mut table: HashTable<U64ToU32, BorrowedMut<'_>> = HashTable::from_raw_bytes(borrowed)?;
+    assert_eq!(rt; table.insert(&3, &7), Ok(Some(4)));
+    let mut expected = of_three_pairs();
+    let slice = table.into_data().into_slice();
+    assert_eq!(rt; slice.len(), 256);
+    slice[0] = 9;
+    expected[0] = 9;
+    expected[220] = 7;
+    assert_eq!(rt; bytes, expected);
+    Ok(())
+}
