@@ -437,8 +437,9 @@ impl<C: Config, M: ByteStoreMut> Allocation<C, M> {
             in self.new ≡ with_tag F (stated_slots self.old) (with_entry F self.old slot p) slot tag }
         ensures pair { IsPairOf ⟦<C as Coded>⟧.coding.format (record { key = C.EncodedKey.bytes key.now; value = C.EncodedValue.bytes value.now }) }
     {
+        let slots = self.header().slot_count();
         self.write_pair(slot, key, value);
-        self.write_tag(slot, tag);
+        self.write_tag(slots, slot, tag);
     }
 
     // Writes the pair into the entry of a slot.
@@ -457,28 +458,29 @@ impl<C: Config, M: ByteStoreMut> Allocation<C, M> {
         store.write_at(at + C::EncodedKey::LEN, value.as_slice());
     }
 
-    // Writes the tag into the control byte of a slot and, for a slot below 16, its mirror.
+    // Writes the tag into the control byte of one of so many slots and, for a slot below 16, its mirror.
     #[inline]
-    fn write_tag(&mut self, slot: usize, tag: EntryMetadata)
-        requires { slot < stated_slots self.old }
-        ensures { self.new ≡ with_tag ⟦<C as Coded>⟧.coding.format (stated_slots self.old) self.old slot tag }
+    fn write_tag(&mut self, slots: usize, slot: usize, tag: EntryMetadata)
+        requires stated { slots ≡ stated_slots self.old }
+        requires slot { slot < slots }
+        ensures { self.new ≡ with_tag ⟦<C as Coded>⟧.coding.format slots self.old slot tag }
     {
-        let slots = self.header().slot_count();
-        self.write_control(slot, tag);
+        self.write_control(slots, slot, tag);
         if slot < REFERENCE_GROUP_SIZE {
-            self.write_control(slots + slot, tag);
+            self.write_control(slots, slots + slot, tag);
         }
     }
 
-    // Writes the control byte at `index`, of which those behind the slot count are the mirror.
+    // Writes the control byte at `index` of so many slots, of which those behind the slots are the mirror.
     #[inline]
-    fn write_control(&mut self, index: usize, tag: EntryMetadata)
-        requires { index < stated_slots self.old + 16 }
-        ensures bytes { self.new ≡ with_control ⟦<C as Coded>⟧.coding.format (stated_slots self.old) self.old index tag }
-        ensures slots { stated_slots self.new ≡ stated_slots self.old }
+    fn write_control(&mut self, slots: usize, index: usize, tag: EntryMetadata)
+        requires stated { slots ≡ stated_slots self.old }
+        requires index { index < slots + 16 }
+        ensures bytes { self.new ≡ with_control ⟦<C as Coded>⟧.coding.format slots self.old index tag }
+        ensures slots { stated_slots self.new ≡ slots }
+        ensures fits { slots + 16 < 2 ^ 64 }
     {
         let store = &mut self.store;
-        let slots = Header::of(store.bytes()).slot_count();
         let control = HEADER_SIZE + slots * (C::EncodedKey::LEN + C::EncodedValue::LEN);
         let at = control + index;
         store.write_at(at, &[tag]);
