@@ -4,6 +4,7 @@
 ghost use Rattle.std.specs.Prelude.{◌<◌, ◌≤◌};
 
 use crate::configs::{DirectU32ToU32, SevenToThree, U8ToNothing, U32ToU32, U64ToU32};
+use crate::random::Random;
 use odht::bytes::{ByteArray, OwnedBytes};
 use odht::error::{Error, Part};
 use odht::{Config, HashTable};
@@ -216,22 +217,7 @@ fn kind(refused: Option<Error>) -> usize
     }
 }
 
-// Numbers that look random, the same in each run.
-#[derive(Drop)]
-struct Random {
-    state: u64,
-}
-
 impl Random {
-    fn byte(&mut self) -> u8 {
-        self.state = self
-            .state
-            .wrapping_mul(6364136223846793005)
-            .wrapping_add(1442695040888963407);
-        let [.., highest] = self.state.to_le_bytes();
-        highest
-    }
-
     fn below(&mut self, limit: usize) -> usize
         requires { 1 ≤ limit }
         ensures { result < limit }

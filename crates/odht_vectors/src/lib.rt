@@ -14,6 +14,8 @@ mod foreign_bytes;
 #[cfg(test)]
 mod hashes;
 #[cfg(test)]
+mod known_tables;
+#[cfg(test)]
 mod list_properties;
 #[cfg(test)]
 mod load_factors;
@@ -23,6 +25,8 @@ mod opened_tables;
 mod owned_tables;
 #[cfg(test)]
 mod plain_tables;
+#[cfg(test)]
+mod random;
 #[cfg(test)]
 mod table_bytes;
 #[cfg(test)]

@@ -2,6 +2,7 @@
 ghost use Rattle.std.specs.Prelude.{◌≤◌};
 ghost use Rattle.std.proofs.Common.{lit≤, zero-le};
 
+use crate::random::Random;
 use odht::bytes::ByteArray;
 use odht::error::Error;
 use odht::{Config, FxHashFn, HashTableOwned};
@@ -111,27 +112,12 @@ impl<K: Short, V: Short> Config for Plain<K, V> {
     ghost key_hashes = { zero-le };
 }
 
-// Bytes that look random, the same in each run.
-#[derive(Drop)]
-struct RandomBytes {
-    state: u64,
-}
-
-impl RandomBytes {
-    fn next_byte(&mut self) -> u8 {
-        self.state = self
-            .state
-            .wrapping_mul(6364136223846793005)
-            .wrapping_add(1442695040888963407);
-        let [.., highest] = self.state.to_le_bytes();
-        highest
-    }
-
+impl Random {
     fn array<A: ByteArray>(&mut self, rt: &impl Abort) -> A {
         let mut buffer = [0; 64];
         assert!(rt; A::LEN <= buffer.len());
         for place in buffer[..A::LEN].iter_mut() {
-            *place = self.next_byte();
+            *place = self.byte();
         }
         A::from_slice(&buffer[..A::LEN])
     }
@@ -143,7 +129,7 @@ fn random_list<K: Short, V: Short>(
     alloc: Global,
     seed: u64,
 ) -> Result<Vec<(K, V)>, AllocError> {
-    let mut random = RandomBytes { state: seed };
+    let mut random = Random { state: seed };
     let mut list = Vec::new(alloc);
     for _ in 0..seed.wrapping_mul(3) {
         let key: K = random.array(rt);

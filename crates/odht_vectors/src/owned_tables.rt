@@ -2,6 +2,7 @@
 ghost use Rattle.std.specs.Prelude.{◌≤◌};
 
 use crate::configs::{DirectU32ToU32, U32ToU32, U64ToU32};
+use crate::known_tables::{self, fresh_16};
 use odht::bytes::{Borrowed, OwnedBytes};
 use odht::error::Error;
 use odht::load::{Factor, slots_needed};
@@ -119,36 +120,6 @@ fn check_absent(rt: &impl Abort, table: &HashTableOwned<U32ToU32>, start: u32, e
         assert_eq!(rt; table.get(&key), None, "key {key}");
         assert!(rt; !table.contains_key(&key), "key {key}");
     }
-}
-
-// The table of 16 free slots from u32 to u32 at 87 percent.
-fn fresh_16() -> [u8; 192] {
-    let mut bytes = [0; 192];
-    bytes[..32].copy_from_slice(&[
-        79, 68, 72, 84, 1, 4, 4, 32, 0, 0, 0, 0, 0, 0, 0, 0, 16, 0, 0, 0, 0, 0, 0, 0, 0, 0, 0, 2,
-        0xb7, 0xde, 0, 0,
-    ]);
-    bytes[160..].copy_from_slice(&[255; 32]);
-    bytes
-}
-
-// The table of 16 slots from u64 to u32 at 95 percent with the pairs 1 and 2, 3 and 4, 5 and 6.
-fn three_pairs() -> [u8; 256] {
-    let mut bytes = [0; 256];
-    bytes[..32].copy_from_slice(&[
-        79, 68, 72, 84, 1, 8, 4, 32, 3, 0, 0, 0, 0, 0, 0, 0, 16, 0, 0, 0, 0, 0, 0, 0, 0, 0, 0, 2,
-        0x32, 0xf3, 0, 0,
-    ]);
-    bytes[92..104].copy_from_slice(&[1, 0, 0, 0, 0, 0, 0, 0, 2, 0, 0, 0]);
-    bytes[140..152].copy_from_slice(&[5, 0, 0, 0, 0, 0, 0, 0, 6, 0, 0, 0]);
-    bytes[212..224].copy_from_slice(&[3, 0, 0, 0, 0, 0, 0, 0, 4, 0, 0, 0]);
-    bytes[224..240].copy_from_slice(&[
-        255, 255, 255, 255, 255, 19, 255, 255, 255, 97, 255, 255, 255, 255, 255, 58,
-    ]);
-    bytes[240..].copy_from_slice(&[
-        255, 255, 255, 255, 255, 19, 255, 255, 255, 97, 255, 255, 255, 255, 255, 58,
-    ]);
-    bytes
 }
 
 // The table of the bytes of another.
@@ -368,12 +339,12 @@ fn moved_pairs() -> [u8; 304] {
 fn copies_have_the_same_bytes(rt: HostRuntime) {
     let (mut once, alloc) = (OneRefusal::new(), rt.alloc());
     let mut table = made_three_pairs(&rt, alloc, &mut once);
-    assert_eq!(rt; table.raw_bytes(), three_pairs().as_slice());
+    assert_eq!(rt; table.raw_bytes(), known_tables::three_pairs().as_slice());
     let cloned = once.made(&rt, || table.clone());
     let copied = once.made(&rt, || copied(alloc, &table));
     assert_eq!(rt; table.insert(&1, &9), Ok(Some(2)));
-    assert_eq!(rt; cloned.raw_bytes(), three_pairs().as_slice());
-    assert_eq!(rt; copied.raw_bytes(), three_pairs().as_slice());
+    assert_eq!(rt; cloned.raw_bytes(), known_tables::three_pairs().as_slice());
+    assert_eq!(rt; copied.raw_bytes(), known_tables::three_pairs().as_slice());
     assert_eq!(rt; cloned.len(), 3);
     assert_eq!(rt; cloned.get(&1), Some(2));
     assert_eq!(rt; copied.get(&5), Some(6));

@@ -2,6 +2,7 @@
 ghost use Rattle.std.specs.Prelude.{◌≡◌, length};
 
 use crate::configs::{NoBytes, U32ToU32, U64ToU32};
+use crate::known_tables::fresh_16;
 use odht::bytes::{BorrowedMut, ByteStoreMut, OwnedBytes};
 use odht::load::{Factor, slots_needed};
 use odht::memory_layout::{Allocation, Header, bytes_needed, init_in_place};
@@ -37,17 +38,6 @@ fn numbers_of_bytes(rt: HostRuntime) {
     for (slots, expected) in of_none {
         assert_eq!(rt; bytes_needed::<NoBytes>(slots), expected, "{slots} slots");
     }
-}
-
-// The table of 16 free slots from u32 to u32 at 87 percent.
-fn fresh_16() -> [u8; 192] {
-    let mut bytes = [0; 192];
-    bytes[..32].copy_from_slice(&[
-        79, 68, 72, 84, 1, 4, 4, 32, 0, 0, 0, 0, 0, 0, 0, 0, 16, 0, 0, 0, 0, 0, 0, 0, 0, 0, 0, 2,
-        0xb7, 0xde, 0, 0,
-    ]);
-    bytes[160..].copy_from_slice(&[255; 32]);
-    bytes
 }
 
 // The table of 32 free slots from u32 to u32 at 95 percent.

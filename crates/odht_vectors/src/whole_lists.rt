@@ -1,5 +1,6 @@
 //! Whole lists: inserted at once, collected to a table, and copied to each alignment.
 use crate::configs::{DirectU32ToU32, U32ToU32, U64ToU32};
+use crate::known_tables;
 use odht::bytes::{Borrowed, BorrowedMut, ByteStore, OwnedBytes};
 use odht::error::Error;
 use odht::{HashTable, HashTableOwned, bytes_needed};
@@ -122,31 +123,12 @@ fn bytes_of_new_tables(rt: HostRuntime) -> Result<(), Error> {
     Ok(())
 }
 
-// The table of 16 slots from u64 to u32 at 95 percent, with the values 2, 4 and 6 of the keys 1, 3 and 5.
-fn of_three_pairs() -> [u8; 256] {
-    let mut bytes = [0; 256];
-    bytes[..32].copy_from_slice(&[
-        79, 68, 72, 84, 1, 8, 4, 32, 3, 0, 0, 0, 0, 0, 0, 0, 16, 0, 0, 0, 0, 0, 0, 0, 0, 0, 0, 2,
-        0x32, 0xf3, 0, 0,
-    ]);
-    // slot 5, slot 9 and slot 15
-    bytes[92..104].copy_from_slice(&[1, 0, 0, 0, 0, 0, 0, 0, 2, 0, 0, 0]);
-    bytes[140..152].copy_from_slice(&[5, 0, 0, 0, 0, 0, 0, 0, 6, 0, 0, 0]);
-    bytes[212..224].copy_from_slice(&[3, 0, 0, 0, 0, 0, 0, 0, 4, 0, 0, 0]);
-    let control = [
-        255, 255, 255, 255, 255, 19, 255, 255, 255, 97, 255, 255, 255, 255, 255, 58,
-    ];
-    bytes[224..240].copy_from_slice(&control);
-    bytes[240..].copy_from_slice(&control);
-    bytes
-}
-
 #[test]
 fn three_pairs(rt: HostRuntime) -> Result<(), Error> {
     let mut table: HashTableOwned<U64ToU32> = HashTableOwned::with_capacity(rt.alloc(), 3, 95)?;
     let pairs = [(1, 2), (3, 4), (5, 6)];
     assert_eq!(rt; table.insert_all(&pairs), (3, Ok(())));
-    assert_eq!(rt; table.raw_bytes(), of_three_pairs().as_slice());
+    assert_eq!(rt; table.raw_bytes(), known_tables::three_pairs().as_slice());
     Ok(())
 }
 
@@ -154,7 +136,7 @@ fn three_pairs(rt: HostRuntime) -> Result<(), Error> {
 fn three_pairs_at_each_alignment(rt: HostRuntime) {
     for before in 0..4 {
         let mut all = [255; 259];
-        all[before..before + 256].copy_from_slice(&of_three_pairs());
+        all[before..before + 256].copy_from_slice(&known_tables::three_pairs());
         let opened: Result<HashTable<U64ToU32, Borrowed<'_>>, Error> = HashTable::from_raw_bytes(
             Borrowed::new(&all[before..before + 256]),
         );
@@ -251,16 +233,16 @@ fn many_pairs_at_each_alignment(rt: HostRuntime) -> Result<(), Error> {
 
 #[test]
 fn the_data_of_a_view(rt: HostRuntime) -> Result<(), Error> {
-    let owned = OwnedBytes::new(of_three_pairs().to_vec(rt.alloc())?);
+    let owned = OwnedBytes::new(known_tables::three_pairs().to_vec(rt.alloc())?);
     let table: HashTable<U64ToU32, OwnedBytes> = HashTable::from_raw_bytes(owned)?;
     let vec = table.into_data().into_vec();
-    assert_eq!(rt; vec.as_slice(), of_three_pairs().as_slice());
+    assert_eq!(rt; vec.as_slice(), known_tables::three_pairs().as_slice());
 
-    let mut bytes = of_three_pairs();
+    let mut bytes = known_tables::three_pairs();
     let borrowed = BorrowedMut::new(&mut bytes);
     let mut table: HashTable<U64ToU32, BorrowedMut<'_>> = HashTable::from_raw_bytes(borrowed)?;
     assert_eq!(rt; table.insert(&3, &7), Ok(Some(4)));
-    let mut expected = of_three_pairs();
+    let mut expected = known_tables::three_pairs();
     let slice = table.into_data().into_slice();
     assert_eq!(rt; slice.len(), 256);
     slice[0] = 9;
