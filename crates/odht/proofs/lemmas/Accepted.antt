@@ -168,6 +168,10 @@ module _ (F : Format) (B : List ℕ) (h : IsAccepted F B) where
       let most : suc i * entry_len F ≤ stated_slots B * entry_len F = mul-le-mul_right (entry_len F) low in
       omega (arith, most, accepted_len)
 
+  -- the control byte of a slot, or its mirror, ends within the bytes
+  pub accepted_control : (s i : ℕ) → s ≡ stated_slots B → i < s + 16 → 32 + s * entry_len F + i < length B
+  accepted_control s i stated low = subst (λ n. i < n + 16 → 32 + n * entry_len F + i < length B) (sym stated) (λ l. omega (arith, l, accepted_len)) low
+
 -- the image of a table of a slot count is accepted
 pub IsAccepted-image : (F : Format) (P : Table) → IsSlotCount (slot_count P) → IsSized F P → IsAccepted F (image F P)
 unfolding image

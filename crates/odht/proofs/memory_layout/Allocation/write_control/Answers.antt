@@ -4,7 +4,7 @@ use Rattle.odht_base.specs.Format.{format_of, entry_len}
 use Rattle.odht_base.specs.Shown.{stated_slots}
 use Rattle.odht_base.proofs.lemmas.ByteRanges.{overwritten_at-single}
 use Rattle.odht.specs.Frame.{IsAccepted}
-use Rattle.odht.proofs.lemmas.Accepted.{accepted_len, IsAccepted-overwritten_at, stated_slots-overwritten_at}
+use Rattle.odht.proofs.lemmas.Accepted.{accepted_len, accepted_control, IsAccepted-overwritten_at, stated_slots-overwritten_at}
 use Rattle.odht.proofs.memory_layout.Allocation.write_control.Given.{Over}
 use Rattle.odht.proofs.memory_layout.Allocation.write_control.Goals as goal
 
@@ -12,37 +12,29 @@ pub overflow_mul-control : goal.overflow_mul-control
 overflow_mul-control g c =
     let F = format_of g.C.EncodedKey.ByteArray.LEN g.C.EncodedValue.ByteArray.LEN g.C.H.HashFn.hash in
     let B = g.M.ByteStore.bytes c.self.inside.store in
-    let long = accepted_len F B c.self.invariant.0 in
-    let stated : c.args.slots ≡ stated_slots B = c.requires.stated ∙ ap stated_slots (sym c.self.view_is) in
-    let low : c.args.index < stated_slots B + 16 = subst (λ s. c.args.index < s + 16) stated c.requires.index in
-    rw (c.LEN.ensures, c.LEN-2.ensures, stated) (omega (arith, long, low, c.self.invariant.1))
+    let inside = accepted_control F B c.self.invariant.0 c.args.slots c.args.index (c.requires.stated ∙ ap stated_slots (sym c.self.view_is)) c.requires.index in
+    rw (c.LEN.ensures, c.LEN-2.ensures) (omega (arith, inside, c.self.invariant.1))
 
 pub overflow_add-control-2 : goal.overflow_add-control-2
 overflow_add-control-2 g c =
     let F = format_of g.C.EncodedKey.ByteArray.LEN g.C.EncodedValue.ByteArray.LEN g.C.H.HashFn.hash in
     let B = g.M.ByteStore.bytes c.self.inside.store in
-    let long = accepted_len F B c.self.invariant.0 in
-    let stated : c.args.slots ≡ stated_slots B = c.requires.stated ∙ ap stated_slots (sym c.self.view_is) in
-    let low : c.args.index < stated_slots B + 16 = subst (λ s. c.args.index < s + 16) stated c.requires.index in
-    rw (c.LEN.ensures, c.LEN-2.ensures, stated) (omega (arith, long, low, c.self.invariant.1))
+    let inside = accepted_control F B c.self.invariant.0 c.args.slots c.args.index (c.requires.stated ∙ ap stated_slots (sym c.self.view_is)) c.requires.index in
+    rw (c.LEN.ensures, c.LEN-2.ensures) (omega (arith, inside, c.self.invariant.1))
 
 pub overflow_add-at : goal.overflow_add-at
 overflow_add-at g c =
     let F = format_of g.C.EncodedKey.ByteArray.LEN g.C.EncodedValue.ByteArray.LEN g.C.H.HashFn.hash in
     let B = g.M.ByteStore.bytes c.self.inside.store in
-    let long = accepted_len F B c.self.invariant.0 in
-    let stated : c.args.slots ≡ stated_slots B = c.requires.stated ∙ ap stated_slots (sym c.self.view_is) in
-    let low : c.args.index < stated_slots B + 16 = subst (λ s. c.args.index < s + 16) stated c.requires.index in
-    rw (c.LEN.ensures, c.LEN-2.ensures, stated) (omega (arith, long, low, c.self.invariant.1))
+    let inside = accepted_control F B c.self.invariant.0 c.args.slots c.args.index (c.requires.stated ∙ ap stated_slots (sym c.self.view_is)) c.requires.index in
+    rw (c.LEN.ensures, c.LEN-2.ensures) (omega (arith, inside, c.self.invariant.1))
 
 pub write_at-requires : goal.write_at-requires
 write_at-requires g c =
     let F = format_of g.C.EncodedKey.ByteArray.LEN g.C.EncodedValue.ByteArray.LEN g.C.H.HashFn.hash in
     let B = g.M.ByteStore.bytes c.self.inside.store in
-    let long = accepted_len F B c.self.invariant.0 in
-    let stated : c.args.slots ≡ stated_slots B = c.requires.stated ∙ ap stated_slots (sym c.self.view_is) in
-    let low : c.args.index < stated_slots B + 16 = subst (λ s. c.args.index < s + 16) stated c.requires.index in
-    rw (c.LEN.ensures, c.LEN-2.ensures, stated) (omega (arith, long, low, c.self.invariant.1))
+    let inside = accepted_control F B c.self.invariant.0 c.args.slots c.args.index (c.requires.stated ∙ ap stated_slots (sym c.self.view_is)) c.requires.index in
+    rw (c.LEN.ensures, c.LEN-2.ensures) (omega (arith, inside, c.self.invariant.1))
 
 -- the write of one byte
 written : (g : Over) (c : goal.After-write_at g) → g.M.ByteStore.bytes c.write_at.new.self ≡ overwritten_at (g.M.ByteStore.bytes c.self.inside.store) (32 + c.args.slots * (g.C.EncodedKey.ByteArray.LEN + g.C.EncodedValue.ByteArray.LEN) + c.args.index) (c.args.tag ∷ [])
@@ -54,11 +46,7 @@ written g c =
 within : (g : Over) (c : goal.After-write_at g) → 32 + c.args.slots * (g.C.EncodedKey.ByteArray.LEN + g.C.EncodedValue.ByteArray.LEN) + c.args.index < length (g.M.ByteStore.bytes c.self.inside.store)
 within g c =
     let F = format_of g.C.EncodedKey.ByteArray.LEN g.C.EncodedValue.ByteArray.LEN g.C.H.HashFn.hash in
-    let B = g.M.ByteStore.bytes c.self.inside.store in
-    let long = accepted_len F B c.self.invariant.0 in
-    let stated : c.args.slots ≡ stated_slots B = c.requires.stated ∙ ap stated_slots (sym c.self.view_is) in
-    let low : c.args.index < stated_slots B + 16 = subst (λ s. c.args.index < s + 16) stated c.requires.index in
-    rw stated (omega (arith, long, low))
+    accepted_control F (g.M.ByteStore.bytes c.self.inside.store) c.self.invariant.0 c.args.slots c.args.index (c.requires.stated ∙ ap stated_slots (sym c.self.view_is)) c.requires.index
 
 pub invariant_of-self : goal.invariant_of-self
 invariant_of-self g c =
