@@ -84,7 +84,7 @@ fn keys_and_values_of_no_bytes(rt: HostRuntime) {
 
 #[test]
 fn refused_bytes(rt: HostRuntime) {
-    let mut short = [0; 191];
+    let mut short = [0x5a; 191];
     let made: Result<HashTable<U32ToU32, BorrowedMut<'_>>, Error> = HashTable::init_in_place(
         BorrowedMut::new(&mut short),
         0,
@@ -95,11 +95,13 @@ fn refused_bytes(rt: HostRuntime) {
         expected: 192,
     };
     assert_eq!(rt; made.err(), Some(expected));
-    let mut bytes = [0; 256];
+    assert_eq!(rt; short.as_slice(), [0x5a; 191].as_slice());
+    let mut bytes = [0x5a; 256];
     let made: Result<HashTable<U64ToU32, BorrowedMut<'_>>, Error> = HashTable::init_in_place(
         BorrowedMut::new(&mut bytes),
         1 << 62,
         100,
     );
     assert_eq!(rt; made.err(), Some(Error::Capacity));
+    assert_eq!(rt; bytes.as_slice(), [0x5a; 256].as_slice());
 }

@@ -17,10 +17,6 @@ use Rattle.odht.specs.Coding.{Coding, encoded}
 use Rattle.odht.specs.Lists.{encoded_all, HasSizeOf, IsFilled, IsFreshFilled}
 
 module _ (F : Format) (put : Table → Pair → Option Table) (is : IsInsert F (IsValid F) put) (places : PlacesBelow F put) (P : Table) where
-  -- no inserts leave the table
-  pub filled_none : (B : List ℕ) → IsImage F P B → IsFilled F put P [] B
-  filled_none B image = record { table = P; runs = refl; image = image; maps = λ k. refl; stays = λ room. ((refl, refl), omega arith) }
-
   -- one more gives its key this value
   pub filled_more : (ps : List Pair) (p : Pair) (B C : List ℕ) (h : IsFilled F put P ps B) (Q : Table) → put h.table p ≡ Some Q → IsImage F Q C → IsFilled F put P (ps ++ p ∷ []) C
   filled_more ps p B C h Q e image = record {

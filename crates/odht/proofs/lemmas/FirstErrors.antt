@@ -1,5 +1,5 @@
 -- Laws of the first error: of a list, of one condition, and of the slots in order.
-use Rattle.std.proofs.Common.{◌≡◌, ◌<◌, ◌∙◌, ◌+◌, ℕ, zero, suc, Bool, true, false, not, ◌==◌, bytes_eq, ap, subst, refl, List, Option, Some, None, Ok, Err, map, arith, eqb-true, eq-eqb}
+use Rattle.std.proofs.Common.{◌≡◌, ◌<◌, ◌∙◌, ◌+◌, ℕ, zero, suc, Bool, true, false, not, ◌==◌, ap, subst, refl, List, Option, Some, None, Ok, Err, map, arith, eqb-true, eq-eqb}
 use Rattle.std.specs.List.{range_with_len}
 use Rattle.std.specs.Option.{option_or}
 use Rattle.std.proofs.lemmas.Slice.Eq.{bytes_eq-Decides}
@@ -88,22 +88,6 @@ false-lists_differ xs ys h = ap not ((bytes_eq-Decides xs ys).1 h)
 pub gives-Some : (c : Bool) (e : Error) → c ≡ true → (c gives e) ≡ Some e
 gives-Some true e h = refl
 gives-Some false e h = cc
-
--- numbers that are not one differ
-pub true-differs : (m n : ℕ) → (m ≡ n → ⊥) → differs m n ≡ true
-true-differs m n h = go (m == n) refl
-  where
-    go : (b : Bool) → (m == n) ≡ b → not b ≡ true
-    go true e = absurd (h (eqb-true m n e))
-    go false e = refl
-
--- nor do lists
-pub true-lists_differ : (xs ys : List ℕ) → (xs ≡ ys → ⊥) → lists_differ xs ys ≡ true
-true-lists_differ xs ys h = go (bytes_eq xs ys) refl
-  where
-    go : (b : Bool) → bytes_eq xs ys ≡ b → not b ≡ true
-    go true e = absurd (h ((bytes_eq-Decides xs ys).0 e))
-    go false e = refl
 
 -- ---- the slots in order
 
