@@ -39,3 +39,5 @@ pub mod Growths
 pub mod Fillings
 -- what is written of bytes in the text of an error
 pub mod ErrorTexts
+-- a walk over the slots
+pub mod Walks

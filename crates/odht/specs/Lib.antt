@@ -13,3 +13,5 @@ pub mod Frame
 pub mod ErrorTexts
 -- lists of keys and values that are inserted in turn
 pub mod Lists
+-- what a walk over the slots gives
+pub mod Walks

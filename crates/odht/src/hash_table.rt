@@ -3,23 +3,25 @@ ghost use Rattle.std.specs.Prelude.{◌≡◌, ℕ, ◌≤◌, ◌↔◌, length
 ghost use Rattle.std.specs.Result.{result_err};
 ghost use Rattle.odht_base.specs.Load.{factor_of, max_items, slots_for};
 ghost use Rattle.odht_base.specs.Image.{image_len};
-ghost use Rattle.odht_base.specs.Table.{Table, count, slot_count, fresh};
+ghost use Rattle.odht_base.specs.Table.{Table, walk, count, slot_count, fresh};
 ghost use Rattle.odht_base.specs.Map.{map_of};
 ghost use Rattle.odht_base.specs.Insert.{put_view};
-ghost use Rattle.odht_base.specs.Shown.{stated_count, HoldsKey};
+ghost use Rattle.odht_base.specs.Shown.{stated_count, seen, HoldsKey};
 ghost use Rattle.odht_base.specs.Valid.{IsImage};
 ghost use Rattle.odht.specs.Coding.{value_for, encoded, HasStored};
 ghost use Rattle.odht.specs.Lists.{encoded_all, IsFilled};
 ghost use Rattle.odht.specs.Frame.{IsAccepted, IsFramed, IsBytesFramed};
+ghost use Rattle.odht.specs.Walks.{decoded_all};
 ghost use Rattle.odht.specs.Refusals.{IsTooLarge, new_refusal, view_refusal};
 
 use crate::bytes::{ByteArray, ByteStore, ByteStoreMut};
 use crate::config::{Coded, Config};
 use crate::error::Error;
 use crate::hash::HashFn;
+use crate::iter::Iter;
 use crate::load::{Factor, max_item_count_for, slots_needed};
 use crate::memory_layout::{self, Allocation};
-use crate::raw_table::{Search, plain_find, plain_search, tag_of};
+use crate::raw_table::{RawIter, Search, plain_find, plain_search, tag_of};
 use std::marker::Model;
 
 /// How many bytes a new table for `max_item_count` items has. None exactly where no slot count is enough, or the length
@@ -105,6 +107,18 @@ impl<C: Config, D: ByteStore> HashTable<C, D> {
         let (control, entries) = self.allocation.data_slices();
         let key = C::encode_key(key);
         plain_find::<C::EncodedKey, C::EncodedValue, C::H>(control, &entries, &key).is_some()
+    }
+
+    /// The keys and values of the slots whose own control byte does not count as free, in slot order: on valid bytes each
+    /// pair of the table once.
+    pub fn iter(&self) -> Iter<'_, C>
+        ensures on_valid { (P : Table)
+            → IsImage ⟦<C as Coded>⟧.coding.format P self.now
+            → result ≡ decoded_all ⟦<C as Coded>⟧.coding (walk P) }
+        ensures on_any { result ≡ decoded_all ⟦<C as Coded>⟧.coding (seen ⟦<C as Coded>⟧.coding.format self.now) }
+    {
+        let (control, entries) = self.allocation.data_slices();
+        Iter::new(RawIter::new(control, entries))
     }
 
     /// How many items the header states: of valid bytes, how many there are.

@@ -1,12 +1,13 @@
 //! The table that owns its bytes, and grows.
 ghost use Rattle.std.specs.Prelude.{◌≡◌, ℕ, List, ◌≤◌, ◌↔◌, ◌⊎◌, length, take, option_map, IfOk, IsOk, IsSome, IsTrue, IsErrOf, OnErr};
 ghost use Rattle.odht_base.specs.Load.{factor_of, max_items, slots_for};
-ghost use Rattle.odht_base.specs.Table.{Table, count, slot_count, empty, fresh};
+ghost use Rattle.odht_base.specs.Table.{Table, walk, count, slot_count, empty, fresh};
 ghost use Rattle.odht_base.specs.Map.{map_of};
 ghost use Rattle.odht_base.specs.Insert.{grown, put_owned};
 ghost use Rattle.odht_base.specs.Valid.{IsImage, IsValidBytes};
 ghost use Rattle.odht.specs.Coding.{value_for, encoded};
 ghost use Rattle.odht.specs.Lists.{encoded_all, IsFilled, IsFreshFilled};
+ghost use Rattle.odht.specs.Walks.{decoded_all};
 ghost use Rattle.std.specs.Iterator.{Drains, IsFinite};
 ghost use Rattle.odht.specs.Refusals.{IsTooLarge};
 
@@ -14,6 +15,7 @@ use crate::bytes::OwnedBytes;
 use crate::config::{Coded, Config};
 use crate::error::Error;
 use crate::hash_table::HashTable;
+use crate::iter::Iter;
 use crate::load::{Factor, slots_needed};
 use crate::memory_layout;
 use crate::raw_table::is_empty_or_deleted;
@@ -115,6 +117,15 @@ impl<C: Config> HashTableOwned<C> {
             → IsTrue result ↔ IsSome (map_of P (⟦<C as Coded>⟧.coding.key_bytes key.now)) }
     {
         self.table.contains_key(key)
+    }
+
+    /// The keys and values, each pair once, in slot order.
+    pub fn iter(&self) -> Iter<'_, C>
+        ensures { (P : Table)
+            → IsImage ⟦<C as Coded>⟧.coding.format P self.now
+            → result ≡ decoded_all ⟦<C as Coded>⟧.coding (walk P) }
+    {
+        self.table.iter()
     }
 
     /// How many items there are.

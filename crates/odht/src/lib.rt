@@ -4,6 +4,7 @@
 pub use config::Config;
 pub use hash_table::{HashTable, bytes_needed};
 pub use hash_table_owned::HashTableOwned;
+pub use iter::Iter;
 pub use odht_base::hash::{FxHashFn, HashFn, UnHashFn};
 pub use odht_base::{bytes, hash, load, swisstable_group_query};
 
@@ -11,5 +12,6 @@ pub mod config;
 pub mod error;
 mod hash_table;
 mod hash_table_owned;
+mod iter;
 pub mod memory_layout;
 pub mod raw_table;

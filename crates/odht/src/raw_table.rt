@@ -4,6 +4,7 @@ ghost use Rattle.odht_base.specs.Format.{format_of};
 ghost use Rattle.odht_base.specs.Load.{IsSlotCount};
 ghost use Rattle.odht_base.specs.Shown.{slot_key, slot_value, counts_as_free};
 ghost use Rattle.odht.specs.Parts.{entry_format};
+ghost use Rattle.odht.specs.Walks.{items_from};
 ghost use Rattle.odht.specs.Refusals.{checked, hashes_refusal, hashes_refusal_at};
 
 use crate::bytes::ByteArray;
@@ -13,10 +14,12 @@ use std::marker::{Model, PhantomData};
 
 mod outcome;
 mod plain;
+mod walk;
 
 pub use outcome::Search;
 pub use plain::{plain_find, plain_insert};
 pub(crate) use plain::{plain_search, tag_of};
+pub use walk::RawIter;
 
 /// A control byte: the tag of a filled slot, below 128, or a free slot's 255.
 pub type EntryMetadata = u8;
@@ -69,6 +72,18 @@ impl<'a, K: ByteArray, V: ByteArray> Entries<'a, K, V> {
         Entries {
             bytes,
             slots,
+            types: PhantomData,
+        }
+    }
+
+    // The same entries once more.
+    #[inline]
+    fn copy(&self) -> Self
+        ensures { result ≡ self.now }
+    {
+        Entries {
+            bytes: self.bytes,
+            slots: self.slots,
             types: PhantomData,
         }
     }
@@ -140,6 +155,14 @@ impl<'a, K: ByteArray, V: ByteArray, H: HashFn> RawTable<'a, K, V, H> {
             entries,
             hash: PhantomData,
         }
+    }
+
+    /// The control byte and the entry of each slot whose own control byte does not count as free, in slot order.
+    #[inline]
+    pub fn iter(&self) -> RawIter<'a, K, V>
+        ensures { result ≡ items_from K.of_bytes V.of_bytes (entry_format K.LEN V.LEN) self.now 0 }
+    {
+        RawIter::new(self.control, self.entries.copy())
     }
 
     /// Looks at the first `slots_to_check` slots, or at all where there are fewer, and answers the first refusal:

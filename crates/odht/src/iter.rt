@@ -1,0 +1,51 @@
+//! A walk over the pairs of a table.
+ghost use Rattle.std.specs.Prelude.{◌≡◌};
+ghost use Rattle.std.specs.Iterator.{YieldsFirst, item_count};
+ghost use Rattle.odht.specs.Walks.{decoded_items};
+
+use crate::config::Config;
+use crate::raw_table::RawIter;
+use std::iter::FusedIterator;
+use std::marker::Model;
+
+/// The keys and values of a table, decoded, in slot order.
+///
+/// A contract speaks of it as of the list of those that are left. A whole walk reads each control byte once.
+#[derive(Drop)]
+pub struct Iter<'a, C: Config> {
+    raw: RawIter<'a, C::EncodedKey, C::EncodedValue>,
+}
+
+impl<'a, C: Config> Model for Iter<'a, C> {
+    ghost use Rattle.std.specs.Prelude.{List};
+    ghost use Rattle.odht.specs.Walks.{decoded_items};
+
+    ghost Value = { List (C.Key × C.Value) };
+
+    ghost view = { λ it. decoded_items C.decode_key C.decode_value it.raw };
+}
+
+impl<'a, C: Config> Iter<'a, C> {
+    /// The pairs of what is left of a raw walk.
+    #[inline]
+    pub(crate) fn new(raw: RawIter<'a, C::EncodedKey, C::EncodedValue>) -> Self
+        ensures { result ≡ decoded_items C.decode_key C.decode_value raw.entry }
+    {
+        Iter { raw }
+    }
+}
+
+impl<'a, C: Config> Iterator for Iter<'a, C> {
+    type Item = (C::Key, C::Value);
+
+    ghost next_gives = { YieldsFirst (λ left. left) };
+
+    ghost remaining = { item_count (λ left. left) };
+
+    fn next(&mut self) -> Option<(C::Key, C::Value)> {
+        let (_, entry) = self.raw.next()?;
+        Some((C::decode_key(&entry.key), C::decode_value(&entry.value)))
+    }
+}
+
+impl<'a, C: Config> FusedIterator for Iter<'a, C> {}

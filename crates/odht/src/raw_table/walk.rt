@@ -1,0 +1,69 @@
+//! A walk over the filled slots.
+ghost use Rattle.std.specs.Prelude.{◌≡◌, ◌+◌, length};
+ghost use Rattle.std.specs.Iterator.{YieldsFirst, item_count};
+ghost use Rattle.odht.specs.Parts.{entry_format};
+ghost use Rattle.odht.specs.Walks.{items_from};
+
+use super::{Entries, Entry, EntryMetadata, is_empty_or_deleted};
+use crate::bytes::ByteArray;
+use std::iter::FusedIterator;
+use std::marker::Model;
+
+/// The control byte and the entry of each slot whose own control byte does not count as free, in slot order.
+///
+/// A contract speaks of it as of the list of those that are left. A whole walk reads each control byte once.
+#[derive(Drop)]
+pub struct RawIter<'a, K: ByteArray, V: ByteArray> {
+    control: &'a [EntryMetadata],
+    entries: Entries<'a, K, V>,
+    next_slot: usize,
+}
+
+impl<'a, K: ByteArray, V: ByteArray> Model for RawIter<'a, K, V> {
+    ghost use Rattle.std.specs.Prelude.{◌≡◌, ◌+◌, ◌≤◌, List, length};
+    ghost use Rattle.odht.specs.Parts.{entry_format};
+    ghost use Rattle.odht.specs.Walks.{Item, items_from};
+
+    ghost Value = { List (Item K V) };
+
+    ghost view = { λ w. items_from K.of_bytes V.of_bytes (entry_format K.LEN V.LEN) (record { control = w.control.now; entries = w.entries }) w.next_slot };
+
+    ghost invariant = { λ w. (length w.control.now ≡ w.entries.slots + 16) × (w.next_slot ≤ w.entries.slots) };
+}
+
+impl<'a, K: ByteArray, V: ByteArray> RawIter<'a, K, V> {
+    /// A walk over all slots, of which `control` holds the control bytes with their mirror.
+    #[inline]
+    pub fn new(control: &'a [EntryMetadata], entries: Entries<'a, K, V>) -> Self
+        requires { length control.now ≡ entries.slots + 16 }
+        ensures { result ≡ items_from K.of_bytes V.of_bytes (entry_format K.LEN V.LEN) (record { control = control.now; entries = entries.entry }) 0 }
+    {
+        RawIter {
+            control,
+            entries,
+            next_slot: 0,
+        }
+    }
+}
+
+impl<'a, K: ByteArray, V: ByteArray> Iterator for RawIter<'a, K, V> {
+    type Item = (EntryMetadata, Entry<K, V>);
+
+    ghost next_gives = { YieldsFirst (λ left. left) };
+
+    ghost remaining = { item_count (λ left. left) };
+
+    fn next(&mut self) -> Option<(EntryMetadata, Entry<K, V>)> {
+        while self.next_slot < self.entries.len() {
+            let slot = self.next_slot;
+            self.next_slot += 1;
+            let control = self.control[slot];
+            if !is_empty_or_deleted(control) {
+                return Some((control, self.entries.get(slot)));
+            }
+        }
+        None
+    }
+}
+
+impl<'a, K: ByteArray, V: ByteArray> FusedIterator for RawIter<'a, K, V> {}
