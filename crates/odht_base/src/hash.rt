@@ -1,7 +1,7 @@
 //! Hash functions of encoded keys.
 //!
 //! The rules are those of docs/FORMAT.md, "Hashes".
-ghost use Rattle.std.specs.Prelude.{◌≡◌, ℕ, ◌<◌, ◌≤◌, ◌^◌, List, length, All};
+ghost use Rattle.std.specs.Prelude.{◌≡◌, ℕ, ◌<◌, ◌≤◌, ◌^◌, List, length, All, codes};
 ghost use Rattle.odht_base.specs.Hashes.{fx_step, fx, un};
 ghost use Rattle.odht_base.specs.HashLaws.{fx-lt, un-lt};
 
@@ -15,7 +15,13 @@ pub trait HashFn: Eq {
 
     ghost MIN_LEN: { ℕ };
 
+    ghost hash_name: { List ℕ };
+
     ghost hash: { List ℕ → ℕ };
+
+    /// `NAME`, in the form in which a contract knows its text: it cannot read a constant that is a reference.
+    fn hash_name() -> &'static str
+        ensures { result.now ≡ hash_name };
 
     /// The hash of `bytes`.
     fn hash(bytes: &[u8]) -> u32
@@ -34,11 +40,18 @@ impl HashFn for FxHashFn {
 
     const NAME: &'static str = "FxHashFn";
 
+    ghost hash_name = { codes "FxHashFn" };
+
     ghost MIN_LEN = { 0 };
 
     ghost hash = { fx };
 
     ghost fits = { λ b long small. fx-lt b };
+
+    #[inline]
+    fn hash_name() -> &'static str {
+        Self::NAME
+    }
 
     #[inline]
     fn hash(bytes: &[u8]) -> u32 {
@@ -81,11 +94,18 @@ impl HashFn for UnHashFn {
 
     const NAME: &'static str = "UnHashFn";
 
+    ghost hash_name = { codes "UnHashFn" };
+
     ghost MIN_LEN = { 4 };
 
     ghost hash = { un };
 
     ghost fits = { un-lt };
+
+    #[inline]
+    fn hash_name() -> &'static str {
+        Self::NAME
+    }
 
     #[inline]
     fn hash(bytes: &[u8]) -> u32 {

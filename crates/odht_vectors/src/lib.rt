@@ -32,4 +32,6 @@ mod table_bytes;
 #[cfg(test)]
 mod view_tables;
 #[cfg(test)]
+mod walks;
+#[cfg(test)]
 mod whole_lists;

@@ -153,9 +153,9 @@ fn three_pairs_at_each_alignment(rt: HostRuntime) {
     }
 }
 
-// As many pairs as asked for. The keys are the multiples of one step, spread over all of u32, and last the highest key.
-// The value of a key is what the highest key is above it.
-fn make_test_items(alloc: Global, count: u32) -> Result<Vec<(u32, u32)>, AllocError> {
+/// As many pairs as asked for. The keys are the multiples of one step, spread over all of u32, and last the highest key.
+/// The value of a key is what the highest key is above it.
+pub fn make_test_items(alloc: Global, count: u32) -> Result<Vec<(u32, u32)>, AllocError> {
     let mut items = Vec::new(alloc);
     if count > 1 {
         let step = u32::MAX / (count - 1);
