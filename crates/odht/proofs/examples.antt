@@ -9,3 +9,5 @@ pub mod HeaderBytes
 pub mod Invalid
 -- inserts into such bytes
 pub mod Frames
+-- the dump of a table
+pub mod Dumps

@@ -41,3 +41,7 @@ pub mod Fillings
 pub mod ErrorTexts
 -- a walk over the slots
 pub mod Walks
+-- the lines of a dump, joined as they are written
+pub mod Dumps
+-- keys and values that their bytes decode to
+pub mod Kept

@@ -15,3 +15,9 @@ pub mod ErrorTexts
 pub mod Lists
 -- what a walk over the slots gives
 pub mod Walks
+-- what `Debug` writes of a table
+pub mod Dumps
+-- the parts of a table which can be written
+pub mod LentParts
+-- the last value of a key in a list of items
+pub mod LastValues

@@ -61,3 +61,17 @@ pub trait Coded: Config {
 impl<C: Config> Coded for C {
     ghost coding = { coding_of C.EncodedKey.LEN C.EncodedKey.bytes C.EncodedKey.of_bytes C.EncodedValue.LEN C.EncodedValue.bytes C.EncodedValue.of_bytes C.H.hash C.encode_key C.encode_value C.decode_key C.decode_value };
 }
+
+/// A configuration whose decodings undo its encodings, so that a table of it is a map of the keys to the values
+/// themselves.
+///
+/// Both functions do nothing: their contracts are the law, of a key and of a value at hand.
+pub trait Lossless: Config {
+    /// The bytes of a key decode to it, so different keys have different bytes.
+    fn key_kept(k: &Self::Key)
+        ensures { Self.decode_key (Self.encode_key k.now) ≡ k.now };
+
+    /// The bytes of a value decode to it.
+    fn value_kept(v: &Self::Value)
+        ensures { Self.decode_value (Self.encode_value v.now) ≡ v.now };
+}

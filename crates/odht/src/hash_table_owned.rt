@@ -22,6 +22,8 @@ use crate::raw_table::is_empty_or_deleted;
 use std::alloc::Global;
 use std::marker::Model;
 
+mod dump;
+
 /// A table in memory of its own, which grows as it fills. Its bytes are always valid, and a contract speaks of it as of
 /// these bytes.
 #[derive(Drop)]

@@ -1,7 +1,7 @@
 //! `odht`: a hash table that is used in the very form in which it is stored.
 #![tactic(auto)]
 
-pub use config::Config;
+pub use config::{Config, Lossless};
 pub use hash_table::{HashTable, bytes_needed};
 pub use hash_table_owned::HashTableOwned;
 pub use iter::Iter;
@@ -13,5 +13,6 @@ pub mod error;
 mod hash_table;
 mod hash_table_owned;
 mod iter;
+pub mod laws;
 pub mod memory_layout;
 pub mod raw_table;

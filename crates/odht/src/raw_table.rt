@@ -12,13 +12,16 @@ use crate::error::Error;
 use crate::hash::HashFn;
 use std::marker::{Model, PhantomData};
 
+mod dump;
 mod outcome;
 mod plain;
+mod table_mut;
 mod walk;
 
 pub use outcome::Search;
 pub use plain::{plain_find, plain_insert};
 pub(crate) use plain::{plain_search, tag_of};
+pub use table_mut::RawTableMut;
 pub use walk::RawIter;
 
 /// A control byte: the tag of a filled slot, below 128, or a free slot's 255.

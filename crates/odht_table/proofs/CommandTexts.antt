@@ -16,7 +16,7 @@ use Rattle.std.proofs.lemmas.Fmt.{IsAscii-from_digits}
 use Rattle.std.proofs.lemmas.Option.{none-some, same_Some}
 use Rattle.odht_table.specs.declared.script.command.Command.{Command}
 use Rattle.odht_table.specs.declared.script.command.Command.TheVariants.{New, OnTable}
-use Rattle.odht_table.specs.declared.script.command.Request.TheVariants.{Put, Get, Hex}
+use Rattle.odht_table.specs.declared.script.command.Request.TheVariants.{Put, Get, Len, Walk, Hex, Dump}
 use Rattle.odht_table.specs.Commands.{IsNumberText, IsPairText, IsCommandText}
 
 -- no digit of a number is a space
@@ -55,36 +55,58 @@ line_utf8 : (line words : List ℕ) (a b c : ℕ) → a < 128 → b < 128 → c 
 line_utf8 line words a b c p q r e h =
     IsUtf8-from_ascii line (subst IsAscii (sym e) (letters_ascii a b c (32 ∷ words) p q r (IsAscii-cons 32 words (omega arith) h)))
 
+-- a word that begins with three ASCII letters
+word_utf8 : (line : List ℕ) (a b c : ℕ) (rest : List ℕ) → a < 128 → b < 128 → c < 128 → IsAscii rest → line ≡ a ∷ b ∷ c ∷ rest → IsUtf8 line
+word_utf8 line a b c rest p q r h e = IsUtf8-from_ascii line (subst IsAscii (sym e) (letters_ascii a b c rest p q r h))
+
 -- the text of a command is UTF-8
 pub command_utf8 : (line : List ℕ) (command : Command) → IsCommandText line command → IsUtf8 line
 command_utf8 line (New items percent) h = line_utf8 line h.0 110 101 119 (omega arith) (omega arith) (omega arith) h.1 (pair_ascii h.0 items percent h.2)
 command_utf8 line (OnTable (Put key value)) h = line_utf8 line h.0 112 117 116 (omega arith) (omega arith) (omega arith) h.1 (pair_ascii h.0 key value h.2)
 command_utf8 line (OnTable (Get key)) h = line_utf8 line h.0 103 101 116 (omega arith) (omega arith) (omega arith) h.1 (number_ascii h.0 key h.2)
-command_utf8 line (OnTable Hex) h = IsUtf8-from_ascii line (subst IsAscii (sym h) (letters_ascii 104 101 120 [] (omega arith) (omega arith) (omega arith) IsAscii-nil))
+command_utf8 line (OnTable Len) h = word_utf8 line 108 101 110 [] (omega arith) (omega arith) (omega arith) IsAscii-nil h
+command_utf8 line (OnTable Walk) h = word_utf8 line 119 97 108 (107 ∷ []) (omega arith) (omega arith) (omega arith) (IsAscii-cons 107 [] (omega arith) IsAscii-nil) h
+command_utf8 line (OnTable Hex) h = word_utf8 line 104 101 120 [] (omega arith) (omega arith) (omega arith) IsAscii-nil h
+command_utf8 line (OnTable Dump) h = word_utf8 line 100 117 109 (112 ∷ []) (omega arith) (omega arith) (omega arith) (IsAscii-cons 112 [] (omega arith) IsAscii-nil) h
 
 -- the name and the numbers are those of a command with a space
 abbrev pub IsCut : List ℕ → List ℕ → Command → Type 0
 IsCut name numbers (New items percent) = (name ≡ codes "new") × IsPairText numbers items percent
 IsCut name numbers (OnTable (Put key value)) = (name ≡ codes "put") × IsPairText numbers key value × (value < 2 ^ 32)
 IsCut name numbers (OnTable (Get key)) = (name ≡ codes "get") × IsNumberText numbers key
+IsCut name numbers (OnTable Len) = ⊥
+IsCut name numbers (OnTable Walk) = ⊥
 IsCut name numbers (OnTable Hex) = ⊥
+IsCut name numbers (OnTable Dump) = ⊥
 
--- three letters that are no spaces
-letters_no_space : (a b c : ℕ) → a ≢ 32 → b ≢ 32 → c ≢ 32 → (i : ℕ) → i < length (a ∷ b ∷ c ∷ []) → get_or (a ∷ b ∷ c ∷ []) i 0 ≢ 32
-letters_no_space a b c p q r zero l = p
-letters_no_space a b c p q r (suc zero) l = q
-letters_no_space a b c p q r (suc (suc zero)) l = r
-letters_no_space a b c p q r (suc (suc (suc i))) l = absurd (omega arith)
+-- none of the bytes is a space
+abbrev HasNoSpace : List ℕ → Type 0
+HasNoSpace [] = Unit {0}
+HasNoSpace (b ∷ bs) = (b ≢ 32) × HasNoSpace bs
+
+no_space_at : (bs : List ℕ) → HasNoSpace bs → (i : ℕ) → i < length bs → get_or bs i 0 ≢ 32
+no_space_at [] h i l = absurd (omega (arith, l))
+no_space_at (b ∷ bs) h zero l = h.0
+no_space_at (b ∷ bs) h (suc i) l = no_space_at bs h.1 i (omega (arith, l))
 
 -- a line is cut after its name of three letters
 line_cut : (line words : List ℕ) (a b c : ℕ) (name numbers : Bor (List ℕ)) → IsSplitOnceResult 32 line (Some (name, numbers)) → a ≢ 32 → b ≢ 32 → c ≢ 32 → line ≡ a ∷ b ∷ c ∷ 32 ∷ words
     → (name.now ≡ a ∷ b ∷ c ∷ []) × (numbers.now ≡ words)
-line_cut line words a b c name numbers cut p q r e = split_after 32 line (a ∷ b ∷ c ∷ []) words (Some (name, numbers)) cut (omega arith) e (letters_no_space a b c p q r)
+line_cut line words a b c name numbers cut p q r e = split_after 32 line (a ∷ b ∷ c ∷ []) words (Some (name, numbers)) cut (omega arith) e (no_space_at (a ∷ b ∷ c ∷ []) (p, q, r, tt))
 
 -- the byte after a front
 byte_after : (front : List ℕ) (b : ℕ) (rest : List ℕ) → get_or (front ++ (b ∷ rest)) (length front) 0 ≡ b
 byte_after [] b rest = refl
 byte_after (x ∷ front) b rest = byte_after front b rest
+
+-- a word without a space is not cut
+word_not_cut : (line : List ℕ) (name numbers : Bor (List ℕ)) → IsSplitOnceResult 32 line (Some (name, numbers)) → (word : List ℕ) → line ≡ word → HasNoSpace word → ⊥
+word_not_cut line name numbers cut word e none =
+    let whole = (split_parts 32 line (Some (name, numbers)) cut (omega arith)).0 in
+    let parts : word ≡ name.now ++ (32 ∷ numbers.now) = sym e ∙ whole in
+    no_space_at word none (length name.now)
+    (omega (arith, ap length parts, length-append name.now (32 ∷ numbers.now)))
+    (ap (λ bs. get_or bs (length name.now) 0) parts ∙ byte_after name.now 32 numbers.now)
 
 -- what a command's line is cut into
 pub command_cut : (line : List ℕ) (name numbers : Bor (List ℕ)) (command : Command) → IsSplitOnceResult 32 line (Some (name, numbers)) → IsCommandText line command → IsCut name.now numbers.now command
@@ -97,12 +119,10 @@ command_cut line name numbers (OnTable (Put key value)) cut h =
 command_cut line name numbers (OnTable (Get key)) cut h =
     let k = line_cut line h.0 103 101 116 name numbers cut (omega arith) (omega arith) (omega arith) h.1 in
     (k.0, subst (λ w. IsNumberText w key) (sym k.1) h.2)
-command_cut line name numbers (OnTable Hex) cut h =
-    let whole = (split_parts 32 line (Some (name, numbers)) cut (omega arith)).0 in
-    let parts : 104 ∷ 101 ∷ 120 ∷ [] ≡ name.now ++ (32 ∷ numbers.now) = sym h ∙ whole in
-    absurd (letters_no_space 104 101 120 (omega arith) (omega arith) (omega arith) (length name.now)
-    (omega (arith, ap length parts, length-append name.now (32 ∷ numbers.now)))
-    (ap (λ bs. get_or bs (length name.now) 0) parts ∙ byte_after name.now 32 numbers.now))
+command_cut line name numbers (OnTable Len) cut h = absurd (word_not_cut line name numbers cut _ h (omega arith, omega arith, omega arith, tt))
+command_cut line name numbers (OnTable Walk) cut h = absurd (word_not_cut line name numbers cut _ h (omega arith, omega arith, omega arith, omega arith, tt))
+command_cut line name numbers (OnTable Hex) cut h = absurd (word_not_cut line name numbers cut _ h (omega arith, omega arith, omega arith, tt))
+command_cut line name numbers (OnTable Dump) cut h = absurd (word_not_cut line name numbers cut _ h (omega arith, omega arith, omega arith, omega arith, tt))
 
 -- what is not cut after another name is not that command
 other_name : (name : List ℕ) (a b c d e f : ℕ) → name ≡ a ∷ b ∷ c ∷ [] → name ≡ d ∷ e ∷ f ∷ [] → a ≢ d → ⊥
@@ -114,14 +134,20 @@ module _ (name numbers : List ℕ) (r : Option Command) where
   at_new e answer (New items percent) cut = answer items percent cut.1
   at_new e answer (OnTable (Put key value)) cut = absurd (other_name name _ _ _ _ _ _ e cut.0 (omega arith))
   at_new e answer (OnTable (Get key)) cut = absurd (other_name name _ _ _ _ _ _ e cut.0 (omega arith))
+  at_new e answer (OnTable Len) cut = absurd cut
+  at_new e answer (OnTable Walk) cut = absurd cut
   at_new e answer (OnTable Hex) cut = absurd cut
+  at_new e answer (OnTable Dump) cut = absurd cut
 
   -- and one at the name `put`
   pub at_put : name ≡ codes "put" → ((m n : ℕ) → IsPairText numbers m n → n < 2 ^ 32 → r ≡ Some (OnTable (Put m n))) → (command : Command) → IsCut name numbers command → r ≡ Some command
   at_put e answer (New items percent) cut = absurd (other_name name _ _ _ _ _ _ e cut.0 (omega arith))
   at_put e answer (OnTable (Put key value)) cut = answer key value cut.1 cut.2
   at_put e answer (OnTable (Get key)) cut = absurd (other_name name _ _ _ _ _ _ e cut.0 (omega arith))
+  at_put e answer (OnTable Len) cut = absurd cut
+  at_put e answer (OnTable Walk) cut = absurd cut
   at_put e answer (OnTable Hex) cut = absurd cut
+  at_put e answer (OnTable Dump) cut = absurd cut
 
 -- what `from_utf8` says of a line
 abbrev pub IsRead : List ℕ → Result (Bor (List ℕ)) Utf8Error → Type 0

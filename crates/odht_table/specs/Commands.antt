@@ -1,14 +1,16 @@
 -- Which lines of a script are commands. A line is its bytes, without its end.
 --     IsNumberText word n      the word is decimal digits, one or more, that write n, which is below 2 ^ 64
 --     IsPairText words m n     the words are two numbers' texts, m and n, with one space between them
+--     IsWordText word r        the word is `len`, `walk`, `hex` or `dump`, and the request r asks for just that
 --     IsCommandText line c     the line is the word `new`, `put` or `get`, one space and the numbers of the command c;
---                              or the word `hex` alone
+--                              or the one word of the command c alone
 -- A space is the byte 32. Digits may begin with zeros; a sign is no digit.
 use Rattle.std.specs.Prelude.{◌≡◌, ℕ, ◌^◌, ◌<◌, List, ◌∷◌, ◌++◌, codes}
 use Rattle.std.specs.Str.Parse.{IsNumeral, digits_value}
 use Rattle.odht_table.specs.declared.script.command.Command.{Command}
 use Rattle.odht_table.specs.declared.script.command.Command.TheVariants.{New, OnTable}
-use Rattle.odht_table.specs.declared.script.command.Request.TheVariants.{Put, Get, Hex}
+use Rattle.odht_table.specs.declared.script.command.Request.{Request}
+use Rattle.odht_table.specs.declared.script.command.Request.TheVariants.{Put, Get, Len, Walk, Hex, Dump}
 
 pub record IsNumberText (word : List ℕ) (n : ℕ) : Type 0 where
   pub numeral : IsNumeral 10 word
@@ -22,8 +24,19 @@ pub record IsPairText (words : List ℕ) (m n : ℕ) : Type 0 where
   pub first_number : IsNumberText first m
   pub second_number : IsNumberText second n
 
+abbrev pub IsWordText : List ℕ → Request → Type 0
+IsWordText word (Put key value) = ⊥
+IsWordText word (Get key) = ⊥
+IsWordText word Len = word ≡ codes "len"
+IsWordText word Walk = word ≡ codes "walk"
+IsWordText word Hex = word ≡ codes "hex"
+IsWordText word Dump = word ≡ codes "dump"
+
 abbrev pub IsCommandText : List ℕ → Command → Type 0
 IsCommandText line (New items percent) = (words : List ℕ) × (line ≡ codes "new " ++ words) × IsPairText words items percent
 IsCommandText line (OnTable (Put key value)) = (words : List ℕ) × (line ≡ codes "put " ++ words) × IsPairText words key value × (value < 2 ^ 32)
 IsCommandText line (OnTable (Get key)) = (word : List ℕ) × (line ≡ codes "get " ++ word) × IsNumberText word key
-IsCommandText line (OnTable Hex) = line ≡ codes "hex"
+IsCommandText line (OnTable Len) = IsWordText line Len
+IsCommandText line (OnTable Walk) = IsWordText line Walk
+IsCommandText line (OnTable Hex) = IsWordText line Hex
+IsCommandText line (OnTable Dump) = IsWordText line Dump

@@ -1,33 +1,29 @@
 //! Runs a script: a list of lines, each of which makes, changes or shows a table.
-ghost use Rattle.std.specs.Prelude.{◌≡◌, ◌≢◌, ◌*◌, ◌/◌, ◌↔◌, ◌⊎◌, ◌<◌, ◌≤◌, false, IfOk, OnOk, IfSome, IsErrOf, IsNone, Some, ℕ, List, Option, Result, codes};
+ghost use Rattle.std.specs.Prelude.{◌≡◌, ◌≢◌, ◌↔◌, ◌⊎◌, ◌<◌, ◌≤◌, IfOk, OnOk, IfSome, IsErrOf, IsNone, Some, ℕ, List, codes};
 ghost use Rattle.std.specs.Io.KnownBytes.{IsAtEnd, Appends};
-ghost use Rattle.std.specs.Fmt.{digit_glyph};
+ghost use Rattle.odht_base.specs.Load.{factor_of, max_items, slots_for};
 ghost use Rattle.odht_base.specs.Table.{Table as Plain, fresh};
 ghost use Rattle.odht_base.specs.Valid.{IsImage};
-ghost use Rattle.odht.specs.Coding.{encoded, value_for};
-ghost use Rattle.odht.specs.declared.error.Error.{Error as Refused};
-ghost use Rattle.odht_table.specs.Answers.{line_of, hex_digits, hex_text, value_text, former_text, former_value, request_text, after_put, after_request, LacksRoom, IsGoodPercent, IsNewText, IsAnswerText, MayChange};
+ghost use Rattle.odht.specs.Refusals.{IsTooLarge};
+ghost use Rattle.odht_table.specs.Answers.{line_of, hex_digits, hex_text, value_text, walk_text, IsPutAnswered, IsAnswered, IsRenewed, MayChange};
 ghost use Rattle.odht_table.specs.Commands.{IsCommandText};
 ghost use Rattle.odht_table.specs.declared.script.command.Request.{Request};
 ghost use Rattle.odht_table.specs.declared.script.command.Command.{Command};
-ghost use Rattle.odht_table.specs.declared.script.Refusal.TheVariants.{Memory};
 
 mod command;
 
 use crate::my_config::MyConfig;
 use command::{Command, Request, parse};
-use odht::HashTable;
-use odht::bytes::OwnedBytes;
 use odht::config::Coded;
 use odht::error::Error;
 use odht::load::{Factor, max_item_count_for, slots_needed};
-use odht::memory_layout::bytes_needed;
-use std::alloc::{AllocError, Global};
+use odht::{HashTableOwned, Iter};
+use std::alloc::Global;
 use std::fmt;
 use std::io::{self, ErrorKind, Read, Write};
 
-/// The table that a script works on: a view over bytes that it owns.
-type Table = HashTable<MyConfig, OwnedBytes>;
+/// The table that a script works on.
+type Table = HashTableOwned<MyConfig>;
 
 /// Why a run stopped before its script was answered.
 #[derive(Clone, Copy, Debug, PartialEq, Eq)]
@@ -62,12 +58,15 @@ impl std::error::Error for Fault {}
 /// | line | answer |
 /// |---|---|
 /// | `new N P` | `slots S max M` of a fresh table for N items at P percent, or `bad percent`, `capacity` or `memory` |
-/// | `put K V` | `none`, or `was W` where W was the value of K; or `full` |
+/// | `put K V` | `none`, or `was W` where W was the value of K; or `memory` |
 /// | `get K` | the value of K, or `none` |
+/// | `len` | how many items there are |
+/// | `walk` | a line `K V` for each pair, in slot order, and then the line `end` |
 /// | `hex` | the bytes of the table in hexadecimal digits |
+/// | `dump` | the numbers of the header on a line, then each slot on a line |
 ///
-/// Any other line is `malformed`. Before the first table each line but `new` is answered with `no table`. A `new` that
-/// is refused keeps the former table.
+/// Any other line is `malformed`. Before the first table each line but `new` is answered with `no table`. A `new` or a
+/// `put` that is refused leaves the table as it was.
 pub fn run(alloc: Global, input: &mut impl Read, output: &mut impl Write) -> Result<(), Fault> {
     let script = read_script(alloc, input)?;
     answer_lines(alloc, script.as_slice(), output).map_err(|_| Fault::Write)
@@ -103,19 +102,16 @@ fn answer<W: Write>(
     output: &mut W,
 ) -> io::Result<()>
     ensures malformed { ((command : Command) → ¬ (IsCommandText line.now command))
-        → OnOk result (Appends (W.contents output.old) (W.contents output.new) (line_of (codes "malformed"))) }
+        → (table.new ≡ table.old) × OnOk result (Appends (W.contents output.old) (W.contents output.new) (line_of (codes "malformed"))) }
     ensures no_table { (request : Request) → IsCommandText line.now (Command.OnTable request) → IsNone table.old
-        → OnOk result (Appends (W.contents output.old) (W.contents output.new) (line_of (codes "no table"))) }
-    ensures on_valid { (request : Request) (bytes : List ℕ) (P : Plain)
+        → IsNone table.new × OnOk result (Appends (W.contents output.old) (W.contents output.new) (line_of (codes "no table"))) }
+    ensures renewed { (max_item_count percent : ℕ) → IsCommandText line.now (Command.New max_item_count percent)
+        → (text : List ℕ) × IsRenewed ⟦<MyConfig as Coded>⟧.coding.format max_item_count percent text table.old table.new × OnOk result (Appends (W.contents output.old) (W.contents output.new) (line_of text)) }
+    ensures answered { (request : Request) (bytes : List ℕ) (P : Plain)
         → IsCommandText line.now (Command.OnTable request)
         → table.old ≡ Some bytes
         → IsImage ⟦<MyConfig as Coded>⟧.coding.format P bytes
-        → OnOk result (Appends (W.contents output.old) (W.contents output.new) (line_of (request_text ⟦<MyConfig as Coded>⟧.coding P bytes request))) }
-    ensures table { (request : Request) (bytes : List ℕ) (P : Plain)
-        → IsCommandText line.now (Command.OnTable request)
-        → table.old ≡ Some bytes
-        → IsImage ⟦<MyConfig as Coded>⟧.coding.format P bytes
-        → IfSome table.new (IsImage ⟦<MyConfig as Coded>⟧.coding.format (after_request ⟦<MyConfig as Coded>⟧.coding P request)) }
+        → (Q : Plain) (text : List ℕ) × IsAnswered ⟦<MyConfig as Coded>⟧.coding P request text Q × IfSome table.new (IsImage ⟦<MyConfig as Coded>⟧.coding.format Q) × OnOk result (Appends (W.contents output.old) (W.contents output.new) text) }
 {
     let Some(command) = parse(line) else {
         return writeln!(output, "malformed");
@@ -133,19 +129,18 @@ fn answer<W: Write>(
 }
 
 fn serve<W: Write>(table: &mut Table, request: Request, output: &mut W) -> io::Result<()>
-    ensures answer { OnOk result ((text : List ℕ) × IsAnswerText request table.old text × Appends (W.contents output.old) (W.contents output.new) (line_of text)) }
-    ensures on_valid { (P : Plain)
+    ensures answered { (P : Plain)
         → IsImage ⟦<MyConfig as Coded>⟧.coding.format P table.old
-        → OnOk result (Appends (W.contents output.old) (W.contents output.new) (line_of (request_text ⟦<MyConfig as Coded>⟧.coding P table.old request))) }
-    ensures table { (P : Plain)
-        → IsImage ⟦<MyConfig as Coded>⟧.coding.format P table.old
-        → IsImage ⟦<MyConfig as Coded>⟧.coding.format (after_request ⟦<MyConfig as Coded>⟧.coding P request) table.new }
+        → (Q : Plain) (text : List ℕ) × IsAnswered ⟦<MyConfig as Coded>⟧.coding P request text Q × IsImage ⟦<MyConfig as Coded>⟧.coding.format Q table.new × OnOk result (Appends (W.contents output.old) (W.contents output.new) text) }
     ensures kept { ¬ (MayChange request) → table.new ≡ table.old }
 {
     match request {
         Request::Put { key, value } => put(table, key, value, output),
-        Request::Get { key } => get(table, key, output),
+        Request::Get { key } => write_value(table.get(&key), output),
+        Request::Len => writeln!(output, "{}", table.len()),
+        Request::Walk => write_walk(table.iter(), output),
         Request::Hex => write_hex(table.raw_bytes(), output),
+        Request::Dump => write!(output, "{table:?}"),
     }
 }
 
@@ -172,14 +167,6 @@ impl fmt::Display for Refusal {
     }
 }
 
-impl From<AllocError> for Refusal {
-    ghost from_gives = { λ _ e. e ≡ Memory };
-
-    fn from(_refused: AllocError) -> Refusal {
-        Refusal::Memory
-    }
-}
-
 /// A fresh table, its slot count and its maximum item count.
 #[derive(Drop)]
 struct Fresh {
@@ -196,10 +183,7 @@ fn renew<W: Write>(
     percent: u64,
     output: &mut W,
 ) -> io::Result<()>
-    ensures answer { OnOk result ((text : List ℕ) × IsNewText ⟦<MyConfig as Coded>⟧.coding max_item_count percent text × Appends (W.contents output.old) (W.contents output.new) (line_of text)) }
-    ensures table { (table.new ≡ table.old) ⊎ IfSome table.new (λ made. (P : Plain) × (fresh max_item_count percent ≡ Some P) × IsImage ⟦<MyConfig as Coded>⟧.coding.format P made) }
-    ensures bad_percent { ¬ (IsGoodPercent percent) → table.new ≡ table.old }
-    ensures capacity { IsGoodPercent percent → LacksRoom ⟦<MyConfig as Coded>⟧.coding max_item_count (percent * 65535 / 100) → table.new ≡ table.old }
+    ensures { (text : List ℕ) × IsRenewed ⟦<MyConfig as Coded>⟧.coding.format max_item_count percent text table.old table.new × OnOk result (Appends (W.contents output.old) (W.contents output.new) (line_of text)) }
 {
     match make_fresh(alloc, max_item_count, percent) {
         Ok(fresh) => {
@@ -216,10 +200,10 @@ fn renew<W: Write>(
 
 fn make_fresh(alloc: Global, max_item_count: usize, percent: u64) -> Result<Fresh, Refusal>
     ensures bad_percent { IsErrOf result Refusal.BadPercent ↔ ((percent < 1) ⊎ (100 < percent)) }
-    ensures capacity { 1 ≤ percent → percent ≤ 100 → (IsErrOf result Refusal.Capacity ↔ LacksRoom ⟦<MyConfig as Coded>⟧.coding max_item_count (percent * 65535 / 100)) }
+    ensures capacity { 1 ≤ percent → percent ≤ 100 → (IsErrOf result Refusal.Capacity ↔ IsTooLarge ⟦<MyConfig as Coded>⟧.coding.format max_item_count (factor_of percent)) }
     ensures table { IfOk result (λ made. (P : Plain) × (fresh max_item_count percent ≡ Some P) × IsImage ⟦<MyConfig as Coded>⟧.coding.format P made.table) }
-    ensures room { IfOk result (λ fresh. max_item_count ≤ fresh.max_item_count) }
-    ensures most { IfOk result (λ fresh. fresh.max_item_count ≡ fresh.slot_count * (percent * 65535 / 100) / 65536) }
+    ensures slots { IfOk result (λ made. slots_for max_item_count (factor_of percent) ≡ Some made.slot_count) }
+    ensures most { IfOk result (λ made. made.max_item_count ≡ max_items made.slot_count (factor_of percent)) }
 {
     if percent < 1 || percent > 100 {
         return Err(Refusal::BadPercent);
@@ -227,11 +211,10 @@ fn make_fresh(alloc: Global, max_item_count: usize, percent: u64) -> Result<Fres
     let percent = percent as u8;
     let factor = Factor::from_percent(percent);
     let slot_count = slots_needed(max_item_count, factor).ok_or(Refusal::Capacity)?;
-    let len = bytes_needed::<MyConfig>(slot_count).ok_or(Refusal::Capacity)?;
-    let bytes = OwnedBytes::new(vec![in alloc; 0; len]?);
-    let Ok(table) = HashTable::init_in_place(bytes, max_item_count, percent) else {
-        // There are slots enough, and the bytes have their length.
-        unreachable!()
+    let table = match HashTableOwned::with_capacity(alloc, max_item_count, percent) {
+        Ok(table) => table,
+        Err(Error::Capacity) => return Err(Refusal::Capacity),
+        Err(_) => return Err(Refusal::Memory),
     };
     Ok(Fresh {
         table,
@@ -240,36 +223,17 @@ fn make_fresh(alloc: Global, max_item_count: usize, percent: u64) -> Result<Fres
     })
 }
 
+// Answers what stood at the key. The table is as it was where the memory for its growth was refused.
 fn put<W: Write>(table: &mut Table, key: u64, value: u32, output: &mut W) -> io::Result<()>
-    ensures answer { OnOk result ((former : Result (Option ℕ) Refused) × Appends (W.contents output.old) (W.contents output.new) (line_of (former_text former))) }
-    ensures former { (P : Plain)
+    ensures { (P : Plain)
         → IsImage ⟦<MyConfig as Coded>⟧.coding.format P table.old
-        → OnOk result (Appends (W.contents output.old) (W.contents output.new) (line_of (former_text (former_value ⟦<MyConfig as Coded>⟧.coding P key)))) }
-    ensures table { (P : Plain)
-        → IsImage ⟦<MyConfig as Coded>⟧.coding.format P table.old
-        → IsImage ⟦<MyConfig as Coded>⟧.coding.format (after_put ⟦<MyConfig as Coded>⟧.coding.format P (encoded ⟦<MyConfig as Coded>⟧.coding key value)) table.new }
+        → (Q : Plain) (text : List ℕ) × IsPutAnswered ⟦<MyConfig as Coded>⟧.coding P key value text Q × IsImage ⟦<MyConfig as Coded>⟧.coding.format Q table.new × OnOk result (Appends (W.contents output.old) (W.contents output.new) text) }
 {
-    write_former(table.insert(&key, &value), output)
-}
-
-// What stood at the key. A view refuses an insert only where it is full.
-fn write_former<W: Write>(former: Result<Option<u32>, Error>, output: &mut W) -> io::Result<()>
-    ensures { OnOk result (Appends (W.contents output.old) (W.contents output.new) (line_of (former_text former))) }
-{
-    match former {
+    match table.insert(&key, &value) {
         Ok(None) => writeln!(output, "none"),
-        Ok(Some(value)) => writeln!(output, "was {value}"),
-        Err(_) => writeln!(output, "full"),
+        Ok(Some(former)) => writeln!(output, "was {former}"),
+        Err(_) => writeln!(output, "memory"),
     }
-}
-
-fn get<W: Write>(table: &Table, key: u64, output: &mut W) -> io::Result<()>
-    ensures answer { OnOk result ((value : Option ℕ) × Appends (W.contents output.old) (W.contents output.new) (line_of (value_text value))) }
-    ensures on_valid { (P : Plain)
-        → IsImage ⟦<MyConfig as Coded>⟧.coding.format P table.now
-        → OnOk result (Appends (W.contents output.old) (W.contents output.new) (line_of (value_text (value_for ⟦<MyConfig as Coded>⟧.coding P key)))) }
-{
-    write_value(table.get(&key), output)
 }
 
 fn write_value<W: Write>(value: Option<u32>, output: &mut W) -> io::Result<()>
@@ -279,6 +243,16 @@ fn write_value<W: Write>(value: Option<u32>, output: &mut W) -> io::Result<()>
         None => writeln!(output, "none"),
         Some(value) => writeln!(output, "{value}"),
     }
+}
+
+// Each pair on a line, and then the end.
+fn write_walk<W: Write>(walk: Iter<'_, MyConfig>, output: &mut W) -> io::Result<()>
+    ensures { OnOk result (Appends (W.contents output.old) (W.contents output.new) (walk_text walk.entry)) }
+{
+    for (key, value) in walk {
+        writeln!(output, "{key} {value}")?;
+    }
+    writeln!(output, "end")
 }
 
 // Two lower-case digits for each byte, on one line.

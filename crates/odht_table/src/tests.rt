@@ -16,10 +16,29 @@ fn scripts_are_answered(rt: HostRuntime) -> Result<(), Fail> {
         ("", ""),
         ("\n", "malformed\n"),
         ("\n\nget 1", "malformed\nmalformed\nno table\n"),
-        ("get 1\nput 1 2\nhex\n", "no table\nno table\nno table\n"),
+        (
+            "get 1\nput 1 2\nlen\nwalk\nhex\ndump\n",
+            "no table\nno table\nno table\nno table\nno table\nno table\n",
+        ),
         (
             "new 0 6\nput 1 2\nget 1\n\n",
-            "slots 16 max 0\nfull\nnone\nmalformed\n",
+            "slots 16 max 0\nnone\n2\nmalformed\n",
+        ),
+        (
+            "new 0 6\nput 1 2\nput 1 3\nlen\nwalk\n",
+            "slots 16 max 0\nnone\nwas 2\n1\n1 3\nend\n",
+        ),
+        (
+            "get 1\nnew 0 0\nnew 3 95\nput 1\nput 1 4294967296\nlen\nwalk\ncheck 4f44\n",
+            "no table\nbad percent\nslots 16 max 15\nmalformed\nmalformed\n0\nend\nmalformed\n",
+        ),
+        (
+            "new 3 95\nput 1 2\nput 3 4\nput 5 6\nwalk\nlen",
+            "slots 16 max 15\nnone\nnone\nnone\n1 2\n5 6\n3 4\nend\n3\n",
+        ),
+        (
+            "new 0 1\nput 18446744073709551615 4294967295\nwalk\n",
+            "slots 16 max 0\nnone\n18446744073709551615 4294967295\nend\n",
         ),
         (
             "new 3 95\nput 1 2\nput 3 4\nput 5 6\nget 3\nget 7\n",
@@ -73,7 +92,7 @@ fn scripts_are_answered(rt: HostRuntime) -> Result<(), Fail> {
 // Each is malformed before there is a table and afterwards.
 #[test]
 fn malformed_lines(rt: HostRuntime) -> Result<(), Fail> {
-    let lines: [&[u8]; 36] = [
+    let lines: [&[u8]; 42] = [
         b"",
         b" ",
         b"put 1  2",
@@ -103,6 +122,12 @@ fn malformed_lines(rt: HostRuntime) -> Result<(), Fail> {
         b"get \xd9\xa1",
         b"\xff",
         b"get \xff",
+        b"len ",
+        b" walk",
+        b"walk 1",
+        b"dump\r",
+        b"Len",
+        b"check 4f44",
         b"get 18446744073709551616",
         b"put 18446744073709551616 1",
         b"put 1 4294967296",
@@ -158,6 +183,64 @@ fn hex_is_one_line_of_digits(rt: HostRuntime) -> Result<(), Fail> {
     );
     assert_eq!(rt; lines.next(), Some(b"".as_slice()));
     assert_eq!(rt; lines.next(), None);
+    Ok(())
+}
+
+#[test]
+fn dump_of_three_pairs(rt: HostRuntime) -> Result<(), Fail> {
+    let output = answers(
+        rt.alloc(),
+        b"new 3 95\nput 1 2\nput 3 4\nput 5 6\ndump\nlen\n",
+    )?;
+    let expected = "slots 16 max 15
+none
+none
+none
+(item_count=3, max_item_count=15, max_load_factor=94%)
+RawTable (slot_count=16, hash_fn=FxHashFn) {
+slot 0: empty
+slot 1: empty
+slot 2: empty
+slot 3: empty
+slot 4: empty
+slot 5: key=[1, 0, 0, 0, 0, 0, 0, 0], value=[2, 0, 0, 0], control_byte=19
+slot 6: empty
+slot 7: empty
+slot 8: empty
+slot 9: key=[5, 0, 0, 0, 0, 0, 0, 0], value=[6, 0, 0, 0], control_byte=97
+slot 10: empty
+slot 11: empty
+slot 12: empty
+slot 13: empty
+slot 14: empty
+slot 15: key=[3, 0, 0, 0, 0, 0, 0, 0], value=[4, 0, 0, 0], control_byte=58
+}
+
+3
+";
+    assert_eq!(rt; std::str::from_utf8(output.as_slice())?, expected);
+    Ok(())
+}
+
+// With one refusal of memory at most, whichever it is: the line is answered `memory`, the table is as it was, and the
+// script goes on.
+#[test]
+fn a_line_that_memory_is_refused_for(rt: HostRuntime) -> Result<(), Fail> {
+    let mut buffer = [0; 200];
+    let mut room = buffer.as_mut_slice();
+    let script = b"new 0 6\nput 1 2\nget 1\nput 1 3\nget 1\nput 4 5\nlen\n";
+    if let Err(fault) = run(rt.alloc(), &mut script.as_slice(), &mut room) {
+        assert_eq!(rt; fault, Fault::Memory);
+        return Ok(());
+    }
+    let text = std::str::from_utf8(buffer.split(|byte| *byte == 0).next().ok_or("no text")?)?;
+    let expected = [
+        "slots 16 max 0\nnone\n2\nwas 2\n3\nnone\n2\n",
+        "memory\nno table\nno table\nno table\nno table\nno table\nno table\n",
+        "slots 16 max 0\nmemory\nnone\nnone\n3\nnone\n2\n",
+        "slots 16 max 0\nnone\n2\nmemory\n2\nnone\n2\n",
+    ];
+    assert!(rt; expected.contains(&text), "answers {text:?}");
     Ok(())
 }
 

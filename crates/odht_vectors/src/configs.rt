@@ -3,7 +3,7 @@ ghost use Rattle.std.specs.Prelude.{true, []};
 ghost use Rattle.std.specs.Int.{w8, w32, w64, to_le_bytes, from_le_bytes};
 ghost use Rattle.std.proofs.Common.{lit≤};
 
-use odht::{Config, FxHashFn, UnHashFn};
+use odht::{Config, FxHashFn, Lossless, UnHashFn};
 
 /// From u32 to u32, both lowest byte first.
 pub struct U32ToU32;
@@ -50,6 +50,17 @@ impl Config for U32ToU32 {
     ghost key_hashes = { lit≤ tt };
 }
 
+// A number that is read is known to fit its bytes.
+impl Lossless for U32ToU32 {
+    fn key_kept(k: &u32) {
+        let _key = *k;
+    }
+
+    fn value_kept(v: &u32) {
+        let _value = *v;
+    }
+}
+
 /// From u64 to u32, both lowest byte first.
 pub struct U64ToU32;
 
@@ -93,6 +104,17 @@ impl Config for U64ToU32 {
     ghost value_fits = { lit≤ tt };
 
     ghost key_hashes = { lit≤ tt };
+}
+
+// A number that is read is known to fit its bytes.
+impl Lossless for U64ToU32 {
+    fn key_kept(k: &u64) {
+        let _key = *k;
+    }
+
+    fn value_kept(v: &u32) {
+        let _value = *v;
+    }
 }
 
 /// One key and one value, of no bytes.
@@ -183,6 +205,17 @@ impl Config for DirectU32ToU32 {
     ghost value_fits = { lit≤ tt };
 
     ghost key_hashes = { lit≤ tt };
+}
+
+// A number that is read is known to fit its bytes.
+impl Lossless for DirectU32ToU32 {
+    fn key_kept(k: &u32) {
+        let _key = *k;
+    }
+
+    fn value_kept(v: &u32) {
+        let _value = *v;
+    }
 }
 
 /// From u8 to one value of no bytes.

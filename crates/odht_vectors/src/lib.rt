@@ -20,6 +20,8 @@ mod list_properties;
 #[cfg(test)]
 mod load_factors;
 #[cfg(test)]
+mod lossless;
+#[cfg(test)]
 mod opened_tables;
 #[cfg(test)]
 mod owned_tables;
@@ -27,6 +29,8 @@ mod owned_tables;
 mod plain_tables;
 #[cfg(test)]
 mod random;
+#[cfg(test)]
+mod raw_parts;
 #[cfg(test)]
 mod table_bytes;
 #[cfg(test)]

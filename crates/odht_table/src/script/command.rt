@@ -1,7 +1,7 @@
 //! The lines of a script, and what they ask for.
 ghost use Rattle.std.specs.Prelude.{◌≡◌, ℕ, ◌<◌, ◌^◌, SomeIff, IfSome};
 ghost use Rattle.std.specs.Str.Parse.{IsNumeral, digits_value};
-ghost use Rattle.odht_table.specs.Commands.{IsCommandText, IsPairText};
+ghost use Rattle.odht_table.specs.Commands.{IsCommandText, IsPairText, IsWordText};
 
 /// What one line of a script asks for.
 #[derive(Clone, Copy, Debug, PartialEq, Eq)]
@@ -19,8 +19,14 @@ pub enum Request {
     Put { key: u64, value: u32 },
     /// `get K`: look a key up.
     Get { key: u64 },
+    /// `len`: tell the item count.
+    Len,
+    /// `walk`: show all pairs.
+    Walk,
     /// `hex`: show all bytes.
     Hex,
+    /// `dump`: show all slots.
+    Dump,
 }
 
 /// The command of a line, which is given without its end. None where the line is malformed.
@@ -32,7 +38,7 @@ pub fn parse(line: &[u8]) -> Option<Command>
 {
     let line = std::str::from_utf8(line).ok()?;
     let Some((name, numbers)) = line.split_once(' ') else {
-        return (line == "hex").then_some(Command::OnTable(Request::Hex));
+        return parse_word(line).map(Command::OnTable);
     };
     match name {
         "new" => {
@@ -51,6 +57,20 @@ pub fn parse(line: &[u8]) -> Option<Command>
             let key = parse_number(numbers)?;
             Some(Command::OnTable(Request::Get { key }))
         }
+        _ => None,
+    }
+}
+
+// The request of one word alone.
+fn parse_word(word: &str) -> Option<Request>
+    ensures reads { IfSome result (λ request. IsWordText word.now request) }
+    ensures misses_none { (request : Request) → IsWordText word.now request → result ≡ Some request }
+{
+    match word {
+        "len" => Some(Request::Len),
+        "walk" => Some(Request::Walk),
+        "hex" => Some(Request::Hex),
+        "dump" => Some(Request::Dump),
         _ => None,
     }
 }

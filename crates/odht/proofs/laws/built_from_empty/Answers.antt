@@ -1,0 +1,17 @@
+use Rattle.std.proofs.Common.{◌≡◌, sym, subst, refl, take, length, List, IsOk, arith}
+use Rattle.std.proofs.lemmas.List.{take_all}
+use Rattle.odht_base.specs.Insert.{put_owned}
+use Rattle.odht.specs.Coding.{coding_of}
+use Rattle.odht.specs.Lists.{encoded_all, IsFilled}
+use Rattle.odht.proofs.lemmas.Kept.{filled-HasLastValues}
+use Rattle.odht.proofs.laws.built_from_empty.Goals as goal
+
+pub last_value-requires-after_bounds : goal.last_value-requires-after_bounds
+last_value-requires-after_bounds g c κs within =
+    let K = coding_of g.C.EncodedKey.ByteArray.LEN g.C.EncodedKey.ByteArray.bytes g.C.EncodedKey.ByteArray.of_bytes g.C.EncodedValue.ByteArray.LEN g.C.EncodedValue.ByteArray.bytes g.C.EncodedValue.ByteArray.of_bytes g.C.H.HashFn.hash g.C.Config.encode_key g.C.Config.encode_value g.C.Config.decode_key g.C.Config.decode_value in
+    let items = c.args.items.now in
+    let made = c.in_ok-table.ensures.ok in
+    let all = c.insert_all.ensures.all.0 (subst IsOk (sym c.in_ok-insert_all.was) refl) in
+    let taken : take c.insert_all.result.0 items ≡ items = take_all c.insert_all.result.0 items (omega (arith, all)) in
+    let filled = subst (λ (xs : List (g.row.C-Key.Denot × g.row.C-Value.Denot)). IsFilled K.format (put_owned K.format) made.0 (encoded_all K xs) c.insert_all.new.self) taken (c.insert_all.ensures.filled made.0 made.2) in
+    filled-HasLastValues K (put_owned K.format) (length items) c.args.max_load_factor_percent made.0 items c.insert_all.new.self made.1 filled

@@ -1,0 +1,9 @@
+use Rattle.std.proofs.Common.{All, take}
+use Rattle.odht.specs.Coding.{coding_of}
+use Rattle.odht.proofs.lemmas.Kept.{IsKept}
+use Rattle.odht.proofs.laws.last_value.Given as goal
+
+abbrev pub invariant-loop-k : goal.invariant-loop-k
+invariant-loop-k g l =
+    let c = coding_of g.C.EncodedKey.ByteArray.LEN g.C.EncodedKey.ByteArray.bytes g.C.EncodedKey.ByteArray.of_bytes g.C.EncodedValue.ByteArray.LEN g.C.EncodedValue.ByteArray.bytes g.C.EncodedValue.ByteArray.of_bytes g.C.H.HashFn.hash g.C.Config.encode_key g.C.Config.encode_value g.C.Config.decode_key g.C.Config.decode_value in
+    All (IsKept c) (take l.k-index l.items)

@@ -1,0 +1,56 @@
+//! Laws of whole tables that no call carries by itself: a table of a `Lossless` configuration is a map of the keys to the
+//! values themselves. Each function is a few calls, and its contract is the law.
+ghost use Rattle.std.specs.Prelude.{◌≡◌, ◌≤◌, ◌↔◌, ◌⊎◌, length, IfOk, OnErr};
+ghost use Rattle.odht_base.specs.Load.{factor_of};
+ghost use Rattle.odht.specs.LastValues.{IsLastValue, HasLastValues};
+ghost use Rattle.odht.specs.Refusals.{IsTooLarge};
+
+use crate::config::{Coded, Lossless};
+use crate::error::Error;
+use crate::hash_table_owned::HashTableOwned;
+use std::alloc::Global;
+
+/// The value of a key in a table of the items: that of the last item with this very key, and none where no item has it.
+///
+/// Each item is looked at once, and each slot at most once.
+pub fn last_value<C: Lossless>(
+    table: &HashTableOwned<C>,
+    items: &[(C::Key, C::Value)],
+    key: &C::Key,
+) -> Option<C::Value>
+    requires { HasLastValues ⟦<C as Coded>⟧.coding items.now table.now }
+    ensures { IsLastValue items.now key.now result }
+{
+    for (k, v) in items {
+        C::key_kept(k);
+        C::value_kept(v);
+    }
+    C::key_kept(key);
+    table.get(key)
+}
+
+/// The value of a key in the table that is built from empty by inserting the items in turn: that of the last item with
+/// this very key, and none where no item has it.
+///
+/// `Capacity` exactly where no slot count is enough for so many items, or its length passes `usize`; `Memory` where the
+/// memory was refused.
+pub fn built_from_empty<C: Lossless>(
+    alloc: Global,
+    items: &[(C::Key, C::Value)],
+    max_load_factor_percent: u8,
+    key: &C::Key,
+) -> Result<Option<C::Value>, Error>
+    requires low { 1 ≤ max_load_factor_percent }
+    requires high { max_load_factor_percent ≤ 100 }
+    ensures ok { IfOk result (λ value. IsLastValue items.now key.now value) }
+    ensures capacity { (result ≡ Err Error.Capacity) ↔ IsTooLarge ⟦<C as Coded>⟧.coding.format (length items.now) (factor_of max_load_factor_percent) }
+    ensures memory { OnErr result ((result ≡ Err Error.Capacity) ⊎ (result ≡ Err Error.Memory)) }
+{
+    let mut table: HashTableOwned<C> = HashTableOwned::with_capacity(
+        alloc,
+        items.len(),
+        max_load_factor_percent,
+    )?;
+    table.insert_all(items).1?;
+    Ok(last_value(&table, items, key))
+}

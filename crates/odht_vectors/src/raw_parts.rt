@@ -1,0 +1,151 @@
+//! The parts of a table which can be written: what the two slices hold once the table is dropped.
+ghost use Rattle.std.specs.Prelude.{◌≡◌, ◌-◌, ◌*◌, ◌+◌, ◌≤◌, length, option_map, IfOk, OnErr};
+ghost use Rattle.odht_base.specs.Load.{IsSlotCount};
+ghost use Rattle.odht_base.specs.Format.{format_of};
+ghost use Rattle.odht_base.specs.Table.{Pair, Table};
+ghost use Rattle.odht_base.specs.Map.{map_of};
+ghost use Rattle.odht_base.specs.Insert.{place};
+ghost use Rattle.odht_base.specs.Valid.{IsPartsOf};
+ghost use Rattle.odht.specs.Frame.{IsPartsFramed};
+
+use odht::FxHashFn;
+use odht::bytes::ByteArray;
+use odht::error::Error;
+use odht::hash::HashFn;
+use odht::load::{Factor, slots_needed};
+use odht::raw_table::RawTableMut;
+use std::process::Abort;
+
+// Inserts into the parts through a table that borrows them. The slices then hold what the insert left: what its contract
+// says of the table's parts.
+fn insert_into_parts<K: ByteArray, V: ByteArray, H: HashFn>(
+    control: &mut [u8],
+    entries: &mut [u8],
+    key: K,
+    value: V,
+) -> Result<Option<V>, Error>
+    requires slots { IsSlotCount (length control.old - 16) }
+    requires entries { length entries.old ≡ (length control.old - 16) * (K.LEN + V.LEN) }
+    requires hashes { H.MIN_LEN ≤ K.LEN }
+    requires key { K.LEN ≤ 255 }
+    requires value { V.LEN ≤ 255 }
+    ensures ok { let F = format_of K.LEN V.LEN H.hash
+        in (P : Table)
+        → IsPartsOf F P entries.old control.old
+        → IfOk result (λ old. (old ≡ option_map V.of_bytes (map_of P (K.bytes key))) × ((Q : Table) × (place F P (record { key = K.bytes key; value = V.bytes value }) ≡ Some Q) × IsPartsOf F Q entries.new control.new)) }
+    ensures frame { IsPartsFramed (format_of K.LEN V.LEN H.hash) V.of_bytes entries.old control.old (record { key = K.bytes key; value = V.bytes value }) result entries.new control.new }
+    ensures refused_control { OnErr result (control.new ≡ control.old) }
+    ensures refused_entries { OnErr result (entries.new ≡ entries.old) }
+{
+    let mut table: RawTableMut<'_, '_, K, V, H> = RawTableMut::new(control, entries);
+    table.insert(key, value)
+}
+
+// Inserts into the parts of 16 slots.
+fn insert(
+    rt: &impl Abort,
+    control: &mut [u8; 32],
+    entries: &mut [u8; 128],
+    key: u32,
+    value: u32,
+) -> Result<Option<[u8; 4]>, Error> {
+    let factor = Factor::from_percent(87);
+    assert!(rt; factor.0 >= 1);
+    let slots = slots_needed(13, factor).expect(rt, "slots");
+    assert!(rt; slots == control.len() - 16);
+    insert_into_parts::<[u8; 4], [u8; 4], FxHashFn>(
+        control,
+        entries,
+        key.to_le_bytes(),
+        value.to_le_bytes(),
+    )
+}
+
+// Inserts the keys 1 and 3 in turn through one table of 16 slots.
+fn insert_two(
+    rt: &impl Abort,
+    control: &mut [u8; 32],
+    entries: &mut [u8; 128],
+) -> (
+    Result<Option<[u8; 4]>, Error>,
+    Result<Option<[u8; 4]>, Error>,
+) {
+    let factor = Factor::from_percent(87);
+    assert!(rt; factor.0 >= 1);
+    let slots = slots_needed(13, factor).expect(rt, "slots");
+    assert!(rt; slots == control.len() - 16);
+    let mut table: RawTableMut<'_, '_, [u8; 4], [u8; 4], FxHashFn> = RawTableMut::new(
+        control, entries,
+    );
+    let first = table.insert([1, 0, 0, 0], [2, 0, 0, 0]);
+    (first, table.insert([3, 0, 0, 0], [4, 0, 0, 0]))
+}
+
+#[test]
+fn a_pair_and_its_overwrite(rt: HostRuntime) {
+    let (mut control, mut entries) = ([255; 32], [0; 128]);
+    assert_eq!(rt; insert(&rt, &mut control, &mut entries, 1, 2), Ok(None));
+    let (mut tags, mut pairs) = ([255; 32], [0; 128]);
+    pairs[40..48].copy_from_slice(&[1, 0, 0, 0, 2, 0, 0, 0]);
+    tags[5] = 0x13;
+    tags[21] = 0x13;
+    assert_eq!(rt; control, tags);
+    assert_eq!(rt; entries, pairs);
+
+    assert_eq!(rt;
+        insert(&rt, &mut control, &mut entries, 1, 3),
+        Ok(Some([2, 0, 0, 0]))
+    );
+    pairs[44] = 3;
+    assert_eq!(rt; control, tags);
+    assert_eq!(rt; entries, pairs);
+}
+
+// The key 3 has the last slot as home.
+#[test]
+fn two_pairs_through_one_table(rt: HostRuntime) {
+    let (mut control, mut entries) = ([255; 32], [0; 128]);
+    assert_eq!(rt;
+        insert_two(&rt, &mut control, &mut entries),
+        (Ok(None), Ok(None))
+    );
+    let (mut tags, mut pairs) = ([255; 32], [0; 128]);
+    pairs[40..48].copy_from_slice(&[1, 0, 0, 0, 2, 0, 0, 0]);
+    pairs[120..128].copy_from_slice(&[3, 0, 0, 0, 4, 0, 0, 0]);
+    for (slot, tag) in [(5, 0x13), (15, 58)] {
+        tags[slot] = tag;
+        tags[slot + 16] = tag;
+    }
+    assert_eq!(rt; control, tags);
+    assert_eq!(rt; entries, pairs);
+}
+
+// Sixteen keys fill the slots, so a seventeenth is refused, and one of the sixteen is still overwritten.
+#[test]
+fn full_parts_refuse_another_key(rt: HostRuntime) {
+    let (mut control, mut entries) = ([255; 32], [0; 128]);
+    for key in 1..17 {
+        assert_eq!(rt;
+            insert(&rt, &mut control, &mut entries, key, key + 100),
+            Ok(None),
+            "key {key}"
+        );
+    }
+    let (tags, mut pairs) = (control, entries);
+    assert_eq!(rt; tags[5], 0x13);
+    assert_eq!(rt; (pairs[40], pairs[44]), (1, 101));
+    assert_eq!(rt;
+        insert(&rt, &mut control, &mut entries, 17, 1),
+        Err(Error::Full)
+    );
+    assert_eq!(rt; control, tags);
+    assert_eq!(rt; entries, pairs);
+
+    assert_eq!(rt;
+        insert(&rt, &mut control, &mut entries, 1, 7),
+        Ok(Some([101, 0, 0, 0]))
+    );
+    pairs[44] = 7;
+    assert_eq!(rt; control, tags);
+    assert_eq!(rt; entries, pairs);
+}
