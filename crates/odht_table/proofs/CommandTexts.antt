@@ -3,7 +3,7 @@ use Rattle.std.proofs.Common.{◌≡◌, ◌≢◌, ◌∙◌, ℕ, zero, suc, �
 use lib.ListN.{get_or}
 use lib.ListN.{length-append}
 use lib.Chars.{codes}
-use Rattle.std.specs.Prelude.{Result, Ok, Err, MatchResult}
+use Rattle.std.specs.Prelude.{Result, Ok, Err, MatchResult, option_map}
 use Rattle.std.specs.declared.str.Utf8Error.{Utf8Error}
 use Rattle.std.specs.Result.{OkIff, result_ok}
 use Rattle.std.specs.Str.{IsAscii, IsUtf8, IsValidUpTo, valid_up_to}
@@ -16,8 +16,9 @@ use Rattle.std.proofs.lemmas.Fmt.{IsAscii-from_digits}
 use Rattle.std.proofs.lemmas.Option.{none-some, same_Some}
 use Rattle.odht_table.specs.declared.script.command.Command.{Command}
 use Rattle.odht_table.specs.declared.script.command.Command.TheVariants.{New, OnTable}
+use Rattle.odht_table.specs.declared.script.command.Request.{Request}
 use Rattle.odht_table.specs.declared.script.command.Request.TheVariants.{Put, Get, Len, Walk, Hex, Dump}
-use Rattle.odht_table.specs.Commands.{IsNumberText, IsPairText, IsCommandText}
+use Rattle.odht_table.specs.Commands.{IsNumberText, IsPairText, IsWordText, IsCommandText}
 
 -- no digit of a number is a space
 no_space : (word : List ℕ) (n : ℕ) → IsNumberText word n → (i : ℕ) → i < length word → get_or word i 0 ≢ 32
@@ -92,7 +93,7 @@ no_space_at (b ∷ bs) h (suc i) l = no_space_at bs h.1 i (omega (arith, l))
 -- a line is cut after its name of three letters
 line_cut : (line words : List ℕ) (a b c : ℕ) (name numbers : Bor (List ℕ)) → IsSplitOnceResult 32 line (Some (name, numbers)) → a ≢ 32 → b ≢ 32 → c ≢ 32 → line ≡ a ∷ b ∷ c ∷ 32 ∷ words
     → (name.now ≡ a ∷ b ∷ c ∷ []) × (numbers.now ≡ words)
-line_cut line words a b c name numbers cut p q r e = split_after 32 line (a ∷ b ∷ c ∷ []) words (Some (name, numbers)) cut (omega arith) e (no_space_at (a ∷ b ∷ c ∷ []) (p, q, r, tt))
+line_cut line words a b c name numbers cut p q r e = split_after 32 line (a ∷ b ∷ c ∷ []) words (Some (name, numbers)) cut (omega arith) e (no_space_at (a ∷ b ∷ c ∷ []) (p, (q, (r, tt))))
 
 -- the byte after a front
 byte_after : (front : List ℕ) (b : ℕ) (rest : List ℕ) → get_or (front ++ (b ∷ rest)) (length front) 0 ≡ b
@@ -119,10 +120,25 @@ command_cut line name numbers (OnTable (Put key value)) cut h =
 command_cut line name numbers (OnTable (Get key)) cut h =
     let k = line_cut line h.0 103 101 116 name numbers cut (omega arith) (omega arith) (omega arith) h.1 in
     (k.0, subst (λ w. IsNumberText w key) (sym k.1) h.2)
-command_cut line name numbers (OnTable Len) cut h = absurd (word_not_cut line name numbers cut _ h (omega arith, omega arith, omega arith, tt))
-command_cut line name numbers (OnTable Walk) cut h = absurd (word_not_cut line name numbers cut _ h (omega arith, omega arith, omega arith, omega arith, tt))
-command_cut line name numbers (OnTable Hex) cut h = absurd (word_not_cut line name numbers cut _ h (omega arith, omega arith, omega arith, tt))
-command_cut line name numbers (OnTable Dump) cut h = absurd (word_not_cut line name numbers cut _ h (omega arith, omega arith, omega arith, omega arith, tt))
+command_cut line name numbers (OnTable Len) cut h = absurd (word_not_cut line name numbers cut _ h (omega arith, (omega arith, (omega arith, tt))))
+command_cut line name numbers (OnTable Walk) cut h = absurd (word_not_cut line name numbers cut _ h (omega arith, (omega arith, (omega arith, (omega arith, tt)))))
+command_cut line name numbers (OnTable Hex) cut h = absurd (word_not_cut line name numbers cut _ h (omega arith, (omega arith, (omega arith, tt))))
+command_cut line name numbers (OnTable Dump) cut h = absurd (word_not_cut line name numbers cut _ h (omega arith, (omega arith, (omega arith, (omega arith, tt)))))
+
+-- a name of three letters with a space behind it is cut
+name_cut : (line words : List ℕ) (a b c : ℕ) → IsSplitOnceResult 32 line None → a ≢ 32 → b ≢ 32 → c ≢ 32 → line ≡ a ∷ b ∷ c ∷ 32 ∷ words → ⊥
+name_cut line words a b c uncut p q r e = split_after 32 line (a ∷ b ∷ c ∷ []) words None uncut (omega arith) e (no_space_at (a ∷ b ∷ c ∷ []) (p, (q, (r, tt))))
+
+-- what a line without a space asks for
+pub uncut_command : (line : List ℕ) → IsSplitOnceResult 32 line None → (r : Option Request) → ((request : Request) → IsWordText line request → r ≡ Some request)
+    → (command : Command) → IsCommandText line command → option_map (λ request. OnTable request) r ≡ Some command
+uncut_command line uncut r answer (New items percent) h = absurd (name_cut line h.0 110 101 119 uncut (omega arith) (omega arith) (omega arith) h.1)
+uncut_command line uncut r answer (OnTable (Put key value)) h = absurd (name_cut line h.0 112 117 116 uncut (omega arith) (omega arith) (omega arith) h.1)
+uncut_command line uncut r answer (OnTable (Get key)) h = absurd (name_cut line h.0 103 101 116 uncut (omega arith) (omega arith) (omega arith) h.1)
+uncut_command line uncut r answer (OnTable Len) h = ap (option_map (λ request. OnTable request)) (answer Len h)
+uncut_command line uncut r answer (OnTable Walk) h = ap (option_map (λ request. OnTable request)) (answer Walk h)
+uncut_command line uncut r answer (OnTable Hex) h = ap (option_map (λ request. OnTable request)) (answer Hex h)
+uncut_command line uncut r answer (OnTable Dump) h = ap (option_map (λ request. OnTable request)) (answer Dump h)
 
 -- what is not cut after another name is not that command
 other_name : (name : List ℕ) (a b c d e f : ℕ) → name ≡ a ∷ b ∷ c ∷ [] → name ≡ d ∷ e ∷ f ∷ [] → a ≢ d → ⊥

@@ -4,3 +4,5 @@ pub mod CommandTexts
 pub mod NewTexts
 -- what a `put` answers and leaves
 pub mod Puts
+-- the dump has a text
+pub mod DumpTexts

@@ -1,11 +1,13 @@
--- What a `new` may be answered with, by what making a table gave.
-use Rattle.std.proofs.Common.{◌≡◌, ◌<◌, ◌≤◌, ◌*◌, ◌/◌, ◌↔◌, ◌⊎◌, ◌∙◌, ◌++◌, List, ℕ, refl, sym, append_assoc, arith, Result, Ok, Err, inl, inr}
+-- What a `new` is answered with, and which table is there afterwards.
+use Rattle.std.proofs.Common.{◌≡◌, ◌<◌, ◌≤◌, ◌↔◌, ◌⊎◌, ◌++◌, ◌∙◌, List, ℕ, refl, sym, append_assoc, arith, Option, Result, Ok, Err, inl, inr}
 use Rattle.std.specs.Result.{OnOk, IsErrOf}
-use Rattle.odht.specs.Coding.{Coding}
+use Rattle.odht_base.specs.Format.{Format}
+use Rattle.odht_base.specs.Load.{factor_of}
+use Rattle.odht.specs.Refusals.{IsTooLarge}
 use Rattle.odht_table.specs.declared.script.Refusal.{Refusal}
 use Rattle.odht_table.specs.declared.script.Refusal.TheVariants.{BadPercent, Capacity, Memory}
-use Rattle.odht_table.specs.Answers.{LacksRoom, IsGoodPercent, IsNewText, new_text}
-use Rattle.odht_table.specs.Answers.IsNewText.{bad_percent, capacity, memory, made}
+use Rattle.odht_table.specs.Answers.{IsGoodPercent, IsRenewed}
+use Rattle.odht_table.specs.Answers.IsRenewed.{bad_percent, capacity, memory}
 use Rattle.odht_table.specs.Messages.{refusal_text}
 
 -- a percentage that is not too low or too high
@@ -21,27 +23,18 @@ pub OnOk-more : {T E P Q : Type 0} (r : Result T E) → (P → Q) → OnOk r P �
 OnOk-more (Ok x) f h = f h
 OnOk-more (Err e) f h = h
 
--- the text of a refusal
-pub refused_text : {K V T : Type 0} (c : Coding K V) (items percent : ℕ) (refusal : Refusal)
+-- a refusal is answered with its text, and keeps the table
+pub refused_new : {T : Type 0} (F : Format) (items percent : ℕ) (refusal : Refusal) (old : Option (List ℕ))
     → IsErrOf {T = T} (Err refusal) BadPercent ↔ ((percent < 1) ⊎ (100 < percent))
-    → (1 ≤ percent → percent ≤ 100 → IsErrOf {T = T} (Err refusal) Capacity ↔ LacksRoom c items (percent * 65535 / 100))
-    → IsNewText c items percent (refusal_text refusal)
-refused_text c items percent BadPercent bad lacks = bad_percent (λ good. not_good percent good (bad.0 refl))
-refused_text c items percent Capacity bad lacks =
+    → (1 ≤ percent → percent ≤ 100 → IsErrOf {T = T} (Err refusal) Capacity ↔ IsTooLarge F items (factor_of percent))
+    → IsRenewed F items percent (refusal_text refusal) old old
+refused_new F items percent BadPercent old bad lacks = bad_percent old (λ good. not_good percent good (bad.0 refl))
+refused_new F items percent Capacity old bad lacks =
     let good = good_percent percent (λ h. let e = bad.1 h in cc) in
-    capacity good ((lacks good.0 good.1).0 refl)
-refused_text c items percent Memory bad lacks =
+    capacity old good ((lacks good.0 good.1).0 refl)
+refused_new F items percent Memory old bad lacks =
     let good = good_percent percent (λ h. let e = bad.1 h in cc) in
-    memory good (λ h. let e = (lacks good.0 good.1).1 h in cc)
-
--- the text of a table that was made
-pub made_text : {K V T : Type 0} (c : Coding K V) (items percent slots most : ℕ) (fresh : T)
-    → IsErrOf (Ok fresh) BadPercent ↔ ((percent < 1) ⊎ (100 < percent))
-    → (1 ≤ percent → percent ≤ 100 → IsErrOf (Ok fresh) Capacity ↔ LacksRoom c items (percent * 65535 / 100))
-    → items ≤ most → most ≡ slots * (percent * 65535 / 100) / 65536 → IsNewText c items percent (new_text slots most)
-made_text c items percent slots most fresh bad lacks room is =
-    let good = good_percent percent (λ h. let e = bad.1 h in cc) in
-    made slots most good (λ h. let e = (lacks good.0 good.1).1 h in cc) room is
+    memory old good (λ h. let e = (lacks good.0 good.1).1 h in cc)
 
 -- five pieces, joined from the end and from the front
 pub joined : (a b c d e : List ℕ) → a ++ (b ++ (c ++ (d ++ e))) ≡ (((a ++ b) ++ c) ++ d) ++ e

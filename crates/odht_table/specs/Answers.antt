@@ -14,7 +14,7 @@
 --     IsRenewed F n p t o o'   t answers `new` for n items at p percent, after which o' is there in place of o: the bytes of
 --                           a fresh table, or o itself where there is none
 --     MayChange r           the request r is a `put`
-use Rattle.std.specs.Prelude.{◌≡◌, ℕ, ◌/◌, ◌%◌, ◌≤◌, ◌×◌, ◌⊎◌, ⊤, false, List, [], ◌∷◌, ◌++◌, Option, Some, None, codes}
+use Rattle.std.specs.Prelude.{◌≡◌, ℕ, ◌/◌, ◌%◌, ◌≤◌, ◌⊎◌, ⊤, false, List, [], ◌∷◌, ◌++◌, Option, Some, None, codes}
 use Rattle.std.specs.List.{flat_map}
 use Rattle.std.specs.Fmt.{decimal, digit_glyph, debug_list}
 use Rattle.odht_base.specs.Format.{Format}

@@ -1,7 +1,6 @@
 //! Reads a script from standard input and answers each of its lines on standard output.
 //!
-//! The script works on one table from `u64` to `u32`, a view over bytes that the program holds. `script::run` says what
-//! each line does.
+//! The script works on one table from `u64` to `u32`, which grows as it fills. `script::run` says what each line does.
 #![tactic(auto)]
 
 mod my_config;

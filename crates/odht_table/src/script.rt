@@ -1,6 +1,7 @@
 //! Runs a script: a list of lines, each of which makes, changes or shows a table.
-ghost use Rattle.std.specs.Prelude.{◌≡◌, ◌≢◌, ◌↔◌, ◌⊎◌, ◌<◌, ◌≤◌, IfOk, OnOk, IfSome, IsErrOf, IsNone, Some, ℕ, List, codes};
+ghost use Rattle.std.specs.Prelude.{◌≡◌, ◌≢◌, ◌↔◌, ◌⊎◌, ◌<◌, ◌≤◌, false, IfOk, OnOk, IfSome, IsErrOf, IsNone, Some, ℕ, List, codes};
 ghost use Rattle.std.specs.Io.KnownBytes.{IsAtEnd, Appends};
+ghost use Rattle.std.specs.Fmt.{digit_glyph};
 ghost use Rattle.odht_base.specs.Load.{factor_of, max_items, slots_for};
 ghost use Rattle.odht_base.specs.Table.{Table as Plain, fresh};
 ghost use Rattle.odht_base.specs.Valid.{IsImage};
@@ -111,7 +112,7 @@ fn answer<W: Write>(
         → IsCommandText line.now (Command.OnTable request)
         → table.old ≡ Some bytes
         → IsImage ⟦<MyConfig as Coded>⟧.coding.format P bytes
-        → (Q : Plain) (text : List ℕ) × IsAnswered ⟦<MyConfig as Coded>⟧.coding P request text Q × IfSome table.new (IsImage ⟦<MyConfig as Coded>⟧.coding.format Q) × OnOk result (Appends (W.contents output.old) (W.contents output.new) text) }
+        → (Q : Plain) × (text : List ℕ) × IsAnswered ⟦<MyConfig as Coded>⟧.coding P request text Q × IfSome table.new (IsImage ⟦<MyConfig as Coded>⟧.coding.format Q) × OnOk result (Appends (W.contents output.old) (W.contents output.new) text) }
 {
     let Some(command) = parse(line) else {
         return writeln!(output, "malformed");
@@ -131,7 +132,7 @@ fn answer<W: Write>(
 fn serve<W: Write>(table: &mut Table, request: Request, output: &mut W) -> io::Result<()>
     ensures answered { (P : Plain)
         → IsImage ⟦<MyConfig as Coded>⟧.coding.format P table.old
-        → (Q : Plain) (text : List ℕ) × IsAnswered ⟦<MyConfig as Coded>⟧.coding P request text Q × IsImage ⟦<MyConfig as Coded>⟧.coding.format Q table.new × OnOk result (Appends (W.contents output.old) (W.contents output.new) text) }
+        → (Q : Plain) × (text : List ℕ) × IsAnswered ⟦<MyConfig as Coded>⟧.coding P request text Q × IsImage ⟦<MyConfig as Coded>⟧.coding.format Q table.new × OnOk result (Appends (W.contents output.old) (W.contents output.new) text) }
     ensures kept { ¬ (MayChange request) → table.new ≡ table.old }
 {
     match request {
@@ -227,7 +228,7 @@ fn make_fresh(alloc: Global, max_item_count: usize, percent: u64) -> Result<Fres
 fn put<W: Write>(table: &mut Table, key: u64, value: u32, output: &mut W) -> io::Result<()>
     ensures { (P : Plain)
         → IsImage ⟦<MyConfig as Coded>⟧.coding.format P table.old
-        → (Q : Plain) (text : List ℕ) × IsPutAnswered ⟦<MyConfig as Coded>⟧.coding P key value text Q × IsImage ⟦<MyConfig as Coded>⟧.coding.format Q table.new × OnOk result (Appends (W.contents output.old) (W.contents output.new) text) }
+        → (Q : Plain) × (text : List ℕ) × IsPutAnswered ⟦<MyConfig as Coded>⟧.coding P key value text Q × IsImage ⟦<MyConfig as Coded>⟧.coding.format Q table.new × OnOk result (Appends (W.contents output.old) (W.contents output.new) text) }
 {
     match table.insert(&key, &value) {
         Ok(None) => writeln!(output, "none"),

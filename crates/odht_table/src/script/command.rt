@@ -38,7 +38,8 @@ pub fn parse(line: &[u8]) -> Option<Command>
 {
     let line = std::str::from_utf8(line).ok()?;
     let Some((name, numbers)) = line.split_once(' ') else {
-        return parse_word(line).map(Command::OnTable);
+        let request = parse_word(line)?;
+        return Some(Command::OnTable(request));
     };
     match name {
         "new" => {

@@ -1,8 +1,8 @@
-use Rattle.std.proofs.Common.{◌∙◌, sym, ap, subst, ◌<◌, ◌^◌, Some}
+use Rattle.std.proofs.Common.{◌∙◌, sym, ap, subst, ◌<◌, ◌^◌, Some, None}
 use Rattle.std.proofs.lemmas.Option.{none-some, same_Some}
 use Rattle.odht_table.specs.declared.script.command.Command.TheVariants.{New, OnTable}
 use Rattle.odht_table.specs.declared.script.command.Request.TheVariants.{Put}
-use Rattle.odht_table.proofs.CommandTexts.{command_read, command_kept, command_cut, narrow_kept, at_new, at_put}
+use Rattle.odht_table.proofs.CommandTexts.{command_read, command_kept, command_cut, uncut_command, narrow_kept, at_new, at_put}
 use Rattle.odht_table.proofs.script.command.parse.Goals as goal
 
 pub returns-in_err-line-clause-misses_none : goal.returns-in_err-line-clause-misses_none
@@ -52,3 +52,8 @@ returns-in_ok-value-in-put-clause-misses_none c command h =
     let value = same_Some c.in_ok-value-in-put.value c.in_ok-key-in-put.value (c.in_ok-value-in-put.ensures.value ∙ sym (narrow_kept c.in_ok-key-in-put.value c.try_from.result c.try_from.ensures low)) in
     ap (λ v. Some (OnTable (Put c.in_ok-key-in-put.key v))) value ∙ ap (λ pair. Some (OnTable (Put pair.0 pair.1))) same)
     command (command_cut c.in_ok-line.line.now c.in-Some.name c.in-Some.numbers command c.in-Some.ensures.cases text)
+
+pub returns-in_err-request-clause-misses_none : goal.returns-in_err-request-clause-misses_none
+returns-in_err-request-clause-misses_none c command h =
+    let text = command_kept c.args.line.now c.from_utf8.result c.from_utf8.ensures.cases c.in_ok-line.line c.in_ok-line.ensures.value command h in
+    absurd (none-some command (uncut_command c.in_ok-line.line.now c.in_default.ensures.cases None c.in_err-request.ensures.misses_none command text))

@@ -1,0 +1,24 @@
+use Rattle.std.proofs.Common.{refl, sym, ap, subst, ◌∙◌, Some, List, ℕ}
+use Rattle.std.specs.Prelude.{codes, decimal, IfSome}
+use Rattle.std.specs.Fmt.{debug_list}
+use Rattle.std.specs.Io.KnownBytes.{Appends}
+use Rattle.odht.specs.ErrorTexts.{bytes_text}
+use Rattle.odht.proofs.lemmas.ErrorTexts.{debug_list-bytes}
+use Rattle.odht_table.specs.Answers.{dump_of, IsAnswered}
+use Rattle.odht_table.specs.declared.script.command.Request.TheVariants.{Dump}
+use Rattle.odht_table.proofs.DumpTexts.{HasText, HasText-owned_dump}
+use Rattle.odht_table.proofs.NewTexts.{OnOk-more}
+use Rattle.odht_table.proofs.Puts.{my_coding}
+use Rattle.odht_table.proofs.script.serve.Goals as goal
+
+pub returns-in-Dump-clause-answered : goal.returns-in-Dump-clause-answered
+returns-in-Dump-clause-answered g c P is =
+    let arrays : (b : List ℕ) → HasText (debug_list (λ n. Some (decimal n)) b) = λ b. (bytes_text b, debug_list-bytes b) in
+    let dump = HasText-owned_dump my_coding.format (λ b. debug_list (λ n. Some (decimal n)) b) (λ b. debug_list (λ n. Some (decimal n)) b) arrays arrays (codes "FxHashFn") c.args.table.now in
+    let answered : IsAnswered my_coding P Dump dump.0 P = (sym dump.1 ∙ ap (dump_of my_coding.format) is.bytes, refl) in (
+      P,
+      dump.0,
+      subst (λ r. IsAnswered my_coding P r dump.0 P) (sym c.in-Dump.is) answered,
+      is,
+      OnOk-more c.write.result (λ written. subst (λ o. IfSome o (Appends (g.W.Write.contents c.args.output.now) (g.W.Write.contents c.write.new.self))) dump.1 written) c.write.ensures.bytes,
+    )
