@@ -116,6 +116,7 @@ impl<C: Config, D: ByteStore> HashTable<C, D> {
             → IsImage ⟦<C as Coded>⟧.coding.format P self.now
             → result ≡ decoded_all ⟦<C as Coded>⟧.coding (walk P) }
         ensures on_any { result ≡ decoded_all ⟦<C as Coded>⟧.coding (seen ⟦<C as Coded>⟧.coding.format self.now) }
+        ensures few { length result ≤ usize.MAX }
     {
         let (control, entries) = self.allocation.data_slices();
         Iter::new(RawIter::new(control, entries))

@@ -123,9 +123,10 @@ impl<C: Config> HashTableOwned<C> {
 
     /// The keys and values, each pair once, in slot order.
     pub fn iter(&self) -> Iter<'_, C>
-        ensures { (P : Table)
+        ensures pairs { (P : Table)
             → IsImage ⟦<C as Coded>⟧.coding.format P self.now
             → result ≡ decoded_all ⟦<C as Coded>⟧.coding (walk P) }
+        ensures few { length result ≤ usize.MAX }
     {
         self.table.iter()
     }

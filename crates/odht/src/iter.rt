@@ -1,5 +1,5 @@
 //! A walk over the pairs of a table.
-ghost use Rattle.std.specs.Prelude.{◌≡◌};
+ghost use Rattle.std.specs.Prelude.{◌≡◌, length};
 ghost use Rattle.std.specs.Iterator.{YieldsFirst, item_count};
 ghost use Rattle.odht.specs.Walks.{decoded_items};
 
@@ -29,7 +29,8 @@ impl<'a, C: Config> Iter<'a, C> {
     /// The pairs of what is left of a raw walk.
     #[inline]
     pub(crate) fn new(raw: RawIter<'a, C::EncodedKey, C::EncodedValue>) -> Self
-        ensures { result ≡ decoded_items C.decode_key C.decode_value raw.entry }
+        ensures items { result ≡ decoded_items C.decode_key C.decode_value raw.entry }
+        ensures few { length result ≡ length raw.entry }
     {
         Iter { raw }
     }

@@ -163,7 +163,8 @@ impl<'a, K: ByteArray, V: ByteArray, H: HashFn> RawTable<'a, K, V, H> {
     /// The control byte and the entry of each slot whose own control byte does not count as free, in slot order.
     #[inline]
     pub fn iter(&self) -> RawIter<'a, K, V>
-        ensures { result ≡ items_from K.of_bytes V.of_bytes (entry_format K.LEN V.LEN) self.now 0 }
+        ensures items { result ≡ items_from K.of_bytes V.of_bytes (entry_format K.LEN V.LEN) self.now 0 }
+        ensures few { length result ≤ self.now.entries.slots }
     {
         RawIter::new(self.control, self.entries.copy())
     }

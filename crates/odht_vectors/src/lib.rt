@@ -8,6 +8,8 @@ mod byte_stores;
 #[cfg(test)]
 mod configs;
 #[cfg(test)]
+mod dumps;
+#[cfg(test)]
 mod errors;
 #[cfg(test)]
 mod foreign_bytes;

@@ -1,7 +1,8 @@
 -- A walk over the slots, slot by slot, and what it gives of a table's bytes.
-use Rattle.std.proofs.Common.{◌≡◌, ℕ, suc, ◌+◌, ◌-◌, ◌<◌, ◌∙◌, true, false, sym, ap, refl, arith, List, [], ◌∷◌, length, map, slice_index, Option, Some, None}
+use Rattle.std.proofs.Common.{◌≡◌, ℕ, suc, ◌+◌, ◌-◌, ◌<◌, ◌≤◌, ◌∙◌, true, false, sym, ap, refl, arith, List, [], ◌∷◌, length, map, slice_index, Option, Some, None}
 use Rattle.std.specs.Prelude.{option_map}
 use Rattle.std.specs.List.{filter_map, cons_option, range_with_len}
+use Rattle.std.proofs.lemmas.List.FromFn.{length-range_with_len}
 use Rattle.odht_base.specs.Format.{Format, IsFormat, format_of}
 use Rattle.odht_base.specs.Table.{Pair, Table, walk}
 use Rattle.odht_base.specs.Shown.{counts_as_free, shown_cell, shown_cells, seen, slot_key, slot_value}
@@ -25,6 +26,19 @@ module _ {K V : Type 0} (f : List ℕ → K) (g : List ℕ → V) (F : Format) (
       → e.key ≡ f (slot_key F T.entries.bytes i) → e.value ≡ g (slot_value F T.entries.bytes i)
       → items_from f g F T i ≡ (slice_index T.control i, e) ∷ items_from f g F T (i + 1)
   items_from-filled e l filled key value = rw (one_more l, filled) (λ j. (slice_index T.control i, record { key = sym key j; value = sym value j }) ∷ items_from f g F T (i + 1))
+
+-- no more come than there are
+length-filter_map : {X Y : Type 0} (h : X → Option Y) (xs : List X) → length (filter_map h xs) ≤ length xs
+length-filter_map h [] = omega arith
+length-filter_map h (x ∷ xs) = go (h x) (length-filter_map h xs)
+  where
+    go : (o : Option _) → length (filter_map h xs) ≤ length xs → length (cons_option o (filter_map h xs)) ≤ length (x ∷ xs)
+    go None l = omega (arith, l)
+    go (Some y) l = omega (arith, l)
+
+-- no more items than slots
+pub few-items : {K V : Type 0} (f : List ℕ → K) (g : List ℕ → V) (F : Format) (T : TableParts) → length (items_from f g F T 0) ≤ T.entries.slots
+few-items f g F T = omega (arith, length-filter_map (slot_item f g F T) (range_with_len 0 (T.entries.slots - 0)), length-range_with_len 0 (T.entries.slots - 0))
 
 module _ {EK EV K V : Type 0} (f : List ℕ → EK) (g : List ℕ → EV) (decode_key : EK → K) (decode_value : EV → V) where
   abbrev pair_of : Pair → K × V

@@ -1,5 +1,5 @@
 //! A walk over the filled slots.
-ghost use Rattle.std.specs.Prelude.{◌≡◌, ◌+◌, length};
+ghost use Rattle.std.specs.Prelude.{◌≡◌, ◌+◌, ◌≤◌, length};
 ghost use Rattle.std.specs.Iterator.{YieldsFirst, item_count};
 ghost use Rattle.odht.specs.Parts.{entry_format};
 ghost use Rattle.odht.specs.Walks.{items_from};
@@ -36,7 +36,8 @@ impl<'a, K: ByteArray, V: ByteArray> RawIter<'a, K, V> {
     #[inline]
     pub fn new(control: &'a [EntryMetadata], entries: Entries<'a, K, V>) -> Self
         requires { length control.now ≡ entries.slots + 16 }
-        ensures { result ≡ items_from K.of_bytes V.of_bytes (entry_format K.LEN V.LEN) (record { control = control.now; entries = entries.entry }) 0 }
+        ensures items { result ≡ items_from K.of_bytes V.of_bytes (entry_format K.LEN V.LEN) (record { control = control.now; entries = entries.entry }) 0 }
+        ensures few { length result ≤ entries.entry.slots }
     {
         RawIter {
             control,

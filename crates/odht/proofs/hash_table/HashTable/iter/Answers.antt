@@ -17,8 +17,8 @@ returns-clause-on_any g c =
     let F = (coding g).format in
     let parts = c.data_slices-entries.ensures in
     let decodes = decoded_items-shown_cells g.C.EncodedKey.ByteArray.of_bytes g.C.EncodedValue.ByteArray.of_bytes g.C.Config.decode_key g.C.Config.decode_value F.key_len F.value_len F.hash in
-    c.new-2.ensures
-    ∙ ap (decoded_items g.C.Config.decode_key g.C.Config.decode_value) c.new.ensures
+    c.new-2.ensures.items
+    ∙ ap (decoded_items g.C.Config.decode_key g.C.Config.decode_value) c.new.ensures.items
     ∙ decodes (record { control = c.data_slices-entries.result.0.now; entries = c.data_slices-entries.result.1 }) parts.len
     ∙ (λ j. map (decoded (coding g)) (filter_map (λ c. c) (shown_cells F (parts.entries j) (parts.control j))))
     ∙ ap (λ B. map (decoded (coding g)) (seen F B)) c.self.view_is
