@@ -5,6 +5,7 @@ use odht::error::Error;
 use odht::load::{Factor, slots_needed};
 use odht::raw_table::{Entries, RawTable, RawTableMut};
 use odht::{FxHashFn, HashTableOwned};
+use std::process::Abort;
 
 #[test]
 fn one_pair(rt: HostRuntime) -> Result<(), Error> {
@@ -84,11 +85,21 @@ slot 15: key=[3, 0, 0, 0, 0, 0, 0, 0], value=[4, 0, 0, 0], control_byte=58
     );
     let text = format!(in rt.alloc(); "{table:?}")?;
     assert_eq!(rt; text.as_str(), expected);
-    let table: RawTableMut<'_, '_, [u8; 8], [u8; 4], FxHashFn> = RawTableMut::new(
-        &mut control,
-        &mut entries,
-    );
+    let table = lent(&rt, &mut control, &mut entries);
     let text = format!(in rt.alloc(); "{table:?}")?;
     assert_eq!(rt; text.as_str(), expected);
     Ok(())
+}
+
+// The table of parts of sixteen slots that are lent to it.
+fn lent<'c, 'e>(
+    rt: &impl Abort,
+    control: &'c mut [u8; 32],
+    entries: &'e mut [u8; 192],
+) -> RawTableMut<'c, 'e, [u8; 8], [u8; 4], FxHashFn> {
+    let factor = Factor::from_percent(95);
+    assert!(rt; factor.0 >= 1);
+    let slots = slots_needed(3, factor).expect(rt, "slots");
+    assert!(rt; slots == control.len() - 16);
+    RawTableMut::new(control, entries)
 }
