@@ -112,7 +112,7 @@ fn answer<W: Write>(
         → IsCommandText line.now (Command.OnTable request)
         → table.old ≡ Some bytes
         → IsImage ⟦<MyConfig as Coded>⟧.coding.format P bytes
-        → (Q : Plain) × (text : List ℕ) × IsAnswered ⟦<MyConfig as Coded>⟧.coding P request text Q × IfSome table.new (IsImage ⟦<MyConfig as Coded>⟧.coding.format Q) × OnOk result (Appends (W.contents output.old) (W.contents output.new) text) }
+        → (Q : Plain) × (text : List ℕ) × IsAnswered ⟦<MyConfig as Coded>⟧.coding P request text Q × ((after : List ℕ) × (table.new ≡ Some after) × IsImage ⟦<MyConfig as Coded>⟧.coding.format Q after) × OnOk result (Appends (W.contents output.old) (W.contents output.new) text) }
 {
     let Some(command) = parse(line) else {
         return writeln!(output, "malformed");

@@ -1,6 +1,7 @@
-use Rattle.std.proofs.Common.{◌≡◌, sym, subst}
+use Rattle.std.proofs.Common.{◌≡◌, refl, sym, subst}
 use Rattle.std.proofs.lemmas.Option.{none-some}
 use Rattle.odht_base.specs.Valid.{IsImage}
+use Rattle.odht_table.specs.Answers.{IsAnswered}
 use Rattle.odht_table.proofs.Puts.{my_coding}
 use Rattle.odht_table.specs.declared.script.command.Command.TheVariants.{New, OnTable}
 use Rattle.odht_table.proofs.script.answer.Goals as goal
@@ -33,4 +34,4 @@ returns-in-Some-table-clause-answered g c request bytes P line some is =
     let same : c.in-OnTable.request ≡ request = cc in
     let here : c.in-Some-table.table ≡ bytes = cc in
     let told = c.serve.ensures.answered P (subst (IsImage my_coding.format P) (sym here) is) in
-    rw (sym same) told
+    (told.0, told.1, subst (λ r. IsAnswered my_coding P r told.1 told.0) same told.2, (c.serve.new.table, refl, told.3), told.4)
