@@ -64,3 +64,12 @@ pub mod Puts
 pub mod FreshRuns
 -- what a search in a placed table tells of its map
 pub mod Lookups
+-- ---- Masks of a group of control bytes
+-- the places of what is true
+pub mod MarkedPlaces
+-- the set bits of a mask
+pub mod MaskBits
+-- the masks of sixteen lanes
+pub mod LaneBits
+-- the masks of eight bytes in a word, with the word's false positives
+pub mod WordBits

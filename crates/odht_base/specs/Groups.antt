@@ -4,6 +4,7 @@
 --     IsReport g h xs        the indices xs rise, each index of h is among them, and none of a free byte
 --     IsWordReport g h xs    what the search by a word reports: any other index than of h has the neighbour h xor 1, and
 --                            the index one below it is reported too
+--     GroupMatches           what a search of a group holds: the matches not taken yet, and the first free index
 use Rattle.std.specs.Prelude.{◌≡◌, ℕ, ◌+◌, ◌<◌, ◌==◌, ◌⊎◌, List, length, filter, position, slice_index, bit_xor, Option, Contains}
 use Rattle.std.specs.List.{range_with_len}
 use Rattle.std.specs.List.Sorted.{IsStrictlyIncreasing}
@@ -23,3 +24,7 @@ pub record IsReport (g : List ℕ) (h : ℕ) (xs : List ℕ) : Type 0 where
 pub record IsWordReport (g : List ℕ) (h : ℕ) (xs : List ℕ) : Type 0 where
   pub report : IsReport g h xs
   pub others : (i : ℕ) → Contains xs i → (slice_index g i ≡ h) ⊎ ((slice_index g i ≡ bit_xor h 1) × ((j : ℕ) × (j + 1 ≡ i) × Contains xs j))
+
+pub record GroupMatches : Type 0 where
+  pub matches : List ℕ
+  pub free : Option ℕ

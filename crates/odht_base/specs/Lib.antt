@@ -31,3 +31,5 @@ pub mod Shown
 pub mod Writes
 -- groups of control bytes
 pub mod Groups
+-- the set bits of a mask
+pub mod Masks

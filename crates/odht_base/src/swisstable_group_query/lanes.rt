@@ -1,0 +1,123 @@
+//! The search of sixteen control bytes at once, in the lanes of one vector.
+ghost use Rattle.std.specs.Prelude.{◌≡◌, ◌<◌, ⊤, length, is_some};
+ghost use Rattle.std.specs.Iterator.{YieldsFirst, MakesProgress, item_count};
+ghost use Rattle.std.proofs.Common.{refl};
+ghost use Rattle.odht_base.specs.Groups.{equal, first_free};
+
+use super::Group;
+use super::mask::{lowest_bit, without_lowest_bit};
+use std::marker::Model;
+use std::simd::prelude::*;
+
+/// How many control bytes are looked at at once.
+pub const GROUP_SIZE: usize = 16;
+
+/// A search of sixteen control bytes. It iterates over its matches, which are exactly the bytes equal to the tag.
+#[derive(Drop)]
+pub struct GroupQuery {
+    eq_mask: u64,
+    empty_mask: u64,
+}
+
+impl Model for GroupQuery {
+    ghost use Rattle.std.specs.Prelude.{slice_get};
+    ghost use Rattle.odht_base.specs.Groups.{GroupMatches};
+    ghost use Rattle.odht_base.specs.Masks.{set_bits};
+
+    ghost Value = { GroupMatches };
+
+    ghost view = { λ q. record { matches = set_bits q.eq_mask; free = slice_get (set_bits q.empty_mask) 0 } };
+}
+
+impl GroupQuery {
+    // Looks at a group for a tag, once it is in lanes.
+    #[inline]
+    fn of_lanes(lanes: u8x16, h2: u8) -> GroupQuery
+        requires { length lanes ≡ 16 }
+        ensures matches { result.matches ≡ equal lanes h2 }
+        ensures free { result.free ≡ first_free lanes }
+    {
+        GroupQuery {
+            eq_mask: lanes.simd_eq(u8x16::splat(h2)).to_bitmask(),
+            empty_mask: lanes.simd_ge(u8x16::splat(128)).to_bitmask(),
+        }
+    }
+
+    /// Looks at a group for a tag.
+    #[inline]
+    pub fn from(group: &[u8; GROUP_SIZE], h2: u8) -> GroupQuery
+        requires { h2 < 128 }
+        ensures matches { result.matches ≡ equal group.now h2 }
+        ensures free { result.free ≡ first_free group.now }
+    {
+        GroupQuery::of_lanes(u8x16::from_array(*group), h2)
+    }
+
+    /// Whether the group has a byte of 128 or more.
+    #[inline]
+    pub fn any_empty(&self) -> bool
+        ensures { result ≡ is_some self.now.free }
+    {
+        lowest_bit(self.empty_mask).is_some()
+    }
+
+    /// The least index of a byte of 128 or more, whether or not matches were taken.
+    #[inline]
+    pub fn first_empty(&self) -> Option<usize>
+        ensures { result ≡ self.now.free }
+    {
+        lowest_bit(self.empty_mask)
+    }
+}
+
+impl Group for GroupQuery {
+    ghost SIZE = { 16 };
+
+    ghost matches = { λ q. q.matches };
+
+    ghost free = { λ q. q.free };
+
+    const SIZE: usize = GROUP_SIZE;
+
+    #[inline]
+    fn of(bytes: &[u8], h2: u8) -> GroupQuery {
+        GroupQuery::of_lanes(u8x16::from_slice(bytes), h2)
+    }
+
+    #[inline]
+    fn any_empty(&self) -> bool {
+        self.any_empty()
+    }
+
+    #[inline]
+    fn first_empty(&self) -> Option<usize> {
+        self.first_empty()
+    }
+
+    #[inline]
+    fn next_match(&mut self) -> Option<usize> {
+        let index = lowest_bit(self.eq_mask)?;
+        self.eq_mask = without_lowest_bit(self.eq_mask);
+        Some(index)
+    }
+
+    ghost divides = { (1, refl) };
+}
+
+impl Iterator for GroupQuery {
+    type Item = usize;
+
+    ghost next_gives = { YieldsFirst (λ q. q.matches) };
+
+    ghost remaining = { item_count (λ q. q.matches) };
+
+    /// Takes the least match that is left.
+    #[inline]
+    fn next(&mut self) -> Option<usize>
+        ensures steps { YieldsFirst (λ q. q.matches) self.old result self.new }
+        ensures goes { MakesProgress (λ _. ⊤) (item_count (λ q. q.matches)) self.old result self.new }
+        ensures free { self.new.free ≡ self.old.free }
+    {
+        self.next_match()
+    }
+}

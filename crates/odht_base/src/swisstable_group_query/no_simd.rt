@@ -1,0 +1,138 @@
+//! The search of eight control bytes in one word of 64 bits.
+ghost use Rattle.std.specs.Prelude.{◌≡◌, ◌<◌, ⊤, slice_get, is_some};
+ghost use Rattle.std.specs.Iterator.{YieldsFirst, MakesProgress, item_count};
+ghost use Rattle.std.proofs.Common.{refl};
+ghost use Rattle.odht_base.specs.Groups.{IsWordReport, first_free};
+ghost use Rattle.odht_base.specs.Masks.{set_bytes};
+
+use super::Group;
+use super::mask::{lowest_bit, without_lowest_bit};
+use std::marker::Model;
+
+/// How many control bytes are looked at at once.
+pub const GROUP_SIZE: usize = 8;
+
+// One in each byte.
+const LOW_BITS: u64 = 0x0101_0101_0101_0101;
+
+// 128 in each byte.
+const HIGH_BITS: u64 = 0x8080_8080_8080_8080;
+
+/// A search of eight control bytes. It iterates over its matches.
+///
+/// A byte that differs from the tag in its lowest bit alone is reported too where the byte below it is reported: the
+/// subtraction borrows from it.
+#[derive(Drop)]
+pub struct GroupQuery {
+    eq_mask: u64,
+    empty_mask: u64,
+}
+
+impl Model for GroupQuery {
+    ghost use Rattle.std.specs.Prelude.{slice_get};
+    ghost use Rattle.odht_base.specs.Groups.{GroupMatches};
+    ghost use Rattle.odht_base.specs.Masks.{set_bytes};
+
+    ghost Value = { GroupMatches };
+
+    ghost view = { λ q. record { matches = set_bytes q.eq_mask; free = slice_get (set_bytes q.empty_mask) 0 } };
+}
+
+// The index of the lowest byte in which a bit is set.
+#[inline(always)]
+fn lowest_byte(mask: u64) -> Option<usize>
+    ensures { result ≡ slice_get (set_bytes mask) 0 }
+{
+    match lowest_bit(mask) {
+        Some(place) => Some(place / 8),
+        None => None,
+    }
+}
+
+impl GroupQuery {
+    /// Looks at a group for a tag.
+    #[inline]
+    pub fn from(group: &[u8; GROUP_SIZE], h2: u8) -> GroupQuery
+        requires { h2 < 128 }
+        ensures matches { IsWordReport group.now h2 result.matches }
+        ensures free { result.free ≡ first_free group.now }
+    {
+        let group = u64::from_le_bytes(*group);
+        let cmp = group ^ (h2 as u64 * LOW_BITS);
+        GroupQuery {
+            eq_mask: cmp.wrapping_sub(LOW_BITS) & (!cmp & HIGH_BITS),
+            empty_mask: group & HIGH_BITS,
+        }
+    }
+
+    /// Whether the group has a byte of 128 or more.
+    #[inline]
+    pub fn any_empty(&self) -> bool
+        ensures { result ≡ is_some self.now.free }
+    {
+        lowest_byte(self.empty_mask).is_some()
+    }
+
+    /// The least index of a byte of 128 or more, whether or not matches were taken.
+    #[inline]
+    pub fn first_empty(&self) -> Option<usize>
+        ensures { result ≡ self.now.free }
+    {
+        lowest_byte(self.empty_mask)
+    }
+}
+
+impl Group for GroupQuery {
+    ghost SIZE = { 8 };
+
+    ghost matches = { λ q. q.matches };
+
+    ghost free = { λ q. q.free };
+
+    const SIZE: usize = GROUP_SIZE;
+
+    #[inline]
+    fn of(bytes: &[u8], h2: u8) -> GroupQuery {
+        let Some(group) = bytes.first_chunk::<GROUP_SIZE>() else {
+            unreachable!()
+        };
+        GroupQuery::from(group, h2)
+    }
+
+    #[inline]
+    fn any_empty(&self) -> bool {
+        self.any_empty()
+    }
+
+    #[inline]
+    fn first_empty(&self) -> Option<usize> {
+        self.first_empty()
+    }
+
+    #[inline]
+    fn next_match(&mut self) -> Option<usize> {
+        let index = lowest_byte(self.eq_mask)?;
+        self.eq_mask = without_lowest_bit(self.eq_mask);
+        Some(index)
+    }
+
+    ghost divides = { (2, refl) };
+}
+
+impl Iterator for GroupQuery {
+    type Item = usize;
+
+    ghost next_gives = { YieldsFirst (λ q. q.matches) };
+
+    ghost remaining = { item_count (λ q. q.matches) };
+
+    /// Takes the least match that is left.
+    #[inline]
+    fn next(&mut self) -> Option<usize>
+        ensures steps { YieldsFirst (λ q. q.matches) self.old result self.new }
+        ensures goes { MakesProgress (λ _. ⊤) (item_count (λ q. q.matches)) self.old result self.new }
+        ensures free { self.new.free ≡ self.old.free }
+    {
+        self.next_match()
+    }
+}
