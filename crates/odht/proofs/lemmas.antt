@@ -45,3 +45,9 @@ pub mod Walks
 pub mod Dumps
 -- keys and values that their bytes decode to
 pub mod Kept
+-- the probe order, a piece of a group at a time
+pub mod ProbeSteps
+-- a look at some places of it
+pub mod GroupLooks
+-- a search by groups
+pub mod GroupSearches

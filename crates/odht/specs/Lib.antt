@@ -5,6 +5,10 @@ pub mod Coding
 pub mod Parts
 -- what a search answers
 pub mod Answers
+-- the probe order, a group at a time
+pub mod ProbeSeqs
+-- a search at a place of the probe order
+pub mod Searches
 -- which bytes are refused as a table, and why
 pub mod Refusals
 -- what an insert may do to bytes that a view accepts, valid or not

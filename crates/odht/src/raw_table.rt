@@ -13,14 +13,21 @@ use crate::hash::HashFn;
 use std::marker::{Model, PhantomData};
 
 mod dump;
+mod group_search;
 mod outcome;
 mod plain;
+mod probe_seq;
+mod scan;
 mod table_mut;
 mod walk;
 
+pub use group_search::search;
+pub(crate) use group_search::search_hashed;
 pub use outcome::Search;
 pub use plain::{plain_find, plain_insert};
 pub(crate) use plain::{plain_search, tag_of};
+pub use probe_seq::ProbeSeq;
+pub use scan::Scan;
 pub use table_mut::RawTableMut;
 pub use walk::RawIter;
 

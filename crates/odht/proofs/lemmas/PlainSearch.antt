@@ -2,7 +2,7 @@
 use Rattle.std.proofs.Common.{◌≡◌, ◌<◌, ◌≤◌, ◌∙◌, ◌+◌, ◌%◌, inl, inr, ℕ, true, false, true≢false, sym, ap, subst, refl, List, Option, Some, None, length, arith, leb-true, le-leb}
 use Rattle.std.specs.Prelude.{slice_index, is_none}
 use Rattle.std.proofs.lemmas.Bool.{cases_lt, or_left, or_right, or_from, false_from_ne_true}
-use Rattle.odht_base.specs.Format.{Format, IsFormat, home}
+use Rattle.odht_base.specs.Format.{Format, IsFormat}
 use Rattle.odht_base.specs.Probe.{place_slot}
 use Rattle.odht_base.specs.Table.{Pair, Table, slot_count, cell_at, is_free, has_key}
 use Rattle.odht_base.specs.Search.{search_end, stops_at}
@@ -12,15 +12,8 @@ use Rattle.odht_base.proofs.lemmas.Keys.{pair_key, same_bytes}
 use Rattle.odht_base.proofs.lemmas.Lookups.{search_end-at, search_end-nowhere}
 use Rattle.odht.proofs.lemmas.PartCells.{slots_are, byte_is, key_is}
 use Rattle.odht.specs.Answers.{answer}
+use Rattle.odht.specs.Searches.{slot_of, Passed}
 use Rattle.odht.specs.declared.raw_table.outcome.Search.TheVariants.{Found, Free, Neither}
-
--- the slot at place n of the order of k
-abbrev pub slot_of : Format → Table → List ℕ → ℕ → ℕ
-slot_of F P k n = place_slot (home F k (slot_count P)) (slot_count P) n
-
--- each slot before place n is filled, by another key
-abbrev pub Passed : Format → Table → List ℕ → ℕ → Type 0
-Passed F P k n = (m : ℕ) → m < n → stops_at P.cells k (slot_of F P k m) ≡ false
 
 module _ (F : Format) (P : Table) (k es ctrl : List ℕ) (f : IsFormat F) (h : IsPartsOf F P es ctrl) where
   -- a filled cell has the key that stands in its entry, and no other

@@ -1,7 +1,7 @@
 use Rattle.odht_base.specs.Format.{format_of}
 use Rattle.odht_base.specs.Table.{Table}
 use Rattle.odht_base.specs.Valid.{IsPartsOf}
-use Rattle.odht.proofs.lemmas.PlainSearch.{Passed}
+use Rattle.odht.specs.Searches.{Passed}
 use Rattle.odht.proofs.raw_table.plain.plain_search.Given as goal
 
 abbrev pub invariant-loop-place : goal.invariant-loop-place
