@@ -21,7 +21,8 @@ use crate::hash::HashFn;
 use crate::iter::Iter;
 use crate::load::{Factor, max_item_count_for, slots_needed};
 use crate::memory_layout::{self, Allocation};
-use crate::raw_table::{RawIter, Search, plain_find, plain_search, tag_of};
+use crate::raw_table::{RawIter, RawTable, Search, search_parts, tag_of};
+use crate::swisstable_group_query::GroupQuery;
 use std::marker::Model;
 
 /// How many bytes a new table for `max_item_count` items has. None exactly where no slot count is enough, or the length
@@ -80,7 +81,7 @@ impl<C: Config, D: ByteStore> HashTable<C, D> {
     /// The value of a key: on valid bytes that of the key's last insert, and on any bytes one that is stored beside this
     /// very key.
     ///
-    /// At most each slot is looked at once.
+    /// At most each group of control bytes is looked at once.
     pub fn get(&self, key: &C::Key) -> Option<C::Value>
         ensures on_valid { (P : Table)
             → IsImage ⟦<C as Coded>⟧.coding.format P self.now
@@ -88,8 +89,11 @@ impl<C: Config, D: ByteStore> HashTable<C, D> {
         ensures on_any { IfSome result (λ v. HasStored ⟦<C as Coded>⟧.coding self.now key.now v) }
     {
         let (control, entries) = self.allocation.data_slices();
+        let table: RawTable<'_, C::EncodedKey, C::EncodedValue, C::H> = RawTable::new(
+            control, entries,
+        );
         let key = C::encode_key(key);
-        match plain_find::<C::EncodedKey, C::EncodedValue, C::H>(control, &entries, &key) {
+        match table.find(&key) {
             Some(value) => Some(C::decode_value(&value)),
             None => None,
         }
@@ -97,7 +101,7 @@ impl<C: Config, D: ByteStore> HashTable<C, D> {
 
     /// Whether the key has a value: on any bytes only where some slot's entry holds this very key.
     ///
-    /// At most each slot is looked at once.
+    /// At most each group of control bytes is looked at once.
     pub fn contains_key(&self, key: &C::Key) -> bool
         ensures on_valid { (P : Table)
             → IsImage ⟦<C as Coded>⟧.coding.format P self.now
@@ -105,8 +109,11 @@ impl<C: Config, D: ByteStore> HashTable<C, D> {
         ensures on_any { IsTrue result → HoldsKey ⟦<C as Coded>⟧.coding.format self.now (⟦<C as Coded>⟧.coding.key_bytes key.now) }
     {
         let (control, entries) = self.allocation.data_slices();
+        let table: RawTable<'_, C::EncodedKey, C::EncodedValue, C::H> = RawTable::new(
+            control, entries,
+        );
         let key = C::encode_key(key);
-        plain_find::<C::EncodedKey, C::EncodedValue, C::H>(control, &entries, &key).is_some()
+        table.find(&key).is_some()
     }
 
     /// The keys and values of the slots whose own control byte does not count as free, in slot order: on valid bytes each
@@ -271,7 +278,9 @@ impl<C: Config, D: ByteStoreMut> HashTable<C, D> {
         }
         let hash = C::H::hash(key.as_slice());
         let (control, entries) = self.allocation.data_slices();
-        match plain_search::<C::EncodedKey, C::EncodedValue, C::H>(control, &entries, key, hash) {
+        match search_parts::<C::EncodedKey, C::EncodedValue, C::H, GroupQuery>(
+            control, &entries, key, hash,
+        ) {
             Search::Found(slot) => {
                 let old = entries.get(slot).value;
                 self.allocation.write_value(slot, value);

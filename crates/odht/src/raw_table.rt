@@ -1,7 +1,10 @@
 //! The parts of a table, control bytes and entries, and searches in them.
-ghost use Rattle.std.specs.Prelude.{◌≡◌, ◌+◌, ◌*◌, ◌<◌, ◌≤◌, length};
+ghost use Rattle.std.specs.Prelude.{◌≡◌, ℕ, ◌+◌, ◌*◌, ◌/◌, ◌^◌, ◌<◌, ◌≤◌, length, option_map, IfSome};
 ghost use Rattle.odht_base.specs.Format.{format_of};
 ghost use Rattle.odht_base.specs.Load.{IsSlotCount};
+ghost use Rattle.odht_base.specs.Table.{Table};
+ghost use Rattle.odht_base.specs.Map.{map_of};
+ghost use Rattle.odht_base.specs.Valid.{IsPartsOf};
 ghost use Rattle.odht_base.specs.Shown.{slot_key, slot_value, counts_as_free};
 ghost use Rattle.odht.specs.Parts.{entry_format};
 ghost use Rattle.odht.specs.Walks.{items_from};
@@ -10,6 +13,7 @@ ghost use Rattle.odht.specs.Refusals.{checked, hashes_refusal, hashes_refusal_at
 use crate::bytes::ByteArray;
 use crate::error::Error;
 use crate::hash::HashFn;
+use crate::swisstable_group_query::GroupQuery;
 use std::marker::{Model, PhantomData};
 
 mod dump;
@@ -20,12 +24,12 @@ mod probe_seq;
 mod scan;
 mod table_mut;
 mod walk;
+mod writes;
 
 pub use group_search::search;
-pub(crate) use group_search::search_hashed;
+pub(crate) use group_search::search_parts;
 pub use outcome::Search;
 pub use plain::{plain_find, plain_insert};
-pub(crate) use plain::{plain_search, tag_of};
 pub use probe_seq::ProbeSeq;
 pub use scan::Scan;
 pub use table_mut::RawTableMut;
@@ -133,6 +137,14 @@ pub(crate) fn is_empty_or_deleted(control: EntryMetadata) -> bool
     control >= 128
 }
 
+/// The tag of a key with this hash: its seven highest bits.
+#[inline]
+pub(crate) fn tag_of(hash: u32) -> u8
+    ensures { result ≡ hash / 2 ^ 25 }
+{
+    (hash >> 25) as u8
+}
+
 /// The control bytes with their mirror, and the entries of as many slots.
 #[derive(Drop)]
 pub struct RawTable<'a, K: ByteArray, V: ByteArray, H: HashFn> {
@@ -164,6 +176,28 @@ impl<'a, K: ByteArray, V: ByteArray, H: HashFn> RawTable<'a, K, V, H> {
             control,
             entries,
             hash: PhantomData,
+        }
+    }
+
+    /// The value beside the key, looked for group by group along the probe order.
+    ///
+    /// On the parts of a table whose keys are all reached it is the map's answer, and on any parts a value that is stored
+    /// beside this very key. At most each group is looked at once.
+    #[inline]
+    pub fn find(&self, key: &K) -> Option<V>
+        ensures on_placed { (P : Table)
+            → IsPartsOf (format_of K.LEN V.LEN H.hash) P self.now.entries.bytes self.now.control
+            → result ≡ option_map V.of_bytes (map_of P (K.bytes key.now)) }
+        ensures on_any { let F = format_of K.LEN V.LEN H.hash
+            in let es = self.now.entries.bytes
+            in IfSome result (λ v. (i : ℕ) × (i < self.now.entries.slots) × (slot_key F es i ≡ K.bytes key.now) × (v ≡ V.of_bytes (slot_value F es i))) }
+    {
+        let control = self.control;
+        let hash = H::hash(key.as_slice());
+        match search_parts::<K, V, H, GroupQuery>(control, &self.entries, key, hash) {
+            Search::Found(slot) => Some(self.entries.get(slot).value),
+            Search::Free(_) => None,
+            Search::Neither => None,
         }
     }
 

@@ -91,6 +91,32 @@ pub(crate) fn search_hashed<K: ByteArray, V: ByteArray, H: HashFn, Q: Group>(
     Search::Neither
 }
 
+/// `search` of a key whose hash is known, in these parts.
+#[inline]
+pub(crate) fn search_parts<K: ByteArray, V: ByteArray, H: HashFn, Q: Group>(
+    control: &[EntryMetadata],
+    entries: &Entries<'_, K, V>,
+    key: &K,
+    hash: u32,
+) -> Search
+    requires slots { IsSlotCount entries.now.slots }
+    requires control { length control.now ≡ entries.now.slots + 16 }
+    requires hash { hash ≡ H.hash (K.bytes key.now) }
+    requires hashes { H.MIN_LEN ≤ K.LEN }
+    requires key { K.LEN ≤ 255 }
+    requires value { V.LEN ≤ 255 }
+    ensures on_placed { (P : Table)
+        → IsPartsOf (format_of K.LEN V.LEN H.hash) P entries.now.bytes control.now
+        → result ≡ answer (format_of K.LEN V.LEN H.hash) P.cells (K.bytes key.now) }
+    ensures slot { MatchSearch result
+        (λ i. (i < entries.now.slots) × (slot_key (format_of K.LEN V.LEN H.hash) entries.now.bytes i ≡ K.bytes key.now))
+        (λ i. (i < entries.now.slots) × CountsAsFree control.now i)
+        ⊤ }
+{
+    let mut scan = Scan::new(control, entries.len());
+    search_hashed::<K, V, H, Q>(&mut scan, entries, key, hash)
+}
+
 // Looks at the sixteen slots from `start` on, whose control bytes are these, in pieces of the group search's size.
 #[inline]
 fn look_at_group<K: ByteArray, V: ByteArray, H: HashFn, Q: Group>(

@@ -13,8 +13,9 @@ ghost use Rattle.odht_base.specs.Writes.{tagged};
 ghost use Rattle.odht.specs.Answers.{answer, MatchSearch};
 ghost use Rattle.odht.specs.Frame.{IsPartsFramed};
 
-use super::{Entries, EntryMetadata, Search};
-use crate::bytes::{ByteArray, write_slice};
+use super::writes::insert_at;
+use super::{Entries, EntryMetadata, Search, tag_of};
+use crate::bytes::ByteArray;
 use crate::error::Error;
 use crate::hash::HashFn;
 use crate::swisstable_group_query::REFERENCE_GROUP_SIZE;
@@ -80,53 +81,8 @@ pub fn plain_insert<K: ByteArray, V: ByteArray, H: HashFn>(
     let slots = control.len() - REFERENCE_GROUP_SIZE;
     let hash = H::hash(key.as_slice());
     let shown: Entries<'_, K, V> = Entries::new(entries, slots);
-    match plain_search::<K, V, H>(control, &shown, &key, hash) {
-        Search::Found(slot) => {
-            let old = shown.get(slot).value;
-            write_slice(entries, slot * (K::LEN + V::LEN) + K::LEN, value.as_slice());
-            Ok(Some(old))
-        }
-        Search::Free(slot) => {
-            write_pair(
-                entries,
-                slot * (K::LEN + V::LEN),
-                key.as_slice(),
-                value.as_slice(),
-            );
-            write_tag(control, slot, tag_of(hash));
-            Ok(None)
-        }
-        Search::Neither => Err(Error::Full),
-    }
-}
-
-// Writes the key from the byte `at` on, and the value behind it.
-fn write_pair(entries: &mut [u8], at: usize, key: &[u8], value: &[u8])
-    requires { at + length key.now + length value.now ≤ length entries.old }
-    ensures { entries.new ≡ overwritten_at entries.old at (key.now ++ value.now) }
-{
-    write_slice(entries, at, key);
-    write_slice(entries, at + key.len(), value);
-}
-
-// Writes the tag into the control byte of a slot, and for a slot below 16 into the mirror.
-fn write_tag(control: &mut [EntryMetadata], slot: usize, tag: u8)
-    requires { slot + 16 < length control.old }
-    ensures { control.new ≡ tagged control.old slot tag }
-{
-    control[slot] = tag;
-    if slot < REFERENCE_GROUP_SIZE {
-        let mirror = control.len() - REFERENCE_GROUP_SIZE + slot;
-        control[mirror] = tag;
-    }
-}
-
-/// The tag of a key with this hash: its seven highest bits.
-#[inline]
-pub(crate) fn tag_of(hash: u32) -> u8
-    ensures { result ≡ hash / 2 ^ 25 }
-{
-    (hash >> 25) as u8
+    let end = plain_search::<K, V, H>(control, &shown, &key, hash);
+    insert_at::<K, V, H>(control, entries, key, value, tag_of(hash), end)
 }
 
 /// Looks for the key with this hash slot by slot along its probe order, and stops at the first slot that is free or holds

@@ -8,12 +8,12 @@ ghost use Rattle.odht_base.specs.Insert.{place};
 ghost use Rattle.odht_base.specs.Valid.{IsPartsOf};
 ghost use Rattle.odht.specs.Frame.{IsPartsFramed};
 
-use super::plain::plain_insert;
-use super::{Entries, EntryMetadata, RawTable};
+use super::writes::insert_at;
+use super::{Entries, EntryMetadata, RawTable, search_parts, tag_of};
 use crate::bytes::ByteArray;
 use crate::error::Error;
 use crate::hash::HashFn;
-use crate::swisstable_group_query::REFERENCE_GROUP_SIZE;
+use crate::swisstable_group_query::{GroupQuery, REFERENCE_GROUP_SIZE};
 use std::fmt;
 use std::marker::PhantomData;
 
@@ -60,7 +60,7 @@ impl<'c, 'e, K: ByteArray, V: ByteArray, H: HashFn> RawTableMut<'c, 'e, K, V, H>
     ///
     /// On the parts of a table whose keys are all reached it leaves those of the table with the pair placed, and answers
     /// `Full`, with nothing changed, exactly where there is no place. On any parts one value beside an equal key changes,
-    /// or one entry is written with its tag into a slot that counted as free, and nothing else. At most each slot is
+    /// or one entry is written with its tag into a slot that counted as free, and nothing else. At most each group is
     /// looked at once.
     pub fn insert(&mut self, key: K, value: V) -> Result<Option<V>, Error>
         ensures ok { let F = format_of K.LEN V.LEN H.hash
@@ -78,8 +78,41 @@ impl<'c, 'e, K: ByteArray, V: ByteArray, H: HashFn> RawTableMut<'c, 'e, K, V, H>
         ensures control_loan { control_loan self.new ≡ control_loan self.old }
         ensures entries_loan { entries_loan self.new ≡ entries_loan self.old }
     {
-        plain_insert::<K, V, H>(self.control, self.entries, key, value)
+        insert_parts::<K, V, H>(self.control, self.entries, key, value)
     }
+}
+
+// `insert` on the slices themselves.
+#[inline]
+fn insert_parts<K: ByteArray, V: ByteArray, H: HashFn>(
+    control: &mut [EntryMetadata],
+    entries: &mut [u8],
+    key: K,
+    value: V,
+) -> Result<Option<V>, Error>
+    requires slots { IsSlotCount (length control.old - 16) }
+    requires entries { length entries.old ≡ (length control.old - 16) * (K.LEN + V.LEN) }
+    requires hashes { H.MIN_LEN ≤ K.LEN }
+    requires key { K.LEN ≤ 255 }
+    requires value { V.LEN ≤ 255 }
+    ensures ok { let F = format_of K.LEN V.LEN H.hash
+        in (P : Table)
+        → IsPartsOf F P entries.old control.old
+        → IfOk result (λ old. (old ≡ option_map V.of_bytes (map_of P (K.bytes key))) × ((Q : Table) × (place F P (record { key = K.bytes key; value = V.bytes value }) ≡ Some Q) × IsPartsOf F Q entries.new control.new)) }
+    ensures full { let F = format_of K.LEN V.LEN H.hash
+        in (P : Table)
+        → IsPartsOf F P entries.old control.old
+        → (result ≡ Err Error.Full) ↔ (place F P (record { key = K.bytes key; value = V.bytes value }) ≡ None) }
+    ensures frame { IsPartsFramed (format_of K.LEN V.LEN H.hash) V.of_bytes entries.old control.old (record { key = K.bytes key; value = V.bytes value }) result entries.new control.new }
+    ensures only_full { OnErr result (result ≡ Err Error.Full) }
+    ensures refused_control { OnErr result (control.new ≡ control.old) }
+    ensures refused_entries { OnErr result (entries.new ≡ entries.old) }
+{
+    let slots = control.len() - REFERENCE_GROUP_SIZE;
+    let hash = H::hash(key.as_slice());
+    let shown: Entries<'_, K, V> = Entries::new(entries, slots);
+    let end = search_parts::<K, V, H, GroupQuery>(control, &shown, &key, hash);
+    insert_at::<K, V, H>(control, entries, key, value, tag_of(hash), end)
 }
 
 impl<'c, 'e, K: ByteArray, V: ByteArray, H: HashFn> fmt::Debug for RawTableMut<'c, 'e, K, V, H> {

@@ -1,9 +1,9 @@
-use Rattle.std.proofs.Common.{◌≡◌, ◌+◌, ◌/◌, ◌^◌, ◌∙◌, sym, ap, subst, refl, arith, Some, None, Ok, Err, ◌<◌, inl, IsTrue, slice_index}
+use Rattle.std.proofs.Common.{◌≡◌, ◌+◌, ◌/◌, ◌^◌, ◌∙◌, sym, ap, subst, refl, arith, Some, None, Ok, Err, ◌<◌}
 use Rattle.std.specs.Prelude.{option_map}
 use Rattle.odht_base.specs.Format.{Format, format_of, tag}
 use Rattle.odht_base.specs.Load.{max_items}
 use Rattle.odht_base.specs.Table.{Pair, count, slot_count}
-use Rattle.odht_base.specs.Shown.{stated_count, stated_slots, entries_of, controls_of, counts_as_free, key_at, value_at, slot_key, slot_value}
+use Rattle.odht_base.specs.Shown.{stated_count, stated_slots, entries_of, controls_of, key_at, value_at, slot_key, slot_value}
 use Rattle.odht_base.specs.Valid.{IsPairOf}
 use Rattle.odht_base.specs.Writes.{with_value, with_count, with_entry, with_tag}
 use Rattle.odht.specs.Frame.{InsertFrame, CountsAsFree}
@@ -103,7 +103,7 @@ returns-in-Free-clause-frame g c =
     let slot = c.in-Free.slot in
     let within : slot < stated_slots B = subst (λ n. slot < n) (c.data_slices-entries.ensures.slots ∙ ap stated_slots c.self.view_is) c.in-Free.ensures.slot.0 in
     let free : CountsAsFree (controls_of F B) slot =
-    inl (subst (λ b. IsTrue (counts_as_free (slice_index b slot))) (c.data_slices-entries.ensures.control ∙ ap (controls_of F) c.self.view_is) c.in-Free.ensures.slot.1) in
+    subst (λ b. CountsAsFree b slot) (c.data_slices-entries.ensures.control ∙ ap (controls_of F) c.self.view_is) c.in-Free.ensures.slot.1 in
     let stated : c.item_count-count.result ≡ stated_count B = c.item_count-count.ensures ∙ ap stated_count (c.header-header.ensures.bytes ∙ c.self.view_is) in
     let tagged : c.tag_of.result ≡ tag F p.key = c.tag_of.ensures ∙ ap (λ h. h / 2 ^ 25) (c.hash-hash.ensures ∙ ap F.hash c.as_slice.ensures.value) in
     let written : c.set_item_count.new.self ≡ with_count (with_tag F (stated_slots B) (with_entry F B slot p) slot (tag F p.key)) (stated_count B + 1) =

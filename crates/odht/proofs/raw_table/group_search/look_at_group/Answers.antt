@@ -7,7 +7,7 @@ use Rattle.odht.proofs.raw_table.group_search.look_at_group.Goals as goal
 
 pub overflow_add-start : goal.overflow_add-start
 overflow_add-start g c =
-    let few = few_slots _ c.requires.slots in
+    let few = few_slots c.args.entries.now.slots c.requires.slots in
     let fits = piece-fits g.met.Q.Group.divides.0 g.Q.Group.SIZE c.loop-piece.piece g.met.Q.Group.divides.1 (omega (arith, c.loop-piece-test.true, ap (λ n. 16 / n) c.SIZE-piece-end.ensures)) in
     let l = c.requires.start in
     rw c.SIZE.ensures (search rules)

@@ -12,7 +12,7 @@ use Rattle.odht.proofs.raw_table.group_search.look_at_piece.Goals as goal
 
 pub overflow_add-slot : goal.overflow_add-slot
 overflow_add-slot g c =
-    let few = few_slots _ c.requires.slots in
+    let few = few_slots c.args.entries.now.slots c.requires.slots in
     let match = taken-first _ _ _ c.in-Some.index c.matches.invariant.taken c.in-Some.ensures.next in
     let low = (c.of-group.ensures.matches.filled c.in-Some.index match).0 in
     let n = c.requires.len in
@@ -43,7 +43,7 @@ matches-preserved g c =
 
 pub overflow_add-result : goal.overflow_add-result
 overflow_add-result g c =
-    let few = few_slots _ c.requires.slots in
+    let few = few_slots c.args.entries.now.slots c.requires.slots in
     let first = sym (c.in-Some-first_empty.ensures ∙ c.in_default.ensures.free ∙ c.matches.invariant.same ∙ c.of-group.ensures.free) in
     let low = (position-Some counts_as_free c.args.bytes.now c.in-Some-first_empty.index 0 first).0 in
     let n = c.requires.len in

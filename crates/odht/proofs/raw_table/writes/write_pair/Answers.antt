@@ -1,6 +1,6 @@
 use Rattle.std.proofs.Common.{◌+◌, length, arith, refl}
 use Rattle.odht_base.proofs.lemmas.ByteRanges.{overwritten_at-twice}
-use Rattle.odht.proofs.raw_table.plain.write_pair.Goals as goal
+use Rattle.odht.proofs.raw_table.writes.write_pair.Goals as goal
 
 pub returns : goal.returns
 returns c =
