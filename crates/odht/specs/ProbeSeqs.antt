@@ -14,7 +14,7 @@ pub record ProbePlace : Type 0 where
 
 pub record IsProbe (g h m p i b c s : ℕ) : Type 0 where
   pub slots : IsSlotCount (m + 1)
-  pub divides : (k : ℕ) × (k * g ≡ 16)
+  pub divides : 16 % g ≡ 0
   pub aligned : p % g ≡ 0
   pub home_within : h < m + 1
   pub within : p < m + 1

@@ -3,7 +3,7 @@
 //! A group is looked at for a tag, and for the first byte that counts as free. [`Group`] is what a search of a table needs
 //! of it. Two forms stand here, [`no_simd::GroupQuery`] and [`lanes::GroupQuery`]; the one that is named below is the one
 //! that tables use, and nothing that they state depends on which it is.
-ghost use Rattle.std.specs.Prelude.{◌≡◌, ℕ, ◌*◌, ◌<◌, List, Option, length, drop, slice_get, is_some};
+ghost use Rattle.std.specs.Prelude.{◌≡◌, ℕ, ◌%◌, ◌<◌, List, Option, length, drop, slice_get, is_some};
 ghost use Rattle.odht_base.specs.Groups.{IsReport, first_free};
 
 pub mod lanes;
@@ -50,5 +50,5 @@ pub trait Group: Sized + Drop {
         ensures rest { matches self.new ≡ drop 1 (matches self.old) }
         ensures free { free self.new ≡ free self.old };
 
-    ghost divides: { (k : ℕ) × (k * SIZE ≡ 16) };
+    ghost divides: { 16 % SIZE ≡ 0 };
 }

@@ -1,6 +1,7 @@
 -- A look at some places of the probe order: the matches that are taken in turn, then the first free slot.
 use Rattle.std.proofs.Common.{◌≡◌, ◌⊎◌, ℕ, suc, ◌+◌, ◌-◌, ◌*◌, ◌/◌, ◌%◌, ◌<◌, ◌≤◌, inl, inr, sym, ap, ◌∙◌, subst, refl, arith, true, false, true≢false, List, [], ◌∷◌, length, drop, slice_get, slice_index, Contains, Option, Some, None, leb-true, lt-ltb, get_or, get_or-take, get_or-drop, position, Bool, add-mul, mul-le-mul_right}
-use Rattle.std.proofs.Math.Nat.{div-mul-le_self, mul-div_cancel}
+use Rattle.std.proofs.Math.Nat.{div-mul-le_self, div-mul_cancel}
+use Rattle.std.proofs.lemmas.Nat.Gcd.{dvd_of_mod-eq-zero}
 use Rattle.std.specs.List.{position_or_len}
 use Rattle.std.specs.Prelude.{is_some}
 use Rattle.std.proofs.lemmas.Bool.{or_from, or_left, false_from_ne_true, cases_lt}
@@ -166,16 +167,16 @@ module _ (F : Format) (P : Table) (E : EntryBytes) (k : List ℕ) (p start : ℕ
 
 -- ---- pieces of a group of sixteen
 -- a piece fits the group
-pub piece-fits : (k g n : ℕ) → k * g ≡ 16 → n < 16 / g → n * g + g ≤ 16
-piece-fits k g n e l =
+pub piece-fits : (g n : ℕ) → n < 16 / g → n * g + g ≤ 16
+piece-fits g n l =
     let within : 16 / g * g ≤ 16 = div-mul-le_self 16 g in
     let h : (n + 1) * g ≤ 16 / g * g = mul-le-mul_right g (omega arith) in
     let sum : (n + 1) * g ≡ n * g + g = add-mul n 1 g ∙ (let one : n * g + 1 * g ≡ n * g + g = omega arith in one) in
     omega arith
 
 -- and all pieces are the group
-pub pieces-all : (k g n : ℕ) → k * g ≡ 16 → n ≡ 16 / g → n * g ≡ 16
-pieces-all k g n e l = ap (λ m. m * g) l ∙ ap (λ m. m / g * g) (sym e) ∙ ap (λ m. m * g) (mul-div_cancel k (divisor_pos k g e)) ∙ e
+pub pieces-all : (g n : ℕ) → 16 % g ≡ 0 → n ≡ 16 / g → n * g ≡ 16
+pieces-all g n e l = ap (λ m. m * g) l ∙ div-mul_cancel g (dvd_of_mod-eq-zero g e)
 
 -- the search stands at a piece once it passed those before
 pub stands-piece : (F : Format) (P : Table) (E : EntryBytes) (k : List ℕ) (p start : ℕ) (bs : List ℕ) (at n : ℕ) → at + n ≤ length bs → StandsAt F P E k p start bs → Passed F P k (p + at)

@@ -51,12 +51,12 @@ step_within g x y pos ex ey l =
     ]
 
 -- what divides sixteen is not zero
-pub divisor_pos : (k g : ℕ) → k * g ≡ 16 → 0 < g
-divisor_pos k zero e = absurd (omega arith)
-divisor_pos k (suc g) e = omega arith
+pub divisor_pos : (g : ℕ) → 16 % g ≡ 0 → 0 < g
+divisor_pos zero e = absurd (omega arith)
+divisor_pos (suc g) e = omega arith
 
 -- a home slot is a place to begin at
-pub at_home : (g h m : ℕ) → IsSlotCount (m + 1) → (k : ℕ) × (k * g ≡ 16) → h < m + 1 → IsProbe g h m 0 h h 0 0
+pub at_home : (g h m : ℕ) → IsSlotCount (m + 1) → 16 % g ≡ 0 → h < m + 1 → IsProbe g h m 0 h h 0 0
 at_home g h m slots divides l =
     let zero_mod : 0 % g ≡ 0 = zero-mod g in
     let here : h ≡ place_slot h (m + 1) 0 = sym (first_slot h (m + 1) 0 ∙ ap (λ x. x % (m + 1)) (let e : h + 8 * 0 * (0 + 1) ≡ h = omega arith in e) ∙ mod-eq_of_lt {n = h} {m = m + 1} l) in
@@ -75,9 +75,7 @@ at_home g h m slots divides l =
 module _ (g h m p i b c s : ℕ) (at : IsProbe g h m p i b c s) where
   -- a piece stays in its group
   pub room : p % 16 + g ≤ 16
-  room =
-      let sixteen : 16 % g ≡ 0 = subst (λ n. n % g ≡ 0) at.divides.1 (mul-mod_left at.divides.0 g) in
-      step_within g (p % 16) 16 (divisor_pos at.divides.0 g at.divides.1) (mod-mod_of_dvd g p (dvd_of_mod-eq-zero g sixteen) ∙ at.aligned) sixteen (omega arith)
+  room = step_within g (p % 16) 16 (divisor_pos g at.divides) (mod-mod_of_dvd g p (dvd_of_mod-eq-zero g at.divides) ∙ at.aligned) at.divides (omega arith)
 
   -- and so is the first of its group
   pub base_low : b < m + 1

@@ -1,5 +1,5 @@
 //! The sequence in which the slots of a table are looked at, a group at a time.
-ghost use Rattle.std.specs.Prelude.{◌≡◌, ℕ, ◌+◌, ◌*◌, ◌%◌, ◌<◌};
+ghost use Rattle.std.specs.Prelude.{◌≡◌, ◌+◌, ◌%◌, ◌<◌};
 ghost use Rattle.odht_base.specs.Load.{IsSlotCount};
 ghost use Rattle.odht_base.specs.Probe.{place_slot};
 
@@ -36,7 +36,7 @@ impl<const GROUP_SIZE: usize> ProbeSeq<GROUP_SIZE> {
     #[inline]
     pub fn new(h1: usize, mask: usize) -> Self
         requires slots { IsSlotCount (mask + 1) }
-        requires divides { (k : ℕ) × (k * GROUP_SIZE ≡ 16) }
+        requires divides { 16 % GROUP_SIZE ≡ 0 }
         ensures { result ≡ record { home = h1 % (mask + 1); mask = mask; place = 0 } }
     {
         let initial_index = h1 & mask;

@@ -101,7 +101,7 @@ impl Group for GroupQuery {
         Some(index)
     }
 
-    ghost divides = { (1, refl) };
+    ghost divides = { refl };
 }
 
 impl Iterator for GroupQuery {

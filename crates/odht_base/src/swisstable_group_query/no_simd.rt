@@ -116,7 +116,7 @@ impl Group for GroupQuery {
         Some(index)
     }
 
-    ghost divides = { (2, refl) };
+    ghost divides = { refl };
 }
 
 impl Iterator for GroupQuery {

@@ -16,7 +16,7 @@ pub new-probe-requires : goal.new-probe-requires
 new-probe-requires g c =
     let pos = c.slots-slots.ensures.count.least in
     let same : c.slots-slots.result ≡ c.slots-slots.result - 1 + 1 = omega arith in
-    (omega arith, (subst IsSlotCount same c.slots-slots.ensures.count, (1, refl)))
+    (omega arith, (subst IsSlotCount same c.slots-slots.ensures.count, refl))
 
 pub loop-group-init : goal.loop-group-init
 loop-group-init g c =
