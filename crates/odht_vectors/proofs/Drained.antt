@@ -1,5 +1,5 @@
 -- What calls of `next` give where an iterator is seen as the list of what is left.
-use Rattle.std.proofs.Common.{◌≡◌, ◌∙◌, List, [], ◌∷◌, ◌++◌, Option, None, Result, Ok, Err, IfOk, refl, sym, ap, append-nil}
+use Rattle.std.proofs.Common.{◌≡◌, ◌∙◌, List, [], ◌∷◌, ◌++◌, Result, Ok, Err, IfOk, sym, ap, append-nil}
 use Rattle.std.specs.Iterator.{YieldsFirst, Yields, DrainsIf}
 
 -- the calls so far gave the front of the list

@@ -1,7 +1,6 @@
 //! The searches of a group of control bytes.
 use odht::swisstable_group_query::{Group, lanes, no_simd};
-use std::alloc::AllocError;
-use std::alloc::Global;
+use std::alloc::{AllocError, Global};
 use std::process::Abort;
 
 // A search of a group for a tag reports these indices, rising, and this first free one, before and after.

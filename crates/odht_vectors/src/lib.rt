@@ -14,6 +14,10 @@ mod errors;
 #[cfg(test)]
 mod foreign_bytes;
 #[cfg(test)]
+mod group_searches;
+#[cfg(test)]
+mod groups;
+#[cfg(test)]
 mod hashes;
 #[cfg(test)]
 mod known_tables;
@@ -29,6 +33,8 @@ mod opened_tables;
 mod owned_tables;
 #[cfg(test)]
 mod plain_tables;
+#[cfg(test)]
+mod probe_sequences;
 #[cfg(test)]
 mod random;
 #[cfg(test)]

@@ -2,6 +2,7 @@
 ghost use Rattle.std.specs.Prelude.{◌≤◌};
 ghost use Rattle.std.proofs.Common.{lit≤, zero-le};
 
+use crate::group_searches::check_three_builds;
 use crate::random::Random;
 use odht::bytes::ByteArray;
 use odht::error::Error;
@@ -287,7 +288,7 @@ fn check_from_iterator_vs_manual_insertion<K: Short, V: Short>(
     Ok(())
 }
 
-// The five properties for keys and values of these lengths, each for 32 lists.
+// The six properties for keys and values of these lengths, each for 32 lists.
 fn check_all<K: Short, V: Short>(rt: &impl Abort, alloc: Global) -> Result<(), Error> {
     for seed in 0..32 {
         let list: Vec<(K, V)> = random_list(rt, alloc, seed)?;
@@ -297,6 +298,7 @@ fn check_all<K: Short, V: Short>(rt: &impl Abort, alloc: Global) -> Result<(), E
         check_bytes_deterministic(rt, alloc, distinct.as_slice())?;
         check_insert_with_duplicates(rt, alloc, list.as_slice())?;
         check_from_iterator_vs_manual_insertion(rt, alloc, list.as_slice())?;
+        check_three_builds::<Plain<K, V>>(rt, alloc, list.as_slice())?;
     }
     Ok(())
 }

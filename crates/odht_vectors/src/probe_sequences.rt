@@ -4,8 +4,7 @@ ghost use Rattle.odht_base.specs.Load.{IsSlotCount};
 
 use odht::load::{Factor, slots_needed};
 use odht::raw_table::ProbeSeq;
-use std::alloc::AllocError;
-use std::alloc::Global;
+use std::alloc::{AllocError, Global};
 use std::process::Abort;
 
 // The slots at which a probe sequence stands, up to its last place.
@@ -44,7 +43,10 @@ fn places_of_half_groups_and_groups(rt: HostRuntime) -> Result<(), AllocError> {
     let slots = slots_for(&rt, 63);
     assert_eq!(rt; slots, 64);
     let halves = probed::<8>(rt.alloc(), 0, slots)?;
-    assert_eq!(rt; halves.as_slice(), [0, 8, 16, 24, 48, 56, 32, 40].as_slice());
+    assert_eq!(rt;
+        halves.as_slice(),
+        [0, 8, 16, 24, 48, 56, 32, 40].as_slice()
+    );
     let groups = probed::<16>(rt.alloc(), 5, slots)?;
     assert_eq!(rt; groups.as_slice(), [5, 21, 53, 37].as_slice());
     Ok(())
