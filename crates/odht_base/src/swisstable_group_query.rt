@@ -18,7 +18,7 @@ pub const REFERENCE_GROUP_SIZE: usize = 16;
 /// A search of [`SIZE`](Group::SIZE) control bytes for a tag.
 ///
 /// Its matches are indices of the group. Each byte that is the tag is among them, no byte of 128 or more is; others may be,
-/// so that a key has to be compared. docs/FORMAT.md, "Groups", tells what a group is.
+/// so that a key has to be compared. docs/FORMAT.md, "Search", tells how it is used.
 pub trait Group: Sized + Drop {
     ghost SIZE: { ℕ };
 
