@@ -1,12 +1,13 @@
 //! The table over bytes of any kind.
-ghost use Rattle.std.specs.Prelude.{◌≡◌, ℕ, ◌≤◌, ◌↔◌, length, take, option_map, IfOk, IfSome, IsOk, IsSome, IsNone, IsTrue, OnErr};
+ghost use Rattle.std.specs.Prelude.{◌≡◌, ℕ, ◌/◌, ◌≤◌, ◌↔◌, length, take, option_map, IfOk, IfSome, IsOk, IsSome, IsNone, IsTrue, OnErr};
 ghost use Rattle.std.specs.Result.{result_err};
 ghost use Rattle.odht_base.specs.Load.{factor_of, max_items, slots_for};
 ghost use Rattle.odht_base.specs.Image.{image_len};
 ghost use Rattle.odht_base.specs.Table.{Table, walk, count, slot_count, fresh};
 ghost use Rattle.odht_base.specs.Map.{map_of};
 ghost use Rattle.odht_base.specs.Insert.{put_view};
-ghost use Rattle.odht_base.specs.Shown.{stated_count, seen, HoldsKey};
+ghost use Rattle.odht_base.specs.Search.{groups_read};
+ghost use Rattle.odht_base.specs.Shown.{stated_count, stated_slots, seen, HoldsKey};
 ghost use Rattle.odht_base.specs.Valid.{IsImage};
 ghost use Rattle.odht.specs.Coding.{value_for, encoded, HasStored};
 ghost use Rattle.odht.specs.Lists.{encoded_all, IsFilled};
@@ -96,6 +97,29 @@ impl<C: Config, D: ByteStore> HashTable<C, D> {
         match table.find(&key) {
             Some(value) => Some(C::decode_value(&value)),
             None => None,
+        }
+    }
+
+    /// `get`, and how many groups of control bytes were looked at: on valid bytes those up to the first slot of the key's
+    /// probe order that is free or holds the key, and on any bytes no more than there are.
+    pub fn get_counted(&self, key: &C::Key) -> (Option<C::Value>, usize)
+        ensures on_valid { (P : Table)
+            → IsImage ⟦<C as Coded>⟧.coding.format P self.now
+            → result.0 ≡ value_for ⟦<C as Coded>⟧.coding P key.now }
+        ensures groups { (P : Table)
+            → IsImage ⟦<C as Coded>⟧.coding.format P self.now
+            → result.1 ≡ groups_read ⟦<C as Coded>⟧.coding.format P.cells (⟦<C as Coded>⟧.coding.key_bytes key.now) }
+        ensures on_any { IfSome result.0 (λ v. HasStored ⟦<C as Coded>⟧.coding self.now key.now v) }
+        ensures few { result.1 ≤ stated_slots self.now / 16 }
+    {
+        let (control, entries) = self.allocation.data_slices();
+        let table: RawTable<'_, C::EncodedKey, C::EncodedValue, C::H> = RawTable::new(
+            control, entries,
+        );
+        let key = C::encode_key(key);
+        match table.find_counted(&key) {
+            (Some(value), groups) => (Some(C::decode_value(&value)), groups),
+            (None, groups) => (None, groups),
         }
     }
 

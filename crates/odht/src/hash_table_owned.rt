@@ -3,6 +3,7 @@ ghost use Rattle.std.specs.Prelude.{◌≡◌, ℕ, List, ◌≤◌, ◌↔◌, 
 ghost use Rattle.odht_base.specs.Load.{factor_of, max_items, slots_for};
 ghost use Rattle.odht_base.specs.Table.{Table, walk, count, slot_count, empty, fresh};
 ghost use Rattle.odht_base.specs.Map.{map_of};
+ghost use Rattle.odht_base.specs.Search.{groups_read};
 ghost use Rattle.odht_base.specs.Insert.{grown, put_owned};
 ghost use Rattle.odht_base.specs.Valid.{IsImage, IsValidBytes};
 ghost use Rattle.odht.specs.Coding.{value_for, encoded};
@@ -101,7 +102,7 @@ impl<C: Config> HashTableOwned<C> {
 
     /// The value of a key: that of its last insert.
     ///
-    /// At most each slot is looked at once.
+    /// At most each group of control bytes is looked at once.
     pub fn get(&self, key: &C::Key) -> Option<C::Value>
         ensures { (P : Table)
             → IsImage ⟦<C as Coded>⟧.coding.format P self.now
@@ -110,9 +111,22 @@ impl<C: Config> HashTableOwned<C> {
         self.table.get(key)
     }
 
+    /// `get`, and how many groups of control bytes were looked at: those up to the first slot of the key's probe order that
+    /// is free or holds the key.
+    pub fn get_counted(&self, key: &C::Key) -> (Option<C::Value>, usize)
+        ensures value { (P : Table)
+            → IsImage ⟦<C as Coded>⟧.coding.format P self.now
+            → result.0 ≡ value_for ⟦<C as Coded>⟧.coding P key.now }
+        ensures groups { (P : Table)
+            → IsImage ⟦<C as Coded>⟧.coding.format P self.now
+            → result.1 ≡ groups_read ⟦<C as Coded>⟧.coding.format P.cells (⟦<C as Coded>⟧.coding.key_bytes key.now) }
+    {
+        self.table.get_counted(key)
+    }
+
     /// Whether the key has a value.
     ///
-    /// At most each slot is looked at once.
+    /// At most each group of control bytes is looked at once.
     pub fn contains_key(&self, key: &C::Key) -> bool
         ensures { (P : Table)
             → IsImage ⟦<C as Coded>⟧.coding.format P self.now

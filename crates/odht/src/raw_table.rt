@@ -4,6 +4,7 @@ ghost use Rattle.odht_base.specs.Format.{format_of};
 ghost use Rattle.odht_base.specs.Load.{IsSlotCount};
 ghost use Rattle.odht_base.specs.Table.{Table};
 ghost use Rattle.odht_base.specs.Map.{map_of};
+ghost use Rattle.odht_base.specs.Search.{groups_read};
 ghost use Rattle.odht_base.specs.Valid.{IsPartsOf};
 ghost use Rattle.odht_base.specs.Shown.{slot_key, slot_value, counts_as_free};
 ghost use Rattle.odht.specs.Parts.{entry_format};
@@ -27,10 +28,10 @@ mod walk;
 mod writes;
 
 pub use group_search::search;
-pub(crate) use group_search::search_parts;
+pub(crate) use group_search::{search_counted, search_parts};
 pub use outcome::Search;
 pub use plain::{plain_find, plain_insert};
-pub use probe_seq::ProbeSeq;
+pub use probe_seq::{ProbeSeq, probe_order};
 pub use scan::Scan;
 pub use table_mut::RawTableMut;
 pub use walk::RawIter;
@@ -192,12 +193,37 @@ impl<'a, K: ByteArray, V: ByteArray, H: HashFn> RawTable<'a, K, V, H> {
             in let es = self.now.entries.bytes
             in IfSome result (λ v. (i : ℕ) × (i < self.now.entries.slots) × (slot_key F es i ≡ K.bytes key.now) × (v ≡ V.of_bytes (slot_value F es i))) }
     {
+        let (value, _) = self.find_counted(key);
+        value
+    }
+
+    /// `find`, and how many groups were looked at: on the parts of a table whose keys are all reached those up to the first
+    /// slot free or holding the key, and on any parts no more than there are.
+    #[inline]
+    pub fn find_counted(&self, key: &K) -> (Option<V>, usize)
+        ensures on_placed { (P : Table)
+            → IsPartsOf (format_of K.LEN V.LEN H.hash) P self.now.entries.bytes self.now.control
+            → result.0 ≡ option_map V.of_bytes (map_of P (K.bytes key.now)) }
+        ensures groups { (P : Table)
+            → IsPartsOf (format_of K.LEN V.LEN H.hash) P self.now.entries.bytes self.now.control
+            → result.1 ≡ groups_read (format_of K.LEN V.LEN H.hash) P.cells (K.bytes key.now) }
+        ensures on_any { let F = format_of K.LEN V.LEN H.hash
+            in let es = self.now.entries.bytes
+            in IfSome result.0 (λ v. (i : ℕ) × (i < self.now.entries.slots) × (slot_key F es i ≡ K.bytes key.now) × (v ≡ V.of_bytes (slot_value F es i))) }
+        ensures few { result.1 ≤ self.now.entries.slots / 16 }
+    {
         let control = self.control;
         let hash = H::hash(key.as_slice());
-        match search_parts::<K, V, H, GroupQuery>(control, &self.entries, key, hash) {
-            Search::Found(slot) => Some(self.entries.get(slot).value),
-            Search::Free(_) => None,
-            Search::Neither => None,
+        let (end, groups) = search_counted::<K, V, H, GroupQuery>(
+            control,
+            &self.entries,
+            key,
+            hash,
+        );
+        match end {
+            Search::Found(slot) => (Some(self.entries.get(slot).value), groups),
+            Search::Free(_) => (None, groups),
+            Search::Neither => (None, groups),
         }
     }
 

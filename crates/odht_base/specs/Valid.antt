@@ -5,6 +5,7 @@
 --     IsReached F P k i    slot i stands in the probe order of k, and each earlier place of the order is filled
 --     IsPlaced F P         the slot count is a power of two from 16 to 2 ^ 63, each pair is one of F and stands in a slot
 --                          that is reached for its key, and no key stands twice
+--     IsFullWithout P k    each slot of P is filled, and none with the key k
 --     IsValid F P          P is placed, its load factor is from 655 to 65535, and it holds at most max_items pairs
 --     IsImage F P B        B is the image of P, which is valid
 --     IsValidBytes F B     B is the image of some valid table
@@ -15,7 +16,7 @@ use Rattle.odht_base.specs.Image.{entries, controls, image}
 use Rattle.odht_base.specs.Load.{max_items, IsSlotCount}
 use Rattle.odht_base.specs.Numbers.{IsBytes}
 use Rattle.odht_base.specs.Probe.{place_slot}
-use Rattle.odht_base.specs.Table.{cell_at, Pair, Cells, Table, slot_count, count, is_free}
+use Rattle.odht_base.specs.Table.{cell_at, Pair, Cells, Table, slot_count, count, is_free, has_key}
 
 pub record IsPairOf (F : Format) (p : Pair) : Type 0 where
   pub key : IsBytes F.key_len p.key
@@ -38,6 +39,9 @@ pub record IsPlaced (F : Format) (P : Table) : Type 0 where
   pub pairs : HasPairsOf F P.cells
   pub distinct : (i j : ℕ) (p q : Pair) → HoldsPair P i p → HoldsPair P j q → p.key ≡ q.key → i ≡ j
   pub reached : (i : ℕ) (p : Pair) → HoldsPair P i p → IsReached F P p.key i
+
+abbrev pub IsFullWithout : Table → List ℕ → Type 0
+IsFullWithout P k = (i : ℕ) → i < slot_count P → IsFalse (is_free P.cells i) × IsFalse (has_key k (cell_at P.cells i))
 
 pub record IsValid (F : Format) (P : Table) : Type 0 where
   pub placed : IsPlaced F P

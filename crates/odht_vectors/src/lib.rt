@@ -14,6 +14,10 @@ mod errors;
 #[cfg(test)]
 mod foreign_bytes;
 #[cfg(test)]
+mod full_tables;
+#[cfg(test)]
+mod group_counts;
+#[cfg(test)]
 mod group_searches;
 #[cfg(test)]
 mod groups;

@@ -29,8 +29,8 @@ fn probed<const SIZE: usize>(
     Ok(stands)
 }
 
-// The least slot count that holds these items at 100 percent.
-fn slots_for(rt: &impl Abort, items: usize) -> usize
+/// The least slot count that holds these items at 100 percent.
+pub fn slots_for(rt: &impl Abort, items: usize) -> usize
     ensures { IsSlotCount result }
 {
     let factor = Factor::from_percent(100);

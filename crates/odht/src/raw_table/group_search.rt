@@ -91,6 +91,37 @@ pub(crate) fn search_hashed<K: ByteArray, V: ByteArray, H: HashFn, Q: Group>(
     Search::Neither
 }
 
+/// `search` of a key whose hash is known, in these parts, and how many groups it was shown.
+#[inline]
+pub(crate) fn search_counted<K: ByteArray, V: ByteArray, H: HashFn, Q: Group>(
+    control: &[EntryMetadata],
+    entries: &Entries<'_, K, V>,
+    key: &K,
+    hash: u32,
+) -> (Search, usize)
+    requires slots { IsSlotCount entries.now.slots }
+    requires control { length control.now ≡ entries.now.slots + 16 }
+    requires hash { hash ≡ H.hash (K.bytes key.now) }
+    requires hashes { H.MIN_LEN ≤ K.LEN }
+    requires key { K.LEN ≤ 255 }
+    requires value { V.LEN ≤ 255 }
+    ensures on_placed { (P : Table)
+        → IsPartsOf (format_of K.LEN V.LEN H.hash) P entries.now.bytes control.now
+        → result.0 ≡ answer (format_of K.LEN V.LEN H.hash) P.cells (K.bytes key.now) }
+    ensures groups { (P : Table)
+        → IsPartsOf (format_of K.LEN V.LEN H.hash) P entries.now.bytes control.now
+        → result.1 ≡ groups_read (format_of K.LEN V.LEN H.hash) P.cells (K.bytes key.now) }
+    ensures slot { MatchSearch result.0
+        (λ i. (i < entries.now.slots) × (slot_key (format_of K.LEN V.LEN H.hash) entries.now.bytes i ≡ K.bytes key.now))
+        (λ i. (i < entries.now.slots) × CountsAsFree control.now i)
+        ⊤ }
+    ensures few { result.1 ≤ entries.now.slots / 16 }
+{
+    let mut scan = Scan::new(control, entries.len());
+    let end = search_hashed::<K, V, H, Q>(&mut scan, entries, key, hash);
+    (end, scan.groups())
+}
+
 /// `search` of a key whose hash is known, in these parts.
 #[inline]
 pub(crate) fn search_parts<K: ByteArray, V: ByteArray, H: HashFn, Q: Group>(
@@ -113,8 +144,8 @@ pub(crate) fn search_parts<K: ByteArray, V: ByteArray, H: HashFn, Q: Group>(
         (λ i. (i < entries.now.slots) × CountsAsFree control.now i)
         ⊤ }
 {
-    let mut scan = Scan::new(control, entries.len());
-    search_hashed::<K, V, H, Q>(&mut scan, entries, key, hash)
+    let (end, _) = search_counted::<K, V, H, Q>(control, entries, key, hash);
+    end
 }
 
 // Looks at the sixteen slots from `start` on, whose control bytes are these, in pieces of the group search's size.

@@ -1,9 +1,12 @@
 //! The sequence in which the slots of a table are looked at, a group at a time.
-ghost use Rattle.std.specs.Prelude.{◌≡◌, ◌+◌, ◌%◌, ◌<◌};
+ghost use Rattle.std.specs.Prelude.{◌≡◌, ◌+◌, ◌%◌, ◌<◌, IfOk, OnErr, IsPermutation};
+ghost use Rattle.std.specs.List.{range_with_len};
 ghost use Rattle.odht_base.specs.Load.{IsSlotCount};
-ghost use Rattle.odht_base.specs.Probe.{place_slot};
+ghost use Rattle.odht_base.specs.Probe.{place_slot, order};
 
+use crate::error::Error;
 use crate::swisstable_group_query::REFERENCE_GROUP_SIZE;
+use std::alloc::Global;
 use std::marker::Model;
 
 /// A place of the probe order of a table, from which the next `GROUP_SIZE` slots are looked at.
@@ -76,4 +79,26 @@ impl<const GROUP_SIZE: usize> ProbeSeq<GROUP_SIZE> {
     {
         self.index
     }
+}
+
+/// The slots of a table in the probe order of a home slot: each exactly once.
+///
+/// `Memory` where the list was refused its memory, and no other refusal. One pass over the slots.
+pub fn probe_order(alloc: Global, start: usize, slots: usize) -> Result<Vec<usize>, Error>
+    requires slots { IsSlotCount slots }
+    requires start { start < slots }
+    ensures order { IfOk result (λ list. list.items ≡ order start slots) }
+    ensures once { IfOk result (λ list. IsPermutation list.items (range_with_len 0 slots)) }
+    ensures memory { OnErr result (result ≡ Err Error.Memory) }
+{
+    let mut list = Vec::with_capacity(alloc, slots)?;
+    let mask = slots - 1;
+    let mut probe = ProbeSeq::<1>::new(start, mask);
+    for place in 0..slots {
+        list.push_reserved(probe.index());
+        if place + 1 < slots {
+            probe.advance(mask);
+        }
+    }
+    Ok(list)
 }

@@ -5,7 +5,7 @@ ghost use Rattle.odht_base.specs.Format.{format_of};
 ghost use Rattle.odht_base.specs.Table.{Pair, Table};
 ghost use Rattle.odht_base.specs.Map.{map_of};
 ghost use Rattle.odht_base.specs.Insert.{place};
-ghost use Rattle.odht_base.specs.Valid.{IsPartsOf};
+ghost use Rattle.odht_base.specs.Valid.{IsPartsOf, IsFullWithout};
 ghost use Rattle.odht.specs.Frame.{IsPartsFramed};
 
 use super::writes::insert_at;
@@ -59,9 +59,9 @@ impl<'c, 'e, K: ByteArray, V: ByteArray, H: HashFn> RawTableMut<'c, 'e, K, V, H>
     /// `plain_insert` does. Answers the former value.
     ///
     /// On the parts of a table whose keys are all reached it leaves those of the table with the pair placed, and answers
-    /// `Full`, with nothing changed, exactly where there is no place. On any parts one value beside an equal key changes,
-    /// or one entry is written with its tag into a slot that counted as free, and nothing else. At most each group is
-    /// looked at once.
+    /// `Full`, with nothing changed, exactly where there is no place: where each slot is filled, and none with the key. On
+    /// any parts one value beside an equal key changes, or one entry is written with its tag into a slot that counted as
+    /// free, and nothing else. At most each group is looked at once.
     pub fn insert(&mut self, key: K, value: V) -> Result<Option<V>, Error>
         ensures ok { let F = format_of K.LEN V.LEN H.hash
             in (P : Table)
@@ -71,6 +71,9 @@ impl<'c, 'e, K: ByteArray, V: ByteArray, H: HashFn> RawTableMut<'c, 'e, K, V, H>
             in (P : Table)
             → IsPartsOf F P (mut_entries self.old) (mut_control self.old)
             → (result ≡ Err Error.Full) ↔ (place F P (record { key = K.bytes key; value = V.bytes value }) ≡ None) }
+        ensures no_room { (P : Table)
+            → IsPartsOf (format_of K.LEN V.LEN H.hash) P (mut_entries self.old) (mut_control self.old)
+            → (result ≡ Err Error.Full) ↔ IsFullWithout P (K.bytes key) }
         ensures frame { IsPartsFramed (format_of K.LEN V.LEN H.hash) V.of_bytes (mut_entries self.old) (mut_control self.old) (record { key = K.bytes key; value = V.bytes value }) result (mut_entries self.new) (mut_control self.new) }
         ensures only_full { OnErr result (result ≡ Err Error.Full) }
         ensures refused_control { OnErr result (mut_control self.new ≡ mut_control self.old) }
@@ -103,6 +106,9 @@ fn insert_parts<K: ByteArray, V: ByteArray, H: HashFn>(
         in (P : Table)
         → IsPartsOf F P entries.old control.old
         → (result ≡ Err Error.Full) ↔ (place F P (record { key = K.bytes key; value = V.bytes value }) ≡ None) }
+    ensures no_room { (P : Table)
+        → IsPartsOf (format_of K.LEN V.LEN H.hash) P entries.old control.old
+        → (result ≡ Err Error.Full) ↔ IsFullWithout P (K.bytes key) }
     ensures frame { IsPartsFramed (format_of K.LEN V.LEN H.hash) V.of_bytes entries.old control.old (record { key = K.bytes key; value = V.bytes value }) result entries.new control.new }
     ensures only_full { OnErr result (result ≡ Err Error.Full) }
     ensures refused_control { OnErr result (control.new ≡ control.old) }

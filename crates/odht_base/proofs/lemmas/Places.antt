@@ -10,7 +10,7 @@ use Rattle.odht_base.specs.Map.{map_of}
 use Rattle.odht_base.specs.Probe.{place_slot}
 use Rattle.odht_base.specs.Search.{search_end}
 use Rattle.odht_base.specs.Table.{Pair, Table, slot_count, cell_at, is_free, has_key, walk, count}
-use Rattle.odht_base.specs.Valid.{IsPairOf, HoldsPair, IsReached, IsPlaced}
+use Rattle.odht_base.specs.Valid.{IsPairOf, HoldsPair, IsReached, IsPlaced, IsFullWithout}
 use Rattle.odht_base.proofs.lemmas.Counts.{count_set}
 use Rattle.odht_base.proofs.lemmas.Fits.{HasPairsOf-set}
 use Rattle.odht_base.proofs.lemmas.Keys.{pair_key}
@@ -21,10 +21,6 @@ use Rattle.odht_base.proofs.lemmas.Targets.{IsTarget, has_key-holds, search_end-
 -- the table with the pair p in slot i
 abbrev pub written : Table → ℕ → Pair → Table
 written P i p = record P { cells = set P.cells i (Some p) }
-
--- every slot is filled, and none has the key
-abbrev pub IsFullWithout : Table → List ℕ → Type 0
-IsFullWithout P k = (i : ℕ) → i < slot_count P → IsFalse (is_free P.cells i) × IsFalse (has_key k (cell_at P.cells i))
 
 module _ (F : Format) (P : Table) (p : Pair) (ok : IsPlaced F P) where
   -- a pair goes where the search for its key ends, if it does
