@@ -97,11 +97,11 @@ fn groups_of_one_home(rt: HostRuntime) -> Result<(), Error> {
 }
 
 // The header of a table from u32 to u32 at 87 percent.
-fn write_header(bytes: &mut [u8; 624], items: u8, slots: u8) {
-    bytes[..32].copy_from_slice(&[
+fn header(items: u8, slots: u8) -> [u8; 32] {
+    [
         79, 68, 72, 84, 1, 4, 4, 32, items, 0, 0, 0, 0, 0, 0, 0, slots, 0, 0, 0, 0, 0, 0, 0, 0, 0,
         0, 2, 0xb7, 0xde, 0, 0,
-    ]);
+    ]
 }
 
 // 64 slots: key 1 in slot 0, key 0 in slot 1, and each key from 2 to 32 and from 49 to 63 in its home, with 100 more as its
@@ -109,7 +109,7 @@ fn write_header(bytes: &mut [u8; 624], items: u8, slots: u8) {
 // only where slot 0 is.
 fn unmade() -> [u8; 624] {
     let mut bytes = [0; 624];
-    write_header(&mut bytes, 48, 64);
+    bytes[..32].copy_from_slice(&header(48, 64));
     for slot in 0..64_u8 {
         let key = if slot < 2 { 1 - slot } else { slot };
         let at = slot as usize;
@@ -142,9 +142,9 @@ fn a_table_that_no_inserts_make(rt: HostRuntime) -> Result<(), Error> {
 }
 
 // 16 slots, slot i with the key i and the value i, and a control byte of 0 for each; 13 items are stated.
-fn without_free_control_bytes() -> [u8; 624] {
-    let mut bytes = [0; 624];
-    write_header(&mut bytes, 13, 16);
+fn without_free_control_bytes() -> [u8; 192] {
+    let mut bytes = [0; 192];
+    bytes[..32].copy_from_slice(&header(13, 16));
     for slot in 0..16_u8 {
         bytes[32 + 8 * slot as usize] = slot;
         bytes[36 + 8 * slot as usize] = slot;
@@ -155,8 +155,9 @@ fn without_free_control_bytes() -> [u8; 624] {
 #[test]
 fn control_bytes_that_are_all_zero(rt: HostRuntime) -> Result<(), Error> {
     let bytes = without_free_control_bytes();
-    let data = Borrowed::new(&bytes[..192]);
-    let table: HashTable<DirectU32ToU32, Borrowed<'_>> = HashTable::from_raw_bytes(data)?;
+    let table: HashTable<DirectU32ToU32, Borrowed<'_>> = HashTable::from_raw_bytes(Borrowed::new(
+        &bytes,
+    ))?;
     check_view(&rt, &table, 99, (None, 1));
     check_view(&rt, &table, 7, (Some(7), 1));
     Ok(())
