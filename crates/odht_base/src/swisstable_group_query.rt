@@ -10,7 +10,7 @@ pub mod lanes;
 mod mask;
 pub mod no_simd;
 
-pub use no_simd::{GROUP_SIZE, GroupQuery};
+pub use lanes::{GROUP_SIZE, GroupQuery};
 
 /// How many control bytes count as one group in the probe order, however many are looked at at once.
 pub const REFERENCE_GROUP_SIZE: usize = 16;

@@ -1,6 +1,7 @@
 //! Byte arrays: equality at each bit, and each function through its bound.
 ghost use Rattle.std.specs.Prelude.{◌≡◌, length};
 
+use crate::checks::{same, same_at};
 use odht::bytes::ByteArray;
 use std::process::Abort;
 
@@ -11,8 +12,8 @@ fn differ_in_each_bit<const LEN: usize>(rt: &impl Abort, base: [u8; LEN]) {
         for bit in [1, 2, 4, 8, 16, 32, 64, 128] {
             let mut other = base;
             other[i] = base[i] ^ bit;
-            assert!(rt; !base.equals(&other), "byte {i}, bit {bit}");
-            assert!(rt; !other.equals(&base), "byte {i}, bit {bit}");
+            let found = (bit, base.equals(&other), other.equals(&base));
+            same_at(rt, "byte", i, found, (bit, false, false));
         }
     }
 }
@@ -67,21 +68,14 @@ fn through_the_bound<A: ByteArray>(bytes: &[u8]) -> (bool, bool, bool)
 
 #[test]
 fn each_function_through_the_bound(rt: HostRuntime) {
-    assert_eq!(rt;
-        through_the_bound::<[u8; 4]>(&[1, 2, 3, 4]),
-        (true, false, true)
-    );
-    assert_eq!(rt;
-        through_the_bound::<[u8; 4]>(&[0, 0, 0, 1]),
-        (true, false, true)
-    );
-    assert_eq!(rt;
-        through_the_bound::<[u8; 4]>(&[0, 0, 0, 0]),
-        (true, true, true)
-    );
-    assert_eq!(rt; through_the_bound::<[u8; 0]>(&[]), (true, true, true));
-    assert_eq!(rt;
-        through_the_bound::<[u8; 8]>(&[0, 0, 0, 0, 0, 0, 0, 9]),
-        (true, false, true)
-    );
+    let found = through_the_bound::<[u8; 4]>(&[1, 2, 3, 4]);
+    same(&rt, "1 to 4", found, (true, false, true));
+    let found = through_the_bound::<[u8; 4]>(&[0, 0, 0, 1]);
+    same(&rt, "the last of four", found, (true, false, true));
+    let found = through_the_bound::<[u8; 4]>(&[0, 0, 0, 0]);
+    same(&rt, "four zeros", found, (true, true, true));
+    let found = through_the_bound::<[u8; 0]>(&[]);
+    same(&rt, "no bytes", found, (true, true, true));
+    let found = through_the_bound::<[u8; 8]>(&[0, 0, 0, 0, 0, 0, 0, 9]);
+    same(&rt, "the last of eight", found, (true, false, true));
 }

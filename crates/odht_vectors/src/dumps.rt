@@ -1,8 +1,8 @@
 //! Dumps: the text of a table, slot by slot.
+use crate::checks::{same, same_answer};
 use crate::configs::{U8ToNothing, U32ToU32};
-use crate::known_tables::three_pairs;
+use crate::known_tables::{sixteen_slots, three_pairs};
 use odht::error::Error;
-use odht::load::{Factor, slots_needed};
 use odht::raw_table::{Entries, RawTable, RawTableMut};
 use odht::{FxHashFn, HashTableOwned};
 use std::process::Abort;
@@ -10,7 +10,7 @@ use std::process::Abort;
 #[test]
 fn one_pair(rt: HostRuntime) -> Result<(), Error> {
     let mut table: HashTableOwned<U32ToU32> = HashTableOwned::default(rt.alloc())?;
-    assert_eq!(rt; table.insert(&1, &2), Ok(None));
+    same_answer(&rt, 1, table.insert(&1, &2), Ok(None));
     let expected = "(item_count=1, max_item_count=13, max_load_factor=86%)
 RawTable (slot_count=16, hash_fn=FxHashFn) {
 slot 0: empty
@@ -33,7 +33,7 @@ slot 15: empty
 
 ";
     let text = format!(in rt.alloc(); "{table:?}")?;
-    assert_eq!(rt; text.as_str(), expected);
+    same(&rt, "the text", text.as_str(), expected);
     Ok(())
 }
 
@@ -41,12 +41,15 @@ slot 15: empty
 fn the_default_table(rt: HostRuntime) -> Result<(), Error> {
     let table: HashTableOwned<U8ToNothing> = HashTableOwned::default(rt.alloc())?;
     let text = format!(in rt.alloc(); "{table:?}")?;
-    assert_eq!(rt;
+    let expected = "(item_count=0, max_item_count=13, max_load_factor=86%)";
+    same(
+        &rt,
+        "the first line",
         text.as_str().lines().next(),
-        Some("(item_count=0, max_item_count=13, max_load_factor=86%)")
+        Some(expected),
     );
     // the numbers, the head, sixteen slots, the end and the empty line
-    assert_eq!(rt; text.as_str().lines().count(), 20);
+    same(&rt, "lines", text.as_str().lines().count(), 20);
     Ok(())
 }
 
@@ -56,9 +59,7 @@ fn raw_tables(rt: HostRuntime) -> Result<(), Error> {
     let (mut control, mut entries) = ([0; 32], [0; 192]);
     control.copy_from_slice(&bytes[224..]);
     entries.copy_from_slice(&bytes[32..224]);
-    let factor = Factor::from_percent(95);
-    assert!(rt; factor.0 >= 1);
-    let slots = slots_needed(3, factor).expect(&rt, "slots");
+    let slots = sixteen_slots(&rt, 3, 95);
     assert!(rt; slots == control.len() - 16);
     let expected = "RawTable (slot_count=16, hash_fn=FxHashFn) {
 slot 0: empty
@@ -84,10 +85,10 @@ slot 15: key=[3, 0, 0, 0, 0, 0, 0, 0], value=[4, 0, 0, 0], control_byte=58
         Entries::new(&entries, slots),
     );
     let text = format!(in rt.alloc(); "{table:?}")?;
-    assert_eq!(rt; text.as_str(), expected);
+    same(&rt, "the text of a table", text.as_str(), expected);
     let table = lent(&rt, &mut control, &mut entries);
     let text = format!(in rt.alloc(); "{table:?}")?;
-    assert_eq!(rt; text.as_str(), expected);
+    same(&rt, "the text of lent parts", text.as_str(), expected);
     Ok(())
 }
 
@@ -97,9 +98,7 @@ fn lent<'c, 'e>(
     control: &'c mut [u8; 32],
     entries: &'e mut [u8; 192],
 ) -> RawTableMut<'c, 'e, [u8; 8], [u8; 4], FxHashFn> {
-    let factor = Factor::from_percent(95);
-    assert!(rt; factor.0 >= 1);
-    let slots = slots_needed(3, factor).expect(rt, "slots");
+    let slots = sixteen_slots(rt, 3, 95);
     assert!(rt; slots == control.len() - 16);
     RawTableMut::new(control, entries)
 }

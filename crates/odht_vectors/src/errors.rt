@@ -1,4 +1,5 @@
 //! Errors: what a refused allocation becomes, and what is printed of each error.
+use crate::checks::same;
 use odht::error::{Error, Part};
 use std::alloc::{AllocError, Global};
 use std::process::Abort;
@@ -24,7 +25,7 @@ fn errors_are_compared_by_their_fields(rt: HostRuntime) {
         found: 4,
     };
     let copy = wrong;
-    assert_eq!(rt; copy, wrong);
+    same(&rt, "a copy", copy, wrong);
     assert_ne!(rt; wrong, Error::Full);
     assert_ne!(rt;
         Error::TooShort { found: 30 },
@@ -39,7 +40,7 @@ fn assert_printed(
     texts: &[(Error, &str)],
 ) -> Result<(), AllocError> {
     for (error, text) in texts {
-        assert_eq!(rt; error.to_string(alloc)?.as_str(), *text);
+        same(rt, "the text", error.to_string(alloc)?.as_str(), *text);
     }
     Ok(())
 }
@@ -53,7 +54,7 @@ fn parts_are_printed_by_their_names(rt: HostRuntime) -> Result<(), AllocError> {
         (Part::Header, "Header"),
     ];
     for (part, text) in texts {
-        assert_eq!(rt; part.to_string(rt.alloc())?.as_str(), text);
+        same(&rt, "the text", part.to_string(rt.alloc())?.as_str(), text);
     }
     Ok(())
 }

@@ -3,6 +3,7 @@
 //! The second reading follows docs/FORMAT.md, "What is refused", and shares no code with the library.
 ghost use Rattle.std.specs.Prelude.{◌<◌, ◌≤◌};
 
+use crate::checks::{same, same_at, same_len};
 use crate::configs::{DirectU32ToU32, SevenToThree, U8ToNothing, U32ToU32, U64ToU32};
 use crate::random::Random;
 use odht::bytes::{ByteArray, OwnedBytes};
@@ -350,10 +351,10 @@ fn use_view<C: Config>(rt: &impl Abort, table: &mut HashTable<C, OwnedBytes>, ra
         let value = random.value::<C>();
         let _found = table.get(&key);
         if let Err(refused) = table.insert(&key, &value) {
-            assert_eq!(rt; refused, Error::Full);
+            same(rt, "an insert", refused, Error::Full);
         }
     }
-    assert_eq!(rt; table.raw_bytes().len(), len);
+    same_len(rt, "bytes", table.raw_bytes().len(), len);
 }
 
 // Opens changed copies of valid bytes, counts the answers of each kind, and uses each view.
@@ -378,10 +379,10 @@ fn open_changed<C: Config>(
         );
         match opened {
             Ok(mut table) => {
-                assert_eq!(rt; None, expected, "case {case}");
+                same_at(rt, "case", case, None, expected);
                 use_view(rt, &mut table, random);
             }
-            Err(refused) => assert_eq!(rt; Some(refused), expected, "case {case}"),
+            Err(refused) => same_at(rt, "case", case, Some(refused), expected),
         }
     }
     Ok(())

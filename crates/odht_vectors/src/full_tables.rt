@@ -1,6 +1,7 @@
 //! Raw tables with many slots, up to the last free one.
 ghost use Rattle.odht_base.specs.Load.{IsSlotCount};
 
+use crate::checks::holds_at;
 use crate::probe_sequences::slots_for;
 use odht::FxHashFn;
 use odht::error::Error;
@@ -42,7 +43,7 @@ fn insert_each(
             None
         };
         let answer = table.insert(number.to_le_bytes(), value(number, is_second));
-        assert!(rt; answer == Ok(former), "number {number}");
+        holds_at(rt, "insert of", number as usize, answer == Ok(former));
     }
 }
 
@@ -58,7 +59,8 @@ fn find_each(rt: &impl Abort, control: &[u8], entries: &[u8], slots: usize, is_s
     for number in 0..65536_u32 {
         let number = number as u16;
         let found = table.find(&number.to_le_bytes());
-        assert!(rt; found == Some(value(number, is_second)), "number {number}");
+        let is_so = found == Some(value(number, is_second));
+        holds_at(rt, "lookup of", number as usize, is_so);
     }
 }
 
@@ -117,7 +119,8 @@ fn insert_past_the_last(rt: &impl Abort, control: &mut [u8], entries: &mut [u8],
     );
     for number in 0..65536_u32 {
         let bytes = number.to_le_bytes();
-        assert!(rt; table.insert(bytes, bytes) == Ok(None), "number {number}");
+        let is_new = table.insert(bytes, bytes) == Ok(None);
+        holds_at(rt, "insert of", number as usize, is_new);
     }
     let bytes = 65536_u32.to_le_bytes();
     assert!(rt; table.insert(bytes, bytes) == Err(Error::Full));

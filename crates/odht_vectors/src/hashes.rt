@@ -1,6 +1,7 @@
 //! Hash values.
 ghost use Rattle.std.specs.Prelude.{◌≤◌, length};
 
+use crate::checks::same;
 use odht::{FxHashFn, HashFn, UnHashFn};
 
 #[test]
@@ -17,14 +18,16 @@ fn fx_values(rt: HostRuntime) {
         (&[5, 0, 0, 0, 0, 0, 0, 0], 0xc3aa34e9),
     ];
     for (bytes, expected) in rows {
-        assert_eq!(rt; FxHashFn::hash(bytes), expected, "{bytes:?}");
+        let found = (bytes, FxHashFn::hash(bytes));
+        same(&rt, "a hash", found, (bytes, expected));
     }
 }
 
 #[test]
 fn un_values(rt: HostRuntime) {
-    assert_eq!(rt; UnHashFn::hash(&[1, 2, 3, 4, 5]), 0x05040302);
-    assert_eq!(rt; UnHashFn::hash(&[1, 0, 0, 0]), 1);
+    let found = UnHashFn::hash(&[1, 2, 3, 4, 5]);
+    same(&rt, "the last four of five bytes", found, 0x05040302);
+    same(&rt, "four bytes", UnHashFn::hash(&[1, 0, 0, 0]), 1);
 }
 
 // The hash of some bytes, through the bound alone.
@@ -36,14 +39,15 @@ fn hash_of<H: HashFn>(bytes: &[u8]) -> u32
 
 #[test]
 fn through_the_bound(rt: HostRuntime) {
-    assert_eq!(rt; hash_of::<FxHashFn>(&[1]), 0x27220a95);
-    assert_eq!(rt; hash_of::<UnHashFn>(&[2, 0, 0, 1]), 0x01000002);
-    assert_eq!(rt;
-        (<FxHashFn as HashFn>::MIN_LEN, <UnHashFn as HashFn>::MIN_LEN),
-        (0, 4)
-    );
-    assert_eq!(rt; <FxHashFn as HashFn>::NAME, "FxHashFn");
-    assert_eq!(rt; <UnHashFn as HashFn>::NAME, "UnHashFn");
+    same(&rt, "FxHashFn", hash_of::<FxHashFn>(&[1]), 0x27220a95);
+    let found = hash_of::<UnHashFn>(&[2, 0, 0, 1]);
+    same(&rt, "UnHashFn", found, 0x01000002);
+    let found = (<FxHashFn as HashFn>::MIN_LEN, <UnHashFn as HashFn>::MIN_LEN);
+    same(&rt, "lengths", found, (0, 4));
+    let found = <FxHashFn as HashFn>::NAME;
+    same(&rt, "the name of FxHashFn", found, "FxHashFn");
+    let found = <UnHashFn as HashFn>::NAME;
+    same(&rt, "the name of UnHashFn", found, "UnHashFn");
     assert!(rt; FxHashFn == FxHashFn);
     assert!(rt; UnHashFn == UnHashFn);
 }

@@ -1,4 +1,22 @@
-//! Whole tables, byte for byte.
+//! Whole tables, byte for byte, and their slot count.
+ghost use Rattle.std.specs.Prelude.{◌≡◌, ◌≤◌};
+ghost use Rattle.odht_base.specs.Load.{IsSlotCount};
+
+use odht::load::{Factor, slots_needed};
+use std::process::Abort;
+
+/// The slots of a table for so many items at this load factor, which are sixteen.
+pub fn sixteen_slots(rt: &impl Abort, items: usize, percent: u8) -> usize
+    requires { percent ≤ 100 }
+    ensures count { IsSlotCount result }
+    ensures value { result ≡ 16 }
+{
+    let factor = Factor::from_percent(percent);
+    assert!(rt; factor.0 >= 1);
+    let slots = slots_needed(items, factor).expect(rt, "slots");
+    assert!(rt; slots == 16);
+    slots
+}
 
 /// The table of 16 free slots from u32 to u32 at 87 percent.
 pub fn fresh_16() -> [u8; 192] {

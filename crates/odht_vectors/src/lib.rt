@@ -6,6 +6,8 @@ mod byte_arrays;
 #[cfg(test)]
 mod byte_stores;
 #[cfg(test)]
+mod checks;
+#[cfg(test)]
 mod configs;
 #[cfg(test)]
 mod dumps;

@@ -2,6 +2,7 @@
 ghost use Rattle.std.specs.Prelude.{◌≤◌};
 ghost use Rattle.std.proofs.Common.{lit≤, zero-le};
 
+use crate::checks::{same, same_bytes, same_len};
 use crate::group_searches::check_three_builds;
 use crate::random::Random;
 use odht::bytes::ByteArray;
@@ -190,7 +191,7 @@ fn lists_that_look_random(rt: HostRuntime) -> Result<(), AllocError> {
         ([141, 16], [214, 50, 190, 137]),
         ([200, 81], [62, 191, 108, 146]),
     ];
-    assert_eq!(rt; list.as_slice(), expected.as_slice());
+    same(&rt, "the list", list.as_slice(), expected.as_slice());
     let list: Vec<([u8; 1], [u8; 0])> = random_list(&rt, rt.alloc(), 2)?;
     let distinct = distinct_pairs(rt.alloc(), list.as_slice())?;
     let expected = [
@@ -201,11 +202,12 @@ fn lists_that_look_random(rt: HostRuntime) -> Result<(), AllocError> {
         ([196], []),
         ([234], []),
     ];
-    assert_eq!(rt; distinct.as_slice(), expected.as_slice());
+    let found = distinct.as_slice();
+    same(&rt, "the distinct pairs", found, expected.as_slice());
     let list: Vec<([u8; 1], [u8; 1])> = random_list(&rt, rt.alloc(), 31)?;
-    assert_eq!(rt; list.len(), 93);
+    same_len(&rt, "length", list.len(), 93);
     let distinct = distinct_pairs(rt.alloc(), list.as_slice())?;
-    assert_eq!(rt; distinct.len(), 76);
+    same_len(&rt, "length", distinct.len(), 76);
     Ok(())
 }
 
@@ -225,8 +227,18 @@ fn check_len<K: Short, V: Short>(
     distinct: &[(K, V)],
 ) -> Result<(), Error> {
     let table = table_of(alloc, distinct)?;
-    assert_eq!(rt; table.len(), distinct.len());
+    same_len(rt, "items", table.len(), distinct.len());
     Ok(())
+}
+
+// Demands this value of a key.
+fn same_value_of<K: Short, V: Short>(
+    rt: &impl Abort,
+    key: K,
+    found: Option<V>,
+    expected: Option<V>,
+) {
+    assert_eq!(rt; found, expected, "key {key:?}");
 }
 
 // Each key of distinct pairs has its value.
@@ -237,7 +249,7 @@ fn check_lookup<K: Short, V: Short>(
 ) -> Result<(), Error> {
     let table = table_of(alloc, distinct)?;
     for (key, value) in distinct {
-        assert_eq!(rt; table.get(key), Some(*value), "key {key:?}");
+        same_value_of(rt, *key, table.get(key), Some(*value));
     }
     Ok(())
 }
@@ -250,7 +262,7 @@ fn check_bytes_deterministic<K: Short, V: Short>(
 ) -> Result<(), Error> {
     let table = table_of(alloc, distinct)?;
     let again = table_of(alloc, distinct)?;
-    assert_eq!(rt; table.raw_bytes(), again.raw_bytes());
+    same_bytes(rt, "bytes", table.raw_bytes(), again.raw_bytes());
     Ok(())
 }
 
@@ -264,7 +276,7 @@ fn check_insert_with_duplicates<K: Short, V: Short>(
     let mut reference = Reference::new(alloc);
     for (key, value) in list {
         let expected = reference.insert(key, value)?;
-        assert_eq!(rt; table.insert(key, value)?, expected, "key {key:?}");
+        same_value_of(rt, *key, table.insert(key, value)?, expected);
     }
     Ok(())
 }
@@ -284,7 +296,7 @@ fn check_from_iterator_vs_manual_insertion<K: Short, V: Short>(
         let _ = table.insert(key, value)?;
     }
     let at_once = table_of(alloc, list)?;
-    assert_eq!(rt; table.raw_bytes(), at_once.raw_bytes());
+    same_bytes(rt, "bytes", table.raw_bytes(), at_once.raw_bytes());
     Ok(())
 }
 

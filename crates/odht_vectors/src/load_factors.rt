@@ -1,4 +1,5 @@
 //! Load factors, slot counts and maxima.
+use crate::checks::{same, same_at};
 use odht::load::{Factor, max_item_count_for, slots_needed};
 use std::process::Abort;
 
@@ -20,9 +21,10 @@ fn factor_from_percent(rt: HostRuntime) {
         (0, 0),
     ];
     for (percent, expected) in rows {
-        assert_eq!(rt; factor(&rt, percent), Factor(expected), "{percent} percent");
+        let found = factor(&rt, percent);
+        same_at(&rt, "percent", percent, found, Factor(expected));
     }
-    assert_eq!(rt; Factor::BASE, 65535);
+    same(&rt, "the base", Factor::BASE, 65535);
 }
 
 #[test]
@@ -34,11 +36,8 @@ fn factor_as_bytes(rt: HostRuntime) {
         (1, [0x8f, 0x02]),
     ];
     for (percent, expected) in rows {
-        assert_eq!(rt;
-            factor(&rt, percent).0.to_le_bytes(),
-            expected,
-            "{percent} percent"
-        );
+        let found = factor(&rt, percent).0.to_le_bytes();
+        same_at(&rt, "percent", percent, found, expected);
     }
 }
 
@@ -46,11 +45,8 @@ fn factor_as_bytes(rt: HostRuntime) {
 #[test]
 fn factor_to_percent(rt: HostRuntime) {
     for (percent, expected) in [(100, 100), (87, 86), (6, 5), (0, 0)] {
-        assert_eq!(rt;
-            factor(&rt, percent).to_percent(),
-            expected,
-            "{percent} percent"
-        );
+        let found = factor(&rt, percent).to_percent();
+        same_at(&rt, "percent", percent, found, expected);
     }
 }
 
@@ -63,11 +59,8 @@ fn factor_apply(rt: HostRuntime) {
         (100, usize::MAX, 18446462598732840959),
     ];
     for (percent, slots, expected) in rows {
-        assert_eq!(rt;
-            factor(&rt, percent).apply(slots),
-            expected,
-            "{slots} at {percent} percent"
-        );
+        let found = (slots, factor(&rt, percent).apply(slots));
+        same_at(&rt, "percent", percent, found, (slots, expected));
     }
 }
 
@@ -82,11 +75,8 @@ fn factor_apply_inverse(rt: HostRuntime) {
     for (percent, items, expected) in rows {
         let f = factor(&rt, percent);
         assert!(rt; f.0 >= 1);
-        assert_eq!(rt;
-            f.apply_inverse(items),
-            expected,
-            "{items} at {percent} percent"
-        );
+        let found = (items, f.apply_inverse(items));
+        same_at(&rt, "percent", percent, found, (items, expected));
     }
 }
 
@@ -112,11 +102,8 @@ fn slots_for_items(rt: HostRuntime) {
     for (items, percent, expected) in rows {
         let f = factor(&rt, percent);
         assert!(rt; f.0 >= 1);
-        assert_eq!(rt;
-            slots_needed(items, f),
-            expected,
-            "{items} at {percent} percent"
-        );
+        let found = (items, slots_needed(items, f));
+        same_at(&rt, "percent", percent, found, (items, expected));
     }
 }
 
@@ -134,10 +121,7 @@ fn maximum_item_counts(rt: HostRuntime) {
         (32, 6, 1),
     ];
     for (slots, percent, expected) in rows {
-        assert_eq!(rt;
-            max_item_count_for(slots, factor(&rt, percent)),
-            expected,
-            "{slots} at {percent} percent"
-        );
+        let found = (slots, max_item_count_for(slots, factor(&rt, percent)));
+        same_at(&rt, "percent", percent, found, (slots, expected));
     }
 }

@@ -2,6 +2,7 @@
 //! themselves.
 ghost use Rattle.std.specs.Prelude.{◌≡◌};
 
+use crate::checks::{same, same_at};
 use crate::configs::{DirectU32ToU32, U32ToU32, U64ToU32};
 use odht::error::Error;
 use odht::{Lossless, laws};
@@ -21,13 +22,13 @@ fn brought_back<C: Lossless>(key: &C::Key, value: &C::Value) -> (C::Key, C::Valu
 fn keys_and_values_come_back(rt: HostRuntime) {
     for number in [0, 1, 255, 256, 0x01020304, 0x7fffffff, 0x80000000, u32::MAX] {
         let value = u32::MAX - number;
-        assert_eq!(rt; brought_back::<U32ToU32>(&number, &value), (number, value));
-        assert_eq!(rt;
-            brought_back::<DirectU32ToU32>(&number, &value),
-            (number, value)
-        );
+        let found = brought_back::<U32ToU32>(&number, &value);
+        same(&rt, "U32ToU32", found, (number, value));
+        let found = brought_back::<DirectU32ToU32>(&number, &value);
+        same(&rt, "DirectU32ToU32", found, (number, value));
         let key = u64::from(number) << 32 | u64::from(value);
-        assert_eq!(rt; brought_back::<U64ToU32>(&key, &value), (key, value));
+        let found = brought_back::<U64ToU32>(&key, &value);
+        same(&rt, "U64ToU32", found, (key, value));
     }
 }
 
@@ -37,12 +38,12 @@ fn tables_of_a_key_twice(rt: HostRuntime) -> Result<(), Error> {
     let wide_items = [(1, 10), (2, 20), (1, 30)];
     for (key, expected) in [(1, Some(30)), (2, Some(20)), (3, None)] {
         let value = laws::built_from_empty::<U32ToU32>(rt.alloc(), &items, 87, &key)?;
-        assert_eq!(rt; value, expected, "key {key}");
+        same_at(&rt, "key", key, value, expected);
         let value = laws::built_from_empty::<DirectU32ToU32>(rt.alloc(), &items, 87, &key)?;
-        assert_eq!(rt; value, expected, "key {key}, hashed as itself");
+        same_at(&rt, "key hashed as itself", key, value, expected);
         let wide_key = u64::from(key);
         let value = laws::built_from_empty::<U64ToU32>(rt.alloc(), &wide_items, 87, &wide_key)?;
-        assert_eq!(rt; value, expected, "key {key} of 64 bits");
+        same_at(&rt, "key of 64 bits", key, value, expected);
     }
     Ok(())
 }
@@ -50,6 +51,6 @@ fn tables_of_a_key_twice(rt: HostRuntime) -> Result<(), Error> {
 #[test]
 fn a_table_of_nothing(rt: HostRuntime) -> Result<(), Error> {
     let value = laws::built_from_empty::<U32ToU32>(rt.alloc(), &[], 100, &1)?;
-    assert_eq!(rt; value, None);
+    same(&rt, "key 1", value, None);
     Ok(())
 }

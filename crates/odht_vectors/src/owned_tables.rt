@@ -1,6 +1,9 @@
 //! Tables that own their bytes: their makers, growth, copies, and what a refused allocation leaves.
 ghost use Rattle.std.specs.Prelude.{◌≤◌};
 
+use crate::checks::{
+    holds_at, same, same_answer, same_at, same_bytes, same_len, same_refusal, same_value,
+};
 use crate::configs::{DirectU32ToU32, U32ToU32, U64ToU32};
 use crate::known_tables::{self, fresh_16};
 use odht::bytes::{Borrowed, OwnedBytes};
@@ -24,7 +27,7 @@ impl OneRefusal {
 
     // Demands that this is a refusal of memory and the first.
     fn take(&mut self, rt: &impl Abort, refusal: Error) {
-        assert_eq!(rt; refusal, Error::Memory);
+        same(rt, "the refusal", refusal, Error::Memory);
         assert!(rt; !self.is_met, "memory was refused twice");
         self.is_met = true;
     }
@@ -42,6 +45,29 @@ impl OneRefusal {
         }
     }
 
+    // A table of this capacity, as `made` makes what it is given.
+    fn table<C: Config>(
+        &mut self,
+        rt: &impl Abort,
+        alloc: Global,
+        capacity: usize,
+        percent: u8,
+    ) -> HashTableOwned<C>
+        requires low { 1 ≤ percent }
+        requires high { percent ≤ 100 }
+    {
+        match HashTableOwned::with_capacity(alloc, capacity, percent) {
+            Ok(table) => table,
+            Err(refusal) => {
+                self.take(rt, refusal);
+                HashTableOwned::with_capacity(alloc, capacity, percent).expect(
+                    rt,
+                    "refused at the second try",
+                )
+            }
+        }
+    }
+
     // Inserts, and once more where memory was refused, which is to change nothing.
     fn insert<C: Config>(
         &mut self,
@@ -55,7 +81,8 @@ impl OneRefusal {
             Ok(old) => old,
             Err(refusal) => {
                 self.take(rt, refusal);
-                assert_eq!(rt; fingerprint(table), before);
+                let found = fingerprint(table);
+                same(rt, "what a refused insert leaves", found, before);
                 table
                     .insert(key, value)
                     .expect(rt, "refused at the second try")
@@ -83,11 +110,12 @@ fn check_size<C: Config>(
     len: usize,
 ) {
     let bytes = table.raw_bytes();
-    assert_eq!(rt; table.len(), items);
-    assert_eq!(rt; bytes.len(), len);
+    same_len(rt, "items", table.len(), items);
+    same_len(rt, "bytes", bytes.len(), len);
     assert!(rt; bytes.len() >= 32);
-    assert_eq!(rt; &bytes[8..16], (items as u64).to_le_bytes().as_slice());
-    assert_eq!(rt; &bytes[16..24], slots.to_le_bytes().as_slice());
+    let stated = (items as u64).to_le_bytes();
+    same_bytes(rt, "stated items", &bytes[8..16], &stated);
+    same_bytes(rt, "stated slots", &bytes[16..24], &slots.to_le_bytes());
 }
 
 // Inserts the keys from 0 to below `end`, each with its own number and 100 more as its value.
@@ -95,12 +123,8 @@ fn fill(rt: &impl Abort, once: &mut OneRefusal, table: &mut HashTableOwned<U32To
     requires { end ≤ 100 }
 {
     for key in 0..end {
-        assert_eq!(rt;
-            once.insert(rt, table, &key, &(key + 100)),
-            None,
-            "key {key}"
-        );
-        assert_eq!(rt; table.len(), key as usize + 1, "key {key}");
+        same_value(rt, key, once.insert(rt, table, &key, &(key + 100)), None);
+        same_len(rt, "items", table.len(), key as usize + 1);
     }
 }
 
@@ -109,16 +133,16 @@ fn check_filled(rt: &impl Abort, table: &HashTableOwned<U32ToU32>, start: u32, e
     requires { end ≤ 100 }
 {
     for key in start..end {
-        assert_eq!(rt; table.get(&key), Some(key + 100), "key {key}");
-        assert!(rt; table.contains_key(&key), "key {key}");
+        same_value(rt, key, table.get(&key), Some(key + 100));
+        holds_at(rt, "key", key as usize, table.contains_key(&key));
     }
 }
 
 // Demands that the keys from `start` to below `end` are absent.
 fn check_absent(rt: &impl Abort, table: &HashTableOwned<U32ToU32>, start: u32, end: u32) {
     for key in start..end {
-        assert_eq!(rt; table.get(&key), None, "key {key}");
-        assert!(rt; !table.contains_key(&key), "key {key}");
+        same_value(rt, key, table.get(&key), None);
+        holds_at(rt, "no key", key as usize, !table.contains_key(&key));
     }
 }
 
@@ -133,29 +157,28 @@ fn made_three_pairs(
     alloc: Global,
     once: &mut OneRefusal,
 ) -> HashTableOwned<U64ToU32> {
-    let mut table: HashTableOwned<U64ToU32> = once.made(rt, || {
-        HashTableOwned::with_capacity(alloc, 3, 95)
-    });
-    assert_eq!(rt; table.insert(&1, &2), Ok(None));
-    assert_eq!(rt; table.insert(&3, &4), Ok(None));
-    assert_eq!(rt; table.insert(&5, &6), Ok(None));
+    let mut table: HashTableOwned<U64ToU32> = once.table(rt, alloc, 3, 95);
+    same_answer(rt, 1, table.insert(&1, &2), Ok(None));
+    same_answer(rt, 3, table.insert(&3, &4), Ok(None));
+    same_answer(rt, 5, table.insert(&5, &6), Ok(None));
     table
+}
+
+// Demands the bytes of a new table for 13 items.
+fn check_table_for_13(rt: &impl Abort, alloc: Global, once: &mut OneRefusal) {
+    let table: HashTableOwned<U32ToU32> = once.table(rt, alloc, 13, 87);
+    same_bytes(rt, "a table for 13", table.raw_bytes(), &fresh_16());
 }
 
 #[test]
 fn the_bytes_of_an_empty_table(rt: HostRuntime) {
     let (mut once, alloc) = (OneRefusal::new(), rt.alloc());
     let table: HashTableOwned<U32ToU32> = once.made(&rt, || HashTableOwned::default(alloc));
-    assert_eq!(rt; table.raw_bytes(), fresh_16().as_slice());
+    same_bytes(&rt, "the default table", table.raw_bytes(), &fresh_16());
     check_size(&rt, &table, 0, 16, 192);
     check_absent(&rt, &table, 0, 3);
-    let table: HashTableOwned<U32ToU32> = once.made(&rt, || {
-        HashTableOwned::with_capacity(alloc, 13, 87)
-    });
-    assert_eq!(rt; table.raw_bytes(), fresh_16().as_slice());
-    let table: HashTableOwned<U32ToU32> = once.made(&rt, || {
-        HashTableOwned::with_capacity(alloc, 16, 100)
-    });
+    check_table_for_13(&rt, alloc, &mut once);
+    let table: HashTableOwned<U32ToU32> = once.table(&rt, alloc, 16, 100);
     check_size(&rt, &table, 0, 32, 336);
 }
 
@@ -169,7 +192,7 @@ fn an_allocation_of_free_slots(rt: HostRuntime) {
     let allocation: Allocation<U32ToU32, OwnedBytes> = once.made(&rt, || {
         allocate(alloc, slots, 0, factor)
     });
-    assert_eq!(rt; allocation.raw_bytes(), fresh_16().as_slice());
+    same_bytes(&rt, "bytes", allocation.raw_bytes(), &fresh_16());
 }
 
 #[test]
@@ -180,20 +203,20 @@ fn capacities_that_no_memory_holds(rt: HostRuntime) {
         1 << 63,
         100,
     );
-    assert_eq!(rt; made.err(), Some(Error::Capacity));
+    same_refusal(&rt, made.err(), Some(Error::Capacity));
     let made: Result<HashTableOwned<U64ToU32>, Error> = HashTableOwned::with_capacity(
         alloc,
         1 << 62,
         100,
     );
-    assert_eq!(rt; made.err(), Some(Error::Capacity));
+    same_refusal(&rt, made.err(), Some(Error::Capacity));
     // 2^60 slots of nine bytes: below 2^64 bytes, and more than any allocation has
     let made: Result<HashTableOwned<U32ToU32>, Error> = HashTableOwned::with_capacity(
         alloc,
         1 << 59,
         87,
     );
-    assert_eq!(rt; made.err(), Some(Error::Memory));
+    same_refusal(&rt, made.err(), Some(Error::Memory));
 }
 
 // Inserts into a table of 16 slots that holds no item, and demands so many slots and bytes afterwards.
@@ -205,7 +228,7 @@ fn check_first_insert(
     len: usize,
 ) {
     check_size(rt, table, 0, 16, 192);
-    assert_eq!(rt; once.insert(rt, table, &7, &107), None);
+    same_value(rt, 7, once.insert(rt, table, &7, &107), None);
     check_size(rt, table, 1, slots, len);
     check_filled(rt, table, 7, 8);
     check_absent(rt, table, 8, 12);
@@ -215,29 +238,23 @@ fn check_first_insert(
 #[test]
 fn the_first_insert_grows(rt: HostRuntime) {
     let (mut once, alloc) = (OneRefusal::new(), rt.alloc());
-    let mut table: HashTableOwned<U32ToU32> = once.made(&rt, || {
-        HashTableOwned::with_capacity(alloc, 0, 6)
-    });
+    let mut table: HashTableOwned<U32ToU32> = once.table(&rt, alloc, 0, 6);
     check_first_insert(&rt, &mut once, &mut table, 32, 336);
-    let mut table: HashTableOwned<U32ToU32> = once.made(&rt, || {
-        HashTableOwned::with_capacity(alloc, 0, 1)
-    });
+    let mut table: HashTableOwned<U32ToU32> = once.table(&rt, alloc, 0, 1);
     check_first_insert(&rt, &mut once, &mut table, 128, 1200);
 }
 
 #[test]
 fn a_key_that_is_there_grows_at_the_maximum(rt: HostRuntime) {
     let (mut once, alloc) = (OneRefusal::new(), rt.alloc());
-    let mut table: HashTableOwned<U32ToU32> = once.made(&rt, || {
-        HashTableOwned::with_capacity(alloc, 13, 87)
-    });
+    let mut table: HashTableOwned<U32ToU32> = once.table(&rt, alloc, 13, 87);
     for key in 0..13 {
-        assert_eq!(rt; table.insert(&key, &(key + 100)), Ok(None), "key {key}");
+        same_answer(&rt, key, table.insert(&key, &(key + 100)), Ok(None));
     }
     check_size(&rt, &table, 13, 16, 192);
-    assert_eq!(rt; once.insert(&rt, &mut table, &5, &6), Some(105));
+    same_value(&rt, 5, once.insert(&rt, &mut table, &5, &6), Some(105));
     check_size(&rt, &table, 13, 32, 336);
-    assert_eq!(rt; table.get(&5), Some(6));
+    same_value(&rt, 5, table.get(&5), Some(6));
     check_filled(&rt, &table, 0, 5);
     check_filled(&rt, &table, 6, 13);
     check_absent(&rt, &table, 13, 40);
@@ -246,27 +263,23 @@ fn a_key_that_is_there_grows_at_the_maximum(rt: HostRuntime) {
 #[test]
 fn a_new_key_grows_at_the_maximum(rt: HostRuntime) {
     let (mut once, alloc) = (OneRefusal::new(), rt.alloc());
-    let mut table: HashTableOwned<DirectU32ToU32> = once.made(&rt, || {
-        HashTableOwned::with_capacity(alloc, 13, 87)
-    });
+    let mut table: HashTableOwned<DirectU32ToU32> = once.table(&rt, alloc, 13, 87);
     for key in 0..13 {
-        assert_eq!(rt; table.insert(&key, &key), Ok(None), "key {key}");
+        same_answer(&rt, key, table.insert(&key, &key), Ok(None));
     }
     check_size(&rt, &table, 13, 16, 192);
-    assert_eq!(rt; once.insert(&rt, &mut table, &13, &13), None);
+    same_value(&rt, 13, once.insert(&rt, &mut table, &13, &13), None);
     check_size(&rt, &table, 14, 32, 336);
     for key in 0..14 {
-        assert_eq!(rt; table.get(&key), Some(key), "key {key}");
+        same_value(&rt, key, table.get(&key), Some(key));
     }
-    assert_eq!(rt; table.get(&14), None);
+    same_value(&rt, 14, table.get(&14), None);
 }
 
 #[test]
 fn a_hundred_items(rt: HostRuntime) {
     let (mut once, alloc) = (OneRefusal::new(), rt.alloc());
-    let mut table: HashTableOwned<U32ToU32> = once.made(&rt, || {
-        HashTableOwned::with_capacity(alloc, 10, 87)
-    });
+    let mut table: HashTableOwned<U32ToU32> = once.table(&rt, alloc, 10, 87);
     fill(&rt, &mut once, &mut table, 100);
     check_size(&rt, &table, 100, 128, 1200);
     check_filled(&rt, &table, 0, 100);
@@ -276,18 +289,12 @@ fn a_hundred_items(rt: HostRuntime) {
 #[test]
 fn below_the_maximum_nothing_is_allocated(rt: HostRuntime) {
     let (mut once, alloc) = (OneRefusal::new(), rt.alloc());
-    let mut table: HashTableOwned<U32ToU32> = once.made(&rt, || {
-        HashTableOwned::with_capacity(alloc, 13, 87)
-    });
+    let mut table: HashTableOwned<U32ToU32> = once.table(&rt, alloc, 13, 87);
     for key in 0..12 {
-        assert_eq!(rt; table.insert(&key, &key), Ok(None), "key {key}");
+        same_answer(&rt, key, table.insert(&key, &key), Ok(None));
     }
     for key in 0..12 {
-        assert_eq!(rt;
-            table.insert(&key, &(key + 100)),
-            Ok(Some(key)),
-            "key {key}"
-        );
+        same_answer(&rt, key, table.insert(&key, &(key + 100)), Ok(Some(key)));
     }
     check_size(&rt, &table, 12, 16, 192);
     check_filled(&rt, &table, 0, 12);
@@ -298,27 +305,33 @@ fn below_the_maximum_nothing_is_allocated(rt: HostRuntime) {
 #[test]
 fn pairs_move_in_slot_order(rt: HostRuntime) {
     let (mut once, alloc) = (OneRefusal::new(), rt.alloc());
-    let mut table: HashTableOwned<DirectU32ToU32> = once.made(&rt, || {
-        HashTableOwned::with_capacity(alloc, 2, 13)
-    });
-    assert_eq!(rt; table.insert(&15, &115), Ok(None));
-    assert_eq!(rt; table.insert(&47, &147), Ok(None));
+    let mut table: HashTableOwned<DirectU32ToU32> = once.table(&rt, alloc, 2, 13);
+    same_answer(&rt, 15, table.insert(&15, &115), Ok(None));
+    same_answer(&rt, 47, table.insert(&47, &147), Ok(None));
     check_size(&rt, &table, 2, 16, 192);
-    let mut expected = [0; 160];
-    expected[0..8].copy_from_slice(&[47, 0, 0, 0, 147, 0, 0, 0]);
-    expected[120..128].copy_from_slice(&[15, 0, 0, 0, 115, 0, 0, 0]);
-    expected[128..].copy_from_slice(&[255; 32]);
-    for at in [128, 143, 144, 159] {
-        expected[at] = 0;
-    }
-    assert!(rt; table.raw_bytes().len() == 192);
-    assert_eq!(rt; &table.raw_bytes()[32..], expected.as_slice());
+    check_behind_header(&rt, table.raw_bytes(), &wrapped_pairs());
 
-    assert_eq!(rt; once.insert(&rt, &mut table, &1, &1), None);
+    same_value(&rt, 1, once.insert(&rt, &mut table, &1, &1), None);
     check_size(&rt, &table, 3, 32, 336);
-    let bytes = table.raw_bytes();
-    assert!(rt; bytes.len() == 336);
-    assert_eq!(rt; &bytes[32..], moved_pairs().as_slice());
+    check_behind_header(&rt, table.raw_bytes(), &moved_pairs());
+}
+
+// Demands these bytes behind the header.
+fn check_behind_header(rt: &impl Abort, bytes: &[u8], expected: &[u8]) {
+    assert!(rt; bytes.len() >= 32);
+    same_bytes(rt, "slots", &bytes[32..], expected);
+}
+
+// The entries and control bytes of 16 slots: the key 15 stands in slot 15, and 47 in slot 0.
+fn wrapped_pairs() -> [u8; 160] {
+    let mut bytes = [0; 160];
+    bytes[0..8].copy_from_slice(&[47, 0, 0, 0, 147, 0, 0, 0]);
+    bytes[120..128].copy_from_slice(&[15, 0, 0, 0, 115, 0, 0, 0]);
+    bytes[128..].copy_from_slice(&[255; 32]);
+    for at in [128, 143, 144, 159] {
+        bytes[at] = 0;
+    }
+    bytes
 }
 
 // The entries and control bytes of 32 slots: the key 47 stands in slot 15, 15 in slot 16, and 1 in slot 1.
@@ -339,15 +352,16 @@ fn moved_pairs() -> [u8; 304] {
 fn copies_have_the_same_bytes(rt: HostRuntime) {
     let (mut once, alloc) = (OneRefusal::new(), rt.alloc());
     let mut table = made_three_pairs(&rt, alloc, &mut once);
-    assert_eq!(rt; table.raw_bytes(), known_tables::three_pairs().as_slice());
+    let expected = known_tables::three_pairs();
+    same_bytes(&rt, "the table", table.raw_bytes(), &expected);
     let cloned = once.made(&rt, || table.clone());
     let copied = once.made(&rt, || copied(alloc, &table));
-    assert_eq!(rt; table.insert(&1, &9), Ok(Some(2)));
-    assert_eq!(rt; cloned.raw_bytes(), known_tables::three_pairs().as_slice());
-    assert_eq!(rt; copied.raw_bytes(), known_tables::three_pairs().as_slice());
-    assert_eq!(rt; cloned.len(), 3);
-    assert_eq!(rt; cloned.get(&1), Some(2));
-    assert_eq!(rt; copied.get(&5), Some(6));
+    same_answer(&rt, 1, table.insert(&1, &9), Ok(Some(2)));
+    same_bytes(&rt, "the clone", cloned.raw_bytes(), &expected);
+    same_bytes(&rt, "the copy", copied.raw_bytes(), &expected);
+    same_len(&rt, "items", cloned.len(), 3);
+    same_value(&rt, 1, cloned.get(&1), Some(2));
+    same_value(&rt, 5, copied.get(&5), Some(6));
 }
 
 #[test]
@@ -360,12 +374,12 @@ fn a_view_of_an_owned_table(rt: HostRuntime) {
     let Ok(view) = opened else {
         panic!(rt; "not opened")
     };
-    assert_eq!(rt; view.len(), 3);
+    same_len(&rt, "items", view.len(), 3);
     for (key, expected) in [(1, Some(2)), (3, Some(4)), (5, Some(6)), (7, None)] {
-        assert_eq!(rt; table.get(&key), expected, "key {key}");
-        assert_eq!(rt; view.get(&key), expected, "key {key}");
-        assert_eq!(rt; table.contains_key(&key), expected.is_some(), "key {key}");
-        assert_eq!(rt; view.contains_key(&key), expected.is_some(), "key {key}");
+        let found = [table.get(&key), view.get(&key)];
+        same_at(&rt, "key", key, found, [expected; 2]);
+        let found = [table.contains_key(&key), view.contains_key(&key)];
+        same_at(&rt, "key", key, found, [expected.is_some(); 2]);
     }
 }
 

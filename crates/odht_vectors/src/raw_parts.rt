@@ -8,11 +8,12 @@ ghost use Rattle.odht_base.specs.Insert.{place};
 ghost use Rattle.odht_base.specs.Valid.{IsPartsOf};
 ghost use Rattle.odht.specs.Frame.{IsPartsFramed};
 
+use crate::checks::{same, same_at, same_parts};
+use crate::known_tables::sixteen_slots;
 use odht::FxHashFn;
 use odht::bytes::ByteArray;
 use odht::error::Error;
 use odht::hash::HashFn;
-use odht::load::{Factor, slots_needed};
 use odht::raw_table::RawTableMut;
 use std::process::Abort;
 
@@ -49,9 +50,7 @@ fn insert(
     key: u32,
     value: u32,
 ) -> Result<Option<[u8; 4]>, Error> {
-    let factor = Factor::from_percent(87);
-    assert!(rt; factor.0 >= 1);
-    let slots = slots_needed(13, factor).expect(rt, "slots");
+    let slots = sixteen_slots(rt, 13, 87);
     assert!(rt; slots == control.len() - 16);
     insert_into_parts::<[u8; 4], [u8; 4], FxHashFn>(
         control,
@@ -59,6 +58,18 @@ fn insert(
         key.to_le_bytes(),
         value.to_le_bytes(),
     )
+}
+
+// Demands this answer to the insert of a pair.
+fn check_insert(
+    rt: &impl Abort,
+    control: &mut [u8; 32],
+    entries: &mut [u8; 128],
+    pair: (u32, u32),
+    expected: Result<Option<[u8; 4]>, Error>,
+) {
+    let answer = insert(rt, control, entries, pair.0, pair.1);
+    same_at(rt, "insert of key", pair.0, answer, expected);
 }
 
 // Inserts the keys 1 and 3 in turn through one table of 16 slots.
@@ -70,9 +81,7 @@ fn insert_two(
     Result<Option<[u8; 4]>, Error>,
     Result<Option<[u8; 4]>, Error>,
 ) {
-    let factor = Factor::from_percent(87);
-    assert!(rt; factor.0 >= 1);
-    let slots = slots_needed(13, factor).expect(rt, "slots");
+    let slots = sixteen_slots(rt, 13, 87);
     assert!(rt; slots == control.len() - 16);
     let mut table: RawTableMut<'_, '_, [u8; 4], [u8; 4], FxHashFn> = RawTableMut::new(
         control, entries,
@@ -84,31 +93,30 @@ fn insert_two(
 #[test]
 fn a_pair_and_its_overwrite(rt: HostRuntime) {
     let (mut control, mut entries) = ([255; 32], [0; 128]);
-    assert_eq!(rt; insert(&rt, &mut control, &mut entries, 1, 2), Ok(None));
+    check_insert(&rt, &mut control, &mut entries, (1, 2), Ok(None));
     let (mut tags, mut pairs) = ([255; 32], [0; 128]);
     pairs[40..48].copy_from_slice(&[1, 0, 0, 0, 2, 0, 0, 0]);
     tags[5] = 0x13;
     tags[21] = 0x13;
-    assert_eq!(rt; control, tags);
-    assert_eq!(rt; entries, pairs);
+    same_parts(&rt, (control, tags), (entries, pairs));
 
-    assert_eq!(rt;
-        insert(&rt, &mut control, &mut entries, 1, 3),
-        Ok(Some([2, 0, 0, 0]))
+    check_insert(
+        &rt,
+        &mut control,
+        &mut entries,
+        (1, 3),
+        Ok(Some([2, 0, 0, 0])),
     );
     pairs[44] = 3;
-    assert_eq!(rt; control, tags);
-    assert_eq!(rt; entries, pairs);
+    same_parts(&rt, (control, tags), (entries, pairs));
 }
 
 // The key 3 has the last slot as home.
 #[test]
 fn two_pairs_through_one_table(rt: HostRuntime) {
     let (mut control, mut entries) = ([255; 32], [0; 128]);
-    assert_eq!(rt;
-        insert_two(&rt, &mut control, &mut entries),
-        (Ok(None), Ok(None))
-    );
+    let found = insert_two(&rt, &mut control, &mut entries);
+    same(&rt, "inserts", found, (Ok(None), Ok(None)));
     let (mut tags, mut pairs) = ([255; 32], [0; 128]);
     pairs[40..48].copy_from_slice(&[1, 0, 0, 0, 2, 0, 0, 0]);
     pairs[120..128].copy_from_slice(&[3, 0, 0, 0, 4, 0, 0, 0]);
@@ -116,8 +124,7 @@ fn two_pairs_through_one_table(rt: HostRuntime) {
         tags[slot] = tag;
         tags[slot + 16] = tag;
     }
-    assert_eq!(rt; control, tags);
-    assert_eq!(rt; entries, pairs);
+    same_parts(&rt, (control, tags), (entries, pairs));
 }
 
 // Sixteen keys fill the slots, so a seventeenth is refused, and one of the sixteen is still overwritten.
@@ -125,27 +132,21 @@ fn two_pairs_through_one_table(rt: HostRuntime) {
 fn full_parts_refuse_another_key(rt: HostRuntime) {
     let (mut control, mut entries) = ([255; 32], [0; 128]);
     for key in 1..17 {
-        assert_eq!(rt;
-            insert(&rt, &mut control, &mut entries, key, key + 100),
-            Ok(None),
-            "key {key}"
-        );
+        check_insert(&rt, &mut control, &mut entries, (key, key + 100), Ok(None));
     }
     let (tags, mut pairs) = (control, entries);
-    assert_eq!(rt; tags[5], 0x13);
-    assert_eq!(rt; (pairs[40], pairs[44]), (1, 101));
-    assert_eq!(rt;
-        insert(&rt, &mut control, &mut entries, 17, 1),
-        Err(Error::Full)
-    );
-    assert_eq!(rt; control, tags);
-    assert_eq!(rt; entries, pairs);
+    same(&rt, "a tag", tags[5], 0x13);
+    same(&rt, "a key and a value", (pairs[40], pairs[44]), (1, 101));
+    check_insert(&rt, &mut control, &mut entries, (17, 1), Err(Error::Full));
+    same_parts(&rt, (control, tags), (entries, pairs));
 
-    assert_eq!(rt;
-        insert(&rt, &mut control, &mut entries, 1, 7),
-        Ok(Some([101, 0, 0, 0]))
+    check_insert(
+        &rt,
+        &mut control,
+        &mut entries,
+        (1, 7),
+        Ok(Some([101, 0, 0, 0])),
     );
     pairs[44] = 7;
-    assert_eq!(rt; control, tags);
-    assert_eq!(rt; entries, pairs);
+    same_parts(&rt, (control, tags), (entries, pairs));
 }

@@ -1,6 +1,7 @@
 //! The bytes of tables: their number, a new table, the header at any alignment, and each write.
 ghost use Rattle.std.specs.Prelude.{◌≡◌, length};
 
+use crate::checks::{same, same_at, same_bytes, same_len};
 use crate::configs::{NoBytes, U32ToU32, U64ToU32};
 use crate::known_tables::fresh_16;
 use odht::bytes::{BorrowedMut, ByteStoreMut, OwnedBytes};
@@ -22,11 +23,13 @@ fn numbers_of_bytes(rt: HostRuntime) {
         (usize::MAX, None),
     ];
     for (slots, expected) in of_8 {
-        assert_eq!(rt; bytes_needed::<U32ToU32>(slots), expected, "{slots} slots");
+        let found = bytes_needed::<U32ToU32>(slots);
+        same_at(&rt, "slots", slots, found, expected);
     }
     let of_12 = [(16, Some(256)), (1 << 63, None)];
     for (slots, expected) in of_12 {
-        assert_eq!(rt; bytes_needed::<U64ToU32>(slots), expected, "{slots} slots");
+        let found = bytes_needed::<U64ToU32>(slots);
+        same_at(&rt, "slots", slots, found, expected);
     }
     let of_none = [
         (16, Some(64)),
@@ -36,7 +39,8 @@ fn numbers_of_bytes(rt: HostRuntime) {
         (usize::MAX, None),
     ];
     for (slots, expected) in of_none {
-        assert_eq!(rt; bytes_needed::<NoBytes>(slots), expected, "{slots} slots");
+        let found = bytes_needed::<NoBytes>(slots);
+        same_at(&rt, "slots", slots, found, expected);
     }
 }
 
@@ -77,18 +81,18 @@ fn make_32<M: ByteStoreMut>(rt: &impl Abort, data: M) -> Allocation<U32ToU32, M>
 fn a_new_table_in_a_slice(rt: HostRuntime) {
     let mut bytes = [0xa7; 192];
     let table = make_16(&rt, BorrowedMut::new(&mut bytes));
-    assert_eq!(rt; table.raw_bytes(), fresh_16().as_slice());
-    assert_eq!(rt; bytes, fresh_16());
+    same_bytes(&rt, "16 slots", table.raw_bytes(), &fresh_16());
+    same(&rt, "the slice of 16 slots", bytes, fresh_16());
     let mut bytes = [0xa7; 336];
     let table = make_32(&rt, BorrowedMut::new(&mut bytes));
-    assert_eq!(rt; table.raw_bytes(), fresh_32().as_slice());
-    assert_eq!(rt; bytes, fresh_32());
+    same_bytes(&rt, "32 slots", table.raw_bytes(), &fresh_32());
+    same(&rt, "the slice of 32 slots", bytes, fresh_32());
 }
 
 #[test]
 fn a_new_table_in_a_vector(rt: HostRuntime) -> Result<(), AllocError> {
     let table = make_16(&rt, OwnedBytes::new([0xa7; 192].to_vec(rt.alloc())?));
-    assert_eq!(rt; table.raw_bytes(), fresh_16().as_slice());
+    same_bytes(&rt, "bytes", table.raw_bytes(), &fresh_16());
     Ok(())
 }
 
@@ -96,14 +100,15 @@ fn a_new_table_in_a_vector(rt: HostRuntime) -> Result<(), AllocError> {
 fn parts_of_a_new_table(rt: HostRuntime) {
     let mut bytes = [0xa7; 192];
     let table = make_16(&rt, BorrowedMut::new(&mut bytes));
-    assert_eq!(rt; table.header().item_count(), 0);
-    assert_eq!(rt; table.header().slot_count(), 16);
-    assert_eq!(rt; table.header().max_load_factor(), Factor(57015));
+    same_len(&rt, "items", table.header().item_count(), 0);
+    same_len(&rt, "slots", table.header().slot_count(), 16);
+    let found = table.header().max_load_factor();
+    same(&rt, "load factor", found, Factor(57015));
     let (control, entries) = table.data_slices();
-    assert_eq!(rt; control, [255; 32].as_slice());
-    assert_eq!(rt; entries.len(), 16);
+    same_bytes(&rt, "control bytes", control, &[255; 32]);
+    same_len(&rt, "slots", entries.len(), 16);
     for slot in 0..entries.len() {
-        assert_eq!(rt; entries.get(slot), Entry::default(), "slot {slot}");
+        same_at(&rt, "slot", slot, entries.get(slot), Entry::default());
     }
 }
 
@@ -117,17 +122,12 @@ fn headers_at_each_alignment(rt: HostRuntime) -> Result<(), AllocError> {
         let mut bytes = [0xa7; 41].to_vec(rt.alloc())?;
         bytes[before..before + 32].copy_from_slice(&header);
         let read = Header::of(&bytes[before..]);
-        assert_eq!(rt;
-            read.item_count(),
-            0x0102030405060708,
-            "{before} bytes before"
-        );
-        assert_eq!(rt; read.slot_count(), 562949953421312, "{before} bytes before");
-        assert_eq!(rt;
-            read.max_load_factor(),
-            Factor(62258),
-            "{before} bytes before"
-        );
+        let found = read.item_count();
+        same_at(&rt, "items at", before, found, 0x0102030405060708);
+        let found = read.slot_count();
+        same_at(&rt, "slots at", before, found, 562949953421312);
+        let found = read.max_load_factor();
+        same_at(&rt, "load factor at", before, found, Factor(62258));
     }
     Ok(())
 }
@@ -136,14 +136,14 @@ fn headers_at_each_alignment(rt: HostRuntime) -> Result<(), AllocError> {
 fn a_new_table_at_an_odd_alignment(rt: HostRuntime) {
     let mut longer = [0xa7; 193];
     let table = make_16(&rt, BorrowedMut::new(&mut longer[1..]));
-    assert_eq!(rt; table.header().slot_count(), 16);
-    assert_eq!(rt; longer[0], 0xa7);
+    same_len(&rt, "slots", table.header().slot_count(), 16);
+    same(&rt, "the byte before", longer[0], 0xa7);
     let (_, shifted) = longer.split_at(1);
-    assert_eq!(rt; shifted, fresh_16().as_slice());
+    same_bytes(&rt, "bytes", shifted, &fresh_16());
     let read = Header::of(&longer[1..]);
-    assert_eq!(rt; read.item_count(), 0);
-    assert_eq!(rt; read.slot_count(), 16);
-    assert_eq!(rt; read.max_load_factor(), Factor(57015));
+    same_len(&rt, "items", read.item_count(), 0);
+    same_len(&rt, "slots", read.slot_count(), 16);
+    same(&rt, "load factor", read.max_load_factor(), Factor(57015));
 }
 
 #[test]
@@ -153,21 +153,22 @@ fn the_item_count_alone_changes(rt: HostRuntime) {
     table.set_item_count(0x0102030405060708);
     let mut expected = fresh_16();
     expected[8..16].copy_from_slice(&[8, 7, 6, 5, 4, 3, 2, 1]);
-    assert_eq!(rt; table.raw_bytes(), expected.as_slice());
-    assert_eq!(rt; table.header().item_count(), 0x0102030405060708);
+    same_bytes(&rt, "bytes", table.raw_bytes(), expected.as_slice());
+    let found = table.header().item_count();
+    same_len(&rt, "items", found, 0x0102030405060708);
 }
 
 #[test]
 fn an_entry_with_its_tag_and_mirror(rt: HostRuntime) {
     let mut bytes = [0xa7; 192];
     let mut table = make_16(&rt, BorrowedMut::new(&mut bytes));
-    assert_eq!(rt; table.header().slot_count(), 16);
+    same_len(&rt, "slots", table.header().slot_count(), 16);
     table.write_entry(5, &[1, 0, 0, 0], &[2, 0, 0, 0], 19);
     let mut expected = fresh_16();
     expected[72..80].copy_from_slice(&[1, 0, 0, 0, 2, 0, 0, 0]);
     expected[165] = 19;
     expected[181] = 19;
-    assert_eq!(rt; table.raw_bytes(), expected.as_slice());
+    same_bytes(&rt, "bytes", table.raw_bytes(), expected.as_slice());
 }
 
 #[test]
@@ -190,7 +191,8 @@ fn mirrors_of_the_first_sixteen_slots(rt: HostRuntime) {
         if let Some(at) = mirror {
             expected[at] = 77;
         }
-        assert_eq!(rt; table.raw_bytes(), expected.as_slice(), "slot {slot}");
+        let found = table.raw_bytes();
+        same_at(&rt, "bytes of slot", slot, found, expected.as_slice());
     }
 }
 
@@ -203,6 +205,7 @@ fn the_value_alone_changes(rt: HostRuntime) {
         table.write_value(slot, &[5, 6, 7, 8]);
         let mut expected = fresh_32();
         expected[value..value + 4].copy_from_slice(&[5, 6, 7, 8]);
-        assert_eq!(rt; table.raw_bytes(), expected.as_slice(), "slot {slot}");
+        let found = table.raw_bytes();
+        same_at(&rt, "bytes of slot", slot, found, expected.as_slice());
     }
 }

@@ -1,4 +1,8 @@
 //! Whole lists: inserted at once, collected to a table, and copied to each alignment.
+use crate::checks::{
+    same, same_answer, same_at, same_bytes, same_inserts, same_len, same_pairs, same_refusal,
+    same_value,
+};
 use crate::configs::{DirectU32ToU32, U32ToU32, U64ToU32};
 use crate::known_tables;
 use odht::bytes::{Borrowed, BorrowedMut, ByteStore, OwnedBytes};
@@ -7,10 +11,11 @@ use odht::{HashTable, HashTableOwned, bytes_needed};
 use std::alloc::{AllocError, Global};
 use std::process::Abort;
 
-// Whether the header states this slot count.
-fn states_slots(rt: &impl Abort, bytes: &[u8], slots: u8) -> bool {
+// Demands that the header states this slot count.
+fn check_stated_slots(rt: &impl Abort, bytes: &[u8], slots: u8) {
     assert!(rt; bytes.len() >= 32);
-    bytes[16..24] == [slots, 0, 0, 0, 0, 0, 0, 0]
+    let expected = [slots, 0, 0, 0, 0, 0, 0, 0];
+    same_bytes(rt, "stated slots", &bytes[16..24], &expected);
 }
 
 // The pairs of each key from 0 to 14 with itself.
@@ -43,15 +48,15 @@ fn a_list_that_a_view_has_no_room_for(rt: HostRuntime) {
     let Ok(mut table) = made else {
         panic!(rt; "no table")
     };
-    assert_eq!(rt; table.insert_all(&[]), (0, Ok(())));
-    assert_eq!(rt; table.len(), 0);
-    assert_eq!(rt; table.insert_all(&FIFTEEN), (13, Err(Error::Full)));
-    assert_eq!(rt; table.len(), 13);
+    same_inserts(&rt, table.insert_all(&[]), (0, Ok(())));
+    same_len(&rt, "items", table.len(), 0);
+    same_inserts(&rt, table.insert_all(&FIFTEEN), (13, Err(Error::Full)));
+    same_len(&rt, "items", table.len(), 13);
     for (key, value) in FIFTEEN {
         let expected = if key < 13 { Some(value) } else { None };
-        assert_eq!(rt; table.get(&key), expected, "key {key}");
+        same_value(&rt, key, table.get(&key), expected);
     }
-    assert!(rt; states_slots(&rt, table.raw_bytes(), 16));
+    check_stated_slots(&rt, table.raw_bytes(), 16);
 }
 
 #[test]
@@ -61,14 +66,14 @@ fn a_list_that_a_table_grows_for(rt: HostRuntime) -> Result<(), Error> {
         13,
         87,
     )?;
-    assert!(rt; states_slots(&rt, table.raw_bytes(), 16));
-    assert_eq!(rt; table.insert_all(&[]), (0, Ok(())));
-    assert_eq!(rt; table.len(), 0);
-    assert_eq!(rt; table.insert_all(&FIFTEEN), (15, Ok(())));
-    assert_eq!(rt; table.len(), 15);
-    assert!(rt; states_slots(&rt, table.raw_bytes(), 32));
+    check_stated_slots(&rt, table.raw_bytes(), 16);
+    same_inserts(&rt, table.insert_all(&[]), (0, Ok(())));
+    same_len(&rt, "items", table.len(), 0);
+    same_inserts(&rt, table.insert_all(&FIFTEEN), (15, Ok(())));
+    same_len(&rt, "items", table.len(), 15);
+    check_stated_slots(&rt, table.raw_bytes(), 32);
     for (key, value) in FIFTEEN {
-        assert_eq!(rt; table.get(&key), Some(value), "key {key}");
+        same_value(&rt, key, table.get(&key), Some(value));
     }
     Ok(())
 }
@@ -82,11 +87,11 @@ fn a_table_of_a_key_twice(rt: HostRuntime) -> Result<(), Error> {
         items.into_iter(),
         87,
     )?;
-    assert!(rt; states_slots(&rt, table.raw_bytes(), 16));
-    assert_eq!(rt; table.len(), 2);
-    assert_eq!(rt; table.get(&1), Some(30));
-    assert_eq!(rt; table.get(&2), Some(20));
-    assert_eq!(rt; table.get(&3), None);
+    check_stated_slots(&rt, table.raw_bytes(), 16);
+    same_len(&rt, "items", table.len(), 2);
+    same_value(&rt, 1, table.get(&1), Some(30));
+    same_value(&rt, 2, table.get(&2), Some(20));
+    same_value(&rt, 3, table.get(&3), None);
     Ok(())
 }
 
@@ -94,32 +99,33 @@ fn a_table_of_a_key_twice(rt: HostRuntime) -> Result<(), Error> {
 #[test]
 fn sixteen_items_at_100_percent(rt: HostRuntime) -> Result<(), Error> {
     let items = make_test_items(rt.alloc(), 16)?;
-    assert_eq!(rt; items.len(), 16);
+    same_len(&rt, "items", items.len(), 16);
     let table: HashTableOwned<U32ToU32> = HashTableOwned::from_iterator(
         rt.alloc(),
         items.into_iter(),
         100,
     )?;
-    assert!(rt; states_slots(&rt, table.raw_bytes(), 32));
-    assert_eq!(rt; table.len(), 16);
+    check_stated_slots(&rt, table.raw_bytes(), 32);
+    same_len(&rt, "items", table.len(), 16);
     Ok(())
 }
 
 #[test]
 fn bytes_of_new_tables(rt: HostRuntime) -> Result<(), Error> {
-    assert_eq!(rt; bytes_needed::<U64ToU32>(3, 95), Some(256));
-    assert_eq!(rt; bytes_needed::<U32ToU32>(0, 87), Some(192));
-    assert_eq!(rt; bytes_needed::<U64ToU32>(1 << 62, 100), None);
-    assert_eq!(rt;
-        bytes_needed::<U64ToU32>(1 << 59, 100),
-        Some(14987979559889010736)
-    );
+    let found = bytes_needed::<U64ToU32>(3, 95);
+    same(&rt, "three items at 95 percent", found, Some(256));
+    let found = bytes_needed::<U32ToU32>(0, 87);
+    same(&rt, "no item at 87 percent", found, Some(192));
+    let found = bytes_needed::<U64ToU32>(1 << 62, 100);
+    same(&rt, "2^62 items", found, None);
+    let found = bytes_needed::<U64ToU32>(1 << 59, 100);
+    same(&rt, "2^59 items", found, Some(14987979559889010736));
     let made: Result<HashTableOwned<U64ToU32>, Error> = HashTableOwned::with_capacity(
         rt.alloc(),
         1 << 63,
         100,
     );
-    assert_eq!(rt; made.err(), Some(Error::Capacity));
+    same_refusal(&rt, made.err(), Some(Error::Capacity));
     Ok(())
 }
 
@@ -127,8 +133,9 @@ fn bytes_of_new_tables(rt: HostRuntime) -> Result<(), Error> {
 fn three_pairs(rt: HostRuntime) -> Result<(), Error> {
     let mut table: HashTableOwned<U64ToU32> = HashTableOwned::with_capacity(rt.alloc(), 3, 95)?;
     let pairs = [(1, 2), (3, 4), (5, 6)];
-    assert_eq!(rt; table.insert_all(&pairs), (3, Ok(())));
-    assert_eq!(rt; table.raw_bytes(), known_tables::three_pairs().as_slice());
+    same_inserts(&rt, table.insert_all(&pairs), (3, Ok(())));
+    let expected = known_tables::three_pairs();
+    same_bytes(&rt, "bytes", table.raw_bytes(), &expected);
     Ok(())
 }
 
@@ -144,11 +151,8 @@ fn three_pairs_at_each_alignment(rt: HostRuntime) {
             panic!(rt; "not opened behind {before} bytes")
         };
         for (key, expected) in [(1, Some(2)), (2, None), (3, Some(4)), (5, Some(6))] {
-            assert_eq!(rt;
-                table.get(&key),
-                expected,
-                "key {key} behind {before} bytes"
-            );
+            let found = (key, table.get(&key));
+            same_at(&rt, "bytes before", before, found, (key, expected));
         }
     }
 }
@@ -170,28 +174,30 @@ pub fn make_test_items(alloc: Global, count: u32) -> Result<Vec<(u32, u32)>, All
     Ok(items)
 }
 
+// Demands so many items, and that they are these.
+fn check_items(
+    rt: &impl Abort,
+    alloc: Global,
+    count: u32,
+    expected: &[(u32, u32)],
+) -> Result<(), AllocError> {
+    same_pairs(rt, make_test_items(alloc, count)?.as_slice(), expected);
+    Ok(())
+}
+
 #[test]
 fn items_far_apart(rt: HostRuntime) -> Result<(), AllocError> {
-    assert_eq!(rt; make_test_items(rt.alloc(), 0)?.as_slice(), [].as_slice());
-    assert_eq!(rt;
-        make_test_items(rt.alloc(), 1)?.as_slice(),
-        [(4294967295, 0)].as_slice()
-    );
-    assert_eq!(rt;
-        make_test_items(rt.alloc(), 2)?.as_slice(),
-        [(0, 4294967295), (4294967295, 0)].as_slice()
-    );
-    assert_eq!(rt;
-        make_test_items(rt.alloc(), 4)?.as_slice(),
-        [
-            (0, 4294967295),
-            (1431655765, 2863311530),
-            (2863311530, 1431655765),
-            (4294967295, 0)
-        ]
-        .as_slice()
-    );
-    Ok(())
+    let alloc = rt.alloc();
+    check_items(&rt, alloc, 0, &[])?;
+    check_items(&rt, alloc, 1, &[(4294967295, 0)])?;
+    check_items(&rt, alloc, 2, &[(0, 4294967295), (4294967295, 0)])?;
+    let of_four = [
+        (0, 4294967295),
+        (1431655765, 2863311530),
+        (2863311530, 1431655765),
+        (4294967295, 0),
+    ];
+    check_items(&rt, alloc, 4, &of_four)
 }
 
 // Each item is found with its value, and there is no other.
@@ -203,51 +209,62 @@ fn holds_all<D: ByteStore>(
     let Ok(table) = opened else {
         panic!(rt; "not opened")
     };
-    assert_eq!(rt; table.len(), items.len());
+    same_len(rt, "items", table.len(), items.len());
     for (key, value) in items {
-        assert_eq!(rt; table.get(key), Some(*value), "key {key}");
+        same_value(rt, *key, table.get(key), Some(*value));
     }
+}
+
+// Demands the items of the table in these bytes where up to three others stand before, and as bytes to write too.
+fn check_behind(rt: &impl Abort, before: usize, bytes: &[u8], items: &[(u32, u32)]) {
+    same_len(rt, "bytes", bytes.len(), 624);
+    assert!(rt; before < 4);
+    let mut all = [0xa7; 627];
+    all[before..before + 624].copy_from_slice(bytes);
+    let borrowed = Borrowed::new(&all[before..before + 624]);
+    holds_all(rt, HashTable::from_raw_bytes(borrowed), items);
+    let borrowed = BorrowedMut::new(&mut all[before..before + 624]);
+    holds_all(rt, HashTable::from_raw_bytes(borrowed), items);
 }
 
 #[test]
 fn many_pairs_at_each_alignment(rt: HostRuntime) -> Result<(), Error> {
     let items = make_test_items(rt.alloc(), 33)?;
-    assert_eq!(rt; items.len(), 33);
+    same_len(&rt, "items", items.len(), 33);
     let table: HashTableOwned<U32ToU32> = HashTableOwned::from_iterator(
         rt.alloc(),
         items.as_slice().to_vec(rt.alloc())?.into_iter(),
         95,
     )?;
-    let bytes = table.raw_bytes();
-    assert_eq!(rt; bytes.len(), 624);
     for before in 0..4 {
-        let mut all = [0xa7; 627];
-        all[before..before + 624].copy_from_slice(bytes);
-        let borrowed = Borrowed::new(&all[before..before + 624]);
-        holds_all(&rt, HashTable::from_raw_bytes(borrowed), items.as_slice());
-        let borrowed = BorrowedMut::new(&mut all[before..before + 624]);
-        holds_all(&rt, HashTable::from_raw_bytes(borrowed), items.as_slice());
+        check_behind(&rt, before, table.raw_bytes(), items.as_slice());
     }
+    Ok(())
+}
+
+// Demands that a view of a vector gives its bytes back.
+fn check_vector_data(rt: &impl Abort, alloc: Global) -> Result<(), Error> {
+    let owned = OwnedBytes::new(known_tables::three_pairs().to_vec(alloc)?);
+    let table: HashTable<U64ToU32, OwnedBytes> = HashTable::from_raw_bytes(owned)?;
+    let vec = table.into_data().into_vec();
+    same_bytes(rt, "vector", vec.as_slice(), &known_tables::three_pairs());
     Ok(())
 }
 
 #[test]
 fn the_data_of_a_view(rt: HostRuntime) -> Result<(), Error> {
-    let owned = OwnedBytes::new(known_tables::three_pairs().to_vec(rt.alloc())?);
-    let table: HashTable<U64ToU32, OwnedBytes> = HashTable::from_raw_bytes(owned)?;
-    let vec = table.into_data().into_vec();
-    assert_eq!(rt; vec.as_slice(), known_tables::three_pairs().as_slice());
+    check_vector_data(&rt, rt.alloc())?;
 
     let mut bytes = known_tables::three_pairs();
     let borrowed = BorrowedMut::new(&mut bytes);
     let mut table: HashTable<U64ToU32, BorrowedMut<'_>> = HashTable::from_raw_bytes(borrowed)?;
-    assert_eq!(rt; table.insert(&3, &7), Ok(Some(4)));
+    same_answer(&rt, 3, table.insert(&3, &7), Ok(Some(4)));
     let mut expected = known_tables::three_pairs();
     let slice = table.into_data().into_slice();
-    assert_eq!(rt; slice.len(), 256);
+    same_len(&rt, "bytes", slice.len(), 256);
     slice[0] = 9;
     expected[0] = 9;
     expected[220] = 7;
-    assert_eq!(rt; bytes, expected);
+    same(&rt, "bytes", bytes, expected);
     Ok(())
 }
