@@ -212,14 +212,7 @@ impl<'a, K: ByteArray, V: ByteArray, H: HashFn> RawTable<'a, K, V, H> {
             in IfSome result.0 (λ v. (i : ℕ) × (i < self.now.entries.slots) × (slot_key F es i ≡ K.bytes key.now) × (v ≡ V.of_bytes (slot_value F es i))) }
         ensures few { result.1 ≤ self.now.entries.slots / 16 }
     {
-        let control = self.control;
-        let hash = H::hash(key.as_slice());
-        let (end, groups) = search_counted::<K, V, H, GroupQuery>(
-            control,
-            &self.entries,
-            key,
-            hash,
-        );
+        let (end, groups) = search_counted::<K, V, H, GroupQuery>(self.control, &self.entries, key);
         match end {
             Search::Found(slot) => (Some(self.entries.get(slot).value), groups),
             Search::Free(_) => (None, groups),

@@ -47,9 +47,9 @@ pub fn search<K: ByteArray, V: ByteArray, H: HashFn, Q: Group>(
     search_hashed::<K, V, H, Q>(scan, entries, key, hash)
 }
 
-/// `search` of a key whose hash is known.
+// `search` of a key whose hash is known.
 #[inline]
-pub(crate) fn search_hashed<K: ByteArray, V: ByteArray, H: HashFn, Q: Group>(
+fn search_hashed<K: ByteArray, V: ByteArray, H: HashFn, Q: Group>(
     scan: &mut Scan<'_>,
     entries: &Entries<'_, K, V>,
     key: &K,
@@ -91,17 +91,15 @@ pub(crate) fn search_hashed<K: ByteArray, V: ByteArray, H: HashFn, Q: Group>(
     Search::Neither
 }
 
-/// `search` of a key whose hash is known, in these parts, and how many groups it was shown.
+/// `search` in these parts, and how many groups it was shown.
 #[inline]
 pub(crate) fn search_counted<K: ByteArray, V: ByteArray, H: HashFn, Q: Group>(
     control: &[EntryMetadata],
     entries: &Entries<'_, K, V>,
     key: &K,
-    hash: u32,
 ) -> (Search, usize)
     requires slots { IsSlotCount entries.now.slots }
     requires control { length control.now ≡ entries.now.slots + 16 }
-    requires hash { hash ≡ H.hash (K.bytes key.now) }
     requires hashes { H.MIN_LEN ≤ K.LEN }
     requires key { K.LEN ≤ 255 }
     requires value { V.LEN ≤ 255 }
@@ -118,7 +116,7 @@ pub(crate) fn search_counted<K: ByteArray, V: ByteArray, H: HashFn, Q: Group>(
     ensures few { result.1 ≤ entries.now.slots / 16 }
 {
     let mut scan = Scan::new(control, entries.len());
-    let end = search_hashed::<K, V, H, Q>(&mut scan, entries, key, hash);
+    let end = search::<K, V, H, Q>(&mut scan, entries, key);
     (end, scan.groups())
 }
 
@@ -144,8 +142,8 @@ pub(crate) fn search_parts<K: ByteArray, V: ByteArray, H: HashFn, Q: Group>(
         (λ i. (i < entries.now.slots) × CountsAsFree control.now i)
         ⊤ }
 {
-    let (end, _) = search_counted::<K, V, H, Q>(control, entries, key, hash);
-    end
+    let mut scan = Scan::new(control, entries.len());
+    search_hashed::<K, V, H, Q>(&mut scan, entries, key, hash)
 }
 
 // Looks at the sixteen slots from `start` on, whose control bytes are these, in pieces of the group search's size.

@@ -85,10 +85,10 @@ pub fn plain_insert<K: ByteArray, V: ByteArray, H: HashFn>(
     insert_at::<K, V, H>(control, entries, key, value, tag_of(hash), end)
 }
 
-/// Looks for the key with this hash slot by slot along its probe order, and stops at the first slot that is free or holds
-/// it.
+// Looks for the key with this hash slot by slot along its probe order, and stops at the first slot that is free or holds
+// it.
 #[inline]
-pub(crate) fn plain_search<K: ByteArray, V: ByteArray, H: HashFn>(
+fn plain_search<K: ByteArray, V: ByteArray, H: HashFn>(
     control: &[EntryMetadata],
     entries: &Entries<'_, K, V>,
     key: &K,
