@@ -29,7 +29,6 @@ use Rattle.odht.specs.Parts.{EntryBytes}
 use Rattle.odht.specs.Searches.{slot_of, Passed, StandsAt, EndsWithin, IsLook}
 use Rattle.odht.specs.declared.raw_table.outcome.Search.{Search}
 use Rattle.odht.specs.declared.raw_table.outcome.Search.TheVariants.{Found, Free}
-use Rattle.odht.proofs.lemmas.ProbeSteps.{divisor_pos}
 use Rattle.odht.proofs.lemmas.PartCells.{byte_is as control_is, key_is, cell_filled}
 
 -- byte i of some bytes at a place

@@ -1,6 +1,6 @@
 -- The places of the probe order, a piece of a group at a time.
-use Rattle.std.proofs.Common.{inl, inr, mul-le-mul_left, ◌≡◌, ℕ, zero, suc, ◌+◌, ◌-◌, ◌*◌, ◌/◌, ◌%◌, ◌^◌, ◌<◌, ◌≤◌, refl, sym, ap, ◌∙◌, arith, bit_and, subst}
-use Rattle.std.proofs.Math.Nat.{add-mod_right, mod-add-mod, mod-mod_of_dvd, mod-eq_of_lt, mul-mod_left, zero-mod}
+use Rattle.std.proofs.Common.{inl, inr, mul-le-mul_left, ◌≡◌, ℕ, zero, suc, ◌+◌, ◌-◌, ◌*◌, ◌/◌, ◌%◌, ◌^◌, ◌<◌, ◌≤◌, refl, sym, ap, ◌∙◌, arith, bit_and}
+use Rattle.std.proofs.Math.Nat.{add-mod_right, mod-add-mod, mod-mod_of_dvd, mod-eq_of_lt, zero-mod}
 use Rattle.std.proofs.lemmas.Nat.Gcd.{dvd_of_mod-eq-zero}
 use Rattle.std.proofs.lemmas.Bool.{cases_lt}
 use Rattle.odht_base.specs.Load.{IsSlotCount}

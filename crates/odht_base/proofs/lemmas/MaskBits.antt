@@ -1,11 +1,11 @@
 -- The set bits of a mask.
-use Rattle.std.proofs.Common.{◌≡◌, ℕ, zero, suc, ◌+◌, ◌-◌, ◌*◌, ◌/◌, ◌%◌, ◌^◌, ◌<◌, ◌≤◌, Bool, true, false, cond, not, List, [], ◌∷◌, length, map, drop, refl, ap, ◌∙◌, arith, Some, None, bit_and, nat_eq, nat_lt, is_some}
+use Rattle.std.proofs.Common.{◌≡◌, ℕ, zero, suc, ◌+◌, ◌-◌, ◌*◌, ◌/◌, ◌%◌, ◌^◌, ◌<◌, ◌≤◌, Bool, true, false, cond, not, List, [], ◌∷◌, length, map, drop, refl, ap, ◌∙◌, arith, Some, None, bit_and, nat_eq, nat_lt}
 use Rattle.std.specs.Prelude.{slice_get}
 use Rattle.std.specs.List.{position, position_or_len}
 use lib.Bits.{and_step, and_self, and_zero_l}
 use lib.Count.{count_trailing_zeros, under}
 use lib.Lanes.{mask_l}
-use borrow.Author.Tests.{lt-ltb, le-ltb, ltb-true, ltb-false, ne_eqb}
+use borrow.Author.Tests.{lt-ltb, le-ltb, ltb-true, ltb-false}
 use Rattle.odht_base.specs.Masks.{bits_from, set_bits}
 use Rattle.odht_base.proofs.lemmas.MarkedPlaces.{places_of}
 

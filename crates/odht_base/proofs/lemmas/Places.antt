@@ -1,6 +1,6 @@
 -- What `place` does to a placed table.
 use Rattle.std.proofs.Common.{◌≡◌, ◌≢◌, ◌<◌, ◌≤◌, ◌+◌, ◌∙◌, ◌⊎◌, inl, inr, ℕ, Bool, true, false, true≢false, cond, sym, ap, subst, refl, List, ◌∷◌, Option, Some, None, set, arith, bytes_eq, IsPermutation, length-set, get_or-set_same, get_or-set_other}
-use Rattle.std.specs.Prelude.{IsFalse, ◌↔◌, is_none, option_map, if◌then◌else◌}
+use Rattle.std.specs.Prelude.{◌↔◌, is_none, option_map, if◌then◌else◌}
 use Rattle.std.proofs.lemmas.Bool.{cases_eq, or_parts, or_from, or_cases, false_from_ne_true}
 use Rattle.std.proofs.lemmas.Option.{none-some}
 use Rattle.odht_base.specs.Format.{Format, home}

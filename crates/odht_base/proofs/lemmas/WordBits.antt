@@ -12,7 +12,7 @@ use mathlib.Core.Bool.{true≢false}
 use borrow.Author.Tests.{le-leb, lt-leb, lt-ltb, le-ltb, ltb-true}
 use Rattle.odht_base.specs.Numbers.{num}
 use Rattle.odht_base.specs.Masks.{bits_from, set_bytes}
-use Rattle.odht_base.specs.Groups.{first_free, IsWordReport, IsReport}
+use Rattle.odht_base.specs.Groups.{first_free, IsWordReport}
 use Rattle.odht_base.proofs.lemmas.MaskBits.{even_step, odd_step, no_bits, first_is_position}
 use Rattle.odht_base.proofs.lemmas.MarkedPlaces.{places_of, rising, true_at, place_at}
 

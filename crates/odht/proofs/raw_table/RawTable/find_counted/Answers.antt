@@ -1,7 +1,6 @@
-use Rattle.std.proofs.Common.{◌≡◌, ◌∙◌, ℕ, List, sym, ap, subst, Some}
+use Rattle.std.proofs.Common.{◌∙◌, ℕ, List, sym, ap, subst, Some}
 use Rattle.std.specs.Prelude.{option_map}
 use Rattle.odht_base.specs.Format.{Format, format_of}
-use Rattle.odht_base.specs.Shown.{slot_value}
 use Rattle.odht_base.specs.Valid.{IsPartsOf}
 use Rattle.odht.specs.Parts.{TableParts}
 use Rattle.odht.proofs.lemmas.Lookups.{answer-Found, answer-Free, answer-Neither}
