@@ -48,6 +48,23 @@ fn orders_of_64_and_16_slots(rt: HostRuntime) -> Result<(), Error> {
     check_order(&rt, rt.alloc(), 15, 15, &[(15, 16), (0, 15)])
 }
 
+// Where the memory of an order is refused, that is said, and a second request has it.
+#[test]
+fn an_order_that_may_be_refused_memory(rt: HostRuntime) {
+    let slots = slots_for(&rt, 63);
+    assert!(rt; slots > 40);
+    let order = match probe_order(rt.alloc(), 40, slots) {
+        Ok(order) => order,
+        Err(refusal) => {
+            assert!(rt; refusal == Error::Memory);
+            probe_order(rt.alloc(), 40, slots).expect(&rt, "refused at the second try")
+        }
+    };
+    assert!(rt; order.len() == 64);
+    assert!(rt; order[0] == 40);
+    assert!(rt; order[63] == 23);
+}
+
 // The lookup of a key in an owned table answers this value after so many groups.
 fn check_owned(
     rt: &impl Abort,
