@@ -1,11 +1,12 @@
 -- A group of control bytes, and what a search of it for the byte h may report.
 --     equal g h              the indices of the bytes h, rising
 --     first_free g           the least index of a byte of 128 or more, if any
+--     filled g               the indices of the bytes below 128, rising
 --     IsReport g h xs        the indices xs rise, each index of h is among them, and none of a free byte
 --     IsWordReport g h xs    what the search by a word reports: any other index than of h has the neighbour h xor 1, and
 --                            the index one below it is reported too
 --     GroupMatches           what a search of a group holds: the matches not taken yet, and the first free index
-use Rattle.std.specs.Prelude.{◌≡◌, ℕ, ◌+◌, ◌<◌, ◌==◌, ◌⊎◌, List, length, filter, position, slice_index, bit_xor, Option, Contains}
+use Rattle.std.specs.Prelude.{◌≡◌, ℕ, ◌+◌, ◌<◌, ◌==◌, nat_lt, ◌⊎◌, List, length, filter, position, slice_index, bit_xor, Option, Contains}
 use Rattle.std.specs.List.{range_with_len}
 use Rattle.std.specs.List.Sorted.{IsStrictlyIncreasing}
 use Rattle.odht_base.specs.Shown.{counts_as_free}
@@ -15,6 +16,9 @@ equal g h = filter (λ i. slice_index g i == h) (range_with_len 0 (length g))
 
 abbrev pub first_free : List ℕ → Option ℕ
 first_free g = position counts_as_free g
+
+abbrev pub filled : List ℕ → List ℕ
+filled g = filter (λ i. nat_lt (slice_index g i) 128) (range_with_len 0 (length g))
 
 pub record IsReport (g : List ℕ) (h : ℕ) (xs : List ℕ) : Type 0 where
   pub rising : IsStrictlyIncreasing xs

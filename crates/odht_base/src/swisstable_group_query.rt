@@ -6,10 +6,12 @@
 ghost use Rattle.std.specs.Prelude.{◌≡◌, ℕ, ◌%◌, ◌<◌, List, Option, length, drop, slice_get, is_some};
 ghost use Rattle.odht_base.specs.Groups.{IsReport, first_free};
 
+mod filled;
 pub mod lanes;
 mod mask;
 pub mod no_simd;
 
+pub use filled::FilledQuery;
 pub use lanes::{GROUP_SIZE, GroupQuery};
 
 /// How many control bytes count as one group in the probe order, however many are looked at at once.

@@ -1,15 +1,22 @@
 -- A walk over the slots, slot by slot, and what it gives of a table's bytes.
-use Rattle.std.proofs.Common.{◌≡◌, ℕ, suc, ◌+◌, ◌-◌, ◌<◌, ◌≤◌, ◌∙◌, true, false, sym, ap, refl, arith, List, [], ◌∷◌, length, map, slice_index, Option, Some, None}
+use Rattle.std.proofs.Common.{◌≡◌, ℕ, zero, suc, ◌+◌, ◌-◌, ◌<◌, ◌≤◌, ◌∙◌, ◌++◌, Bool, true, false, sym, ap, subst, refl, arith, List, [], ◌∷◌, length, map, slice_index, slice_get, Option, Some, None, nat_lt, lt-ltb, le-ltb, le-leb, ltb-true}
+use Rattle.std.proofs.lemmas.Bool.{lt-leb}
+use Rattle.std.specs.Prelude.{slice_index_or}
+use native.Mathlib.Decide.{dec_lt}
+use Rattle.std.proofs.lemmas.Option.{none-some}
+use Rattle.std.proofs.lemmas.List.Elements.{All-filter, filter_passes, filter_map-append}
 use Rattle.std.specs.Prelude.{option_map}
 use Rattle.std.specs.List.{filter_map, cons_option, range_with_len}
-use Rattle.std.proofs.lemmas.List.FromFn.{length-range_with_len}
+use Rattle.std.proofs.lemmas.List.FromFn.{length-range_with_len, get_or-range_with_len}
 use Rattle.odht_base.specs.Format.{Format, IsFormat, format_of}
 use Rattle.odht_base.specs.Table.{Pair, Table, walk}
 use Rattle.odht_base.specs.Shown.{counts_as_free, shown_cell, shown_cells, seen, slot_key, slot_value}
 use Rattle.odht_base.specs.Valid.{IsImage}
+use Rattle.odht_base.specs.Groups.{filled}
 use Rattle.odht_base.proofs.lemmas.Image.{shown-image}
+use Rattle.odht_base.proofs.lemmas.MarkedPlaces.{places_of, filled-places}
 use Rattle.odht.specs.Parts.{TableParts, entry_format}
-use Rattle.odht.specs.Walks.{item, slot_item, items_from, decoded_items}
+use Rattle.odht.specs.Walks.{item, slot_item, items_of, items_from, AreFilled, decoded_items}
 use Rattle.odht.specs.declared.raw_table.Entry.{Entry}
 
 module _ {K V : Type 0} (f : List ℕ → K) (g : List ℕ → V) (F : Format) (T : TableParts) (i : ℕ) where
@@ -26,6 +33,67 @@ module _ {K V : Type 0} (f : List ℕ → K) (g : List ℕ → V) (F : Format) (
       → e.key ≡ f (slot_key F T.entries.bytes i) → e.value ≡ g (slot_value F T.entries.bytes i)
       → items_from f g F T i ≡ (slice_index T.control i, e) ∷ items_from f g F T (i + 1)
   items_from-filled e l filled key value = rw (one_more l, filled) (λ j. (slice_index T.control i, record { key = sym key j; value = sym value j }) ∷ items_from f g F T (i + 1))
+
+-- ---- slots by groups
+-- a list without a first item
+pub list-none : (xs : List ℕ) → None ≡ slice_get xs 0 → xs ≡ []
+list-none [] e = refl
+list-none (y ∷ xs) e = absurd (none-some y e)
+
+-- a range in two parts
+range-append : (a m n : ℕ) → range_with_len a (m + n) ≡ range_with_len a m ++ range_with_len (a + m) n
+range-append a zero n = let e : a ≡ a + 0 = omega arith in let z : 0 + n ≡ n = omega arith in rw z (ap (λ b. range_with_len b n) e)
+range-append a (suc m) n =
+    let e : a + 1 + m ≡ a + suc m = omega arith in
+    let z : suc m + n ≡ suc (m + n) = omega arith in
+    rw z (ap (λ xs. a ∷ xs) (range-append (a + 1) m n ∙ ap (λ b. range_with_len (a + 1) m ++ range_with_len b n) e))
+
+-- places that are counted from another start
+places-shift : (a i : ℕ) (bs : List Bool) → map (λ j. a + j) (places_of i bs) ≡ places_of (a + i) bs
+places-shift a i [] = refl
+places-shift a i (b ∷ bs) =
+    let e : a + (i + 1) ≡ a + i + 1 = omega arith in
+    go b (places-shift a (i + 1) bs ∙ ap (λ n. places_of n bs) e)
+  where
+    go : (x : Bool) → map (λ j. a + j) (places_of (i + 1) bs) ≡ places_of (a + i + 1) bs → map (λ j. a + j) (places_of i (x ∷ bs)) ≡ places_of (a + i) (x ∷ bs)
+    go true r = ap (λ xs. (a + i) ∷ xs) r
+    go false r = r
+
+-- each place of a filled byte is one of the list's, and filled
+pub filled-All : (T : TableParts) (a : ℕ) (bs : List ℕ) → a + length bs ≤ T.entries.slots → ((k : ℕ) → k < length bs → slice_index T.control (a + k) ≡ slice_index bs k) → AreFilled T a (filled bs)
+filled-All T a bs fits are k d l =
+    let within = All-filter (λ i. nat_lt (slice_index bs i) 128) (λ i. i < length bs) (range_with_len 0 (length bs)) (λ j e h. let n = length-range_with_len 0 (length bs) in let m : j < length bs = omega arith in subst (λ x. x < length bs) (sym (get_or-range_with_len 0 (length bs) j e m ∙ (let z : 0 + j ≡ j = omega arith in z))) m) k d l in
+    let passes = filter_passes (λ i. nat_lt (slice_index bs i) 128) (range_with_len 0 (length bs)) k d l in
+    let low = ltb-true (slice_index bs (slice_index_or (filled bs) k d)) 128 passes in
+    (omega (arith, within), ap counts_as_free (are _ within) ∙ lt-leb 128 (slice_index bs (slice_index_or (filled bs) k d)) low)
+
+module _ {K V : Type 0} (f : List ℕ → K) (g : List ℕ → V) (F : Format) (T : TableParts) where
+  -- the items of slots whose control bytes are these are those of the filled ones
+  items_of-filled : (a : ℕ) (bs : List ℕ) → ((k : ℕ) → k < length bs → slice_index T.control (a + k) ≡ slice_index bs k)
+      → items_of f g F T (range_with_len a (length bs)) ≡ items_of f g F T (places_of a (map (λ x. nat_lt x 128) bs))
+  items_of-filled a [] are = refl
+  items_of-filled a (x ∷ bs) are =
+      let first : a ≡ a + 0 = omega arith in
+      let here : slice_index T.control a ≡ x = ap (slice_index T.control) first ∙ are 0 (omega arith) in
+      let rest = items_of-filled (a + 1) bs (λ k l. let behind : a + 1 + k ≡ a + suc k = omega arith in ap (slice_index T.control) behind ∙ are (suc k) (omega arith)) in
+      elim (dec_lt x 128) [
+        | yes p ↦ rw (lt-ltb x 128 p) (ap (cons_option (slot_item f g F T a)) rest)
+        | no p ↦
+            let free : counts_as_free (slice_index T.control a) ≡ true = ap counts_as_free here ∙ le-leb 128 x (omega arith) in
+            rw (le-ltb x 128 (omega arith), free) rest
+      ]
+
+  -- the items from a slot on are those of the filled ones of the next n, and those behind these
+  pub items_from-group : (a n : ℕ) (bs : List ℕ) → length bs ≡ n → a + n ≤ T.entries.slots → ((k : ℕ) → k < length bs → slice_index T.control (a + k) ≡ slice_index bs k)
+      → items_from f g F T a ≡ items_of f g F T (map (λ i. a + i) (filled bs)) ++ items_from f g F T (a + n)
+  items_from-group a n bs len fits are =
+      let split : T.entries.slots - a ≡ n + (T.entries.slots - (a + n)) = omega arith in
+      let zero : a + 0 ≡ a = omega arith in
+      let slots : map (λ i. a + i) (filled bs) ≡ places_of a (map (λ x. nat_lt x 128) bs) = ap (map (λ i. a + i)) (filled-places bs) ∙ places-shift a 0 (map (λ x. nat_lt x 128) bs) ∙ ap (λ m. places_of m (map (λ x. nat_lt x 128) bs)) zero in
+      ap (λ m. items_of f g F T (range_with_len a m)) split
+      ∙ ap (items_of f g F T) (range-append a n (T.entries.slots - (a + n)))
+      ∙ filter_map-append (slot_item f g F T) (range_with_len a n) (range_with_len (a + n) (T.entries.slots - (a + n)))
+      ∙ ap (λ xs. xs ++ items_from f g F T (a + n)) (sym (ap (λ m. items_of f g F T (range_with_len a m)) len) ∙ items_of-filled a bs are ∙ ap (items_of f g F T) (sym slots))
 
 -- no more come than there are
 length-filter_map : {X Y : Type 0} (h : X → Option Y) (xs : List X) → length (filter_map h xs) ≤ length xs

@@ -1,12 +1,15 @@
 -- The masks of a group of sixteen lanes.
-use Rattle.std.proofs.Common.{◌≡◌, ℕ, zero, suc, ◌-◌, ◌%◌, ◌^◌, ◌≤◌, Bool, true, false, cond, List, [], ◌∷◌, length, map, replicate, refl, sym, ap, ap₂, ◌∙◌, arith, nat_eq, nat_le, w8}
-use Rattle.std.proofs.lemmas.List.{length-map}
+use Rattle.std.proofs.Common.{◌≡◌, ℕ, zero, suc, ◌+◌, ◌-◌, ◌*◌, ◌/◌, ◌%◌, ◌^◌, ◌<◌, ◌≤◌, Bool, true, false, cond, List, [], ◌∷◌, length, map, take, replicate, refl, sym, ap, ap₂, ◌∙◌, arith, nat_eq, nat_le, nat_lt, w8, bit_and, pow-suc, pow_mono, length-take}
+use Rattle.std.proofs.Math.Arith.{mod-mul}
+use Rattle.std.proofs.Math.Nat.{zero-mod}
+use Rattle.std.proofs.lemmas.List.{length-map, take-map}
+use Rattle.std.proofs.lemmas.Nat.{and_mask}
 use Rattle.std.specs.Prelude.{slice_get}
 use Rattle.std.proofs.lemmas.Simd.{bitmask_splat, mask_l-mod}
 use lib.Lanes.{mask_l, zip2, top}
 use Rattle.odht_base.specs.Masks.{set_bits}
-use Rattle.odht_base.specs.Groups.{equal, first_free}
-use Rattle.odht_base.proofs.lemmas.MarkedPlaces.{equal-places}
+use Rattle.odht_base.specs.Groups.{equal, first_free, filled}
+use Rattle.odht_base.proofs.lemmas.MarkedPlaces.{places_of, equal-places, filled-places}
 use Rattle.odht_base.proofs.lemmas.MaskBits.{bits_mask, first_is_position}
 
 -- the mask of the lanes that equal h
@@ -37,3 +40,36 @@ free_lanes g l =
     ∙ ap (λ m. slice_get (set_bits m) 0) (mask_l-mod tests 64 size)
     ∙ ap (λ xs. slice_get xs 0) (bits_mask 64 0 tests size)
     ∙ first_is_position (λ x. nat_le 128 x) g
+
+-- the same with one answer more
+next-mask : (b : Bool) (bs : List Bool) (n : ℕ) → mask_l bs % 2 ^ n ≡ mask_l (take n bs) → mask_l (b ∷ bs) / 2 ≡ mask_l bs → mask_l (b ∷ bs) % 2 ≡ cond b 1 0
+    → mask_l (take n bs) * 2 + cond b 1 0 ≡ mask_l (b ∷ take n bs) → mask_l (b ∷ bs) % 2 ^ suc n ≡ mask_l (b ∷ take n bs)
+next-mask b bs n rest half low whole =
+    let power : 2 ^ suc n ≡ 2 ^ n * 2 = omega (arith, pow-suc 2 n) in
+    ap (λ m. mask_l (b ∷ bs) % m) power ∙ mod-mul (mask_l (b ∷ bs)) {m = 2 ^ n} {c = 2} (pow-pos n) (omega arith)
+    ∙ ap₂ (λ h l. h % 2 ^ n * 2 + l) half low ∙ ap (λ m. m * 2 + cond b 1 0) rest ∙ whole
+  where
+    pow-pos : (k : ℕ) → 0 < 2 ^ k
+    pow-pos zero = omega arith
+    pow-pos (suc k) = omega (arith, pow-pos k, pow-suc 2 k)
+
+-- the mask of the first answers is what is left of a mask by a power of two
+mask_l-take : (bs : List Bool) (n : ℕ) → mask_l bs % 2 ^ n ≡ mask_l (take n bs)
+mask_l-take [] zero = omega arith
+mask_l-take [] (suc n) = zero-mod (2 ^ suc n)
+mask_l-take (b ∷ bs) zero = omega arith
+mask_l-take (true ∷ bs) (suc n) = next-mask true bs n (mask_l-take bs n) (omega arith) (omega arith) (omega arith)
+mask_l-take (false ∷ bs) (suc n) = next-mask false bs n (mask_l-take bs n) (omega arith) (omega arith) (omega arith)
+
+-- the mask of the filled ones of the first lanes
+pub filled_lanes : (g : List ℕ) (n : ℕ) → length g ≡ 16 → n ≤ 16
+    → set_bits (bit_and (mask_l (map (top 7) (zip2 (λ a b. cond (nat_lt a b) 255 0) g (replicate 16 128))) % 2 ^ 64) (1 * 2 ^ n % 2 ^ 64 - 1)) ≡ filled (take n g)
+filled_lanes g n l m =
+    let below : 2 ^ n ≤ 2 ^ 16 = pow_mono {i = n} {j = 16} m in
+    let ones : 1 * 2 ^ n % 2 ^ 64 - 1 ≡ 2 ^ n - 1 = omega (arith, below) in
+    ap₂ (λ x y. set_bits (bit_and x y)) (bitmask_splat w8 (λ a b. nat_lt a b) g 16 128 l (omega arith)) ones
+    ∙ ap set_bits (and_mask (mask_l (map (λ x. nat_lt x 128) g)) n)
+    ∙ ap set_bits (mask_l-take (map (λ x. nat_lt x 128) g) n)
+    ∙ bits_mask 64 0 (take n (map (λ x. nat_lt x 128) g)) (omega (arith, length-take n (map (λ x. nat_lt x 128) g), length-map g (λ x. nat_lt x 128)))
+    ∙ ap (places_of 0) (take-map (λ x. nat_lt x 128) n g)
+    ∙ sym (filled-places (take n g))

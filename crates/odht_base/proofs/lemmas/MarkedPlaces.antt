@@ -1,12 +1,12 @@
 -- The places of what is true in a list of answers, as a mask marks them.
-use Rattle.std.proofs.Common.{◌≡◌, ℕ, zero, suc, ◌+◌, ◌-◌, ◌<◌, ◌≤◌, Bool, true, false, cond, List, [], ◌∷◌, length, map, filter, get_or, refl, sym, ap₂, ◌∙◌, arith, subst, nat_eq}
+use Rattle.std.proofs.Common.{◌≡◌, ℕ, zero, suc, ◌+◌, ◌-◌, ◌<◌, ◌≤◌, Bool, true, false, cond, List, [], ◌∷◌, length, map, filter, get_or, refl, sym, ap₂, ◌∙◌, arith, subst, nat_eq, nat_lt}
 use Rattle.std.specs.Prelude.{slice_index_or}
 use Rattle.std.specs.List.{Contains}
 use Rattle.std.specs.List.Sorted.{IsStrictlyIncreasing}
 use borrow.Author.Tests.{eqb-true, eq-eqb}
 use mathlib.Core.Bool.{true≢false}
 use Rattle.std.specs.List.{range_with_len}
-use Rattle.odht_base.specs.Groups.{equal, IsReport}
+use Rattle.odht_base.specs.Groups.{equal, filled, IsReport}
 
 -- the places of what is true, counted from i on
 abbrev pub places_of : ℕ → List Bool → List ℕ
@@ -24,6 +24,10 @@ filter-places p q i (x ∷ g) h =
 -- the indices of a byte are the places where it is
 pub equal-places : (g : List ℕ) (h : ℕ) → equal g h ≡ places_of 0 (map (λ x. nat_eq x h) g)
 equal-places g h = filter-places (λ x. nat_eq x h) (λ i. nat_eq (get_or g i 0) h) 0 g (λ k l. let at : 0 + k ≡ k = omega arith in rw at refl)
+
+-- and so are those of the filled bytes
+pub filled-places : (g : List ℕ) → filled g ≡ places_of 0 (map (λ x. nat_lt x 128) g)
+filled-places g = filter-places (λ x. nat_lt x 128) (λ i. nat_lt (get_or g i 0) 128) 0 g (λ k l. let at : 0 + k ≡ k = omega arith in rw at refl)
 
 -- no place is below the first count
 above : (i : ℕ) (bs : List Bool) (k : ℕ) → k < length (places_of i bs) → i ≤ get_or (places_of i bs) k 0

@@ -1,37 +1,36 @@
-use Rattle.std.proofs.Common.{rules, arith, ◌≡◌, ◌+◌, ◌<◌, ◌∙◌, sym, ap, length, ◌∷◌, true, false, slice_index}
-use Rattle.odht_base.specs.Shown.{counts_as_free}
-use Rattle.odht.specs.Parts.{entry_format}
-use Rattle.odht.specs.Walks.{items_from}
-use Rattle.odht.proofs.lemmas.Walks.{items_from-free, items_from-filled}
-use Rattle.odht.proofs.raw_table.walk.RawIterIterator.next.Given.{Over}
+use Rattle.std.proofs.Common.{arith, ◌≡◌, ◌∙◌, ◌+◌, ◌-◌, ◌++◌, ◌<◌, ◌≤◌, ℕ, List, [], sym, ap, subst, map, take, length, length-take, slice_index, get_or-take, min}
+use Rattle.odht_base.specs.Bytes.{bytes_at}
+use Rattle.odht_base.specs.Format.{Format}
+use Rattle.odht_base.proofs.lemmas.ByteRanges.{length-bytes_at}
+use Rattle.odht.specs.Parts.{TableParts, entry_format}
+use Rattle.odht.specs.Walks.{items_of, items_from, AreFilled}
+use Rattle.odht.proofs.lemmas.GroupLooks.{index-bytes_at}
+use Rattle.odht.proofs.lemmas.Walks.{list-none, filled-All, items_from-group}
 use Rattle.odht.proofs.raw_table.walk.RawIterIterator.next.Goals as goal
 
--- what was left was the item of the slot, and what is left behind it
-gives_first : (g : Over) (c : goal.After-get g)
-    → c.args.self.now ≡ (slice_index c.loop-self.self-inside.control.now c.loop-self.self-inside.next_slot, c.get.result)
-    ∷ items_from g.K.ByteArray.of_bytes g.V.ByteArray.of_bytes (entry_format g.K.ByteArray.LEN g.V.ByteArray.LEN) (record { control = c.loop-self.self-inside.control.now; entries = c.loop-self.self-inside.entries }) (c.loop-self.self-inside.next_slot + 1)
-gives_first g c =
-    let filled : counts_as_free (slice_index c.loop-self.self-inside.control.now c.loop-self.self-inside.next_slot) ≡ false = search rules in
-    let below : c.loop-self.self-inside.next_slot < c.loop-self.self-inside.entries.slots = search rules in
-    sym c.self.view_is ∙ sym c.loop-self.invariant.3
-    ∙ items_from-filled g.K.ByteArray.of_bytes g.V.ByteArray.of_bytes (entry_format g.K.ByteArray.LEN g.V.ByteArray.LEN) _ _ c.get.result below filled c.get.ensures.key c.get.ensures.value
-
-pub returns-then-not-is_empty_or_deleted-clause-steps : goal.returns-then-not-is_empty_or_deleted-clause-steps
-returns-then-not-is_empty_or_deleted-clause-steps g c = gives_first g c
-
-pub returns-then-not-is_empty_or_deleted-clause-goes : goal.returns-then-not-is_empty_or_deleted-clause-goes
-returns-then-not-is_empty_or_deleted-clause-goes g c = record {
-  on = λ finite. (tt, tt, omega (arith, ap length (gives_first g c)));
-  keeps = tt;
-  rests = λ finite. tt;
-}
-
-pub loop-self-preserved : goal.loop-self-preserved
-loop-self-preserved g c =
-    let free : counts_as_free (slice_index c.loop-self.self-inside.control.now c.loop-self.self-inside.next_slot) ≡ true = search rules in
-    let below : c.loop-self.self-inside.next_slot < c.loop-self.self-inside.entries.slots = search rules in (
-      c.loop-self.invariant.0,
-      c.loop-self.invariant.1,
-      omega (arith, below),
-      sym (items_from-free g.K.ByteArray.of_bytes g.V.ByteArray.of_bytes (entry_format g.K.ByteArray.LEN g.V.ByteArray.LEN) _ _ below free) ∙ c.loop-self.invariant.3,
-    )
+pub groups-preserved : goal.groups-preserved
+groups-preserved g c =
+    let F : Format = entry_format g.K.ByteArray.LEN g.V.ByteArray.LEN in
+    let v = c.groups.invariant in
+    let at = c.groups.self-inside.next_slot in
+    let n : ℕ = c.min-size.result in
+    let T : TableParts = record { control = c.groups.self-inside.control.now; entries = c.groups.self-inside.entries } in
+    let B : List ℕ = bytes_at T.control at 16 in
+    let long : length T.control ≡ T.entries.slots + 16 = ap (λ x. length x.now) v.control ∙ c.self.invariant.0 ∙ ap (λ e. e.slots + 16) (sym v.entries) in
+    let size : n ≡ min (T.entries.slots - at) 16 = c.min-size.ensures ∙ ap (λ m. min (m - at) 16) c.len-in-groups.ensures in
+    let sixteen : length B ≡ 16 = length-bytes_at T.control at 16 (omega (arith, long, v.within)) in
+    let len : length (take n B) ≡ n = omega (arith, length-take n B, sixteen, size) in
+    let fits : at + n ≤ T.entries.slots = omega (arith, size, v.within) in
+    let are = λ (k : ℕ) (l : k < length (take n B)). (let e : slice_index T.control (at + k) ≡ slice_index (take n B) k = sym (get_or-take n B k 0 (omega (arith, l, len)) ∙ index-bytes_at T.control at 16 k (omega (arith, l, len, size))) in e) in
+    let none : c.groups.self-inside.filled ≡ [] = list-none _ c.in_default.ensures.next in
+    record {
+      control = v.control;
+      entries = v.entries;
+      within = fits;
+      filled = subst (AreFilled T at) (sym c.of-self-inside.ensures) (filled-All T at (take n B) (omega (arith, len, fits)) are);
+      left =
+          ap (λ xs. items_of g.K.ByteArray.of_bytes g.V.ByteArray.of_bytes F T (map (λ i. at + i) xs) ++ items_from g.K.ByteArray.of_bytes g.V.ByteArray.of_bytes F T (at + n)) c.of-self-inside.ensures
+          ∙ sym (items_from-group g.K.ByteArray.of_bytes g.V.ByteArray.of_bytes F T at n (take n B) len fits are)
+          ∙ sym (ap (λ xs. items_of g.K.ByteArray.of_bytes g.V.ByteArray.of_bytes F T (map (λ i. c.groups.self-inside.base + i) xs) ++ items_from g.K.ByteArray.of_bytes g.V.ByteArray.of_bytes F T at) none)
+          ∙ v.left;
+    }

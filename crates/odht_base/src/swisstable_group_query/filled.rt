@@ -1,0 +1,60 @@
+//! The filled ones of sixteen control bytes, in the lanes of one vector.
+ghost use Rattle.std.specs.Prelude.{◌≡◌, ◌≤◌, [], length, take, drop, slice_get};
+ghost use Rattle.odht_base.specs.Groups.{filled};
+
+use super::mask::{lowest_bit, without_lowest_bit};
+use std::marker::Model;
+use std::simd::prelude::*;
+
+/// The control bytes of a group that do not count as free, which are taken in turn.
+///
+/// A contract speaks of it as of the list of their indices that are left.
+#[derive(Drop)]
+pub struct FilledQuery {
+    mask: u64,
+}
+
+impl Model for FilledQuery {
+    ghost use Rattle.std.specs.Prelude.{ℕ, List};
+    ghost use Rattle.odht_base.specs.Masks.{set_bits};
+
+    ghost Value = { List ℕ };
+
+    ghost view = { λ q. set_bits q.mask };
+}
+
+impl FilledQuery {
+    /// None.
+    #[inline]
+    pub fn none() -> FilledQuery
+        ensures { result ≡ [] }
+    {
+        FilledQuery { mask: 0 }
+    }
+
+    /// The filled ones of the first `count` of sixteen control bytes.
+    #[inline]
+    pub fn of(bytes: &[u8], count: usize) -> FilledQuery
+        requires len { length bytes.now ≡ 16 }
+        requires count { count ≤ 16 }
+        ensures { result ≡ filled (take count bytes.now) }
+    {
+        let below = u8x16::from_slice(bytes)
+            .simd_lt(u8x16::splat(128))
+            .to_bitmask();
+        FilledQuery {
+            mask: below & ((1_u64 << count as u32) - 1),
+        }
+    }
+
+    /// Takes the least index that is left.
+    #[inline]
+    pub fn next_filled(&mut self) -> Option<usize>
+        ensures next { result ≡ slice_get self.old 0 }
+        ensures rest { self.new ≡ drop 1 self.old }
+    {
+        let index = lowest_bit(self.mask)?;
+        self.mask = without_lowest_bit(self.mask);
+        Some(index)
+    }
+}
