@@ -15,7 +15,7 @@ invariant-groups g l =
       within : l.self-inside.next_slot ≤ l.self-inside.entries.slots;
       filled : AreFilled T l.self-inside.base l.self-inside.filled;
       left : items_of g.K.ByteArray.of_bytes g.V.ByteArray.of_bytes F T (map (λ i. l.self-inside.base + i) l.self-inside.filled) ++ items_from g.K.ByteArray.of_bytes g.V.ByteArray.of_bytes F T l.self-inside.next_slot
-      ≡ items_of g.K.ByteArray.of_bytes g.V.ByteArray.of_bytes F S (map (λ i. l.initial.self-inside.base + i) l.initial.self-inside.filled) ++ items_from g.K.ByteArray.of_bytes g.V.ByteArray.of_bytes F S l.initial.self-inside.next_slot;
+          ≡ items_of g.K.ByteArray.of_bytes g.V.ByteArray.of_bytes F S (map (λ i. l.initial.self-inside.base + i) l.initial.self-inside.filled) ++ items_from g.K.ByteArray.of_bytes g.V.ByteArray.of_bytes F S l.initial.self-inside.next_slot;
     }
 
 abbrev pub decreases-groups : goal.decreases-groups
