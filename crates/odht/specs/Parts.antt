@@ -5,7 +5,7 @@
 --     TableParts           control bytes with their mirror, and entries
 --     IsTableParts ml kl vl T   T has a slot count, and as many control bytes with their mirror and entries; a key is long
 --                          enough for its hash
---     Shows                control bytes with their mirror, and how many groups of sixteen of them were shown
+--     ShownGroups          control bytes with their mirror, and how many groups of sixteen of them were shown
 use Rattle.std.specs.Prelude.{◌≡◌, ℕ, ◌+◌, ◌*◌, ◌≤◌, List, length}
 use Rattle.odht_base.specs.Format.{Format, format_of}
 use Rattle.odht_base.specs.Load.{IsSlotCount}
@@ -32,6 +32,6 @@ pub record IsTableParts (min_len key_len value_len : ℕ) (T : TableParts) : Typ
   pub mirrored : length T.control ≡ T.entries.slots + 16
   pub hashes : min_len ≤ key_len
 
-pub record Shows : Type 0 where
+pub record ShownGroups : Type 0 where
   pub control : List ℕ
   pub groups : ℕ

@@ -24,7 +24,7 @@ Passed F P k p = (q : ℕ) → q < p → stops_at P.cells k (slot_of F P k q) �
 
 pub record StandsAt (F : Format) (P : Table) (E : EntryBytes) (k : List ℕ) (p start : ℕ) (bs : List ℕ) : Type 0 where
   pub placed : IsPlaced F P
-  pub count : E.slots ≡ slot_count P
+  pub slots : E.slots ≡ slot_count P
   pub entries_are : E.bytes ≡ entries F P.cells
   pub passed : Passed F P k p
   pub within : p + length bs ≤ slot_count P

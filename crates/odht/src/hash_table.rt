@@ -22,7 +22,7 @@ use crate::hash::HashFn;
 use crate::iter::Iter;
 use crate::load::{Factor, max_item_count_for, slots_needed};
 use crate::memory_layout::{self, Allocation};
-use crate::raw_table::{RawIter, RawTable, Search, search_parts, tag_of};
+use crate::raw_table::{RawIter, RawTable, Search, search_with_hash, tag_of};
 use crate::swisstable_group_query::GroupQuery;
 use std::marker::Model;
 
@@ -302,7 +302,7 @@ impl<C: Config, D: ByteStoreMut> HashTable<C, D> {
         }
         let hash = C::H::hash(key.as_slice());
         let (control, entries) = self.allocation.data_slices();
-        match search_parts::<C::EncodedKey, C::EncodedValue, C::H, GroupQuery>(
+        match search_with_hash::<C::EncodedKey, C::EncodedValue, C::H, GroupQuery>(
             control, &entries, key, hash,
         ) {
             Search::Found(slot) => {

@@ -28,7 +28,7 @@ mod walk;
 mod writes;
 
 pub use group_search::search;
-pub(crate) use group_search::{search_counted, search_parts};
+pub(crate) use group_search::{search_counted, search_with_hash};
 pub use outcome::Search;
 pub use plain::{plain_find, plain_insert};
 pub use probe_seq::{ProbeSeq, probe_order};

@@ -31,7 +31,7 @@ pub trait Group: Sized + Drop {
     /// How many control bytes are looked at at once.
     const SIZE: usize;
 
-    /// Looks at a group for a tag.
+    /// Looks at a group, `SIZE` bytes, for a tag, which is below 128.
     fn of(bytes: &[u8], h2: u8) -> Self
         requires size { length bytes.now ≡ SIZE }
         requires tag { h2 < 128 }
@@ -46,7 +46,7 @@ pub trait Group: Sized + Drop {
     fn first_empty(&self) -> Option<usize>
         ensures { result ≡ free self.now };
 
-    /// Takes the least match that is left.
+    /// Takes the least match that is left; None once all were taken.
     fn next_match(&mut self) -> Option<usize>
         ensures next { result ≡ slice_get (matches self.old) 0 }
         ensures rest { matches self.new ≡ drop 1 (matches self.old) }

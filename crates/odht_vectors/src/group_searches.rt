@@ -2,6 +2,7 @@
 ghost use Rattle.std.specs.Prelude.{◌≤◌};
 
 use crate::configs::DirectU32ToU32;
+use crate::known_tables::sixteen_slots;
 use odht::bytes::{ByteArray, OwnedBytes};
 use odht::error::Error;
 use odht::hash::HashFn;
@@ -170,4 +171,21 @@ fn lookup_past_reported_slots(rt: HostRuntime) -> Result<(), Error> {
     assert_eq!(rt; &bytes[48..56], [0x10, 0, 0, 6, 7, 0, 0, 0].as_slice());
     assert_eq!(rt; &bytes[160..163], [3, 2, 3].as_slice());
     Ok(())
+}
+
+// A scan shows sixteen control bytes from any slot on, behind the last slot the mirror, and counts how often it did.
+#[test]
+fn control_bytes_that_a_scan_shows(rt: HostRuntime) {
+    let mut control = [255; 32];
+    control[3] = 7;
+    control[15] = 9;
+    control[19] = 7;
+    control[31] = 9;
+    let slots = sixteen_slots(&rt, 13, 87);
+    let mut scan = Scan::new(&control, slots);
+    assert!(rt; scan.slots() == 16);
+    assert!(rt; scan.groups() == 0);
+    assert!(rt; scan.group(0) == &control[..16]);
+    assert!(rt; scan.group(15) == &control[15..31]);
+    assert!(rt; scan.groups() == 2);
 }

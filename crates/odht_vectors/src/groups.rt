@@ -1,5 +1,7 @@
 //! The searches of a group of control bytes.
-use odht::swisstable_group_query::{Group, lanes, no_simd};
+ghost use Rattle.std.specs.Prelude.{◌≤◌};
+
+use odht::swisstable_group_query::{FilledQuery, Group, lanes, no_simd};
 use std::alloc::{AllocError, Global};
 use std::process::Abort;
 
@@ -106,4 +108,27 @@ fn neighbour_of_the_tag(rt: HostRuntime) {
     assert_eq!(rt; lanes.next(), None);
     assert!(rt; lanes.any_empty());
     assert_eq!(rt; lanes.first_empty(), Some(2));
+}
+
+// The filled ones of the first so many of these control bytes have these indices.
+fn check_filled(rt: &impl Abort, bytes: &[u8; 16], count: usize, expected: [Option<usize>; 4])
+    requires { count ≤ 16 }
+{
+    let mut filled = FilledQuery::of(bytes, count);
+    for index in 0..4 {
+        assert!(rt; filled.next_filled() == expected[index]);
+    }
+}
+
+#[test]
+fn filled_bytes_of_a_group(rt: HostRuntime) {
+    let mut group = [255; 16];
+    group[1] = 0;
+    group[2] = 127;
+    group[3] = 128;
+    group[15] = 5;
+    check_filled(&rt, &group, 16, [Some(1), Some(2), Some(15), None]);
+    check_filled(&rt, &group, 15, [Some(1), Some(2), None, None]);
+    check_filled(&rt, &group, 2, [Some(1), None, None, None]);
+    check_filled(&rt, &group, 0, [None, None, None, None]);
 }

@@ -41,10 +41,6 @@ pub record IsTaken (all left : List ℕ) (T : ℕ → Type 0) : Type 0 where
   pub part : (i : ℕ) → Contains left i → Contains all i
   pub others : (i : ℕ) → Contains all i → Contains left i ⊎ T i
 
--- before the first is taken
-pub taken-none : (all : List ℕ) (T : ℕ → Type 0) → IsTaken all all T
-taken-none all T = record { part = λ i h. h; others = λ i h. inl h }
-
 -- the first that is left is one of all
 pub taken-first : (all left : List ℕ) (T : ℕ → Type 0) (x : ℕ) → IsTaken all left T → Some x ≡ slice_get left 0 → Contains all x
 taken-first all [] T x t e = absurd (none-some x (sym e))
@@ -68,11 +64,6 @@ taken-next all (y ∷ left) rest T x t e d h = record {
 pub taken-all : (all left : List ℕ) (T : ℕ → Type 0) → IsTaken all left T → None ≡ slice_get left 0 → (i : ℕ) → Contains all i → T i
 taken-all all [] T t e i c = elim (t.others i c) [ inl more ↦ absurd (omega (arith, more.1)) | inr gone ↦ gone ]
 taken-all all (y ∷ left) T t e i c = absurd (none-some y e)
-
--- fewer are left
-pub length-rest : (left rest : List ℕ) (x : ℕ) → Some x ≡ slice_get left 0 → rest ≡ drop 1 left → length rest < length left
-length-rest [] rest x e d = absurd (none-some x (sym e))
-length-rest (y ∷ left) rest x e d = omega (arith, ap length d)
 
 -- where no place is first, each fails
 position-None : (t : ℕ → Bool) (xs : List ℕ) (d : ℕ) → position t xs ≡ None → (i : ℕ) → i < length xs → t (get_or xs i d) ≡ false
@@ -185,7 +176,7 @@ stands-piece F P E k p start bs at n l s passed =
     let w = s.within in
     record {
       placed = s.placed;
-      count = s.count;
+      slots = s.slots;
       entries_are = s.entries_are;
       passed = passed;
       within = omega arith;

@@ -67,7 +67,7 @@ module _ (F : Format) (P : Table) (E : EntryBytes) (ctrl k : List ℕ) (f : IsFo
       ∙ ap (λ n. place_slot (home F k n) n (16 * j + i)) count in
       record {
         placed = h.placed;
-        count = count;
+        slots = count;
         entries_are = h.entries_are;
         passed = passed;
         within = omega arith;

@@ -1,4 +1,4 @@
--- A walk over the slots, slot by slot, and what it gives of a table's bytes.
+-- A walk over the slots, sixteen at a time, and what it gives of a table's bytes.
 use Rattle.std.proofs.Common.{◌≡◌, ℕ, zero, suc, ◌+◌, ◌-◌, ◌<◌, ◌≤◌, ◌∙◌, ◌++◌, Bool, true, false, sym, ap, subst, refl, arith, List, [], ◌∷◌, length, map, slice_index, slice_get, Option, Some, None, nat_lt, lt-ltb, le-ltb, le-leb, ltb-true}
 use Rattle.std.proofs.lemmas.Bool.{lt-leb}
 use Rattle.std.specs.Prelude.{slice_index_or}
@@ -10,29 +10,13 @@ use Rattle.std.specs.List.{filter_map, cons_option, range_with_len}
 use Rattle.std.proofs.lemmas.List.FromFn.{length-range_with_len, get_or-range_with_len}
 use Rattle.odht_base.specs.Format.{Format, IsFormat, format_of}
 use Rattle.odht_base.specs.Table.{Pair, Table, walk}
-use Rattle.odht_base.specs.Shown.{counts_as_free, shown_cell, shown_cells, seen, slot_key, slot_value}
+use Rattle.odht_base.specs.Shown.{counts_as_free, shown_cell, shown_cells, seen}
 use Rattle.odht_base.specs.Valid.{IsImage}
 use Rattle.odht_base.specs.Groups.{filled}
 use Rattle.odht_base.proofs.lemmas.Image.{shown-image}
 use Rattle.odht_base.proofs.lemmas.MarkedPlaces.{places_of, filled-places}
 use Rattle.odht.specs.Parts.{TableParts, entry_format}
 use Rattle.odht.specs.Walks.{item, slot_item, items_of, items_from, AreFilled, decoded_items}
-use Rattle.odht.specs.declared.raw_table.Entry.{Entry}
-
-module _ {K V : Type 0} (f : List ℕ → K) (g : List ℕ → V) (F : Format) (T : TableParts) (i : ℕ) where
-  -- the slots from one on are this one and those behind it
-  one_more : i < T.entries.slots → T.entries.slots - i ≡ suc (T.entries.slots - (i + 1))
-  one_more l = omega (arith, l)
-
-  -- a slot that counts as free is passed over
-  pub items_from-free : i < T.entries.slots → counts_as_free (slice_index T.control i) ≡ true → items_from f g F T i ≡ items_from f g F T (i + 1)
-  items_from-free l e = rw (one_more l, e) refl
-
-  -- any other gives its control byte and its entry
-  pub items_from-filled : (e : Entry K V) → i < T.entries.slots → counts_as_free (slice_index T.control i) ≡ false
-      → e.key ≡ f (slot_key F T.entries.bytes i) → e.value ≡ g (slot_value F T.entries.bytes i)
-      → items_from f g F T i ≡ (slice_index T.control i, e) ∷ items_from f g F T (i + 1)
-  items_from-filled e l filled key value = rw (one_more l, filled) (λ j. (slice_index T.control i, record { key = sym key j; value = sym value j }) ∷ items_from f g F T (i + 1))
 
 -- ---- slots by groups
 -- a list without a first item

@@ -1,5 +1,5 @@
 //! The search by groups of control bytes along the probe order.
-ghost use Rattle.std.specs.Prelude.{◌≡◌, ℕ, ◌+◌, ◌-◌, ◌/◌, ◌%◌, ◌^◌, ◌<◌, ◌≤◌, ⊤, min, length, slice_index, IfSome, IsTrue};
+ghost use Rattle.std.specs.Prelude.{◌≡◌, ℕ, ◌+◌, ◌/◌, ◌%◌, ◌^◌, ◌<◌, ◌≤◌, ⊤, min, length, slice_index, IfSome, IsTrue};
 ghost use Rattle.odht_base.specs.Load.{IsSlotCount};
 ghost use Rattle.odht_base.specs.Format.{format_of};
 ghost use Rattle.odht_base.specs.Table.{Table};
@@ -18,8 +18,8 @@ use crate::swisstable_group_query::{Group, REFERENCE_GROUP_SIZE};
 /// Looks for the key group by group along its probe order, and stops at the first slot that is free or holds it.
 ///
 /// On the parts of a table whose keys are all reached the answer is the slot where a search slot by slot ends, and exactly
-/// the groups up to it are shown. On any parts `Found` is a slot whose entry has this very key, `Free` one that counts as
-/// free, and at most each group is shown once. Both hold of every group search.
+/// as many groups as there are up to it are shown. On any parts `Found` is a slot whose entry has this very key, `Free`
+/// one that counts as free, and no more groups are shown than there are. Both hold of every group search.
 #[inline]
 pub fn search<K: ByteArray, V: ByteArray, H: HashFn, Q: Group>(
     scan: &mut Scan<'_>,
@@ -122,7 +122,7 @@ pub(crate) fn search_counted<K: ByteArray, V: ByteArray, H: HashFn, Q: Group>(
 
 /// `search` of a key whose hash is known, in these parts.
 #[inline]
-pub(crate) fn search_parts<K: ByteArray, V: ByteArray, H: HashFn, Q: Group>(
+pub(crate) fn search_with_hash<K: ByteArray, V: ByteArray, H: HashFn, Q: Group>(
     control: &[EntryMetadata],
     entries: &Entries<'_, K, V>,
     key: &K,

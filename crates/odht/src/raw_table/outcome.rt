@@ -5,8 +5,9 @@
 pub enum Search {
     /// This slot holds the key.
     Found(usize),
-    /// No slot holds the key, and this is the first free one of its probe order.
+    /// The search met this slot, which counts as free. On the parts of a table whose keys are all reached no slot holds the
+    /// key, and this is the first free one of its probe order.
     Free(usize),
-    /// No slot is free or holds the key.
+    /// The search met no slot that is free or holds the key. On the parts of a table whose keys are all reached there is none.
     Neither,
 }

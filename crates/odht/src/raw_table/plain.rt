@@ -1,6 +1,5 @@
 //! The search slot by slot along the probe order, and find and insert over it: the reference forms.
-ghost use Rattle.std.specs.Prelude.{◌≡◌, ◌+◌, ◌-◌, ◌*◌, ◌/◌, ◌%◌, ◌^◌, ◌<◌, ◌≤◌, ◌↔◌, ◌++◌, ⊤, ℕ, length, slice_index, option_map, IfSome, IfOk, OnErr, IsTrue};
-ghost use Rattle.odht_base.specs.Bytes.{overwritten_at};
+ghost use Rattle.std.specs.Prelude.{◌≡◌, ◌+◌, ◌-◌, ◌*◌, ◌%◌, ◌<◌, ◌≤◌, ◌↔◌, ⊤, ℕ, length, slice_index, option_map, IfSome, IfOk, OnErr, IsTrue};
 ghost use Rattle.odht_base.specs.Load.{IsSlotCount};
 ghost use Rattle.odht_base.specs.Format.{format_of};
 ghost use Rattle.odht_base.specs.Probe.{place_slot};
@@ -9,7 +8,6 @@ ghost use Rattle.odht_base.specs.Map.{map_of};
 ghost use Rattle.odht_base.specs.Insert.{place};
 ghost use Rattle.odht_base.specs.Valid.{IsPartsOf};
 ghost use Rattle.odht_base.specs.Shown.{counts_as_free, slot_key, slot_value};
-ghost use Rattle.odht_base.specs.Writes.{tagged};
 ghost use Rattle.odht.specs.Answers.{answer, MatchSearch};
 ghost use Rattle.odht.specs.Frame.{IsPartsFramed};
 

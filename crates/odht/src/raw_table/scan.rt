@@ -19,9 +19,9 @@ pub struct Scan<'a> {
 impl<'a> Model for Scan<'a> {
     ghost use Rattle.std.specs.Prelude.{◌≡◌, ◌+◌, length};
     ghost use Rattle.odht_base.specs.Load.{IsSlotCount};
-    ghost use Rattle.odht.specs.Parts.{Shows};
+    ghost use Rattle.odht.specs.Parts.{ShownGroups};
 
-    ghost Value = { Shows };
+    ghost Value = { ShownGroups };
 
     ghost view = { λ s. record { control = s.control.now; groups = s.groups } };
 

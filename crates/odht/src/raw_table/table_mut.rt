@@ -9,7 +9,7 @@ ghost use Rattle.odht_base.specs.Valid.{IsPartsOf, IsFullWithout};
 ghost use Rattle.odht.specs.Frame.{IsPartsFramed};
 
 use super::writes::insert_at;
-use super::{Entries, EntryMetadata, RawTable, search_parts, tag_of};
+use super::{Entries, EntryMetadata, RawTable, search_with_hash, tag_of};
 use crate::bytes::ByteArray;
 use crate::error::Error;
 use crate::hash::HashFn;
@@ -117,7 +117,7 @@ fn insert_parts<K: ByteArray, V: ByteArray, H: HashFn>(
     let slots = control.len() - REFERENCE_GROUP_SIZE;
     let hash = H::hash(key.as_slice());
     let shown: Entries<'_, K, V> = Entries::new(entries, slots);
-    let end = search_parts::<K, V, H, GroupQuery>(control, &shown, &key, hash);
+    let end = search_with_hash::<K, V, H, GroupQuery>(control, &shown, &key, hash);
     insert_at::<K, V, H>(control, entries, key, value, tag_of(hash), end)
 }
 

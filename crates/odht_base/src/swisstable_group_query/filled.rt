@@ -24,7 +24,7 @@ impl Model for FilledQuery {
 }
 
 impl FilledQuery {
-    /// None.
+    /// No index.
     #[inline]
     pub fn none() -> FilledQuery
         ensures { result ≡ [] }
@@ -32,7 +32,7 @@ impl FilledQuery {
         FilledQuery { mask: 0 }
     }
 
-    /// The filled ones of the first `count` of sixteen control bytes.
+    /// The filled ones of the first `count` of sixteen control bytes, at most sixteen.
     #[inline]
     pub fn of(bytes: &[u8], count: usize) -> FilledQuery
         requires len { length bytes.now ≡ 16 }
@@ -47,7 +47,7 @@ impl FilledQuery {
         }
     }
 
-    /// Takes the least index that is left.
+    /// Takes the least index that is left; None once all were taken.
     #[inline]
     pub fn next_filled(&mut self) -> Option<usize>
         ensures next { result ≡ slice_get self.old 0 }
