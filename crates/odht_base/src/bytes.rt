@@ -211,7 +211,7 @@ impl ByteStore for BorrowedMut<'_> {
 
 impl ByteStoreMut for BorrowedMut<'_> {
     // Beside what every store promises: the store is still that of the slice which it was made from.
-    #[inline]
+    #[inline(always)]
     fn write_at(&mut self, at: usize, data: &[u8])
         requires { at + length «data».now ≤ length self.old.0.now }
         ensures bytes { self.new.0.now ≡ overwritten_at self.old.0.now at «data».now }
@@ -261,17 +261,46 @@ impl ByteStore for OwnedBytes {
 }
 
 impl ByteStoreMut for OwnedBytes {
-    #[inline]
+    #[inline(always)]
     fn write_at(&mut self, at: usize, data: &[u8]) {
         write_slice(self.0.as_mut_slice(), at, data)
     }
 }
 
 /// Writes `piece` into the slice from the byte `at` on. No other byte changes.
-#[inline]
+#[inline(always)]
 pub fn write_slice(all: &mut [u8], at: usize, piece: &[u8])
     requires { at + length piece.now ≤ length all.old }
     ensures { all.new ≡ overwritten_at all.old at piece.now }
 {
-    all[at..at + piece.len()].copy_from_slice(piece);
+    overwrite(&mut all[at..at + piece.len()], piece);
+}
+
+// Writes `piece` over the whole place: in one store at the lengths that a number has.
+#[inline(always)]
+fn overwrite(place: &mut [u8], piece: &[u8])
+    requires { length place.old ≡ length piece.now }
+    ensures { place.new ≡ piece.now }
+{
+    match piece.len() {
+        1 => overwrite_array::<1>(place, piece),
+        2 => overwrite_array::<2>(place, piece),
+        4 => overwrite_array::<4>(place, piece),
+        8 => overwrite_array::<8>(place, piece),
+        16 => overwrite_array::<16>(place, piece),
+        _ => place.copy_from_slice(piece),
+    }
+}
+
+// Writes `piece` over the whole place, of `N` bytes, in one store.
+#[inline(always)]
+fn overwrite_array<const N: usize>(place: &mut [u8], piece: &[u8])
+    requires place_len { length place.old ≡ N }
+    requires piece_len { length piece.now ≡ N }
+    ensures { place.new ≡ piece.now }
+{
+    let (Some(to), Some(from)) = (place.first_chunk_mut::<N>(), piece.first_chunk::<N>()) else {
+        unreachable!()
+    };
+    *to = *from;
 }

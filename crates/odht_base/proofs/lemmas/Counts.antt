@@ -51,14 +51,6 @@ count_set (Some d ∷ cs) (suc i) p l = ap suc (count_set cs i p (omega arith)) 
 pub count_set_free : (cs : Cells) (i : ℕ) (p : Pair) → i < length cs → is_none (cell_at cs i) ≡ true → count_of (set cs i (Some p)) ≡ count_of cs + 1
 count_set_free cs i p l f = count_set cs i p l ∙ ap (λ b. if b then count_of cs + 1 else count_of cs) f
 
--- so at most one more
-pub count_set_le : (cs : Cells) (x : ℕ) (p : Pair) → count_of (set cs x (Some p)) ≤ count_of cs + 1
-count_set_le [] x p = omega arith
-count_set_le (None ∷ cs) zero p = omega arith
-count_set_le (Some d ∷ cs) zero p = omega arith
-count_set_le (None ∷ cs) (suc x) p = count_set_le cs x p
-count_set_le (Some d ∷ cs) (suc x) p = omega (arith, count_set_le cs x p)
-
 -- in a filled cell
 pub count_set_again : (cs : Cells) (x : ℕ) (p : Pair) → is_none (cell_at cs x) ≡ false → count_of (set cs x (Some p)) ≡ count_of cs
 count_set_again [] x p f = refl

@@ -1,5 +1,5 @@
 -- Cells whose pairs are of the format, or have its lengths, after a cell is set or cells are left out; sized tables.
-use Rattle.std.proofs.Common.{◌∙◌, ◌≡◌, ◌<◌, ◌≤◌, ◌^◌, length-set, ℕ, zero, suc, sym, subst, List, [], ◌∷◌, Option, Some, None, length, take, set, arith}
+use Rattle.std.proofs.Common.{◌∙◌, ◌≡◌, ◌<◌, ◌≤◌, ◌^◌, ℕ, zero, suc, sym, subst, List, [], ◌∷◌, Option, Some, None, length, take, set, arith}
 use Rattle.std.proofs.lemmas.List.{length-replicate}
 use Rattle.odht_base.specs.Format.{Format, IsFormat, tag}
 use Rattle.odht_base.specs.Load.{IsSlotCount}
@@ -35,10 +35,6 @@ HasLengths-IsPlaced F P h = HasLengths-HasPairsOf F P.cells h.pairs
 pub HasLengths-tail : (F : Format) (c : Option Pair) (cs : Cells) → HasLengths F (c ∷ cs) → HasLengths F cs
 HasLengths-tail F c cs h = record { keys = λ i. h.keys (suc i); values = λ i. h.values (suc i) }
 
--- without the first cell
-pub HasPairsOf-tail : (F : Format) (c : Option Pair) (cs : Cells) → HasPairsOf F (c ∷ cs) → HasPairsOf F cs
-HasPairsOf-tail F c cs h i = h (suc i)
-
 cell_at-take : (n : ℕ) (cs : Cells) (i : ℕ) (p : Pair) → cell_at (take n cs) i ≡ Some p → cell_at cs i ≡ Some p
 cell_at-take zero cs i p g = absurd (none-some p g)
 cell_at-take (suc n) [] i p g = g
@@ -56,13 +52,6 @@ at_set Q (c ∷ cs) zero q h here zero p g = subst Q (some_same q p g) here
 at_set Q (c ∷ cs) zero q h here (suc j) p g = h (suc j) p g
 at_set Q (c ∷ cs) (suc i) q h here zero p g = h 0 p g
 at_set Q (c ∷ cs) (suc i) q h here (suc j) p g = at_set Q cs i q (λ k. h (suc k)) here j p g
-
--- with a pair of these lengths set
-pub HasLengths-set : (F : Format) (cs : Cells) (i : ℕ) (q : Pair) → HasLengths F cs → length q.key ≡ F.key_len → length q.value ≡ F.value_len → HasLengths F (set cs i (Some q))
-HasLengths-set F cs i q h k v = record {
-  keys = at_set (λ p. length p.key ≡ F.key_len) cs i q h.keys k;
-  values = at_set (λ p. length p.value ≡ F.value_len) cs i q h.values v;
-}
 
 -- with a pair of the format set
 pub HasPairsOf-set : (F : Format) (cs : Cells) (i : ℕ) (q : Pair) → HasPairsOf F cs → IsPairOf F q → HasPairsOf F (set cs i (Some q))
@@ -85,9 +74,3 @@ pub IsSized-empty : (F : Format) (s f : ℕ) → IsSlotCount s → IsSized F (em
 IsSized-empty F s f h =
     let n : slot_count (empty s f) ≡ s = length-replicate s None in
     record { lengths = HasLengths-HasPairsOf F (empty s f).cells (HasPairsOf-empty F s f); enough = omega (arith, n, h.least); few = omega (arith, n, slots_fit s h) }
-
--- a pair more or another keeps it
-pub IsSized-set : (F : Format) (P : Table) (i : ℕ) (q : Pair) → IsSized F P → length q.key ≡ F.key_len → length q.value ≡ F.value_len → IsSized F (record P { cells = set P.cells i (Some q) })
-IsSized-set F P i q h k v =
-    let n : length (set P.cells i (Some q)) ≡ slot_count P = length-set P.cells i (Some q) in
-    record { lengths = HasLengths-set F P.cells i q h.lengths k v; enough = omega (arith, n, h.enough); few = omega (arith, n, h.few) }

@@ -1,34 +1,17 @@
 -- Laws of the image of a table: what its header says, and what its bytes show.
-use Rattle.std.proofs.Common.{◌≡◌, ◌<◌, ◌≤◌, ◌∙◌, ◌+◌, ◌*◌, ◌++◌, ℕ, zero, suc, sym, ap, refl, [], ◌∷◌, Some, None, map, take, drop, replicate, length, arith, All, append_assoc, drop_at, length-append}
-use Rattle.std.specs.Prelude.{slice_index}
+use Rattle.std.proofs.Common.{◌≡◌, ◌≤◌, ◌∙◌, ◌+◌, ◌*◌, ◌++◌, ℕ, zero, suc, sym, ap, refl, ◌∷◌, None, map, take, drop, replicate, length, arith, append_assoc, drop_at, length-append}
 use Rattle.std.proofs.lemmas.List.{length-replicate, replicate-append-replicate, take-replicate}
-use Rattle.std.proofs.lemmas.List.Elements.{All-append, All-from_recursion}
 use Rattle.odht_base.specs.Bytes.{bytes_at}
 use Rattle.odht_base.specs.Format.{Format, IsFormat, entry_len}
-use Rattle.odht_base.specs.Image.{header_bytes, entry_bytes, control_byte, entries, controls, parts, image, image_len}
-use Rattle.odht_base.specs.Shown.{stated_slots, stated_count, stated_factor, entries_of, controls_of, control_at, entry_at, key_at, value_at, counts_as_free, shown_cells, shown, seen}
-use Rattle.odht_base.specs.Table.{Pair, Table, cell_at, is_free, slot_count, count, empty, walk}
+use Rattle.odht_base.specs.Image.{header_bytes, control_byte, entries, controls, parts, image, image_len}
+use Rattle.odht_base.specs.Shown.{stated_slots, stated_count, stated_factor, entries_of, controls_of, shown_cells, shown, seen}
+use Rattle.odht_base.specs.Table.{Table, slot_count, count, empty, walk}
 use Rattle.odht_base.specs.Valid.{IsValid, HasPairsOf}
 use Rattle.odht_base.proofs.lemmas.ByteRanges.{bytes_at-between}
 use Rattle.odht_base.proofs.lemmas.Counts.{count_of-le, count_fresh}
 use Rattle.odht_base.proofs.lemmas.Fits.{IsSized, IsSized-IsPlaced}
 use Rattle.odht_base.proofs.lemmas.Numbers.{num-le_bytes}
-use Rattle.odht_base.proofs.lemmas.Parts.{length-header_bytes, length-entries, length-parts, slot_entry-entries, slot_key-entries, slot_value-entries, slice_index-controls, slice_index-mirror, counts_as_free-control_byte, shown_cells-parts, All-parts}
-
--- the last two bytes
-pub bytes_at-image_padding : (F : Format) (P : Table) → bytes_at (image F P) 30 2 ≡ 0 ∷ 0 ∷ []
-unfolding image
-bytes_at-image_padding F P = refl
-
--- the header of an image
-pub take-image : (F : Format) (P : Table) → take 32 (image F P) ≡ header_bytes F (slot_count P) (count P) P.factor
-unfolding image
-take-image F P = refl
-
--- what is behind the header
-pub drop-image : (F : Format) (P : Table) → drop 32 (image F P) ≡ parts F P.cells
-unfolding image
-drop-image F P = refl
+use Rattle.odht_base.proofs.lemmas.Parts.{length-header_bytes, length-entries, length-parts, shown_cells-parts}
 
 -- the image of a sized table states its slot count
 pub stated_slots-image : (F : Format) (P : Table) → IsSized F P → stated_slots (image F P) ≡ slot_count P
@@ -73,31 +56,6 @@ controls_of-image F P h =
     ∙ ap (drop (32 + slot_count P * entry_len F)) (sym (append_assoc H (entries F P.cells) (controls F P.cells)))
     ∙ drop_at (H ++ entries F P.cells) (controls F P.cells) (32 + slot_count P * entry_len F) n
 
--- the control byte of slot i
-pub control_at-image : (F : Format) (P : Table) (i : ℕ) → IsSized F P → i < slot_count P → control_at F (image F P) i ≡ control_byte F (cell_at P.cells i)
-control_at-image F P i h lt = ap (λ cs. slice_index cs i) (controls_of-image F P h) ∙ slice_index-controls F P.cells i lt
-
--- the mirror of slot i
-pub control_at-image_mirror : (F : Format) (P : Table) (i : ℕ) → IsSized F P → i < 16 → control_at F (image F P) (slot_count P + i) ≡ control_byte F (cell_at P.cells i)
-control_at-image_mirror F P i h low =
-    ap (λ cs. slice_index cs (slot_count P + i)) (controls_of-image F P h) ∙ slice_index-mirror F P.cells i low (omega (arith, h.enough))
-
--- slot i counts as free where it is
-pub counts_as_free-image : (F : Format) (P : Table) (i : ℕ) → IsFormat F → IsSized F P → HasPairsOf F P.cells → i < slot_count P → counts_as_free (control_at F (image F P) i) ≡ is_free P.cells i
-counts_as_free-image F P i f h b lt = ap counts_as_free (control_at-image F P i h lt) ∙ counts_as_free-control_byte F P.cells i f b
-
--- the entry of slot i
-pub entry_at-image : (F : Format) (P : Table) (i : ℕ) → IsSized F P → i < slot_count P → entry_at F (image F P) i ≡ entry_bytes F (cell_at P.cells i)
-entry_at-image F P i h lt = ap (λ es. bytes_at es (i * entry_len F) (entry_len F)) (entries_of-image F P h) ∙ slot_entry-entries F P.cells i h.lengths lt
-
--- the key of a filled slot
-pub key_at-image : (F : Format) (P : Table) (i : ℕ) (p : Pair) → IsSized F P → cell_at P.cells i ≡ Some p → key_at F (image F P) i ≡ p.key
-key_at-image F P i p h g = ap (λ es. take F.key_len (bytes_at es (i * entry_len F) (entry_len F))) (entries_of-image F P h) ∙ slot_key-entries F P.cells i p h.lengths g
-
--- the value of a filled slot
-pub value_at-image : (F : Format) (P : Table) (i : ℕ) (p : Pair) → IsSized F P → cell_at P.cells i ≡ Some p → value_at F (image F P) i ≡ p.value
-value_at-image F P i p h g = ap (λ es. drop F.key_len (bytes_at es (i * entry_len F) (entry_len F))) (entries_of-image F P h) ∙ slot_value-entries F P.cells i p h.lengths g
-
 -- the image shows the cells
 pub shown_cells-image : (F : Format) (P : Table) → IsFormat F → IsSized F P → HasPairsOf F P.cells → shown_cells F (entries_of F (image F P)) (controls_of F (image F P)) ≡ P.cells
 shown_cells-image F P f h b =
@@ -119,17 +77,6 @@ seen-image F P f h = ap walk (shown-image F P f h)
 -- valid tables with one image are one
 pub image-injective : (F : Format) (P Q : Table) → IsFormat F → IsValid F P → IsValid F Q → image F P ≡ image F Q → P ≡ Q
 image-injective F P Q f p q e = sym (shown-image F P f p) ∙ ap (shown F) e ∙ shown-image F Q f q
-
--- each byte of a header is below 256
-pub All-header_bytes : (F : Format) (s c f : ℕ) → IsFormat F → All (λ x. x < 256) (header_bytes F s c f)
-All-header_bytes F s c f h = All-from_recursion (λ x. x < 256) (header_bytes F s c f) (omega (arith, h.key_short, h.value_short))
-
--- and each of the image
-pub All-image : (F : Format) (P : Table) → IsFormat F → HasPairsOf F P.cells → All (λ x. x < 256) (image F P)
-unfolding image
-All-image F P f h =
-    All-append (λ x. x < 256) (header_bytes F (slot_count P) (count P) P.factor) (parts F P.cells)
-    (All-header_bytes F (slot_count P) (count P) P.factor f) (All-parts F P.cells f h)
 
 -- the entries of an empty table are zeros
 pub entries-empty : (F : Format) (s : ℕ) → entries F (replicate s None) ≡ replicate (s * entry_len F) 0

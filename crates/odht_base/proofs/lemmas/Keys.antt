@@ -21,16 +21,6 @@ key_pair k (Some p) h = (p, refl, same_bytes k p.key h)
 pub pair_key : (k : List ℕ) (c : Option Pair) (p : Pair) → c ≡ Some p → k ≡ p.key → has_key k c ≡ true
 pair_key k c p e s = ap (has_key k) e ∙ ap (λ j. bytes_eq j p.key) s ∙ key_itself p.key
 
--- one key at most
-pub one_key : (j k : List ℕ) (c : Option Pair) → has_key j c ≡ true → has_key k c ≡ true → j ≡ k
-one_key j k None a b = absurd (true≢false (sym a))
-one_key j k (Some p) a b = same_bytes j p.key a ∙ sym (same_bytes k p.key b)
-
--- a cell with a key is filled
-pub key_filled : (k : List ℕ) (c : Option Pair) → has_key k c ≡ true → is_none c ≡ false
-key_filled k None h = absurd (true≢false (sym h))
-key_filled k (Some p) h = refl
-
 -- a free cell has none
 pub no_key_free : (k : List ℕ) (c : Option Pair) → is_none c ≡ true → has_key k c ≡ false
 no_key_free k None e = refl

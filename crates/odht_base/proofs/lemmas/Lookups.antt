@@ -5,11 +5,11 @@ use Rattle.std.proofs.lemmas.Bool.{or_from, or_right, false_from_ne_true}
 use Rattle.odht_base.specs.Format.{Format, home}
 use Rattle.odht_base.specs.Map.{map_of}
 use Rattle.odht_base.specs.Probe.{place_slot}
-use Rattle.odht_base.specs.Search.{search_end, reach, stops_at}
+use Rattle.odht_base.specs.Search.{search_end, stops_at}
 use Rattle.odht_base.specs.Table.{Pair, Table, Cells, slot_count, cell_at, has_key}
 use Rattle.odht_base.specs.Valid.{IsPlaced}
 use Rattle.odht_base.proofs.lemmas.Options.{some_same}
-use Rattle.odht_base.proofs.lemmas.Orders.{place_slot-apart, find-order, find-order_none, find-order_some, find-order_all, position-order, position-order_none}
+use Rattle.odht_base.proofs.lemmas.Orders.{place_slot-apart, find-order, find-order_none}
 use Rattle.odht_base.proofs.lemmas.Pairs.{value_in-Some}
 use Rattle.odht_base.proofs.lemmas.Placed.{AllArrive}
 use Rattle.odht_base.proofs.lemmas.Places.{is_free-target}
@@ -70,20 +70,3 @@ map_of-search_end F P k ok = go (search_end F P.cells k) refl
     go : (o : Option ℕ) → search_end F P.cells k ≡ o → map_of P k ≡ option_and_then (λ i. option_map (λ (p : Pair). p.value) (cell_at P.cells i)) o
     go None e = absent e (map_of P k) refl
     go (Some i) e = at i (search_end-IsTarget F P k ok i e) (cell_at P.cells i) refl (map_of P k) refl
-
--- the reach is the place of the slot where the search ends, in any cells
-pub search_end-reach : (F : Format) (cs : Cells) (k : List ℕ) → search_end F cs k ≡ option_map (λ p. place_slot (home F k (length cs)) (length cs) p) (reach F cs k)
-unfolding search_end reach
-search_end-reach F cs k = go (search_end F cs k) refl
-  where
-    go : (o : Option ℕ) → search_end F cs k ≡ o → o ≡ option_map (λ p. place_slot (home F k (length cs)) (length cs) p) (reach F cs k)
-    go None e =
-        let b = home F k (length cs) in
-        let all = find-order_all (stops_at cs k) b (length cs) e in
-        let none = position-order_none (stops_at cs k) b (length cs) all in
-        ap (option_map (λ p. place_slot b (length cs) p)) (sym none)
-    go (Some i) e =
-        let b = home F k (length cs) in
-        let f = find-order_some (stops_at cs k) b (length cs) i e in
-        let first = position-order (stops_at cs k) b (length cs) f.place f.within (ap (stops_at cs k) f.stands ∙ f.passes) f.before in
-        ap Some (sym f.stands) ∙ ap (option_map (λ p. place_slot b (length cs) p)) (sym first)

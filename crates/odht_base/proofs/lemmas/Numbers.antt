@@ -1,7 +1,6 @@
 -- Numbers and their bytes.
 use Rattle.std.proofs.Common.{◌≡◌, ◌<◌, ◌∙◌, ◌/◌, ◌%◌, ◌^◌, ℕ, zero, suc, sym, ap, refl, List, [], ◌∷◌, arith, pow-suc, length, All}
-use Rattle.std.proofs.lemmas.List.Elements.{All-nil, All-cons}
-use Rattle.odht_base.specs.Numbers.{num, le_bytes, IsBytes}
+use Rattle.odht_base.specs.Numbers.{num, le_bytes}
 
 -- the bytes of a number have that number
 pub num-le_bytes : (w n : ℕ) → n < 256 ^ w → num (le_bytes w n) ≡ n
@@ -23,17 +22,3 @@ le_bytes-num (x ∷ b) h =
 -- the same of w bytes
 pub le_bytes-num_at : (w : ℕ) (b : List ℕ) → length b ≡ w → All (λ x. x < 256) b → le_bytes w (num b) ≡ b
 le_bytes-num_at w b e h = ap (λ n. le_bytes n (num b)) (sym e) ∙ le_bytes-num b h
-
--- they are bytes
-pub All-le_bytes : (w n : ℕ) → All (λ x. x < 256) (le_bytes w n)
-All-le_bytes zero n = All-nil (λ x. x < 256)
-All-le_bytes (suc w) n = All-cons (λ x. x < 256) (n % 256) (le_bytes w (n / 256)) (omega arith) (All-le_bytes w (n / 256))
-
--- as many as asked
-pub length-le_bytes : (w n : ℕ) → length (le_bytes w n) ≡ w
-length-le_bytes zero n = refl
-length-le_bytes (suc w) n = ap suc (length-le_bytes w (n / 256))
-
--- so they are w bytes
-pub IsBytes-le_bytes : (w n : ℕ) → IsBytes w (le_bytes w n)
-IsBytes-le_bytes w n = record { len = length-le_bytes w n; each = All-le_bytes w n }

@@ -1,11 +1,10 @@
 -- Laws of the parts of cells: how long they are, and what stands where.
-use Rattle.std.proofs.Common.{nat_le, leb-true, ◌≡◌, ◌<◌, ◌≤◌, ◌∙◌, ◌+◌, ◌-◌, ◌*◌, ◌++◌, ℕ, suc, cond, is_none, sym, ap, subst, refl, List, [], ◌∷◌, Option, Some, None, map, take, drop, set, replicate, length, arith, length-append, length-take, take_at, drop_at, All}
+use Rattle.std.proofs.Common.{nat_le, leb-true, ◌≡◌, ◌<◌, ◌≤◌, ◌∙◌, ◌+◌, ◌-◌, ◌*◌, ◌++◌, ℕ, suc, cond, is_none, sym, ap, refl, [], ◌∷◌, Option, Some, None, map, take, drop, set, replicate, length, arith, length-append, length-take, take_at, drop_at}
 use Rattle.std.specs.Prelude.{slice_index}
 use Rattle.std.specs.List.{flat_map, range_with_len}
 use Rattle.std.proofs.lemmas.Bool.{false_from_ne_true}
 use Rattle.std.proofs.lemmas.List.{length-replicate, length-map, get_or-map, get_or-append-add, get_or_append_left, get_or-take, set_split}
 use Rattle.std.proofs.lemmas.List.Concat.{flat_map-append}
-use Rattle.std.proofs.lemmas.List.Elements.{All-nil, All-append, All-replicate, All-take, All-from_get_or}
 use Rattle.std.proofs.lemmas.List.FromFn.{fill_by_all}
 use Rattle.odht_base.specs.Format.{Format, IsFormat, entry_len, tag}
 use Rattle.odht_base.specs.Image.{header_bytes, entry_bytes, control_byte, entries, controls, parts}
@@ -13,7 +12,7 @@ use Rattle.odht_base.specs.Shown.{slot_entry, slot_key, slot_value, counts_as_fr
 use Rattle.odht_base.specs.Table.{Pair, Cells, cell_at, is_free}
 use Rattle.odht_base.specs.Valid.{HasPairsOf}
 use Rattle.odht_base.proofs.lemmas.ByteRanges.{split_at, bytes_at-between}
-use Rattle.odht_base.proofs.lemmas.Fits.{HasLengths, HasLengths-HasPairsOf, HasLengths-tail, HasLengths-take, HasPairsOf-tail, tag-lt}
+use Rattle.odht_base.proofs.lemmas.Fits.{HasLengths, HasLengths-HasPairsOf, HasLengths-tail, HasLengths-take, tag-lt}
 use Rattle.odht_base.proofs.lemmas.Keys.{cell_at-within}
 
 -- a header is 32 bytes
@@ -140,38 +139,3 @@ shown_cells-parts F cs f h enough =
     let e : length (controls F cs) - 16 ≡ length cs = omega (arith, length-controls F cs enough) in
     ap (λ n. map (shown_cell F (entries F cs) (controls F cs)) (range_with_len 0 n)) e
     ∙ sym (fill_by_all (shown_cell F (entries F cs) (controls F cs)) cs (length cs) None refl (λ k lt. sym (shown_cell-parts F cs k f h lt)))
-
--- each byte of the entries is below 256
-pub All-entries : (F : Format) (cs : Cells) → HasPairsOf F cs → All (λ x. x < 256) (entries F cs)
-unfolding entries
-All-entries F [] h = All-nil (λ x. x < 256)
-All-entries F (c ∷ cs) h = All-append (λ x. x < 256) (entry_bytes F c) (flat_map (entry_bytes F) cs) (here c refl) (All-entries F cs (HasPairsOf-tail F c cs h))
-  where
-    here : (d : Option Pair) → c ≡ d → All (λ x. x < 256) (entry_bytes F d)
-    here None e = All-replicate (λ x. x < 256) (entry_len F) 0 (omega arith)
-    here (Some p) e = All-append (λ x. x < 256) p.key p.value (h 0 p e).key.each (h 0 p e).value.each
-
--- a control byte is a byte
-pub control_byte-lt : (F : Format) (cs : Cells) (i : ℕ) → IsFormat F → HasPairsOf F cs → control_byte F (cell_at cs i) < 256
-control_byte-lt F cs i f h = go (cell_at cs i) refl
-  where
-    go : (c : Option Pair) → cell_at cs i ≡ c → control_byte F c < 256
-    go None e = omega arith
-    go (Some p) e = let low = tag-lt F p.key f (h i p e).key in omega (arith, low)
-
--- of the control bytes
-pub All-controls : (F : Format) (cs : Cells) → IsFormat F → HasPairsOf F cs → All (λ x. x < 256) (controls F cs)
-unfolding controls
-All-controls F cs f h = All-append (λ x. x < 256) each (take 16 each) all (All-take (λ x. x < 256) 16 each all)
-  where
-    each : List ℕ
-    each = map (control_byte F) cs
-
-    all : All (λ x. x < 256) (map (control_byte F) cs)
-    all = All-from_get_or (λ x. x < 256) (map (control_byte F) cs) 0 (λ i lt.
-        let n : i < length cs = omega (arith, length-map cs (control_byte F)) in
-        subst (λ b. b < 256) (sym (get_or-map (control_byte F) cs i None 0 n)) (control_byte-lt F cs i f h))
-
--- of both parts
-pub All-parts : (F : Format) (cs : Cells) → IsFormat F → HasPairsOf F cs → All (λ x. x < 256) (parts F cs)
-All-parts F cs f h = All-append (λ x. x < 256) (entries F cs) (controls F cs) (All-entries F cs h) (All-controls F cs f h)

@@ -9,7 +9,7 @@ use Rattle.odht_base.specs.Image.{header_bytes, entry_bytes, control_byte, entri
 use Rattle.odht_base.specs.Numbers.{le_bytes}
 use Rattle.odht_base.specs.Shown.{stated_slots, stated_count}
 use Rattle.odht_base.specs.Table.{Pair, Table, Cells, cell_at, slot_count, count}
-use Rattle.odht_base.specs.Writes.{tagged, with_value, with_entry, with_control, with_tag, with_pair, with_count, with_parts}
+use Rattle.odht_base.specs.Writes.{tagged, with_value, with_entry, with_control, with_tag, with_pair, with_count}
 use Rattle.odht_base.proofs.lemmas.ByteRanges.{overwritten_at-between, overwritten_at-append_left, overwritten_at-append_right, length-overwritten_at}
 use Rattle.odht_base.proofs.lemmas.Counts.{count_set_free, count_set_again}
 use Rattle.odht_base.proofs.lemmas.Fits.{HasLengths, IsSized}
@@ -222,19 +222,3 @@ with_pair-image_stated F P i p h lt g k v =
     ap (λ s. with_count (with_pair F s (image F P) i p) (stated_count (image F P) + 1)) (stated_slots-image F P h)
     ∙ ap (λ c. with_count (with_pair F (slot_count P) (image F P) i p) (c + 1)) (stated_count-image F P h)
     ∙ with_pair-image F P i p h lt g k v
-
--- an image with the parts of a table with as many slots and pairs and the same factor
-pub with_parts-image : (F : Format) (P Q : Table) → slot_count Q ≡ slot_count P → count Q ≡ count P → Q.factor ≡ P.factor → with_parts (image F P) (entries F Q.cells) (controls F Q.cells) ≡ image F Q
-unfolding image
-with_parts-image F P Q s c f =
-    ap (λ n. header_bytes F n (count P) P.factor ++ parts F Q.cells) (sym s)
-    ∙ ap (λ n. header_bytes F (slot_count Q) n P.factor ++ parts F Q.cells) (sym c)
-    ∙ ap (λ n. header_bytes F (slot_count Q) (count Q) n ++ parts F Q.cells) (sym f)
-
--- with another count too
-pub with_count-with_parts_image : (F : Format) (P Q : Table) → slot_count Q ≡ slot_count P → Q.factor ≡ P.factor → with_count (with_parts (image F P) (entries F Q.cells) (controls F Q.cells)) (count Q) ≡ image F Q
-unfolding image
-with_count-with_parts_image F P Q s f =
-    with_count-append (header_bytes F (slot_count P) (count P) P.factor) (parts F Q.cells) (count Q) (omega arith)
-    ∙ ap (λ n. header_bytes F n (count Q) P.factor ++ parts F Q.cells) (sym s)
-    ∙ ap (λ n. header_bytes F (slot_count Q) (count Q) n ++ parts F Q.cells) (sym f)

@@ -2,7 +2,7 @@
 ghost use Rattle.std.specs.Prelude.{◌≡◌, ◌<◌, ⊤, length, is_some};
 ghost use Rattle.std.specs.Iterator.{YieldsFirst, MakesProgress, item_count};
 ghost use Rattle.std.proofs.Common.{refl};
-ghost use Rattle.odht_base.specs.Groups.{equal, first_free};
+ghost use Rattle.odht_base.specs.Groups.{IsReport, equal, first_free};
 
 use super::Group;
 use super::mask::{lowest_bit, without_lowest_bit};
@@ -79,8 +79,15 @@ impl Group for GroupQuery {
 
     const SIZE: usize = GROUP_SIZE;
 
+    /// Looks at a group for a tag.
     #[inline]
-    fn of(bytes: &[u8], h2: u8) -> GroupQuery {
+    fn of(bytes: &[u8], h2: u8) -> GroupQuery
+        requires size { length bytes.now ≡ 16 }
+        requires tag { h2 < 128 }
+        ensures matches { IsReport bytes.now h2 result.matches }
+        ensures equal { result.matches ≡ equal bytes.now h2 }
+        ensures free { result.free ≡ first_free bytes.now }
+    {
         GroupQuery::of_lanes(u8x16::from_slice(bytes), h2)
     }
 

@@ -1,8 +1,8 @@
 //! The search of eight control bytes in one word of 64 bits.
-ghost use Rattle.std.specs.Prelude.{◌≡◌, ◌<◌, ⊤, slice_get, is_some};
+ghost use Rattle.std.specs.Prelude.{◌≡◌, ◌<◌, ⊤, length, slice_get, is_some};
 ghost use Rattle.std.specs.Iterator.{YieldsFirst, MakesProgress, item_count};
 ghost use Rattle.std.proofs.Common.{refl};
-ghost use Rattle.odht_base.specs.Groups.{IsWordReport, first_free};
+ghost use Rattle.odht_base.specs.Groups.{IsReport, IsWordReport, first_free};
 ghost use Rattle.odht_base.specs.Masks.{set_bytes};
 
 use super::Group;
@@ -91,8 +91,15 @@ impl Group for GroupQuery {
 
     const SIZE: usize = GROUP_SIZE;
 
+    /// Looks at a group for a tag.
     #[inline]
-    fn of(bytes: &[u8], h2: u8) -> GroupQuery {
+    fn of(bytes: &[u8], h2: u8) -> GroupQuery
+        requires size { length bytes.now ≡ 8 }
+        requires tag { h2 < 128 }
+        ensures matches { IsReport bytes.now h2 result.matches }
+        ensures word { IsWordReport bytes.now h2 result.matches }
+        ensures free { result.free ≡ first_free bytes.now }
+    {
         let Some(group) = bytes.first_chunk::<GROUP_SIZE>() else {
             unreachable!()
         };
