@@ -7,8 +7,8 @@ ghost use Rattle.odht_base.specs.Table.{Table, walk, count, slot_count, fresh};
 ghost use Rattle.odht_base.specs.Map.{map_of};
 ghost use Rattle.odht_base.specs.Insert.{put_view};
 ghost use Rattle.odht_base.specs.Search.{groups_read};
-ghost use Rattle.odht_base.specs.Shown.{stated_count, stated_slots, seen, HoldsKey};
-ghost use Rattle.odht_base.specs.Valid.{IsImage};
+ghost use Rattle.odht_base.specs.Shown.{stated_count, stated_slots, entries_of, controls_of, seen, HoldsKey};
+ghost use Rattle.odht_base.specs.Valid.{IsImage, IsPartsOf};
 ghost use Rattle.odht.specs.Coding.{value_for, encoded, HasStored};
 ghost use Rattle.odht.specs.Lists.{encoded_all, IsFilled};
 ghost use Rattle.odht.specs.Frame.{IsAccepted, IsFramed, IsBytesFramed};
@@ -22,7 +22,7 @@ use crate::hash::HashFn;
 use crate::iter::Iter;
 use crate::load::{Factor, max_item_count_for, slots_needed};
 use crate::memory_layout::{self, Allocation};
-use crate::raw_table::{RawIter, RawTable, Search, search_with_hash, tag_of};
+use crate::raw_table::{RawIter, RawTable, Scan, Search, search_hashed, tag_of};
 use crate::swisstable_group_query::GroupQuery;
 use std::marker::Model;
 
@@ -59,6 +59,7 @@ impl<C: Config, D: ByteStore> HashTable<C, D> {
     ///
     /// Nothing else is looked at: a view of bytes that are accepted and not valid is safe to use, but what it answers is
     /// within a frame only, which the calls state.
+    #[inline(always)]
     pub fn from_raw_bytes(data: D) -> Result<Self, Error>
         ensures ok { IfOk result (λ t. t ≡ D.bytes «data») }
         ensures err { result_err result ≡ view_refusal ⟦<C as Coded>⟧.coding.format (D.bytes «data») }
@@ -83,16 +84,14 @@ impl<C: Config, D: ByteStore> HashTable<C, D> {
     /// very key.
     ///
     /// At most each group of control bytes is looked at once.
+    #[inline]
     pub fn get(&self, key: &C::Key) -> Option<C::Value>
         ensures on_valid { (P : Table)
             → IsImage ⟦<C as Coded>⟧.coding.format P self.now
             → result ≡ value_for ⟦<C as Coded>⟧.coding P key.now }
         ensures on_any { IfSome result (λ v. HasStored ⟦<C as Coded>⟧.coding self.now key.now v) }
     {
-        let (control, entries) = self.allocation.data_slices();
-        let table: RawTable<'_, C::EncodedKey, C::EncodedValue, C::H> = RawTable::new(
-            control, entries,
-        );
+        let table = self.as_raw();
         let key = C::encode_key(key);
         match table.find(&key) {
             Some(value) => Some(C::decode_value(&value)),
@@ -101,7 +100,9 @@ impl<C: Config, D: ByteStore> HashTable<C, D> {
     }
 
     /// `get`, and how many groups of control bytes were looked at: on valid bytes those up to the first slot of the key's
-    /// probe order that is free or holds the key, and on any bytes no more than there are.
+    /// probe order that is free or holds the key, and on any bytes no more than there are. docs/FORMAT.md, "Search", counts
+    /// them.
+    #[inline]
     pub fn get_counted(&self, key: &C::Key) -> (Option<C::Value>, usize)
         ensures on_valid { (P : Table)
             → IsImage ⟦<C as Coded>⟧.coding.format P self.now
@@ -112,10 +113,7 @@ impl<C: Config, D: ByteStore> HashTable<C, D> {
         ensures on_any { IfSome result.0 (λ v. HasStored ⟦<C as Coded>⟧.coding self.now key.now v) }
         ensures few { result.1 ≤ stated_slots self.now / 16 }
     {
-        let (control, entries) = self.allocation.data_slices();
-        let table: RawTable<'_, C::EncodedKey, C::EncodedValue, C::H> = RawTable::new(
-            control, entries,
-        );
+        let table = self.as_raw();
         let key = C::encode_key(key);
         match table.find_counted(&key) {
             (Some(value), groups) => (Some(C::decode_value(&value)), groups),
@@ -126,22 +124,21 @@ impl<C: Config, D: ByteStore> HashTable<C, D> {
     /// Whether the key has a value: on any bytes only where some slot's entry holds this very key.
     ///
     /// At most each group of control bytes is looked at once.
+    #[inline]
     pub fn contains_key(&self, key: &C::Key) -> bool
         ensures on_valid { (P : Table)
             → IsImage ⟦<C as Coded>⟧.coding.format P self.now
             → IsTrue result ↔ IsSome (map_of P (⟦<C as Coded>⟧.coding.key_bytes key.now)) }
         ensures on_any { IsTrue result → HoldsKey ⟦<C as Coded>⟧.coding.format self.now (⟦<C as Coded>⟧.coding.key_bytes key.now) }
     {
-        let (control, entries) = self.allocation.data_slices();
-        let table: RawTable<'_, C::EncodedKey, C::EncodedValue, C::H> = RawTable::new(
-            control, entries,
-        );
+        let table = self.as_raw();
         let key = C::encode_key(key);
         table.find(&key).is_some()
     }
 
     /// The keys and values of the slots whose own control byte does not count as free, in slot order: on valid bytes each
     /// pair of the table once.
+    #[inline]
     pub fn iter(&self) -> Iter<'_, C>
         ensures on_valid { (P : Table)
             → IsImage ⟦<C as Coded>⟧.coding.format P self.now
@@ -177,6 +174,20 @@ impl<C: Config, D: ByteStore> HashTable<C, D> {
     {
         let HashTable { allocation } = self;
         allocation.into_store()
+    }
+
+    /// The raw table of these bytes: who looks up many keys takes it once.
+    #[inline]
+    pub fn as_raw(&self) -> RawTable<'_, C::EncodedKey, C::EncodedValue, C::H>
+        ensures control { result.control ≡ controls_of ⟦<C as Coded>⟧.coding.format self.now }
+        ensures entries { result.entries.bytes ≡ entries_of ⟦<C as Coded>⟧.coding.format self.now }
+        ensures slots { result.entries.slots ≡ stated_slots self.now }
+        ensures parts { (P : Table)
+            → IsImage ⟦<C as Coded>⟧.coding.format P self.now
+            → IsPartsOf ⟦<C as Coded>⟧.coding.format P result.entries.bytes result.control }
+    {
+        let (control, entries) = self.allocation.data_slices();
+        RawTable::new(control, entries)
     }
 
     /// The bytes and their parts.
@@ -234,6 +245,7 @@ impl<C: Config, D: ByteStoreMut> HashTable<C, D> {
     ///
     /// On any bytes one value beside an equal key changes, or one entry is written with its tag into a slot that counted as
     /// free and the count rises by one, and no other byte changes.
+    #[inline(always)]
     pub fn insert(&mut self, key: &C::Key, value: &C::Value) -> Result<Option<C::Value>, Error>
         ensures ok { (P : Table)
             → IsImage ⟦<C as Coded>⟧.coding.format P self.old
@@ -277,7 +289,7 @@ impl<C: Config, D: ByteStoreMut> HashTable<C, D> {
     }
 
     /// `insert` of a pair that is encoded, with the former value as it stood in the bytes.
-    #[inline]
+    #[inline(always)]
     pub(crate) fn insert_encoded(
         &mut self,
         key: &C::EncodedKey,
@@ -302,8 +314,9 @@ impl<C: Config, D: ByteStoreMut> HashTable<C, D> {
         }
         let hash = C::H::hash(key.as_slice());
         let (control, entries) = self.allocation.data_slices();
-        match search_with_hash::<C::EncodedKey, C::EncodedValue, C::H, GroupQuery>(
-            control, &entries, key, hash,
+        let mut scan = Scan::new(control, entries.len());
+        match search_hashed::<C::EncodedKey, C::EncodedValue, C::H, GroupQuery>(
+            &mut scan, &entries, key, hash,
         ) {
             Search::Found(slot) => {
                 let old = entries.get(slot).value;

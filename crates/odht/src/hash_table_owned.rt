@@ -19,7 +19,7 @@ use crate::hash_table::HashTable;
 use crate::iter::Iter;
 use crate::load::{Factor, slots_needed};
 use crate::memory_layout;
-use crate::raw_table::is_empty_or_deleted;
+use crate::raw_table::RawIter;
 use std::alloc::Global;
 use std::marker::Model;
 
@@ -103,6 +103,7 @@ impl<C: Config> HashTableOwned<C> {
     /// The value of a key: that of its last insert.
     ///
     /// At most each group of control bytes is looked at once.
+    #[inline]
     pub fn get(&self, key: &C::Key) -> Option<C::Value>
         ensures { (P : Table)
             → IsImage ⟦<C as Coded>⟧.coding.format P self.now
@@ -112,7 +113,8 @@ impl<C: Config> HashTableOwned<C> {
     }
 
     /// `get`, and how many groups of control bytes were looked at: those up to the first slot of the key's probe order that
-    /// is free or holds the key.
+    /// is free or holds the key. docs/FORMAT.md, "Search", counts them.
+    #[inline]
     pub fn get_counted(&self, key: &C::Key) -> (Option<C::Value>, usize)
         ensures value { (P : Table)
             → IsImage ⟦<C as Coded>⟧.coding.format P self.now
@@ -127,6 +129,7 @@ impl<C: Config> HashTableOwned<C> {
     /// Whether the key has a value.
     ///
     /// At most each group of control bytes is looked at once.
+    #[inline]
     pub fn contains_key(&self, key: &C::Key) -> bool
         ensures { (P : Table)
             → IsImage ⟦<C as Coded>⟧.coding.format P self.now
@@ -136,6 +139,7 @@ impl<C: Config> HashTableOwned<C> {
     }
 
     /// The keys and values, each pair once, in slot order.
+    #[inline]
     pub fn iter(&self) -> Iter<'_, C>
         ensures pairs { (P : Table)
             → IsImage ⟦<C as Coded>⟧.coding.format P self.now
@@ -192,6 +196,7 @@ impl<C: Config> HashTableOwned<C> {
     ///
     /// `Memory` only at the maximum, where the memory for the grown table was refused, or no slot count or no length in
     /// `usize` is enough for it. Then nothing changes.
+    #[inline(always)]
     pub fn insert(&mut self, key: &C::Key, value: &C::Value) -> Result<Option<C::Value>, Error>
         ensures ok { (P : Table)
             → IsImage ⟦<C as Coded>⟧.coding.format P self.old
@@ -205,13 +210,7 @@ impl<C: Config> HashTableOwned<C> {
         if let Ok(old) = self.table.insert(key, value) {
             return Ok(old);
         }
-        let mut grown = self.grown()?;
-        let Ok(old) = grown.insert(key, value) else {
-            // The grown table is below its maximum.
-            unreachable!()
-        };
-        self.table = grown;
-        Ok(old)
+        self.insert_grown(key, value)
     }
 
     /// Inserts the items in their order, and stops at the first that is refused. Answers how many were accepted, and
@@ -236,7 +235,27 @@ impl<C: Config> HashTableOwned<C> {
         (items.len(), Ok(()))
     }
 
+    // `insert` at the maximum: into the grown table.
+    #[inline(never)]
+    fn insert_grown(&mut self, key: &C::Key, value: &C::Value) -> Result<Option<C::Value>, Error>
+        ensures ok { (P : Table)
+            → IsImage ⟦<C as Coded>⟧.coding.format P self.old
+            → count P ≡ max_items (slot_count P) P.factor
+            → IfOk result (λ old. (old ≡ value_for ⟦<C as Coded>⟧.coding P key.now) × ((Q : Table) × (put_owned ⟦<C as Coded>⟧.coding.format P (encoded ⟦<C as Coded>⟧.coding key.now value.now) ≡ Some Q) × IsImage ⟦<C as Coded>⟧.coding.format Q self.new)) }
+        ensures memory { OnErr result (result ≡ Err Error.Memory) }
+        ensures refused { OnErr result (self.new ≡ self.old) }
+    {
+        let mut grown = self.grown()?;
+        let Ok(old) = grown.insert(key, value) else {
+            // The grown table is below its maximum.
+            unreachable!()
+        };
+        self.table = grown;
+        Ok(old)
+    }
+
     // The pairs of this table, in slot order, in a table with the slots for twice as many, and for one at least.
+    #[inline(never)]
     fn grown(&self) -> Result<HashTable<C, OwnedBytes>, Error>
         ensures ok { (P : Table)
             → IsImage ⟦<C as Coded>⟧.coding.format P self.now
@@ -250,12 +269,10 @@ impl<C: Config> HashTableOwned<C> {
             return Err(Error::Memory);
         };
         let (control, entries) = self.table.allocation().data_slices();
-        for slot in 0..entries.len() {
-            if !is_empty_or_deleted(control[slot]) {
-                let entry = entries.get(slot);
-                // There is room for each pair.
-                let _ = grown.insert_encoded(&entry.key, &entry.value);
-            }
+        let walk = RawIter::new(control, entries);
+        for (_, entry) in walk {
+            // There is room for each pair.
+            let _ = grown.insert_encoded(&entry.key, &entry.value);
         }
         Ok(grown)
     }

@@ -1,11 +1,11 @@
 //! The bytes of a table: the header, the entries, and the control bytes with their mirror.
 //!
 //! Offsets and lengths are those of docs/FORMAT.md, "Layout".
-ghost use Rattle.std.specs.Prelude.{◌≡◌, ◌+◌, ◌-◌, ◌*◌, ◌<◌, ◌≤◌, ◌^◌, ◌↔◌, ◌⊎◌, length, take, replicate, MatchOption, IfSome, IfOk, IsOk, OnErr};
+ghost use Rattle.std.specs.Prelude.{◌≡◌, ◌+◌, ◌-◌, ◌*◌, ◌<◌, ◌≤◌, ◌^◌, ◌↔◌, ◌⊎◌, length, take, drop, replicate, MatchOption, IfSome, IfOk, IsOk, OnErr};
 ghost use Rattle.odht_base.specs.Numbers.{IsBytes};
 ghost use Rattle.odht_base.specs.Bytes.{bytes_at, overwritten_at};
 ghost use Rattle.odht_base.specs.Load.{IsSlotCount};
-ghost use Rattle.odht_base.specs.Format.{format_of};
+ghost use Rattle.odht_base.specs.Format.{format_of, entry_len};
 ghost use Rattle.odht_base.specs.Table.{Pair, Table, empty};
 ghost use Rattle.odht_base.specs.Image.{header_bytes, image, image_len};
 ghost use Rattle.odht_base.specs.Valid.{IsImage, IsPairOf, IsPartsOf};
@@ -33,6 +33,8 @@ const CURRENT_FILE_FORMAT_VERSION: [u8; 4] = [0, 0, 0, 2];
 const HEADER_SIZE: usize = 32;
 // How many slots a view looks at when it is opened.
 const SLOTS_TO_CHECK: usize = 10;
+// How many bytes `fill` writes at once: each write is one memset, and small ones would cost a call each.
+const FILL_CHUNK: usize = 4096;
 
 /// A reader of a table's header, field by field, at any alignment.
 #[derive(Drop)]
@@ -65,6 +67,7 @@ impl<'a> Header<'a> {
     /// `SlotCountTooSmall`, `WrongLength`.
     ///
     /// The length that so many slots need is computed in 128 bits, so a forged count is refused for what it says.
+    #[inline(always)]
     pub fn sanity_check<C: Config>(&self, raw_bytes_len: usize) -> Result<(), Error>
         ensures { result ≡ checked (header_refusal ⟦<C as Coded>⟧.coding.format raw_bytes_len self.now) }
     {
@@ -78,6 +81,7 @@ impl<'a> Header<'a> {
         self.check_length::<C>(raw_bytes_len)
     }
 
+    #[inline(always)]
     fn check_tag(&self) -> Result<(), Error>
         ensures { result ≡ checked (tag_refusal self.now) }
     {
@@ -89,6 +93,7 @@ impl<'a> Header<'a> {
         }
     }
 
+    #[inline(always)]
     fn check_version(&self) -> Result<(), Error>
         ensures { result ≡ checked (version_refusal self.now) }
     {
@@ -111,6 +116,7 @@ impl<'a> Header<'a> {
     }
 
     // Whether the byte `at` states this size of the part.
+    #[inline(always)]
     fn check_expected_size(&self, at: usize, part: Part, expected: usize) -> Result<(), Error>
         requires { at < 32 }
         ensures { result ≡ checked (wrong_size self.now at part expected) }
@@ -128,6 +134,7 @@ impl<'a> Header<'a> {
         }
     }
 
+    #[inline(always)]
     fn check_slot_count(&self) -> Result<(), Error>
         ensures { result ≡ checked (option_or (power_refusal self.now) (few_slots_refusal self.now)) }
     {
@@ -142,6 +149,7 @@ impl<'a> Header<'a> {
     }
 
     // Whether so many bytes are the table of so many slots as the header states.
+    #[inline(always)]
     fn check_length<C: Config>(&self, found: usize) -> Result<(), Error>
         ensures { result ≡ checked (length_refusal ⟦<C as Coded>⟧.coding.format found self.now) }
     {
@@ -221,10 +229,27 @@ pub fn init_in_place<C: Config, M: ByteStoreMut>(
     requires len { length (M.bytes «data») ≡ image_len ⟦<C as Coded>⟧.coding.format slot_count }
     ensures { result ≡ with_count (image ⟦<C as Coded>⟧.coding.format (empty slot_count max_load_factor.0)) item_count }
 {
+    let control = data.bytes().len() - (slot_count + REFERENCE_GROUP_SIZE);
+    fill(&mut data, HEADER_SIZE, control, 0);
+    init_zeroed(data, slot_count, item_count, max_load_factor)
+}
+
+// `init_in_place` where the entries are zeros already.
+fn init_zeroed<C: Config, M: ByteStoreMut>(
+    mut data: M,
+    slot_count: usize,
+    item_count: usize,
+    max_load_factor: Factor,
+) -> Allocation<C, M>
+    requires slots { IsSlotCount slot_count }
+    requires len { length (M.bytes «data») ≡ image_len ⟦<C as Coded>⟧.coding.format slot_count }
+    requires zeros { let n = slot_count * entry_len ⟦<C as Coded>⟧.coding.format
+        in bytes_at (M.bytes «data») 32 n ≡ replicate n 0 }
+    ensures { result ≡ with_count (image ⟦<C as Coded>⟧.coding.format (empty slot_count max_load_factor.0)) item_count }
+{
     let len = data.bytes().len();
     let control = len - (slot_count + REFERENCE_GROUP_SIZE);
     write_header::<C, M>(&mut data, slot_count, item_count, max_load_factor);
-    fill(&mut data, HEADER_SIZE, control, 0);
     fill(&mut data, control, len, 255);
     Allocation {
         store: data,
@@ -250,7 +275,7 @@ pub fn allocate<C: Config>(
         return Err(Error::Capacity);
     };
     let bytes = OwnedBytes::new(vec![in alloc; 0; len]?);
-    Ok(init_in_place(bytes, slot_count, item_count, max_load_factor))
+    Ok(init_zeroed(bytes, slot_count, item_count, max_load_factor))
 }
 
 // Writes the header.
@@ -262,6 +287,7 @@ fn write_header<C: Config, M: ByteStoreMut>(
 )
     requires { 32 ≤ length (M.bytes «data».old) }
     ensures front { take 32 (M.bytes «data».new) ≡ header_bytes ⟦<C as Coded>⟧.coding.format slot_count item_count max_load_factor.0 }
+    ensures rest { drop 32 (M.bytes «data».new) ≡ drop 32 (M.bytes «data».old) }
     ensures len { length (M.bytes «data».new) ≡ length (M.bytes «data».old) }
 {
     let sizes = [
@@ -289,10 +315,10 @@ fn fill<M: ByteStoreMut>(data: &mut M, from: usize, to: usize, byte: u8)
     ensures bytes { M.bytes «data».new ≡ overwritten_at (M.bytes «data».old) from (replicate (to - from) byte) }
     ensures len { length (M.bytes «data».new) ≡ length (M.bytes «data».old) }
 {
-    let chunk = [byte; 64];
+    let chunk = [byte; FILL_CHUNK];
     let mut at = from;
     'chunks: while at < to {
-        let size = (to - at).min(64);
+        let size = (to - at).min(FILL_CHUNK);
         data.write_at(at, &chunk[..size]);
         at += size;
     }
@@ -322,6 +348,7 @@ impl<C: Config, M: ByteStore> Allocation<C, M> {
     /// [`Header::sanity_check`] refuses, then what [`RawTable::sanity_check_hashes`] refuses of the first ten slots.
     ///
     /// The answer is the first refusal; then the data is dropped.
+    #[inline(always)]
     pub fn from_raw_bytes(data: M) -> Result<Self, Error>
         ensures ok { IfOk result (λ a. a ≡ M.bytes «data») }
         ensures err { result_err result ≡ view_refusal ⟦<C as Coded>⟧.coding.format (M.bytes «data») }

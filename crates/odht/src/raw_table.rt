@@ -28,7 +28,7 @@ mod walk;
 mod writes;
 
 pub use group_search::search;
-pub(crate) use group_search::{search_counted, search_with_hash};
+pub(crate) use group_search::search_hashed;
 pub use outcome::Search;
 pub use plain::{plain_find, plain_insert};
 pub use probe_seq::{ProbeSeq, probe_order};
@@ -180,7 +180,7 @@ impl<'a, K: ByteArray, V: ByteArray, H: HashFn> RawTable<'a, K, V, H> {
         }
     }
 
-    /// The value beside the key, looked for group by group along the probe order.
+    /// The value beside the key, looked for group by group along the probe order (docs/FORMAT.md, "Search").
     ///
     /// On the parts of a table whose keys are all reached it is the map's answer, and on any parts a value that is stored
     /// beside this very key. At most each group is looked at once.
@@ -198,7 +198,7 @@ impl<'a, K: ByteArray, V: ByteArray, H: HashFn> RawTable<'a, K, V, H> {
     }
 
     /// `find`, and how many groups were looked at: on the parts of a table whose keys are all reached those up to the first
-    /// slot free or holding the key, and on any parts no more than there are.
+    /// slot free or holding the key, and on any parts no more than there are. docs/FORMAT.md, "Search", counts them.
     #[inline]
     pub fn find_counted(&self, key: &K) -> (Option<V>, usize)
         ensures on_placed { (P : Table)
@@ -212,7 +212,9 @@ impl<'a, K: ByteArray, V: ByteArray, H: HashFn> RawTable<'a, K, V, H> {
             in IfSome result.0 (λ v. (i : ℕ) × (i < self.now.entries.slots) × (slot_key F es i ≡ K.bytes key.now) × (v ≡ V.of_bytes (slot_value F es i))) }
         ensures few { result.1 ≤ self.now.entries.slots / 16 }
     {
-        let (end, groups) = search_counted::<K, V, H, GroupQuery>(self.control, &self.entries, key);
+        let mut scan = Scan::new(self.control, self.entries.len());
+        let end = search::<K, V, H, GroupQuery>(&mut scan, &self.entries, key);
+        let groups = scan.groups();
         match end {
             Search::Found(slot) => (Some(self.entries.get(slot).value), groups),
             Search::Free(_) => (None, groups),
@@ -233,6 +235,7 @@ impl<'a, K: ByteArray, V: ByteArray, H: HashFn> RawTable<'a, K, V, H> {
     /// `NonZeroEmpty` of a slot that counts as free, `ControlMismatch` of any other.
     ///
     /// A mismatch tells of bytes that were written with another hash function.
+    #[inline(always)]
     pub fn sanity_check_hashes(&self, slots_to_check: usize) -> Result<(), Error>
         ensures { result ≡ checked (hashes_refusal (format_of K.LEN V.LEN H.hash) self.now.entries.bytes self.now.control slots_to_check) }
     {
@@ -244,6 +247,7 @@ impl<'a, K: ByteArray, V: ByteArray, H: HashFn> RawTable<'a, K, V, H> {
     }
 
     // What a view looks at in one slot.
+    #[inline(always)]
     fn check_slot(&self, slot: usize) -> Result<(), Error>
         requires { slot < self.now.entries.slots }
         ensures { result ≡ checked (hashes_refusal_at (format_of K.LEN V.LEN H.hash) self.now.entries.bytes self.now.control slot) }

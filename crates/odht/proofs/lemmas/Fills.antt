@@ -4,6 +4,14 @@ use Rattle.std.proofs.lemmas.List.{length-replicate, take-replicate, replicate-a
 use Rattle.odht_base.specs.Bytes.{overwritten_at}
 use Rattle.odht_base.proofs.lemmas.ByteRanges.{length-overwritten_at, overwritten_at-twice}
 
+-- the first of so many are as many as are taken
+pub length-chunk : (size room b : ℕ) → size ≤ room → length (take size (replicate room b)) ≡ size
+length-chunk size room b low = ap length (take-replicate size room b low) ∙ length-replicate size b
+
+-- and fit where these fit
+pub chunk-fits : (size room b at n : ℕ) → size ≤ room → at + size ≤ n → at + length (take size (replicate room b)) ≤ n
+chunk-fits size room b at n low fits = omega (arith, length-chunk size room b low, fits)
+
 module _ (B : List ℕ) (from at b : ℕ) (order : from ≤ at) where
   -- as long as before
   pub length-fill : at ≤ length B → length (overwritten_at B from (replicate (at - from) b)) ≡ length B

@@ -1,5 +1,5 @@
 -- A search by groups on parts: where it stands at a group, and what it tells at its end.
-use Rattle.std.proofs.Common.{◌≡◌, ℕ, ◌+◌, ◌-◌, ◌*◌, ◌/◌, ◌%◌, ◌<◌, ◌≤◌, inl, inr, sym, ap, ◌∙◌, subst, arith, List, length, slice_index, IsTrue}
+use Rattle.std.proofs.Common.{◌≡◌, ℕ, ◌+◌, ◌-◌, ◌/◌, ◌%◌, ◌<◌, ◌≤◌, inl, inr, sym, ap, ◌∙◌, subst, arith, List, length, slice_index, IsTrue}
 use Rattle.std.specs.Prelude.{⊤}
 use Rattle.std.proofs.Math.Nat.{mod-eq_of_lt, add-mod_right}
 use Rattle.std.proofs.lemmas.Bool.{cases_lt}
@@ -55,16 +55,16 @@ group-free ctrl s b i len few l h free =
 
 -- ---- a placed table
 module _ (F : Format) (P : Table) (E : EntryBytes) (ctrl k : List ℕ) (f : IsFormat F) (h : IsPartsOf F P E.bytes ctrl) (len : length ctrl ≡ E.slots + 16) where
-  -- a search that passed the groups before stands at group j
-  pub stands-group : (j start : ℕ) → j < E.slots / 16 → start ≡ place_slot (home F k E.slots) E.slots (16 * j) → Passed F P k (16 * j) → StandsAt F P E k (16 * j) start (bytes_at ctrl start 16)
-  stands-group j start l is passed =
+  -- a search that passed the places before the first place p of a group stands there
+  pub stands-group : (p start : ℕ) → p % 16 ≡ 0 → p + 16 ≤ E.slots → start ≡ place_slot (home F k E.slots) E.slots p → Passed F P k p → StandsAt F P E k p start (bytes_at ctrl start 16)
+  stands-group p start aligned l is passed =
       let count : E.slots ≡ slot_count P = slots_are F f P E.bytes ctrl h E.slots len in
       let few = h.placed.slots.least in
-      let low : start < E.slots = omega (arith, is, place_slot-lt (home F k E.slots) E.slots (16 * j) (omega arith)) in
+      let low : start < E.slots = omega (arith, is, place_slot-lt (home F k E.slots) E.slots p (omega arith)) in
       let sixteen : length (bytes_at ctrl start 16) ≡ 16 = length-bytes_at ctrl start 16 (omega arith) in
-      let step : (i : ℕ) → i < 16 → (start + i) % E.slots ≡ slot_of F P k (16 * j + i) = λ i b.
-      ap (λ x. (x + i) % E.slots) is ∙ place_slot-step (home F k E.slots) E.slots (16 * j) i (omega arith)
-      ∙ ap (λ n. place_slot (home F k n) n (16 * j + i)) count in
+      let step : (i : ℕ) → i < 16 → (start + i) % E.slots ≡ slot_of F P k (p + i) = λ i b.
+      ap (λ x. (x + i) % E.slots) is ∙ place_slot-step (home F k E.slots) E.slots p i (omega arith)
+      ∙ ap (λ n. place_slot (home F k n) n (p + i)) count in
       record {
         placed = h.placed;
         slots = count;
@@ -81,16 +81,16 @@ module _ (F : Format) (P : Table) (E : EntryBytes) (ctrl k : List ℕ) (f : IsFo
       }
 
   -- the same from what is known of the probe and the scan
-  pub stands-probe : (j start hash b m p : ℕ) (bs ctrl' : List ℕ) → j < E.slots / 16 → start ≡ place_slot b (m + 1) p → b ≡ hash % E.slots → m + 1 ≡ E.slots → p ≡ 16 * j → hash ≡ F.hash k
-      → bs ≡ bytes_at ctrl' start 16 → ctrl' ≡ ctrl → Passed F P k (16 * j) → StandsAt F P E k (16 * j) start bs
-  stands-probe j start hash b m p bs ctrl' l es eb em ep eh ebs ec passed =
+  pub stands-probe : (start hash b m p : ℕ) (bs ctrl' : List ℕ) → p % 16 ≡ 0 → p + 16 ≤ E.slots → start ≡ place_slot b (m + 1) p → b ≡ hash % E.slots → m + 1 ≡ E.slots → hash ≡ F.hash k
+      → bs ≡ bytes_at ctrl' start 16 → ctrl' ≡ ctrl → Passed F P k p → StandsAt F P E k p start bs
+  stands-probe start hash b m p bs ctrl' aligned l es eb em eh ebs ec passed =
       let first : b ≡ home F k E.slots = eb ∙ ap (λ x. x % E.slots) eh in
-      let is : start ≡ place_slot (home F k E.slots) E.slots (16 * j) = es ∙ ap (λ x. place_slot x (m + 1) p) first ∙ ap (λ n. place_slot (home F k E.slots) n p) em ∙ ap (place_slot (home F k E.slots) E.slots) ep in
-      subst (StandsAt F P E k (16 * j) start) (sym (ebs ∙ ap (λ c. bytes_at c start 16) ec)) (stands-group j start l is passed)
+      let is : start ≡ place_slot (home F k E.slots) E.slots p = es ∙ ap (λ x. place_slot x (m + 1) p) first ∙ ap (λ n. place_slot (home F k E.slots) n p) em in
+      subst (StandsAt F P E k p start) (sym (ebs ∙ ap (λ c. bytes_at c start 16) ec)) (stands-group p start aligned l is passed)
 
-  -- one that ends in group j reads j + 1 groups
-  pub reads-to : (j : ℕ) → EndsWithin F P k (16 * j) 16 → groups_read F P.cells k ≡ j + 1
-  reads-to j e = let same : e.0 / 16 + 1 ≡ j + 1 = omega (arith, e.1, e.2) in rw e.3 same
+  -- one that ends in the group of place p reads the groups up to it
+  pub reads-to : (p : ℕ) → p % 16 ≡ 0 → EndsWithin F P k p 16 → groups_read F P.cells k ≡ p / 16 + 1
+  reads-to p aligned e = let same : e.0 / 16 + 1 ≡ p / 16 + 1 = omega (arith, e.1, e.2) in rw e.3 same
 
   -- one that passes each slot reads all
   pub reads-all : Passed F P k E.slots → groups_read F P.cells k ≡ E.slots / 16

@@ -10,12 +10,16 @@ use Rattle.odht.proofs.lemmas.FirstErrors.{option_or-first, option_or-second, gi
 
 module _ (F : Format) (B : List ℕ) where
   -- too few bytes for a header
+  pub opening_refusal-short : length B < 32 → opening_refusal F B ≡ Some (TooShort (length B))
+  unfolding opening_refusal
+  opening_refusal-short h = option_or-first _ _ _ (gives-Some _ _ (lt-ltb (length B) 32 h))
+
   pub view_refusal-short : length B < 32 → view_refusal F B ≡ Some (TooShort (length B))
-  unfolding view_refusal opening_refusal
-  view_refusal-short h = option_or-first _ _ _ (option_or-first _ _ _ (gives-Some _ _ (lt-ltb (length B) 32 h)))
+  unfolding view_refusal
+  view_refusal-short h = option_or-first _ _ _ (opening_refusal-short h)
 
   -- then the header
-  opening_refusal-header : 32 ≤ length B → opening_refusal F B ≡ header_refusal F (length B) B
+  pub opening_refusal-header : 32 ≤ length B → opening_refusal F B ≡ header_refusal F (length B) B
   unfolding opening_refusal
   opening_refusal-header h = option_or-second _ _ (None-gives _ _ (le-ltb (length B) 32 h))
 

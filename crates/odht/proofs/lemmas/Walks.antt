@@ -1,22 +1,23 @@
 -- A walk over the slots, sixteen at a time, and what it gives of a table's bytes.
-use Rattle.std.proofs.Common.{◌≡◌, ℕ, zero, suc, ◌+◌, ◌-◌, ◌<◌, ◌≤◌, ◌∙◌, ◌++◌, Bool, true, false, sym, ap, subst, refl, arith, List, [], ◌∷◌, length, map, slice_index, slice_get, Option, Some, None, nat_lt, lt-ltb, le-ltb, le-leb, ltb-true}
+use Rattle.std.proofs.Common.{All, ◌≡◌, ℕ, zero, suc, ◌+◌, ◌-◌, ◌<◌, ◌≤◌, ◌∙◌, ◌++◌, Bool, true, false, sym, ap, subst, refl, arith, List, [], ◌∷◌, length, map, slice_index, slice_get, Option, Some, None, nat_lt, lt-ltb, le-ltb, le-leb, ltb-true}
 use Rattle.std.proofs.lemmas.Bool.{lt-leb}
 use Rattle.std.specs.Prelude.{slice_index_or}
 use native.Mathlib.Decide.{dec_lt}
 use Rattle.std.proofs.lemmas.Option.{none-some}
-use Rattle.std.proofs.lemmas.List.Elements.{All-filter, filter_passes, filter_map-append}
+use Rattle.std.proofs.lemmas.List.Elements.{All-head, All-tail, All-filter, filter_passes, filter_map-append}
 use Rattle.std.specs.Prelude.{option_map}
 use Rattle.std.specs.List.{filter_map, cons_option, range_with_len}
 use Rattle.std.proofs.lemmas.List.FromFn.{length-range_with_len, get_or-range_with_len}
 use Rattle.odht_base.specs.Format.{Format, IsFormat, format_of}
 use Rattle.odht_base.specs.Table.{Pair, Table, walk}
 use Rattle.odht_base.specs.Shown.{counts_as_free, shown_cell, shown_cells, seen}
-use Rattle.odht_base.specs.Valid.{IsImage}
+use Rattle.odht_base.specs.Valid.{IsImage, IsPairOf, IsPlaced}
 use Rattle.odht_base.specs.Groups.{filled}
+use Rattle.odht_base.proofs.lemmas.Apart.{walk-IsPairOf}
 use Rattle.odht_base.proofs.lemmas.Image.{shown-image}
 use Rattle.odht_base.proofs.lemmas.MarkedPlaces.{places_of, filled-places}
 use Rattle.odht.specs.Parts.{TableParts, entry_format}
-use Rattle.odht.specs.Walks.{item, slot_item, items_of, items_from, AreFilled, decoded_items}
+use Rattle.odht.specs.Walks.{Item, item, slot_item, items_of, items_from, AreFilled, decoded_items}
 
 -- ---- slots by groups
 -- a list without a first item
@@ -122,3 +123,38 @@ module _ {EK EV K V : Type 0} (f : List ℕ → EK) (g : List ℕ → EV) (decod
 -- the bytes of a valid table show its pairs
 pub seen-image : (F : Format) (P : Table) (B : List ℕ) → IsFormat F → IsImage F P B → seen F B ≡ walk P
 seen-image F P B f is = ap (seen F) is.bytes ∙ ap walk (shown-image F P f is.valid)
+
+-- ---- the items as pairs of bytes
+module _ {EK EV : Type 0} (key_bytes : EK → List ℕ) (value_bytes : EV → List ℕ) where
+  -- the pair of an item
+  abbrev pub stored : Item EK EV → Pair
+  stored x = record { key = key_bytes x.1.key; value = value_bytes x.1.value }
+
+  -- those of a walk over the parts of a table are its pairs
+  module _ (f : List ℕ → EK) (g : List ℕ → EV) (key_len value_len : ℕ) (hash : List ℕ → ℕ) (key_kept : (b : List ℕ) → length b ≡ key_len → key_bytes (f b) ≡ b) (value_kept : (b : List ℕ) → length b ≡ value_len → value_bytes (g b) ≡ b) where
+    stored-item : (i : ℕ) (p : Pair) → IsPairOf (format_of key_len value_len hash) p → stored (item f g i p) ≡ p
+    stored-item i p is = λ j. record { key = key_kept p.key is.key.len j; value = value_kept p.value is.value.len j }
+
+    stored-slots : (F : Format) (T : TableParts) (is : List ℕ) → All (IsPairOf (format_of key_len value_len hash)) (filter_map (λ c. c) (map (shown_cell F T.entries.bytes T.control) is))
+        → map stored (filter_map (slot_item f g F T) is) ≡ filter_map (λ c. c) (map (shown_cell F T.entries.bytes T.control) is)
+    stored-slots F T [] fit = refl
+    stored-slots F T (i ∷ is) fit = go (shown_cell F T.entries.bytes T.control i) (stored-slots F T is) fit
+      where
+        go : (c : Option Pair)
+            → (All (IsPairOf (format_of key_len value_len hash)) (filter_map (λ c. c) (map (shown_cell F T.entries.bytes T.control) is)) → map stored (filter_map (slot_item f g F T) is) ≡ filter_map (λ c. c) (map (shown_cell F T.entries.bytes T.control) is))
+            → All (IsPairOf (format_of key_len value_len hash)) (cons_option c (filter_map (λ c. c) (map (shown_cell F T.entries.bytes T.control) is)))
+            → map stored (cons_option (option_map (item f g (slice_index T.control i)) c) (filter_map (slot_item f g F T) is))
+            ≡ cons_option c (filter_map (λ c. c) (map (shown_cell F T.entries.bytes T.control) is))
+        go None rest h = rest h
+        go (Some p) rest h = λ j. stored-item (slice_index T.control i) p (All-head (IsPairOf (format_of key_len value_len hash)) p _ h) j ∷ rest (All-tail (IsPairOf (format_of key_len value_len hash)) p _ h) j
+
+    pub stored-walk : (P : Table) (T : TableParts) → IsPlaced (format_of key_len value_len hash) P → length T.control ≡ T.entries.slots + 16
+        → filter_map (λ c. c) (shown_cells (format_of key_len value_len hash) T.entries.bytes T.control) ≡ walk P
+        → map stored (items_from f g (entry_format key_len value_len) T 0) ≡ walk P
+    unfolding shown_cells
+    stored-walk P T ok long shown =
+        let F = format_of key_len value_len hash in
+        let slots : T.entries.slots - 0 ≡ length T.control - 16 = omega (arith, long) in
+        let same : filter_map (λ c. c) (map (shown_cell (entry_format key_len value_len) T.entries.bytes T.control) (range_with_len 0 (T.entries.slots - 0))) ≡ walk P =
+        ap (λ n. filter_map (λ c. c) (map (shown_cell (entry_format key_len value_len) T.entries.bytes T.control) (range_with_len 0 n))) slots ∙ shown in
+        stored-slots (entry_format key_len value_len) T (range_with_len 0 (T.entries.slots - 0)) (subst (All (IsPairOf F)) (sym same) (walk-IsPairOf F P ok)) ∙ same

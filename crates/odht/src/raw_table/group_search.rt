@@ -19,7 +19,8 @@ use crate::swisstable_group_query::{Group, REFERENCE_GROUP_SIZE};
 ///
 /// On the parts of a table whose keys are all reached the answer is the slot where a search slot by slot ends, and exactly
 /// as many groups as there are up to it are shown. On any parts `Found` is a slot whose entry has this very key, `Free`
-/// one that counts as free, and no more groups are shown than there are. Both hold of every group search.
+/// one that counts as free, and no more groups are shown than there are. Both hold of every group search. The rules are
+/// those of docs/FORMAT.md, "Search".
 #[inline]
 pub fn search<K: ByteArray, V: ByteArray, H: HashFn, Q: Group>(
     scan: &mut Scan<'_>,
@@ -47,9 +48,9 @@ pub fn search<K: ByteArray, V: ByteArray, H: HashFn, Q: Group>(
     search_hashed::<K, V, H, Q>(scan, entries, key, hash)
 }
 
-// `search` of a key whose hash is known.
+/// `search` of a key whose hash is known.
 #[inline]
-fn search_hashed<K: ByteArray, V: ByteArray, H: HashFn, Q: Group>(
+pub(crate) fn search_hashed<K: ByteArray, V: ByteArray, H: HashFn, Q: Group>(
     scan: &mut Scan<'_>,
     entries: &Entries<'_, K, V>,
     key: &K,
@@ -74,76 +75,19 @@ fn search_hashed<K: ByteArray, V: ByteArray, H: HashFn, Q: Group>(
     ensures control { scan.new.control ≡ scan.old.control }
 {
     let tag = tag_of(hash);
-    let slots = scan.slots();
-    let mask = slots - 1;
-    let groups = slots / REFERENCE_GROUP_SIZE;
+    let mask = scan.slots() - 1;
     let mut probe = ProbeSeq::<REFERENCE_GROUP_SIZE>::new(hash as usize, mask);
-    for group in 0..groups {
+    'groups: loop {
         let start = probe.index();
         let bytes = scan.group(start);
         if let Some(end) = look_at_group::<K, V, H, Q>(bytes, start, entries, key, tag) {
             return end;
         }
-        if group + 1 < groups {
-            probe.advance(mask);
+        if probe.is_last() {
+            return Search::Neither;
         }
+        probe.advance(mask);
     }
-    Search::Neither
-}
-
-/// `search` in these parts, and how many groups it was shown.
-#[inline]
-pub(crate) fn search_counted<K: ByteArray, V: ByteArray, H: HashFn, Q: Group>(
-    control: &[EntryMetadata],
-    entries: &Entries<'_, K, V>,
-    key: &K,
-) -> (Search, usize)
-    requires slots { IsSlotCount entries.now.slots }
-    requires control { length control.now ≡ entries.now.slots + 16 }
-    requires hashes { H.MIN_LEN ≤ K.LEN }
-    requires key { K.LEN ≤ 255 }
-    requires value { V.LEN ≤ 255 }
-    ensures on_placed { (P : Table)
-        → IsPartsOf (format_of K.LEN V.LEN H.hash) P entries.now.bytes control.now
-        → result.0 ≡ answer (format_of K.LEN V.LEN H.hash) P.cells (K.bytes key.now) }
-    ensures groups { (P : Table)
-        → IsPartsOf (format_of K.LEN V.LEN H.hash) P entries.now.bytes control.now
-        → result.1 ≡ groups_read (format_of K.LEN V.LEN H.hash) P.cells (K.bytes key.now) }
-    ensures slot { MatchSearch result.0
-        (λ i. (i < entries.now.slots) × (slot_key (format_of K.LEN V.LEN H.hash) entries.now.bytes i ≡ K.bytes key.now))
-        (λ i. (i < entries.now.slots) × CountsAsFree control.now i)
-        ⊤ }
-    ensures few { result.1 ≤ entries.now.slots / 16 }
-{
-    let mut scan = Scan::new(control, entries.len());
-    let end = search::<K, V, H, Q>(&mut scan, entries, key);
-    (end, scan.groups())
-}
-
-/// `search` of a key whose hash is known, in these parts.
-#[inline]
-pub(crate) fn search_with_hash<K: ByteArray, V: ByteArray, H: HashFn, Q: Group>(
-    control: &[EntryMetadata],
-    entries: &Entries<'_, K, V>,
-    key: &K,
-    hash: u32,
-) -> Search
-    requires slots { IsSlotCount entries.now.slots }
-    requires control { length control.now ≡ entries.now.slots + 16 }
-    requires hash { hash ≡ H.hash (K.bytes key.now) }
-    requires hashes { H.MIN_LEN ≤ K.LEN }
-    requires key { K.LEN ≤ 255 }
-    requires value { V.LEN ≤ 255 }
-    ensures on_placed { (P : Table)
-        → IsPartsOf (format_of K.LEN V.LEN H.hash) P entries.now.bytes control.now
-        → result ≡ answer (format_of K.LEN V.LEN H.hash) P.cells (K.bytes key.now) }
-    ensures slot { MatchSearch result
-        (λ i. (i < entries.now.slots) × (slot_key (format_of K.LEN V.LEN H.hash) entries.now.bytes i ≡ K.bytes key.now))
-        (λ i. (i < entries.now.slots) × CountsAsFree control.now i)
-        ⊤ }
-{
-    let mut scan = Scan::new(control, entries.len());
-    search_hashed::<K, V, H, Q>(&mut scan, entries, key, hash)
 }
 
 // Looks at the sixteen slots from `start` on, whose control bytes are these, in pieces of the group search's size.

@@ -1,5 +1,5 @@
 //! The sequence in which the slots of a table are looked at, a group at a time.
-ghost use Rattle.std.specs.Prelude.{◌≡◌, ◌+◌, ◌%◌, ◌<◌, IfOk, OnErr, IsPermutation};
+ghost use Rattle.std.specs.Prelude.{◌≡◌, ◌+◌, ◌%◌, ◌<◌, ◌↔◌, IfOk, OnErr, IsPermutation, IsTrue};
 ghost use Rattle.std.specs.List.{range_with_len};
 ghost use Rattle.odht_base.specs.Load.{IsSlotCount};
 ghost use Rattle.odht_base.specs.Probe.{place_slot, order};
@@ -9,7 +9,8 @@ use crate::swisstable_group_query::REFERENCE_GROUP_SIZE;
 use std::alloc::Global;
 use std::marker::Model;
 
-/// A place of the probe order of a table, from which the next `GROUP_SIZE` slots are looked at.
+/// A place of the probe order of a table, from which the next `GROUP_SIZE` slots are looked at. The order is that of
+/// docs/FORMAT.md, "Probe order".
 ///
 /// Whatever `GROUP_SIZE` is, the slots come in the same order: that of groups of sixteen. So a table that is written with
 /// one group search is read with any other. A contract speaks of the home slot, the mask and the place.
@@ -79,9 +80,17 @@ impl<const GROUP_SIZE: usize> ProbeSeq<GROUP_SIZE> {
     {
         self.index
     }
+
+    /// Whether no place comes after the `GROUP_SIZE` ones from here on.
+    #[inline]
+    pub fn is_last(&self) -> bool
+        ensures { IsTrue result ↔ (self.now.mask < self.now.place + GROUP_SIZE) }
+    {
+        self.mask - self.place < GROUP_SIZE
+    }
 }
 
-/// The slots of a table in the probe order of a home slot: each exactly once.
+/// The slots of a table in the probe order of a home slot, as docs/FORMAT.md, "Probe order", tells it: each exactly once.
 ///
 /// `Memory` where the list was refused its memory, and no other refusal. One pass over the slots.
 pub fn probe_order(alloc: Global, start: usize, slots: usize) -> Result<Vec<usize>, Error>

@@ -8,7 +8,8 @@ use std::marker::Model;
 
 /// The control bytes of a table, shown a group of sixteen at a time, and how many groups were shown.
 ///
-/// A contract speaks of the control bytes and of that number.
+/// What counts as a group that was read is told by docs/FORMAT.md, "Search". A contract speaks of the control bytes and of
+/// that number.
 #[derive(Drop)]
 pub struct Scan<'a> {
     control: &'a [EntryMetadata],

@@ -9,7 +9,7 @@ ghost use Rattle.odht_base.specs.Valid.{IsPartsOf, IsFullWithout};
 ghost use Rattle.odht.specs.Frame.{IsPartsFramed};
 
 use super::writes::insert_at;
-use super::{Entries, EntryMetadata, RawTable, search_with_hash, tag_of};
+use super::{Entries, EntryMetadata, RawTable, Scan, search_hashed, tag_of};
 use crate::bytes::ByteArray;
 use crate::error::Error;
 use crate::hash::HashFn;
@@ -62,6 +62,7 @@ impl<'c, 'e, K: ByteArray, V: ByteArray, H: HashFn> RawTableMut<'c, 'e, K, V, H>
     /// `Full`, with nothing changed, exactly where there is no place: where each slot is filled, and none with the key. On
     /// any parts one value beside an equal key changes, or one entry is written with its tag into a slot that counted as
     /// free, and nothing else. At most each group is looked at once.
+    #[inline(always)]
     pub fn insert(&mut self, key: K, value: V) -> Result<Option<V>, Error>
         ensures ok { let F = format_of K.LEN V.LEN H.hash
             in (P : Table)
@@ -85,8 +86,8 @@ impl<'c, 'e, K: ByteArray, V: ByteArray, H: HashFn> RawTableMut<'c, 'e, K, V, H>
     }
 }
 
-// `insert` on the slices themselves.
-#[inline]
+// `insert` on the slices themselves, since no scan of a slice that `self` lends can stand while `self` is written.
+#[inline(always)]
 fn insert_parts<K: ByteArray, V: ByteArray, H: HashFn>(
     control: &mut [EntryMetadata],
     entries: &mut [u8],
@@ -117,7 +118,8 @@ fn insert_parts<K: ByteArray, V: ByteArray, H: HashFn>(
     let slots = control.len() - REFERENCE_GROUP_SIZE;
     let hash = H::hash(key.as_slice());
     let shown: Entries<'_, K, V> = Entries::new(entries, slots);
-    let end = search_with_hash::<K, V, H, GroupQuery>(control, &shown, &key, hash);
+    let mut scan = Scan::new(control, slots);
+    let end = search_hashed::<K, V, H, GroupQuery>(&mut scan, &shown, &key, hash);
     insert_at::<K, V, H>(control, entries, key, value, tag_of(hash), end)
 }
 

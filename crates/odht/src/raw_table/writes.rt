@@ -20,7 +20,7 @@ use crate::swisstable_group_query::REFERENCE_GROUP_SIZE;
 
 /// Writes a pair where the search for its key ended: the value alone into the slot that holds the key, or the entry with
 /// its tag into the free slot. Answers the former value, and `Full`, with nothing changed, where the search met neither.
-#[inline]
+#[inline(always)]
 pub(crate) fn insert_at<K: ByteArray, V: ByteArray, H: HashFn>(
     control: &mut [EntryMetadata],
     entries: &mut [u8],
@@ -77,6 +77,7 @@ pub(crate) fn insert_at<K: ByteArray, V: ByteArray, H: HashFn>(
 }
 
 // Writes the key from the byte `at` on, and the value behind it.
+#[inline(always)]
 fn write_pair(entries: &mut [u8], at: usize, key: &[u8], value: &[u8])
     requires { at + length key.now + length value.now ≤ length entries.old }
     ensures { entries.new ≡ overwritten_at entries.old at (key.now ++ value.now) }
@@ -86,6 +87,7 @@ fn write_pair(entries: &mut [u8], at: usize, key: &[u8], value: &[u8])
 }
 
 // Writes the tag into the control byte of a slot, and for a slot below 16 into the mirror.
+#[inline]
 fn write_tag(control: &mut [EntryMetadata], slot: usize, tag: u8)
     requires { slot + 16 < length control.old }
     ensures { control.new ≡ tagged control.old slot tag }

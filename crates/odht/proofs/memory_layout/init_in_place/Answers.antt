@@ -1,36 +1,19 @@
-use Rattle.std.proofs.Common.{◌≡◌, ◌+◌, ◌-◌, ◌∙◌, ap, sym, subst, arith, length, replicate}
-use Rattle.odht_base.specs.Bytes.{overwritten_at}
-use Rattle.odht_base.specs.Format.{format_of}
-use Rattle.odht_base.specs.Table.{empty}
-use Rattle.odht_base.specs.Image.{image, image_len}
-use Rattle.odht_base.specs.Writes.{with_count}
-use Rattle.odht.specs.Frame.{IsAccepted}
-use Rattle.odht.proofs.lemmas.NewTables.{written-new, IsAccepted-new}
-use Rattle.odht.proofs.memory_layout.init_in_place.Given.{Over}
+use Rattle.std.proofs.Common.{◌≡◌, ◌+◌, ◌-◌, ◌*◌, ◌∙◌, ap, arith, length, replicate}
+use Rattle.std.proofs.lemmas.List.{length-replicate}
+use Rattle.odht_base.specs.Bytes.{bytes_at}
+use Rattle.odht_base.specs.Format.{Format, format_of, entry_len}
+use Rattle.odht_base.specs.Image.{image_len}
+use Rattle.odht.proofs.lemmas.NewTables.{bytes_at-overwritten_at}
 use Rattle.odht.proofs.memory_layout.init_in_place.Goals as goal
 
--- what the writes leave
-written : (g : Over) (c : goal.After-fill-2 g) → g.M.ByteStore.bytes c.fill-2.new.data ≡ with_count (image (format_of g.C.EncodedKey.ByteArray.LEN g.C.EncodedValue.ByteArray.LEN g.C.H.HashFn.hash) (empty c.args.slot_count c.args.max_load_factor.0)) c.args.item_count
-written g c =
-    let F = format_of g.C.EncodedKey.ByteArray.LEN g.C.EncodedValue.ByteArray.LEN g.C.H.HashFn.hash in
-    let A = g.M.ByteStore.bytes c.write_header.new.data in
-    let len = length c.bytes-len.result.now in
-    let at = len - (c.args.slot_count + 16) in
-    let same : len ≡ length A = ap length c.bytes-len.ensures ∙ sym c.write_header.ensures.len in
-    let long : length A ≡ image_len F c.args.slot_count = c.write_header.ensures.len ∙ c.requires.len in
-    let end : at + (c.args.slot_count + 16) ≡ length A = omega (arith, same, long) in
-    c.fill-2.ensures.bytes
-    ∙ ap (λ b. overwritten_at b at (replicate (len - at) 255)) c.fill.ensures.bytes
-    ∙ ap (λ n. overwritten_at (overwritten_at A 32 (replicate (at - 32) 0)) at (replicate (n - at) 255)) same
-    ∙ written-new F c.args.slot_count c.args.item_count c.args.max_load_factor.0 c.requires.slots A at c.write_header.ensures.front long end
-
-pub invariant_of-result : goal.invariant_of-result
-invariant_of-result g c =
-    let F = format_of g.C.EncodedKey.ByteArray.LEN g.C.EncodedValue.ByteArray.LEN g.C.H.HashFn.hash in
-    let B = g.M.ByteStore.bytes c.fill-2.new.data in (
-      subst (IsAccepted F) (sym (written g c)) (IsAccepted-new F c.args.slot_count c.args.item_count c.args.max_load_factor.0 c.requires.slots),
-      omega (arith, c.fill-2.ensures.len, c.fill.ensures.len, c.write_header.ensures.len, c.bytes-len.type_inv.0, ap length c.bytes-len.ensures),
-    )
-
-pub returns : goal.returns
-returns g c = written g c
+pub init_zeroed-requires-clause-zeros : goal.init_zeroed-requires-clause-zeros
+init_zeroed-requires-clause-zeros g c κs within =
+    let F : Format = format_of g.C.EncodedKey.ByteArray.LEN g.C.EncodedValue.ByteArray.LEN g.C.H.HashFn.hash in
+    let B = g.M.ByteStore.bytes c.args.data in
+    let n = c.args.slot_count * entry_len F in
+    let at = length c.bytes.result.now - (c.args.slot_count + 16) in
+    let long : length B ≡ image_len F c.args.slot_count = c.requires.len in
+    let size : at - 32 ≡ n = omega (arith, ap length c.bytes.ensures, long) in
+    ap (λ t. bytes_at t 32 n) c.fill.ensures.bytes
+    ∙ bytes_at-overwritten_at B 32 n (replicate (at - 32) 0) (omega (arith, long)) (length-replicate (at - 32) 0 ∙ size)
+    ∙ ap (λ m. replicate m 0) size

@@ -29,7 +29,7 @@ returns-in-Found-clause-ok g c P is =
     let p : Pair = record { key = g.C.EncodedKey.ByteArray.bytes c.args.key.now; value = g.C.EncodedValue.ByteArray.bytes c.args.value.now } in
     let slot = c.in-Found.slot in
     let parts = c.data_slices-entries.ensures.parts P (record { valid = is.valid; bytes = c.self.view_is ∙ is.bytes }) in
-    let at : IsFoundAt F P p.key slot = answer-Found F P _ is.valid.placed slot (c.in-Found.ensures.on_placed P parts) in
+    let at : IsFoundAt F P p.key slot = answer-Found F P _ is.valid.placed slot ((rw c.new-scan.ensures at c.in-Found.ensures).on_placed P parts) in
     let fits : IsPairOf F p = record { key = found_key F P _ _ parts p.key slot at; value = c.write_value.ensures.value } in
     let old = c.get-old.ensures.value ∙ ap g.C.EncodedValue.ByteArray.of_bytes (found_value F P _ _ parts p.key slot at) in
     let written : c.write_value.new.self ≡ with_value F B slot p.value = c.write_value.ensures.bytes ∙ ap (λ b. with_value F b slot p.value) c.self.view_is in (
@@ -52,7 +52,7 @@ returns-in-Free-clause-ok g c P is =
     let p : Pair = record { key = g.C.EncodedKey.ByteArray.bytes c.args.key.now; value = g.C.EncodedValue.ByteArray.bytes c.args.value.now } in
     let slot = c.in-Free.slot in
     let parts = c.data_slices-entries.ensures.parts P (record { valid = is.valid; bytes = c.self.view_is ∙ is.bytes }) in
-    let at : IsFreeAt F P p.key slot = answer-Free F P _ is.valid.placed slot (c.in-Free.ensures.on_placed P parts) in
+    let at : IsFreeAt F P p.key slot = answer-Free F P _ is.valid.placed slot ((rw c.new-scan.ensures at c.in-Free.ensures).on_placed P parts) in
     let stated : c.item_count-count.result ≡ stated_count B = c.item_count-count.ensures ∙ ap stated_count (c.header-header.ensures.bytes ∙ c.self.view_is) in
     let tagged : c.tag_of.result ≡ tag F p.key = c.tag_of.ensures ∙ ap (λ h. h / 2 ^ 25) (c.hash-hash.ensures ∙ ap F.hash c.as_slice.ensures.value) in
     let written : c.set_item_count.new.self ≡ with_count (with_tag F (stated_slots B) (with_entry F B slot p) slot (tag F p.key)) (stated_count B + 1) =
@@ -74,7 +74,7 @@ pub returns-in-Neither-clause-full : goal.returns-in-Neither-clause-full
 returns-in-Neither-clause-full g c P is =
     let F : Format = format_of g.C.EncodedKey.ByteArray.LEN g.C.EncodedValue.ByteArray.LEN g.C.H.HashFn.hash in
     let parts = c.data_slices-entries.ensures.parts P (record { valid = is.valid; bytes = c.self.view_is ∙ is.bytes }) in
-    absurd (never_nowhere F P c.args.self.now is _ (answer-Neither F P _ is.valid.placed (c.in-Neither.ensures.on_placed P parts)))
+    absurd (never_nowhere F P c.args.self.now is _ (answer-Neither F P _ is.valid.placed ((rw c.new-scan.ensures at c.in-Neither.ensures).on_placed P parts)))
 
 pub returns-then-count-max-clause-frame : goal.returns-then-count-max-clause-frame
 returns-then-count-max-clause-frame g c = (Err Full, refl, InsertFrame.full)
@@ -103,7 +103,7 @@ returns-in-Free-clause-frame g c =
     let slot = c.in-Free.slot in
     let within : slot < stated_slots B = subst (λ n. slot < n) (c.data_slices-entries.ensures.slots ∙ ap stated_slots c.self.view_is) c.in-Free.ensures.slot.0 in
     let free : CountsAsFree (controls_of F B) slot =
-    subst (λ b. CountsAsFree b slot) (c.data_slices-entries.ensures.control ∙ ap (controls_of F) c.self.view_is) c.in-Free.ensures.slot.1 in
+    subst (λ b. CountsAsFree b slot) (c.data_slices-entries.ensures.control ∙ ap (controls_of F) c.self.view_is) (rw c.new-scan.ensures at c.in-Free.ensures).slot.1 in
     let stated : c.item_count-count.result ≡ stated_count B = c.item_count-count.ensures ∙ ap stated_count (c.header-header.ensures.bytes ∙ c.self.view_is) in
     let tagged : c.tag_of.result ≡ tag F p.key = c.tag_of.ensures ∙ ap (λ h. h / 2 ^ 25) (c.hash-hash.ensures ∙ ap F.hash c.as_slice.ensures.value) in
     let written : c.set_item_count.new.self ≡ with_count (with_tag F (stated_slots B) (with_entry F B slot p) slot (tag F p.key)) (stated_count B + 1) =

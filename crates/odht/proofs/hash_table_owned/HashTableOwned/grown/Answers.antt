@@ -1,16 +1,17 @@
-use Rattle.std.proofs.Common.{◌∙◌, ◌≡◌, ◌<◌, ◌^◌, ◌*◌, sym, ap, subst, arith, ◌+◌, Some}
+use Rattle.std.proofs.Common.{List, [], ◌∷◌, ◌++◌, append-nil, append_assoc, map, filter_map, ◌∙◌, ◌≡◌, ◌<◌, ◌^◌, ◌*◌, sym, ap, subst, arith}
 use Rattle.std.proofs.Math.Nat.{max_comm}
+use Rattle.std.proofs.lemmas.List.{map-append}
 use Rattle.std.specs.Prelude.{max}
+use Rattle.odht.specs.Walks.{Item}
 use Rattle.odht_base.specs.Format.{Format, format_of}
 use Rattle.odht_base.specs.Load.{slots_for}
-use Rattle.odht_base.specs.Shown.{stated_count, stated_factor}
-use Rattle.odht_base.specs.Table.{count, empty, slot_count}
+use Rattle.odht_base.specs.Shown.{shown_cells, stated_count, stated_factor}
+use Rattle.odht_base.specs.Table.{walk, count, empty}
 use Rattle.odht_base.specs.Valid.{IsImage}
-use Rattle.odht.proofs.lemmas.Growths.{IsGrownBelow, grown_none, grown_free, grown_insert, grown_all, count_small}
+use Rattle.odht.proofs.lemmas.Growths.{IsGrownBy, grown_none, grown_insert, grown_all, count_small}
+use Rattle.odht.proofs.lemmas.Walks.{stored, stored-walk, seen-image}
 use Rattle.odht.proofs.lemmas.Formats.{IsFormat-format_of}
-use Rattle.odht.proofs.lemmas.PartCells.{slots_are, cell_free, cell_filled}
 use Rattle.odht.proofs.lemmas.ViewInserts.{count_stated, factor_stated}
-use Rattle.odht.proofs.hash_table_owned.HashTableOwned.grown.Goals.{then-not-is_empty_or_deleted, else-not-is_empty_or_deleted}
 use Rattle.odht.proofs.hash_table_owned.HashTableOwned.grown.Goals as goal
 
 pub overflow_mul-item_count : goal.overflow_mul-item_count
@@ -30,41 +31,48 @@ empty_table-requires-clause-low g c κs within =
     let stated = c.max_load_factor-factor.ensures ∙ ap stated_factor (c.header-header.ensures.bytes ∙ c.allocation.ensures) ∙ factor_stated F P c.self.inside.table is in
     omega (arith, stated, is.valid.factor_low)
 
-pub loop-slot-init : goal.loop-slot-init
-loop-slot-init g c P is =
-    let F : Format = format_of g.C.EncodedKey.ByteArray.LEN g.C.EncodedValue.ByteArray.LEN g.C.H.HashFn.hash in
+pub loop-entry-init : goal.loop-entry-init
+loop-entry-init g c P is =
+    let key = g.C.EncodedKey.ByteArray in
+    let value = g.C.EncodedValue.ByteArray in
+    let F : Format = format_of key.LEN value.LEN g.C.H.HashFn.hash in
+    let f = IsFormat-format_of _ _ _ _ g.met.C.Config.key_fits g.met.C.Config.value_fits g.met.C.Config.key_hashes g.met.C.H.HashFn.fits in
     let header = c.header-header.ensures.bytes ∙ c.allocation.ensures ∙ c.self.view_is in
     let items = c.item_count.ensures ∙ ap stated_count header ∙ count_stated F P c.args.self.now is in
     let factor = c.max_load_factor-factor.ensures ∙ ap stated_factor header ∙ factor_stated F P c.args.self.now is in
     let capacity : c.max-max_item_count.result ≡ max 1 (2 * count P) = c.max-max_item_count.ensures ∙ max_comm (2 * c.item_count.result) 1 ∙ ap (λ n. max 1 (2 * n)) items in
     let made = c.in-Ok.ensures.ok in
-    grown_none F P is.valid made.0 c.in-Ok.grown ((λ i. slots_for (sym capacity i) (sym factor i)) ∙ made.1) (subst (λ f. IsImage F (empty made.0 f) c.in-Ok.grown) factor made.2)
+    let parts = c.data_slices-entries.ensures in
+    let shown = (λ j. filter_map (λ x. x) (shown_cells F (parts.entries j) (parts.control j)))
+    ∙ seen-image F P _ f (record { valid = is.valid; bytes = c.allocation-2.ensures ∙ c.self.view_is ∙ is.bytes }) in (
+      ap (map (stored key.bytes value.bytes)) (c.into_iter-entry-iterator.ensures.into_iter_gives ∙ c.new-walk.ensures.items)
+          ∙ stored-walk key.bytes value.bytes key.of_bytes value.of_bytes key.LEN value.LEN g.C.H.HashFn.hash g.met.C.EncodedKey.ByteArray.kept g.met.C.EncodedValue.ByteArray.kept P
+          (record { control = c.data_slices-entries.result.0.now; entries = c.data_slices-entries.result.1 }) is.valid.placed parts.len shown,
+      grown_none F P is.valid made.0 c.in-Ok.grown ((λ i. slots_for (sym capacity i) (sym factor i)) ∙ made.1) (subst (λ f. IsImage F (empty made.0 f) c.in-Ok.grown) factor made.2),
+    )
 
-pub loop-slot-preserved : goal.loop-slot-preserved
-loop-slot-preserved g c P is =
+pub loop-entry-preserved : goal.loop-entry-preserved
+loop-entry-preserved g c P is =
     let F : Format = format_of g.C.EncodedKey.ByteArray.LEN g.C.EncodedValue.ByteArray.LEN g.C.H.HashFn.hash in
-    let f = IsFormat-format_of _ _ _ _ g.met.C.Config.key_fits g.met.C.Config.value_fits g.met.C.Config.key_hashes g.met.C.H.HashFn.fits in
-    let so_far = c.loop-slot.invariant P is in
-    let parts = c.data_slices-entries.ensures.parts P (record { valid = is.valid; bytes = c.allocation-2.ensures ∙ c.self.view_is ∙ is.bytes }) in
-    let slots = slots_are F f P _ _ parts c.data_slices-entries.result.1.slots c.data_slices-entries.ensures.len in
-    let low : c.loop-slot.slot < slot_count P = omega (arith, c.loop-slot-test.true, c.len-slot-end.ensures, slots) in
-    elim c.if-not-is_empty_or_deleted.branch [
-      | then-not-is_empty_or_deleted w ↦
-          let filled = cell_filled F f P _ _ parts c.loop-slot.slot low (sym c.is_empty_or_deleted.ensures ∙ w.if-not-is_empty_or_deleted.true) in
-          let at = filled ∙ (λ i. Some (record { key = sym w.get-entry.ensures.key_bytes i; value = sym w.get-entry.ensures.value_bytes i })) in
-          let told = w.insert_encoded.ensures in
-          subst (IsGrownBelow F P (c.loop-slot.slot + 1)) (sym w.grown-is)
-          (grown_insert F P is.valid c.loop-slot.slot c.loop-slot.grown w.insert_encoded.new.self _ low at so_far _ w.insert_encoded.result told.only_full (told.full so_far.table so_far.image).0 (told.ok so_far.table so_far.image))
-      | else-not-is_empty_or_deleted w ↦
-          subst (IsGrownBelow F P (c.loop-slot.slot + 1)) (sym w.grown-is)
-          (grown_free F P is.valid c.loop-slot.slot c.loop-slot.grown low (cell_free F f P _ _ parts c.loop-slot.slot low (sym c.is_empty_or_deleted.ensures ∙ w.if-not-is_empty_or_deleted.false)) so_far)
-    ]
+    let pair = stored g.C.EncodedKey.ByteArray.bytes g.C.EncodedValue.ByteArray.bytes in
+    let given = c.loop-entry.yielded in
+    let here : Item g.row.C-EncodedKey.Denot g.row.C-EncodedValue.Denot = (c.in-Some.field-0-0, c.in-Some.entry) in
+    let left : List (Item g.row.C-EncodedKey.Denot g.row.C-EncodedValue.Denot) = c.next.new.self in
+    let so_far = c.loop-entry.invariant P is in
+    let told = c.insert_encoded.ensures in
+    let all : map pair (given ++ here ∷ left) ≡ walk P = ap (λ xs. map pair (given ++ xs)) (sym c.in-Some.ensures.steps) ∙ so_far.0 in
+    let h = so_far.1 in (
+      ap (map pair) (append_assoc given (here ∷ []) left) ∙ all,
+      subst (λ ps. IsGrownBy F P ps c.insert_encoded.new.self) (sym (map-append pair given (here ∷ [])))
+          (grown_insert F P is.valid (map pair given) (map pair left) (pair here) (sym (map-append pair given (here ∷ left)) ∙ all) c.loop-entry.grown c.insert_encoded.new.self h
+          _ c.insert_encoded.result told.only_full (told.full h.table h.image).0 (told.ok h.table h.image)),
+    )
 
 pub returns-clause-ok : goal.returns-clause-ok
 returns-clause-ok g c P is =
     let F : Format = format_of g.C.EncodedKey.ByteArray.LEN g.C.EncodedValue.ByteArray.LEN g.C.H.HashFn.hash in
-    let f = IsFormat-format_of _ _ _ _ g.met.C.Config.key_fits g.met.C.Config.value_fits g.met.C.Config.key_hashes g.met.C.H.HashFn.fits in
-    let parts = c.data_slices-entries.ensures.parts P (record { valid = is.valid; bytes = c.allocation-2.ensures ∙ c.self.view_is ∙ is.bytes }) in
-    let slots = slots_are F f P _ _ parts c.data_slices-entries.result.1.slots c.data_slices-entries.ensures.len in
-    let all : c.loop-slot.slot ≡ slot_count P = omega (arith, c.loop-slot-test.false, c.loop-slot.auto.slot-end, c.len-slot-end.ensures, slots) in
-    grown_all F P is.valid c.loop-slot.grown (subst (λ n. IsGrownBelow F P n c.loop-slot.grown) all (c.loop-slot.invariant P is))
+    let pair = stored g.C.EncodedKey.ByteArray.bytes g.C.EncodedValue.ByteArray.bytes in
+    let given = c.loop-entry.yielded in
+    let h = c.loop-entry.invariant P is in
+    let all : map pair given ≡ walk P = ap (map pair) (sym (append-nil given) ∙ ap (λ xs. given ++ xs) (sym c.in-None.ensures.steps.0)) ∙ h.0 in
+    grown_all F P is.valid c.loop-entry.grown (subst (λ ps. IsGrownBy F P ps c.loop-entry.grown) all h.1)
