@@ -1,0 +1,2 @@
+-- laws that several proofs use
+mod lemmas

@@ -1,0 +1,12 @@
+-- what opens
+pub mod Opened
+-- arrays that are written in turn
+pub mod Arrays
+-- lookups of many keys
+pub mod Got
+-- the status of a refusal
+pub mod Refused
+-- parts of bytes that are lent, and what an insert leaves in them
+pub mod InPlace
+-- iterators that are called until they end
+pub mod Drained

@@ -1,0 +1,23 @@
+use Rattle.std.proofs.Common.{◌≡◌, ◌∙◌, ap, sym, subst, refl, None}
+use Rattle.odht_base.specs.Format.{Format, format_of}
+use Rattle.odht_base.specs.Insert.{put_view}
+use Rattle.odht_base.specs.Valid.{IsImage}
+use Rattle.odht_base.proofs.lemmas.Puts.{put_view-None}
+use Rattle.odht.specs.Coding.{coding_of, encoded}
+use Rattle.odht.specs.declared.error.Error.TheVariants.{Full}
+use Rattle.odht_c.specs.Calls.{status_of}
+use Rattle.odht_c.proofs.lemmas.Opened.{never_refused}
+use Rattle.odht_c.proofs.write.insert.Goals as goal
+
+pub returns-in-Err-clause-on_valid : goal.returns-in-Err-clause-on_valid
+returns-in-Err-clause-on_valid g c P is =
+    let F : Format = format_of g.C.EncodedKey.ByteArray.LEN g.C.EncodedValue.ByteArray.LEN g.C.H.HashFn.hash in
+    never_refused F P c.args.bytes.now c.in-Err.refused is (sym c.in-Err.ensures.err)
+
+pub returns-in-Err-insert-clause-on_valid : goal.returns-in-Err-insert-clause-on_valid
+returns-in-Err-insert-clause-on_valid g c P is =
+    let K = coding_of g.C.EncodedKey.ByteArray.LEN g.C.EncodedKey.ByteArray.bytes g.C.EncodedKey.ByteArray.of_bytes g.C.EncodedValue.ByteArray.LEN g.C.EncodedValue.ByteArray.bytes g.C.EncodedValue.ByteArray.of_bytes g.C.H.HashFn.hash g.C.Config.encode_key g.C.Config.encode_value g.C.Config.decode_key g.C.Config.decode_value in
+    let p = encoded K c.args.key.now c.args.value.now in
+    let full : c.in-Err-insert.refused ≡ Full = (let only = c.in-Err-insert.ensures.only_full in cc) in
+    let none : put_view K.format P p ≡ None = (put_view-None K.format P p is.valid).1 ((c.insert.ensures.full P is).0 (c.in-Err-insert.is ∙ c.in-Err-insert.ensures.only_full)) in
+    rw none (subst (IsImage K.format P) (sym c.in-Err-insert.ensures.refused) is, c.status_of-in-Err-insert.ensures ∙ ap status_of full, refl)

@@ -1,0 +1,56 @@
+use Rattle.std.proofs.Common.{◌≡◌, ◌∙◌, refl, ◌<◌, ◌++◌, [], ◌∷◌, sym, ap, ap₂, subst, take, List, arith, length}
+use Rattle.std.proofs.lemmas.List.{take_more}
+use Rattle.std.specs.List.{zip}
+use Rattle.std.proofs.lemmas.Slice.Zip.{get_or-zip, length-zip}
+use Rattle.odht_base.specs.Format.{Format, format_of}
+use Rattle.odht_base.specs.Insert.{put_view}
+use Rattle.odht_base.specs.Table.{Pair}
+use Rattle.odht_base.proofs.lemmas.FreshRuns.{put_view-PlacesBelow}
+use Rattle.odht_base.proofs.lemmas.Puts.{put_view-IsInsert}
+use Rattle.odht.specs.Coding.{coding_of}
+use Rattle.odht.specs.Frame.{IsFramed}
+use Rattle.odht.specs.Lists.{encoded_all, IsFilled}
+use Rattle.odht.proofs.lemmas.Fillings.{filled_more, encoded_all-more}
+use Rattle.odht_c.specs.Calls.{IsFramedRun}
+use Rattle.odht_c.proofs.lemmas.Opened.{never_refused}
+use Rattle.odht_c.proofs.write.insert_all.Goals as goal
+
+pub returns-in-Err-clause-filled : goal.returns-in-Err-clause-filled
+returns-in-Err-clause-filled g c P is =
+    let F : Format = format_of g.C.EncodedKey.ByteArray.LEN g.C.EncodedValue.ByteArray.LEN g.C.H.HashFn.hash in
+    never_refused F P c.args.bytes.now c.in-Err.refused is (sym c.in-Err.ensures.err)
+
+pub loop-index-init : goal.loop-index-init
+loop-index-init g c = record {
+  accepted = sym c.in_default.ensures.err;
+  framed = IsFramedRun.start;
+  filled = λ P is. record { table = P; runs = refl; image = is; maps = λ k. refl; stays = λ room. ((refl, refl), omega (arith)) };
+}
+
+pub loop-index-preserved : goal.loop-index-preserved
+loop-index-preserved g c =
+    let K = coding_of g.C.EncodedKey.ByteArray.LEN g.C.EncodedKey.ByteArray.bytes g.C.EncodedKey.ByteArray.of_bytes g.C.EncodedValue.ByteArray.LEN g.C.EncodedValue.ByteArray.bytes g.C.EncodedValue.ByteArray.of_bytes g.C.H.HashFn.hash g.C.Config.encode_key g.C.Config.encode_value g.C.Config.decode_key g.C.Config.decode_value in
+    let n = c.loop-index.index in
+    let items = zip c.args.keys.now c.args.values.now in
+    let item : g.row.C-Key.Denot × g.row.C-Value.Denot = (c.index-keys-index.result, c.index-values-index.result) in
+    let low : n < length c.args.keys.now = c.loop-index-test.true in
+    let low_value : n < length c.args.values.now = omega (arith, low, c.requires) in
+    let low_item : n < length items = omega (arith, low, low_value, length-zip c.args.keys.now c.args.values.now) in
+    let at = get_or-zip c.args.keys.now c.args.values.now n item low low_value ∙ ap₂ (λ k v. (k, v)) (sym c.index-keys-index.is) (sym c.index-values-index.is) in
+    record {
+      accepted = c.insert.ensures.accepted;
+      framed =
+          subst (λ xs. IsFramedRun K c.args.bytes.now xs c.insert.new.bytes) (sym (take_more items n item low_item ∙ ap (λ t. take n items ++ t ∷ []) at))
+          (IsFramedRun.accepted (take n items) c.index-keys-index.result c.index-values-index.result c.in_default-insert.field-0 c.loop-index.bytes c.insert.new.bytes c.loop-index.invariant.framed
+          (subst (λ r. IsFramed K c.loop-index.bytes c.index-keys-index.result c.index-values-index.result r c.insert.new.bytes) c.in_default-insert.is c.insert.ensures.frame));
+      filled = λ P is. (
+          let h = c.loop-index.invariant.filled P is in
+          let put = c.in_default-insert.ensures.ok h.table h.image in
+          subst (λ (ps : List Pair). IsFilled K.format (put_view K.format) P ps c.insert.new.bytes) (sym (encoded_all-more K items n item low_item at))
+          (filled_more K.format (put_view K.format) (put_view-IsInsert K.format) (put_view-PlacesBelow K.format) P (encoded_all K (take n items)) _ c.loop-index.bytes c.insert.new.bytes h put.1.0 put.1.1 put.1.2));
+    }
+
+pub returns-clause-filled : goal.returns-clause-filled
+returns-clause-filled g c P is =
+    let all : c.loop-index.index ≡ length c.args.keys.now = omega (arith, c.loop-index-test.false, c.loop-index.auto.index-end) in
+    rw (sym all) (c.loop-index.invariant.filled P is)

@@ -1,0 +1,12 @@
+//! The table for programs in C, and in any language that calls C.
+#![tactic(auto)]
+
+mod b16_u32;
+mod build;
+mod in_place;
+mod read;
+mod status;
+#[cfg(test)]
+mod tests;
+mod u64_u32;
+mod write;

@@ -1,0 +1,57 @@
+//! The numbers that the calls answer. `include/odht.h` has names for all, those of refusals too.
+ghost use Rattle.std.specs.Prelude.{◌≡◌};
+ghost use Rattle.odht_c.specs.Calls.{status_of};
+
+use odht::error::Error;
+
+/// It is done.
+pub(crate) const OK: u32 = 0;
+
+/// The bytes for a new table have another length than it needs.
+pub(crate) const INIT_LENGTH: u32 = 17;
+
+/// No slot count is enough, or its length passes `usize`.
+pub(crate) const CAPACITY: u32 = 20;
+
+/// The key has no value.
+pub(crate) const ABSENT: u32 = 32;
+
+/// It is done, and the key had a value before.
+pub(crate) const REPLACED: u32 = 33;
+
+/// The load factor is not from 1 to 100 percent.
+pub(crate) const BAD_PERCENT: u32 = 34;
+
+/// Arrays that belong together have different lengths.
+pub(crate) const BAD_LENGTHS: u32 = 35;
+
+/// An array is too short for all that it should take.
+pub(crate) const TOO_SMALL: u32 = 36;
+
+/// The number of a refusal.
+pub(crate) fn status_of(error: &Error) -> u32
+    ensures { result ≡ status_of error.now }
+{
+    match error {
+        Error::TooShort { .. } => 1,
+        Error::WrongTag { .. } => 2,
+        Error::WrongVersion { .. } => 3,
+        Error::WrongSizeOf { .. } => 4,
+        Error::SlotCountNotPowerOfTwo { .. } => 5,
+        Error::SlotCountTooSmall { .. } => 6,
+        Error::WrongLength { .. } => 7,
+        Error::NonZeroEmpty { .. } => 8,
+        Error::ControlMismatch { .. } => 9,
+        Error::LoadFactorTooSmall { .. } => 10,
+        Error::NonZeroPadding { .. } => 11,
+        Error::BadFreeControl { .. } => 12,
+        Error::MirrorMismatch { .. } => 13,
+        Error::WrongItemCount { .. } => 14,
+        Error::TooManyItems { .. } => 15,
+        Error::Unreachable { .. } => 16,
+        Error::InitLength { .. } => 17,
+        Error::Full => 18,
+        Error::Memory => 19,
+        Error::Capacity => 20,
+    }
+}

@@ -1,0 +1,133 @@
+//! The calls that ask for memory, run with ample memory, and with each request refused in turn: the first answer of a call
+//! may be that memory was refused, and the second may not.
+
+use crate::status::{BAD_LENGTHS, BAD_PERCENT, OK, TOO_SMALL};
+use crate::u64_u32::{
+    odht_u64_u32_build, odht_u64_u32_build_growing, odht_u64_u32_get, odht_u64_u32_len,
+    odht_u64_u32_open,
+};
+use std::alloc::Global;
+use std::process::Abort;
+
+// Memory was refused.
+const MEMORY: u32 = 19;
+
+// Demands that what is named so is as expected.
+fn same(rt: &impl Abort, what: &str, found: usize, expected: usize) {
+    assert_eq!(rt; found, expected, "{what}");
+}
+
+// Demands this status.
+fn same_status(rt: &impl Abort, what: &str, found: u32, expected: u32) {
+    assert_eq!(rt; found, expected, "{what}");
+}
+
+// Builds at 95 percent, once more where memory was refused, and then nothing was written.
+fn build(
+    rt: &impl Abort,
+    alloc: Global,
+    keys: &[u64],
+    values: &[u32],
+    out: &mut [u8],
+    len: &mut usize,
+) -> u32 {
+    let first = odht_u64_u32_build(alloc, keys, values, 95, out, len);
+    if first != MEMORY {
+        return first;
+    }
+    same(rt, "length after a refusal", *len, 0);
+    assert!(rt; out.iter().all(|byte| *byte == 7), "bytes after a refusal");
+    odht_u64_u32_build(alloc, keys, values, 95, out, len)
+}
+
+// The same, growing.
+fn build_growing(
+    rt: &impl Abort,
+    alloc: Global,
+    keys: &[u64],
+    values: &[u32],
+    out: &mut [u8],
+    len: &mut usize,
+) -> u32 {
+    let first = odht_u64_u32_build_growing(alloc, keys, values, out, len);
+    if first != MEMORY {
+        return first;
+    }
+    same(rt, "length after a refusal", *len, 0);
+    assert!(rt; out.iter().all(|byte| *byte == 7), "bytes after a refusal");
+    odht_u64_u32_build_growing(alloc, keys, values, out, len)
+}
+
+// Demands a table of so many items, where the value of each key is ten times as much.
+fn check_table(rt: &impl Abort, table: &[u8], items: u32) {
+    same_status(rt, "open", odht_u64_u32_open(table), OK);
+    let mut count = 0;
+    same_status(rt, "len", odht_u64_u32_len(table, &mut count), OK);
+    same(rt, "items", count, items as usize);
+    for key in 0..items {
+        let mut value = 0;
+        same_status(
+            rt,
+            "get",
+            odht_u64_u32_get(table, key as u64, &mut value),
+            OK,
+        );
+        same(rt, "value", value as usize, 10 * key as usize);
+    }
+}
+
+#[test]
+fn three_pairs_in_256_bytes(rt: HostRuntime) {
+    let (mut out, mut len) = ([7; 256], 0);
+    let status = build(
+        &rt,
+        rt.alloc(),
+        &[0, 1, 2],
+        &[0, 10, 20],
+        &mut out,
+        &mut len,
+    );
+    same_status(&rt, "build", status, OK);
+    same(&rt, "length", len, 256);
+    check_table(&rt, &out, 3);
+}
+
+#[test]
+fn forty_pairs_that_grow_to_64_slots(rt: HostRuntime) {
+    let (mut keys, mut values) = ([0; 40], [0; 40]);
+    for index in 0..40 {
+        keys[index] = index as u64;
+        values[index] = 10 * index as u32;
+    }
+    let (mut out, mut len) = ([7; 880], 0);
+    let status = build_growing(&rt, rt.alloc(), &keys, &values, &mut out, &mut len);
+    same_status(&rt, "build_growing", status, OK);
+    same(&rt, "length", len, 880);
+    check_table(&rt, &out, 40);
+}
+
+#[test]
+fn too_few_bytes_tell_the_length(rt: HostRuntime) {
+    let (mut out, mut len) = ([7; 255], 0);
+    let status = build(&rt, rt.alloc(), &[1], &[10], &mut out, &mut len);
+    same_status(&rt, "build", status, TOO_SMALL);
+    same(&rt, "length", len, 256);
+    let (mut out, mut len) = ([7; 255], 0);
+    let status = build_growing(&rt, rt.alloc(), &[1], &[10], &mut out, &mut len);
+    same_status(&rt, "build_growing", status, TOO_SMALL);
+    same(&rt, "length", len, 256);
+}
+
+#[test]
+fn refused_arguments(rt: HostRuntime) {
+    let (mut out, mut len) = ([7; 300], 0);
+    let status = build(&rt, rt.alloc(), &[1, 2], &[10], &mut out, &mut len);
+    same_status(&rt, "build", status, BAD_LENGTHS);
+    let status = build_growing(&rt, rt.alloc(), &[1, 2], &[10], &mut out, &mut len);
+    same_status(&rt, "build_growing", status, BAD_LENGTHS);
+    for percent in [0, 101] {
+        let status = odht_u64_u32_build(rt.alloc(), &[1], &[10], percent, &mut out, &mut len);
+        same_status(&rt, "build", status, BAD_PERCENT);
+    }
+    same(&rt, "length", len, 0);
+}

@@ -1,0 +1,294 @@
+/*
+ * odht.h: hash tables that are used in the very bytes in which they are stored.
+ *
+ * docs/FORMAT.md has the bytes and all rules. Two kinds of table are here:
+ *
+ *   odht_u64_u32_*   keys are numbers of 64 bits, the hash function is FxHashFn
+ *   odht_b16_u32_*   keys are 16 bytes that are a hash already (their last four
+ *                    bytes should vary), the hash function is UnHashFn
+ *
+ * Values are numbers of 32 bits in both. A table is a slice of bytes that the
+ * caller owns: a file's contents, a mapping, a part of either, or memory made
+ * for it. It may begin at any address. There is nothing to close or to free.
+ *
+ * Rules for callers:
+ *
+ * - No pointer may be NULL, also where the length beside it is 0.
+ * - A pointer and the length behind it are a slice that the caller may read,
+ *   and may write where the pointer is not to const. Lengths of arrays are
+ *   in items (keys, values, flags), lengths of bytes are in bytes.
+ * - A slice or place that a call writes overlaps no other of that call. Slices
+ *   that are only read may overlap.
+ * - Nobody writes a table's bytes while a call reads them, and nobody reads
+ *   them while a call writes them. The library keeps nothing between calls, so
+ *   any number of threads may read one table.
+ * - Every call answers a status, an enum odht_status. The places behind the
+ *   pointers to results are written only where the comment says so.
+ * - Where arrays of different lengths are given that should be equally long,
+ *   the answer is ODHT_BAD_LENGTHS, and nothing else is looked at.
+ *
+ * - size_t has 64 bits. Arrays of numbers and single places are aligned as C
+ *   demands; a table's bytes alone may begin at any address.
+ *
+ * What is said of answers holds for the bytes of a valid table: those that these
+ * calls have made. odht_*_open does not find out whether bytes are valid, since
+ * it looks at ten slots. On other bytes that pass refusals 1 to 7 no call reads
+ * or writes beyond what it was lent, but get may miss a key, or find a value that
+ * stands beside it in a slot that counts as free; len tells what the header
+ * states; an insert changes one value beside an equal key, or adds one entry;
+ * and FULL may come before the maximum. docs/FORMAT.md has the frame.
+ *
+ * Memory is asked for by odht_u64_u32_build and odht_u64_u32_build_growing
+ * alone, by malloc, and given back before they return. It goes through the
+ * kit's small C library, so programs are linked with both:
+ * libodht_c.a, then liblibc_c.a.
+ */
+#ifndef ODHT_H
+#define ODHT_H
+
+#include <stddef.h>
+#include <stdint.h>
+
+#ifdef __cplusplus
+static_assert(sizeof(size_t) == 8, "the library is built for 64 bits");
+#else
+_Static_assert(sizeof(size_t) == 8, "the library is built for 64 bits");
+#endif
+
+#ifdef __cplusplus
+extern "C" {
+#endif
+
+enum odht_status {
+    ODHT_OK = 0,
+
+    /* Bytes that are not a table of this kind. A call looks in this order, 1 to
+       7, and answers the first that applies; nothing is changed then. After
+       these odht_*_open looks at slots 0 to 9 in turn, and the first bad one
+       gives 8 or 9. */
+    ODHT_TOO_SHORT = 1,                   /* fewer than 32 bytes */
+    ODHT_WRONG_TAG = 2,                   /* the first four bytes are not ODHT */
+    ODHT_WRONG_VERSION = 3,               /* not version 2 of the format */
+    ODHT_WRONG_SIZE = 4,                  /* other lengths of keys, values or header */
+    ODHT_SLOT_COUNT_NOT_POWER_OF_TWO = 5,
+    ODHT_SLOT_COUNT_TOO_SMALL = 6,        /* fewer than 16 slots */
+    ODHT_WRONG_LENGTH = 7,                /* not as many bytes as the slots need */
+    ODHT_NON_ZERO_EMPTY = 8,              /* a free slot's entry is not zero (open) */
+    ODHT_CONTROL_MISMATCH = 9,            /* a control byte is not its key's tag (open) */
+
+    /* Refusals of a check of the whole table. No call of today answers them. */
+    ODHT_LOAD_FACTOR_TOO_SMALL = 10,
+    ODHT_NON_ZERO_PADDING = 11,
+    ODHT_BAD_FREE_CONTROL = 12,
+    ODHT_MIRROR_MISMATCH = 13,
+    ODHT_WRONG_ITEM_COUNT = 14,
+    ODHT_TOO_MANY_ITEMS = 15,
+    ODHT_UNREACHABLE = 16,
+
+    /* Refusals of making and filling tables. */
+    ODHT_INIT_LENGTH = 17,                /* not the length that was asked for */
+    ODHT_FULL = 18,                       /* as many items as the table takes */
+    ODHT_MEMORY = 19,                     /* malloc has refused */
+    ODHT_CAPACITY = 20,                   /* more items than any table takes */
+
+    /* Answers that say something else. */
+    ODHT_ABSENT = 32,                     /* the key is not in the table */
+    ODHT_REPLACED = 33,                   /* the key was there with a value */
+    ODHT_BAD_PERCENT = 34,                /* 0 percent, or more than 100 */
+    ODHT_BAD_LENGTHS = 35,                /* arrays of different lengths */
+    ODHT_TOO_SMALL = 36                   /* there is more than there is room for */
+};
+
+/* A short text for a status, such as "wrong length". */
+static inline const char *odht_status_name(uint32_t status)
+{
+    switch (status) {
+    case ODHT_OK: return "ok";
+    case ODHT_TOO_SHORT: return "too short";
+    case ODHT_WRONG_TAG: return "wrong tag";
+    case ODHT_WRONG_VERSION: return "wrong version";
+    case ODHT_WRONG_SIZE: return "wrong size";
+    case ODHT_SLOT_COUNT_NOT_POWER_OF_TWO: return "slot count not a power of two";
+    case ODHT_SLOT_COUNT_TOO_SMALL: return "slot count too small";
+    case ODHT_WRONG_LENGTH: return "wrong length";
+    case ODHT_NON_ZERO_EMPTY: return "non-zero empty slot";
+    case ODHT_CONTROL_MISMATCH: return "control mismatch";
+    case ODHT_LOAD_FACTOR_TOO_SMALL: return "load factor too small";
+    case ODHT_NON_ZERO_PADDING: return "non-zero padding";
+    case ODHT_BAD_FREE_CONTROL: return "bad free control";
+    case ODHT_MIRROR_MISMATCH: return "mirror mismatch";
+    case ODHT_WRONG_ITEM_COUNT: return "wrong item count";
+    case ODHT_TOO_MANY_ITEMS: return "too many items";
+    case ODHT_UNREACHABLE: return "unreachable";
+    case ODHT_INIT_LENGTH: return "wrong length to initialize";
+    case ODHT_FULL: return "full";
+    case ODHT_MEMORY: return "no memory";
+    case ODHT_CAPACITY: return "capacity";
+    case ODHT_ABSENT: return "absent";
+    case ODHT_REPLACED: return "replaced";
+    case ODHT_BAD_PERCENT: return "bad percent";
+    case ODHT_BAD_LENGTHS: return "bad lengths";
+    case ODHT_TOO_SMALL: return "too small";
+    default: return "unknown status";
+    }
+}
+
+/* ---- Keys of 64 bits, values of 32 bits, FxHashFn ---- */
+
+/*
+ * How many bytes a table for max_item_count items has that is filled to at most
+ * max_load_factor_percent (1 to 100) of its slots.
+ * OK: *len is the length in bytes. BAD_PERCENT. CAPACITY: no slot count is
+ * enough, or the length does not fit size_t.
+ * *len is written with OK alone.
+ */
+uint32_t odht_u64_u32_bytes_needed(size_t max_item_count, uint8_t max_load_factor_percent,
+                                   size_t *len);
+
+/*
+ * Makes an empty table in bytes, whatever they hold. There must be exactly as
+ * many as odht_u64_u32_bytes_needed answers for the same count and percentage.
+ * OK: the bytes are the empty table. BAD_PERCENT. CAPACITY. INIT_LENGTH: there
+ * are more or fewer bytes. With all but OK the bytes stay as they were.
+ */
+uint32_t odht_u64_u32_init(uint8_t *bytes, size_t bytes_len, size_t max_item_count,
+                           uint8_t max_load_factor_percent);
+
+/*
+ * Asks whether bytes can be used as a table: looks at the header, the length
+ * and the first ten slots, so it takes equally long for every table. Opening
+ * is a question and not a duty: each call below looks at the header and the
+ * length itself.
+ * OK: calls can be made on them; slots from the eleventh on were not looked at.
+ * A refusal, 1 to 9.
+ */
+uint32_t odht_u64_u32_open(const uint8_t *bytes, size_t bytes_len);
+
+/*
+ * Inserts a key with its value, or gives a key that is there another value.
+ * OK: the key was new. REPLACED: the key was there, and *former is its former
+ * value. FULL: the table holds as many items as it takes; this is answered even
+ * where the key is there. A refusal, 1 to 7. With FULL and the refusals
+ * nothing changes. *former is written with REPLACED alone.
+ */
+uint32_t odht_u64_u32_insert(uint8_t *bytes, size_t bytes_len, uint64_t key, uint32_t value,
+                             uint32_t *former);
+
+/*
+ * Inserts keys[i] with values[i], for each i from 0 on, as odht_u64_u32_insert
+ * does, and stops at the first that is refused.
+ * OK: all are inserted, and *accepted is keys_len. FULL: *accepted of them are
+ * inserted, and the next one was refused. BAD_LENGTHS: keys_len is not
+ * values_len. A refusal, 1 to 7. With the last two nothing changes, and
+ * *accepted stays as it was.
+ */
+uint32_t odht_u64_u32_insert_all(uint8_t *bytes, size_t bytes_len, const uint64_t *keys,
+                                 size_t keys_len, const uint32_t *values, size_t values_len,
+                                 size_t *accepted);
+
+/*
+ * Looks a key up.
+ * OK: the key is there, and *value is its value. ABSENT: it is not there. A
+ * refusal, 1 to 7. *value is written with OK alone.
+ */
+uint32_t odht_u64_u32_get(const uint8_t *bytes, size_t bytes_len, uint64_t key, uint32_t *value);
+
+/*
+ * Looks keys_len keys up; the header and the length are looked at once.
+ * OK: for each i, either found[i] is 1 and values[i] is the value of keys[i],
+ * or found[i] is 0 and values[i] is as it was. BAD_LENGTHS: the three lengths
+ * are not equal. A refusal, 1 to 7. With the last two both arrays stay.
+ */
+uint32_t odht_u64_u32_get_all(const uint8_t *bytes, size_t bytes_len, const uint64_t *keys,
+                              size_t keys_len, uint32_t *values, size_t values_len,
+                              uint8_t *found, size_t found_len);
+
+/*
+ * The number of items, as the header states it.
+ * OK: it is *count. A refusal, 1 to 7. *count is written with OK alone.
+ */
+uint32_t odht_u64_u32_len(const uint8_t *bytes, size_t bytes_len, size_t *count);
+
+/*
+ * Writes each pair of the table into two arrays, in the order of the slots.
+ * OK: these are *count pairs, and the rest of the arrays is as it was.
+ * TOO_SMALL: the arrays are full, and there are more pairs; *count is keys_len.
+ * BAD_LENGTHS: keys_len is not values_len. A refusal, 1 to 7. With the last two
+ * the arrays and *count stay as they were.
+ */
+uint32_t odht_u64_u32_walk(const uint8_t *bytes, size_t bytes_len, uint64_t *keys, size_t keys_len,
+                           uint32_t *values, size_t values_len, size_t *count);
+
+/*
+ * Makes a table for exactly these pairs and inserts them one after the other;
+ * they are copied into memory first, and the table is copied out at the end.
+ * Of equal keys the last value counts.
+ * OK: the table is the first *len bytes of out. TOO_SMALL: out_len is below
+ * *len, the length in bytes that the table has. MEMORY. CAPACITY. BAD_PERCENT.
+ * BAD_LENGTHS: keys_len is not values_len. *len is written with OK and
+ * TOO_SMALL alone, out with OK alone.
+ */
+uint32_t odht_u64_u32_build(const uint64_t *keys, size_t keys_len, const uint32_t *values,
+                            size_t values_len, uint8_t max_load_factor_percent, uint8_t *out,
+                            size_t out_len, size_t *len);
+
+/*
+ * Builds the table as one does who does not know the number of pairs before:
+ * inserts them one after the other into a table that has 16 slots at 87 percent at first and doubles
+ * them whenever it is full. The order of the slots can differ from that of
+ * odht_u64_u32_build.
+ * OK, TOO_SMALL, MEMORY and BAD_LENGTHS as there; CAPACITY is never answered,
+ * since a growth past any table is refused as MEMORY.
+ */
+uint32_t odht_u64_u32_build_growing(const uint64_t *keys, size_t keys_len, const uint32_t *values,
+                                    size_t values_len, uint8_t *out, size_t out_len, size_t *len);
+
+/* ---- Keys of 16 bytes, values of 32 bits, UnHashFn ----
+ *
+ * Each call does what the call of the same name above does. An array of keys
+ * is an array of arrays of 16 bytes, and its length counts the keys.
+ */
+
+/* OK: *len is the length in bytes. BAD_PERCENT. CAPACITY. */
+uint32_t odht_b16_u32_bytes_needed(size_t max_item_count, uint8_t max_load_factor_percent,
+                                   size_t *len);
+
+/* OK. BAD_PERCENT, CAPACITY, INIT_LENGTH: the bytes stay as they were. */
+uint32_t odht_b16_u32_init(uint8_t *bytes, size_t bytes_len, size_t max_item_count,
+                           uint8_t max_load_factor_percent);
+
+/* OK, or a refusal, 1 to 9. */
+uint32_t odht_b16_u32_open(const uint8_t *bytes, size_t bytes_len);
+
+/* OK. REPLACED: *former is the former value. FULL, or a refusal, 1 to 7: nothing changes. */
+uint32_t odht_b16_u32_insert(uint8_t *bytes, size_t bytes_len, const uint8_t key[16],
+                             uint32_t value, uint32_t *former);
+
+/* OK or FULL: *accepted pairs are inserted. BAD_LENGTHS, or a refusal, 1 to 7: nothing changes. */
+uint32_t odht_b16_u32_insert_all(uint8_t *bytes, size_t bytes_len, const uint8_t (*keys)[16],
+                                 size_t keys_len, const uint32_t *values, size_t values_len,
+                                 size_t *accepted);
+
+/* OK: *value is the value. ABSENT, or a refusal, 1 to 7: *value stays. */
+uint32_t odht_b16_u32_get(const uint8_t *bytes, size_t bytes_len, const uint8_t key[16],
+                          uint32_t *value);
+
+/* OK: found[i] is 1 and values[i] the value, or found[i] is 0 and values[i] as it was.
+   BAD_LENGTHS, or a refusal, 1 to 7: both arrays stay. */
+uint32_t odht_b16_u32_get_all(const uint8_t *bytes, size_t bytes_len, const uint8_t (*keys)[16],
+                              size_t keys_len, uint32_t *values, size_t values_len,
+                              uint8_t *found, size_t found_len);
+
+/* OK: *count is the number of items. A refusal, 1 to 7: it stays. */
+uint32_t odht_b16_u32_len(const uint8_t *bytes, size_t bytes_len, size_t *count);
+
+/* OK: *count pairs, in the order of the slots. TOO_SMALL: the arrays are full, and there are
+   more. BAD_LENGTHS, or a refusal, 1 to 7: the arrays and *count stay. */
+uint32_t odht_b16_u32_walk(const uint8_t *bytes, size_t bytes_len, uint8_t (*keys)[16],
+                           size_t keys_len, uint32_t *values, size_t values_len, size_t *count);
+
+#ifdef __cplusplus
+}
+#endif
+
+#endif
