@@ -1,6 +1,11 @@
 # make run: the program on its first script, or on SCRIPT=file; make test: the gate
+# make examples: both examples, compared with what they must print
+# make bench: the table of speeds; QUICK=1 for a short run, ODHT_RUST=folder for the Rust crate beside it
 SCRIPT ?= crates/odht_table/stdin
-.PHONY: run test
+LIBRARY ?= crates/odht_c/out/libodht_c.a
+QUICK ?=
+ODHT_RUST ?=
+.PHONY: run test examples bench
 run:
 	@cd crates/odht_base && rt lib >&2
 	@cd crates/odht && rt lib >&2
@@ -8,3 +13,45 @@ run:
 
 test:
 	rt ci
+
+crates/odht_c/out/libodht_c.a:
+	@cd crates/odht_base && rt lib >&2
+	@cd crates/odht && rt lib >&2
+	@cd crates/odht_c && rt lib >&2
+
+# the kit's folder is asked for only where something is linked
+KIT = $(dir $(shell rt doc))
+LINK_RUST = -L native=$(dir $(LIBRARY)) -l static=odht_c -L native=$(KIT)c -l static=libc_c
+
+examples: $(LIBRARY)
+	@mkdir -p build
+	@gcc -std=c11 -O2 -Wall -Wextra -Werror -Iinclude examples/c/main.c $(LIBRARY) $(KIT)c/liblibc_c.a -o build/example_c
+	@rustc --edition 2021 -O -D warnings examples/rust/main.rs $(LINK_RUST) -o build/example_rust
+	@build/example_c build/c.odht > build/c.txt
+	@build/example_rust build/rust.odht > build/rust.txt
+	@diff examples/expected build/c.txt
+	@diff examples/expected build/rust.txt
+	@cmp build/c.odht build/rust.odht
+	@echo 'examples: C and Rust print what they must, and store the same bytes'
+
+# both tables are built for the same level of processor
+BENCH_RUST = rustc -C opt-level=3 -C target-cpu=x86-64-v2
+ORIGINAL = $(if $(ODHT_RUST),build/original/libodht.rlib)
+LINK_ORIGINAL = $(if $(ODHT_RUST),--cfg original -L dependency=build/original --extern odht=$(ORIGINAL))
+
+bench: $(LIBRARY) $(if $(ODHT_RUST),original)
+	@mkdir -p build
+	@$(BENCH_RUST) --edition 2021 -D warnings --check-cfg 'cfg(original)' $(LINK_ORIGINAL) bench/main.rs $(LINK_RUST) -o build/bench
+	@build/bench $(if $(QUICK),quick)
+
+# the Rust crate, from a checkout or from a flat folder with names as src--lib.rs.txt
+.PHONY: original
+original:
+	@rm -rf build/original && mkdir -p build/original
+	@if [ -f '$(ODHT_RUST)/src/lib.rs' ]; then cp -R '$(ODHT_RUST)/src' build/original/src; \
+	else for file in '$(ODHT_RUST)'/src--*.rs.txt; do \
+	  name=$$(basename "$$file" .txt | sed 's|--|/|g'); \
+	  mkdir -p "build/original/$$(dirname "$$name")" && cp "$$file" "build/original/$$name" || exit 1; \
+	done; fi
+	@$(BENCH_RUST) --edition 2021 --crate-type rlib --crate-name cfg_if bench/cfg_if.rs -o build/original/libcfg_if.rlib
+	@$(BENCH_RUST) --edition 2018 --cap-lints allow --crate-type rlib --crate-name odht build/original/src/lib.rs --extern cfg_if=build/original/libcfg_if.rlib -o $(ORIGINAL)

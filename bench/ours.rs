@@ -1,0 +1,44 @@
+//! The jobs by this library.
+
+use std::hint::black_box;
+
+use crate::library::{u64_u32, Status};
+use crate::work::{Work, PERCENT};
+
+pub fn insert_presized(work: &mut Work) {
+    let count = work.keys.len();
+    u64_u32::init(&mut work.table, count, PERCENT).expect("the length is right");
+    let answer = u64_u32::insert_all(&mut work.table, &work.keys, &work.values);
+    assert_eq!(answer, (Status::OK, count));
+}
+
+pub fn look_up(work: &mut Work) {
+    let answers = &mut work.answers;
+    u64_u32::get_all(
+        &work.table,
+        &work.queries,
+        &mut answers.values,
+        &mut answers.found,
+    )
+    .expect("the table is valid");
+}
+
+pub fn walk(work: &mut Work) {
+    let answers = &mut work.answers;
+    let count = u64_u32::walk(&work.table, &mut answers.keys, &mut answers.values);
+    assert_eq!(count, Ok(work.keys.len()));
+}
+
+pub fn open(work: &mut Work) {
+    assert!(black_box(u64_u32::open(&work.table)).is_ok());
+}
+
+pub fn insert_growing(work: &mut Work) {
+    let answer = u64_u32::build_growing(&work.keys, &work.values, &mut work.table);
+    assert_eq!(answer, (Status::OK, work.table.len()));
+}
+
+pub fn from_iterator(work: &mut Work) {
+    let answer = u64_u32::build(&work.keys, &work.values, PERCENT, &mut work.table);
+    assert_eq!(answer, (Status::OK, work.table.len()));
+}
