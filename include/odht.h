@@ -33,10 +33,11 @@
  * What is said of answers holds for the bytes of a valid table: those that these
  * calls have made. odht_*_open does not find out whether bytes are valid, since
  * it looks at ten slots. On other bytes that pass refusals 1 to 7 no call reads
- * or writes beyond what it was lent, but get may miss a key, or find a value that
- * stands beside it in a slot that counts as free; len tells what the header
- * states; an insert changes one value beside an equal key, or adds one entry;
- * and FULL may come before the maximum. docs/FORMAT.md has the frame.
+ * or writes beyond what it was lent, but get and get_all may miss a key, or find
+ * a value that stands beside it in a slot that counts as free; len tells what the
+ * header states; an insert, alone or of many, changes one value beside an equal
+ * key, or adds one entry; and FULL may come before the maximum. docs/FORMAT.md
+ * has the frame.
  *
  * Memory is asked for by odht_u64_u32_build and odht_u64_u32_build_growing
  * alone, by malloc, and given back before they return. It goes through the

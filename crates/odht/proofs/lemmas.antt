@@ -1,34 +1,4 @@
--- The library of laws over the definitions in specs/; that of plain tables stands in `odht_base`.
--- formats of short lengths and of a hash fit
-pub mod Formats
--- the cells that the parts of a placed table show
-pub mod PartCells
--- a search slot by slot
-pub mod PlainSearch
--- what the answer of a search tells of a placed table
-pub mod Lookups
--- what the writes of an insert leave on the parts
-pub mod Inserts
--- the first error of a list
-pub mod FirstErrors
--- std's test for a power of two
-pub mod PowersOfTwo
--- what one slot is refused for
-pub mod SlotChecks
--- what a header is refused for
-pub mod HeaderChecks
--- bytes that a view accepts, and writes that leave them accepted
-pub mod Accepted
--- what bytes are refused for when they are opened
-pub mod Openings
--- valid bytes are never refused
-pub mod ImagesOpen
--- a write of one byte again and again
-pub mod Fills
--- a header that is written field by field
-pub mod HeaderWrites
--- what the writes of a new table leave
-pub mod NewTables
+-- Laws of the tables over bytes; those of plain tables stand in `odht_base`, those of parts and of bytes in `odht_raw`.
 -- what bytes for a new table are refused for
 pub mod NewRefusals
 -- what an insert leaves on the bytes of a valid table below its maximum
@@ -37,17 +7,5 @@ pub mod ViewInserts
 pub mod Growths
 -- inserts in turn
 pub mod Fillings
--- what is written of bytes in the text of an error
-pub mod ErrorTexts
--- a walk over the slots
-pub mod Walks
--- the lines of a dump, joined as they are written
-pub mod Dumps
 -- keys and values that their bytes decode to
 pub mod Kept
--- the probe order, a piece of a group at a time
-pub mod ProbeSteps
--- a look at some places of it
-pub mod GroupLooks
--- a search by groups
-pub mod GroupSearches

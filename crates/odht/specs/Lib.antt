@@ -1,27 +1,5 @@
--- The words that speak of errors and of configurations; those of numbers, tables and bytes stand in `odht_base`.
--- how keys and values become bytes
-pub mod Coding
--- the parts of a table as code sees them
-pub mod Parts
--- what a search answers
-pub mod Answers
--- the probe order, a group at a time
-pub mod ProbeSeqs
--- a search at a place of the probe order
-pub mod Searches
--- which bytes are refused as a table, and why
-pub mod Refusals
--- what an insert may do to bytes that a view accepts, valid or not
-pub mod Frame
--- what is written of an error
-pub mod ErrorTexts
+-- The words that speak of lists of items; those of tables stand in `odht_base`, those of their bytes in `odht_raw`.
 -- lists of keys and values that are inserted in turn
 pub mod Lists
--- what a walk over the slots gives
-pub mod Walks
--- what `Debug` writes of a table
-pub mod Dumps
--- the parts of a table which can be written
-pub mod LentParts
 -- the last value of a key in a list of items
 pub mod LastValues

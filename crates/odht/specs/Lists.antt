@@ -12,7 +12,7 @@ use Rattle.odht_base.specs.Load.{max_items}
 use Rattle.odht_base.specs.Map.{map_of, last, overwritten}
 use Rattle.odht_base.specs.Table.{Pair, Table, fresh, slot_count, count}
 use Rattle.odht_base.specs.Valid.{IsImage}
-use Rattle.odht.specs.Coding.{Coding, encoded}
+use Rattle.odht_raw.specs.Coding.{Coding, encoded}
 
 abbrev pub encoded_all : {K V : Type 0} → Coding K V → List (K × V) → List Pair
 encoded_all c items = map (λ item. encoded c item.0 item.1) items

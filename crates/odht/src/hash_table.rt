@@ -9,11 +9,11 @@ ghost use Rattle.odht_base.specs.Insert.{put_view};
 ghost use Rattle.odht_base.specs.Search.{groups_read};
 ghost use Rattle.odht_base.specs.Shown.{stated_count, stated_slots, entries_of, controls_of, seen, HoldsKey};
 ghost use Rattle.odht_base.specs.Valid.{IsImage, IsPartsOf};
-ghost use Rattle.odht.specs.Coding.{value_for, encoded, HasStored};
+ghost use Rattle.odht_raw.specs.Coding.{value_for, encoded, HasStored};
 ghost use Rattle.odht.specs.Lists.{encoded_all, IsFilled};
-ghost use Rattle.odht.specs.Frame.{IsAccepted, IsFramed, IsBytesFramed};
-ghost use Rattle.odht.specs.Walks.{decoded_all};
-ghost use Rattle.odht.specs.Refusals.{IsTooLarge, new_refusal, view_refusal};
+ghost use Rattle.odht_raw.specs.Frame.{IsAccepted, IsFramed, IsBytesFramed};
+ghost use Rattle.odht_raw.specs.Walks.{decoded_all};
+ghost use Rattle.odht_raw.specs.Refusals.{IsTooLarge, new_refusal, view_refusal};
 
 use crate::bytes::{ByteArray, ByteStore, ByteStoreMut};
 use crate::config::{Coded, Config};

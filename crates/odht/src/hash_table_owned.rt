@@ -6,11 +6,11 @@ ghost use Rattle.odht_base.specs.Map.{map_of};
 ghost use Rattle.odht_base.specs.Search.{groups_read};
 ghost use Rattle.odht_base.specs.Insert.{grown, put_owned};
 ghost use Rattle.odht_base.specs.Valid.{IsImage, IsValidBytes};
-ghost use Rattle.odht.specs.Coding.{value_for, encoded};
+ghost use Rattle.odht_raw.specs.Coding.{value_for, encoded};
 ghost use Rattle.odht.specs.Lists.{encoded_all, IsFilled, IsFreshFilled};
-ghost use Rattle.odht.specs.Walks.{decoded_all};
+ghost use Rattle.odht_raw.specs.Walks.{decoded_all};
 ghost use Rattle.std.specs.Iterator.{Drains, IsFinite};
-ghost use Rattle.odht.specs.Refusals.{IsTooLarge};
+ghost use Rattle.odht_raw.specs.Refusals.{IsTooLarge};
 
 use crate::bytes::OwnedBytes;
 use crate::config::{Coded, Config};

@@ -1,7 +1,7 @@
 //! A walk over the pairs of a table.
 ghost use Rattle.std.specs.Prelude.{◌≡◌, length};
 ghost use Rattle.std.specs.Iterator.{YieldsFirst, item_count};
-ghost use Rattle.odht.specs.Walks.{decoded_items};
+ghost use Rattle.odht_raw.specs.Walks.{decoded_items};
 
 use crate::config::Config;
 use crate::raw_table::RawIter;
@@ -18,7 +18,7 @@ pub struct Iter<'a, C: Config> {
 
 impl<'a, C: Config> Model for Iter<'a, C> {
     ghost use Rattle.std.specs.Prelude.{List};
-    ghost use Rattle.odht.specs.Walks.{decoded_items};
+    ghost use Rattle.odht_raw.specs.Walks.{decoded_items};
 
     ghost Value = { List (C.Key × C.Value) };
 

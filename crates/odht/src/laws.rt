@@ -3,7 +3,7 @@
 ghost use Rattle.std.specs.Prelude.{◌≡◌, ◌≤◌, ◌↔◌, ◌⊎◌, length, IfOk, OnErr};
 ghost use Rattle.odht_base.specs.Load.{factor_of};
 ghost use Rattle.odht.specs.LastValues.{IsLastValue, HasLastValues};
-ghost use Rattle.odht.specs.Refusals.{IsTooLarge};
+ghost use Rattle.odht_raw.specs.Refusals.{IsTooLarge};
 
 use crate::config::{Coded, Lossless};
 use crate::error::Error;

@@ -1,18 +1,15 @@
 //! `odht`: a hash table that is used in the very form in which it is stored.
 #![tactic(auto)]
 
-pub use config::{Config, Lossless};
 pub use hash_table::{HashTable, bytes_needed};
 pub use hash_table_owned::HashTableOwned;
 pub use iter::Iter;
 pub use odht_base::hash::{FxHashFn, HashFn, UnHashFn};
 pub use odht_base::{bytes, hash, load, swisstable_group_query};
+pub use odht_raw::config::{Config, Lossless};
+pub use odht_raw::{config, error, memory_layout, raw_table};
 
-pub mod config;
-pub mod error;
 mod hash_table;
 mod hash_table_owned;
 mod iter;
 pub mod laws;
-pub mod memory_layout;
-pub mod raw_table;

@@ -17,10 +17,10 @@ use Rattle.std.specs.Prelude.{◌≡◌, ◌≤◌, ◌<◌, ℕ, List, [], ◌�
 use Rattle.odht_base.specs.Insert.{put_view}
 use Rattle.odht_base.specs.Table.{Table}
 use Rattle.odht_base.specs.Valid.{IsImage}
-use Rattle.odht.specs.Coding.{Coding, value_for, encoded}
-use Rattle.odht.specs.Frame.{IsFramed}
-use Rattle.odht.specs.declared.error.Error.{Error}
-use Rattle.odht.specs.declared.error.Error.TheVariants.{TooShort, WrongTag, WrongVersion, WrongSizeOf, SlotCountNotPowerOfTwo, SlotCountTooSmall, WrongLength, NonZeroEmpty, ControlMismatch, LoadFactorTooSmall, NonZeroPadding, BadFreeControl, MirrorMismatch, WrongItemCount, TooManyItems, Unreachable, InitLength, Full, Memory, Capacity}
+use Rattle.odht_raw.specs.Coding.{Coding, value_for, encoded}
+use Rattle.odht_raw.specs.Frame.{IsFramed}
+use Rattle.odht_raw.specs.declared.error.Error.{Error}
+use Rattle.odht_raw.specs.declared.error.Error.TheVariants.{TooShort, WrongTag, WrongVersion, WrongSizeOf, SlotCountNotPowerOfTwo, SlotCountTooSmall, WrongLength, NonZeroEmpty, ControlMismatch, LoadFactorTooSmall, NonZeroPadding, BadFreeControl, MirrorMismatch, WrongItemCount, TooManyItems, Unreachable, InitLength, Full, Memory, Capacity}
 
 abbrev pub status_of : Error → ℕ
 status_of (TooShort found) = 1

@@ -5,8 +5,8 @@ ghost use Rattle.odht_base.specs.Insert.{put_owned};
 ghost use Rattle.odht_base.specs.Load.{factor_of};
 ghost use Rattle.odht_base.specs.Table.{Table, fresh};
 ghost use Rattle.odht.specs.Lists.{encoded_all, IsFilled, IsFreshFilled};
-ghost use Rattle.odht.specs.Refusals.{IsTooLarge};
-ghost use Rattle.odht.specs.declared.error.Error.{Error};
+ghost use Rattle.odht_raw.specs.Refusals.{IsTooLarge};
+ghost use Rattle.odht_raw.specs.declared.error.Error.{Error};
 ghost use Rattle.odht_c.specs.Calls.{status_of, done, too_small};
 
 use crate::status::{OK, TOO_SMALL, status_of};

@@ -7,8 +7,8 @@ ghost use Rattle.odht_base.specs.Format.{format_of};
 ghost use Rattle.odht_base.specs.Map.{map_of};
 ghost use Rattle.odht_base.specs.Insert.{put_view, place};
 ghost use Rattle.odht_base.specs.Valid.{IsImage, IsPartsOf};
-ghost use Rattle.odht.specs.Coding.{value_for, encoded};
-ghost use Rattle.odht.specs.Frame.{IsAccepted, IsFramed, IsPartsFramed};
+ghost use Rattle.odht_raw.specs.Coding.{value_for, encoded};
+ghost use Rattle.odht_raw.specs.Frame.{IsAccepted, IsFramed, IsPartsFramed};
 
 use odht::bytes::{ByteArray, write_slice};
 use odht::config::{Coded, Config};

@@ -4,11 +4,11 @@ ghost use Rattle.std.specs.Result.{result_err};
 ghost use Rattle.odht_base.specs.Table.{Table, count};
 ghost use Rattle.odht_base.specs.Shown.{stated_count, seen};
 ghost use Rattle.odht_base.specs.Valid.{IsImage};
-ghost use Rattle.odht.specs.Coding.{value_for, HasStored};
-ghost use Rattle.odht.specs.Frame.{IsAccepted};
-ghost use Rattle.odht.specs.Refusals.{opening_refusal, view_refusal};
-ghost use Rattle.odht.specs.declared.error.Error.{Error};
-ghost use Rattle.odht.specs.Walks.{decoded_all};
+ghost use Rattle.odht_raw.specs.Coding.{value_for, HasStored};
+ghost use Rattle.odht_raw.specs.Frame.{IsAccepted};
+ghost use Rattle.odht_raw.specs.Refusals.{opening_refusal, view_refusal};
+ghost use Rattle.odht_raw.specs.declared.error.Error.{Error};
+ghost use Rattle.odht_raw.specs.Walks.{decoded_all};
 ghost use Rattle.odht_c.specs.Calls.{status_of, status_or_ok, IsGot, IsGotAt, IsWalked, done};
 
 use crate::status::{ABSENT, OK, TOO_SMALL, status_of};

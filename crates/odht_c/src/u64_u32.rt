@@ -11,12 +11,12 @@ ghost use Rattle.odht_base.specs.Table.{Table, count, slot_count, fresh, walk};
 ghost use Rattle.odht_base.specs.Shown.{stated_count, seen};
 ghost use Rattle.odht_base.specs.Insert.{put_view, put_owned};
 ghost use Rattle.odht_base.specs.Valid.{IsImage};
-ghost use Rattle.odht.specs.Coding.{value_for, HasStored};
-ghost use Rattle.odht.specs.Frame.{IsAccepted, IsFramed};
+ghost use Rattle.odht_raw.specs.Coding.{value_for, HasStored};
+ghost use Rattle.odht_raw.specs.Frame.{IsAccepted, IsFramed};
 ghost use Rattle.odht.specs.Lists.{encoded_all, IsFilled, IsFreshFilled};
-ghost use Rattle.odht.specs.Refusals.{IsTooLarge, new_refusal, opening_refusal, view_refusal};
-ghost use Rattle.odht.specs.Walks.{decoded_all};
-ghost use Rattle.odht.specs.declared.error.Error.{Error};
+ghost use Rattle.odht_raw.specs.Refusals.{IsTooLarge, new_refusal, opening_refusal, view_refusal};
+ghost use Rattle.odht_raw.specs.Walks.{decoded_all};
+ghost use Rattle.odht_raw.specs.declared.error.Error.{Error};
 ghost use Rattle.odht_c.specs.Calls.{status_of, status_or_ok, IsPercent, AreAsLong, IsGot, IsGotAt, IsWalked, IsAnswered, IsFramedRun, IsPut, done, bad_percent, bad_lengths, too_small};
 
 use crate::status::{BAD_LENGTHS, BAD_PERCENT};

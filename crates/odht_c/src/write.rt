@@ -6,10 +6,10 @@ ghost use Rattle.odht_base.specs.Image.{image_len};
 ghost use Rattle.odht_base.specs.Table.{Table, count, slot_count, fresh};
 ghost use Rattle.odht_base.specs.Insert.{put_view};
 ghost use Rattle.odht_base.specs.Valid.{IsImage};
-ghost use Rattle.odht.specs.Frame.{IsAccepted, IsFramed};
+ghost use Rattle.odht_raw.specs.Frame.{IsAccepted, IsFramed};
 ghost use Rattle.odht.specs.Lists.{encoded_all, IsFilled};
-ghost use Rattle.odht.specs.Refusals.{IsTooLarge, new_refusal, opening_refusal};
-ghost use Rattle.odht.specs.declared.error.Error.{Error};
+ghost use Rattle.odht_raw.specs.Refusals.{IsTooLarge, new_refusal, opening_refusal};
+ghost use Rattle.odht_raw.specs.declared.error.Error.{Error};
 ghost use Rattle.odht_c.specs.Calls.{status_of, status_or_ok, IsPercent, IsAnswered, IsFramedRun, IsPut, done, bad_percent};
 
 use crate::in_place;

@@ -23,10 +23,10 @@ use Rattle.odht_base.specs.Table.{Table as Plain, count, slot_count, walk, fresh
 use Rattle.odht_base.specs.Image.{image}
 use Rattle.odht_base.specs.Insert.{put_owned}
 use Rattle.odht_base.specs.Valid.{IsImage}
-use Rattle.odht.specs.Coding.{Coding, encoded, value_for}
-use Rattle.odht.specs.Dumps.{owned_dump_text}
-use Rattle.odht.specs.Refusals.{IsTooLarge}
-use Rattle.odht.specs.Walks.{decoded_all}
+use Rattle.odht_raw.specs.Coding.{Coding, encoded, value_for}
+use Rattle.odht_raw.specs.Dumps.{owned_dump_text}
+use Rattle.odht_raw.specs.Refusals.{IsTooLarge}
+use Rattle.odht_raw.specs.Walks.{decoded_all}
 use Rattle.odht_table.specs.declared.script.command.Request.{Request}
 use Rattle.odht_table.specs.declared.script.command.Request.TheVariants.{Put, Get, Len, Walk, Hex, Dump}
 

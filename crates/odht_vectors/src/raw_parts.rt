@@ -6,7 +6,7 @@ ghost use Rattle.odht_base.specs.Table.{Pair, Table};
 ghost use Rattle.odht_base.specs.Map.{map_of};
 ghost use Rattle.odht_base.specs.Insert.{place};
 ghost use Rattle.odht_base.specs.Valid.{IsPartsOf};
-ghost use Rattle.odht.specs.Frame.{IsPartsFramed};
+ghost use Rattle.odht_raw.specs.Frame.{IsPartsFramed};
 
 use crate::checks::{same, same_at, same_parts};
 use crate::known_tables::sixteen_slots;

@@ -13,7 +13,7 @@ use Rattle.odht_base.proofs.lemmas.FreshRuns.{PlacesBelow}
 use Rattle.odht_base.proofs.lemmas.Places.{slot_count-place, factor-place, count-place_le}
 use Rattle.odht_base.proofs.lemmas.Rooms.{fresh-slots, slot_count-empty, count-empty, max_items-holds}
 use Rattle.odht_base.proofs.lemmas.Runs.{IsInsert, run-push, last-append, last-cons}
-use Rattle.odht.specs.Coding.{Coding, encoded}
+use Rattle.odht_raw.specs.Coding.{Coding, encoded}
 use Rattle.odht.specs.Lists.{encoded_all, HasSizeOf, IsFilled, IsFreshFilled}
 
 module _ (F : Format) (put : Table → Pair → Option Table) (is : IsInsert F (IsValid F) put) (places : PlacesBelow F put) (P : Table) where

@@ -16,8 +16,8 @@ use Rattle.odht_base.proofs.lemmas.Rooms.{slot_count-empty, count-empty, max_ite
 use Rattle.odht_base.proofs.lemmas.Runs.{run-push}
 use Rattle.odht_base.proofs.lemmas.SlotCounts.{few_slots, slots_pos}
 use Rattle.odht.proofs.lemmas.ViewInserts.{IsPut}
-use Rattle.odht.specs.declared.error.Error.{Error}
-use Rattle.odht.specs.declared.error.Error.TheVariants.{Full}
+use Rattle.odht_raw.specs.declared.error.Error.{Error}
+use Rattle.odht_raw.specs.declared.error.Error.TheVariants.{Full}
 
 -- B are the bytes of these pairs, placed in turn in the grown slots of P
 pub record IsGrownBy (F : Format) (P : Table) (ps : List Pair) (B : List ℕ) : Type 0 where

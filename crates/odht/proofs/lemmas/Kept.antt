@@ -9,7 +9,7 @@ use Rattle.odht_base.proofs.lemmas.Keys.{same_bytes, key_itself}
 use Rattle.odht_base.proofs.lemmas.Options.{option_or-none_right}
 use Rattle.odht_base.proofs.lemmas.Rooms.{map_of-fresh}
 use Rattle.odht_base.proofs.lemmas.Runs.{last-cons}
-use Rattle.odht.specs.Coding.{Coding, encoded}
+use Rattle.odht_raw.specs.Coding.{Coding, encoded}
 use Rattle.odht.specs.LastValues.{IsLastValue, HasLastValues}
 use Rattle.odht.specs.Lists.{encoded_all, IsFilled}
 

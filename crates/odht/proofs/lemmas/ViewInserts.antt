@@ -14,7 +14,7 @@ use Rattle.odht_base.proofs.lemmas.Rooms.{place-IsValid_fits}
 use Rattle.odht_base.proofs.lemmas.Places.{written}
 use Rattle.odht_base.proofs.lemmas.Puts.{HasRoom, place-IsValid, put_view-below}
 use Rattle.odht_base.proofs.lemmas.Writes.{with_value-image, with_pair-image_stated}
-use Rattle.odht.proofs.lemmas.Lookups.{IsFoundAt, IsFreeAt, IsNowhere}
+use Rattle.odht_raw.proofs.lemmas.Lookups.{IsFoundAt, IsFreeAt, IsNowhere}
 
 -- an insert below the maximum ends in the bytes of the table with the pair put
 abbrev pub IsPut : Format → Table → Pair → List ℕ → Type 0

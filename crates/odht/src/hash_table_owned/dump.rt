@@ -1,7 +1,7 @@
 //! What `Debug` writes of an owned table: the numbers of its header, and each slot on a line.
 ghost use Rattle.std.specs.Prelude.{ℕ, List};
 ghost use Rattle.std.specs.Fmt.{WritesOnOk};
-ghost use Rattle.odht.specs.Dumps.{counts_text};
+ghost use Rattle.odht_raw.specs.Dumps.{counts_text};
 
 use super::HashTableOwned;
 use crate::config::Config;
@@ -28,7 +28,7 @@ impl<C: Config> HashTableOwned<C> {
 
 impl<C: Config> fmt::Debug for HashTableOwned<C> {
     ghost use Rattle.odht_base.specs.Format.{format_of};
-    ghost use Rattle.odht.specs.Dumps.{owned_dump_text};
+    ghost use Rattle.odht_raw.specs.Dumps.{owned_dump_text};
 
     ghost debug_output = { owned_dump_text (format_of C.EncodedKey.LEN C.EncodedValue.LEN C.H.hash) (λ b. C.EncodedKey.debug_output (C.EncodedKey.of_bytes b)) (λ b. C.EncodedValue.debug_output (C.EncodedValue.of_bytes b)) C.H.hash_name };
 

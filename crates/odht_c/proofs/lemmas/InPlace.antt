@@ -21,11 +21,11 @@ use Rattle.odht_base.proofs.lemmas.PartsOf.{slot_within}
 use Rattle.odht_base.proofs.lemmas.Places.{slot_count-place, factor-place, count-place, count-place_le}
 use Rattle.odht_base.proofs.lemmas.Puts.{HasRoom, put_view-below}
 use Rattle.odht_base.proofs.lemmas.Writes.{with_count-append, with_tag-append}
-use Rattle.odht.specs.Frame.{IsAccepted, InsertFrame, PartsFrame, IsBytesFramed, IsPartsFramed}
-use Rattle.odht.specs.declared.error.Error.{Error}
-use Rattle.odht.specs.declared.error.Error.TheVariants.{Full}
-use Rattle.odht.proofs.lemmas.Accepted.{accepted_opening, accepted_len, opening_refusal-same}
-use Rattle.odht.proofs.lemmas.HeaderWrites.{le_bytes-w64}
+use Rattle.odht_raw.specs.Frame.{IsAccepted, InsertFrame, PartsFrame, IsBytesFramed, IsPartsFramed}
+use Rattle.odht_raw.specs.declared.error.Error.{Error}
+use Rattle.odht_raw.specs.declared.error.Error.TheVariants.{Full}
+use Rattle.odht_raw.proofs.lemmas.Accepted.{accepted_opening, accepted_len, opening_refusal-same}
+use Rattle.odht_raw.proofs.lemmas.HeaderWrites.{le_bytes-w64}
 use Rattle.odht.proofs.lemmas.ViewInserts.{IsPut, count_stated}
 
 -- an image with the parts of a table with as many slots and pairs and the same factor

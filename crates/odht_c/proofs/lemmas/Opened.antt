@@ -4,10 +4,10 @@ use Rattle.odht_base.specs.Format.{Format}
 use Rattle.odht_base.specs.Table.{Table}
 use Rattle.odht_base.specs.Valid.{IsImage}
 use Rattle.odht_base.proofs.lemmas.Fits.{IsSized-IsPlaced}
-use Rattle.odht.specs.Frame.{IsAccepted}
-use Rattle.odht.specs.Refusals.{opening_refusal}
-use Rattle.odht.specs.declared.error.Error.{Error}
-use Rattle.odht.proofs.lemmas.Accepted.{IsAccepted-image}
+use Rattle.odht_raw.specs.Frame.{IsAccepted}
+use Rattle.odht_raw.specs.Refusals.{opening_refusal}
+use Rattle.odht_raw.specs.declared.error.Error.{Error}
+use Rattle.odht_raw.proofs.lemmas.Accepted.{IsAccepted-image}
 
 -- its header and its length fit
 pub IsAccepted-IsImage : (F : Format) (P : Table) (B : List ℕ) → IsImage F P B → IsAccepted F B

@@ -1,6 +1,6 @@
 -- The status of what is refused.
 use Rattle.std.proofs.Common.{◌≡◌, ◌∙◌, sym, ap, Option, Some, None}
-use Rattle.odht.specs.declared.error.Error.{Error}
+use Rattle.odht_raw.specs.declared.error.Error.{Error}
 use Rattle.odht_c.specs.Calls.{status_of}
 
 -- one refusal has one status

@@ -1,7 +1,7 @@
 use Rattle.std.proofs.Common.{◌∙◌, rules, sym}
 use Rattle.odht_base.specs.Format.{format_of}
 use Rattle.odht_base.proofs.lemmas.Rooms.{empty-IsValid}
-use Rattle.odht.proofs.lemmas.NewTables.{with_count-new}
+use Rattle.odht_raw.proofs.lemmas.NewTables.{with_count-new}
 use Rattle.odht.proofs.hash_table_owned.empty_table.Goals as goal
 
 pub returns-clause-ok : goal.returns-clause-ok

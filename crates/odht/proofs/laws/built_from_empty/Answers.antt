@@ -1,7 +1,7 @@
 use Rattle.std.proofs.Common.{◌≡◌, sym, subst, refl, take, length, List, IsOk, arith}
 use Rattle.std.proofs.lemmas.List.{take_all}
 use Rattle.odht_base.specs.Insert.{put_owned}
-use Rattle.odht.specs.Coding.{coding_of}
+use Rattle.odht_raw.specs.Coding.{coding_of}
 use Rattle.odht.specs.Lists.{encoded_all, IsFilled}
 use Rattle.odht.proofs.lemmas.Kept.{filled-HasLastValues}
 use Rattle.odht.proofs.laws.built_from_empty.Goals as goal

@@ -1,5 +1,5 @@
 use Rattle.std.proofs.Common.{All, take}
-use Rattle.odht.specs.Coding.{coding_of}
+use Rattle.odht_raw.specs.Coding.{coding_of}
 use Rattle.odht.proofs.lemmas.Kept.{IsKept}
 use Rattle.odht.proofs.laws.last_value.Given as goal
 

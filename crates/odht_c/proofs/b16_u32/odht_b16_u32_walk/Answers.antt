@@ -2,8 +2,8 @@ use Rattle.std.proofs.Common.{lit≤, sym}
 use Rattle.odht_base.specs.Format.{format_of}
 use Rattle.odht_base.specs.HashLaws.{un-lt}
 use Rattle.odht_base.specs.Hashes.{un}
-use Rattle.odht.proofs.lemmas.Formats.{IsFormat-format_of}
-use Rattle.odht.proofs.lemmas.Walks.{seen-image}
+use Rattle.odht_raw.proofs.lemmas.Formats.{IsFormat-format_of}
+use Rattle.odht_raw.proofs.lemmas.Walks.{seen-image}
 use Rattle.odht_c.proofs.lemmas.Opened.{IsAccepted-IsImage}
 use Rattle.odht_c.proofs.b16_u32.odht_b16_u32_walk.Goals as goal
 

@@ -4,10 +4,10 @@ use Rattle.std.proofs.lemmas.Iterator.Consumers.{YieldsList-at, YieldsList-from_
 use Rattle.std.proofs.lemmas.Slice.Zip.{length-zip}
 use Rattle.odht_base.specs.Format.{Format, format_of}
 use Rattle.odht_base.specs.Load.{factor_of}
-use Rattle.odht.specs.Coding.{coding_of}
+use Rattle.odht_raw.specs.Coding.{coding_of}
 use Rattle.odht.specs.Lists.{IsFreshFilled}
-use Rattle.odht.specs.Refusals.{IsTooLarge}
-use Rattle.odht.specs.declared.error.Error.TheVariants.{Capacity, Memory}
+use Rattle.odht_raw.specs.Refusals.{IsTooLarge}
+use Rattle.odht_raw.specs.declared.error.Error.TheVariants.{Capacity, Memory}
 use Rattle.odht_c.specs.Calls.{status_of}
 use Rattle.odht_c.proofs.lemmas.Drained.{drained}
 use Rattle.odht_c.proofs.build.collected.Goals as goal

@@ -6,7 +6,7 @@ use Rattle.odht_base.specs.Table.{Pair, Table}
 use Rattle.odht_base.specs.Valid.{IsImage}
 use Rattle.odht_base.proofs.lemmas.FreshRuns.{put_owned-PlacesBelow}
 use Rattle.odht_base.proofs.lemmas.Puts.{put_owned-IsInsert}
-use Rattle.odht.specs.Coding.{coding_of}
+use Rattle.odht_raw.specs.Coding.{coding_of}
 use Rattle.odht.specs.Lists.{encoded_all, IsFilled}
 use Rattle.odht.proofs.lemmas.Fillings.{filled_more, encoded_all-more}
 use Rattle.odht_c.proofs.build.grown.Goals as goal

@@ -3,7 +3,7 @@ use Rattle.std.specs.List.{zip}
 use Rattle.odht_base.specs.Insert.{put_owned}
 use Rattle.odht_base.specs.Table.{Table}
 use Rattle.odht_base.specs.Valid.{IsImage}
-use Rattle.odht.specs.Coding.{coding_of}
+use Rattle.odht_raw.specs.Coding.{coding_of}
 use Rattle.odht.specs.Lists.{encoded_all, IsFilled}
 use Rattle.odht_c.proofs.build.grown.Given as goal
 

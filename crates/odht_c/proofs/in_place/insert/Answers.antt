@@ -12,9 +12,9 @@ use Rattle.odht_base.specs.Valid.{IsImage, IsPartsOf}
 use Rattle.odht_base.specs.Writes.{with_parts, with_count}
 use Rattle.odht_base.proofs.lemmas.Puts.{HasRoom}
 use Rattle.odht_base.proofs.lemmas.Rooms.{place-IsValid_fits}
-use Rattle.odht.specs.Frame.{InsertFrame, IsAccepted, IsBytesFramed}
-use Rattle.odht.specs.declared.error.Error.TheVariants.{Full}
-use Rattle.odht.proofs.lemmas.Accepted.{accepted_opening, accepted_len, accepted_slots, IsAccepted-with_count}
+use Rattle.odht_raw.specs.Frame.{InsertFrame, IsAccepted, IsBytesFramed}
+use Rattle.odht_raw.specs.declared.error.Error.TheVariants.{Full}
+use Rattle.odht_raw.proofs.lemmas.Accepted.{accepted_opening, accepted_len, accepted_slots, IsAccepted-with_count}
 use Rattle.odht.proofs.lemmas.ViewInserts.{IsPut, numbers_read}
 use Rattle.odht_c.proofs.lemmas.InPlace.{length-entries_of, length-controls_of, split_parts, counted_head, framed_some, framed_none, IsAccepted-with_parts, IsPartsOf-image, put_over, put_first}
 use Rattle.odht_c.proofs.in_place.insert.Given.{Over}

@@ -3,7 +3,7 @@ use Rattle.std.specs.Int.{to_le_bytes}
 use Rattle.std.proofs.lemmas.List.{take_all}
 use Rattle.odht_base.specs.Bytes.{overwritten_at}
 use Rattle.odht_base.specs.Format.{format_of}
-use Rattle.odht.proofs.lemmas.HeaderWrites.{field-step, fields-header_bytes}
+use Rattle.odht_raw.proofs.lemmas.HeaderWrites.{field-step, fields-header_bytes}
 use Rattle.odht_c.proofs.in_place.write_header.Goals as goal
 
 pub returns : goal.returns

@@ -6,7 +6,7 @@ use Rattle.odht_base.specs.Map.{map_of}
 use Rattle.odht_base.specs.Shown.{entries_of, stated_slots}
 use Rattle.odht_base.specs.Table.{Table}
 use Rattle.odht_base.specs.Valid.{IsImage}
-use Rattle.odht.specs.Coding.{coding_of, value_for, HasStored}
+use Rattle.odht_raw.specs.Coding.{coding_of, value_for, HasStored}
 use Rattle.odht_c.specs.Calls.{IsGotAt}
 use Rattle.odht_c.proofs.lemmas.Opened.{never_refused}
 use Rattle.odht_c.proofs.lemmas.Got.{Wrote, other_values, got-next, option_map-twice, stored_answer}

@@ -1,7 +1,7 @@
 use Rattle.std.proofs.Common.{◌≡◌, ◌≤◌, ℕ, IfSome, slice_get}
 use Rattle.odht_base.specs.Table.{Table}
 use Rattle.odht_base.specs.Valid.{IsImage}
-use Rattle.odht.specs.Coding.{coding_of, value_for, HasStored}
+use Rattle.odht_raw.specs.Coding.{coding_of, value_for, HasStored}
 use Rattle.odht_c.proofs.lemmas.Got.{AreGot}
 use Rattle.odht_c.proofs.read.get_all.Given as goal
 

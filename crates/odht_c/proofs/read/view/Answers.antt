@@ -1,10 +1,10 @@
 use Rattle.std.proofs.Common.{rules, ◌≡◌, ◌∙◌, ◌≤◌, sym, ap, subst, arith, length, Err}
 use Rattle.std.specs.Result.{result_err}
 use Rattle.odht_base.specs.Format.{Format, format_of}
-use Rattle.odht.specs.Frame.{IsAccepted}
-use Rattle.odht.specs.Refusals.{checked, header_refusal}
-use Rattle.odht.proofs.lemmas.FirstErrors.{Ok-checked, Err-checked}
-use Rattle.odht.proofs.lemmas.Openings.{opening_refusal-short, opening_refusal-header, accepted}
+use Rattle.odht_raw.specs.Frame.{IsAccepted}
+use Rattle.odht_raw.specs.Refusals.{checked, header_refusal}
+use Rattle.odht_raw.proofs.lemmas.FirstErrors.{Ok-checked, Err-checked}
+use Rattle.odht_raw.proofs.lemmas.Openings.{opening_refusal-short, opening_refusal-header, accepted}
 use Rattle.odht_c.proofs.read.view.Goals as goal
 
 pub returns-then-found-lt32-clause-err : goal.returns-then-found-lt32-clause-err

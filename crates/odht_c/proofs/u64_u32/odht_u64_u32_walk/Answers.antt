@@ -2,8 +2,8 @@ use Rattle.std.proofs.Common.{lit≤, sym}
 use Rattle.odht_base.specs.Format.{format_of}
 use Rattle.odht_base.specs.HashLaws.{fx-lt}
 use Rattle.odht_base.specs.Hashes.{fx}
-use Rattle.odht.proofs.lemmas.Formats.{IsFormat-format_of}
-use Rattle.odht.proofs.lemmas.Walks.{seen-image}
+use Rattle.odht_raw.proofs.lemmas.Formats.{IsFormat-format_of}
+use Rattle.odht_raw.proofs.lemmas.Walks.{seen-image}
 use Rattle.odht_c.proofs.lemmas.Opened.{IsAccepted-IsImage}
 use Rattle.odht_c.proofs.u64_u32.odht_u64_u32_walk.Goals as goal
 

@@ -3,8 +3,8 @@ use Rattle.odht_base.specs.Format.{Format, format_of}
 use Rattle.odht_base.specs.Insert.{put_view}
 use Rattle.odht_base.specs.Valid.{IsImage}
 use Rattle.odht_base.proofs.lemmas.Puts.{put_view-None}
-use Rattle.odht.specs.Coding.{coding_of, encoded}
-use Rattle.odht.specs.declared.error.Error.TheVariants.{Full}
+use Rattle.odht_raw.specs.Coding.{coding_of, encoded}
+use Rattle.odht_raw.specs.declared.error.Error.TheVariants.{Full}
 use Rattle.odht_c.specs.Calls.{status_of}
 use Rattle.odht_c.proofs.lemmas.Opened.{never_refused}
 use Rattle.odht_c.proofs.write.insert.Goals as goal

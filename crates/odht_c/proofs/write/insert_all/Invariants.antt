@@ -3,8 +3,8 @@ use Rattle.std.specs.List.{zip}
 use Rattle.odht_base.specs.Insert.{put_view}
 use Rattle.odht_base.specs.Table.{Table}
 use Rattle.odht_base.specs.Valid.{IsImage}
-use Rattle.odht.specs.Coding.{coding_of}
-use Rattle.odht.specs.Frame.{IsAccepted}
+use Rattle.odht_raw.specs.Coding.{coding_of}
+use Rattle.odht_raw.specs.Frame.{IsAccepted}
 use Rattle.odht.specs.Lists.{encoded_all, IsFilled}
 use Rattle.odht_c.specs.Calls.{IsFramedRun}
 use Rattle.odht_c.proofs.write.insert_all.Given as goal

@@ -1,6 +1,6 @@
 use Rattle.std.proofs.Common.{arith, ◌≡◌, ◌∙◌, ◌+◌, ◌*◌, ◌/◌, ◌<◌, ◌≤◌, sym, mul-le-mul_right}
 use Rattle.std.proofs.Math.Nat.{div-mul-le_self}
-use Rattle.odht.proofs.lemmas.ProbeSteps.{divisor_pos}
+use Rattle.odht_raw.proofs.lemmas.ProbeSteps.{divisor_pos}
 use Rattle.odht_vectors.proofs.probe_sequences.probed.Goals as goal
 
 pub advance-requires : goal.advance-requires

@@ -6,7 +6,7 @@ use Rattle.odht_base.specs.Table.{empty}
 use Rattle.odht_base.specs.Image.{image, image_len}
 use Rattle.odht_base.specs.Writes.{with_count}
 use Rattle.odht_base.proofs.lemmas.Rooms.{empty-IsValid}
-use Rattle.odht.proofs.lemmas.NewTables.{with_count-new}
+use Rattle.odht_raw.proofs.lemmas.NewTables.{with_count-new}
 use Rattle.odht.proofs.lemmas.NewRefusals.{new_refusal-none, new_refusal-too_long, new_refusal-wrong, new_refusal-fits}
 use Rattle.odht.proofs.hash_table.HashTable.init_in_place.Goals as goal
 

@@ -3,7 +3,7 @@ use Rattle.odht_base.specs.Insert.{put_view}
 use Rattle.odht_base.specs.Table.{Pair}
 use Rattle.odht_base.proofs.lemmas.FreshRuns.{put_view-PlacesBelow}
 use Rattle.odht_base.proofs.lemmas.Puts.{put_view-IsInsert}
-use Rattle.odht.specs.Coding.{coding_of}
+use Rattle.odht_raw.specs.Coding.{coding_of}
 use Rattle.odht.specs.Lists.{encoded_all, IsFilled}
 use Rattle.odht.proofs.lemmas.Fillings.{filled_more, encoded_all-more}
 use Rattle.odht.proofs.hash_table.HashTable.insert_all.Goals as goal

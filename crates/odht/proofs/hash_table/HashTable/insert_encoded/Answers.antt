@@ -6,10 +6,10 @@ use Rattle.odht_base.specs.Table.{Pair, count, slot_count}
 use Rattle.odht_base.specs.Shown.{stated_count, stated_slots, entries_of, controls_of, key_at, value_at, slot_key, slot_value}
 use Rattle.odht_base.specs.Valid.{IsPairOf}
 use Rattle.odht_base.specs.Writes.{with_value, with_count, with_entry, with_tag}
-use Rattle.odht.specs.Frame.{InsertFrame, CountsAsFree}
-use Rattle.odht.specs.declared.error.Error.TheVariants.{Full}
-use Rattle.odht.proofs.lemmas.Lookups.{IsFoundAt, IsFreeAt, answer-Found, answer-Free, answer-Neither}
-use Rattle.odht.proofs.lemmas.Inserts.{found_value, found_key}
+use Rattle.odht_raw.specs.Frame.{InsertFrame, CountsAsFree}
+use Rattle.odht_raw.specs.declared.error.Error.TheVariants.{Full}
+use Rattle.odht_raw.proofs.lemmas.Lookups.{IsFoundAt, IsFreeAt, answer-Found, answer-Free, answer-Neither}
+use Rattle.odht_raw.proofs.lemmas.Inserts.{found_value, found_key}
 use Rattle.odht.proofs.lemmas.ViewInserts.{IsPut, numbers_read, never_nowhere, found_put, free_put}
 use Rattle.odht.proofs.hash_table.HashTable.insert_encoded.Goals as goal
 

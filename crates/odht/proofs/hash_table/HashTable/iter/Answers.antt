@@ -1,10 +1,10 @@
 use Rattle.std.proofs.Common.{◌∙◌, ap, map}
 use Rattle.std.specs.List.{filter_map}
 use Rattle.odht_base.specs.Shown.{seen, shown_cells}
-use Rattle.odht.specs.Walks.{decoded, decoded_items}
-use Rattle.odht.specs.Coding.{Coding, coding_of}
-use Rattle.odht.proofs.lemmas.Formats.{IsFormat-format_of}
-use Rattle.odht.proofs.lemmas.Walks.{decoded_items-shown_cells, seen-image}
+use Rattle.odht_raw.specs.Walks.{decoded, decoded_items}
+use Rattle.odht_raw.specs.Coding.{Coding, coding_of}
+use Rattle.odht_raw.proofs.lemmas.Formats.{IsFormat-format_of}
+use Rattle.odht_raw.proofs.lemmas.Walks.{decoded_items-shown_cells, seen-image}
 use Rattle.odht.proofs.hash_table.HashTable.iter.Given.{Over}
 use Rattle.odht.proofs.hash_table.HashTable.iter.Goals as goal
 

@@ -1,7 +1,7 @@
 use Rattle.std.proofs.Common.{rules, ◌≡◌, subst, sym}
 use Rattle.odht_base.specs.Format.{format_of}
-use Rattle.odht.specs.Frame.{IsAccepted}
-use Rattle.odht.proofs.lemmas.Accepted.{IsAccepted-IsValidBytes}
+use Rattle.odht_raw.specs.Frame.{IsAccepted}
+use Rattle.odht_raw.proofs.lemmas.Accepted.{IsAccepted-IsValidBytes}
 use Rattle.odht.proofs.hash_table_owned.HashTableOwned.from_raw_bytes_unchecked.Goals as goal
 
 pub from_raw_bytes_unchecked-requires-after_bounds :

@@ -2,15 +2,15 @@ use Rattle.std.proofs.Common.{List, [], ◌∷◌, ◌++◌, append-nil, append_
 use Rattle.std.proofs.Math.Nat.{max_comm}
 use Rattle.std.proofs.lemmas.List.{map-append}
 use Rattle.std.specs.Prelude.{max}
-use Rattle.odht.specs.Walks.{Item}
+use Rattle.odht_raw.specs.Walks.{Item}
 use Rattle.odht_base.specs.Format.{Format, format_of}
 use Rattle.odht_base.specs.Load.{slots_for}
 use Rattle.odht_base.specs.Shown.{shown_cells, stated_count, stated_factor}
 use Rattle.odht_base.specs.Table.{walk, count, empty}
 use Rattle.odht_base.specs.Valid.{IsImage}
 use Rattle.odht.proofs.lemmas.Growths.{IsGrownBy, grown_none, grown_insert, grown_all, count_small}
-use Rattle.odht.proofs.lemmas.Walks.{stored, stored-walk, seen-image}
-use Rattle.odht.proofs.lemmas.Formats.{IsFormat-format_of}
+use Rattle.odht_raw.proofs.lemmas.Walks.{stored, stored-walk, seen-image}
+use Rattle.odht_raw.proofs.lemmas.Formats.{IsFormat-format_of}
 use Rattle.odht.proofs.lemmas.ViewInserts.{count_stated, factor_stated}
 use Rattle.odht.proofs.hash_table_owned.HashTableOwned.grown.Goals as goal
 

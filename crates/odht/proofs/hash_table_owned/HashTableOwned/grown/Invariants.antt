@@ -3,7 +3,7 @@ use Rattle.odht_base.specs.Format.{format_of}
 use Rattle.odht_base.specs.Table.{Table, walk}
 use Rattle.odht_base.specs.Valid.{IsImage}
 use Rattle.odht.proofs.lemmas.Growths.{IsGrownBy}
-use Rattle.odht.proofs.lemmas.Walks.{stored}
+use Rattle.odht_raw.proofs.lemmas.Walks.{stored}
 use Rattle.odht.proofs.hash_table_owned.HashTableOwned.grown.Given as goal
 
 abbrev pub invariant-loop-entry : goal.invariant-loop-entry

@@ -2,7 +2,7 @@ use Rattle.std.proofs.Common.{take}
 use Rattle.odht_base.specs.Insert.{put_owned}
 use Rattle.odht_base.specs.Table.{Table}
 use Rattle.odht_base.specs.Valid.{IsImage}
-use Rattle.odht.specs.Coding.{coding_of}
+use Rattle.odht_raw.specs.Coding.{coding_of}
 use Rattle.odht.specs.Lists.{encoded_all, IsFilled}
 use Rattle.odht.proofs.hash_table_owned.HashTableOwned.insert_all.Given as goal
 

@@ -2,8 +2,8 @@ use Rattle.std.proofs.Common.{◌∙◌, ap}
 use Rattle.std.proofs.Output.{has_written_of_eq}
 use Rattle.odht_base.specs.Load.{max_items, percent_of}
 use Rattle.odht_base.specs.Shown.{stated_count, stated_slots, stated_factor}
-use Rattle.odht.specs.Dumps.{counts_text}
-use Rattle.odht.proofs.lemmas.Dumps.{counts_text-written}
+use Rattle.odht_raw.specs.Dumps.{counts_text}
+use Rattle.odht_raw.proofs.lemmas.Dumps.{counts_text-written}
 use Rattle.odht.proofs.hash_table_owned.HashTableOwned.write_counts.Goals as goal
 
 pub returns : goal.returns

@@ -2,9 +2,9 @@ use Rattle.std.proofs.Common.{◌≡◌, ◌∙◌, ℕ, Option, Some, List, cod
 use Rattle.std.proofs.Output.{displays_on_ok_of_eq}
 use Rattle.std.specs.Fmt.{◌++?◌}
 use Rattle.odht_base.specs.Format.{Format, format_of}
-use Rattle.odht.specs.Parts.{TableParts}
-use Rattle.odht.specs.Dumps.{DebugText, counts_text, dump_text, parts_of}
-use Rattle.odht.proofs.lemmas.Dumps.{parts_of-cut, displayed-append}
+use Rattle.odht_raw.specs.Parts.{TableParts}
+use Rattle.odht_raw.specs.Dumps.{DebugText, counts_text, dump_text, parts_of}
+use Rattle.odht_raw.proofs.lemmas.Dumps.{parts_of-cut, displayed-append}
 use Rattle.odht.proofs.hash_table_owned.dump.HashTableOwnedDebug.fmt.Goals as goal
 
 pub returns : goal.returns

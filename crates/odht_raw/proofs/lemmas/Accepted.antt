@@ -1,0 +1,197 @@
+-- Bytes that a view accepts: what their header says, and that writes to the count and behind the header leave them accepted.
+--     IsHeader F n B       the header fits n bytes
+--     IsOpening F B        so it does, and there are enough bytes for it
+use Rattle.std.proofs.Common.{◌≡◌, ◌<◌, ◌≤◌, ◌∙◌, ◌+◌, ◌*◌, ℕ, suc, not, sym, ap, subst, refl, List, [], ◌∷◌, None, take, drop, length, arith, get_or-take, lit<, lit≤, ltb-false, le-ltb, nat_lt}
+use Rattle.std.proofs.lemmas.List.{drop-take}
+use Rattle.std.proofs.Math.Nat.{mul-le-mul_right}
+use Rattle.std.specs.Prelude.{slice_index}
+use Rattle.std.specs.Option.{option_or}
+use Rattle.odht_base.specs.Numbers.{num, le_bytes}
+use Rattle.odht_base.specs.Bytes.{bytes_at, overwritten_at}
+use Rattle.odht_base.specs.Format.{Format, entry_len}
+use Rattle.odht_base.specs.Load.{is_power_of_two, IsSlotCount}
+use Rattle.odht_base.specs.Table.{Table, slot_count}
+use Rattle.odht_base.specs.Image.{image, image_len}
+use Rattle.odht_base.specs.Shown.{stated_slots}
+use Rattle.odht_base.specs.Writes.{with_count}
+use Rattle.odht_base.specs.Valid.{IsValidBytes}
+use Rattle.odht_base.proofs.lemmas.Fits.{IsSized, IsSized-IsPlaced}
+use Rattle.odht_base.proofs.lemmas.Image.{stated_slots-image, length-image}
+use Rattle.odht_base.proofs.lemmas.ByteRanges.{bytes_at-take_front, bytes_at-drop, length-overwritten_at, take-overwritten_at, drop-overwritten_at}
+use Rattle.odht_raw.specs.Refusals.{opening_refusal, header_refusal, first_of, differs, lists_differ, ◌gives◌}
+use Rattle.odht_raw.specs.Frame.{IsAccepted}
+use Rattle.odht_raw.specs.declared.error.Error.TheVariants.{WrongTag, WrongVersion, WrongSizeOf, TooShort, SlotCountNotPowerOfTwo, SlotCountTooSmall, WrongLength}
+use Rattle.odht_raw.specs.declared.error.Part.TheVariants.{EntryMetadata, EncodedKey, EncodedValue, Header}
+use Rattle.odht_raw.proofs.lemmas.FirstErrors.{option_or-None, None-option_or, gives-None, None-gives, not-false, differs-false, false-differs, lists_differ-false, false-lists_differ}
+
+pub record IsHeader (F : Format) (n : ℕ) (B : List ℕ) : Type 0 where
+  pub tag_is : bytes_at B 0 4 ≡ 79 ∷ 68 ∷ 72 ∷ 84 ∷ []
+  pub version_is : bytes_at B 24 4 ≡ 0 ∷ 0 ∷ 0 ∷ 2 ∷ []
+  pub metadata_is : slice_index B 4 ≡ 1
+  pub key_len_is : slice_index B 5 ≡ F.key_len
+  pub value_len_is : slice_index B 6 ≡ F.value_len
+  pub header_len_is : slice_index B 7 ≡ 32
+  pub slots : IsSlotCount (stated_slots B)
+  pub length_is : n ≡ image_len F (stated_slots B)
+
+-- nothing of the header is refused exactly where it fits
+pub IsHeader-header_refusal : (F : Format) (n : ℕ) (B : List ℕ) → header_refusal F n B ≡ None → IsHeader F n B
+unfolding header_refusal
+IsHeader-header_refusal F n B e =
+    let a = option_or-None _ _ e in
+    let b = option_or-None _ _ a.1 in
+    let c = option_or-None _ _ b.1 in
+    let d = option_or-None _ _ c.1 in
+    let f = option_or-None _ _ d.1 in
+    let g = option_or-None _ _ f.1 in
+    let h = option_or-None _ _ g.1 in
+    let i = option_or-None _ _ h.1 in
+    let j = option_or-None _ _ i.1 in
+    record {
+      tag_is = lists_differ-false _ _ (gives-None _ _ a.0);
+      version_is = lists_differ-false _ _ (gives-None _ _ b.0);
+      metadata_is = differs-false _ _ (gives-None _ _ c.0);
+      key_len_is = differs-false _ _ (gives-None _ _ d.0);
+      value_len_is = differs-false _ _ (gives-None _ _ f.0);
+      header_len_is = differs-false _ _ (gives-None _ _ g.0);
+      slots = record { power = not-false _ (gives-None _ _ h.0); least = ltb-false (stated_slots B) 16 (gives-None _ _ i.0) };
+      length_is = differs-false _ _ (gives-None _ _ j.0);
+    }
+
+-- and the other way round
+pub header_refusal-IsHeader : (F : Format) (n : ℕ) (B : List ℕ) → IsHeader F n B → header_refusal F n B ≡ None
+unfolding header_refusal
+header_refusal-IsHeader F n B h =
+    None-option_or _ _ (None-gives _ _ (false-lists_differ _ _ h.tag_is))
+    (None-option_or _ _ (None-gives _ _ (false-lists_differ _ _ h.version_is))
+    (None-option_or _ _ (None-gives _ _ (false-differs _ _ h.metadata_is))
+    (None-option_or _ _ (None-gives _ _ (false-differs _ _ h.key_len_is))
+    (None-option_or _ _ (None-gives _ _ (false-differs _ _ h.value_len_is))
+    (None-option_or _ _ (None-gives _ _ (false-differs _ _ h.header_len_is))
+    (None-option_or _ _ (None-gives _ _ (ap not h.slots.power))
+    (None-option_or _ _ (None-gives _ _ (le-ltb (stated_slots B) 16 h.slots.least))
+    (None-option_or _ _ (None-gives _ _ (false-differs _ _ h.length_is)) refl))))))))
+
+-- what the opening says
+pub record IsOpening (F : Format) (B : List ℕ) : Type 0 where
+  pub long : 32 ≤ length B
+  pub header : IsHeader F (length B) B
+
+-- nothing is refused before the slots exactly where this holds
+pub IsOpening-opening_refusal : (F : Format) (B : List ℕ) → opening_refusal F B ≡ None → IsOpening F B
+unfolding opening_refusal
+IsOpening-opening_refusal F B e =
+    let a = option_or-None _ _ e in
+    record { long = ltb-false (length B) 32 (gives-None _ _ a.0); header = IsHeader-header_refusal F (length B) B a.1 }
+
+-- and the other way round
+pub opening_refusal-IsOpening : (F : Format) (B : List ℕ) → IsOpening F B → opening_refusal F B ≡ None
+unfolding opening_refusal
+opening_refusal-IsOpening F B h = None-option_or _ _ (None-gives _ _ (le-ltb (length B) 32 h.long)) (header_refusal-IsHeader F (length B) B h.header)
+
+-- bytes with the same header but for the count, and as long, are refused alike
+pub opening_refusal-same : (F : Format) (B C : List ℕ) → length B ≡ length C → take 8 B ≡ take 8 C → take 16 (drop 16 B) ≡ take 16 (drop 16 C) → opening_refusal F B ≡ opening_refusal F C
+unfolding opening_refusal header_refusal
+opening_refusal-same F B C n front back =
+    λ i. option_or (nat_lt (n i) 32 gives TooShort (n i)) (first_of
+    ((lists_differ (tag i) (79 ∷ 68 ∷ 72 ∷ 84 ∷ []) gives WrongTag (tag i))
+    ∷ (lists_differ (version i) (0 ∷ 0 ∷ 0 ∷ 2 ∷ []) gives WrongVersion (version i))
+    ∷ (differs (byte 4 (lit< tt) i) 1 gives WrongSizeOf EntryMetadata 1 (byte 4 (lit< tt) i))
+    ∷ (differs (byte 5 (lit< tt) i) F.key_len gives WrongSizeOf EncodedKey F.key_len (byte 5 (lit< tt) i))
+    ∷ (differs (byte 6 (lit< tt) i) F.value_len gives WrongSizeOf EncodedValue F.value_len (byte 6 (lit< tt) i))
+    ∷ (differs (byte 7 (lit< tt) i) 32 gives WrongSizeOf Header 32 (byte 7 (lit< tt) i))
+    ∷ (not (is_power_of_two (num (slots i))) gives SlotCountNotPowerOfTwo (num (slots i)))
+    ∷ (nat_lt (num (slots i)) 16 gives SlotCountTooSmall (num (slots i)))
+    ∷ (differs (n i) (image_len F (num (slots i))) gives WrongLength (num (slots i)) (n i) (image_len F (num (slots i))))
+    ∷ []))
+  where
+    tag : bytes_at B 0 4 ≡ bytes_at C 0 4
+    tag = sym (bytes_at-take_front B 0 4 8 (lit≤ tt)) ∙ ap (λ t. bytes_at t 0 4) front ∙ bytes_at-take_front C 0 4 8 (lit≤ tt)
+
+    byte : (at : ℕ) → at < 8 → slice_index B at ≡ slice_index C at
+    byte at h = sym (get_or-take 8 B at 0 h) ∙ ap (λ t. slice_index t at) front ∙ get_or-take 8 C at 0 h
+
+    behind : (at m : ℕ) (k : ℕ) → at + k ≤ 16 → 16 + at ≡ m → bytes_at B m k ≡ bytes_at C m k
+    behind at m k h e =
+        sym (bytes_at-take_front (drop 16 B) at k 16 h ∙ bytes_at-drop B 16 at k m e)
+        ∙ ap (λ t. bytes_at t at k) back ∙ bytes_at-take_front (drop 16 C) at k 16 h ∙ bytes_at-drop C 16 at k m e
+
+    version : bytes_at B 24 4 ≡ bytes_at C 24 4
+    version = behind 8 24 4 (lit≤ tt) refl
+
+    slots : bytes_at B 16 8 ≡ bytes_at C 16 8
+    slots = behind 0 16 8 (lit≤ tt) refl
+
+-- ---- what accepted bytes are
+module _ (F : Format) (B : List ℕ) (h : IsAccepted F B) where
+  -- they open
+  pub accepted_opening : IsOpening F B
+  accepted_opening = IsOpening-opening_refusal F B h
+
+  -- their slot count
+  pub accepted_slots : IsSlotCount (stated_slots B)
+  accepted_slots = accepted_opening.header.slots
+
+  -- and their length
+  pub accepted_len : length B ≡ image_len F (stated_slots B)
+  accepted_len = accepted_opening.header.length_is
+
+  -- ---- writes
+  -- a changed count leaves them accepted
+  pub IsAccepted-with_count : (n : ℕ) → IsAccepted F (with_count B n)
+  IsAccepted-with_count n =
+      let long : 16 ≤ length B = omega (arith, accepted_opening.long) in
+      opening_refusal-same F (with_count B n) B (length-overwritten_at B 8 (le_bytes 8 n) long)
+      (take-overwritten_at B 8 8 (le_bytes 8 n) (lit≤ tt) (omega (arith, long)))
+      (ap (take 16) (drop-overwritten_at B 8 16 (le_bytes 8 n) (lit≤ tt) (omega (arith, long))))
+      ∙ h
+
+  -- and so does a write behind the header
+  pub IsAccepted-overwritten_at : (at : ℕ) (d : List ℕ) → 32 ≤ at → at + length d ≤ length B → IsAccepted F (overwritten_at B at d)
+  IsAccepted-overwritten_at at d low fits =
+      let long = accepted_opening.long in
+      opening_refusal-same F (overwritten_at B at d) B (length-overwritten_at B at d fits)
+      (take-overwritten_at B at 8 d (omega arith) (omega arith))
+      (sym (drop-take 16 16 (overwritten_at B at d)) ∙ ap (drop 16) (take-overwritten_at B at 32 d (omega arith) (omega arith)) ∙ drop-take 16 16 B)
+      ∙ h
+
+  -- a write behind the header leaves the slot count too
+  pub stated_slots-overwritten_at : (at : ℕ) (d : List ℕ) → 32 ≤ at → at ≤ length B → stated_slots (overwritten_at B at d) ≡ stated_slots B
+  stated_slots-overwritten_at at d low fits =
+      ap num (sym (bytes_at-take_front (overwritten_at B at d) 16 8 32 (lit≤ tt))
+      ∙ ap (λ t. bytes_at t 16 8) (take-overwritten_at B at 32 d low fits) ∙ bytes_at-take_front B 16 8 32 (lit≤ tt))
+
+  -- ---- entries
+  -- the entry of a slot ends before the control bytes
+  pub accepted_entry : (i : ℕ) → i < stated_slots B → 32 + i * entry_len F + entry_len F + (stated_slots B + 16) ≤ length B
+  accepted_entry i low =
+      let most : suc i * entry_len F ≤ stated_slots B * entry_len F = mul-le-mul_right (entry_len F) low in
+      omega (arith, most, accepted_len)
+
+  -- the control byte of a slot, or its mirror, ends within the bytes
+  pub accepted_control : (s i : ℕ) → s ≡ stated_slots B → i < s + 16 → 32 + s * entry_len F + i < length B
+  accepted_control s i stated low = subst (λ n. i < n + 16 → 32 + n * entry_len F + i < length B) (sym stated) (λ l. omega (arith, l, accepted_len)) low
+
+-- the image of a table of a slot count is accepted
+pub IsAccepted-image : (F : Format) (P : Table) → IsSlotCount (slot_count P) → IsSized F P → IsAccepted F (image F P)
+unfolding image
+IsAccepted-image F P count sized =
+    let slots_are = stated_slots-image F P sized in
+    let long = length-image F P sized in
+    opening_refusal-IsOpening F (image F P) (record {
+      long = omega (arith, long);
+      header = record {
+        tag_is = refl;
+        version_is = refl;
+        metadata_is = refl;
+        key_len_is = refl;
+        value_len_is = refl;
+        header_len_is = refl;
+        slots = subst IsSlotCount (sym slots_are) count;
+        length_is = long ∙ ap (image_len F) (sym slots_are);
+      };
+    })
+
+-- so valid bytes are
+pub IsAccepted-IsValidBytes : (F : Format) (B : List ℕ) → IsValidBytes F B → IsAccepted F B
+IsAccepted-IsValidBytes F B (P, is) = subst (IsAccepted F) (sym is.bytes) (IsAccepted-image F P is.valid.placed.slots (IsSized-IsPlaced F P is.valid.placed))

@@ -1,0 +1,113 @@
+-- Laws of the first error: of a list, of one condition, and of the slots in order.
+use Rattle.std.proofs.Common.{◌≡◌, ◌<◌, ◌∙◌, ◌+◌, ℕ, zero, suc, Bool, true, false, not, ◌==◌, ap, subst, refl, List, Option, Some, None, Ok, Err, map, arith, eqb-true, eq-eqb}
+use Rattle.std.specs.List.{range_with_len}
+use Rattle.std.specs.Option.{option_or}
+use Rattle.std.proofs.lemmas.Slice.Eq.{bytes_eq-Decides}
+use Rattle.odht_raw.specs.declared.error.Error.{Error}
+use Rattle.odht_raw.specs.Refusals.{◌gives◌, first_of, first_slot, differs, lists_differ, checked}
+
+-- ---- two in turn
+
+-- where neither is an error, none is
+pub option_or-None : {X : Type 0} (o p : Option X) → option_or o p ≡ None → (o ≡ None) × (p ≡ None)
+option_or-None None p e = (refl, e)
+option_or-None (Some x) p e = cc
+
+-- and the other way round
+pub None-option_or : {X : Type 0} (o p : Option X) → o ≡ None → p ≡ None → option_or o p ≡ None
+None-option_or None p e f = f
+None-option_or (Some x) p e f = e
+
+-- the first error stays
+pub option_or-first : {X : Type 0} (o p : Option X) (x : X) → o ≡ Some x → option_or o p ≡ Some x
+option_or-first None p x e = cc
+option_or-first (Some y) p x e = e
+
+-- and the second counts where the first is none
+pub option_or-second : {X : Type 0} (o p : Option X) → o ≡ None → option_or o p ≡ p
+option_or-second None p e = refl
+option_or-second (Some y) p e = cc
+
+-- two joined to one count as they stand
+pub two-first : {X : Type 0} (o p r : Option X) (x : X) → option_or o p ≡ Some x → option_or o (option_or p r) ≡ Some x
+two-first None None r x e = cc
+two-first None (Some y) r x e = e
+two-first (Some y) p r x e = e
+
+-- and the last stands alone
+pub last-first : {X : Type 0} (o : Option X) → option_or o None ≡ o
+last-first None = refl
+last-first (Some x) = refl
+
+-- ---- one check
+
+-- a check that passes refuses nothing
+pub Ok-checked : (o : Option Error) → Ok tt ≡ checked o → o ≡ None
+Ok-checked None e = refl
+Ok-checked (Some x) e = cc
+
+-- and one that fails, its error
+pub Err-checked : (o : Option Error) (x : Error) → Err x ≡ checked o → o ≡ Some x
+Err-checked None x e = cc
+Err-checked (Some y) x e = cc
+
+-- ---- one condition
+
+-- no error where the condition fails, and only there
+pub gives-None : (c : Bool) (e : Error) → (c gives e) ≡ None → c ≡ false
+gives-None false e h = refl
+gives-None true e h = cc
+
+-- and the other way round
+pub None-gives : (c : Bool) (e : Error) → c ≡ false → (c gives e) ≡ None
+None-gives false e h = refl
+None-gives true e h = cc
+
+-- what is not false is true
+pub not-false : (c : Bool) → not c ≡ false → c ≡ true
+not-false false h = cc
+not-false true h = refl
+
+-- numbers that do not differ are one
+pub differs-false : (m n : ℕ) → differs m n ≡ false → m ≡ n
+differs-false m n h = eqb-true m n (not-false (m == n) h)
+
+-- and the other way round
+pub false-differs : (m n : ℕ) → m ≡ n → differs m n ≡ false
+false-differs m n h = ap not (eq-eqb m n h)
+
+-- lists that do not differ are one
+pub lists_differ-false : (xs ys : List ℕ) → lists_differ xs ys ≡ false → xs ≡ ys
+lists_differ-false xs ys h = (bytes_eq-Decides xs ys).0 (not-false _ h)
+
+-- and the other way round
+pub false-lists_differ : (xs ys : List ℕ) → xs ≡ ys → lists_differ xs ys ≡ false
+false-lists_differ xs ys h = ap not ((bytes_eq-Decides xs ys).1 h)
+
+-- an error where the condition holds
+pub gives-Some : (c : Bool) (e : Error) → c ≡ true → (c gives e) ≡ Some e
+gives-Some true e h = refl
+gives-Some false e h = cc
+
+-- ---- the slots in order
+
+-- where no slot from a on has an error, there is none
+None-first_from : (f : ℕ → Option Error) (a n : ℕ) → ((i j : ℕ) → i < n → a + i ≡ j → f j ≡ None) → first_of (map f (range_with_len a n)) ≡ None
+None-first_from f a zero h = refl
+None-first_from f a (suc n) h =
+    None-option_or (f a) _ (h 0 a (omega arith) (omega arith)) (None-first_from f (a + 1) n (λ i j l e. h (suc i) j (omega arith) (omega arith)))
+
+-- the first of the slots from a on that has one gives it
+first_from-at : (f : ℕ → Option Error) (a n i j : ℕ) (x : Error) → i < n → a + i ≡ j → ((k : ℕ) → k < j → f k ≡ None) → f j ≡ Some x → first_of (map f (range_with_len a n)) ≡ Some x
+first_from-at f a zero i j x h g below here = absurd (omega arith)
+first_from-at f a (suc n) zero j x h g below here = let at : j ≡ a = omega arith in option_or-first (f a) _ x (subst (λ k. f k ≡ Some x) at here)
+first_from-at f a (suc n) (suc i) j x h g below here =
+    option_or-second (f a) _ (below a (omega arith)) ∙ first_from-at f (a + 1) n i j x (omega arith) (omega arith) below here
+
+-- a walk that met no error below n
+pub None-first_slot : (f : ℕ → Option Error) (n : ℕ) → ((i : ℕ) → i < n → f i ≡ None) → first_slot f n ≡ None
+None-first_slot f n h = None-first_from f 0 n (λ i j l e. let at : i ≡ j = omega arith in subst (λ k. f k ≡ None) at (h i l))
+
+-- a walk that met no error below i, and the error x at i
+pub first_slot-at : (f : ℕ → Option Error) (n i : ℕ) (x : Error) → i < n → ((k : ℕ) → k < i → f k ≡ None) → f i ≡ Some x → first_slot f n ≡ Some x
+first_slot-at f n i x h below here = first_from-at f 0 n i i x h (omega arith) below here

@@ -1,0 +1,200 @@
+-- A look at some places of the probe order: the matches that are taken in turn, then the first free slot.
+use Rattle.std.proofs.Common.{◌≡◌, ◌⊎◌, ℕ, suc, ◌+◌, ◌-◌, ◌*◌, ◌/◌, ◌%◌, ◌<◌, ◌≤◌, inl, inr, sym, ap, ◌∙◌, subst, refl, arith, true, false, true≢false, List, [], ◌∷◌, length, drop, slice_get, slice_index, Contains, Option, Some, None, leb-true, lt-ltb, get_or, get_or-take, get_or-drop, position, Bool, add-mul, mul-le-mul_right}
+use Rattle.std.proofs.Math.Nat.{div-mul-le_self, div-mul_cancel}
+use Rattle.std.proofs.lemmas.Nat.Gcd.{dvd_of_mod-eq-zero}
+use Rattle.std.specs.List.{position_or_len}
+use Rattle.std.specs.Prelude.{is_some}
+use Rattle.std.proofs.lemmas.Bool.{or_from, or_left, false_from_ne_true, cases_lt}
+use Rattle.std.proofs.lemmas.List.Quantifiers.{position-Some}
+use Rattle.std.proofs.lemmas.List.Sums.{fails_before_first}
+use Rattle.std.proofs.lemmas.Option.{none-some}
+use Rattle.odht_base.specs.Bytes.{bytes_at}
+use Rattle.odht_base.specs.Format.{Format, IsFormat, home, tag}
+use Rattle.odht_base.proofs.lemmas.ByteRanges.{length-bytes_at}
+use Rattle.odht_base.specs.Groups.{IsReport, first_free}
+use Rattle.odht_base.specs.Image.{controls, control_byte}
+use Rattle.odht_base.specs.Load.{IsSlotCount}
+use Rattle.odht_base.specs.Search.{search_end, reach, stops_at}
+use Rattle.odht_base.specs.Shown.{counts_as_free, slot_key}
+use Rattle.odht_base.specs.Table.{Table, slot_count, cell_at, is_free, has_key}
+use Rattle.odht_base.specs.Valid.{IsPartsOf}
+use Rattle.odht_base.proofs.lemmas.Keys.{key_pair}
+use Rattle.odht_base.proofs.lemmas.Lookups.{AllArrive-IsPlaced, search_end-at}
+use Rattle.odht_base.proofs.lemmas.Options.{some_same}
+use Rattle.odht_base.proofs.lemmas.Pigeons.{contains_cases}
+use Rattle.odht_base.proofs.lemmas.Orders.{place_slot-apart, place_slot-lt, find-order_some, position-order}
+use Rattle.odht_base.proofs.lemmas.Parts.{counts_as_free-control_byte}
+use Rattle.odht_raw.specs.Answers.{answer}
+use Rattle.odht_raw.specs.Parts.{EntryBytes}
+use Rattle.odht_raw.specs.Searches.{slot_of, Passed, StandsAt, EndsWithin, IsLook}
+use Rattle.odht_raw.specs.declared.raw_table.outcome.Search.{Search}
+use Rattle.odht_raw.specs.declared.raw_table.outcome.Search.TheVariants.{Found, Free}
+use Rattle.odht_raw.proofs.lemmas.PartCells.{byte_is as control_is, key_is, cell_filled}
+
+-- byte i of some bytes at a place
+pub index-bytes_at : (bs : List ℕ) (at n i : ℕ) → i < n → slice_index (bytes_at bs at n) i ≡ slice_index bs (at + i)
+index-bytes_at bs at n i l = get_or-take (at + n - at) (drop at bs) i 0 (omega arith) ∙ get_or-drop at bs i 0
+
+-- ---- matches that are taken in turn
+-- of the matches `all` those of `left` are not taken, and of each other T holds
+pub record IsTaken (all left : List ℕ) (T : ℕ → Type 0) : Type 0 where
+  pub part : (i : ℕ) → Contains left i → Contains all i
+  pub others : (i : ℕ) → Contains all i → Contains left i ⊎ T i
+
+-- the first that is left is one of all
+pub taken-first : (all left : List ℕ) (T : ℕ → Type 0) (x : ℕ) → IsTaken all left T → Some x ≡ slice_get left 0 → Contains all x
+taken-first all [] T x t e = absurd (none-some x (sym e))
+taken-first all (y ∷ left) T x t e = t.part x (0, omega arith, sym (some_same x y e))
+
+-- once it is taken, T holds of it
+pub taken-next : (all left rest : List ℕ) (T : ℕ → Type 0) (x : ℕ) → IsTaken all left T → Some x ≡ slice_get left 0 → rest ≡ drop 1 left → T x → IsTaken all rest T
+taken-next all [] rest T x t e d h = absurd (none-some x (sym e))
+taken-next all (y ∷ left) rest T x t e d h = record {
+  part = λ i c. let m = subst (λ ys. Contains ys i) d c in t.part i (suc m.0, omega (arith, m.1), m.2);
+  others = λ i c. elim (t.others i c) [
+    | inl more ↦ elim (contains_cases y left i more) [
+      | inl same ↦ inr (subst T (some_same x y e ∙ same) h)
+      | inr later ↦ inl (subst (λ ys. Contains ys i) (sym d) later)
+    ]
+    | inr gone ↦ inr gone
+  ];
+}
+
+-- at the end of each
+pub taken-all : (all left : List ℕ) (T : ℕ → Type 0) → IsTaken all left T → None ≡ slice_get left 0 → (i : ℕ) → Contains all i → T i
+taken-all all [] T t e i c = elim (t.others i c) [ inl more ↦ absurd (omega (arith, more.1)) | inr gone ↦ gone ]
+taken-all all (y ∷ left) T t e i c = absurd (none-some y e)
+
+-- where no place is first, each fails
+position-None : (t : ℕ → Bool) (xs : List ℕ) (d : ℕ) → position t xs ≡ None → (i : ℕ) → i < length xs → t (get_or xs i d) ≡ false
+position-None t xs d e i l = elim (cases_lt (position_or_len t xs) (length xs)) [
+  | inl within ↦ absurd (none-some (position_or_len t xs) (sym e ∙ (rw (lt-ltb (position_or_len t xs) (length xs) within) refl)))
+  | inr past ↦ fails_before_first t xs i d (omega arith)
+]
+
+-- ---- where a search in a placed table ends
+module _ (F : Format) (P : Table) (k : List ℕ) (slots : IsSlotCount (slot_count P)) where
+  -- a search that ends at the slot of a place reaches this place
+  pub reach-at : (n : ℕ) → n < slot_count P → search_end F P.cells k ≡ Some (slot_of F P k n) → reach F P.cells k ≡ Some n
+  unfolding search_end reach
+  reach-at n l e =
+      let b = home F k (slot_count P) in
+      let f = find-order_some (stops_at P.cells k) b (slot_count P) (slot_of F P k n) e in
+      let same : f.place ≡ n = place_slot-apart b (slot_count P) f.place n slots f.within l f.stands in
+      position-order (stops_at P.cells k) b (slot_count P) f.place f.within (ap (stops_at P.cells k) f.stands ∙ f.passes) f.before ∙ ap Some same
+
+-- ---- a look at the places from p on
+module _ (F : Format) (P : Table) (E : EntryBytes) (k : List ℕ) (p start : ℕ) (bs : List ℕ) (f : IsFormat F) (at : StandsAt F P E k p start bs) where
+  whole : IsPartsOf F P E.bytes (controls F P.cells)
+  whole = record { placed = at.placed; entries_are = at.entries_are; controls_are = refl }
+
+  abbrev slot : ℕ → ℕ
+  slot i = slot_of F P k (p + i)
+
+  slot_low : (i : ℕ) → slot i < slot_count P
+  slot_low i = place_slot-lt (home F k (slot_count P)) (slot_count P) (p + i) (let n = at.placed.slots.least in omega arith)
+
+  -- a byte of a free slot is free, and no other
+  byte_is : (i : ℕ) → i < length bs → counts_as_free (slice_index bs i) ≡ is_free P.cells (slot i)
+  byte_is i l = ap counts_as_free (at.bytes_are i l) ∙ counts_as_free-control_byte F P.cells (slot i) f at.placed.pairs
+
+  -- a slot ends the search where its place is the reach
+  ends : (i : ℕ) → i < length bs → search_end F P.cells k ≡ Some (slot i) → EndsWithin F P k p (length bs)
+  ends i l e = (p + i, omega arith, omega arith, reach-at F P k at.placed.slots (p + i) (let w = at.within in omega arith) e)
+
+  module _ (xs : List ℕ) (report : IsReport bs (tag F k) xs) where
+    -- a slot with the key is among the matches
+    matched : (i : ℕ) → i < length bs → has_key k (cell_at P.cells (slot i)) ≡ true → Contains xs i
+    matched i l h =
+        let q = key_pair k (cell_at P.cells (slot i)) h in
+        report.complete i l (at.bytes_are i l ∙ ap (control_byte F) q.1 ∙ ap (tag F) (sym q.2))
+
+    -- and its entry has the key
+    entry_key : (i : ℕ) → i < length bs → has_key k (cell_at P.cells (slot i)) ≡ true → slot_key F E.bytes ((start + i) % E.slots) ≡ k
+    entry_key i l h =
+        let q = key_pair k (cell_at P.cells (slot i)) h in
+        ap (slot_key F E.bytes) (at.slots_are i l) ∙ key_is F f P E.bytes (controls F P.cells) whole (slot i) q.0 q.1 ∙ sym q.2
+
+    -- a match whose entry has the key ends the search
+    pub look_found : (i : ℕ) → Contains xs i → slot_key F E.bytes ((start + i) % E.slots) ≡ k → (Found ((start + i) % E.slots) ≡ answer F P.cells k) × EndsWithin F P k p (length bs)
+    unfolding answer
+    look_found i c same =
+        let b = report.filled i c in
+        let filled : is_free P.cells (slot i) ≡ false = sym (byte_is i b.0) ∙ false_from_ne_true _ (λ t. let m = leb-true 128 (slice_index bs i) t in omega (arith, b.1)) in
+        let cell = cell_filled F f P E.bytes (controls F P.cells) whole (slot i) (slot_low i) (control_is F f P E.bytes (controls F P.cells) whole (slot i) (slot_low i) ∙ filled) in
+        let key : slot_key F E.bytes (slot i) ≡ k = ap (slot_key F E.bytes) (sym (at.slots_are i b.0)) ∙ same in
+        let e : search_end F P.cells k ≡ Some (slot i) = ap (search_end F P.cells) (sym key) ∙ AllArrive-IsPlaced F P at.placed (slot i) _ cell in
+        (rw (at.slots_are i b.0, e, filled) refl, ends i b.0 e)
+
+    module _ (others : (i : ℕ) → Contains xs i → slot_key F E.bytes ((start + i) % E.slots) ≡ k → ⊥) where
+      -- where no match has the key, no slot has
+      no_key : (i : ℕ) → i < length bs → has_key k (cell_at P.cells (slot i)) ≡ false
+      no_key i l = false_from_ne_true _ (λ h. others i (matched i l h) (entry_key i l h))
+
+      -- so the places up to a free one are passed
+      passed_to : (n : ℕ) → n ≤ length bs → ((i : ℕ) → i < n → counts_as_free (slice_index bs i) ≡ false) → Passed F P k (p + n)
+      passed_to n l filled q lq = elim (cases_lt q p) [
+        | inl before ↦ at.passed q before
+        | inr here ↦
+            let i : ℕ = q - p in
+            let e : p + i ≡ q = omega arith in
+            subst (λ m. stops_at P.cells k (slot_of F P k m) ≡ false) e (or_from _ _ (sym (byte_is i (omega arith)) ∙ filled i (omega arith)) (no_key i (omega arith)))
+      ]
+
+      -- the first free slot ends the search
+      pub look_free : (i : ℕ) → first_free bs ≡ Some i → (Free ((start + i) % E.slots) ≡ answer F P.cells k) × EndsWithin F P k p (length bs)
+      unfolding answer
+      look_free i e =
+          let q = position-Some counts_as_free bs i 0 e in
+          let free : is_free P.cells (slot i) ≡ true = sym (byte_is i q.0) ∙ q.1 in
+          let w = at.within in
+          let d = search_end-at F P.cells k (p + i) (omega (arith, q.0)) (passed_to i (omega (arith, q.0)) q.2) (or_left _ _ free) in
+          (rw (at.slots_are i q.0, d, free) refl, ends i q.0 d)
+
+      -- where none is free, the search goes on
+      pub look_on : first_free bs ≡ None → Passed F P k (p + length bs)
+      look_on e = passed_to (length bs) (omega arith) (position-None counts_as_free bs 0 e)
+
+-- ---- pieces of a group of sixteen
+-- a piece fits the group
+pub piece-fits : (g n : ℕ) → n < 16 / g → n * g + g ≤ 16
+piece-fits g n l =
+    let within : 16 / g * g ≤ 16 = div-mul-le_self 16 g in
+    let h : (n + 1) * g ≤ 16 / g * g = mul-le-mul_right g (omega arith) in
+    let sum : (n + 1) * g ≡ n * g + g = add-mul n 1 g ∙ (let one : n * g + 1 * g ≡ n * g + g = omega arith in one) in
+    omega arith
+
+-- and all pieces are the group
+pub pieces-all : (g n : ℕ) → 16 % g ≡ 0 → n ≡ 16 / g → n * g ≡ 16
+pieces-all g n e l = ap (λ m. m * g) l ∙ div-mul_cancel g (dvd_of_mod-eq-zero g e)
+
+-- the search stands at a piece once it passed those before
+pub stands-piece : (F : Format) (P : Table) (E : EntryBytes) (k : List ℕ) (p start : ℕ) (bs : List ℕ) (at n : ℕ) → at + n ≤ length bs → StandsAt F P E k p start bs → Passed F P k (p + at)
+    → StandsAt F P E k (p + at) (start + at) (bytes_at bs at n)
+stands-piece F P E k p start bs at n l s passed =
+    let len = length-bytes_at bs at n l in
+    let w = s.within in
+    record {
+      placed = s.placed;
+      slots = s.slots;
+      entries_are = s.entries_are;
+      passed = passed;
+      within = omega arith;
+      slots_are = λ i h.
+          let here : start + at + i ≡ start + (at + i) = omega arith in
+          let there : p + (at + i) ≡ p + at + i = omega arith in
+          ap (λ x. x % E.slots) here ∙ s.slots_are (at + i) (omega arith) ∙ ap (slot_of F P k) there;
+      bytes_are = λ i h.
+          let there : p + (at + i) ≡ p + at + i = omega arith in
+          index-bytes_at bs at n i (omega arith) ∙ s.bytes_are (at + i) (omega arith) ∙ ap (λ q. control_byte F (cell_at P.cells (slot_of F P k q))) there;
+    }
+
+-- what a piece tells of the group
+pub look-piece : (F : Format) (P : Table) (k : List ℕ) (p at n : ℕ) (r : Option Search) → at + n ≤ 16 → is_some r ≡ true → IsLook F P k (p + at) n r → IsLook F P k p 16 r
+look-piece F P k p at n None l some look = absurd (true≢false (sym some))
+look-piece F P k p at n (Some a) l some look = (look.0, (look.1.0, omega (arith, look.1.1), omega (arith, look.1.2), look.1.3))
+
+-- where it tells nothing, its places are passed
+pub look-none : (F : Format) (P : Table) (k : List ℕ) (p n : ℕ) (r : Option Search) → is_some r ≡ false → IsLook F P k p n r → Passed F P k (p + n)
+look-none F P k p n None none look = look
+look-none F P k p n (Some a) none look = absurd (true≢false none)

@@ -1,0 +1,108 @@
+-- A search by groups on parts: where it stands at a group, and what it tells at its end.
+use Rattle.std.proofs.Common.{◌≡◌, ℕ, ◌+◌, ◌-◌, ◌/◌, ◌%◌, ◌<◌, ◌≤◌, inl, inr, sym, ap, ◌∙◌, subst, arith, List, length, slice_index, IsTrue}
+use Rattle.std.specs.Prelude.{⊤}
+use Rattle.std.proofs.Math.Nat.{mod-eq_of_lt, add-mod_right}
+use Rattle.std.proofs.lemmas.Bool.{cases_lt}
+use Rattle.odht_base.specs.Bytes.{bytes_at}
+use Rattle.odht_base.specs.Format.{Format, IsFormat, home}
+use Rattle.odht_base.specs.Image.{controls, control_byte}
+use Rattle.odht_base.specs.Probe.{place_slot}
+use Rattle.odht_base.specs.Search.{reach, groups_read}
+use Rattle.odht_base.specs.Shown.{counts_as_free}
+use Rattle.odht_base.specs.Table.{Table, Cells, slot_count, cell_at}
+use Rattle.odht_base.specs.Valid.{IsPartsOf}
+use Rattle.odht_base.proofs.lemmas.ByteRanges.{length-bytes_at}
+use Rattle.odht_base.proofs.lemmas.Orders.{place_slot-lt, position-order_none}
+use Rattle.odht_base.proofs.lemmas.Parts.{slice_index-controls, slice_index-mirror}
+use Rattle.odht_raw.specs.Answers.{MatchSearch}
+use Rattle.odht_raw.specs.Frame.{CountsAsFree}
+use Rattle.odht_raw.specs.Parts.{EntryBytes}
+use Rattle.odht_raw.specs.Searches.{slot_of, Passed, StandsAt, EndsWithin}
+use Rattle.odht_raw.specs.declared.raw_table.outcome.Search.{Search}
+use Rattle.odht_raw.specs.declared.raw_table.outcome.Search.TheVariants.{Found, Free, Neither}
+use Rattle.odht_raw.proofs.lemmas.GroupLooks.{index-bytes_at}
+use Rattle.odht_raw.proofs.lemmas.PartCells.{slots_are}
+use Rattle.odht_raw.proofs.lemmas.ProbeSteps.{place_slot-step}
+
+-- ---- sixteen control bytes, the mirror behind the last slot
+-- of a table they are those of the slots from b on, around the end
+controls-group : (F : Format) (cs : Cells) (b i : ℕ) → 16 ≤ length cs → b < length cs → i < 16 → slice_index (controls F cs) (b + i) ≡ control_byte F (cell_at cs ((b + i) % length cs))
+controls-group F cs b i few l h = elim (cases_lt (b + i) (length cs)) [
+  | inl inside ↦ slice_index-controls F cs (b + i) inside ∙ ap (λ x. control_byte F (cell_at cs x)) (sym (mod-eq_of_lt {n = b + i} {m = length cs} inside))
+  | inr past ↦
+      let x : ℕ = b + i - length cs in
+      let split : b + i ≡ length cs + x = omega arith in
+      let turn : x + length cs ≡ b + i = omega arith in
+      let low : x < length cs = omega arith in
+      ap (slice_index (controls F cs)) split ∙ slice_index-mirror F cs x (omega arith) low
+      ∙ ap (λ y. control_byte F (cell_at cs y)) (sym (ap (λ y. y % length cs) (sym turn) ∙ add-mod_right x (length cs) ∙ mod-eq_of_lt {n = x} {m = length cs} low))
+]
+
+-- on any parts a free one is that of a slot that counts as free
+pub group-free : (ctrl : List ℕ) (s b i : ℕ) → length ctrl ≡ s + 16 → 16 ≤ s → b < s → i < 16 → IsTrue (counts_as_free (slice_index (bytes_at ctrl b 16) i)) → CountsAsFree ctrl ((b + i) % s)
+group-free ctrl s b i len few l h free =
+    let byte = index-bytes_at ctrl b 16 i h in
+    elim (cases_lt (b + i) s) [
+      | inl inside ↦ inl (rw (mod-eq_of_lt {n = b + i} {m = s} inside) (subst (λ c. IsTrue (counts_as_free c)) byte free))
+      | inr past ↦
+          let x : ℕ = b + i - s in
+          let turn : x + s ≡ b + i = omega arith in
+          let low : x < s = omega arith in
+          let is : (b + i) % s ≡ x = ap (λ y. y % s) (sym turn) ∙ add-mod_right x s ∙ mod-eq_of_lt {n = x} {m = s} low in
+          let behind : b + i ≡ length ctrl - 16 + x = omega arith in
+          inr (rw is (omega arith, subst (λ c. IsTrue (counts_as_free c)) (byte ∙ ap (slice_index ctrl) behind) free))
+    ]
+
+-- ---- a placed table
+module _ (F : Format) (P : Table) (E : EntryBytes) (ctrl k : List ℕ) (f : IsFormat F) (h : IsPartsOf F P E.bytes ctrl) (len : length ctrl ≡ E.slots + 16) where
+  -- a search that passed the places before the first place p of a group stands there
+  pub stands-group : (p start : ℕ) → p % 16 ≡ 0 → p + 16 ≤ E.slots → start ≡ place_slot (home F k E.slots) E.slots p → Passed F P k p → StandsAt F P E k p start (bytes_at ctrl start 16)
+  stands-group p start aligned l is passed =
+      let count : E.slots ≡ slot_count P = slots_are F f P E.bytes ctrl h E.slots len in
+      let few = h.placed.slots.least in
+      let low : start < E.slots = omega (arith, is, place_slot-lt (home F k E.slots) E.slots p (omega arith)) in
+      let sixteen : length (bytes_at ctrl start 16) ≡ 16 = length-bytes_at ctrl start 16 (omega arith) in
+      let step : (i : ℕ) → i < 16 → (start + i) % E.slots ≡ slot_of F P k (p + i) = λ i b.
+      ap (λ x. (x + i) % E.slots) is ∙ place_slot-step (home F k E.slots) E.slots p i (omega arith)
+      ∙ ap (λ n. place_slot (home F k n) n (p + i)) count in
+      record {
+        placed = h.placed;
+        slots = count;
+        entries_are = h.entries_are;
+        passed = passed;
+        within = omega arith;
+        slots_are = λ i b. step i (omega arith);
+        bytes_are = λ i b.
+            index-bytes_at ctrl start 16 i (omega arith)
+            ∙ ap (λ c. slice_index c (start + i)) h.controls_are
+            ∙ controls-group F P.cells start i few (omega arith) (omega arith)
+            ∙ ap (λ n. control_byte F (cell_at P.cells ((start + i) % n))) (sym count)
+            ∙ ap (λ x. control_byte F (cell_at P.cells x)) (step i (omega arith));
+      }
+
+  -- the same from what is known of the probe and the scan
+  pub stands-probe : (start hash b m p : ℕ) (bs ctrl' : List ℕ) → p % 16 ≡ 0 → p + 16 ≤ E.slots → start ≡ place_slot b (m + 1) p → b ≡ hash % E.slots → m + 1 ≡ E.slots → hash ≡ F.hash k
+      → bs ≡ bytes_at ctrl' start 16 → ctrl' ≡ ctrl → Passed F P k p → StandsAt F P E k p start bs
+  stands-probe start hash b m p bs ctrl' aligned l es eb em eh ebs ec passed =
+      let first : b ≡ home F k E.slots = eb ∙ ap (λ x. x % E.slots) eh in
+      let is : start ≡ place_slot (home F k E.slots) E.slots p = es ∙ ap (λ x. place_slot x (m + 1) p) first ∙ ap (λ n. place_slot (home F k E.slots) n p) em in
+      subst (StandsAt F P E k p start) (sym (ebs ∙ ap (λ c. bytes_at c start 16) ec)) (stands-group p start aligned l is passed)
+
+  -- one that ends in the group of place p reads the groups up to it
+  pub reads-to : (p : ℕ) → p % 16 ≡ 0 → EndsWithin F P k p 16 → groups_read F P.cells k ≡ p / 16 + 1
+  reads-to p aligned e = let same : e.0 / 16 + 1 ≡ p / 16 + 1 = omega (arith, e.1, e.2) in rw e.3 same
+
+  -- one that passes each slot reads all
+  pub reads-all : Passed F P k E.slots → groups_read F P.cells k ≡ E.slots / 16
+  unfolding reach
+  reads-all passed =
+      let count : E.slots ≡ slot_count P = slots_are F f P E.bytes ctrl h E.slots len in
+      rw (position-order_none _ (home F k (slot_count P)) (slot_count P) (subst (Passed F P k) count passed)) (ap (λ n. n / 16) (sym count))
+
+-- what a group tells of any parts
+pub ends-free : (ctrl : List ℕ) (s start : ℕ) (A : ℕ → Type 0) (r : Search) → length ctrl ≡ s + 16 → 16 ≤ s → start < s
+    → MatchSearch r A (λ i. (j : ℕ) × (j < 16) × (i ≡ (start + j) % s) × IsTrue (counts_as_free (slice_index (bytes_at ctrl start 16) j))) ⊥
+    → MatchSearch r A (λ i. (i < s) × CountsAsFree ctrl i) ⊤
+ends-free ctrl s start A (Found i) len few low m = m
+ends-free ctrl s start A (Free i) len few low m = (omega (arith, m.2), subst (CountsAsFree ctrl) (sym m.2) (group-free ctrl s start m.0 len few low m.1 m.3))
+ends-free ctrl s start A Neither len few low m = tt

@@ -1,0 +1,37 @@
+-- What bytes are refused for when they are opened, stage by stage.
+use Rattle.std.proofs.Common.{◌≡◌, ◌<◌, ◌≤◌, ◌∙◌, List, ℕ, Some, None, length, lt-ltb, le-ltb}
+use Rattle.odht_base.specs.Format.{Format}
+use Rattle.odht_base.specs.Shown.{entries_of, controls_of}
+use Rattle.odht_raw.specs.declared.error.Error.{Error}
+use Rattle.odht_raw.specs.declared.error.Error.TheVariants.{TooShort}
+use Rattle.odht_raw.specs.Frame.{IsAccepted}
+use Rattle.odht_raw.specs.Refusals.{header_refusal, opening_refusal, hashes_refusal, view_refusal}
+use Rattle.odht_raw.proofs.lemmas.FirstErrors.{option_or-first, option_or-second, gives-Some, None-gives}
+
+module _ (F : Format) (B : List ℕ) where
+  -- too few bytes for a header
+  pub opening_refusal-short : length B < 32 → opening_refusal F B ≡ Some (TooShort (length B))
+  unfolding opening_refusal
+  opening_refusal-short h = option_or-first _ _ _ (gives-Some _ _ (lt-ltb (length B) 32 h))
+
+  pub view_refusal-short : length B < 32 → view_refusal F B ≡ Some (TooShort (length B))
+  unfolding view_refusal
+  view_refusal-short h = option_or-first _ _ _ (opening_refusal-short h)
+
+  -- then the header
+  pub opening_refusal-header : 32 ≤ length B → opening_refusal F B ≡ header_refusal F (length B) B
+  unfolding opening_refusal
+  opening_refusal-header h = option_or-second _ _ (None-gives _ _ (le-ltb (length B) 32 h))
+
+  pub view_refusal-header : 32 ≤ length B → (x : Error) → header_refusal F (length B) B ≡ Some x → view_refusal F B ≡ Some x
+  unfolding view_refusal
+  view_refusal-header h x e = option_or-first _ _ _ (opening_refusal-header h ∙ e)
+
+  -- which, where it passes, makes the bytes accepted
+  pub accepted : 32 ≤ length B → header_refusal F (length B) B ≡ None → IsAccepted F B
+  accepted h e = opening_refusal-header h ∙ e
+
+  -- and then the first slots
+  pub view_refusal-slots : IsAccepted F B → view_refusal F B ≡ hashes_refusal F (entries_of F B) (controls_of F B) 10
+  unfolding view_refusal
+  view_refusal-slots a = option_or-second _ _ a

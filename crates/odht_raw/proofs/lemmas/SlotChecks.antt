@@ -1,0 +1,93 @@
+-- What a view refuses one slot for, by whether the slot counts as free.
+use Rattle.std.proofs.Common.{◌≡◌, ◌<◌, ◌∙◌, ◌*◌, ◌-◌, ◌==◌, ℕ, zero, suc, Bool, true, false, min, not, ◌&&◌, sym, ap, refl, List, [], ◌∷◌, Some, None, length, length-take, length-drop, replicate, slice_index, arith, eqb-true, if◌then◌else◌}
+use Rattle.std.specs.List.{list_all}
+use Rattle.std.proofs.lemmas.Bool.{and_parts, false_from_ne_true}
+use Rattle.std.proofs.lemmas.List.{take-append-drop}
+use Rattle.std.proofs.lemmas.List.Folds.{list_all-append}
+use Rattle.odht_base.specs.Format.{Format, entry_len, tag}
+use Rattle.odht_base.specs.Shown.{slot_entry, slot_key, slot_value, counts_as_free}
+use Rattle.odht_base.proofs.lemmas.PartsOf.{length-slot_entry}
+use Rattle.odht_raw.specs.declared.error.Error.{Error}
+use Rattle.odht_raw.specs.declared.error.Error.TheVariants.{NonZeroEmpty, ControlMismatch}
+use Rattle.odht_raw.specs.Refusals.{◌gives◌, differs, first_of, first_slot, hashes_refusal_at, hashes_refusal}
+use Rattle.odht_raw.proofs.lemmas.FirstErrors.{None-first_slot, first_slot-at}
+
+abbrev pub is_zero : ℕ → Bool
+is_zero x = x == 0
+
+-- zeros are all zero
+list_all-zeros : (n : ℕ) → list_all is_zero (replicate n 0) ≡ true
+list_all-zeros zero = refl
+list_all-zeros (suc n) = list_all-zeros n
+
+-- and nothing else is
+zeros-list_all : (xs : List ℕ) → list_all is_zero xs ≡ true → xs ≡ replicate (length xs) 0
+zeros-list_all [] h = refl
+zeros-list_all (x ∷ xs) h =
+    let p = and_parts _ _ h in
+    λ i. eqb-true x 0 p.0 i ∷ zeros-list_all xs p.1 i
+
+-- what a slot is refused for, by its three tests
+by_tests : (free zeros same : Bool) (e f : Error) → first_of ((free && not zeros gives e) ∷ (not free && not same gives f) ∷ []) ≡ (if free then (not zeros gives e) else (not same gives f))
+by_tests true true same e f = refl
+by_tests true false same e f = refl
+by_tests false zeros true e f = refl
+by_tests false zeros false e f = refl
+
+module _ (F : Format) (es ctrl : List ℕ) (i : ℕ) where
+  refusal_is : hashes_refusal_at F es ctrl i ≡ (if counts_as_free (slice_index ctrl i) then (not (list_all is_zero (slot_entry F es i)) gives NonZeroEmpty i) else (differs (slice_index ctrl i) (tag F (slot_key F es i)) gives ControlMismatch i (tag F (slot_key F es i)) (slice_index ctrl i)))
+  refusal_is = by_tests (counts_as_free (slice_index ctrl i)) (list_all is_zero (slot_entry F es i)) (slice_index ctrl i == tag F (slot_key F es i)) _ _
+
+  -- a slot that does not count as free is refused where its control byte is not its key's tag
+  pub filled_refusal : counts_as_free (slice_index ctrl i) ≡ false → hashes_refusal_at F es ctrl i ≡ (differs (slice_index ctrl i) (tag F (slot_key F es i)) gives ControlMismatch i (tag F (slot_key F es i)) (slice_index ctrl i))
+  filled_refusal h = refusal_is ∙ rw h refl
+
+  -- any other is not refused where its entry is zeros
+  pub zero_entry_passes : counts_as_free (slice_index ctrl i) ≡ true → (n : ℕ) → slot_entry F es i ≡ replicate n 0 → hashes_refusal_at F es ctrl i ≡ None
+  zero_entry_passes h n e =
+      let zeros : list_all is_zero (slot_entry F es i) ≡ true = ap (list_all is_zero) e ∙ list_all-zeros n in
+      refusal_is ∙ rw (h, zeros) refl
+
+  -- an entry is zero where both its ends are
+  zero_ends : list_all is_zero (slot_entry F es i) ≡ (list_all is_zero (slot_key F es i) && list_all is_zero (slot_value F es i))
+  zero_ends = ap (list_all is_zero) (sym (take-append-drop F.key_len (slot_entry F es i))) ∙ list_all-append is_zero (slot_key F es i) (slot_value F es i)
+
+  -- so it is not refused where key and value are zeros
+  pub zeros_pass : (m n : ℕ) → counts_as_free (slice_index ctrl i) ≡ true → slot_key F es i ≡ replicate m 0 → slot_value F es i ≡ replicate n 0 → hashes_refusal_at F es ctrl i ≡ None
+  zeros_pass m n h k v =
+      let key : list_all is_zero (slot_key F es i) ≡ true = ap (list_all is_zero) k ∙ list_all-zeros m in
+      let value : list_all is_zero (slot_value F es i) ≡ true = ap (list_all is_zero) v ∙ list_all-zeros n in
+      refusal_is ∙ rw (h, zero_ends, key, value) refl
+
+  module _ (s : ℕ) (long : length es ≡ s * entry_len F) (within : i < s) where
+    entry_long : length (slot_entry F es i) ≡ entry_len F
+    entry_long = length-slot_entry F es s i long within
+
+    -- else it is, be it for its key
+    pub key_refusal : counts_as_free (slice_index ctrl i) ≡ true → (slot_key F es i ≡ replicate F.key_len 0 → ⊥) → hashes_refusal_at F es ctrl i ≡ Some (NonZeroEmpty i)
+    key_refusal h other =
+        let n : length (slot_key F es i) ≡ F.key_len = length-take F.key_len (slot_entry F es i) ∙ omega (arith, entry_long) in
+        let key : list_all is_zero (slot_key F es i) ≡ false = false_from_ne_true _ (λ t. other (zeros-list_all _ t ∙ ap (λ m. replicate m 0) n)) in
+        refusal_is ∙ rw (h, zero_ends, key) refl
+
+    -- or for its value
+    pub value_refusal : counts_as_free (slice_index ctrl i) ≡ true → (slot_value F es i ≡ replicate F.value_len 0 → ⊥) → hashes_refusal_at F es ctrl i ≡ Some (NonZeroEmpty i)
+    value_refusal h other =
+        let n : length (slot_value F es i) ≡ F.value_len = length-drop F.key_len (slot_entry F es i) ∙ omega (arith, entry_long) in
+        let value : list_all is_zero (slot_value F es i) ≡ false = false_from_ne_true _ (λ t. other (zeros-list_all _ t ∙ ap (λ m. replicate m 0) n)) in
+        refusal_is ∙ rw (h, zero_ends ∙ ap (λ b. list_all is_zero (slot_key F es i) && b) value) (go (list_all is_zero (slot_key F es i)))
+      where
+        go : (b : Bool) → (not (b && false) gives NonZeroEmpty i) ≡ Some (NonZeroEmpty i)
+        go true = refl
+        go false = refl
+
+module _ (F : Format) (es ctrl : List ℕ) (n s : ℕ) (slots : min n (length ctrl - 16) ≡ s) where
+  -- nothing is refused where no slot is
+  pub hashes_refusal-None : ((i : ℕ) → i < s → hashes_refusal_at F es ctrl i ≡ None) → hashes_refusal F es ctrl n ≡ None
+  unfolding hashes_refusal
+  hashes_refusal-None h = ap (first_slot (hashes_refusal_at F es ctrl)) slots ∙ None-first_slot (hashes_refusal_at F es ctrl) s h
+
+  -- else what the first slot is that is refused
+  pub hashes_refusal-at : (i : ℕ) (x : Error) → i < s → ((k : ℕ) → k < i → hashes_refusal_at F es ctrl k ≡ None) → hashes_refusal_at F es ctrl i ≡ Some x → hashes_refusal F es ctrl n ≡ Some x
+  unfolding hashes_refusal
+  hashes_refusal-at i x l below here = ap (first_slot (hashes_refusal_at F es ctrl)) slots ∙ first_slot-at (hashes_refusal_at F es ctrl) s i x l below here

@@ -1,0 +1,42 @@
+use Rattle.std.proofs.Common.{rules, arith, ◌≡◌, ◌∙◌, ℕ, ◌+◌, ◌*◌, ◌/◌, sym, ap, subst, List}
+use Rattle.odht_base.specs.Format.{Format, format_of}
+use Rattle.odht_base.proofs.lemmas.SlotCounts.{few_slots}
+use Rattle.odht_raw.specs.Searches.{IsLook, Passed}
+use Rattle.odht_raw.proofs.lemmas.GroupLooks.{piece-fits, pieces-all, stands-piece, look-piece, look-none}
+use Rattle.odht_raw.proofs.raw_table.group_search.look_at_group.Goals as goal
+
+pub overflow_add-start : goal.overflow_add-start
+overflow_add-start g c =
+    let few = few_slots c.args.entries.now.slots c.requires.slots in
+    let fits = piece-fits g.Q.Group.SIZE c.loop-piece.piece (omega (arith, c.loop-piece-test.true, ap (λ n. 16 / n) c.SIZE-piece-end.ensures)) in
+    let l = c.requires.start in
+    rw c.SIZE.ensures (search rules)
+
+pub returns-then-is_some-clause-on_placed : goal.returns-then-is_some-clause-on_placed
+returns-then-is_some-clause-on_placed g c P p at =
+    let F : Format = format_of g.K.ByteArray.LEN g.V.ByteArray.LEN g.H.HashFn.hash in
+    let k : List ℕ = g.K.ByteArray.bytes c.args.key.now in
+    let n : ℕ = c.loop-piece.piece * g.Q.Group.SIZE in
+    let fits = piece-fits g.Q.Group.SIZE c.loop-piece.piece (omega (arith, c.loop-piece-test.true, ap (λ n. 16 / n) c.SIZE-piece-end.ensures)) in
+    let there = stands-piece F P c.args.entries.now k p c.args.start c.args.bytes.now n g.Q.Group.SIZE (omega (arith, c.requires.len, fits)) at (c.loop-piece.invariant P p at) in
+    let told : IsLook F P k (p + n) g.Q.Group.SIZE c.look_at_piece-end.result = c.look_at_piece-end.ensures.on_placed P (p + n) (rw (c.SIZE.ensures, c.SIZE-in-loop-piece.ensures) there) in
+    look-piece F P k p n g.Q.Group.SIZE c.look_at_piece-end.result fits (sym c.is_some.ensures ∙ c.if-is_some.true) told
+
+pub loop-piece-preserved : goal.loop-piece-preserved
+loop-piece-preserved g c P p at =
+    let F : Format = format_of g.K.ByteArray.LEN g.V.ByteArray.LEN g.H.HashFn.hash in
+    let k : List ℕ = g.K.ByteArray.bytes c.args.key.now in
+    let n : ℕ = c.loop-piece.piece * g.Q.Group.SIZE in
+    let fits = piece-fits g.Q.Group.SIZE c.loop-piece.piece (omega (arith, c.loop-piece-test.true, ap (λ n. 16 / n) c.SIZE-piece-end.ensures)) in
+    let there = stands-piece F P c.args.entries.now k p c.args.start c.args.bytes.now n g.Q.Group.SIZE (omega (arith, c.requires.len, fits)) at (c.loop-piece.invariant P p at) in
+    let told : IsLook F P k (p + n) g.Q.Group.SIZE c.look_at_piece-end.result = c.look_at_piece-end.ensures.on_placed P (p + n) (rw (c.SIZE.ensures, c.SIZE-in-loop-piece.ensures) there) in
+    let passed = look-none F P k (p + n) g.Q.Group.SIZE c.look_at_piece-end.result (sym c.is_some.ensures ∙ c.if-is_some.false) told in
+    let sum : p + n + g.Q.Group.SIZE ≡ p + (c.loop-piece.piece + 1) * g.Q.Group.SIZE = omega arith in
+    subst (Passed F P k) sum passed
+
+pub returns-clause-on_placed : goal.returns-clause-on_placed
+returns-clause-on_placed g c P p at =
+    let F : Format = format_of g.K.ByteArray.LEN g.V.ByteArray.LEN g.H.HashFn.hash in
+    let k : List ℕ = g.K.ByteArray.bytes c.args.key.now in
+    let all = pieces-all g.Q.Group.SIZE c.loop-piece.piece g.met.Q.Group.divides (omega (arith, c.loop-piece-test.false, c.loop-piece.auto.piece-end, ap (λ n. 16 / n) c.SIZE-piece-end.ensures)) in
+    subst (λ n. Passed F P k (p + n)) all (c.loop-piece.invariant P p at)

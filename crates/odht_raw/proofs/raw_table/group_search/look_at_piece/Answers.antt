@@ -1,0 +1,79 @@
+use Rattle.std.proofs.Common.{rules, arith, ◌∙◌, ℕ, ◌+◌, ◌-◌, sym, ap, subst, true≢false, bit_and, List}
+use Rattle.std.proofs.lemmas.List.Quantifiers.{position-Some}
+use Rattle.odht_base.specs.Format.{Format, format_of}
+use Rattle.odht_base.specs.Groups.{IsReport}
+use Rattle.odht_base.specs.Shown.{counts_as_free, slot_key}
+use Rattle.odht_base.proofs.lemmas.SlotCounts.{bit_and-slots, few_slots}
+use Rattle.odht_raw.specs.Searches.{EndsWithin, Passed}
+use Rattle.odht_raw.specs.declared.raw_table.outcome.Search.TheVariants.{Found, Free}
+use Rattle.odht_raw.proofs.lemmas.Formats.{IsFormat-format_of}
+use Rattle.odht_raw.proofs.lemmas.GroupLooks.{taken-first, taken-next, taken-all, look_found, look_free, look_on}
+use Rattle.odht_raw.proofs.raw_table.group_search.look_at_piece.Goals as goal
+
+pub overflow_add-slot : goal.overflow_add-slot
+overflow_add-slot g c =
+    let few = few_slots c.args.entries.now.slots c.requires.slots in
+    let match = taken-first _ _ _ c.in-Some.index c.matches.invariant.taken c.in-Some.ensures.next in
+    let low = (c.of-group.ensures.matches.filled c.in-Some.index match).0 in
+    let n = c.requires.len in
+    let l = c.requires.start in
+    search rules
+
+pub returns-then-equals-clause-on_placed : goal.returns-then-equals-clause-on_placed
+returns-then-equals-clause-on_placed g c P p at =
+    let F : Format = format_of g.K.ByteArray.LEN g.V.ByteArray.LEN g.H.HashFn.hash in
+    let k : List ℕ = g.K.ByteArray.bytes c.args.key.now in
+    let f = IsFormat-format_of _ _ _ _ c.requires.key c.requires.value c.requires.hashes g.met.H.HashFn.fits in
+    let report = subst (λ h. IsReport c.args.bytes.now h (g.Q.Group.matches c.of-group.result)) c.requires.tag c.of-group.ensures.matches in
+    let match = taken-first _ _ _ c.in-Some.index c.matches.invariant.taken c.in-Some.ensures.next in
+    let masked = ap (λ n. bit_and (c.args.start + c.in-Some.index) (n - 1)) c.len-mask.ensures ∙ bit_and-slots (c.args.start + c.in-Some.index) c.args.entries.now.slots c.requires.slots in
+    let same = ap (slot_key F c.args.entries.now.bytes) (sym masked) ∙ sym c.get.ensures.key_bytes ∙ c.equals.ensures.0 c.if-equals.true in
+    let found = look_found F P c.args.entries.now k p c.args.start c.args.bytes.now f at _ report c.in-Some.index match same in
+    (ap Found masked ∙ found.0, subst (EndsWithin F P k p) c.requires.len found.1)
+
+pub matches-preserved : goal.matches-preserved
+matches-preserved g c =
+    let F : Format = format_of g.K.ByteArray.LEN g.V.ByteArray.LEN g.H.HashFn.hash in
+    let masked = ap (λ n. bit_and (c.args.start + c.in-Some.index) (n - 1)) c.len-mask.ensures ∙ bit_and-slots (c.args.start + c.in-Some.index) c.args.entries.now.slots c.requires.slots in
+    record {
+      same = c.next_match.ensures.free ∙ c.matches.invariant.same;
+      taken = taken-next _ _ _ _ c.in-Some.index c.matches.invariant.taken c.in-Some.ensures.next c.next_match.ensures.rest
+          (λ e. true≢false (sym (c.equals.ensures.1 (c.get.ensures.key_bytes ∙ ap (slot_key F c.args.entries.now.bytes) masked ∙ e)) ∙ c.if-equals.false));
+    }
+
+pub overflow_add-result : goal.overflow_add-result
+overflow_add-result g c =
+    let few = few_slots c.args.entries.now.slots c.requires.slots in
+    let first = sym (c.in-Some-first_empty.ensures ∙ c.in_default.ensures.free ∙ c.matches.invariant.same ∙ c.of-group.ensures.free) in
+    let low = (position-Some counts_as_free c.args.bytes.now c.in-Some-first_empty.index 0 first).0 in
+    let n = c.requires.len in
+    let l = c.requires.start in
+    search rules
+
+pub returns-in-Some-first_empty-clause-slot : goal.returns-in-Some-first_empty-clause-slot
+returns-in-Some-first_empty-clause-slot g c =
+    let first = sym (c.in-Some-first_empty.ensures ∙ c.in_default.ensures.free ∙ c.matches.invariant.same ∙ c.of-group.ensures.free) in
+    let q = position-Some counts_as_free c.args.bytes.now c.in-Some-first_empty.index 0 first in
+    let masked = ap (λ n. bit_and (c.args.start + c.in-Some-first_empty.index) (n - 1)) c.len-mask.ensures ∙ bit_and-slots (c.args.start + c.in-Some-first_empty.index) c.args.entries.now.slots c.requires.slots in
+    (c.in-Some-first_empty.index, omega (arith, q.0, c.requires.len), masked, q.1)
+
+pub returns-in-Some-first_empty-clause-on_placed :
+    goal.returns-in-Some-first_empty-clause-on_placed
+returns-in-Some-first_empty-clause-on_placed g c P p at =
+    let F : Format = format_of g.K.ByteArray.LEN g.V.ByteArray.LEN g.H.HashFn.hash in
+    let k : List ℕ = g.K.ByteArray.bytes c.args.key.now in
+    let f = IsFormat-format_of _ _ _ _ c.requires.key c.requires.value c.requires.hashes g.met.H.HashFn.fits in
+    let report = subst (λ h. IsReport c.args.bytes.now h (g.Q.Group.matches c.of-group.result)) c.requires.tag c.of-group.ensures.matches in
+    let first = sym (c.in-Some-first_empty.ensures ∙ c.in_default.ensures.free ∙ c.matches.invariant.same ∙ c.of-group.ensures.free) in
+    let masked = ap (λ n. bit_and (c.args.start + c.in-Some-first_empty.index) (n - 1)) c.len-mask.ensures ∙ bit_and-slots (c.args.start + c.in-Some-first_empty.index) c.args.entries.now.slots c.requires.slots in
+    let free = look_free F P c.args.entries.now k p c.args.start c.args.bytes.now f at _ report (taken-all _ _ _ c.matches.invariant.taken c.in_default.ensures.next) c.in-Some-first_empty.index first in
+    (ap Free masked ∙ free.0, subst (EndsWithin F P k p) c.requires.len free.1)
+
+pub returns-clause-on_placed : goal.returns-clause-on_placed
+returns-clause-on_placed g c P p at =
+    let F : Format = format_of g.K.ByteArray.LEN g.V.ByteArray.LEN g.H.HashFn.hash in
+    let k : List ℕ = g.K.ByteArray.bytes c.args.key.now in
+    let f = IsFormat-format_of _ _ _ _ c.requires.key c.requires.value c.requires.hashes g.met.H.HashFn.fits in
+    let report = subst (λ h. IsReport c.args.bytes.now h (g.Q.Group.matches c.of-group.result)) c.requires.tag c.of-group.ensures.matches in
+    let none = sym (c.in-None.ensures ∙ c.in_default.ensures.free ∙ c.matches.invariant.same ∙ c.of-group.ensures.free) in
+    subst (λ n. Passed F P k (p + n)) c.requires.len (look_on F P c.args.entries.now k p c.args.start c.args.bytes.now f at _ report (taken-all _ _ _ c.matches.invariant.taken c.in_default.ensures.next) none)

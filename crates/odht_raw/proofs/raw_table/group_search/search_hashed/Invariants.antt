@@ -1,0 +1,25 @@
+use Rattle.std.proofs.Common.{◌≡◌, ◌+◌, ◌-◌, ◌/◌, ◌%◌, ◌≤◌, min}
+use Rattle.odht_base.specs.Format.{format_of}
+use Rattle.odht_base.specs.Table.{Table}
+use Rattle.odht_base.specs.Valid.{IsPartsOf}
+use Rattle.odht_raw.specs.Searches.{Passed}
+use Rattle.odht_raw.proofs.raw_table.group_search.search_hashed.Given as goal
+
+-- the probe stands at the first place of a group, and each group before it was shown and passed
+abbrev pub invariant-groups : goal.invariant-groups
+invariant-groups g l =
+    let F = format_of g.K.ByteArray.LEN g.V.ByteArray.LEN g.H.HashFn.hash in
+    let k = g.K.ByteArray.bytes l.key in
+    record {
+      control : l.scan.control ≡ l.fn.scan.control;
+      shown : min l.scan.groups 18446744073709551615 ≡ min (l.fn.scan.groups + l.probe.place / 16) 18446744073709551615;
+      few : l.scan.groups ≤ l.fn.scan.groups + l.probe.place / 16;
+      home : l.probe.home ≡ l.hash % l.entries.slots;
+      mask : l.probe.mask + 1 ≡ l.entries.slots;
+      aligned : l.probe.place % 16 ≡ 0;
+      within : l.probe.place + 16 ≤ l.entries.slots;
+      passed : (P : Table) → IsPartsOf F P l.entries.bytes l.fn.scan.control → Passed F P k l.probe.place;
+    }
+
+abbrev pub decreases-groups : goal.decreases-groups
+decreases-groups g l = l.entries.slots - l.probe.place

@@ -1,0 +1,9 @@
+//! `odht_raw`: the bytes of a table, its parts, and searches in them; `odht` has the tables over them.
+#![tactic(auto)]
+
+pub use odht_base::{bytes, hash, load, swisstable_group_query};
+
+pub mod config;
+pub mod error;
+pub mod memory_layout;
+pub mod raw_table;

@@ -1,0 +1,272 @@
+//! The parts of a table, control bytes and entries, and searches in them.
+ghost use Rattle.std.specs.Prelude.{◌≡◌, ℕ, ◌+◌, ◌*◌, ◌/◌, ◌^◌, ◌<◌, ◌≤◌, length, option_map, IfSome};
+ghost use Rattle.odht_base.specs.Format.{format_of};
+ghost use Rattle.odht_base.specs.Load.{IsSlotCount};
+ghost use Rattle.odht_base.specs.Table.{Table};
+ghost use Rattle.odht_base.specs.Map.{map_of};
+ghost use Rattle.odht_base.specs.Search.{groups_read};
+ghost use Rattle.odht_base.specs.Valid.{IsPartsOf};
+ghost use Rattle.odht_base.specs.Shown.{slot_key, slot_value, counts_as_free};
+ghost use Rattle.odht_raw.specs.Parts.{entry_format};
+ghost use Rattle.odht_raw.specs.Walks.{items_from};
+ghost use Rattle.odht_raw.specs.Refusals.{checked, hashes_refusal, hashes_refusal_at};
+
+use crate::bytes::ByteArray;
+use crate::error::Error;
+use crate::hash::HashFn;
+use crate::swisstable_group_query::GroupQuery;
+use std::marker::{Model, PhantomData};
+
+mod dump;
+mod group_search;
+mod outcome;
+mod plain;
+mod probe_seq;
+mod scan;
+mod table_mut;
+mod walk;
+mod writes;
+
+pub use group_search::{search, search_hashed};
+pub use outcome::Search;
+pub use plain::{plain_find, plain_insert};
+pub use probe_seq::{ProbeSeq, probe_order};
+pub use scan::Scan;
+pub use table_mut::RawTableMut;
+pub use walk::RawIter;
+
+/// A control byte: the tag of a filled slot, below 128, or a free slot's 255.
+pub type EntryMetadata = u8;
+
+/// An encoded key with its encoded value, as a slot holds them.
+#[derive(Clone, Copy, PartialEq, Eq, Debug)]
+pub struct Entry<K: ByteArray, V: ByteArray> {
+    pub key: K,
+    pub value: V,
+}
+
+impl<K: ByteArray, V: ByteArray> Default for Entry<K, V> {
+    /// The entry of a free slot: zeros.
+    #[inline]
+    fn default() -> Self {
+        Entry {
+            key: K::zeroed(),
+            value: V::zeroed(),
+        }
+    }
+}
+
+/// The entries of so many slots, read in their bytes at any alignment.
+#[derive(Drop)]
+pub struct Entries<'a, K: ByteArray, V: ByteArray> {
+    bytes: &'a [u8],
+    slots: usize,
+    types: PhantomData<(K, V)>,
+}
+
+impl<'a, K: ByteArray, V: ByteArray> Model for Entries<'a, K, V> {
+    ghost use Rattle.odht_raw.specs.Parts.{EntryBytes, IsEntries};
+
+    ghost Value = { EntryBytes };
+
+    ghost view = { λ e. record { slots = e.slots; bytes = e.bytes.now } };
+
+    ghost invariant = { λ e. IsEntries K.LEN V.LEN (record { slots = e.slots; bytes = e.bytes.now }) };
+}
+
+impl<'a, K: ByteArray, V: ByteArray> Entries<'a, K, V> {
+    /// The entries of `slots` slots in `bytes`, key then value, slot by slot.
+    #[inline]
+    pub fn new(bytes: &'a [u8], slots: usize) -> Self
+        requires key { K.LEN ≤ 255 }
+        requires value { V.LEN ≤ 255 }
+        requires len { length bytes.now ≡ slots * (K.LEN + V.LEN) }
+        ensures { result ≡ record { slots = slots; bytes = bytes.now } }
+    {
+        Entries {
+            bytes,
+            slots,
+            types: PhantomData,
+        }
+    }
+
+    // The same entries once more.
+    #[inline]
+    fn copy(&self) -> Self
+        ensures { result ≡ self.now }
+    {
+        Entries {
+            bytes: self.bytes,
+            slots: self.slots,
+            types: PhantomData,
+        }
+    }
+
+    /// How many slots there are.
+    #[inline]
+    pub fn len(&self) -> usize
+        ensures { result ≡ self.now.slots }
+    {
+        self.slots
+    }
+
+    /// The entry of a slot.
+    #[inline]
+    pub fn get(&self, slot: usize) -> Entry<K, V>
+        requires { slot < self.now.slots }
+        ensures key { result.key ≡ K.of_bytes (slot_key (entry_format K.LEN V.LEN) self.now.bytes slot) }
+        ensures value { result.value ≡ V.of_bytes (slot_value (entry_format K.LEN V.LEN) self.now.bytes slot) }
+        ensures key_bytes { K.bytes result.key ≡ slot_key (entry_format K.LEN V.LEN) self.now.bytes slot }
+        ensures value_bytes { V.bytes result.value ≡ slot_value (entry_format K.LEN V.LEN) self.now.bytes slot }
+    {
+        let bytes = self.bytes;
+        let at = slot * (K::LEN + V::LEN);
+        let entry = &bytes[at..at + K::LEN + V::LEN];
+        Entry {
+            key: K::from_slice(&entry[..K::LEN]),
+            value: V::from_slice(&entry[K::LEN..]),
+        }
+    }
+}
+
+/// Whether a control byte counts as free.
+#[inline]
+pub(crate) fn is_empty_or_deleted(control: EntryMetadata) -> bool
+    ensures { result ≡ counts_as_free control }
+{
+    control >= 128
+}
+
+/// The tag of a key with this hash: its seven highest bits.
+#[inline]
+pub fn tag_of(hash: u32) -> u8
+    ensures { result ≡ hash / 2 ^ 25 }
+{
+    (hash >> 25) as u8
+}
+
+/// The control bytes with their mirror, and the entries of as many slots.
+#[derive(Drop)]
+pub struct RawTable<'a, K: ByteArray, V: ByteArray, H: HashFn> {
+    control: &'a [EntryMetadata],
+    entries: Entries<'a, K, V>,
+    hash: PhantomData<H>,
+}
+
+impl<'a, K: ByteArray, V: ByteArray, H: HashFn> Model for RawTable<'a, K, V, H> {
+    ghost use Rattle.odht_raw.specs.Parts.{TableParts, IsTableParts};
+
+    ghost Value = { TableParts };
+
+    ghost view = { λ t. record { control = t.control.now; entries = t.entries } };
+
+    ghost invariant = { λ t. IsTableParts H.MIN_LEN K.LEN V.LEN (record { control = t.control.now; entries = t.entries }) };
+}
+
+impl<'a, K: ByteArray, V: ByteArray, H: HashFn> RawTable<'a, K, V, H> {
+    /// The table of these parts, on which a view looks at slots before it trusts them.
+    #[inline]
+    pub fn new(control: &'a [EntryMetadata], entries: Entries<'a, K, V>) -> Self
+        requires slots { IsSlotCount entries.slots }
+        requires control { length control.now ≡ entries.slots + 16 }
+        requires hashes { H.MIN_LEN ≤ K.LEN }
+        ensures { result ≡ record { control = control.now; entries = entries.entry } }
+    {
+        RawTable {
+            control,
+            entries,
+            hash: PhantomData,
+        }
+    }
+
+    /// The value beside the key, looked for group by group along the probe order (docs/FORMAT.md, "Search").
+    ///
+    /// On the parts of a table whose keys are all reached it is the map's answer, and on any parts a value that is stored
+    /// beside this very key. At most each group is looked at once.
+    #[inline]
+    pub fn find(&self, key: &K) -> Option<V>
+        ensures on_placed { (P : Table)
+            → IsPartsOf (format_of K.LEN V.LEN H.hash) P self.now.entries.bytes self.now.control
+            → result ≡ option_map V.of_bytes (map_of P (K.bytes key.now)) }
+        ensures on_any { let F = format_of K.LEN V.LEN H.hash
+            in let es = self.now.entries.bytes
+            in IfSome result (λ v. (i : ℕ) × (i < self.now.entries.slots) × (slot_key F es i ≡ K.bytes key.now) × (v ≡ V.of_bytes (slot_value F es i))) }
+    {
+        let (value, _) = self.find_counted(key);
+        value
+    }
+
+    /// `find`, and how many groups were looked at: on the parts of a table whose keys are all reached those up to the first
+    /// slot free or holding the key, and on any parts no more than there are. docs/FORMAT.md, "Search", counts them.
+    #[inline]
+    pub fn find_counted(&self, key: &K) -> (Option<V>, usize)
+        ensures on_placed { (P : Table)
+            → IsPartsOf (format_of K.LEN V.LEN H.hash) P self.now.entries.bytes self.now.control
+            → result.0 ≡ option_map V.of_bytes (map_of P (K.bytes key.now)) }
+        ensures groups { (P : Table)
+            → IsPartsOf (format_of K.LEN V.LEN H.hash) P self.now.entries.bytes self.now.control
+            → result.1 ≡ groups_read (format_of K.LEN V.LEN H.hash) P.cells (K.bytes key.now) }
+        ensures on_any { let F = format_of K.LEN V.LEN H.hash
+            in let es = self.now.entries.bytes
+            in IfSome result.0 (λ v. (i : ℕ) × (i < self.now.entries.slots) × (slot_key F es i ≡ K.bytes key.now) × (v ≡ V.of_bytes (slot_value F es i))) }
+        ensures few { result.1 ≤ self.now.entries.slots / 16 }
+    {
+        let mut scan = Scan::new(self.control, self.entries.len());
+        let end = search::<K, V, H, GroupQuery>(&mut scan, &self.entries, key);
+        let groups = scan.groups();
+        match end {
+            Search::Found(slot) => (Some(self.entries.get(slot).value), groups),
+            Search::Free(_) => (None, groups),
+            Search::Neither => (None, groups),
+        }
+    }
+
+    /// The control byte and the entry of each slot whose own control byte does not count as free, in slot order.
+    #[inline]
+    pub fn iter(&self) -> RawIter<'a, K, V>
+        ensures items { result ≡ items_from K.of_bytes V.of_bytes (entry_format K.LEN V.LEN) self.now 0 }
+        ensures few { length result ≤ self.now.entries.slots }
+    {
+        RawIter::new(self.control, self.entries.copy())
+    }
+
+    /// Looks at the first `slots_to_check` slots, or at all where there are fewer, and answers the first refusal:
+    /// `NonZeroEmpty` of a slot that counts as free, `ControlMismatch` of any other.
+    ///
+    /// A mismatch tells of bytes that were written with another hash function.
+    #[inline(always)]
+    pub fn sanity_check_hashes(&self, slots_to_check: usize) -> Result<(), Error>
+        ensures { result ≡ checked (hashes_refusal (format_of K.LEN V.LEN H.hash) self.now.entries.bytes self.now.control slots_to_check) }
+    {
+        let slots = slots_to_check.min(self.entries.len());
+        for slot in 0..slots {
+            self.check_slot(slot)?;
+        }
+        Ok(())
+    }
+
+    // What a view looks at in one slot.
+    #[inline(always)]
+    fn check_slot(&self, slot: usize) -> Result<(), Error>
+        requires { slot < self.now.entries.slots }
+        ensures { result ≡ checked (hashes_refusal_at (format_of K.LEN V.LEN H.hash) self.now.entries.bytes self.now.control slot) }
+    {
+        let found = self.control[slot];
+        let entry = self.entries.get(slot);
+        if is_empty_or_deleted(found) {
+            if entry.key.is_all_zeros() && entry.value.is_all_zeros() {
+                return Ok(());
+            }
+            return Err(Error::NonZeroEmpty { slot });
+        }
+        let expected = tag_of(H::hash(entry.key.as_slice()));
+        if found != expected {
+            return Err(Error::ControlMismatch {
+                slot,
+                expected,
+                found,
+            });
+        }
+        Ok(())
+    }
+}

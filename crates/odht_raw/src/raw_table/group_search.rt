@@ -1,0 +1,171 @@
+//! The search by groups of control bytes along the probe order.
+ghost use Rattle.std.specs.Prelude.{◌≡◌, ℕ, ◌+◌, ◌/◌, ◌%◌, ◌^◌, ◌<◌, ◌≤◌, ⊤, min, length, slice_index, IfSome, IsTrue};
+ghost use Rattle.odht_base.specs.Load.{IsSlotCount};
+ghost use Rattle.odht_base.specs.Format.{format_of};
+ghost use Rattle.odht_base.specs.Table.{Table};
+ghost use Rattle.odht_base.specs.Search.{groups_read};
+ghost use Rattle.odht_base.specs.Valid.{IsPartsOf};
+ghost use Rattle.odht_base.specs.Shown.{counts_as_free, slot_key};
+ghost use Rattle.odht_raw.specs.Answers.{answer, MatchSearch};
+ghost use Rattle.odht_raw.specs.Frame.{CountsAsFree};
+ghost use Rattle.odht_raw.specs.Searches.{StandsAt, IsLook};
+
+use super::{Entries, EntryMetadata, ProbeSeq, Scan, Search, tag_of};
+use crate::bytes::ByteArray;
+use crate::hash::HashFn;
+use crate::swisstable_group_query::{Group, REFERENCE_GROUP_SIZE};
+
+/// Looks for the key group by group along its probe order, and stops at the first slot that is free or holds it.
+///
+/// On the parts of a table whose keys are all reached the answer is the slot where a search slot by slot ends, and exactly
+/// as many groups as there are up to it are shown. On any parts `Found` is a slot whose entry has this very key, `Free`
+/// one that counts as free, and no more groups are shown than there are. Both hold of every group search. The rules are
+/// those of docs/FORMAT.md, "Search".
+#[inline]
+pub fn search<K: ByteArray, V: ByteArray, H: HashFn, Q: Group>(
+    scan: &mut Scan<'_>,
+    entries: &Entries<'_, K, V>,
+    key: &K,
+) -> Search
+    requires entries { length scan.old.control ≡ entries.now.slots + 16 }
+    requires hashes { H.MIN_LEN ≤ K.LEN }
+    requires key { K.LEN ≤ 255 }
+    requires value { V.LEN ≤ 255 }
+    ensures on_placed { (P : Table)
+        → IsPartsOf (format_of K.LEN V.LEN H.hash) P entries.now.bytes scan.old.control
+        → result ≡ answer (format_of K.LEN V.LEN H.hash) P.cells (K.bytes key.now) }
+    ensures groups { (P : Table)
+        → IsPartsOf (format_of K.LEN V.LEN H.hash) P entries.now.bytes scan.old.control
+        → scan.new.groups ≡ min (scan.old.groups + groups_read (format_of K.LEN V.LEN H.hash) P.cells (K.bytes key.now)) usize.MAX }
+    ensures slot { MatchSearch result
+        (λ i. (i < entries.now.slots) × (slot_key (format_of K.LEN V.LEN H.hash) entries.now.bytes i ≡ K.bytes key.now))
+        (λ i. (i < entries.now.slots) × CountsAsFree scan.old.control i)
+        ⊤ }
+    ensures few { scan.new.groups ≤ scan.old.groups + entries.now.slots / 16 }
+    ensures control { scan.new.control ≡ scan.old.control }
+{
+    let hash = H::hash(key.as_slice());
+    search_hashed::<K, V, H, Q>(scan, entries, key, hash)
+}
+
+/// `search` of a key whose hash is known.
+#[inline]
+pub fn search_hashed<K: ByteArray, V: ByteArray, H: HashFn, Q: Group>(
+    scan: &mut Scan<'_>,
+    entries: &Entries<'_, K, V>,
+    key: &K,
+    hash: u32,
+) -> Search
+    requires entries { length scan.old.control ≡ entries.now.slots + 16 }
+    requires hash { hash ≡ H.hash (K.bytes key.now) }
+    requires hashes { H.MIN_LEN ≤ K.LEN }
+    requires key { K.LEN ≤ 255 }
+    requires value { V.LEN ≤ 255 }
+    ensures on_placed { (P : Table)
+        → IsPartsOf (format_of K.LEN V.LEN H.hash) P entries.now.bytes scan.old.control
+        → result ≡ answer (format_of K.LEN V.LEN H.hash) P.cells (K.bytes key.now) }
+    ensures groups { (P : Table)
+        → IsPartsOf (format_of K.LEN V.LEN H.hash) P entries.now.bytes scan.old.control
+        → scan.new.groups ≡ min (scan.old.groups + groups_read (format_of K.LEN V.LEN H.hash) P.cells (K.bytes key.now)) usize.MAX }
+    ensures slot { MatchSearch result
+        (λ i. (i < entries.now.slots) × (slot_key (format_of K.LEN V.LEN H.hash) entries.now.bytes i ≡ K.bytes key.now))
+        (λ i. (i < entries.now.slots) × CountsAsFree scan.old.control i)
+        ⊤ }
+    ensures few { scan.new.groups ≤ scan.old.groups + entries.now.slots / 16 }
+    ensures control { scan.new.control ≡ scan.old.control }
+{
+    let tag = tag_of(hash);
+    let mask = scan.slots() - 1;
+    let mut probe = ProbeSeq::<REFERENCE_GROUP_SIZE>::new(hash as usize, mask);
+    'groups: loop {
+        let start = probe.index();
+        let bytes = scan.group(start);
+        if let Some(end) = look_at_group::<K, V, H, Q>(bytes, start, entries, key, tag) {
+            return end;
+        }
+        if probe.is_last() {
+            return Search::Neither;
+        }
+        probe.advance(mask);
+    }
+}
+
+// Looks at the sixteen slots from `start` on, whose control bytes are these, in pieces of the group search's size.
+#[inline]
+fn look_at_group<K: ByteArray, V: ByteArray, H: HashFn, Q: Group>(
+    bytes: &[EntryMetadata],
+    start: usize,
+    entries: &Entries<'_, K, V>,
+    key: &K,
+    tag: u8,
+) -> Option<Search>
+    requires len { length bytes.now ≡ 16 }
+    requires slots { IsSlotCount entries.now.slots }
+    requires start { start < entries.now.slots }
+    requires tag { tag ≡ H.hash (K.bytes key.now) / 2 ^ 25 }
+    requires small { tag < 128 }
+    requires hashes { H.MIN_LEN ≤ K.LEN }
+    requires key { K.LEN ≤ 255 }
+    requires value { V.LEN ≤ 255 }
+    ensures slot { IfSome result (λ r. MatchSearch r
+        (λ i. (i < entries.now.slots) × (slot_key (format_of K.LEN V.LEN H.hash) entries.now.bytes i ≡ K.bytes key.now))
+        (λ i. (j : ℕ) × (j < 16) × (i ≡ (start + j) % entries.now.slots) × IsTrue (counts_as_free (slice_index bytes.now j)))
+        ⊥) }
+    ensures on_placed { (P : Table) (p : ℕ)
+        → StandsAt (format_of K.LEN V.LEN H.hash) P entries.now (K.bytes key.now) p start bytes.now
+        → IsLook (format_of K.LEN V.LEN H.hash) P (K.bytes key.now) p 16 result }
+{
+    for piece in 0..REFERENCE_GROUP_SIZE / Q::SIZE {
+        let at = piece * Q::SIZE;
+        let end = look_at_piece::<K, V, H, Q>(
+            &bytes[at..at + Q::SIZE],
+            start + at,
+            entries,
+            key,
+            tag,
+        );
+        if end.is_some() {
+            return end;
+        }
+    }
+    None
+}
+
+// Looks at the slots from `start` on, counted on around the end, whose control bytes are these.
+#[inline]
+fn look_at_piece<K: ByteArray, V: ByteArray, H: HashFn, Q: Group>(
+    bytes: &[EntryMetadata],
+    start: usize,
+    entries: &Entries<'_, K, V>,
+    key: &K,
+    tag: u8,
+) -> Option<Search>
+    requires len { length bytes.now ≡ Q.SIZE }
+    requires slots { IsSlotCount entries.now.slots }
+    requires start { start + Q.SIZE ≤ entries.now.slots + 16 }
+    requires tag { tag ≡ H.hash (K.bytes key.now) / 2 ^ 25 }
+    requires small { tag < 128 }
+    requires hashes { H.MIN_LEN ≤ K.LEN }
+    requires key { K.LEN ≤ 255 }
+    requires value { V.LEN ≤ 255 }
+    ensures slot { IfSome result (λ r. MatchSearch r
+        (λ i. (i < entries.now.slots) × (slot_key (format_of K.LEN V.LEN H.hash) entries.now.bytes i ≡ K.bytes key.now))
+        (λ i. (j : ℕ) × (j < Q.SIZE) × (i ≡ (start + j) % entries.now.slots) × IsTrue (counts_as_free (slice_index bytes.now j)))
+        ⊥) }
+    ensures on_placed { (P : Table) (p : ℕ)
+        → StandsAt (format_of K.LEN V.LEN H.hash) P entries.now (K.bytes key.now) p start bytes.now
+        → IsLook (format_of K.LEN V.LEN H.hash) P (K.bytes key.now) p Q.SIZE result }
+{
+    let mask = entries.len() - 1;
+    let mut group = Q::of(bytes, tag);
+    'matches: while let Some(index) = group.next_match() {
+        let slot = (start + index) & mask;
+        if entries.get(slot).key.equals(key) {
+            return Some(Search::Found(slot));
+        }
+    }
+    match group.first_empty() {
+        Some(index) => Some(Search::Free((start + index) & mask)),
+        None => None,
+    }
+}

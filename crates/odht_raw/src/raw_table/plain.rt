@@ -1,0 +1,133 @@
+//! The search slot by slot along the probe order, and find and insert over it: the reference forms.
+ghost use Rattle.std.specs.Prelude.{◌≡◌, ◌+◌, ◌-◌, ◌*◌, ◌%◌, ◌<◌, ◌≤◌, ◌↔◌, ⊤, ℕ, length, slice_index, option_map, IfSome, IfOk, OnErr, IsTrue};
+ghost use Rattle.odht_base.specs.Load.{IsSlotCount};
+ghost use Rattle.odht_base.specs.Format.{format_of};
+ghost use Rattle.odht_base.specs.Probe.{place_slot};
+ghost use Rattle.odht_base.specs.Table.{Pair, Table};
+ghost use Rattle.odht_base.specs.Map.{map_of};
+ghost use Rattle.odht_base.specs.Insert.{place};
+ghost use Rattle.odht_base.specs.Valid.{IsPartsOf};
+ghost use Rattle.odht_base.specs.Shown.{counts_as_free, slot_key, slot_value};
+ghost use Rattle.odht_raw.specs.Answers.{answer, MatchSearch};
+ghost use Rattle.odht_raw.specs.Frame.{IsPartsFramed};
+
+use super::writes::insert_at;
+use super::{Entries, EntryMetadata, Search, tag_of};
+use crate::bytes::ByteArray;
+use crate::error::Error;
+use crate::hash::HashFn;
+use crate::swisstable_group_query::REFERENCE_GROUP_SIZE;
+
+/// The value beside the key, looked for slot by slot along the probe order.
+///
+/// On the parts of a table whose keys are all reached it is the map's answer, and on any parts a value that is stored
+/// beside this very key. At most each slot is looked at once.
+pub fn plain_find<K: ByteArray, V: ByteArray, H: HashFn>(
+    control: &[EntryMetadata],
+    entries: &Entries<'_, K, V>,
+    key: &K,
+) -> Option<V>
+    requires slots { IsSlotCount entries.now.slots }
+    requires control { length control.now ≡ entries.now.slots + 16 }
+    requires hashes { H.MIN_LEN ≤ K.LEN }
+    requires key { K.LEN ≤ 255 }
+    requires value { V.LEN ≤ 255 }
+    ensures on_placed { (P : Table)
+        → IsPartsOf (format_of K.LEN V.LEN H.hash) P entries.now.bytes control.now
+        → result ≡ option_map V.of_bytes (map_of P (K.bytes key.now)) }
+    ensures on_any { let F = format_of K.LEN V.LEN H.hash
+        in IfSome result (λ v. (i : ℕ) × (i < entries.now.slots) × (slot_key F entries.now.bytes i ≡ K.bytes key.now) × (v ≡ V.of_bytes (slot_value F entries.now.bytes i))) }
+{
+    let hash = H::hash(key.as_slice());
+    match plain_search::<K, V, H>(control, entries, key, hash) {
+        Search::Found(slot) => Some(entries.get(slot).value),
+        Search::Free(_) => None,
+        Search::Neither => None,
+    }
+}
+
+/// Overwrites the value beside the key, or writes the pair into the first free slot of the key's probe order: entry,
+/// tag, and for a slot below 16 the mirror. Answers the former value.
+///
+/// On the parts of a table whose keys are all reached it leaves those of the table with the pair placed, and answers
+/// `Full`, with nothing changed, exactly where there is no place. On any parts one value beside an equal key changes, or
+/// one entry is written with its tag into a slot that counted as free, and nothing else.
+pub fn plain_insert<K: ByteArray, V: ByteArray, H: HashFn>(
+    control: &mut [EntryMetadata],
+    entries: &mut [u8],
+    key: K,
+    value: V,
+) -> Result<Option<V>, Error>
+    requires slots { IsSlotCount (length control.old - 16) }
+    requires entries { length entries.old ≡ (length control.old - 16) * (K.LEN + V.LEN) }
+    requires hashes { H.MIN_LEN ≤ K.LEN }
+    requires key { K.LEN ≤ 255 }
+    requires value { V.LEN ≤ 255 }
+    ensures ok { let F = format_of K.LEN V.LEN H.hash
+        in (P : Table)
+        → IsPartsOf F P entries.old control.old
+        → IfOk result (λ old. (old ≡ option_map V.of_bytes (map_of P (K.bytes key))) × ((Q : Table) × (place F P (record { key = K.bytes key; value = V.bytes value }) ≡ Some Q) × IsPartsOf F Q entries.new control.new)) }
+    ensures full { let F = format_of K.LEN V.LEN H.hash
+        in (P : Table)
+        → IsPartsOf F P entries.old control.old
+        → (result ≡ Err Error.Full) ↔ (place F P (record { key = K.bytes key; value = V.bytes value }) ≡ None) }
+    ensures frame { IsPartsFramed (format_of K.LEN V.LEN H.hash) V.of_bytes entries.old control.old (record { key = K.bytes key; value = V.bytes value }) result entries.new control.new }
+    ensures only_full { OnErr result (result ≡ Err Error.Full) }
+    ensures refused_control { OnErr result (control.new ≡ control.old) }
+    ensures refused_entries { OnErr result (entries.new ≡ entries.old) }
+{
+    let slots = control.len() - REFERENCE_GROUP_SIZE;
+    let hash = H::hash(key.as_slice());
+    let shown: Entries<'_, K, V> = Entries::new(entries, slots);
+    let end = plain_search::<K, V, H>(control, &shown, &key, hash);
+    insert_at::<K, V, H>(control, entries, key, value, tag_of(hash), end)
+}
+
+// Looks for the key with this hash slot by slot along its probe order, and stops at the first slot that is free or holds
+// it.
+#[inline]
+fn plain_search<K: ByteArray, V: ByteArray, H: HashFn>(
+    control: &[EntryMetadata],
+    entries: &Entries<'_, K, V>,
+    key: &K,
+    hash: u32,
+) -> Search
+    requires slots { IsSlotCount entries.now.slots }
+    requires control { length control.now ≡ entries.now.slots + 16 }
+    requires hash { hash ≡ H.hash (K.bytes key.now) }
+    requires hashes { H.MIN_LEN ≤ K.LEN }
+    requires key { K.LEN ≤ 255 }
+    requires value { V.LEN ≤ 255 }
+    ensures slot { MatchSearch result
+        (λ i. (i < entries.now.slots) × (slot_key (format_of K.LEN V.LEN H.hash) entries.now.bytes i ≡ K.bytes key.now))
+        (λ i. (i < entries.now.slots) × IsTrue (counts_as_free (slice_index control.now i)))
+        ⊤ }
+    ensures on_placed { (P : Table)
+        → IsPartsOf (format_of K.LEN V.LEN H.hash) P entries.now.bytes control.now
+        → result ≡ answer (format_of K.LEN V.LEN H.hash) P.cells (K.bytes key.now) }
+{
+    let slots = entries.len();
+    for place in 0..slots {
+        let slot = slot_at(hash, slots, place);
+        if control[slot] >= 128 {
+            return Search::Free(slot);
+        }
+        if entries.get(slot).key.equals(key) {
+            return Search::Found(slot);
+        }
+    }
+    Search::Neither
+}
+
+// The slot at a place of the probe order of a hash.
+#[inline]
+fn slot_at(hash: u32, slots: usize, place: usize) -> usize
+    requires slots { IsSlotCount slots }
+    requires place { place < slots }
+    ensures value { result ≡ place_slot (hash % slots) slots place }
+    ensures below { result < slots }
+{
+    let group = (place / REFERENCE_GROUP_SIZE) as u128;
+    let from_home = 8 * group * (group + 1) + (place % REFERENCE_GROUP_SIZE) as u128;
+    ((hash as u128 + from_home) & (slots as u128 - 1)) as usize
+}

@@ -1,0 +1,113 @@
+//! The sequence in which the slots of a table are looked at, a group at a time.
+ghost use Rattle.std.specs.Prelude.{◌≡◌, ◌+◌, ◌%◌, ◌<◌, ◌↔◌, IfOk, OnErr, IsPermutation, IsTrue};
+ghost use Rattle.std.specs.List.{range_with_len};
+ghost use Rattle.odht_base.specs.Load.{IsSlotCount};
+ghost use Rattle.odht_base.specs.Probe.{place_slot, order};
+
+use crate::error::Error;
+use crate::swisstable_group_query::REFERENCE_GROUP_SIZE;
+use std::alloc::Global;
+use std::marker::Model;
+
+/// A place of the probe order of a table, from which the next `GROUP_SIZE` slots are looked at. The order is that of
+/// docs/FORMAT.md, "Probe order".
+///
+/// Whatever `GROUP_SIZE` is, the slots come in the same order: that of groups of sixteen. So a table that is written with
+/// one group search is read with any other. A contract speaks of the home slot, the mask and the place.
+#[derive(Drop)]
+pub struct ProbeSeq<const GROUP_SIZE: usize> {
+    home: usize,
+    mask: usize,
+    place: usize,
+    index: usize,
+    base: usize,
+    chunk_index: usize,
+    stride: usize,
+}
+
+impl<const GROUP_SIZE: usize> Model for ProbeSeq<GROUP_SIZE> {
+    ghost use Rattle.odht_raw.specs.ProbeSeqs.{ProbePlace, IsProbe};
+
+    ghost Value = { ProbePlace };
+
+    ghost view = { λ q. record { home = q.home; mask = q.mask; place = q.place } };
+
+    ghost invariant = { λ q. IsProbe GROUP_SIZE q.home q.mask q.place q.index q.base q.chunk_index q.stride };
+}
+
+impl<const GROUP_SIZE: usize> ProbeSeq<GROUP_SIZE> {
+    /// The first place of the order of a hash among `mask + 1` slots.
+    #[inline]
+    pub fn new(h1: usize, mask: usize) -> Self
+        requires slots { IsSlotCount (mask + 1) }
+        requires divides { 16 % GROUP_SIZE ≡ 0 }
+        ensures { result ≡ record { home = h1 % (mask + 1); mask = mask; place = 0 } }
+    {
+        let initial_index = h1 & mask;
+        ProbeSeq {
+            home: initial_index,
+            mask,
+            place: 0,
+            index: initial_index,
+            base: initial_index,
+            chunk_index: 0,
+            stride: 0,
+        }
+    }
+
+    /// Goes on by `GROUP_SIZE` places.
+    #[inline]
+    pub fn advance(&mut self, mask: usize)
+        requires mask { mask ≡ self.old.mask }
+        requires within { self.old.place + GROUP_SIZE < mask + 1 }
+        ensures { self.new ≡ record { home = self.old.home; mask = self.old.mask; place = self.old.place + GROUP_SIZE } }
+    {
+        self.chunk_index += GROUP_SIZE;
+        if self.chunk_index == REFERENCE_GROUP_SIZE {
+            self.chunk_index = 0;
+            self.stride += REFERENCE_GROUP_SIZE;
+            self.base = (self.base + self.stride) & mask;
+        }
+        self.index = (self.base + self.chunk_index) & mask;
+        self.place += GROUP_SIZE;
+    }
+
+    /// The slot at the place.
+    #[inline]
+    pub fn index(&self) -> usize
+        ensures slot { result ≡ place_slot self.now.home (self.now.mask + 1) self.now.place }
+        ensures below { result < self.now.mask + 1 }
+    {
+        self.index
+    }
+
+    /// Whether no place comes after the `GROUP_SIZE` ones from here on.
+    #[inline]
+    pub fn is_last(&self) -> bool
+        ensures { IsTrue result ↔ (self.now.mask < self.now.place + GROUP_SIZE) }
+    {
+        self.mask - self.place < GROUP_SIZE
+    }
+}
+
+/// The slots of a table in the probe order of a home slot, as docs/FORMAT.md, "Probe order", tells it: each exactly once.
+///
+/// `Memory` where the list was refused its memory, and no other refusal. One pass over the slots.
+pub fn probe_order(alloc: Global, start: usize, slots: usize) -> Result<Vec<usize>, Error>
+    requires slots { IsSlotCount slots }
+    requires start { start < slots }
+    ensures order { IfOk result (λ list. list.items ≡ order start slots) }
+    ensures once { IfOk result (λ list. IsPermutation list.items (range_with_len 0 slots)) }
+    ensures memory { OnErr result (result ≡ Err Error.Memory) }
+{
+    let mut list = Vec::with_capacity(alloc, slots)?;
+    let mask = slots - 1;
+    let mut probe = ProbeSeq::<1>::new(start, mask);
+    for place in 0..slots {
+        list.push_reserved(probe.index());
+        if place + 1 < slots {
+            probe.advance(mask);
+        }
+    }
+    Ok(list)
+}

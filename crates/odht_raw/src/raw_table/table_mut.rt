@@ -1,0 +1,141 @@
+//! The parts of a table which can be written.
+ghost use Rattle.std.specs.Prelude.{◌≡◌, ◌-◌, ◌*◌, ◌+◌, ◌≤◌, ◌↔◌, length, option_map, IfOk, OnErr};
+ghost use Rattle.odht_base.specs.Load.{IsSlotCount};
+ghost use Rattle.odht_base.specs.Format.{format_of};
+ghost use Rattle.odht_base.specs.Table.{Pair, Table};
+ghost use Rattle.odht_base.specs.Map.{map_of};
+ghost use Rattle.odht_base.specs.Insert.{place};
+ghost use Rattle.odht_base.specs.Valid.{IsPartsOf, IsFullWithout};
+ghost use Rattle.odht_raw.specs.Frame.{IsPartsFramed};
+
+use super::writes::insert_at;
+use super::{Entries, EntryMetadata, RawTable, Scan, search_hashed, tag_of};
+use crate::bytes::ByteArray;
+use crate::error::Error;
+use crate::hash::HashFn;
+use crate::swisstable_group_query::{GroupQuery, REFERENCE_GROUP_SIZE};
+use std::fmt;
+use std::marker::PhantomData;
+
+/// The parts of a table which can be written: the control bytes with their mirror, and the bytes of as many entries.
+///
+/// Both slices are borrowed. Once this is dropped they hold what its inserts left.
+#[derive(Drop)]
+pub struct RawTableMut<'c, 'e, K: ByteArray, V: ByteArray, H: HashFn> {
+    control: &'c mut [EntryMetadata],
+    entries: &'e mut [u8],
+    types: PhantomData<(K, V, H)>,
+    ghost slots: { IsSlotCount (length control.now - 16) },
+    ghost long: { length entries.now ≡ (length control.now - 16) * (K.LEN + V.LEN) },
+    ghost hashes: { H.MIN_LEN ≤ K.LEN },
+    ghost key_short: { K.LEN ≤ 255 },
+    ghost value_short: { V.LEN ≤ 255 },
+}
+
+impl<'c, 'e, K: ByteArray, V: ByteArray, H: HashFn> RawTableMut<'c, 'e, K, V, H> {
+    ghost use Rattle.odht_raw.specs.LentParts.{mut_control, mut_entries, control_loan, entries_loan};
+
+    /// The table of these parts, of which nothing is looked at or written.
+    #[inline]
+    pub fn new(control: &'c mut [EntryMetadata], entries: &'e mut [u8]) -> Self
+        requires slots { IsSlotCount (length control.old - 16) }
+        requires entries { length entries.old ≡ (length control.old - 16) * (K.LEN + V.LEN) }
+        requires hashes { H.MIN_LEN ≤ K.LEN }
+        requires key { K.LEN ≤ 255 }
+        requires value { V.LEN ≤ 255 }
+        ensures control { mut_control result ≡ control.old }
+        ensures entries { mut_entries result ≡ entries.old }
+        ensures control_loan { control_loan result ≡ control.entry.ghost_name }
+        ensures entries_loan { entries_loan result ≡ entries.entry.ghost_name }
+    {
+        RawTableMut {
+            control,
+            entries,
+            types: PhantomData,
+        }
+    }
+
+    /// Overwrites the value beside the key, or writes the pair into the first free slot of the key's probe order, as
+    /// `plain_insert` does. Answers the former value.
+    ///
+    /// On the parts of a table whose keys are all reached it leaves those of the table with the pair placed, and answers
+    /// `Full`, with nothing changed, exactly where there is no place: where each slot is filled, and none with the key. On
+    /// any parts one value beside an equal key changes, or one entry is written with its tag into a slot that counted as
+    /// free, and nothing else. At most each group is looked at once.
+    #[inline(always)]
+    pub fn insert(&mut self, key: K, value: V) -> Result<Option<V>, Error>
+        ensures ok { let F = format_of K.LEN V.LEN H.hash
+            in (P : Table)
+            → IsPartsOf F P (mut_entries self.old) (mut_control self.old)
+            → IfOk result (λ old. (old ≡ option_map V.of_bytes (map_of P (K.bytes key))) × ((Q : Table) × (place F P (record { key = K.bytes key; value = V.bytes value }) ≡ Some Q) × IsPartsOf F Q (mut_entries self.new) (mut_control self.new))) }
+        ensures full { let F = format_of K.LEN V.LEN H.hash
+            in (P : Table)
+            → IsPartsOf F P (mut_entries self.old) (mut_control self.old)
+            → (result ≡ Err Error.Full) ↔ (place F P (record { key = K.bytes key; value = V.bytes value }) ≡ None) }
+        ensures no_room { (P : Table)
+            → IsPartsOf (format_of K.LEN V.LEN H.hash) P (mut_entries self.old) (mut_control self.old)
+            → (result ≡ Err Error.Full) ↔ IsFullWithout P (K.bytes key) }
+        ensures frame { IsPartsFramed (format_of K.LEN V.LEN H.hash) V.of_bytes (mut_entries self.old) (mut_control self.old) (record { key = K.bytes key; value = V.bytes value }) result (mut_entries self.new) (mut_control self.new) }
+        ensures only_full { OnErr result (result ≡ Err Error.Full) }
+        ensures refused_control { OnErr result (mut_control self.new ≡ mut_control self.old) }
+        ensures refused_entries { OnErr result (mut_entries self.new ≡ mut_entries self.old) }
+        ensures control_loan { control_loan self.new ≡ control_loan self.old }
+        ensures entries_loan { entries_loan self.new ≡ entries_loan self.old }
+    {
+        insert_parts::<K, V, H>(self.control, self.entries, key, value)
+    }
+}
+
+// `insert` on the slices themselves, since no scan of a slice that `self` lends can stand while `self` is written.
+#[inline(always)]
+fn insert_parts<K: ByteArray, V: ByteArray, H: HashFn>(
+    control: &mut [EntryMetadata],
+    entries: &mut [u8],
+    key: K,
+    value: V,
+) -> Result<Option<V>, Error>
+    requires slots { IsSlotCount (length control.old - 16) }
+    requires entries { length entries.old ≡ (length control.old - 16) * (K.LEN + V.LEN) }
+    requires hashes { H.MIN_LEN ≤ K.LEN }
+    requires key { K.LEN ≤ 255 }
+    requires value { V.LEN ≤ 255 }
+    ensures ok { let F = format_of K.LEN V.LEN H.hash
+        in (P : Table)
+        → IsPartsOf F P entries.old control.old
+        → IfOk result (λ old. (old ≡ option_map V.of_bytes (map_of P (K.bytes key))) × ((Q : Table) × (place F P (record { key = K.bytes key; value = V.bytes value }) ≡ Some Q) × IsPartsOf F Q entries.new control.new)) }
+    ensures full { let F = format_of K.LEN V.LEN H.hash
+        in (P : Table)
+        → IsPartsOf F P entries.old control.old
+        → (result ≡ Err Error.Full) ↔ (place F P (record { key = K.bytes key; value = V.bytes value }) ≡ None) }
+    ensures no_room { (P : Table)
+        → IsPartsOf (format_of K.LEN V.LEN H.hash) P entries.old control.old
+        → (result ≡ Err Error.Full) ↔ IsFullWithout P (K.bytes key) }
+    ensures frame { IsPartsFramed (format_of K.LEN V.LEN H.hash) V.of_bytes entries.old control.old (record { key = K.bytes key; value = V.bytes value }) result entries.new control.new }
+    ensures only_full { OnErr result (result ≡ Err Error.Full) }
+    ensures refused_control { OnErr result (control.new ≡ control.old) }
+    ensures refused_entries { OnErr result (entries.new ≡ entries.old) }
+{
+    let slots = control.len() - REFERENCE_GROUP_SIZE;
+    let hash = H::hash(key.as_slice());
+    let shown: Entries<'_, K, V> = Entries::new(entries, slots);
+    let mut scan = Scan::new(control, slots);
+    let end = search_hashed::<K, V, H, GroupQuery>(&mut scan, &shown, &key, hash);
+    insert_at::<K, V, H>(control, entries, key, value, tag_of(hash), end)
+}
+
+impl<'c, 'e, K: ByteArray, V: ByteArray, H: HashFn> fmt::Debug for RawTableMut<'c, 'e, K, V, H> {
+    ghost use Rattle.std.specs.Prelude.{◌-◌, length};
+    ghost use Rattle.odht_raw.specs.Parts.{entry_format};
+    ghost use Rattle.odht_raw.specs.Dumps.{dump_text};
+    ghost use Rattle.odht_raw.specs.LentParts.{mut_control, mut_entries};
+
+    ghost debug_output = { λ t. dump_text (entry_format K.LEN V.LEN) (λ b. K.debug_output (K.of_bytes b)) (λ b. V.debug_output (V.of_bytes b)) H.hash_name (record { control = mut_control t; entries = record { slots = length (mut_control t) - 16; bytes = mut_entries t } }) };
+
+    // The same as the table that only reads these parts.
+    fn fmt<W: fmt::Write>(&self, f: &mut fmt::Formatter<W>) -> fmt::Result {
+        let slots = self.control.len() - REFERENCE_GROUP_SIZE;
+        let entries = Entries::new(self.entries, slots);
+        let table: RawTable<'_, K, V, H> = RawTable::new(self.control, entries);
+        write!(f, "{table:?}")
+    }
+}

@@ -1,0 +1,100 @@
+//! The writes of an insert on the parts of a table.
+ghost use Rattle.std.specs.Prelude.{◌≡◌, ◌+◌, ◌-◌, ◌*◌, ◌/◌, ◌^◌, ◌<◌, ◌≤◌, ◌↔◌, ◌++◌, ⊤, length, option_map, IfOk, OnErr};
+ghost use Rattle.odht_base.specs.Bytes.{overwritten_at};
+ghost use Rattle.odht_base.specs.Load.{IsSlotCount};
+ghost use Rattle.odht_base.specs.Format.{format_of};
+ghost use Rattle.odht_base.specs.Table.{Pair, Table};
+ghost use Rattle.odht_base.specs.Map.{map_of};
+ghost use Rattle.odht_base.specs.Insert.{place};
+ghost use Rattle.odht_base.specs.Valid.{IsPartsOf};
+ghost use Rattle.odht_base.specs.Shown.{slot_key};
+ghost use Rattle.odht_base.specs.Writes.{tagged};
+ghost use Rattle.odht_raw.specs.Answers.{answer, MatchSearch};
+ghost use Rattle.odht_raw.specs.Frame.{CountsAsFree, IsPartsFramed};
+
+use super::{Entries, EntryMetadata, Search};
+use crate::bytes::{ByteArray, write_slice};
+use crate::error::Error;
+use crate::hash::HashFn;
+use crate::swisstable_group_query::REFERENCE_GROUP_SIZE;
+
+/// Writes a pair where the search for its key ended: the value alone into the slot that holds the key, or the entry with
+/// its tag into the free slot. Answers the former value, and `Full`, with nothing changed, where the search met neither.
+#[inline(always)]
+pub(crate) fn insert_at<K: ByteArray, V: ByteArray, H: HashFn>(
+    control: &mut [EntryMetadata],
+    entries: &mut [u8],
+    key: K,
+    value: V,
+    tag: u8,
+    end: Search,
+) -> Result<Option<V>, Error>
+    requires slots { IsSlotCount (length control.old - 16) }
+    requires entries { length entries.old ≡ (length control.old - 16) * (K.LEN + V.LEN) }
+    requires hashes { H.MIN_LEN ≤ K.LEN }
+    requires key { K.LEN ≤ 255 }
+    requires value { V.LEN ≤ 255 }
+    requires tag { tag ≡ H.hash (K.bytes key) / 2 ^ 25 }
+    requires end { MatchSearch end
+        (λ i. (i < length control.old - 16) × (slot_key (format_of K.LEN V.LEN H.hash) entries.old i ≡ K.bytes key))
+        (λ i. (i < length control.old - 16) × CountsAsFree control.old i)
+        ⊤ }
+    ensures ok { let F = format_of K.LEN V.LEN H.hash
+        in (P : Table)
+        → IsPartsOf F P entries.old control.old
+        → end ≡ answer F P.cells (K.bytes key)
+        → IfOk result (λ old. (old ≡ option_map V.of_bytes (map_of P (K.bytes key))) × ((Q : Table) × (place F P (record { key = K.bytes key; value = V.bytes value }) ≡ Some Q) × IsPartsOf F Q entries.new control.new)) }
+    ensures full { let F = format_of K.LEN V.LEN H.hash
+        in (P : Table)
+        → IsPartsOf F P entries.old control.old
+        → end ≡ answer F P.cells (K.bytes key)
+        → (result ≡ Err Error.Full) ↔ (place F P (record { key = K.bytes key; value = V.bytes value }) ≡ None) }
+    ensures frame { IsPartsFramed (format_of K.LEN V.LEN H.hash) V.of_bytes entries.old control.old (record { key = K.bytes key; value = V.bytes value }) result entries.new control.new }
+    ensures only_full { OnErr result (result ≡ Err Error.Full) }
+    ensures refused_control { OnErr result (control.new ≡ control.old) }
+    ensures refused_entries { OnErr result (entries.new ≡ entries.old) }
+{
+    let slots = control.len() - REFERENCE_GROUP_SIZE;
+    let shown: Entries<'_, K, V> = Entries::new(entries, slots);
+    match end {
+        Search::Found(slot) => {
+            let old = shown.get(slot).value;
+            write_slice(entries, slot * (K::LEN + V::LEN) + K::LEN, value.as_slice());
+            Ok(Some(old))
+        }
+        Search::Free(slot) => {
+            write_pair(
+                entries,
+                slot * (K::LEN + V::LEN),
+                key.as_slice(),
+                value.as_slice(),
+            );
+            write_tag(control, slot, tag);
+            Ok(None)
+        }
+        Search::Neither => Err(Error::Full),
+    }
+}
+
+// Writes the key from the byte `at` on, and the value behind it.
+#[inline(always)]
+fn write_pair(entries: &mut [u8], at: usize, key: &[u8], value: &[u8])
+    requires { at + length key.now + length value.now ≤ length entries.old }
+    ensures { entries.new ≡ overwritten_at entries.old at (key.now ++ value.now) }
+{
+    write_slice(entries, at, key);
+    write_slice(entries, at + key.len(), value);
+}
+
+// Writes the tag into the control byte of a slot, and for a slot below 16 into the mirror.
+#[inline]
+fn write_tag(control: &mut [EntryMetadata], slot: usize, tag: u8)
+    requires { slot + 16 < length control.old }
+    ensures { control.new ≡ tagged control.old slot tag }
+{
+    control[slot] = tag;
+    if slot < REFERENCE_GROUP_SIZE {
+        let mirror = control.len() - REFERENCE_GROUP_SIZE + slot;
+        control[mirror] = tag;
+    }
+}
