@@ -2,22 +2,21 @@
 # make examples: both examples, compared with what they must print
 # make bench: the table of speeds; QUICK=1 for a short run, ODHT_RUST=folder for the Rust crate beside it
 SCRIPT ?= crates/odht_table/stdin
+# lowest first
+LIBRARIES = odht_base odht_raw odht
 LIBRARY ?= crates/odht_c/out/libodht_c.a
 QUICK ?=
 ODHT_RUST ?=
 .PHONY: run test examples bench
 run:
-	@cd crates/odht_base && rt lib >&2
-	@cd crates/odht && rt lib >&2
+	@for crate in $(LIBRARIES); do (cd crates/$$crate && rt lib >&2) || exit 1; done
 	@cd crates/odht_table && rt run < $(abspath $(SCRIPT))
 
 test:
 	rt ci
 
 crates/odht_c/out/libodht_c.a:
-	@cd crates/odht_base && rt lib >&2
-	@cd crates/odht && rt lib >&2
-	@cd crates/odht_c && rt lib >&2
+	@for crate in $(LIBRARIES) odht_c; do (cd crates/$$crate && rt lib >&2) || exit 1; done
 
 # the kit's folder is asked for only where something is linked
 KIT = $(dir $(shell rt doc))

@@ -8,7 +8,7 @@
 --     stated_count B, stated_slots B, stated_factor B      the header's numbers
 --     entries_of F B, controls_of F B                      the two parts
 --     control_at F B i     control byte i; the mirror is control bytes s to s + 15
---     entry_at F B i       the entry of slot i, key_at and value_at its two ends
+--     key_at F B i, value_at F B i    the two ends of the entry of slot i
 --     shown F B            the table of the cells that the parts show
 --     seen F B             the pairs of that table: the entries whose own control byte is below 128, in slot order
 --     HoldsKey F B k       some slot's entry has the key k, whatever its control byte
@@ -57,9 +57,6 @@ controls_of F B = drop (32 + stated_slots B * entry_len F) B
 
 abbrev pub control_at : Format → List ℕ → ℕ → ℕ
 control_at F B i = slice_index (controls_of F B) i
-
-abbrev pub entry_at : Format → List ℕ → ℕ → List ℕ
-entry_at F B i = slot_entry F (entries_of F B) i
 
 abbrev pub key_at : Format → List ℕ → ℕ → List ℕ
 key_at F B i = slot_key F (entries_of F B) i

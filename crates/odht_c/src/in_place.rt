@@ -1,7 +1,7 @@
 //! Tables in bytes that a caller lends: what is written stands in these very bytes.
 ghost use Rattle.std.specs.Prelude.{◌≡◌, ◌-◌, ◌*◌, ◌+◌, ◌≤◌, ◌↔◌, length, option_map, IfOk, OnErr};
 ghost use Rattle.odht_base.specs.Load.{IsSlotCount, max_items};
-ghost use Rattle.odht_base.specs.Image.{header_bytes, image, image_len};
+ghost use Rattle.odht_base.specs.Image.{image, image_len};
 ghost use Rattle.odht_base.specs.Table.{Pair, Table, count, slot_count, empty};
 ghost use Rattle.odht_base.specs.Format.{format_of};
 ghost use Rattle.odht_base.specs.Map.{map_of};
@@ -15,7 +15,7 @@ use odht::config::{Coded, Config};
 use odht::error::Error;
 use odht::hash::HashFn;
 use odht::load::{Factor, max_item_count_for};
-use odht::memory_layout::Header;
+use odht::memory_layout::{self, Header};
 use odht::raw_table::RawTableMut;
 
 const HEADER_SIZE: usize = 32;
@@ -30,32 +30,9 @@ pub(crate) fn init<C: Config>(bytes: &mut [u8], slot_count: usize, max_load_fact
     let (entries, control) = parts.split_at_mut(
         slot_count * (C::EncodedKey::LEN + C::EncodedValue::LEN),
     );
-    write_header::<C>(header, slot_count, max_load_factor);
+    memory_layout::write_header::<C>(header, slot_count, 0, max_load_factor);
     entries.fill(0);
     control.fill(255);
-}
-
-// Writes the header of the empty table.
-fn write_header<C: Config>(header: &mut [u8], slot_count: usize, max_load_factor: Factor)
-    requires { length header.old ≡ 32 }
-    ensures { header.new ≡ header_bytes ⟦<C as Coded>⟧.coding.format slot_count 0 max_load_factor.0 }
-{
-    let sizes = [
-        b'O',
-        b'D',
-        b'H',
-        b'T',
-        1,
-        C::EncodedKey::LEN as u8,
-        C::EncodedValue::LEN as u8,
-        HEADER_SIZE as u8,
-    ];
-    write_slice(header, 0, &sizes);
-    write_slice(header, 8, &0u64.to_le_bytes());
-    write_slice(header, 16, &(slot_count as u64).to_le_bytes());
-    write_slice(header, 24, &[0, 0, 0, 2]);
-    write_slice(header, 28, &max_load_factor.0.to_le_bytes());
-    write_slice(header, 30, &[0, 0]);
 }
 
 /// Gives the key this value in the bytes of a table, as `HashTable::insert` does, and answers its former one.

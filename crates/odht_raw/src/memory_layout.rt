@@ -16,7 +16,7 @@ ghost use Rattle.std.specs.Result.{result_err};
 ghost use Rattle.odht_raw.specs.Frame.{IsAccepted};
 ghost use Rattle.odht_raw.specs.Refusals.{checked, tag_refusal, version_refusal, wrong_size, power_refusal, few_slots_refusal, length_refusal, header_refusal, view_refusal};
 
-use crate::bytes::{ByteArray, ByteStore, ByteStoreMut, OwnedBytes, read_u64};
+use crate::bytes::{ByteArray, ByteStore, ByteStoreMut, OwnedBytes, read_u64, write_slice};
 use crate::config::{Coded, Config};
 use crate::error::{Error, Part};
 use crate::load::Factor;
@@ -249,7 +249,9 @@ fn init_zeroed<C: Config, M: ByteStoreMut>(
 {
     let len = data.bytes().len();
     let control = len - (slot_count + REFERENCE_GROUP_SIZE);
-    write_header::<C, M>(&mut data, slot_count, item_count, max_load_factor);
+    let mut header = [0; HEADER_SIZE];
+    write_header::<C>(&mut header, slot_count, item_count, max_load_factor);
+    data.write_at(0, &header);
     fill(&mut data, control, len, 255);
     Allocation {
         store: data,
@@ -278,17 +280,15 @@ pub fn allocate<C: Config>(
     Ok(init_zeroed(bytes, slot_count, item_count, max_load_factor))
 }
 
-// Writes the header.
-fn write_header<C: Config, M: ByteStoreMut>(
-    data: &mut M,
+/// Writes the header of a table of `slot_count` slots that states `item_count` items.
+pub fn write_header<C: Config>(
+    header: &mut [u8],
     slot_count: usize,
     item_count: usize,
     max_load_factor: Factor,
 )
-    requires { 32 ≤ length (M.bytes «data».old) }
-    ensures front { take 32 (M.bytes «data».new) ≡ header_bytes ⟦<C as Coded>⟧.coding.format slot_count item_count max_load_factor.0 }
-    ensures rest { drop 32 (M.bytes «data».new) ≡ drop 32 (M.bytes «data».old) }
-    ensures len { length (M.bytes «data».new) ≡ length (M.bytes «data».old) }
+    requires { length header.old ≡ 32 }
+    ensures { header.new ≡ header_bytes ⟦<C as Coded>⟧.coding.format slot_count item_count max_load_factor.0 }
 {
     let sizes = [
         b'O',
@@ -300,12 +300,12 @@ fn write_header<C: Config, M: ByteStoreMut>(
         C::EncodedValue::LEN as u8,
         HEADER_SIZE as u8,
     ];
-    data.write_at(0, &sizes);
-    data.write_at(8, &(item_count as u64).to_le_bytes());
-    data.write_at(16, &(slot_count as u64).to_le_bytes());
-    data.write_at(24, &[0, 0, 0, 2]);
-    data.write_at(28, &max_load_factor.0.to_le_bytes());
-    data.write_at(30, &[0, 0]);
+    write_slice(header, 0, &sizes);
+    write_slice(header, 8, &(item_count as u64).to_le_bytes());
+    write_slice(header, 16, &(slot_count as u64).to_le_bytes());
+    write_slice(header, 24, &[0, 0, 0, 2]);
+    write_slice(header, 28, &max_load_factor.0.to_le_bytes());
+    write_slice(header, 30, &[0, 0]);
 }
 
 // Writes one byte again and again, from `from` up to `to`.

@@ -31,10 +31,6 @@ module _ (F : Format) where
   put_view-PlacesBelow P p ok l = put_view-below F P p ok l
 
 module _ (F : Format) (put : Table → Pair → Option Table) (places : PlacesBelow F put) where
-  -- below the maximum none is refused
-  pub put-fits : (P : Table) (p : Pair) → IsValid F P → count P < max_items (slot_count P) P.factor → (Q : Table) × (put P p ≡ Some Q)
-  put-fits P p ok l = let q = place-IsValid_fits F P p ok in (q.0, places P p ok l ∙ q.1)
-
   -- where the table has room for the pairs, the inserts place them in its slots
   pub run-place_all : (P : Table) (ps : List Pair) → IsValid F P → All (IsPairOf F) ps → count P + length ps ≤ max_items (slot_count P) P.factor → run put P ps ≡ place_all F P ps
   run-place_all P [] ok fit room = refl

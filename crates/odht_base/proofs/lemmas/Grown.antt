@@ -1,6 +1,6 @@
 -- Pairs placed in turn, and the grown table.
-use Rattle.std.proofs.Common.{◌≡◌, ◌<◌, ◌≤◌, ◌+◌, ◌*◌, ◌∙◌, ℕ, Bool, true, false, cond, sym, ap, subst, refl, List, [], ◌∷◌, ◌++◌, Option, Some, None, length, arith, bytes_eq, All, IsPermutation, mul-le-mul_left, append-nil}
-use Rattle.std.specs.Prelude.{max, option_and_then, if◌then◌else◌, ◌↔◌}
+use Rattle.std.proofs.Common.{◌≡◌, ◌<◌, ◌≤◌, ◌+◌, ◌*◌, ◌∙◌, ℕ, Bool, true, false, cond, sym, ap, subst, refl, List, [], ◌∷◌, ◌++◌, Some, None, length, arith, bytes_eq, All, IsPermutation, append-nil}
+use Rattle.std.specs.Prelude.{max, option_and_then, if◌then◌else◌}
 use Rattle.std.specs.Option.{option_or}
 use Rattle.std.proofs.lemmas.Option.{none-some}
 use Rattle.std.proofs.Math.Nat.{le-max_left, le-max_right}
@@ -18,7 +18,7 @@ use Rattle.odht_base.proofs.lemmas.Least.{slots_for-IsLeastSlots}
 use Rattle.odht_base.proofs.lemmas.Options.{and_then_some, some_same, option_or-none_right}
 use Rattle.odht_base.proofs.lemmas.Pairs.{value_in-cons}
 use Rattle.odht_base.proofs.lemmas.Places.{place-IsPlaced, slot_count-place, factor-place, count-place, count-place_le, map_of-place, walk-place}
-use Rattle.odht_base.proofs.lemmas.Rooms.{max_items-holds, place-fits, slot_count-empty, walk-empty, count-empty, map_of-empty, empty-IsPlaced}
+use Rattle.odht_base.proofs.lemmas.Rooms.{max_items-holds, place-fits, slot_count-empty, walk-empty, map_of-empty, empty-IsPlaced}
 use Rattle.odht_base.proofs.lemmas.Runs.{IsInsert, run-keeps, factor-run, map_of-run}
 
 -- `place` is an insert of placed tables
@@ -86,21 +86,11 @@ pub record IsGrown (F : Format) (P Q : Table) : Type 0 where
   pub room : count Q < max_items (slot_count Q) Q.factor
 
 module _ (F : Format) (P : Table) (ok : IsValid F P) (s : ℕ) (least : IsLeastSlots (max 1 (2 * count P)) P.factor s) where
-  -- the grown slots have room for twice the pairs
-  room_for : 2 * count P ≤ s
-  room_for =
-      let h = mul-le-mul_left s ok.factor_high in
-      omega (arith, least.holds, le-max_right 1 (2 * count P))
-
-  -- and for more below its maximum
+  -- the grown slots have room for more below their maximum
   pub room_above : count P < max_items s P.factor
   room_above =
       let h = max_items-holds (max 1 (2 * count P)) s P.factor least.holds in
       omega (arith, le-max_left 1 (2 * count P), le-max_right 1 (2 * count P))
-
-  -- so the pairs are placed in them
-  pub grows : (Q : Table) × (place_all F (empty s P.factor) (walk P) ≡ Some Q)
-  grows = place_all-fits F (empty s P.factor) (walk P) (empty-IsPlaced s P.factor F least.is_count) (walk-IsPairOf F P ok.placed) (omega (arith, room_for, count-empty s P.factor, slot_count-empty s P.factor))
 
   -- and what they give is the grown table
   pub grows-IsGrown : (Q : Table) → place_all F (empty s P.factor) (walk P) ≡ Some Q → IsGrown F P Q
@@ -129,27 +119,9 @@ module _ (F : Format) (P : Table) (ok : IsValid F P) (s : ℕ) (least : IsLeastS
       }
 
 module _ (F : Format) (P : Table) (ok : IsValid F P) where
-  -- a growth answers None exactly where no slot count is large enough
-  pub grown-None : (grown F P ≡ None) ↔ (grown_slots P ≡ None)
-  unfolding grown
-  grown-None = (to (grown_slots P) refl, λ e. ap (option_and_then (λ s. place_all F (empty s P.factor) (walk P))) e)
-    where
-      to : (o : Option ℕ) → grown_slots P ≡ o → option_and_then (λ s. place_all F (empty s P.factor) (walk P)) o ≡ None → o ≡ None
-      to None is e = refl
-      to (Some s) is e = let g = grows F P ok s (slots_for-IsLeastSlots _ _ s is) in absurd (none-some g.0 (sym e ∙ g.1))
-
   -- what a growth answers is valid, of the same pairs, with room
   pub grown-IsGrown : (Q : Table) → grown F P ≡ Some Q → IsGrown F P Q
   unfolding grown
   grown-IsGrown Q e =
       let t = and_then_some (λ s. place_all F (empty s P.factor) (walk P)) (grown_slots P) Q e in
       grows-IsGrown F P ok t.0 (slots_for-IsLeastSlots _ _ t.0 t.1) Q t.2
-
-  -- it has the least slot count for twice the pairs
-  pub slot_count-grown : (Q : Table) → grown F P ≡ Some Q → grown_slots P ≡ Some (slot_count Q)
-  unfolding grown
-  slot_count-grown Q e =
-      let t = and_then_some (λ s. place_all F (empty s P.factor) (walk P)) (grown_slots P) Q e in
-      let least = slots_for-IsLeastSlots _ _ t.0 t.1 in
-      let len = slot_count-place_all F (empty t.0 P.factor) Q (walk P) (empty-IsPlaced t.0 P.factor F least.is_count) (walk-IsPairOf F P ok.placed) t.2 in
-      t.1 ∙ ap Some (sym (len ∙ slot_count-empty t.0 P.factor))

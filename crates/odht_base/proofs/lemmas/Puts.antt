@@ -1,15 +1,15 @@
 -- The inserts of both tables, on valid tables.
-use Rattle.std.proofs.Common.{◌≡◌, ◌<◌, ◌≤◌, ◌+◌, ◌∙◌, ◌⊎◌, inl, inr, ℕ, Bool, true, false, cond, sym, ap, subst, refl, List, Option, Some, None, arith, bytes_eq, eqb-true, eq-eqb, ltb-true, ltb-false, lt-ltb, le-ltb, nat_lt}
+use Rattle.std.proofs.Common.{◌≡◌, ◌<◌, ◌≤◌, ◌+◌, ◌∙◌, ◌⊎◌, inl, inr, ℕ, Bool, true, false, cond, sym, ap, subst, refl, List, Option, Some, None, arith, bytes_eq, eq-eqb, ltb-true, ltb-false, lt-ltb, le-ltb, nat_lt}
 use Rattle.std.specs.Prelude.{is_none, option_and_then, if◌then◌else◌, ◌↔◌}
 use Rattle.std.proofs.lemmas.Bool.{eqb-false, ne_eqb}
 use Rattle.std.proofs.lemmas.Option.{none-some}
 use Rattle.odht_base.specs.Format.{Format}
-use Rattle.odht_base.specs.Insert.{place, grown, grown_slots, is_full, put_owned, put_view}
+use Rattle.odht_base.specs.Insert.{place, grown, is_full, put_owned, put_view}
 use Rattle.odht_base.specs.Load.{max_items}
 use Rattle.odht_base.specs.Map.{map_of}
 use Rattle.odht_base.specs.Table.{Pair, Table, slot_count, count}
 use Rattle.odht_base.specs.Valid.{IsPairOf, IsValid}
-use Rattle.odht_base.proofs.lemmas.Grown.{IsGrown, grown-None, grown-IsGrown}
+use Rattle.odht_base.proofs.lemmas.Grown.{IsGrown, grown-IsGrown}
 use Rattle.odht_base.proofs.lemmas.Options.{and_then_some}
 use Rattle.odht_base.proofs.lemmas.Places.{place-IsPlaced, slot_count-place, factor-place, count-place, count-place_le, map_of-place}
 use Rattle.odht_base.proofs.lemmas.Rooms.{place-IsValid_fits}
@@ -34,11 +34,7 @@ place-IsValid F P Q p ok room fit e =
     }
 
 module _ (F : Format) (P : Table) (ok : IsValid F P) where
-  -- a full table is at its maximum
-  pub is_full-true : is_full P ≡ true → count P ≡ max_items (slot_count P) P.factor
-  is_full-true e = eqb-true (count P) (max_items (slot_count P) P.factor) e
-
-  -- any other below it
+  -- a table that is not full is below its maximum
   pub is_full-false : is_full P ≡ false → count P < max_items (slot_count P) P.factor
   is_full-false e = let ne = eqb-false (count P) (max_items (slot_count P) P.factor) e in omega (arith, ok.room, ne)
 
@@ -134,14 +130,6 @@ module _ (F : Format) (P : Table) (p : Pair) (ok : IsValid F P) where
   never_none : place F P p ≡ None → ⊥
   never_none e = let q = place-IsValid_fits F P p ok in none-some q.0 (sym e ∙ q.1)
 
-  -- an insert after a growth is refused where the growth is
-  growth_none : (option_and_then (λ R. place F R p) (grown F P) ≡ None) ↔ (grown_slots P ≡ None)
-  growth_none = (to (grown F P) refl, λ h. ap (option_and_then (λ R. place F R p)) ((grown-None F P ok).1 h))
-    where
-      to : (o : Option Table) → grown F P ≡ o → option_and_then (λ R. place F R p) o ≡ None → grown_slots P ≡ None
-      to None is e = (grown-None F P ok).0 is
-      to (Some R) is e = let q = place-IsValid_fits F R p (grown-IsGrown F P ok R is).valid in absurd (none-some q.0 (sym e ∙ q.1))
-
   -- the view refuses exactly at the maximum
   pub put_view-None : (put_view F P p ≡ None) ↔ (count P ≡ max_items (slot_count P) P.factor)
   unfolding put_view
@@ -151,17 +139,6 @@ module _ (F : Format) (P : Table) (p : Pair) (ok : IsValid F P) where
       | inr full ↦ let h = ltb-false _ _ full.0 in omega (arith, ok.room)
     ]),
     (λ h. ap (λ b. cond b (place F P p) None) (le-ltb (count P) (max_items (slot_count P) P.factor) (omega arith))),
-  )
-
-  -- the owned table exactly there, where no slot count exists for the growth
-  pub put_owned-None : (put_owned F P p ≡ None) ↔ ((count P ≡ max_items (slot_count P) P.factor) × (grown_slots P ≡ None))
-  unfolding put_owned
-  put_owned-None = (
-    (λ e. elim (cond_cases (is_full P) _ _ _ e) [
-      | inl full ↦ (is_full-true F P ok full.0, growth_none.0 full.1)
-      | inr low ↦ absurd (never_none low.1)
-    ]),
-    (λ h. ap (λ b. cond b (option_and_then (λ R. place F R p) (grown F P)) (place F P p)) (full-is_full F P ok h.0) ∙ growth_none.1 h.1),
   )
 
   -- below the maximum both tables place the pair

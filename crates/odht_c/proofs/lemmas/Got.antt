@@ -31,9 +31,9 @@ pub stored_answer : {EV V : Type 0} (of_bytes : List ℕ → EV) (decode : EV �
     → IfSome (option_map decode o) (λ v. (b : List ℕ) × (v ≡ decode (of_bytes b)) × Stores F B k b)
 stored_answer of_bytes decode F B k k' es s None ee es' ek h = tt
 stored_answer of_bytes decode F B k k' es s (Some v) ee ss ek h = (
-    slot_value F (entries_of F B) h.0,
-    ap decode (h.3 ∙ ap (λ e. of_bytes (slot_value F e h.0)) ee),
-    (h.0, subst (λ n. h.0 < n) ss h.1, ap (λ e. slot_key F e h.0) (sym ee) ∙ h.2 ∙ ek, refl),
+  slot_value F (entries_of F B) h.0,
+  ap decode (h.3 ∙ ap (λ e. of_bytes (slot_value F e h.0)) ee),
+  (h.0, subst (λ n. h.0 < n) ss h.1, ap (λ e. slot_key F e h.0) (sym ee) ∙ h.2 ∙ ek, refl),
 )
 
 -- no other value changes

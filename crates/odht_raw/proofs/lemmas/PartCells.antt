@@ -29,15 +29,7 @@ module _ (F : Format) (f : IsFormat F) (P : Table) (es ctrl : List ℕ) (h : IsP
   pub value_is : (i : ℕ) (p : Pair) → cell_at P.cells i ≡ Some p → slot_value F es i ≡ p.value
   value_is i p g = ap (λ e. slot_value F e i) h.entries_are ∙ slot_value-entries F P.cells i p lengths g
 
-  -- a control byte that counts as free is that of a free cell
-  pub cell_free : (i : ℕ) → i < slot_count P → counts_as_free (slice_index ctrl i) ≡ true → cell_at P.cells i ≡ None
-  cell_free i l e = go (cell_at P.cells i) (sym (byte_is i l) ∙ e)
-    where
-      go : (c : Option Pair) → is_none c ≡ true → c ≡ None
-      go None t = refl
-      go (Some p) t = absurd (true≢false (sym t))
-
-  -- any other that of a cell whose pair stands in the entry
+  -- a control byte that counts as filled is that of a cell whose pair stands in the entry
   pub cell_filled : (i : ℕ) → i < slot_count P → counts_as_free (slice_index ctrl i) ≡ false → cell_at P.cells i ≡ Some (record { key = slot_key F es i; value = slot_value F es i })
   cell_filled i l e = go (cell_at P.cells i) refl (sym (byte_is i l) ∙ e)
     where

@@ -1,10 +1,11 @@
-use Rattle.std.proofs.Common.{◌≡◌, ◌+◌, ◌-◌, ◌∙◌, ap, sym, subst, arith, length, replicate}
+use Rattle.std.proofs.Common.{lit≤, ◌≡◌, ◌≤◌, ◌+◌, ◌-◌, ◌∙◌, ap, sym, subst, refl, arith, length, replicate, [], take, drop}
 use Rattle.odht_base.specs.Bytes.{overwritten_at}
 use Rattle.odht_base.specs.Format.{format_of}
 use Rattle.odht_base.specs.Table.{empty}
-use Rattle.odht_base.specs.Image.{image, image_len}
+use Rattle.odht_base.specs.Image.{header_bytes, image, image_len}
 use Rattle.odht_base.specs.Writes.{with_count}
 use Rattle.odht_raw.specs.Frame.{IsAccepted}
+use Rattle.odht_raw.proofs.lemmas.HeaderWrites.{field-step, field-rest}
 use Rattle.odht_raw.proofs.lemmas.NewTables.{written-zeroed, IsAccepted-new}
 use Rattle.odht_raw.proofs.memory_layout.init_zeroed.Given.{Over}
 use Rattle.odht_raw.proofs.memory_layout.init_zeroed.Goals as goal
@@ -13,22 +14,28 @@ use Rattle.odht_raw.proofs.memory_layout.init_zeroed.Goals as goal
 written : (g : Over) (c : goal.After-fill g) → g.M.ByteStore.bytes c.fill.new.data ≡ with_count (image (format_of g.C.EncodedKey.ByteArray.LEN g.C.EncodedValue.ByteArray.LEN g.C.H.HashFn.hash) (empty c.args.slot_count c.args.max_load_factor.0)) c.args.item_count
 written g c =
     let F = format_of g.C.EncodedKey.ByteArray.LEN g.C.EncodedValue.ByteArray.LEN g.C.H.HashFn.hash in
-    let A = g.M.ByteStore.bytes c.write_header.new.data in
+    let B = g.M.ByteStore.bytes c.args.data in
+    let A = g.M.ByteStore.bytes c.write_at.new.self in
+    let head = header_bytes F c.args.slot_count c.args.item_count c.args.max_load_factor.0 in
+    let header : A ≡ overwritten_at B 0 head = c.write_at.ensures.bytes ∙ ap (overwritten_at B 0) c.write_header.ensures in
+    let low : 32 ≤ length B = omega (arith, c.requires.len) in
+    let front : take 32 A ≡ head = field-step B A [] head 0 32 refl (omega (arith, low)) refl header in
+    let rest : drop 32 A ≡ drop 32 B = field-rest B A head 0 (lit≤ tt) low header in
     let len = length c.bytes-len.result.now in
     let at = len - (c.args.slot_count + 16) in
-    let same : len ≡ length A = ap length c.bytes-len.ensures ∙ sym c.write_header.ensures.len in
-    let long : length A ≡ image_len F c.args.slot_count = c.write_header.ensures.len ∙ c.requires.len in
+    let same : len ≡ length A = ap length c.bytes-len.ensures ∙ sym c.write_at.ensures.len in
+    let long : length A ≡ image_len F c.args.slot_count = c.write_at.ensures.len ∙ c.requires.len in
     let end : at + (c.args.slot_count + 16) ≡ length A = omega (arith, same, long) in
     c.fill.ensures.bytes
     ∙ ap (λ n. overwritten_at A at (replicate (n - at) 255)) same
-    ∙ written-zeroed F c.args.slot_count c.args.item_count c.args.max_load_factor.0 c.requires.slots (g.M.ByteStore.bytes c.args.data) A at c.requires.zeros c.write_header.ensures.rest c.write_header.ensures.front long end
+    ∙ written-zeroed F c.args.slot_count c.args.item_count c.args.max_load_factor.0 c.requires.slots B A at c.requires.zeros rest front long end
 
 pub invariant_of-result : goal.invariant_of-result
 invariant_of-result g c =
     let F = format_of g.C.EncodedKey.ByteArray.LEN g.C.EncodedValue.ByteArray.LEN g.C.H.HashFn.hash in
     let B = g.M.ByteStore.bytes c.fill.new.data in (
       subst (IsAccepted F) (sym (written g c)) (IsAccepted-new F c.args.slot_count c.args.item_count c.args.max_load_factor.0 c.requires.slots),
-      omega (arith, c.fill.ensures.len, c.write_header.ensures.len, c.bytes-len.type_inv.0, ap length c.bytes-len.ensures),
+      omega (arith, c.fill.ensures.len, c.write_at.ensures.len, c.bytes-len.type_inv.0, ap length c.bytes-len.ensures),
     )
 
 pub returns : goal.returns
