@@ -288,9 +288,9 @@ impl<C: Config, D: ByteStoreMut> HashTable<C, D> {
         (items.len(), Ok(()))
     }
 
-    /// `insert` of a pair that is encoded, with the former value as it stood in the bytes.
+    // `insert` of a pair that is encoded, with the former value as it stood in the bytes.
     #[inline(always)]
-    pub(crate) fn insert_encoded(
+    fn insert_encoded(
         &mut self,
         key: &C::EncodedKey,
         value: &C::EncodedValue,

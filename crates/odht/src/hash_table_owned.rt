@@ -1,25 +1,28 @@
 //! The table that owns its bytes, and grows.
-ghost use Rattle.std.specs.Prelude.{◌≡◌, ℕ, List, ◌≤◌, ◌↔◌, ◌⊎◌, length, take, option_map, IfOk, IsOk, IsSome, IsTrue, IsErrOf, OnErr};
-ghost use Rattle.odht_base.specs.Load.{factor_of, max_items, slots_for};
+ghost use Rattle.std.specs.Prelude.{◌≡◌, ℕ, List, ◌++◌, ◌+◌, ◌-◌, ◌*◌, ◌≤◌, ◌↔◌, ◌⊎◌, Some, length, map, replicate, take, option_map, IfOk, IsOk, IsSome, IsTrue, IsErrOf, OnErr};
+ghost use Rattle.odht_base.specs.Load.{IsSlotCount, factor_of, max_items, slots_for};
 ghost use Rattle.odht_base.specs.Table.{Table, walk, count, slot_count, empty, fresh};
 ghost use Rattle.odht_base.specs.Map.{map_of};
 ghost use Rattle.odht_base.specs.Search.{groups_read};
-ghost use Rattle.odht_base.specs.Insert.{grown, put_owned};
-ghost use Rattle.odht_base.specs.Valid.{IsImage, IsValidBytes};
+ghost use Rattle.odht_base.specs.Format.{format_of};
+ghost use Rattle.odht_base.specs.Image.{header_bytes, image_len, parts};
+ghost use Rattle.odht_base.specs.Insert.{grown, place_all, put_owned};
+ghost use Rattle.odht_base.specs.Valid.{IsImage, IsPartsOf, IsValidBytes};
 ghost use Rattle.odht_raw.specs.Coding.{value_for, encoded};
 ghost use Rattle.odht.specs.Lists.{encoded_all, IsFilled, IsFreshFilled};
 ghost use Rattle.odht_raw.specs.Walks.{decoded_all};
 ghost use Rattle.std.specs.Iterator.{Drains, IsFinite};
 ghost use Rattle.odht_raw.specs.Refusals.{IsTooLarge};
 
-use crate::bytes::OwnedBytes;
+use crate::bytes::{ByteArray, OwnedBytes};
 use crate::config::{Coded, Config};
 use crate::error::Error;
+use crate::hash::HashFn;
 use crate::hash_table::HashTable;
 use crate::iter::Iter;
 use crate::load::{Factor, slots_needed};
-use crate::memory_layout;
-use crate::raw_table::RawIter;
+use crate::memory_layout::{self, HEADER_SIZE};
+use crate::raw_table::{RawIter, RawTableMut};
 use std::alloc::Global;
 use std::marker::Model;
 
@@ -263,18 +266,67 @@ impl<C: Config> HashTableOwned<C> {
         ensures memory { OnErr result (result ≡ Err Error.Memory) }
     {
         let header = self.table.allocation().header();
-        let max_item_count = (2 * header.item_count()).max(1);
+        let item_count = header.item_count();
         let factor = header.max_load_factor();
-        let Ok(mut grown) = empty_table(self.alloc, max_item_count, factor) else {
+        let Some(slot_count) = slots_needed((2 * item_count).max(1), factor) else {
             return Err(Error::Memory);
         };
+        let Some(len) = memory_layout::bytes_needed::<C>(slot_count) else {
+            return Err(Error::Memory);
+        };
+        let mut bytes = vec![in self.alloc; 0; len]?;
         let (control, entries) = self.table.allocation().data_slices();
         let walk = RawIter::new(control, entries);
-        for (_, entry) in walk {
-            // There is room for each pair.
-            let _ = grown.insert_encoded(&entry.key, &entry.value);
-        }
-        Ok(grown)
+        write_table::<C>(bytes.as_mut_slice(), slot_count, item_count, factor, walk);
+        Ok(HashTable::from_raw_bytes_unchecked(OwnedBytes::new(bytes)))
+    }
+}
+
+// Writes the table of so many slots with the items of the walk into zeros, of which as many are counted as are stated.
+fn write_table<C: Config>(
+    bytes: &mut [u8],
+    slot_count: usize,
+    item_count: usize,
+    max_load_factor: Factor,
+    walk: RawIter<'_, C::EncodedKey, C::EncodedValue>,
+)
+    requires slots { IsSlotCount slot_count }
+    requires len { length bytes.old ≡ image_len ⟦<C as Coded>⟧.coding.format slot_count }
+    requires zeros { bytes.old ≡ replicate (length bytes.old) 0 }
+    ensures { (Q : Table)
+        → place_all ⟦<C as Coded>⟧.coding.format (empty slot_count max_load_factor.0) (map (λ x. record { key = C.EncodedKey.bytes x.1.key; value = C.EncodedValue.bytes x.1.value }) walk.entry) ≡ Some Q
+        → bytes.new ≡ header_bytes ⟦<C as Coded>⟧.coding.format slot_count item_count max_load_factor.0 ++ parts ⟦<C as Coded>⟧.coding.format Q.cells }
+{
+    let (header, parts) = bytes.split_at_mut(HEADER_SIZE);
+    let (entries, control) = parts.split_at_mut(
+        slot_count * (C::EncodedKey::LEN + C::EncodedValue::LEN),
+    );
+    memory_layout::write_header::<C>(header, slot_count, item_count, max_load_factor);
+    control.fill(255);
+    insert_walk::<C::EncodedKey, C::EncodedValue, C::H>(control, entries, walk);
+}
+
+// Inserts the items of a walk in turn into the parts of a table. The slices then hold what the inserts left.
+fn insert_walk<K: ByteArray, V: ByteArray, H: HashFn>(
+    control: &mut [u8],
+    entries: &mut [u8],
+    walk: RawIter<'_, K, V>,
+)
+    requires slots { IsSlotCount (length control.old - 16) }
+    requires entries { length entries.old ≡ (length control.old - 16) * (K.LEN + V.LEN) }
+    requires hashes { H.MIN_LEN ≤ K.LEN }
+    requires key { K.LEN ≤ 255 }
+    requires value { V.LEN ≤ 255 }
+    ensures { let F = format_of K.LEN V.LEN H.hash
+        in (P Q : Table)
+        → IsPartsOf F P entries.old control.old
+        → place_all F P (map (λ x. record { key = K.bytes x.1.key; value = V.bytes x.1.value }) walk.entry) ≡ Some Q
+        → IsPartsOf F Q entries.new control.new }
+{
+    let mut table: RawTableMut<'_, '_, K, V, H> = RawTableMut::new(control, entries);
+    for (_, entry) in walk {
+        // There is room for each item.
+        let _ = table.insert(entry.key, entry.value);
     }
 }
 

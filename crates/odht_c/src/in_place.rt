@@ -15,10 +15,8 @@ use odht::config::{Coded, Config};
 use odht::error::Error;
 use odht::hash::HashFn;
 use odht::load::{Factor, max_item_count_for};
-use odht::memory_layout::{self, Header};
+use odht::memory_layout::{self, HEADER_SIZE, Header};
 use odht::raw_table::RawTableMut;
-
-const HEADER_SIZE: usize = 32;
 
 /// Makes the empty table of `slot_count` slots in the bytes, whatever stood there. One pass over the bytes.
 pub(crate) fn init<C: Config>(bytes: &mut [u8], slot_count: usize, max_load_factor: Factor)

@@ -30,7 +30,8 @@ const HEADER_TAG: [u8; 4] = *b"ODHT";
 
 const CURRENT_FILE_FORMAT_VERSION: [u8; 4] = [0, 0, 0, 2];
 
-const HEADER_SIZE: usize = 32;
+/// How many bytes the header has.
+pub const HEADER_SIZE: usize = 32;
 // How many slots a view looks at when it is opened.
 const SLOTS_TO_CHECK: usize = 10;
 // How many bytes `fill` writes at once: each write is one memset, and small ones would cost a call each.

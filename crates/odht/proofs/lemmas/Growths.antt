@@ -1,37 +1,25 @@
--- A growth: the pairs of a table, inserted in slot order into an empty table of the grown slots.
-use Rattle.std.proofs.Common.{◌≡◌, ◌<◌, ◌≤◌, ◌∙◌, ◌+◌, ◌^◌, ◌++◌, ℕ, sym, ap, subst, refl, List, [], ◌∷◌, Some, Result, Ok, Err, IfOk, OnErr, length, length-append, arith, inl, inr}
+-- A growth: the pairs of a table, placed in slot order in the grown slots.
+use Rattle.std.proofs.Common.{◌≡◌, ◌<◌, ◌∙◌, ◌*◌, ◌^◌, ◌++◌, ℕ, sym, ap, List, Some, Result, Ok, Err, IfOk, OnErr, arith, inl, inr}
 use Rattle.std.proofs.lemmas.Bool.{cases_lt}
-use Rattle.std.specs.Prelude.{option_and_then}
+use Rattle.std.specs.Prelude.{option_and_then, max}
 use Rattle.odht_base.specs.Format.{Format}
-use Rattle.odht_base.specs.Load.{max_items}
+use Rattle.odht_base.specs.Image.{header_bytes, image, parts}
+use Rattle.odht_base.specs.Load.{max_items, IsLeastSlots}
 use Rattle.odht_base.specs.Insert.{grown, grown_slots, place, place_all, put_owned, put_view}
 use Rattle.odht_base.specs.Map.{map_of}
 use Rattle.odht_base.specs.Table.{Pair, Table, slot_count, count, empty, walk}
 use Rattle.odht_base.specs.Valid.{IsImage, IsValid}
-use Rattle.odht_base.proofs.lemmas.Grown.{room_above, grown-IsGrown}
+use Rattle.odht_base.proofs.lemmas.Apart.{walk-IsPairOf}
+use Rattle.odht_base.proofs.lemmas.Grown.{room_above, grown-IsGrown, place_all-fits, slot_count-place_all}
 use Rattle.odht_base.proofs.lemmas.Least.{slots_for-IsLeastSlots}
-use Rattle.odht_base.proofs.lemmas.Places.{slot_count-place, factor-place, count-place_le}
-use Rattle.odht_base.proofs.lemmas.Puts.{HasRoom, put_view-below, put_owned-below, put_owned-full}
-use Rattle.odht_base.proofs.lemmas.Rooms.{slot_count-empty, count-empty, max_items-lt}
-use Rattle.odht_base.proofs.lemmas.Runs.{run-push}
+use Rattle.odht_base.proofs.lemmas.Puts.{put_view-below, put_owned-below, put_owned-full}
+use Rattle.odht_base.proofs.lemmas.Rooms.{slot_count-empty, count-empty, empty-IsPlaced, max_items-lt}
 use Rattle.odht_base.proofs.lemmas.SlotCounts.{few_slots, slots_pos}
-use Rattle.odht.proofs.lemmas.ViewInserts.{IsPut}
 use Rattle.odht_raw.specs.declared.error.Error.{Error}
 use Rattle.odht_raw.specs.declared.error.Error.TheVariants.{Full}
 
--- B are the bytes of these pairs, placed in turn in the grown slots of P
-pub record IsGrownBy (F : Format) (P : Table) (ps : List Pair) (B : List ℕ) : Type 0 where
-  pub slots : ℕ
-  pub enough : grown_slots P ≡ Some slots
-  pub table : Table
-  pub placed : place_all F (empty slots P.factor) ps ≡ Some table
-  pub slots_are : slot_count table ≡ slots
-  pub factor_is : table.factor ≡ P.factor
-  pub few : count table ≤ length ps
-  pub image : IsImage F table B
-
 -- an answer that is not refused is what an accepted one is
-accepted_is : {T : Type 0} {X : T → Type 0} (r : Result T Error) → OnErr r (r ≡ Err Full) → (r ≡ Err Full → ⊥) → IfOk r X → (t : T) × X t
+pub accepted_is : {T : Type 0} {X : T → Type 0} (r : Result T Error) → OnErr r (r ≡ Err Full) → (r ≡ Err Full → ⊥) → IfOk r X → (t : T) × X t
 accepted_is (Ok t) only never x = (t, x)
 accepted_is (Err e) only never x = absurd (never only)
 
@@ -43,55 +31,26 @@ count_small F P ok =
     omega (arith, ok.room, below, slots)
 
 -- ---- the growth
-module _ (F : Format) (P : Table) (ok : IsValid F P) where
-  -- it begins with the empty table
-  pub grown_none : (s : ℕ) (B : List ℕ) → grown_slots P ≡ Some s → IsImage F (empty s P.factor) B → IsGrownBy F P [] B
-  grown_none s B e is = record {
-    slots = s;
-    enough = e;
-    table = empty s P.factor;
-    placed = refl;
-    slots_are = slot_count-empty s P.factor;
-    factor_is = refl;
-    few = omega (arith, count-empty s P.factor);
-    image = is;
-  }
+module _ (F : Format) (P : Table) (ok : IsValid F P) (s : ℕ) (enough : grown_slots P ≡ Some s) where
+  least : IsLeastSlots (max 1 (2 * count P)) P.factor s
+  least = slots_for-IsLeastSlots _ _ s enough
 
-  module _ (ps rest : List Pair) (p : Pair) (whole : ps ++ p ∷ rest ≡ walk P) (B C : List ℕ) (h : IsGrownBy F P ps B) where
-    -- there is room for the next pair of the walk
-    pub grown_room : HasRoom h.table
-    grown_room =
-        let above = room_above F P ok h.slots (slots_for-IsLeastSlots _ _ h.slots h.enough) in
-        let all : length ps + length (p ∷ rest) ≡ count P = sym (length-append ps (p ∷ rest)) ∙ ap length whole in
-        subst (λ s. count h.table < max_items s h.table.factor) (sym h.slots_are) (subst (λ f. count h.table < max_items h.slots f) (sym h.factor_is) (omega (arith, h.few, all, above)))
+  -- the grown slots take the pairs
+  pub grown_placed : (Q : Table) × (place_all F (empty s P.factor) (walk P) ≡ Some Q)
+  grown_placed =
+      let above = room_above F P ok s least in
+      let below = max_items-lt s P.factor (slots_pos s least.is_count) ok.factor_high in
+      place_all-fits F (empty s P.factor) (walk P) (empty-IsPlaced s P.factor F least.is_count) (walk-IsPairOf F P ok.placed) (omega (arith, above, below, count-empty s P.factor, slot_count-empty s P.factor))
 
-    -- and an insert adds it
-    pub grown_more : IsPut F h.table p C → IsGrownBy F P (ps ++ p ∷ []) C
-    grown_more (Q, put, is) =
-        let placed : place F h.table p ≡ Some Q = sym (put_view-below F h.table p h.image.valid grown_room) ∙ put in
-        let long : length (ps ++ p ∷ []) ≡ length ps + 1 = length-append ps (p ∷ []) in
-        record {
-          slots = h.slots;
-          enough = h.enough;
-          table = Q;
-          placed = run-push (place F) (empty h.slots P.factor) ps p ∙ ap (option_and_then (λ R. place F R p)) h.placed ∙ placed;
-          slots_are = slot_count-place F h.table Q p h.image.valid.placed placed ∙ h.slots_are;
-          factor_is = factor-place F h.table Q p h.image.valid.placed placed ∙ h.factor_is;
-          few = omega (arith, count-place_le F h.table Q p h.image.valid.placed placed, h.few, long);
-          image = is;
-        }
-
-    -- an insert of the pair is not refused
-    pub grown_insert : {V : Type 0} (X : V → Type 0) (r : Result V Error) → OnErr r (r ≡ Err Full) → ((r ≡ Err Full) → count h.table ≡ max_items (slot_count h.table) h.table.factor)
-        → IfOk r (λ v. X v × IsPut F h.table p C) → IsGrownBy F P (ps ++ p ∷ []) C
-    grown_insert X r only full put =
-        let t = accepted_is r only (λ f. let room = grown_room in omega (arith, room, full f)) put in
-        grown_more t.1.1
-
-  -- at the end it is the grown table
-  pub grown_all : (B : List ℕ) → IsGrownBy F P (walk P) B → (Q : Table) × (grown F P ≡ Some Q) × IsImage F Q B
-  unfolding grown
-  grown_all B h = (h.table, ap (option_and_then (λ s. place_all F (empty s P.factor) (walk P))) h.enough ∙ h.placed, h.image)
+  -- which are the grown table then, and with the header of as many pairs its bytes
+  pub grown_image : (Q : Table) → place_all F (empty s P.factor) (walk P) ≡ Some Q → (B : List ℕ) → B ≡ header_bytes F s (count P) P.factor ++ parts F Q.cells → (grown F P ≡ Some Q) × IsImage F Q B
+  unfolding grown image
+  grown_image Q placed B written =
+      let is : grown F P ≡ Some Q = ap (option_and_then (λ t. place_all F (empty t P.factor) (walk P))) enough ∙ placed in
+      let h = grown-IsGrown F P ok Q is in
+      let slots : slot_count Q ≡ s =
+      slot_count-place_all F (empty s P.factor) Q (walk P) (empty-IsPlaced s P.factor F least.is_count) (walk-IsPairOf F P ok.placed) placed ∙ slot_count-empty s P.factor in
+      (is, record { valid = h.valid; bytes = written ∙ sym (λ i. header_bytes F (slots i) (h.counts i) (h.factor i) ++ parts F Q.cells) })
 
 -- ---- the owned insert, by that of the view
 module _ (F : Format) (P : Table) (p : Pair) (ok : IsValid F P) where

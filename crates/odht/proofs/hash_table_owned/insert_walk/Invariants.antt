@@ -1,0 +1,19 @@
+use Rattle.std.proofs.Common.{◌≡◌, Some, map}
+use Rattle.odht_base.specs.Format.{format_of}
+use Rattle.odht_base.specs.Insert.{place_all}
+use Rattle.odht_base.specs.Table.{Table}
+use Rattle.odht_base.specs.Valid.{IsPartsOf}
+use Rattle.odht_raw.proofs.lemmas.Walks.{stored}
+use Rattle.odht.proofs.hash_table_owned.insert_walk.Given as goal
+
+-- the slices are lent to the table, and the items that are left lead from its parts to where all lead
+abbrev pub invariant-loop-entry : goal.invariant-loop-entry
+invariant-loop-entry g l =
+    let F = format_of g.K.ByteArray.LEN g.V.ByteArray.LEN g.H.HashFn.hash in
+    let pairs = map (stored g.K.ByteArray.bytes g.V.ByteArray.bytes) in
+    record {
+      control_loan : l.table.control.ghost_name ≡ l.initial.table.control.ghost_name;
+      entries_loan : l.table.entries.ghost_name ≡ l.initial.table.entries.ghost_name;
+      placed : (P Q : Table) → IsPartsOf F P l.initial.table.entries.now l.initial.table.control.now → place_all F P (pairs l.initial.entry-iterator) ≡ Some Q
+          → (R : Table) × (place_all F R (pairs l.entry-iterator) ≡ Some Q) × IsPartsOf F R l.table.entries.now l.table.control.now;
+    }
