@@ -7,3 +7,4 @@ pub mod config;
 pub mod error;
 pub mod memory_layout;
 pub mod raw_table;
+mod writes;

@@ -38,6 +38,9 @@ pub use walk::RawIter;
 /// A control byte: the tag of a filled slot, below 128, or a free slot's 255.
 pub type EntryMetadata = u8;
 
+/// The control byte of a free slot.
+pub const FREE: EntryMetadata = 255;
+
 /// An encoded key with its encoded value, as a slot holds them.
 #[derive(Clone, Copy, PartialEq, Eq, Debug)]
 pub struct Entry<K: ByteArray, V: ByteArray> {

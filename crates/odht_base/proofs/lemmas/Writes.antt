@@ -9,7 +9,7 @@ use Rattle.odht_base.specs.Image.{header_bytes, entry_bytes, control_byte, entri
 use Rattle.odht_base.specs.Numbers.{le_bytes}
 use Rattle.odht_base.specs.Shown.{stated_slots, stated_count}
 use Rattle.odht_base.specs.Table.{Pair, Table, Cells, cell_at, slot_count, count}
-use Rattle.odht_base.specs.Writes.{tagged, with_value, with_entry, with_control, with_tag, with_pair, with_count}
+use Rattle.odht_base.specs.Writes.{tagged, with_value, with_entry, with_tag, with_pair, with_count}
 use Rattle.odht_base.proofs.lemmas.ByteRanges.{overwritten_at-between, overwritten_at-append_left, overwritten_at-append_right, length-overwritten_at}
 use Rattle.odht_base.proofs.lemmas.Counts.{count_set_free, count_set_again}
 use Rattle.odht_base.proofs.lemmas.Fits.{HasLengths, IsSized}
@@ -73,10 +73,10 @@ tagged-controls F cs i c enough lt = go (ltb i 16) refl ∙ sym after
     first : set (each ++ take 16 each) i b ≡ set each i b ++ take 16 each
     first = set-append_left each (take 16 each) i b (omega (arith, long))
 
-    go : (t : Bool) → ltb i 16 ≡ t → cond t (set (set (controls F cs) i b) (length (controls F cs) - 16 + i) b) (set (controls F cs) i b) ≡ set each i b ++ take 16 (set each i b)
+    go : (t : Bool) → ltb i 16 ≡ t → cond t (set (set (controls F cs) i b) (i + (length (controls F cs) - 16)) b) (set (controls F cs) i b) ≡ set each i b ++ take 16 (set each i b)
     go true e =
         let low = ltb-true i 16 e in
-        let n : length (controls F cs) - 16 + i ≡ length cs + i = omega (arith, length-controls F cs enough) in
+        let n : i + (length (controls F cs) - 16) ≡ length cs + i = omega (arith, length-controls F cs enough) in
         let m : length cs + i - length cs ≡ i = omega arith in
         ap (λ k. set (set (each ++ take 16 each) i b) k b) n
         ∙ ap (λ t. set t (length cs + i) b) first
@@ -170,16 +170,17 @@ pub with_tag-append : (F : Format) (s : ℕ) (H es cs : List ℕ) (i c : ℕ) �
     → with_tag F s (H ++ (es ++ cs)) i c ≡ H ++ (es ++ tagged cs i c)
 with_tag-append F s H es cs i c h e n = go (ltb i 16)
   where
-    first : with_control F s (H ++ (es ++ cs)) i c ≡ H ++ (es ++ set cs i c)
-    first = set-append_behind H es cs (32 + s * entry_len F + i) i c (omega (arith, h, e))
+    at : ℕ
+    at = 32 + s * entry_len F + i
 
-    go : (t : Bool) → cond t (with_control F s (with_control F s (H ++ (es ++ cs)) i c) (s + i) c) (with_control F s (H ++ (es ++ cs)) i c)
-        ≡ H ++ (es ++ cond t (set (set cs i c) (length cs - 16 + i) c) (set cs i c))
+    first : set (H ++ (es ++ cs)) at c ≡ H ++ (es ++ set cs i c)
+    first = set-append_behind H es cs at i c (omega (arith, h, e))
+
+    go : (t : Bool) → cond t (set (set (H ++ (es ++ cs)) at c) (at + s) c) (set (H ++ (es ++ cs)) at c)
+        ≡ H ++ (es ++ cond t (set (set cs i c) (i + (length cs - 16)) c) (set cs i c))
     go true =
-        let m : s + i ≡ length cs - 16 + i = omega (arith, n) in
-        ap (λ t. with_control F s t (s + i) c) first
-        ∙ set-append_behind H es (set cs i c) (32 + s * entry_len F + (s + i)) (s + i) c (omega (arith, h, e))
-        ∙ ap (λ k. H ++ (es ++ set (set cs i c) k c)) m
+        ap (λ t. set t (at + s) c) first
+        ∙ set-append_behind H es (set cs i c) (at + s) (i + (length cs - 16)) c (omega (arith, h, e, n))
     go false = first
 
 -- an entry and its control byte

@@ -1,7 +1,7 @@
 -- Bytes that a view accepts: what their header says, and that writes to the count and behind the header leave them accepted.
 --     IsHeader F n B       the header fits n bytes
 --     IsOpening F B        so it does, and there are enough bytes for it
-use Rattle.std.proofs.Common.{◌≡◌, ◌<◌, ◌≤◌, ◌∙◌, ◌+◌, ◌*◌, ℕ, suc, not, sym, ap, subst, refl, List, [], ◌∷◌, None, take, drop, length, arith, get_or-take, lit<, lit≤, ltb-false, le-ltb, nat_lt}
+use Rattle.std.proofs.Common.{◌≡◌, ◌<◌, ◌≤◌, ◌∙◌, ◌+◌, ◌*◌, ℕ, suc, not, sym, ap, subst, refl, List, [], ◌∷◌, None, take, drop, set, cond, ltb, Bool, true, false, length, arith, length-set, get_or-take, lit<, lit≤, ltb-true, ltb-false, le-ltb, nat_lt}
 use Rattle.std.proofs.lemmas.List.{drop-take}
 use Rattle.std.proofs.Math.Nat.{mul-le-mul_right}
 use Rattle.std.specs.Prelude.{slice_index}
@@ -13,11 +13,11 @@ use Rattle.odht_base.specs.Load.{is_power_of_two, IsSlotCount}
 use Rattle.odht_base.specs.Table.{Table, slot_count}
 use Rattle.odht_base.specs.Image.{image, image_len}
 use Rattle.odht_base.specs.Shown.{stated_slots}
-use Rattle.odht_base.specs.Writes.{with_count}
+use Rattle.odht_base.specs.Writes.{with_count, tagged_at}
 use Rattle.odht_base.specs.Valid.{IsValidBytes}
 use Rattle.odht_base.proofs.lemmas.Fits.{IsSized, IsSized-IsPlaced}
 use Rattle.odht_base.proofs.lemmas.Image.{stated_slots-image, length-image}
-use Rattle.odht_base.proofs.lemmas.ByteRanges.{bytes_at-take_front, bytes_at-drop, length-overwritten_at, take-overwritten_at, drop-overwritten_at}
+use Rattle.odht_base.proofs.lemmas.ByteRanges.{bytes_at-take_front, bytes_at-drop, length-overwritten_at, overwritten_at-single, take-overwritten_at, drop-overwritten_at}
 use Rattle.odht_raw.specs.Refusals.{opening_refusal, header_refusal, first_of, differs, lists_differ, ◌gives◌}
 use Rattle.odht_raw.specs.Frame.{IsAccepted}
 use Rattle.odht_raw.specs.declared.error.Error.TheVariants.{WrongTag, WrongVersion, WrongSizeOf, TooShort, SlotCountNotPowerOfTwo, SlotCountTooSmall, WrongLength}
@@ -155,6 +155,10 @@ module _ (F : Format) (B : List ℕ) (h : IsAccepted F B) where
       (sym (drop-take 16 16 (overwritten_at B at d)) ∙ ap (drop 16) (take-overwritten_at B at 32 d (omega arith) (omega arith)) ∙ drop-take 16 16 B)
       ∙ h
 
+  -- and one of a single byte
+  pub IsAccepted-set : (at c : ℕ) → 32 ≤ at → at < length B → IsAccepted F (set B at c)
+  IsAccepted-set at c low fits = subst (IsAccepted F) (overwritten_at-single B at c fits) (IsAccepted-overwritten_at at (c ∷ []) low (omega arith))
+
   -- a write behind the header leaves the slot count too
   pub stated_slots-overwritten_at : (at : ℕ) (d : List ℕ) → 32 ≤ at → at ≤ length B → stated_slots (overwritten_at B at d) ≡ stated_slots B
   stated_slots-overwritten_at at d low fits =
@@ -168,9 +172,23 @@ module _ (F : Format) (B : List ℕ) (h : IsAccepted F B) where
       let most : suc i * entry_len F ≤ stated_slots B * entry_len F = mul-le-mul_right (entry_len F) low in
       omega (arith, most, accepted_len)
 
-  -- the control byte of a slot, or its mirror, ends within the bytes
-  pub accepted_control : (s i : ℕ) → s ≡ stated_slots B → i < s + 16 → 32 + s * entry_len F + i < length B
-  accepted_control s i stated low = subst (λ n. i < n + 16 → 32 + n * entry_len F + i < length B) (sym stated) (λ l. omega (arith, l, accepted_len)) low
+  -- the control byte of a slot ends within the bytes, and so does its mirror, in as many bytes
+  pub accepted_control : (D : List ℕ) (i : ℕ) → length D ≡ length B → i < stated_slots B → 32 + stated_slots B * entry_len F + i < length D
+  accepted_control D i long low = omega (arith, accepted_len)
+
+  pub accepted_mirror : (D : List ℕ) (i : ℕ) → length D ≡ length B → i < 16 → 32 + stated_slots B * entry_len F + i + stated_slots B < length D
+  accepted_mirror D i long low = omega (arith, accepted_len)
+
+-- a control byte and its mirror, behind the header, leave bytes accepted
+pub IsAccepted-tagged_at : (F : Format) (B : List ℕ) → IsAccepted F B → (at s i c : ℕ) → 32 ≤ at → at < length B → (i < 16 → at + s < length B) → IsAccepted F (tagged_at B at s i c)
+IsAccepted-tagged_at F B h at s i c low fits mirror = go (ltb i 16) refl
+  where
+    once : IsAccepted F (set B at c)
+    once = IsAccepted-set F B h at c low fits
+
+    go : (t : Bool) → ltb i 16 ≡ t → IsAccepted F (cond t (set (set B at c) (at + s) c) (set B at c))
+    go true e = IsAccepted-set F (set B at c) once (at + s) c (omega (arith, low)) (omega (arith, mirror (ltb-true i 16 e), length-set B at c))
+    go false e = once
 
 -- the image of a table of a slot count is accepted
 pub IsAccepted-image : (F : Format) (P : Table) → IsSlotCount (slot_count P) → IsSized F P → IsAccepted F (image F P)

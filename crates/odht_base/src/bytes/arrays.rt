@@ -1,0 +1,134 @@
+//! Byte arrays of a fixed length, which keys and values are encoded to.
+ghost use Rattle.std.specs.Prelude.{◌≡◌, ◌↔◌, ℕ, ◌+◌, ◌<◌, ◌≤◌, List, length, replicate, All, IsTrue, refl};
+ghost use Rattle.odht_base.specs.Numbers.{num, IsBytes};
+ghost use Rattle.odht_base.specs.Bytes.{bytes_at};
+
+use std::fmt::Debug;
+
+/// An array of a fixed number of bytes, and nothing but these bytes: an encoded key or an encoded value.
+pub trait ByteArray: Sized + Copy + Eq + Debug + 'static {
+    /// How many bytes a value has.
+    const LEN: usize;
+
+    ghost LEN: { ℕ };
+
+    ghost bytes: { Self → List ℕ };
+
+    ghost of_bytes: { List ℕ → Self };
+
+    /// The array of zeros.
+    fn zeroed() -> Self
+        ensures { bytes result ≡ replicate LEN 0 };
+
+    /// The array of the bytes of `slice`.
+    fn from_slice(slice: &[u8]) -> Self
+        requires { length slice.now ≡ LEN }
+        ensures { result ≡ of_bytes slice.now };
+
+    /// The bytes.
+    fn as_slice(&self) -> &[u8]
+        ensures value { result.now ≡ bytes self.now }
+        ensures bytes { IsBytes LEN (bytes self.now) };
+
+    /// Whether the bytes are equal.
+    fn equals(&self, other: &Self) -> bool
+        ensures { IsTrue result ↔ (bytes self.now ≡ bytes other.now) };
+
+    /// Whether each byte is zero.
+    #[inline]
+    fn is_all_zeros(&self) -> bool
+        ensures { IsTrue result ↔ (bytes self.now ≡ replicate LEN 0) }
+    {
+        self.as_slice().iter().all(|b| *b == 0)
+    }
+
+    ghost determined: { (x : Self) → of_bytes (bytes x) ≡ x };
+
+    ghost kept: { (b : List ℕ) → length b ≡ LEN → bytes (of_bytes b) ≡ b };
+}
+
+impl<const LEN: usize> ByteArray for [u8; LEN] {
+    const LEN: usize = LEN;
+
+    ghost LEN = { LEN };
+
+    ghost bytes = { λ a. a };
+
+    ghost of_bytes = { λ b. b };
+
+    ghost determined = { λ x. refl };
+
+    ghost kept = { λ b long. refl };
+
+    #[inline]
+    fn zeroed() -> Self {
+        [0; LEN]
+    }
+
+    #[inline]
+    fn from_slice(slice: &[u8]) -> Self {
+        let Some(chunk) = slice.first_chunk::<LEN>() else {
+            unreachable!()
+        };
+        *chunk
+    }
+
+    #[inline]
+    fn as_slice(&self) -> &[u8] {
+        as_bytes(self)
+    }
+
+    // A word at a time at the lengths of one to four words.
+    #[inline]
+    fn equals(&self, other: &Self) -> bool {
+        let (left, right): (&[u8], &[u8]) = (self, other);
+        match LEN {
+            8 => is_same_word(left, right, 0),
+            16 => is_same_pair(left, right, 0),
+            24 => is_same_pair(left, right, 0) && is_same_word(left, right, 16),
+            32 => is_same_pair(left, right, 0) && is_same_pair(left, right, 16),
+            _ => *self == *other,
+        }
+    }
+}
+
+// The slice itself, of which each item is a byte.
+#[inline]
+fn as_bytes(slice: &[u8]) -> &[u8]
+    ensures value { result.now ≡ slice.now }
+    ensures each { All (λ x. x < 256) slice.now }
+{
+    slice
+}
+
+/// The number of the eight bytes from `at` on, lowest byte first, at any alignment.
+#[inline]
+pub fn read_u64(bytes: &[u8], at: usize) -> u64
+    requires { at + 8 ≤ length bytes.now }
+    ensures { result ≡ num (bytes_at bytes.now at 8) }
+{
+    let Some(chunk) = bytes[at..].first_chunk::<8>() else {
+        unreachable!()
+    };
+    u64::from_le_bytes(*chunk)
+}
+
+// Whether the eight bytes from `at` on are equal.
+#[inline]
+fn is_same_word(left: &[u8], right: &[u8], at: usize) -> bool
+    requires left { at + 8 ≤ length left.now }
+    requires right { at + 8 ≤ length right.now }
+    ensures { IsTrue result ↔ (bytes_at left.now at 8 ≡ bytes_at right.now at 8) }
+{
+    read_u64(left, at) == read_u64(right, at)
+}
+
+// Whether the sixteen bytes from `at` on are equal.
+#[inline]
+fn is_same_pair(left: &[u8], right: &[u8], at: usize) -> bool
+    requires left { at + 16 ≤ length left.now }
+    requires right { at + 16 ≤ length right.now }
+    ensures { IsTrue result ↔ (bytes_at left.now at 16 ≡ bytes_at right.now at 16) }
+{
+    is_same_word(left, right, at) && is_same_word(left, right, at + 8)
+}

@@ -1,0 +1,224 @@
+//! Stores of bytes, which tables live in.
+ghost use Rattle.std.specs.Prelude.{◌≡◌, ℕ, ◌+◌, ◌≤◌, List, length, refl};
+ghost use Rattle.std.proofs.Common.{ap};
+ghost use Rattle.odht_base.specs.Bytes.{overwritten_at};
+
+use std::marker::Model;
+
+/// A place that holds bytes.
+pub trait ByteStore: Drop {
+    ghost bytes: { Self → List ℕ };
+
+    /// All of its bytes.
+    fn bytes(&self) -> &[u8]
+        ensures { result.now ≡ bytes self.now };
+}
+
+/// A place whose bytes can be overwritten, and which stays the same place.
+///
+/// A contract names the place that holds other bytes by the ghost member `holding`. So who lends a place learns what it
+/// holds when it is handed back.
+pub trait ByteStoreMut: ByteStore {
+    ghost holding: { Self → List ℕ → Self };
+
+    /// Writes `data` from the byte `at` on. No other byte changes.
+    fn write_at(&mut self, at: usize, data: &[u8])
+        requires { at + length «data».now ≤ length (Self.bytes self.old) }
+        ensures bytes { Self.bytes self.new ≡ overwritten_at (Self.bytes self.old) at «data».now }
+        ensures len { length (Self.bytes self.new) ≡ length (Self.bytes self.old) }
+        ensures place { self.new ≡ holding self.old (Self.bytes self.new) };
+
+    ghost held: { (s : Self) (b : List ℕ) → Self.bytes (holding s b) ≡ b };
+
+    ghost held_last: { (s : Self) (a b : List ℕ) → holding (holding s a) b ≡ holding s b };
+
+    ghost held_same: { (s : Self) → holding s (Self.bytes s) ≡ s };
+}
+
+// A place that is lent: what is written to it stands in the place itself.
+impl<M: ByteStore> ByteStore for &mut M {
+    ghost bytes = { λ s. M.bytes s.now };
+
+    #[inline(always)]
+    fn bytes(&self) -> &[u8] {
+        M::bytes(&**self)
+    }
+}
+
+impl<M: ByteStoreMut> ByteStoreMut for &mut M {
+    ghost holding = { λ s b. record s { now = M.holding s.now b } };
+
+    ghost held = { λ s b. M.held s.now b };
+
+    ghost held_last = { λ s a b. ap (λ n. record s { now = n }) (M.held_last s.now a b) };
+
+    ghost held_same = { λ s. ap (λ n. record s { now = n }) (M.held_same s.now) };
+
+    #[inline(always)]
+    fn write_at(&mut self, at: usize, data: &[u8]) {
+        M::write_at(&mut **self, at, data)
+    }
+}
+
+/// The bytes of a slice.
+#[derive(Clone, Copy)]
+pub struct Borrowed<'a>(pub &'a [u8]);
+
+impl<'a> Borrowed<'a> {
+    /// The store of `bytes`.
+    #[inline]
+    pub fn new(bytes: &'a [u8]) -> Self
+        ensures { result.0.now ≡ bytes.now }
+    {
+        Borrowed(bytes)
+    }
+}
+
+impl ByteStore for Borrowed<'_> {
+    ghost bytes = { λ s. s.0.now };
+
+    #[inline]
+    fn bytes(&self) -> &[u8] {
+        self.0
+    }
+}
+
+/// The bytes of a slice that can be overwritten.
+#[derive(Drop)]
+pub struct BorrowedMut<'a>(pub &'a mut [u8]);
+
+impl<'a> BorrowedMut<'a> {
+    /// The store of `bytes`: what is written to it stands in the slice.
+    #[inline]
+    pub fn new(bytes: &'a mut [u8]) -> Self
+        ensures bytes { result.0.now ≡ bytes.old }
+        ensures same_slice { result.0.ghost_name ≡ bytes.entry.ghost_name }
+    {
+        BorrowedMut(bytes)
+    }
+
+    /// The slice itself, with the bytes as they are now.
+    #[inline]
+    pub fn into_slice(self) -> &'a mut [u8]
+        ensures bytes { result.now ≡ self.entry.0.now }
+        ensures same_slice { result.ghost_name ≡ self.entry.0.ghost_name }
+    {
+        let BorrowedMut(bytes) = self;
+        bytes
+    }
+}
+
+impl ByteStore for BorrowedMut<'_> {
+    ghost bytes = { λ s. s.0.now };
+
+    #[inline]
+    fn bytes(&self) -> &[u8] {
+        self.0
+    }
+}
+
+impl ByteStoreMut for BorrowedMut<'_> {
+    ghost holding = { λ s b. record s { 0 = record s.0 { now = b } } };
+
+    ghost held = { λ s b. refl };
+
+    ghost held_last = { λ s a b. refl };
+
+    ghost held_same = { λ s. refl };
+
+    #[inline(always)]
+    fn write_at(&mut self, at: usize, data: &[u8]) {
+        write_slice(self.0, at, data)
+    }
+}
+
+/// The bytes of a vector.
+#[derive(Drop)]
+pub struct OwnedBytes(Vec<u8>);
+
+impl Model for OwnedBytes {
+    ghost Value = { List ℕ };
+
+    ghost view = { λ s. s.0.items };
+}
+
+impl OwnedBytes {
+    /// The store of `bytes`.
+    #[inline]
+    pub fn new(bytes: Vec<u8>) -> Self
+        ensures { result ≡ bytes.items }
+    {
+        OwnedBytes(bytes)
+    }
+
+    /// The vector itself, with the bytes as they are now.
+    #[inline]
+    pub fn into_vec(self) -> Vec<u8>
+        ensures { result.items ≡ self }
+    {
+        let OwnedBytes(bytes) = self;
+        bytes
+    }
+}
+
+impl ByteStore for OwnedBytes {
+    ghost bytes = { λ s. s };
+
+    #[inline]
+    fn bytes(&self) -> &[u8] {
+        self.0.as_slice()
+    }
+}
+
+impl ByteStoreMut for OwnedBytes {
+    ghost holding = { λ s b. b };
+
+    ghost held = { λ s b. refl };
+
+    ghost held_last = { λ s a b. refl };
+
+    ghost held_same = { λ s. refl };
+
+    #[inline(always)]
+    fn write_at(&mut self, at: usize, data: &[u8]) {
+        write_slice(self.0.as_mut_slice(), at, data)
+    }
+}
+
+/// Writes `piece` into the slice from the byte `at` on. No other byte changes.
+#[inline(always)]
+pub fn write_slice(all: &mut [u8], at: usize, piece: &[u8])
+    requires { at + length piece.now ≤ length all.old }
+    ensures { all.new ≡ overwritten_at all.old at piece.now }
+{
+    overwrite(&mut all[at..at + piece.len()], piece);
+}
+
+// Writes `piece` over the whole place: in one store at the lengths that a number has.
+#[inline(always)]
+fn overwrite(place: &mut [u8], piece: &[u8])
+    requires { length place.old ≡ length piece.now }
+    ensures { place.new ≡ piece.now }
+{
+    match piece.len() {
+        1 => overwrite_array::<1>(place, piece),
+        2 => overwrite_array::<2>(place, piece),
+        4 => overwrite_array::<4>(place, piece),
+        8 => overwrite_array::<8>(place, piece),
+        16 => overwrite_array::<16>(place, piece),
+        _ => place.copy_from_slice(piece),
+    }
+}
+
+// Writes `piece` over the whole place, of `N` bytes, in one store.
+#[inline(always)]
+fn overwrite_array<const N: usize>(place: &mut [u8], piece: &[u8])
+    requires place_len { length place.old ≡ N }
+    requires piece_len { length piece.now ≡ N }
+    ensures { place.new ≡ piece.now }
+{
+    let (Some(to), Some(from)) = (place.first_chunk_mut::<N>(), piece.first_chunk::<N>()) else {
+        unreachable!()
+    };
+    *to = *from;
+}

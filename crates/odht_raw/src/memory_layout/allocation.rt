@@ -1,0 +1,141 @@
+//! The bytes of a table in a store: opening and reading.
+ghost use Rattle.std.specs.Prelude.{◌≡◌, ◌+◌, ◌-◌, ◌*◌, ◌<◌, ◌^◌, length, IfOk, IsOk};
+ghost use Rattle.odht_base.specs.Load.{IsSlotCount};
+ghost use Rattle.odht_base.specs.Format.{format_of};
+ghost use Rattle.odht_base.specs.Table.{Table};
+ghost use Rattle.odht_base.specs.Image.{image_len};
+ghost use Rattle.odht_base.specs.Valid.{IsImage, IsPartsOf};
+ghost use Rattle.odht_base.specs.Shown.{stated_slots, entries_of, controls_of};
+ghost use Rattle.std.specs.Result.{result_err};
+ghost use Rattle.odht_raw.specs.Frame.{IsAccepted};
+ghost use Rattle.odht_raw.specs.Refusals.{view_refusal};
+
+use super::{Entries, EntryMetadata, HEADER_SIZE, Header};
+use crate::bytes::{ByteArray, ByteStore};
+use crate::config::{Coded, Config};
+use crate::error::Error;
+use crate::raw_table::RawTable;
+use std::marker::{Model, PhantomData};
+
+mod writing;
+
+// How many slots a view looks at when it is opened.
+const SLOTS_TO_CHECK: usize = 10;
+
+/// The bytes of a table, whose header and length fit. A contract speaks of it as of the store.
+#[derive(Drop)]
+pub struct Allocation<C: Config, M: ByteStore> {
+    store: M,
+    config: PhantomData<C>,
+}
+
+impl<C: Config, M: ByteStore> Model for Allocation<C, M> {
+    ghost use Rattle.std.specs.Prelude.{◌<◌, ◌^◌, length};
+    ghost use Rattle.odht_base.specs.Format.{format_of};
+    ghost use Rattle.odht_raw.specs.Frame.{IsAccepted};
+
+    ghost Value = { M };
+
+    ghost view = { λ a. a.store };
+
+    ghost invariant = { λ a. IsAccepted (format_of C.EncodedKey.LEN C.EncodedValue.LEN C.H.hash) (M.bytes a.store) × (length (M.bytes a.store) < 2 ^ 64) };
+}
+
+impl<C: Config, M: ByteStore> Allocation<C, M> {
+    /// Takes the bytes as those of a table where nothing is refused: `TooShort`, then what
+    /// [`Header::sanity_check`] refuses, then what [`RawTable::sanity_check_hashes`] refuses of the first ten slots.
+    ///
+    /// The answer is the first refusal; then the data is dropped.
+    #[inline(always)]
+    pub fn from_raw_bytes(data: M) -> Result<Self, Error>
+        ensures ok { IfOk result (λ a. a ≡ «data») }
+        ensures err { result_err result ≡ view_refusal ⟦<C as Coded>⟧.coding.format (M.bytes «data») }
+        ensures valid { (P : Table) → IsImage ⟦<C as Coded>⟧.coding.format P (M.bytes «data») → IsOk result }
+    {
+        let bytes = data.bytes();
+        let found = bytes.len();
+        if found < HEADER_SIZE {
+            return Err(Error::TooShort { found });
+        }
+        Header::of(bytes).sanity_check::<C>(found)?;
+        let allocation = Allocation {
+            store: data,
+            config: PhantomData,
+        };
+        let (control, entries) = allocation.data_slices();
+        let table: RawTable<'_, C::EncodedKey, C::EncodedValue, C::H> = RawTable::new(
+            control, entries,
+        );
+        table.sanity_check_hashes(SLOTS_TO_CHECK)?;
+        Ok(allocation)
+    }
+
+    /// Takes the bytes as those of a table, which the caller knows them to be: nothing is looked at.
+    #[inline]
+    pub fn from_raw_bytes_unchecked(data: M) -> Self
+        requires { IsAccepted ⟦<C as Coded>⟧.coding.format (M.bytes «data») }
+        ensures { result ≡ «data» }
+    {
+        // A slice's length is below 2^64, and with it that of the store.
+        let _ = data.bytes();
+        Allocation {
+            store: data,
+            config: PhantomData,
+        }
+    }
+
+    /// All bytes.
+    #[inline]
+    pub fn raw_bytes(&self) -> &[u8]
+        ensures { result.now ≡ M.bytes self.now }
+    {
+        self.store.bytes()
+    }
+
+    /// The store, with the bytes as they are now.
+    #[inline]
+    pub fn into_store(self) -> M
+        ensures { result ≡ self }
+    {
+        let Allocation { store, config: _ } = self;
+        store
+    }
+
+    /// A reader of the header.
+    #[inline]
+    pub fn header(&self) -> Header<'_>
+        ensures bytes { result ≡ M.bytes self.now }
+        ensures accepted { IsAccepted ⟦<C as Coded>⟧.coding.format (M.bytes self.now) }
+        ensures len { let B = M.bytes self.now
+            in length B ≡ image_len ⟦<C as Coded>⟧.coding.format (stated_slots B) }
+        ensures fits { length (M.bytes self.now) < 2 ^ 64 }
+    {
+        Header::of(self.store.bytes())
+    }
+
+    /// The control bytes with their mirror, and the entries. Of the bytes of a valid table they are its parts.
+    #[inline]
+    pub fn data_slices(
+        &self,
+    ) -> (
+        &[EntryMetadata],
+        Entries<'_, C::EncodedKey, C::EncodedValue>,
+    )
+        ensures control { result.0.now ≡ controls_of ⟦<C as Coded>⟧.coding.format (M.bytes self.now) }
+        ensures entries { result.1.bytes ≡ entries_of ⟦<C as Coded>⟧.coding.format (M.bytes self.now) }
+        ensures slots { result.1.slots ≡ stated_slots (M.bytes self.now) }
+        ensures count { IsSlotCount result.1.slots }
+        ensures len { length result.0.now ≡ result.1.slots + 16 }
+        ensures parts { (P : Table)
+            → IsImage ⟦<C as Coded>⟧.coding.format P (M.bytes self.now)
+            → IsPartsOf ⟦<C as Coded>⟧.coding.format P result.1.bytes result.0.now }
+    {
+        let bytes = self.store.bytes();
+        let slots = Header::of(bytes).slot_count();
+        let control = HEADER_SIZE + slots * (C::EncodedKey::LEN + C::EncodedValue::LEN);
+        (
+            &bytes[control..],
+            Entries::new(&bytes[HEADER_SIZE..control], slots),
+        )
+    }
+}

@@ -1,0 +1,75 @@
+//! The three writes of an insert to the bytes of a table.
+ghost use Rattle.std.specs.Prelude.{◌≡◌, ◌<◌};
+ghost use Rattle.odht_base.specs.Numbers.{IsBytes};
+ghost use Rattle.odht_base.specs.Table.{Pair};
+ghost use Rattle.odht_base.specs.Valid.{IsPairOf};
+ghost use Rattle.odht_base.specs.Shown.{stated_slots};
+ghost use Rattle.odht_base.specs.Writes.{with_count, with_entry, with_tag, with_value};
+ghost use Rattle.odht_raw.specs.Frame.{IsAccepted};
+
+use super::Allocation;
+use crate::bytes::{ByteArray, ByteStoreMut};
+use crate::config::{Coded, Config};
+use crate::memory_layout::header::ITEM_COUNT_AT;
+use crate::memory_layout::{EntryMetadata, HEADER_SIZE};
+use crate::writes;
+
+impl<C: Config, M: ByteStoreMut> Allocation<C, M> {
+    /// Writes the item count.
+    #[inline]
+    pub fn set_item_count(&mut self, item_count: usize)
+        ensures bytes { M.bytes self.new ≡ with_count (M.bytes self.old) item_count }
+        ensures place { self.new ≡ M.holding self.old (M.bytes self.new) }
+        ensures accepted { IsAccepted ⟦<C as Coded>⟧.coding.format (M.bytes self.new) }
+    {
+        let store = &mut self.store;
+        store.write_at(ITEM_COUNT_AT, &(item_count as u64).to_le_bytes());
+    }
+
+    /// Writes the pair into the entry of a slot, and the tag into its control byte and, for a slot below 16, its mirror.
+    #[inline(always)]
+    pub fn write_entry(
+        &mut self,
+        slot: usize,
+        key: &C::EncodedKey,
+        value: &C::EncodedValue,
+        tag: EntryMetadata,
+    )
+        requires { slot < stated_slots (M.bytes self.old) }
+        ensures bytes { let F = ⟦<C as Coded>⟧.coding.format
+            in let p : Pair = record { key = C.EncodedKey.bytes key.now; value = C.EncodedValue.bytes value.now }
+            in let B = M.bytes self.old
+            in M.bytes self.new ≡ with_tag F (stated_slots B) (with_entry F B slot p) slot tag }
+        ensures place { self.new ≡ M.holding self.old (M.bytes self.new) }
+        ensures accepted { IsAccepted ⟦<C as Coded>⟧.coding.format (M.bytes self.new) }
+        ensures pair { IsPairOf ⟦<C as Coded>⟧.coding.format
+            (record { key = C.EncodedKey.bytes key.now; value = C.EncodedValue.bytes value.now }) }
+    {
+        let slots = self.header().slot_count();
+        let entry_len = C::EncodedKey::LEN + C::EncodedValue::LEN;
+        let store = &mut self.store;
+        writes::write_pair(store, HEADER_SIZE + slot * entry_len, key, value);
+        writes::write_tag(
+            store,
+            HEADER_SIZE + slots * entry_len + slot,
+            slots,
+            slot,
+            tag,
+        );
+    }
+
+    /// Writes the value alone into the entry of a slot.
+    #[inline(always)]
+    pub fn write_value(&mut self, slot: usize, value: &C::EncodedValue)
+        requires { slot < stated_slots (M.bytes self.old) }
+        ensures bytes { let F = ⟦<C as Coded>⟧.coding.format
+            in M.bytes self.new ≡ with_value F (M.bytes self.old) slot (C.EncodedValue.bytes value.now) }
+        ensures place { self.new ≡ M.holding self.old (M.bytes self.new) }
+        ensures accepted { IsAccepted ⟦<C as Coded>⟧.coding.format (M.bytes self.new) }
+        ensures value { IsBytes C.EncodedValue.LEN (C.EncodedValue.bytes value.now) }
+    {
+        let store = &mut self.store;
+        let entry = HEADER_SIZE + slot * (C::EncodedKey::LEN + C::EncodedValue::LEN);
+        store.write_at(entry + C::EncodedKey::LEN, value.as_slice());
+    }
+}

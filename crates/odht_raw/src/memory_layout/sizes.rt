@@ -1,0 +1,32 @@
+//! How long tables are.
+ghost use Rattle.std.specs.Prelude.{◌≡◌, ◌+◌, ◌-◌, ◌*◌, ◌<◌, ◌^◌, MatchOption, IfSome};
+ghost use Rattle.odht_base.specs.Image.{image_len};
+
+use super::HEADER_SIZE;
+use crate::bytes::ByteArray;
+use crate::config::{Coded, Config};
+use crate::swisstable_group_query::REFERENCE_GROUP_SIZE;
+
+/// How many bytes a table of `slot_count` slots has. None exactly where that passes `usize`.
+#[inline]
+pub fn bytes_needed<C: Config>(slot_count: usize) -> Option<usize>
+    ensures len { let len = image_len ⟦<C as Coded>⟧.coding.format slot_count
+        in MatchOption result (usize.MAX < len) (λ n. n ≡ len) }
+    ensures fits { IfSome result (λ n. n < 2 ^ 64) }
+{
+    let len = table_len::<C>(slot_count);
+    if len > usize::MAX as u128 {
+        return None;
+    }
+    Some(len as usize)
+}
+
+// How many bytes a table of `slot_count` slots has.
+#[inline]
+pub(super) fn table_len<C: Config>(slot_count: usize) -> u128
+    ensures { result ≡ image_len ⟦<C as Coded>⟧.coding.format slot_count }
+{
+    let entry = C::EncodedKey::LEN as u128 + C::EncodedValue::LEN as u128;
+    let slots = slot_count as u128;
+    HEADER_SIZE as u128 + slots * entry + slots + REFERENCE_GROUP_SIZE as u128
+}

@@ -1,0 +1,56 @@
+//! The writes of an insert to a store of bytes, each at a place that its caller knows.
+//!
+//! The bytes of a whole table and the two parts of a table are written by them alike.
+ghost use Rattle.std.specs.Prelude.{◌≡◌, ◌+◌, ◌<◌, ◌≤◌, ◌++◌, length};
+ghost use Rattle.odht_base.specs.Bytes.{overwritten_at};
+ghost use Rattle.odht_base.specs.Numbers.{IsBytes};
+ghost use Rattle.odht_base.specs.Writes.{tagged_at};
+
+use crate::bytes::{ByteArray, ByteStoreMut};
+use crate::raw_table::EntryMetadata;
+use crate::swisstable_group_query::REFERENCE_GROUP_SIZE;
+
+/// Writes the key from the byte `at` on, and the value behind it.
+#[inline(always)]
+pub(crate) fn write_pair<K: ByteArray, V: ByteArray, M: ByteStoreMut>(
+    store: &mut M,
+    at: usize,
+    key: &K,
+    value: &V,
+)
+    requires { at + (K.LEN + V.LEN) ≤ length (M.bytes store.old) }
+    ensures bytes { let pair = K.bytes key.now ++ V.bytes value.now
+        in M.bytes store.new ≡ overwritten_at (M.bytes store.old) at pair }
+    ensures len { length (M.bytes store.new) ≡ length (M.bytes store.old) }
+    ensures place { store.new ≡ M.holding store.old (M.bytes store.new) }
+    ensures key { IsBytes K.LEN (K.bytes key.now) }
+    ensures value { IsBytes V.LEN (V.bytes value.now) }
+{
+    // A slice's length is below 2^64, and so is each place in it.
+    let _ = store.bytes();
+    store.write_at(at, key.as_slice());
+    store.write_at(at + K::LEN, value.as_slice());
+}
+
+/// Writes the tag at the byte `at`, which is the control byte of one of so many slots, and for a slot below 16 at its mirror.
+#[inline(always)]
+pub(crate) fn write_tag<M: ByteStoreMut>(
+    store: &mut M,
+    at: usize,
+    slots: usize,
+    slot: usize,
+    tag: EntryMetadata,
+)
+    requires within { at < length (M.bytes store.old) }
+    requires mirrored { slot < 16 → at + slots < length (M.bytes store.old) }
+    ensures bytes { M.bytes store.new ≡ tagged_at (M.bytes store.old) at slots slot tag }
+    ensures len { length (M.bytes store.new) ≡ length (M.bytes store.old) }
+    ensures place { store.new ≡ M.holding store.old (M.bytes store.new) }
+{
+    // A slice's length is below 2^64, and so is each place in it.
+    let _ = store.bytes();
+    store.write_at(at, &[tag]);
+    if slot < REFERENCE_GROUP_SIZE {
+        store.write_at(at + slots, &[tag]);
+    }
+}
