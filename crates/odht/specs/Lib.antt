@@ -1,4 +1,6 @@
 -- The words that speak of lists of items; those of tables stand in `odht_base`, those of their bytes in `odht_raw`.
+-- what a new table is, and what an insert leaves
+pub mod Inserts
 -- lists of keys and values that are inserted in turn
 pub mod Lists
 -- the last value of a key in a list of items

@@ -9,9 +9,10 @@ ghost use Rattle.odht_base.specs.Insert.{put_view};
 ghost use Rattle.odht_base.specs.Search.{groups_read};
 ghost use Rattle.odht_base.specs.Shown.{stated_count, stated_slots, entries_of, controls_of, seen, HoldsKey};
 ghost use Rattle.odht_base.specs.Valid.{IsImage, IsPartsOf};
-ghost use Rattle.odht_raw.specs.Coding.{value_for, encoded, HasStored};
+ghost use Rattle.odht_raw.specs.Coding.{value_for, HasStored};
 ghost use Rattle.odht.specs.Lists.{encoded_all, IsFilled};
-ghost use Rattle.odht_raw.specs.Frame.{IsAccepted, IsFramed, IsBytesFramed};
+ghost use Rattle.odht.specs.Inserts.{IsFresh, IsInserted};
+ghost use Rattle.odht_raw.specs.Frame.{IsAccepted, IsFramed};
 ghost use Rattle.odht_raw.specs.Walks.{decoded_all};
 ghost use Rattle.odht_raw.specs.Refusals.{IsTooLarge, new_refusal, view_refusal};
 
@@ -39,16 +40,15 @@ pub fn bytes_needed<C: Config>(max_item_count: usize, max_load_factor_percent: u
     memory_layout::bytes_needed::<C>(slot_count)
 }
 
-/// A table in the bytes of a store. A contract speaks of it as of these bytes.
+/// A table in the bytes of a store. A contract speaks of it as of this store: `D.bytes` are the table's bytes, and the
+/// clauses named `place` say that it stays the store that it was made over, so what was lent holds the table.
 #[derive(Drop)]
 pub struct HashTable<C: Config, D: ByteStore> {
     allocation: Allocation<C, D>,
 }
 
 impl<C: Config, D: ByteStore> Model for HashTable<C, D> {
-    ghost use Rattle.std.specs.Prelude.{ℕ, List};
-
-    ghost Value = { List ℕ };
+    ghost Value = { D };
 
     ghost view = { λ t. t.allocation };
 }
@@ -61,7 +61,7 @@ impl<C: Config, D: ByteStore> HashTable<C, D> {
     /// within a frame only, which the calls state.
     #[inline(always)]
     pub fn from_raw_bytes(data: D) -> Result<Self, Error>
-        ensures ok { IfOk result (λ t. t ≡ D.bytes «data») }
+        ensures ok { IfOk result (λ t. t ≡ «data») }
         ensures err { result_err result ≡ view_refusal ⟦<C as Coded>⟧.coding.format (D.bytes «data») }
         ensures valid { (P : Table) → IsImage ⟦<C as Coded>⟧.coding.format P (D.bytes «data») → IsOk result }
     {
@@ -73,7 +73,7 @@ impl<C: Config, D: ByteStore> HashTable<C, D> {
     #[inline]
     pub fn from_raw_bytes_unchecked(data: D) -> Self
         requires { IsAccepted ⟦<C as Coded>⟧.coding.format (D.bytes «data») }
-        ensures { result ≡ D.bytes «data» }
+        ensures { result ≡ «data» }
     {
         HashTable {
             allocation: Allocation::from_raw_bytes_unchecked(data),
@@ -87,9 +87,9 @@ impl<C: Config, D: ByteStore> HashTable<C, D> {
     #[inline]
     pub fn get(&self, key: &C::Key) -> Option<C::Value>
         ensures on_valid { (P : Table)
-            → IsImage ⟦<C as Coded>⟧.coding.format P self.now
+            → IsImage ⟦<C as Coded>⟧.coding.format P (D.bytes self.now)
             → result ≡ value_for ⟦<C as Coded>⟧.coding P key.now }
-        ensures on_any { IfSome result (λ v. HasStored ⟦<C as Coded>⟧.coding self.now key.now v) }
+        ensures on_any { IfSome result (λ v. HasStored ⟦<C as Coded>⟧.coding (D.bytes self.now) key.now v) }
     {
         let table = self.as_raw();
         let key = C::encode_key(key);
@@ -105,13 +105,13 @@ impl<C: Config, D: ByteStore> HashTable<C, D> {
     #[inline]
     pub fn get_counted(&self, key: &C::Key) -> (Option<C::Value>, usize)
         ensures on_valid { (P : Table)
-            → IsImage ⟦<C as Coded>⟧.coding.format P self.now
+            → IsImage ⟦<C as Coded>⟧.coding.format P (D.bytes self.now)
             → result.0 ≡ value_for ⟦<C as Coded>⟧.coding P key.now }
         ensures groups { (P : Table)
-            → IsImage ⟦<C as Coded>⟧.coding.format P self.now
+            → IsImage ⟦<C as Coded>⟧.coding.format P (D.bytes self.now)
             → result.1 ≡ groups_read ⟦<C as Coded>⟧.coding.format P.cells (⟦<C as Coded>⟧.coding.key_bytes key.now) }
-        ensures on_any { IfSome result.0 (λ v. HasStored ⟦<C as Coded>⟧.coding self.now key.now v) }
-        ensures few { result.1 ≤ stated_slots self.now / 16 }
+        ensures on_any { IfSome result.0 (λ v. HasStored ⟦<C as Coded>⟧.coding (D.bytes self.now) key.now v) }
+        ensures few { result.1 ≤ stated_slots (D.bytes self.now) / 16 }
     {
         let table = self.as_raw();
         let key = C::encode_key(key);
@@ -127,9 +127,9 @@ impl<C: Config, D: ByteStore> HashTable<C, D> {
     #[inline]
     pub fn contains_key(&self, key: &C::Key) -> bool
         ensures on_valid { (P : Table)
-            → IsImage ⟦<C as Coded>⟧.coding.format P self.now
+            → IsImage ⟦<C as Coded>⟧.coding.format P (D.bytes self.now)
             → IsTrue result ↔ IsSome (map_of P (⟦<C as Coded>⟧.coding.key_bytes key.now)) }
-        ensures on_any { IsTrue result → HoldsKey ⟦<C as Coded>⟧.coding.format self.now (⟦<C as Coded>⟧.coding.key_bytes key.now) }
+        ensures on_any { IsTrue result → HoldsKey ⟦<C as Coded>⟧.coding.format (D.bytes self.now) (⟦<C as Coded>⟧.coding.key_bytes key.now) }
     {
         let table = self.as_raw();
         let key = C::encode_key(key);
@@ -141,9 +141,9 @@ impl<C: Config, D: ByteStore> HashTable<C, D> {
     #[inline]
     pub fn iter(&self) -> Iter<'_, C>
         ensures on_valid { (P : Table)
-            → IsImage ⟦<C as Coded>⟧.coding.format P self.now
+            → IsImage ⟦<C as Coded>⟧.coding.format P (D.bytes self.now)
             → result ≡ decoded_all ⟦<C as Coded>⟧.coding (walk P) }
-        ensures on_any { result ≡ decoded_all ⟦<C as Coded>⟧.coding (seen ⟦<C as Coded>⟧.coding.format self.now) }
+        ensures on_any { result ≡ decoded_all ⟦<C as Coded>⟧.coding (seen ⟦<C as Coded>⟧.coding.format (D.bytes self.now)) }
         ensures few { length result ≤ usize.MAX }
     {
         let (control, entries) = self.allocation.data_slices();
@@ -153,24 +153,28 @@ impl<C: Config, D: ByteStore> HashTable<C, D> {
     /// How many items the header states: of valid bytes, how many there are.
     #[inline]
     pub fn len(&self) -> usize
-        ensures stated { result ≡ stated_count self.now }
-        ensures on_valid { (P : Table) → IsImage ⟦<C as Coded>⟧.coding.format P self.now → result ≡ count P }
+        ensures stated { result ≡ stated_count (D.bytes self.now) }
+        ensures on_valid { (P : Table)
+            → IsImage ⟦<C as Coded>⟧.coding.format P (D.bytes self.now)
+            → result ≡ count P }
     {
         self.allocation.header().item_count()
     }
 
-    /// All bytes.
+    /// All bytes. A view accepts them.
     #[inline]
     pub fn raw_bytes(&self) -> &[u8]
-        ensures { result.now ≡ self.now }
+        ensures bytes { result.now ≡ D.bytes self.now }
+        ensures accepted { IsAccepted ⟦<C as Coded>⟧.coding.format (D.bytes self.now) }
     {
         self.allocation.raw_bytes()
     }
 
-    /// The data, with the bytes as they are now.
+    /// The data, with the bytes as they are now, which a view accepts.
     #[inline]
     pub fn into_data(self) -> D
-        ensures { D.bytes result ≡ self }
+        ensures data { result ≡ self }
+        ensures accepted { IsAccepted ⟦<C as Coded>⟧.coding.format (D.bytes result) }
     {
         let HashTable { allocation } = self;
         allocation.into_store()
@@ -179,11 +183,11 @@ impl<C: Config, D: ByteStore> HashTable<C, D> {
     /// The raw table of these bytes: who looks up many keys takes it once.
     #[inline]
     pub fn as_raw(&self) -> RawTable<'_, C::EncodedKey, C::EncodedValue, C::H>
-        ensures control { result.control ≡ controls_of ⟦<C as Coded>⟧.coding.format self.now }
-        ensures entries { result.entries.bytes ≡ entries_of ⟦<C as Coded>⟧.coding.format self.now }
-        ensures slots { result.entries.slots ≡ stated_slots self.now }
+        ensures control { result.control ≡ controls_of ⟦<C as Coded>⟧.coding.format (D.bytes self.now) }
+        ensures entries { result.entries.bytes ≡ entries_of ⟦<C as Coded>⟧.coding.format (D.bytes self.now) }
+        ensures slots { result.entries.slots ≡ stated_slots (D.bytes self.now) }
         ensures parts { (P : Table)
-            → IsImage ⟦<C as Coded>⟧.coding.format P self.now
+            → IsImage ⟦<C as Coded>⟧.coding.format P (D.bytes self.now)
             → IsPartsOf ⟦<C as Coded>⟧.coding.format P result.entries.bytes result.control }
     {
         let (control, entries) = self.allocation.data_slices();
@@ -219,7 +223,8 @@ impl<C: Config, D: ByteStoreMut> HashTable<C, D> {
     ) -> Result<Self, Error>
         requires low { 1 ≤ max_load_factor_percent }
         requires high { max_load_factor_percent ≤ 100 }
-        ensures ok { IfOk result (λ t. (P : Table) × (fresh max_item_count max_load_factor_percent ≡ Some P) × IsImage ⟦<C as Coded>⟧.coding.format P t) }
+        ensures ok { IfOk result (λ t. IsFresh ⟦<C as Coded>⟧.coding.format max_item_count max_load_factor_percent (D.bytes t)) }
+        ensures place { IfOk result (λ t. t ≡ D.holding «data» (D.bytes t)) }
         ensures err { result_err result ≡ new_refusal ⟦<C as Coded>⟧.coding.format max_item_count (factor_of max_load_factor_percent) (length (D.bytes «data»)) }
     {
         let factor = Factor::from_percent(max_load_factor_percent);
@@ -247,22 +252,45 @@ impl<C: Config, D: ByteStoreMut> HashTable<C, D> {
     /// free and the count rises by one, and no other byte changes.
     #[inline(always)]
     pub fn insert(&mut self, key: &C::Key, value: &C::Value) -> Result<Option<C::Value>, Error>
-        ensures ok { (P : Table)
-            → IsImage ⟦<C as Coded>⟧.coding.format P self.old
-            → IfOk result (λ old. (old ≡ value_for ⟦<C as Coded>⟧.coding P key.now) × ((Q : Table) × (put_view ⟦<C as Coded>⟧.coding.format P (encoded ⟦<C as Coded>⟧.coding key.now value.now) ≡ Some Q) × IsImage ⟦<C as Coded>⟧.coding.format Q self.new)) }
+        ensures ok { let c = ⟦<C as Coded>⟧.coding
+            in (P : Table)
+            → IsImage c.format P (D.bytes self.old)
+            → IfOk result (λ old. IsInserted c (put_view c.format) P key.now value.now old (D.bytes self.new)) }
         ensures full { (P : Table)
-            → IsImage ⟦<C as Coded>⟧.coding.format P self.old
+            → IsImage ⟦<C as Coded>⟧.coding.format P (D.bytes self.old)
             → (result ≡ Err Error.Full) ↔ (count P ≡ max_items (slot_count P) P.factor) }
-        ensures frame { IsFramed ⟦<C as Coded>⟧.coding self.old key.now value.now result self.new }
+        ensures frame { IsFramed ⟦<C as Coded>⟧.coding (D.bytes self.old) key.now value.now result (D.bytes self.new) }
         ensures only_full { OnErr result (result ≡ Err Error.Full) }
         ensures refused { OnErr result (self.new ≡ self.old) }
+        ensures place { self.new ≡ D.holding self.old (D.bytes self.new) }
+        ensures accepted { IsAccepted ⟦<C as Coded>⟧.coding.format (D.bytes self.new) }
     {
+        let header = self.allocation.header();
+        let count = header.item_count();
+        let max = max_item_count_for(header.slot_count(), header.max_load_factor());
+        if count >= max {
+            return Err(Error::Full);
+        }
         let key = C::encode_key(key);
         let value = C::encode_value(value);
-        match self.insert_encoded(&key, &value) {
-            Ok(Some(old)) => Ok(Some(C::decode_value(&old))),
-            Ok(None) => Ok(None),
-            Err(refused) => Err(refused),
+        let hash = C::H::hash(key.as_slice());
+        let (control, entries) = self.allocation.data_slices();
+        let mut scan = Scan::new(control, entries.len());
+        match search_hashed::<C::EncodedKey, C::EncodedValue, C::H, GroupQuery>(
+            &mut scan, &entries, &key, hash,
+        ) {
+            Search::Found(slot) => {
+                let old = entries.get(slot).value;
+                self.allocation.write_value(slot, &value);
+                Ok(Some(C::decode_value(&old)))
+            }
+            Search::Free(slot) => {
+                self.allocation
+                    .write_entry(slot, &key, &value, tag_of(hash));
+                self.allocation.set_item_count(count + 1);
+                Ok(None)
+            }
+            Search::Neither => Err(Error::Full),
         }
     }
 
@@ -271,14 +299,19 @@ impl<C: Config, D: ByteStoreMut> HashTable<C, D> {
     pub fn insert_all(&mut self, items: &[(C::Key, C::Value)]) -> (usize, Result<(), Error>)
         ensures bound { result.0 ≤ length items.now }
         ensures all { IsOk result.1 ↔ (result.0 ≡ length items.now) }
-        ensures filled { (P : Table)
-            → IsImage ⟦<C as Coded>⟧.coding.format P self.old
-            → IsFilled ⟦<C as Coded>⟧.coding.format (put_view ⟦<C as Coded>⟧.coding.format) P (encoded_all ⟦<C as Coded>⟧.coding (take result.0 items.now)) self.new }
+        ensures filled { let c = ⟦<C as Coded>⟧.coding
+            in (P : Table)
+            → IsImage c.format P (D.bytes self.old)
+            → IsFilled c.format (put_view c.format) P (encoded_all c (take result.0 items.now)) (D.bytes self.new) }
+        ensures place { self.new ≡ D.holding self.old (D.bytes self.new) }
+        ensures accepted { IsAccepted ⟦<C as Coded>⟧.coding.format (D.bytes self.new) }
         ensures at_maximum { (P : Table)
-            → IsImage ⟦<C as Coded>⟧.coding.format P self.new
+            → IsImage ⟦<C as Coded>⟧.coding.format P (D.bytes self.new)
             → OnErr result.1 (count P ≡ max_items (slot_count P) P.factor) }
         ensures only_full { OnErr result.1 (result.1 ≡ Err Error.Full) }
     {
+        // A view accepts the bytes that are there.
+        let _ = self.raw_bytes();
         for accepted in 0..items.len() {
             let (key, value) = &items[accepted];
             if let Err(refused) = self.insert(key, value) {
@@ -286,49 +319,5 @@ impl<C: Config, D: ByteStoreMut> HashTable<C, D> {
             }
         }
         (items.len(), Ok(()))
-    }
-
-    // `insert` of a pair that is encoded, with the former value as it stood in the bytes.
-    #[inline(always)]
-    fn insert_encoded(
-        &mut self,
-        key: &C::EncodedKey,
-        value: &C::EncodedValue,
-    ) -> Result<Option<C::EncodedValue>, Error>
-        ensures ok { let F = ⟦<C as Coded>⟧.coding.format
-            in (P : Table)
-            → IsImage F P self.old
-            → IfOk result (λ old. (old ≡ option_map C.EncodedValue.of_bytes (map_of P (C.EncodedKey.bytes key.now))) × ((Q : Table) × (put_view F P (record { key = C.EncodedKey.bytes key.now; value = C.EncodedValue.bytes value.now }) ≡ Some Q) × IsImage F Q self.new)) }
-        ensures full { (P : Table)
-            → IsImage ⟦<C as Coded>⟧.coding.format P self.old
-            → (result ≡ Err Error.Full) ↔ (count P ≡ max_items (slot_count P) P.factor) }
-        ensures frame { IsBytesFramed ⟦<C as Coded>⟧.coding.format C.EncodedValue.of_bytes self.old (record { key = C.EncodedKey.bytes key.now; value = C.EncodedValue.bytes value.now }) result self.new }
-        ensures only_full { OnErr result (result ≡ Err Error.Full) }
-        ensures refused { OnErr result (self.new ≡ self.old) }
-    {
-        let header = self.allocation.header();
-        let count = header.item_count();
-        let max = max_item_count_for(header.slot_count(), header.max_load_factor());
-        if count >= max {
-            return Err(Error::Full);
-        }
-        let hash = C::H::hash(key.as_slice());
-        let (control, entries) = self.allocation.data_slices();
-        let mut scan = Scan::new(control, entries.len());
-        match search_hashed::<C::EncodedKey, C::EncodedValue, C::H, GroupQuery>(
-            &mut scan, &entries, key, hash,
-        ) {
-            Search::Found(slot) => {
-                let old = entries.get(slot).value;
-                self.allocation.write_value(slot, value);
-                Ok(Some(old))
-            }
-            Search::Free(slot) => {
-                self.allocation.write_entry(slot, key, value, tag_of(hash));
-                self.allocation.set_item_count(count + 1);
-                Ok(None)
-            }
-            Search::Neither => Err(Error::Full),
-        }
     }
 }

@@ -8,8 +8,9 @@ ghost use Rattle.odht_base.specs.Format.{format_of};
 ghost use Rattle.odht_base.specs.Image.{header_bytes, image_len, parts};
 ghost use Rattle.odht_base.specs.Insert.{grown, place_all, put_owned};
 ghost use Rattle.odht_base.specs.Valid.{IsImage, IsPartsOf, IsValidBytes};
-ghost use Rattle.odht_raw.specs.Coding.{value_for, encoded};
+ghost use Rattle.odht_raw.specs.Coding.{value_for};
 ghost use Rattle.odht.specs.Lists.{encoded_all, IsFilled, IsFreshFilled};
+ghost use Rattle.odht.specs.Inserts.{IsFresh, IsInserted};
 ghost use Rattle.odht_raw.specs.Walks.{decoded_all};
 ghost use Rattle.std.specs.Iterator.{Drains, IsFinite};
 ghost use Rattle.odht_raw.specs.Refusals.{IsTooLarge};
@@ -60,7 +61,7 @@ impl<C: Config> HashTableOwned<C> {
     ) -> Result<Self, Error>
         requires low { 1 ≤ max_load_factor_percent }
         requires high { max_load_factor_percent ≤ 100 }
-        ensures ok { IfOk result (λ t. (P : Table) × (fresh max_item_count max_load_factor_percent ≡ Some P) × IsImage ⟦<C as Coded>⟧.coding.format P t) }
+        ensures ok { IfOk result (IsFresh ⟦<C as Coded>⟧.coding.format max_item_count max_load_factor_percent) }
         ensures capacity { (result ≡ Err Error.Capacity) ↔ IsTooLarge ⟦<C as Coded>⟧.coding.format max_item_count (factor_of max_load_factor_percent) }
         ensures memory { OnErr result ((result ≡ Err Error.Capacity) ⊎ (result ≡ Err Error.Memory)) }
     {
@@ -73,7 +74,7 @@ impl<C: Config> HashTableOwned<C> {
     ///
     /// `Memory` where the memory was refused.
     pub fn default(alloc: Global) -> Result<Self, Error>
-        ensures ok { IfOk result (λ t. (P : Table) × (fresh 12 87 ≡ Some P) × IsImage ⟦<C as Coded>⟧.coding.format P t) }
+        ensures ok { IfOk result (IsFresh ⟦<C as Coded>⟧.coding.format 12 87) }
         ensures memory { OnErr result (result ≡ Err Error.Memory) }
     {
         Self::with_capacity(alloc, 12, 87)
@@ -201,19 +202,21 @@ impl<C: Config> HashTableOwned<C> {
     /// `usize` is enough for it. Then nothing changes.
     #[inline(always)]
     pub fn insert(&mut self, key: &C::Key, value: &C::Value) -> Result<Option<C::Value>, Error>
-        ensures ok { (P : Table)
-            → IsImage ⟦<C as Coded>⟧.coding.format P self.old
-            → IfOk result (λ old. (old ≡ value_for ⟦<C as Coded>⟧.coding P key.now) × ((Q : Table) × (put_owned ⟦<C as Coded>⟧.coding.format P (encoded ⟦<C as Coded>⟧.coding key.now value.now) ≡ Some Q) × IsImage ⟦<C as Coded>⟧.coding.format Q self.new)) }
+        ensures ok { let c = ⟦<C as Coded>⟧.coding
+            in (P : Table)
+            → IsImage c.format P self.old
+            → IfOk result (λ old. IsInserted c (put_owned c.format) P key.now value.now old self.new) }
         ensures at_maximum { (P : Table)
             → IsImage ⟦<C as Coded>⟧.coding.format P self.old
             → OnErr result (count P ≡ max_items (slot_count P) P.factor) }
         ensures memory { OnErr result (result ≡ Err Error.Memory) }
         ensures refused { OnErr result (self.new ≡ self.old) }
     {
-        if let Ok(old) = self.table.insert(key, value) {
-            return Ok(old);
+        match self.table.insert(key, value) {
+            Ok(old) => Ok(old),
+            Err(Error::Full) => self.insert_grown(key, value),
+            Err(refused) => Err(refused),
         }
-        self.insert_grown(key, value)
     }
 
     /// Inserts the items in their order, and stops at the first that is refused. Answers how many were accepted, and
@@ -221,9 +224,10 @@ impl<C: Config> HashTableOwned<C> {
     pub fn insert_all(&mut self, items: &[(C::Key, C::Value)]) -> (usize, Result<(), Error>)
         ensures bound { result.0 ≤ length items.now }
         ensures all { IsOk result.1 ↔ (result.0 ≡ length items.now) }
-        ensures filled { (P : Table)
-            → IsImage ⟦<C as Coded>⟧.coding.format P self.old
-            → IsFilled ⟦<C as Coded>⟧.coding.format (put_owned ⟦<C as Coded>⟧.coding.format) P (encoded_all ⟦<C as Coded>⟧.coding (take result.0 items.now)) self.new }
+        ensures filled { let c = ⟦<C as Coded>⟧.coding
+            in (P : Table)
+            → IsImage c.format P self.old
+            → IsFilled c.format (put_owned c.format) P (encoded_all c (take result.0 items.now)) self.new }
         ensures at_maximum { (P : Table)
             → IsImage ⟦<C as Coded>⟧.coding.format P self.new
             → OnErr result.1 (count P ≡ max_items (slot_count P) P.factor) }
@@ -241,10 +245,11 @@ impl<C: Config> HashTableOwned<C> {
     // `insert` at the maximum: into the grown table.
     #[inline(never)]
     fn insert_grown(&mut self, key: &C::Key, value: &C::Value) -> Result<Option<C::Value>, Error>
-        ensures ok { (P : Table)
-            → IsImage ⟦<C as Coded>⟧.coding.format P self.old
+        ensures ok { let c = ⟦<C as Coded>⟧.coding
+            in (P : Table)
+            → IsImage c.format P self.old
             → count P ≡ max_items (slot_count P) P.factor
-            → IfOk result (λ old. (old ≡ value_for ⟦<C as Coded>⟧.coding P key.now) × ((Q : Table) × (put_owned ⟦<C as Coded>⟧.coding.format P (encoded ⟦<C as Coded>⟧.coding key.now value.now) ≡ Some Q) × IsImage ⟦<C as Coded>⟧.coding.format Q self.new)) }
+            → IfOk result (λ old. IsInserted c (put_owned c.format) P key.now value.now old self.new) }
         ensures memory { OnErr result (result ≡ Err Error.Memory) }
         ensures refused { OnErr result (self.new ≡ self.old) }
     {

@@ -1,19 +1,23 @@
 -- What the writes of an insert leave where its search ended, on the bytes of a valid table below its maximum.
-use Rattle.std.proofs.Common.{◌≡◌, ◌∙◌, ◌+◌, ℕ, sym, ap, refl, List, [], Some}
+use Rattle.std.proofs.Common.{◌≡◌, ◌∙◌, ◌+◌, ℕ, sym, ap, refl, subst, List, [], Option, Some}
+use Rattle.std.specs.Prelude.{option_map}
 use Rattle.std.proofs.lemmas.Option.{none-some}
 use Rattle.odht_base.specs.Format.{Format}
 use Rattle.odht_base.specs.Table.{Pair, Table, count, slot_count}
 use Rattle.odht_base.specs.Load.{max_items}
 use Rattle.odht_base.specs.Insert.{put_view}
-use Rattle.odht_base.specs.Valid.{IsPairOf, IsImage}
+use Rattle.odht_base.specs.Map.{map_of}
+use Rattle.odht_base.specs.Valid.{IsPairOf, IsImage, IsValid}
 use Rattle.odht_base.specs.Shown.{stated_slots, stated_count, stated_factor}
 use Rattle.odht_base.specs.Writes.{with_value, with_pair, with_count}
 use Rattle.odht_base.proofs.lemmas.Fits.{IsSized-IsPlaced}
 use Rattle.odht_base.proofs.lemmas.Image.{stated_count-image, stated_slots-image, stated_factor-image}
 use Rattle.odht_base.proofs.lemmas.Rooms.{place-IsValid_fits}
 use Rattle.odht_base.proofs.lemmas.Places.{written}
-use Rattle.odht_base.proofs.lemmas.Puts.{HasRoom, place-IsValid, put_view-below}
+use Rattle.odht_base.proofs.lemmas.Puts.{HasRoom, place-IsValid, put_view-below, put_view-IsInsert}
 use Rattle.odht_base.proofs.lemmas.Writes.{with_value-image, with_pair-image_stated}
+use Rattle.odht_raw.specs.Coding.{Coding, encoded}
+use Rattle.odht.specs.Inserts.{IsInserted}
 use Rattle.odht_raw.proofs.lemmas.Lookups.{IsFoundAt, IsFreeAt, IsNowhere}
 
 -- an insert below the maximum ends in the bytes of the table with the pair put
@@ -76,3 +80,17 @@ module _ (F : Format) (P : Table) (B : List ℕ) (is : IsImage F P B) (room : Ha
               ∙ with_pair-image_stated F P i p (IsSized-IsPlaced F P is.valid.placed) at.within at.free fits.key.len fits.value.len;
         },
       )
+
+-- ---- the answer of a view
+-- an insert that ends so answers the former value, and leaves the table after the put
+pub inserted : {K V : Type 0} (c : Coding K V) (P : Table) → IsValid c.format P → (k : K) (v : V) (old : Option V) (B : List ℕ) (p : Pair) → p ≡ encoded c k v
+    → old ≡ option_map c.value_of (map_of P p.key) → IsPut c.format P p B → IsInserted c (put_view c.format) P k v old B
+inserted c P ok k v old B p same former put =
+    let q = subst (λ (r : Pair). IsPut c.format P r B) same put in
+    record {
+      former = former ∙ ap (λ (r : Pair). option_map c.value_of (map_of P r.key)) same;
+      table = q.0;
+      inserted = q.1;
+      image = q.2;
+      maps = (put_view-IsInsert c.format).maps P q.0 (encoded c k v) ok q.1;
+    }

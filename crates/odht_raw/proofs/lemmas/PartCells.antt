@@ -1,5 +1,5 @@
 -- The cells of a placed table, as its parts show them.
-use Rattle.std.proofs.Common.{◌≡◌, ◌<◌, ◌∙◌, ◌+◌, ℕ, true, false, true≢false, sym, ap, refl, List, Option, Some, None, is_none, length, slice_index, arith}
+use Rattle.std.proofs.Common.{◌≡◌, ◌<◌, ◌∙◌, ◌+◌, ℕ, false, true≢false, sym, ap, refl, List, Option, Some, None, is_none, length, slice_index, arith}
 use Rattle.odht_base.specs.Format.{Format, IsFormat}
 use Rattle.odht_base.specs.Table.{Pair, Table, slot_count, cell_at, is_free}
 use Rattle.odht_base.specs.Valid.{IsPartsOf}

@@ -87,7 +87,8 @@ impl<C: Config, M: ByteStore> Allocation<C, M> {
     /// All bytes.
     #[inline]
     pub fn raw_bytes(&self) -> &[u8]
-        ensures { result.now ≡ M.bytes self.now }
+        ensures bytes { result.now ≡ M.bytes self.now }
+        ensures accepted { IsAccepted ⟦<C as Coded>⟧.coding.format (M.bytes self.now) }
     {
         self.store.bytes()
     }
@@ -95,7 +96,8 @@ impl<C: Config, M: ByteStore> Allocation<C, M> {
     /// The store, with the bytes as they are now.
     #[inline]
     pub fn into_store(self) -> M
-        ensures { result ≡ self }
+        ensures store { result ≡ self }
+        ensures accepted { IsAccepted ⟦<C as Coded>⟧.coding.format (M.bytes result) }
     {
         let Allocation { store, config: _ } = self;
         store

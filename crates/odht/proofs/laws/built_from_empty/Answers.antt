@@ -13,5 +13,5 @@ last_value-requires-after_bounds g c κs within =
     let made = c.in_ok-table.ensures.ok in
     let all = c.insert_all.ensures.all.0 (subst IsOk (sym c.in_ok-insert_all.was) refl) in
     let taken : take c.insert_all.result.0 items ≡ items = take_all c.insert_all.result.0 items (omega (arith, all)) in
-    let filled = subst (λ (xs : List (g.row.C-Key.Denot × g.row.C-Value.Denot)). IsFilled K.format (put_owned K.format) made.0 (encoded_all K xs) c.insert_all.new.self) taken (c.insert_all.ensures.filled made.0 made.2) in
-    filled-HasLastValues K (put_owned K.format) (length items) c.args.max_load_factor_percent made.0 items c.insert_all.new.self made.1 filled
+    let filled = subst (λ (xs : List (g.row.C-Key.Denot × g.row.C-Value.Denot)). IsFilled K.format (put_owned K.format) made.table (encoded_all K xs) c.insert_all.new.self) taken (c.insert_all.ensures.filled made.table made.image) in
+    filled-HasLastValues K (put_owned K.format) (length items) c.args.max_load_factor_percent made.table items c.insert_all.new.self made.new filled

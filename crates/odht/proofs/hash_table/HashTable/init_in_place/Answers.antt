@@ -37,14 +37,15 @@ returns-clause-ok g c =
     let s = c.in-Some.slot_count in
     let f = factor_of c.args.max_load_factor_percent in
     let slots : slots_for c.args.max_item_count f ≡ Some s = ap (slots_for c.args.max_item_count) (sym c.from_percent-factor.ensures) ∙ sym c.in-Some.ensures.value in
-    let count : IsSlotCount s = c.in-Some.ensures.least.is_count in (
-      empty s f,
-      ap (option_map (λ t. empty t f)) slots,
-      record {
+    let count : IsSlotCount s = c.in-Some.ensures.least.is_count in
+    record {
+      table = empty s f;
+      new = ap (option_map (λ t. empty t f)) slots;
+      image = record {
         valid = empty-IsValid s f F count (omega (arith, c.requires.low)) (omega (arith, c.requires.high));
-        bytes = c.init_in_place.ensures ∙ ap (λ t. with_count (image F (empty s t)) 0) c.from_percent-factor.ensures ∙ with_count-new F s 0 f count;
-      },
-    )
+        bytes = c.init_in_place.ensures.bytes ∙ ap (λ t. with_count (image F (empty s t)) 0) c.from_percent-factor.ensures ∙ with_count-new F s 0 f count;
+      };
+    }
 
 pub returns-clause-err : goal.returns-clause-err
 returns-clause-err g c =

@@ -1,4 +1,4 @@
-use Rattle.std.proofs.Common.{sym, subst, take, List, arith}
+use Rattle.std.proofs.Common.{◌∙◌, sym, ap, subst, take, List, arith}
 use Rattle.odht_base.specs.Insert.{put_view}
 use Rattle.odht_base.specs.Table.{Pair}
 use Rattle.odht_base.proofs.lemmas.FreshRuns.{put_view-PlacesBelow}
@@ -9,11 +9,19 @@ use Rattle.odht.proofs.lemmas.Fillings.{filled_more, encoded_all-more}
 use Rattle.odht.proofs.hash_table.HashTable.insert_all.Goals as goal
 
 pub loop-accepted-preserved : goal.loop-accepted-preserved
-loop-accepted-preserved g c P is =
+loop-accepted-preserved g c =
     let K = coding_of g.C.EncodedKey.ByteArray.LEN g.C.EncodedKey.ByteArray.bytes g.C.EncodedKey.ByteArray.of_bytes g.C.EncodedValue.ByteArray.LEN g.C.EncodedValue.ByteArray.bytes g.C.EncodedValue.ByteArray.of_bytes g.C.H.HashFn.hash g.C.Config.encode_key g.C.Config.encode_value g.C.Config.decode_key g.C.Config.decode_value in
     let n = c.loop-accepted.accepted in
     let items = c.args.items.now in
-    let h = c.loop-accepted.invariant P is in
-    let put = c.in_default.ensures.ok h.table h.image in
-    subst (λ (ps : List Pair). IsFilled K.format (put_view K.format) P ps c.insert.new.self) (sym (encoded_all-more K items n c.index-items-accepted.result (omega (arith, c.loop-accepted-test.true)) (sym c.index-items-accepted.is)))
-    (filled_more K.format (put_view K.format) (put_view-IsInsert K.format) (put_view-PlacesBelow K.format) P (encoded_all K (take n items)) _ c.loop-accepted.self c.insert.new.self h put.1.0 put.1.1 put.1.2)
+    let B = g.D.ByteStore.bytes c.insert.new.self in
+    let more = sym (encoded_all-more K items n c.index-items-accepted.result (omega (arith, c.loop-accepted-test.true)) (sym c.index-items-accepted.is)) in (
+      (λ P is.
+          let h = c.loop-accepted.invariant.0 P is in
+          let put = c.in_default.ensures.ok h.table h.image in
+          subst (λ (ps : List Pair). IsFilled K.format (put_view K.format) P ps B) more
+          (filled_more K.format (put_view K.format) (put_view-IsInsert K.format) (put_view-PlacesBelow K.format) P (encoded_all K (take n items)) _ _ B h put.table put.inserted put.image)),
+      c.in_default.ensures.accepted,
+      c.in_default.ensures.place
+          ∙ ap (λ s. g.D.ByteStoreMut.holding s B) c.loop-accepted.invariant.2
+          ∙ g.met.D.ByteStoreMut.held_last c.args.self.now (g.D.ByteStore.bytes c.loop-accepted.self) B,
+    )

@@ -21,7 +21,7 @@ returns-clause-on_any g c =
     ∙ ap (decoded_items g.C.Config.decode_key g.C.Config.decode_value) c.new.ensures.items
     ∙ decodes (record { control = c.data_slices-entries.result.0.now; entries = c.data_slices-entries.result.1 }) parts.len
     ∙ (λ j. map (decoded (coding g)) (filter_map (λ c. c) (shown_cells F (parts.entries j) (parts.control j))))
-    ∙ ap (λ B. map (decoded (coding g)) (seen F B)) c.self.view_is
+    ∙ ap (λ B. map (decoded (coding g)) (seen F B)) (ap g.D.ByteStore.bytes c.self.view_is)
 
 pub returns-clause-on_valid : goal.returns-clause-on_valid
 returns-clause-on_valid g c P is =

@@ -15,8 +15,8 @@ returns-clause-ok g c =
     let after = ran.1.2 tt in
     let slice : c.as_slice.result.now ≡ items = c.as_slice.ensures.value ∙ ran.2.0 in
     let made = c.in_ok-table.ensures.ok in
-    let new : fresh (length items) c.args.max_load_factor_percent ≡ Some made.0 = ap (λ n. fresh n c.args.max_load_factor_percent) (sym (c.len.ensures ∙ ran.2.1)) ∙ made.1 in
+    let new : fresh (length items) c.args.max_load_factor_percent ≡ Some made.table = ap (λ n. fresh n c.args.max_load_factor_percent) (sym (c.len.ensures ∙ ran.2.1)) ∙ made.new in
     let all = c.insert_all.ensures.all.0 (subst IsOk (sym c.in_ok-insert_all.was) refl) in
     let taken : take c.insert_all.result.0 c.as_slice.result.now ≡ items = take_all c.insert_all.result.0 c.as_slice.result.now (omega (arith, all)) ∙ slice in
-    let filled = subst (λ (xs : List (g.row.C-Key.Denot × g.row.C-Value.Denot)). IsFilled K.format (put_owned K.format) made.0 (encoded_all K xs) c.insert_all.new.self) taken (c.insert_all.ensures.filled made.0 made.2) in
-    (items, (after.0, (ran.1.0, ran.1.1, after.1)), fresh_filled K c.args.max_load_factor_percent items c.insert_all.new.self made.0 new filled)
+    let filled = subst (λ (xs : List (g.row.C-Key.Denot × g.row.C-Value.Denot)). IsFilled K.format (put_owned K.format) made.table (encoded_all K xs) c.insert_all.new.self) taken (c.insert_all.ensures.filled made.table made.image) in
+    (items, (after.0, (ran.1.0, ran.1.1, after.1)), fresh_filled K c.args.max_load_factor_percent items c.insert_all.new.self made.table new filled)

@@ -1,7 +1,6 @@
-use Rattle.std.proofs.Common.{◌∙◌, ◌≡◌}
+use Rattle.std.proofs.Common.{◌∙◌}
 use Rattle.odht_base.specs.Format.{Format, format_of}
-use Rattle.odht_base.specs.Load.{max_items}
-use Rattle.odht_base.specs.Table.{Pair, count, slot_count}
+use Rattle.odht_base.specs.Table.{Pair}
 use Rattle.odht_base.specs.Valid.{IsImage}
 use Rattle.odht.proofs.lemmas.Growths.{put_owned-view}
 use Rattle.odht.proofs.hash_table_owned.HashTableOwned.insert.Goals as goal
@@ -12,11 +11,10 @@ returns-in-Ok-clause-ok g c P is =
     let p : Pair = record { key = g.C.EncodedKey.ByteArray.bytes (g.C.Config.encode_key c.args.key.now); value = g.C.EncodedValue.ByteArray.bytes (g.C.Config.encode_value c.args.value.now) } in
     let here : IsImage F P c.self.inside.table = record { valid = is.valid; bytes = c.self.view_is ∙ is.bytes } in
     let put = c.in-Ok.ensures.ok P here in
-    (put.0, (put.1.0, put_owned-view F P p is.valid (λ e. let no = (c.in-Ok.ensures.full P here).1 e in cc) ∙ put.1.1, put.1.2))
-
-pub returns-clause-ok : goal.returns-clause-ok
-returns-clause-ok g c P is =
-    let F : Format = format_of g.C.EncodedKey.ByteArray.LEN g.C.EncodedValue.ByteArray.LEN g.C.H.HashFn.hash in
-    let here : IsImage F P c.self.inside.table = record { valid = is.valid; bytes = c.self.view_is ∙ is.bytes } in
-    let full : count P ≡ max_items (slot_count P) P.factor = (c.in_default.ensures.full P here).0 c.in_default.ensures.only_full in
-    c.insert_grown.ensures.ok P (record { valid = is.valid; bytes = c.in_default.ensures.refused ∙ here.bytes }) full
+    record {
+      former = put.former;
+      table = put.table;
+      inserted = put_owned-view F P p is.valid (λ e. let no = (c.in-Ok.ensures.full P here).1 e in cc) ∙ put.inserted;
+      image = put.image;
+      maps = put.maps;
+    }

@@ -16,4 +16,4 @@ loop-accepted-preserved g c P is =
     let h = c.loop-accepted.invariant P is in
     let put = c.in_default.ensures.ok h.table h.image in
     subst (λ (ps : List Pair). IsFilled K.format (put_owned K.format) P ps c.insert.new.self) (sym (encoded_all-more K items n c.index-items-accepted.result (omega (arith, c.loop-accepted-test.true)) (sym c.index-items-accepted.is)))
-    (filled_more K.format (put_owned K.format) (put_owned-IsInsert K.format) (put_owned-PlacesBelow K.format) P (encoded_all K (take n items)) _ c.loop-accepted.self c.insert.new.self h put.1.0 put.1.1 put.1.2)
+    (filled_more K.format (put_owned K.format) (put_owned-IsInsert K.format) (put_owned-PlacesBelow K.format) P (encoded_all K (take n items)) _ c.loop-accepted.self c.insert.new.self h put.table put.inserted put.image)

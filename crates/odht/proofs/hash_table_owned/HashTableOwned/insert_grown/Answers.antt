@@ -1,4 +1,4 @@
-use Rattle.std.proofs.Common.{◌∙◌, ap, sym, []}
+use Rattle.std.proofs.Common.{◌∙◌, ap, cond, bytes_eq, sym, Some, []}
 use Rattle.std.specs.Prelude.{option_map}
 use Rattle.odht_base.specs.Format.{Format, format_of}
 use Rattle.odht_base.specs.Table.{Pair}
@@ -19,15 +19,20 @@ invariant_of-self g c =
     let P = c.self.invariant.0 in
     let is = c.self.invariant.1 in
     let grown = c.in_ok-grown.ensures.ok P (record { valid = is.valid; bytes = sym c.self.view_is ∙ is.bytes }) in
-    let put = (c.in-Ok.ensures.ok grown.0 grown.2).1 in
-    (put.0, put.2)
+    let put = c.in-Ok.ensures.ok grown.0 grown.2 in
+    (put.table, put.image)
 
 pub returns-clause-ok : goal.returns-clause-ok
 returns-clause-ok g c P is full =
     let F : Format = format_of g.C.EncodedKey.ByteArray.LEN g.C.EncodedValue.ByteArray.LEN g.C.H.HashFn.hash in
     let p : Pair = record { key = g.C.EncodedKey.ByteArray.bytes (g.C.Config.encode_key c.args.key.now); value = g.C.EncodedValue.ByteArray.bytes (g.C.Config.encode_value c.args.value.now) } in
     let grown = c.in_ok-grown.ensures.ok P is in
-    let put = c.in-Ok.ensures.ok grown.0 grown.2 in (
-      put.0 ∙ ap (option_map (λ b. g.C.Config.decode_value (g.C.EncodedValue.ByteArray.of_bytes b))) (grown_maps F P p is.valid grown.0 grown.1 p.key),
-      (put.1.0, put_owned-grown F P p is.valid grown.0 full grown.1 ∙ put.1.1, put.1.2),
-    )
+    let put = c.in-Ok.ensures.ok grown.0 grown.2 in
+    let maps = grown_maps F P p is.valid grown.0 grown.1 in
+    record {
+      former = put.former ∙ ap (option_map (λ b. g.C.Config.decode_value (g.C.EncodedValue.ByteArray.of_bytes b))) (maps p.key);
+      table = put.table;
+      inserted = put_owned-grown F P p is.valid grown.0 full grown.1 ∙ put.inserted;
+      image = put.image;
+      maps = λ q. put.maps q ∙ ap (cond (bytes_eq q p.key) (Some p.value)) (maps q);
+    }
