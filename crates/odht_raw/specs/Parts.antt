@@ -5,8 +5,9 @@
 --     TableParts           control bytes with their mirror, and entries
 --     IsTableParts ml kl vl T   T has a slot count, and as many control bytes with their mirror and entries; a key is long
 --                          enough for its hash
+--     IsZeros n bs         bs are n zeros, as key or value of a free slot's entry
 --     ShownGroups          control bytes with their mirror, and how many groups of sixteen of them were shown
-use Rattle.std.specs.Prelude.{◌≡◌, ℕ, ◌+◌, ◌*◌, ◌≤◌, List, length}
+use Rattle.std.specs.Prelude.{◌≡◌, ℕ, ◌+◌, ◌*◌, ◌≤◌, List, length, replicate}
 use Rattle.odht_base.specs.Format.{Format, format_of}
 use Rattle.odht_base.specs.Load.{IsSlotCount}
 
@@ -31,6 +32,9 @@ pub record IsTableParts (min_len key_len value_len : ℕ) (T : TableParts) : Typ
   pub slots : IsSlotCount T.entries.slots
   pub mirrored : length T.control ≡ T.entries.slots + 16
   pub hashes : min_len ≤ key_len
+
+abbrev pub IsZeros : ℕ → List ℕ → Type 0
+IsZeros n bs = bs ≡ replicate n 0
 
 pub record ShownGroups : Type 0 where
   pub control : List ℕ

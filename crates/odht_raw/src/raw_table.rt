@@ -49,6 +49,10 @@ pub struct Entry<K: ByteArray, V: ByteArray> {
 }
 
 impl<K: ByteArray, V: ByteArray> Default for Entry<K, V> {
+    ghost use Rattle.odht_raw.specs.Parts.{IsZeros};
+
+    ghost is_default = { λ e. IsZeros K.LEN (K.bytes e.key) × IsZeros V.LEN (V.bytes e.value) };
+
     /// The entry of a free slot: zeros.
     #[inline]
     fn default() -> Self {
