@@ -8,11 +8,12 @@ use Rattle.odht_base.specs.Search.{search_end}
 use Rattle.odht_base.specs.Insert.{place}
 use Rattle.odht_base.specs.Map.{map_of}
 use Rattle.odht_base.specs.Valid.{HoldsPair, IsPlaced}
-use Rattle.odht_base.proofs.lemmas.Keys.{key_pair}
+use Rattle.odht_base.proofs.lemmas.Keys.{key_pair, pair_key}
 use Rattle.odht_base.proofs.lemmas.Targets.{search_end-IsTarget}
 use Rattle.odht_base.proofs.lemmas.Places.{written, place-at, place-search_end, is_free-target, map_of-holds}
 use Rattle.odht_base.proofs.lemmas.Lookups.{map_of-search_end}
-use Rattle.odht_raw.specs.Answers.{answer}
+use Rattle.odht_raw.specs.Answers.{answer, IsWherePlaced}
+use Rattle.odht_raw.specs.declared.raw_table.outcome.Search.{Search}
 use Rattle.odht_raw.specs.declared.raw_table.outcome.Search.TheVariants.{Found, Free, Neither}
 
 -- what a found key tells: its slot's pair, the map's value, and that a pair with the key goes there
@@ -112,3 +113,11 @@ module _ (F : Format) (P : Table) (k : List ℕ) (ok : IsPlaced F P) where
         value = map_of-search_end F P k ok ∙ ap (option_and_then (λ i. option_map (λ (p : Pair). p.value) (cell_at P.cells i))) e;
         places = λ p same. place-search_end F P p ok None (ap (search_end F P.cells) same ∙ e);
       }
+
+  -- an answer is where a pair with the key is placed
+  pub answer-IsWherePlaced : (r : Search) → r ≡ answer F P.cells k → IsWherePlaced F P k r
+  answer-IsWherePlaced (Found i) e =
+      let at = answer-Found i e in (pair_key k (cell_at P.cells i) at.pair at.holds (sym at.key), λ v. at.places (record { key = k; value = v }) refl)
+  answer-IsWherePlaced (Free i) e =
+      let at = answer-Free i e in (ap is_none at.free, λ v. at.places (record { key = k; value = v }) refl)
+  answer-IsWherePlaced Neither e = let at = answer-Neither e in λ v. at.places (record { key = k; value = v }) refl

@@ -6,7 +6,7 @@ ghost use Rattle.odht_base.specs.Table.{Table};
 ghost use Rattle.odht_base.specs.Search.{groups_read};
 ghost use Rattle.odht_base.specs.Valid.{IsPartsOf};
 ghost use Rattle.odht_base.specs.Shown.{counts_as_free, slot_key};
-ghost use Rattle.odht_raw.specs.Answers.{answer, MatchSearch};
+ghost use Rattle.odht_raw.specs.Answers.{answer, MatchSearch, IsWherePlaced};
 ghost use Rattle.odht_raw.specs.Frame.{CountsAsFree};
 ghost use Rattle.odht_raw.specs.Searches.{StandsAt, IsLook};
 
@@ -17,8 +17,8 @@ use crate::swisstable_group_query::{Group, REFERENCE_GROUP_SIZE};
 
 /// Looks for the key group by group along its probe order, and stops at the first slot that is free or holds it.
 ///
-/// On the parts of a table whose keys are all reached the answer is the slot where a search slot by slot ends, and exactly
-/// as many groups as there are up to it are shown. On any parts `Found` is a slot whose entry has this very key, `Free`
+/// On the parts of a table whose keys are all reached the answer is the slot where a search slot by slot ends, which is where
+/// a pair with the key is placed, and exactly as many groups as there are up to it are shown. On any parts `Found` is a slot whose entry has this very key, `Free`
 /// one that counts as free, and no more groups are shown than there are. Both hold of every group search. The rules are
 /// those of docs/FORMAT.md, "Search".
 #[inline]
@@ -34,6 +34,9 @@ pub fn search<K: ByteArray, V: ByteArray, H: HashFn, Q: Group>(
     ensures on_placed { (P : Table)
         → IsPartsOf (format_of K.LEN V.LEN H.hash) P entries.now.bytes scan.old.control
         → result ≡ answer (format_of K.LEN V.LEN H.hash) P.cells (K.bytes key.now) }
+    ensures placing { (P : Table)
+        → IsPartsOf (format_of K.LEN V.LEN H.hash) P entries.now.bytes scan.old.control
+        → IsWherePlaced (format_of K.LEN V.LEN H.hash) P (K.bytes key.now) result }
     ensures groups { (P : Table)
         → IsPartsOf (format_of K.LEN V.LEN H.hash) P entries.now.bytes scan.old.control
         → scan.new.groups ≡ min (scan.old.groups + groups_read (format_of K.LEN V.LEN H.hash) P.cells (K.bytes key.now)) usize.MAX }
@@ -64,6 +67,9 @@ pub fn search_hashed<K: ByteArray, V: ByteArray, H: HashFn, Q: Group>(
     ensures on_placed { (P : Table)
         → IsPartsOf (format_of K.LEN V.LEN H.hash) P entries.now.bytes scan.old.control
         → result ≡ answer (format_of K.LEN V.LEN H.hash) P.cells (K.bytes key.now) }
+    ensures placing { (P : Table)
+        → IsPartsOf (format_of K.LEN V.LEN H.hash) P entries.now.bytes scan.old.control
+        → IsWherePlaced (format_of K.LEN V.LEN H.hash) P (K.bytes key.now) result }
     ensures groups { (P : Table)
         → IsPartsOf (format_of K.LEN V.LEN H.hash) P entries.now.bytes scan.old.control
         → scan.new.groups ≡ min (scan.old.groups + groups_read (format_of K.LEN V.LEN H.hash) P.cells (K.bytes key.now)) usize.MAX }

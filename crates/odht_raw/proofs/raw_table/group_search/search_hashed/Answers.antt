@@ -8,6 +8,7 @@ use Rattle.odht_base.proofs.lemmas.SlotCounts.{sixteens}
 use Rattle.odht_raw.specs.Searches.{Passed}
 use Rattle.odht_raw.proofs.lemmas.Formats.{IsFormat-format_of}
 use Rattle.odht_raw.proofs.lemmas.GroupSearches.{stands-probe, reads-to, reads-all, ends-free}
+use Rattle.odht_raw.proofs.lemmas.Lookups.{answer-IsWherePlaced}
 use Rattle.odht_raw.proofs.lemmas.PlainSearch.{no_end}
 use Rattle.odht_raw.proofs.raw_table.group_search.search_hashed.Goals as goal
 
@@ -44,6 +45,11 @@ returns-in-Some-clause-on_placed g c P h =
     v.aligned v.within c.index-start.ensures.slot v.home v.mask c.requires.hash c.group-bytes.ensures.bytes v.control (v.passed P h) in
     (c.in-Some.ensures.on_placed P p at).0
 
+pub returns-in-Some-clause-placing : goal.returns-in-Some-clause-placing
+returns-in-Some-clause-placing g c P h =
+    let F : Format = format_of g.K.ByteArray.LEN g.V.ByteArray.LEN g.H.HashFn.hash in
+    answer-IsWherePlaced F P (g.K.ByteArray.bytes c.args.key.now) h.placed c.in-Some.end (returns-in-Some-clause-on_placed g c P h)
+
 pub returns-in-Some-clause-groups : goal.returns-in-Some-clause-groups
 returns-in-Some-clause-groups g c P h =
     let F : Format = format_of g.K.ByteArray.LEN g.V.ByteArray.LEN g.H.HashFn.hash in
@@ -74,6 +80,11 @@ returns-then-is_last-clause-on_placed g c P h =
     v.aligned v.within c.index-start.ensures.slot v.home v.mask c.requires.hash c.group-bytes.ensures.bytes v.control (v.passed P h) in
     let all : p + 16 ≡ c.args.entries.now.slots = omega (arith, v.within, v.mask, c.is_last.ensures.0 c.if-is_last.true) in
     no_end F P k c.args.entries.now.bytes c.args.scan.now.control f h c.args.entries.now.slots c.requires.entries (subst (Passed F P k) all (c.in_default.ensures.on_placed P p at))
+
+pub returns-then-is_last-clause-placing : goal.returns-then-is_last-clause-placing
+returns-then-is_last-clause-placing g c P h =
+    let F : Format = format_of g.K.ByteArray.LEN g.V.ByteArray.LEN g.H.HashFn.hash in
+    answer-IsWherePlaced F P (g.K.ByteArray.bytes c.args.key.now) h.placed _ (returns-then-is_last-clause-on_placed g c P h)
 
 pub returns-then-is_last-clause-groups : goal.returns-then-is_last-clause-groups
 returns-then-is_last-clause-groups g c P h =
