@@ -3,6 +3,8 @@
 pub mod Coding
 -- the parts of a table as code sees them
 pub mod Parts
+-- the lengths that searches and inserts ask for
+pub mod PartLengths
 -- what a search answers
 pub mod Answers
 -- the probe order, a group at a time
@@ -13,6 +15,10 @@ pub mod Searches
 pub mod Refusals
 -- what an insert may do to bytes that a view accepts, valid or not
 pub mod Frame
+-- where a search ends on any parts
+pub mod SearchEnds
+-- what an insert into parts answers and leaves
+pub mod PartsInserts
 -- what is written of an error
 pub mod ErrorTexts
 -- what a walk over the slots gives

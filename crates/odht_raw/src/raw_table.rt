@@ -8,6 +8,7 @@ ghost use Rattle.odht_base.specs.Search.{groups_read};
 ghost use Rattle.odht_base.specs.Valid.{IsPartsOf};
 ghost use Rattle.odht_base.specs.Shown.{slot_key, slot_value, counts_as_free};
 ghost use Rattle.odht_raw.specs.Parts.{entry_format};
+ghost use Rattle.odht_raw.specs.SearchEnds.{IsBesideKey};
 ghost use Rattle.odht_raw.specs.Walks.{items_from};
 ghost use Rattle.odht_raw.specs.Refusals.{checked, hashes_refusal, hashes_refusal_at};
 
@@ -195,9 +196,8 @@ impl<'a, K: ByteArray, V: ByteArray, H: HashFn> RawTable<'a, K, V, H> {
         ensures on_placed { (P : Table)
             → IsPartsOf (format_of K.LEN V.LEN H.hash) P self.now.entries.bytes self.now.control
             → result ≡ option_map V.of_bytes (map_of P (K.bytes key.now)) }
-        ensures on_any { let F = format_of K.LEN V.LEN H.hash
-            in let es = self.now.entries.bytes
-            in IfSome result (λ v. (i : ℕ) × (i < self.now.entries.slots) × (slot_key F es i ≡ K.bytes key.now) × (v ≡ V.of_bytes (slot_value F es i))) }
+        ensures on_any { IfSome result
+            (IsBesideKey (format_of K.LEN V.LEN H.hash) V.of_bytes self.now.entries (K.bytes key.now)) }
     {
         let (value, _) = self.find_counted(key);
         value
@@ -213,9 +213,8 @@ impl<'a, K: ByteArray, V: ByteArray, H: HashFn> RawTable<'a, K, V, H> {
         ensures groups { (P : Table)
             → IsPartsOf (format_of K.LEN V.LEN H.hash) P self.now.entries.bytes self.now.control
             → result.1 ≡ groups_read (format_of K.LEN V.LEN H.hash) P.cells (K.bytes key.now) }
-        ensures on_any { let F = format_of K.LEN V.LEN H.hash
-            in let es = self.now.entries.bytes
-            in IfSome result.0 (λ v. (i : ℕ) × (i < self.now.entries.slots) × (slot_key F es i ≡ K.bytes key.now) × (v ≡ V.of_bytes (slot_value F es i))) }
+        ensures on_any { IfSome result.0
+            (IsBesideKey (format_of K.LEN V.LEN H.hash) V.of_bytes self.now.entries (K.bytes key.now)) }
         ensures few { result.1 ≤ self.now.entries.slots / 16 }
     {
         let mut scan = Scan::new(self.control, self.entries.len());

@@ -1,12 +1,10 @@
 //! The parts of a table which can be written: what the two slices hold once the table is dropped.
-ghost use Rattle.std.specs.Prelude.{◌≡◌, ◌-◌, ◌*◌, ◌+◌, ◌≤◌, length, option_map, IfOk, OnErr};
-ghost use Rattle.odht_base.specs.Load.{IsSlotCount};
+ghost use Rattle.std.specs.Prelude.{length};
 ghost use Rattle.odht_base.specs.Format.{format_of};
 ghost use Rattle.odht_base.specs.Table.{Pair, Table};
-ghost use Rattle.odht_base.specs.Map.{map_of};
-ghost use Rattle.odht_base.specs.Insert.{place};
 ghost use Rattle.odht_base.specs.Valid.{IsPartsOf};
-ghost use Rattle.odht_raw.specs.Frame.{IsPartsFramed};
+ghost use Rattle.odht_raw.specs.PartLengths.{ArePartLengths};
+ghost use Rattle.odht_raw.specs.PartsInserts.{IsPlacing, IsChange};
 
 use crate::checks::{same, same_at, same_parts};
 use crate::known_tables::sixteen_slots;
@@ -25,18 +23,13 @@ fn insert_into_parts<K: ByteArray, V: ByteArray, H: HashFn>(
     key: K,
     value: V,
 ) -> Result<Option<V>, Error>
-    requires slots { IsSlotCount (length control.old - 16) }
-    requires entries { length entries.old ≡ (length control.old - 16) * (K.LEN + V.LEN) }
-    requires hashes { H.MIN_LEN ≤ K.LEN }
-    requires key { K.LEN ≤ 255 }
-    requires value { V.LEN ≤ 255 }
-    ensures ok { let F = format_of K.LEN V.LEN H.hash
+    requires { ArePartLengths H.MIN_LEN K.LEN V.LEN (length entries.old) (length control.old) }
+    ensures placed { let p : Pair = record { key = K.bytes key; value = V.bytes value }
         in (P : Table)
-        → IsPartsOf F P entries.old control.old
-        → IfOk result (λ old. (old ≡ option_map V.of_bytes (map_of P (K.bytes key))) × ((Q : Table) × (place F P (record { key = K.bytes key; value = V.bytes value }) ≡ Some Q) × IsPartsOf F Q entries.new control.new)) }
-    ensures frame { IsPartsFramed (format_of K.LEN V.LEN H.hash) V.of_bytes entries.old control.old (record { key = K.bytes key; value = V.bytes value }) result entries.new control.new }
-    ensures refused_control { OnErr result (control.new ≡ control.old) }
-    ensures refused_entries { OnErr result (entries.new ≡ entries.old) }
+        → IsPartsOf (format_of K.LEN V.LEN H.hash) P entries.old control.old
+        → IsPlacing (format_of K.LEN V.LEN H.hash) V.of_bytes P p result entries.new control.new }
+    ensures any { let p : Pair = record { key = K.bytes key; value = V.bytes value }
+        in IsChange (format_of K.LEN V.LEN H.hash) V.of_bytes entries.old control.old p result entries.new control.new }
 {
     let mut table: RawTableMut<'_, '_, K, V, H> = RawTableMut::new(control, entries);
     table.insert(key, value)

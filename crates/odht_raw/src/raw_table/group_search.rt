@@ -1,13 +1,13 @@
 //! The search by groups of control bytes along the probe order.
-ghost use Rattle.std.specs.Prelude.{◌≡◌, ℕ, ◌+◌, ◌/◌, ◌%◌, ◌^◌, ◌<◌, ◌≤◌, ⊤, min, length, slice_index, IfSome, IsTrue};
+ghost use Rattle.std.specs.Prelude.{◌≡◌, ℕ, ◌+◌, ◌/◌, ◌^◌, ◌<◌, ◌≤◌, min, length, IfSome};
 ghost use Rattle.odht_base.specs.Load.{IsSlotCount};
 ghost use Rattle.odht_base.specs.Format.{format_of};
 ghost use Rattle.odht_base.specs.Table.{Table};
 ghost use Rattle.odht_base.specs.Search.{groups_read};
 ghost use Rattle.odht_base.specs.Valid.{IsPartsOf};
-ghost use Rattle.odht_base.specs.Shown.{counts_as_free, slot_key};
-ghost use Rattle.odht_raw.specs.Answers.{answer, MatchSearch, IsWherePlaced};
-ghost use Rattle.odht_raw.specs.Frame.{CountsAsFree};
+ghost use Rattle.odht_raw.specs.Answers.{answer, IsWherePlaced};
+ghost use Rattle.odht_raw.specs.PartLengths.{ArePairLengths, AreSearchLengths};
+ghost use Rattle.odht_raw.specs.SearchEnds.{IsEnd, IsEndAmong};
 ghost use Rattle.odht_raw.specs.Searches.{StandsAt, IsLook};
 
 use super::{Entries, EntryMetadata, ProbeSeq, Scan, Search, tag_of};
@@ -27,10 +27,7 @@ pub fn search<K: ByteArray, V: ByteArray, H: HashFn, Q: Group>(
     entries: &Entries<'_, K, V>,
     key: &K,
 ) -> Search
-    requires entries { length scan.old.control ≡ entries.now.slots + 16 }
-    requires hashes { H.MIN_LEN ≤ K.LEN }
-    requires key { K.LEN ≤ 255 }
-    requires value { V.LEN ≤ 255 }
+    requires { AreSearchLengths H.MIN_LEN K.LEN V.LEN entries.now.slots (length scan.old.control) }
     ensures on_placed { (P : Table)
         → IsPartsOf (format_of K.LEN V.LEN H.hash) P entries.now.bytes scan.old.control
         → result ≡ answer (format_of K.LEN V.LEN H.hash) P.cells (K.bytes key.now) }
@@ -39,11 +36,9 @@ pub fn search<K: ByteArray, V: ByteArray, H: HashFn, Q: Group>(
         → IsWherePlaced (format_of K.LEN V.LEN H.hash) P (K.bytes key.now) result }
     ensures groups { (P : Table)
         → IsPartsOf (format_of K.LEN V.LEN H.hash) P entries.now.bytes scan.old.control
-        → scan.new.groups ≡ min (scan.old.groups + groups_read (format_of K.LEN V.LEN H.hash) P.cells (K.bytes key.now)) usize.MAX }
-    ensures slot { MatchSearch result
-        (λ i. (i < entries.now.slots) × (slot_key (format_of K.LEN V.LEN H.hash) entries.now.bytes i ≡ K.bytes key.now))
-        (λ i. (i < entries.now.slots) × CountsAsFree scan.old.control i)
-        ⊤ }
+        → let read = groups_read (format_of K.LEN V.LEN H.hash) P.cells (K.bytes key.now)
+        in scan.new.groups ≡ min (scan.old.groups + read) usize.MAX }
+    ensures slot { IsEnd (format_of K.LEN V.LEN H.hash) entries.now scan.old.control (K.bytes key.now) result }
     ensures few { scan.new.groups ≤ scan.old.groups + entries.now.slots / 16 }
     ensures control { scan.new.control ≡ scan.old.control }
 {
@@ -59,11 +54,8 @@ pub fn search_hashed<K: ByteArray, V: ByteArray, H: HashFn, Q: Group>(
     key: &K,
     hash: u32,
 ) -> Search
-    requires entries { length scan.old.control ≡ entries.now.slots + 16 }
+    requires lengths { AreSearchLengths H.MIN_LEN K.LEN V.LEN entries.now.slots (length scan.old.control) }
     requires hash { hash ≡ H.hash (K.bytes key.now) }
-    requires hashes { H.MIN_LEN ≤ K.LEN }
-    requires key { K.LEN ≤ 255 }
-    requires value { V.LEN ≤ 255 }
     ensures on_placed { (P : Table)
         → IsPartsOf (format_of K.LEN V.LEN H.hash) P entries.now.bytes scan.old.control
         → result ≡ answer (format_of K.LEN V.LEN H.hash) P.cells (K.bytes key.now) }
@@ -72,11 +64,9 @@ pub fn search_hashed<K: ByteArray, V: ByteArray, H: HashFn, Q: Group>(
         → IsWherePlaced (format_of K.LEN V.LEN H.hash) P (K.bytes key.now) result }
     ensures groups { (P : Table)
         → IsPartsOf (format_of K.LEN V.LEN H.hash) P entries.now.bytes scan.old.control
-        → scan.new.groups ≡ min (scan.old.groups + groups_read (format_of K.LEN V.LEN H.hash) P.cells (K.bytes key.now)) usize.MAX }
-    ensures slot { MatchSearch result
-        (λ i. (i < entries.now.slots) × (slot_key (format_of K.LEN V.LEN H.hash) entries.now.bytes i ≡ K.bytes key.now))
-        (λ i. (i < entries.now.slots) × CountsAsFree scan.old.control i)
-        ⊤ }
+        → let read = groups_read (format_of K.LEN V.LEN H.hash) P.cells (K.bytes key.now)
+        in scan.new.groups ≡ min (scan.old.groups + read) usize.MAX }
+    ensures slot { IsEnd (format_of K.LEN V.LEN H.hash) entries.now scan.old.control (K.bytes key.now) result }
     ensures few { scan.new.groups ≤ scan.old.groups + entries.now.slots / 16 }
     ensures control { scan.new.control ≡ scan.old.control }
 {
@@ -110,13 +100,9 @@ fn look_at_group<K: ByteArray, V: ByteArray, H: HashFn, Q: Group>(
     requires start { start < entries.now.slots }
     requires tag { tag ≡ H.hash (K.bytes key.now) / 2 ^ 25 }
     requires small { tag < 128 }
-    requires hashes { H.MIN_LEN ≤ K.LEN }
-    requires key { K.LEN ≤ 255 }
-    requires value { V.LEN ≤ 255 }
-    ensures slot { IfSome result (λ r. MatchSearch r
-        (λ i. (i < entries.now.slots) × (slot_key (format_of K.LEN V.LEN H.hash) entries.now.bytes i ≡ K.bytes key.now))
-        (λ i. (j : ℕ) × (j < 16) × (i ≡ (start + j) % entries.now.slots) × IsTrue (counts_as_free (slice_index bytes.now j)))
-        ⊥) }
+    requires lengths { ArePairLengths H.MIN_LEN K.LEN V.LEN }
+    ensures slot { IfSome result
+        (IsEndAmong (format_of K.LEN V.LEN H.hash) entries.now bytes.now start 16 (K.bytes key.now)) }
     ensures on_placed { (P : Table) (p : ℕ)
         → StandsAt (format_of K.LEN V.LEN H.hash) P entries.now (K.bytes key.now) p start bytes.now
         → IsLook (format_of K.LEN V.LEN H.hash) P (K.bytes key.now) p 16 result }
@@ -151,13 +137,9 @@ fn look_at_piece<K: ByteArray, V: ByteArray, H: HashFn, Q: Group>(
     requires start { start + Q.SIZE ≤ entries.now.slots + 16 }
     requires tag { tag ≡ H.hash (K.bytes key.now) / 2 ^ 25 }
     requires small { tag < 128 }
-    requires hashes { H.MIN_LEN ≤ K.LEN }
-    requires key { K.LEN ≤ 255 }
-    requires value { V.LEN ≤ 255 }
-    ensures slot { IfSome result (λ r. MatchSearch r
-        (λ i. (i < entries.now.slots) × (slot_key (format_of K.LEN V.LEN H.hash) entries.now.bytes i ≡ K.bytes key.now))
-        (λ i. (j : ℕ) × (j < Q.SIZE) × (i ≡ (start + j) % entries.now.slots) × IsTrue (counts_as_free (slice_index bytes.now j)))
-        ⊥) }
+    requires lengths { ArePairLengths H.MIN_LEN K.LEN V.LEN }
+    ensures slot { IfSome result
+        (IsEndAmong (format_of K.LEN V.LEN H.hash) entries.now bytes.now start Q.SIZE (K.bytes key.now)) }
     ensures on_placed { (P : Table) (p : ℕ)
         → StandsAt (format_of K.LEN V.LEN H.hash) P entries.now (K.bytes key.now) p start bytes.now
         → IsLook (format_of K.LEN V.LEN H.hash) P (K.bytes key.now) p Q.SIZE result }

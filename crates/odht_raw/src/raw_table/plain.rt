@@ -1,15 +1,15 @@
 //! The search slot by slot along the probe order, and find and insert over it: the reference forms.
-ghost use Rattle.std.specs.Prelude.{◌≡◌, ◌+◌, ◌-◌, ◌*◌, ◌%◌, ◌<◌, ◌≤◌, ◌↔◌, ⊤, ℕ, length, slice_index, option_map, IfSome, IfOk, OnErr, IsTrue};
+ghost use Rattle.std.specs.Prelude.{◌≡◌, ◌%◌, ◌<◌, length, option_map, IfSome};
 ghost use Rattle.odht_base.specs.Load.{IsSlotCount};
 ghost use Rattle.odht_base.specs.Format.{format_of};
 ghost use Rattle.odht_base.specs.Probe.{place_slot};
 ghost use Rattle.odht_base.specs.Table.{Pair, Table};
 ghost use Rattle.odht_base.specs.Map.{map_of};
-ghost use Rattle.odht_base.specs.Insert.{place};
 ghost use Rattle.odht_base.specs.Valid.{IsPartsOf};
-ghost use Rattle.odht_base.specs.Shown.{counts_as_free, slot_key, slot_value};
-ghost use Rattle.odht_raw.specs.Answers.{answer, MatchSearch};
-ghost use Rattle.odht_raw.specs.Frame.{IsPartsFramed};
+ghost use Rattle.odht_raw.specs.Answers.{answer};
+ghost use Rattle.odht_raw.specs.PartLengths.{AreSearchLengths, ArePartLengths};
+ghost use Rattle.odht_raw.specs.PartsInserts.{IsPlacing, IsChange};
+ghost use Rattle.odht_raw.specs.SearchEnds.{IsPlainEnd, IsBesideKey};
 
 use super::writes::insert_at;
 use super::{Entries, EntryMetadata, Search, tag_of};
@@ -28,15 +28,12 @@ pub fn plain_find<K: ByteArray, V: ByteArray, H: HashFn>(
     key: &K,
 ) -> Option<V>
     requires slots { IsSlotCount entries.now.slots }
-    requires control { length control.now ≡ entries.now.slots + 16 }
-    requires hashes { H.MIN_LEN ≤ K.LEN }
-    requires key { K.LEN ≤ 255 }
-    requires value { V.LEN ≤ 255 }
+    requires lengths { AreSearchLengths H.MIN_LEN K.LEN V.LEN entries.now.slots (length control.now) }
     ensures on_placed { (P : Table)
         → IsPartsOf (format_of K.LEN V.LEN H.hash) P entries.now.bytes control.now
         → result ≡ option_map V.of_bytes (map_of P (K.bytes key.now)) }
-    ensures on_any { let F = format_of K.LEN V.LEN H.hash
-        in IfSome result (λ v. (i : ℕ) × (i < entries.now.slots) × (slot_key F entries.now.bytes i ≡ K.bytes key.now) × (v ≡ V.of_bytes (slot_value F entries.now.bytes i))) }
+    ensures on_any { IfSome result
+        (IsBesideKey (format_of K.LEN V.LEN H.hash) V.of_bytes entries.now (K.bytes key.now)) }
 {
     let hash = H::hash(key.as_slice());
     match plain_search::<K, V, H>(control, entries, key, hash) {
@@ -58,23 +55,13 @@ pub fn plain_insert<K: ByteArray, V: ByteArray, H: HashFn>(
     key: K,
     value: V,
 ) -> Result<Option<V>, Error>
-    requires slots { IsSlotCount (length control.old - 16) }
-    requires entries { length entries.old ≡ (length control.old - 16) * (K.LEN + V.LEN) }
-    requires hashes { H.MIN_LEN ≤ K.LEN }
-    requires key { K.LEN ≤ 255 }
-    requires value { V.LEN ≤ 255 }
-    ensures ok { let F = format_of K.LEN V.LEN H.hash
+    requires { ArePartLengths H.MIN_LEN K.LEN V.LEN (length entries.old) (length control.old) }
+    ensures placed { let p : Pair = record { key = K.bytes key; value = V.bytes value }
         in (P : Table)
-        → IsPartsOf F P entries.old control.old
-        → IfOk result (λ old. (old ≡ option_map V.of_bytes (map_of P (K.bytes key))) × ((Q : Table) × (place F P (record { key = K.bytes key; value = V.bytes value }) ≡ Some Q) × IsPartsOf F Q entries.new control.new)) }
-    ensures full { let F = format_of K.LEN V.LEN H.hash
-        in (P : Table)
-        → IsPartsOf F P entries.old control.old
-        → (result ≡ Err Error.Full) ↔ (place F P (record { key = K.bytes key; value = V.bytes value }) ≡ None) }
-    ensures frame { IsPartsFramed (format_of K.LEN V.LEN H.hash) V.of_bytes entries.old control.old (record { key = K.bytes key; value = V.bytes value }) result entries.new control.new }
-    ensures only_full { OnErr result (result ≡ Err Error.Full) }
-    ensures refused_control { OnErr result (control.new ≡ control.old) }
-    ensures refused_entries { OnErr result (entries.new ≡ entries.old) }
+        → IsPartsOf (format_of K.LEN V.LEN H.hash) P entries.old control.old
+        → IsPlacing (format_of K.LEN V.LEN H.hash) V.of_bytes P p result entries.new control.new }
+    ensures any { let p : Pair = record { key = K.bytes key; value = V.bytes value }
+        in IsChange (format_of K.LEN V.LEN H.hash) V.of_bytes entries.old control.old p result entries.new control.new }
 {
     let slots = control.len() - REFERENCE_GROUP_SIZE;
     let hash = H::hash(key.as_slice());
@@ -93,15 +80,9 @@ fn plain_search<K: ByteArray, V: ByteArray, H: HashFn>(
     hash: u32,
 ) -> Search
     requires slots { IsSlotCount entries.now.slots }
-    requires control { length control.now ≡ entries.now.slots + 16 }
+    requires lengths { AreSearchLengths H.MIN_LEN K.LEN V.LEN entries.now.slots (length control.now) }
     requires hash { hash ≡ H.hash (K.bytes key.now) }
-    requires hashes { H.MIN_LEN ≤ K.LEN }
-    requires key { K.LEN ≤ 255 }
-    requires value { V.LEN ≤ 255 }
-    ensures slot { MatchSearch result
-        (λ i. (i < entries.now.slots) × (slot_key (format_of K.LEN V.LEN H.hash) entries.now.bytes i ≡ K.bytes key.now))
-        (λ i. (i < entries.now.slots) × IsTrue (counts_as_free (slice_index control.now i)))
-        ⊤ }
+    ensures slot { IsPlainEnd (format_of K.LEN V.LEN H.hash) entries.now control.now (K.bytes key.now) result }
     ensures on_placed { (P : Table)
         → IsPartsOf (format_of K.LEN V.LEN H.hash) P entries.now.bytes control.now
         → result ≡ answer (format_of K.LEN V.LEN H.hash) P.cells (K.bytes key.now) }

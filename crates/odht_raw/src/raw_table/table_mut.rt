@@ -1,12 +1,11 @@
 //! The parts of a table which can be written.
-ghost use Rattle.std.specs.Prelude.{◌≡◌, ◌-◌, ◌*◌, ◌+◌, ◌≤◌, ◌↔◌, length, option_map, IfOk, OnErr};
+ghost use Rattle.std.specs.Prelude.{◌≡◌, ◌-◌, ◌*◌, ◌+◌, ◌≤◌, length};
 ghost use Rattle.odht_base.specs.Load.{IsSlotCount};
 ghost use Rattle.odht_base.specs.Format.{format_of};
 ghost use Rattle.odht_base.specs.Table.{Pair, Table};
-ghost use Rattle.odht_base.specs.Map.{map_of};
-ghost use Rattle.odht_base.specs.Insert.{place};
-ghost use Rattle.odht_base.specs.Valid.{IsPartsOf, IsFullWithout};
-ghost use Rattle.odht_raw.specs.Frame.{IsPartsFramed};
+ghost use Rattle.odht_base.specs.Valid.{IsPartsOf};
+ghost use Rattle.odht_raw.specs.PartLengths.{ArePartLengths};
+ghost use Rattle.odht_raw.specs.PartsInserts.{IsPlacing, IsChange};
 
 use super::writes::insert_at;
 use super::{Entries, EntryMetadata, RawTable, Scan, search_hashed, tag_of};
@@ -33,16 +32,12 @@ pub struct RawTableMut<'c, 'e, K: ByteArray, V: ByteArray, H: HashFn> {
 }
 
 impl<'c, 'e, K: ByteArray, V: ByteArray, H: HashFn> RawTableMut<'c, 'e, K, V, H> {
-    ghost use Rattle.odht_raw.specs.LentParts.{mut_control, mut_entries, control_loan, entries_loan};
+    ghost use Rattle.odht_raw.specs.LentParts.{mut_control, mut_entries, control_loan, entries_loan, IsLentInsert};
 
     /// The table of these parts, of which nothing is looked at or written.
     #[inline]
     pub fn new(control: &'c mut [EntryMetadata], entries: &'e mut [u8]) -> Self
-        requires slots { IsSlotCount (length control.old - 16) }
-        requires entries { length entries.old ≡ (length control.old - 16) * (K.LEN + V.LEN) }
-        requires hashes { H.MIN_LEN ≤ K.LEN }
-        requires key { K.LEN ≤ 255 }
-        requires value { V.LEN ≤ 255 }
+        requires { ArePartLengths H.MIN_LEN K.LEN V.LEN (length entries.old) (length control.old) }
         ensures control { mut_control result ≡ control.old }
         ensures entries { mut_entries result ≡ entries.old }
         ensures control_loan { control_loan result ≡ control.entry.ghost_name }
@@ -64,23 +59,7 @@ impl<'c, 'e, K: ByteArray, V: ByteArray, H: HashFn> RawTableMut<'c, 'e, K, V, H>
     /// free, and nothing else. At most each group is looked at once.
     #[inline(always)]
     pub fn insert(&mut self, key: K, value: V) -> Result<Option<V>, Error>
-        ensures ok { let F = format_of K.LEN V.LEN H.hash
-            in (P : Table)
-            → IsPartsOf F P (mut_entries self.old) (mut_control self.old)
-            → IfOk result (λ old. (old ≡ option_map V.of_bytes (map_of P (K.bytes key))) × ((Q : Table) × (place F P (record { key = K.bytes key; value = V.bytes value }) ≡ Some Q) × IsPartsOf F Q (mut_entries self.new) (mut_control self.new))) }
-        ensures full { let F = format_of K.LEN V.LEN H.hash
-            in (P : Table)
-            → IsPartsOf F P (mut_entries self.old) (mut_control self.old)
-            → (result ≡ Err Error.Full) ↔ (place F P (record { key = K.bytes key; value = V.bytes value }) ≡ None) }
-        ensures no_room { (P : Table)
-            → IsPartsOf (format_of K.LEN V.LEN H.hash) P (mut_entries self.old) (mut_control self.old)
-            → (result ≡ Err Error.Full) ↔ IsFullWithout P (K.bytes key) }
-        ensures frame { IsPartsFramed (format_of K.LEN V.LEN H.hash) V.of_bytes (mut_entries self.old) (mut_control self.old) (record { key = K.bytes key; value = V.bytes value }) result (mut_entries self.new) (mut_control self.new) }
-        ensures only_full { OnErr result (result ≡ Err Error.Full) }
-        ensures refused_control { OnErr result (mut_control self.new ≡ mut_control self.old) }
-        ensures refused_entries { OnErr result (mut_entries self.new ≡ mut_entries self.old) }
-        ensures control_loan { control_loan self.new ≡ control_loan self.old }
-        ensures entries_loan { entries_loan self.new ≡ entries_loan self.old }
+        ensures { IsLentInsert self.old key value result self.new }
     {
         insert_parts::<K, V, H>(self.control, self.entries, key, value)
     }
@@ -94,26 +73,13 @@ fn insert_parts<K: ByteArray, V: ByteArray, H: HashFn>(
     key: K,
     value: V,
 ) -> Result<Option<V>, Error>
-    requires slots { IsSlotCount (length control.old - 16) }
-    requires entries { length entries.old ≡ (length control.old - 16) * (K.LEN + V.LEN) }
-    requires hashes { H.MIN_LEN ≤ K.LEN }
-    requires key { K.LEN ≤ 255 }
-    requires value { V.LEN ≤ 255 }
-    ensures ok { let F = format_of K.LEN V.LEN H.hash
+    requires { ArePartLengths H.MIN_LEN K.LEN V.LEN (length entries.old) (length control.old) }
+    ensures placed { let p : Pair = record { key = K.bytes key; value = V.bytes value }
         in (P : Table)
-        → IsPartsOf F P entries.old control.old
-        → IfOk result (λ old. (old ≡ option_map V.of_bytes (map_of P (K.bytes key))) × ((Q : Table) × (place F P (record { key = K.bytes key; value = V.bytes value }) ≡ Some Q) × IsPartsOf F Q entries.new control.new)) }
-    ensures full { let F = format_of K.LEN V.LEN H.hash
-        in (P : Table)
-        → IsPartsOf F P entries.old control.old
-        → (result ≡ Err Error.Full) ↔ (place F P (record { key = K.bytes key; value = V.bytes value }) ≡ None) }
-    ensures no_room { (P : Table)
         → IsPartsOf (format_of K.LEN V.LEN H.hash) P entries.old control.old
-        → (result ≡ Err Error.Full) ↔ IsFullWithout P (K.bytes key) }
-    ensures frame { IsPartsFramed (format_of K.LEN V.LEN H.hash) V.of_bytes entries.old control.old (record { key = K.bytes key; value = V.bytes value }) result entries.new control.new }
-    ensures only_full { OnErr result (result ≡ Err Error.Full) }
-    ensures refused_control { OnErr result (control.new ≡ control.old) }
-    ensures refused_entries { OnErr result (entries.new ≡ entries.old) }
+        → IsPlacing (format_of K.LEN V.LEN H.hash) V.of_bytes P p result entries.new control.new }
+    ensures any { let p : Pair = record { key = K.bytes key; value = V.bytes value }
+        in IsChange (format_of K.LEN V.LEN H.hash) V.of_bytes entries.old control.old p result entries.new control.new }
 {
     let slots = control.len() - REFERENCE_GROUP_SIZE;
     let hash = H::hash(key.as_slice());

@@ -1,16 +1,15 @@
 //! The writes of an insert on the parts of a table.
-ghost use Rattle.std.specs.Prelude.{◌≡◌, ◌+◌, ◌-◌, ◌*◌, ◌/◌, ◌^◌, ◌<◌, ◌≤◌, ◌↔◌, ◌++◌, ⊤, length, option_map, IfOk, OnErr};
+ghost use Rattle.std.specs.Prelude.{◌≡◌, ◌+◌, ◌-◌, ◌/◌, ◌^◌, ◌<◌, ◌≤◌, ◌++◌, length};
 ghost use Rattle.odht_base.specs.Bytes.{overwritten_at};
-ghost use Rattle.odht_base.specs.Load.{IsSlotCount};
 ghost use Rattle.odht_base.specs.Format.{format_of};
 ghost use Rattle.odht_base.specs.Table.{Pair, Table};
-ghost use Rattle.odht_base.specs.Map.{map_of};
-ghost use Rattle.odht_base.specs.Insert.{place};
 ghost use Rattle.odht_base.specs.Valid.{IsPartsOf};
-ghost use Rattle.odht_base.specs.Shown.{slot_key};
 ghost use Rattle.odht_base.specs.Writes.{tagged};
-ghost use Rattle.odht_raw.specs.Answers.{answer, MatchSearch};
-ghost use Rattle.odht_raw.specs.Frame.{CountsAsFree, IsPartsFramed};
+ghost use Rattle.odht_raw.specs.Answers.{answer};
+ghost use Rattle.odht_raw.specs.PartLengths.{ArePartLengths};
+ghost use Rattle.odht_raw.specs.Parts.{EntryBytes};
+ghost use Rattle.odht_raw.specs.PartsInserts.{IsPlacing, IsChange};
+ghost use Rattle.odht_raw.specs.SearchEnds.{IsEnd};
 
 use super::{Entries, EntryMetadata, Search};
 use crate::bytes::{ByteArray, write_slice};
@@ -29,30 +28,17 @@ pub(crate) fn insert_at<K: ByteArray, V: ByteArray, H: HashFn>(
     tag: u8,
     end: Search,
 ) -> Result<Option<V>, Error>
-    requires slots { IsSlotCount (length control.old - 16) }
-    requires entries { length entries.old ≡ (length control.old - 16) * (K.LEN + V.LEN) }
-    requires hashes { H.MIN_LEN ≤ K.LEN }
-    requires key { K.LEN ≤ 255 }
-    requires value { V.LEN ≤ 255 }
+    requires lengths { ArePartLengths H.MIN_LEN K.LEN V.LEN (length entries.old) (length control.old) }
     requires tag { tag ≡ H.hash (K.bytes key) / 2 ^ 25 }
-    requires end { MatchSearch end
-        (λ i. (i < length control.old - 16) × (slot_key (format_of K.LEN V.LEN H.hash) entries.old i ≡ K.bytes key))
-        (λ i. (i < length control.old - 16) × CountsAsFree control.old i)
-        ⊤ }
-    ensures ok { let F = format_of K.LEN V.LEN H.hash
+    requires end { let shown : EntryBytes = record { slots = length control.old - 16; bytes = entries.old }
+        in IsEnd (format_of K.LEN V.LEN H.hash) shown control.old (K.bytes key) end }
+    ensures placed { let p : Pair = record { key = K.bytes key; value = V.bytes value }
         in (P : Table)
-        → IsPartsOf F P entries.old control.old
-        → end ≡ answer F P.cells (K.bytes key)
-        → IfOk result (λ old. (old ≡ option_map V.of_bytes (map_of P (K.bytes key))) × ((Q : Table) × (place F P (record { key = K.bytes key; value = V.bytes value }) ≡ Some Q) × IsPartsOf F Q entries.new control.new)) }
-    ensures full { let F = format_of K.LEN V.LEN H.hash
-        in (P : Table)
-        → IsPartsOf F P entries.old control.old
-        → end ≡ answer F P.cells (K.bytes key)
-        → (result ≡ Err Error.Full) ↔ (place F P (record { key = K.bytes key; value = V.bytes value }) ≡ None) }
-    ensures frame { IsPartsFramed (format_of K.LEN V.LEN H.hash) V.of_bytes entries.old control.old (record { key = K.bytes key; value = V.bytes value }) result entries.new control.new }
-    ensures only_full { OnErr result (result ≡ Err Error.Full) }
-    ensures refused_control { OnErr result (control.new ≡ control.old) }
-    ensures refused_entries { OnErr result (entries.new ≡ entries.old) }
+        → IsPartsOf (format_of K.LEN V.LEN H.hash) P entries.old control.old
+        → end ≡ answer (format_of K.LEN V.LEN H.hash) P.cells (K.bytes key)
+        → IsPlacing (format_of K.LEN V.LEN H.hash) V.of_bytes P p result entries.new control.new }
+    ensures any { let p : Pair = record { key = K.bytes key; value = V.bytes value }
+        in IsChange (format_of K.LEN V.LEN H.hash) V.of_bytes entries.old control.old p result entries.new control.new }
 {
     let slots = control.len() - REFERENCE_GROUP_SIZE;
     let shown: Entries<'_, K, V> = Entries::new(entries, slots);

@@ -23,7 +23,7 @@ pub returns-then-equals-clause-on_placed : goal.returns-then-equals-clause-on_pl
 returns-then-equals-clause-on_placed g c P p at =
     let F : Format = format_of g.K.ByteArray.LEN g.V.ByteArray.LEN g.H.HashFn.hash in
     let k : List ℕ = g.K.ByteArray.bytes c.args.key.now in
-    let f = IsFormat-format_of _ _ _ _ c.requires.key c.requires.value c.requires.hashes g.met.H.HashFn.fits in
+    let f = IsFormat-format_of _ _ _ _ c.requires.lengths.key c.requires.lengths.value c.requires.lengths.hashes g.met.H.HashFn.fits in
     let report = subst (λ h. IsReport c.args.bytes.now h (g.Q.Group.matches c.of-group.result)) c.requires.tag c.of-group.ensures.matches in
     let match = taken-first _ _ _ c.in-Some.index c.matches.invariant.taken c.in-Some.ensures.next in
     let masked = ap (λ n. bit_and (c.args.start + c.in-Some.index) (n - 1)) c.len-mask.ensures ∙ bit_and-slots (c.args.start + c.in-Some.index) c.args.entries.now.slots c.requires.slots in
@@ -62,7 +62,7 @@ pub returns-in-Some-first_empty-clause-on_placed :
 returns-in-Some-first_empty-clause-on_placed g c P p at =
     let F : Format = format_of g.K.ByteArray.LEN g.V.ByteArray.LEN g.H.HashFn.hash in
     let k : List ℕ = g.K.ByteArray.bytes c.args.key.now in
-    let f = IsFormat-format_of _ _ _ _ c.requires.key c.requires.value c.requires.hashes g.met.H.HashFn.fits in
+    let f = IsFormat-format_of _ _ _ _ c.requires.lengths.key c.requires.lengths.value c.requires.lengths.hashes g.met.H.HashFn.fits in
     let report = subst (λ h. IsReport c.args.bytes.now h (g.Q.Group.matches c.of-group.result)) c.requires.tag c.of-group.ensures.matches in
     let first = sym (c.in-Some-first_empty.ensures ∙ c.in_default.ensures.free ∙ c.matches.invariant.same ∙ c.of-group.ensures.free) in
     let masked = ap (λ n. bit_and (c.args.start + c.in-Some-first_empty.index) (n - 1)) c.len-mask.ensures ∙ bit_and-slots (c.args.start + c.in-Some-first_empty.index) c.args.entries.now.slots c.requires.slots in
@@ -73,7 +73,7 @@ pub returns-clause-on_placed : goal.returns-clause-on_placed
 returns-clause-on_placed g c P p at =
     let F : Format = format_of g.K.ByteArray.LEN g.V.ByteArray.LEN g.H.HashFn.hash in
     let k : List ℕ = g.K.ByteArray.bytes c.args.key.now in
-    let f = IsFormat-format_of _ _ _ _ c.requires.key c.requires.value c.requires.hashes g.met.H.HashFn.fits in
+    let f = IsFormat-format_of _ _ _ _ c.requires.lengths.key c.requires.lengths.value c.requires.lengths.hashes g.met.H.HashFn.fits in
     let report = subst (λ h. IsReport c.args.bytes.now h (g.Q.Group.matches c.of-group.result)) c.requires.tag c.of-group.ensures.matches in
     let none = sym (c.in-None.ensures ∙ c.in_default.ensures.free ∙ c.matches.invariant.same ∙ c.of-group.ensures.free) in
     subst (λ n. Passed F P k (p + n)) c.requires.len (look_on F P c.args.entries.now k p c.args.start c.args.bytes.now f at _ report (taken-all _ _ _ c.matches.invariant.taken c.in_default.ensures.next) none)

@@ -21,7 +21,7 @@ new-probe-requires g c =
 pub groups-init : goal.groups-init
 groups-init g c =
     let pos = c.slots-mask.ensures.count.least in
-    let slots : c.slots-mask.result - 1 + 1 ≡ c.args.entries.now.slots = omega (arith, c.slots-mask.ensures.control, c.requires.entries) in
+    let slots : c.slots-mask.result - 1 + 1 ≡ c.args.entries.now.slots = omega (arith, c.slots-mask.ensures.control, c.requires.lengths.mirrored) in
     let place : c.new-probe.result.place ≡ 0 = ap (λ q. q.place) c.new-probe.ensures in
     record {
       control = refl;
@@ -38,10 +38,10 @@ pub returns-in-Some-clause-on_placed : goal.returns-in-Some-clause-on_placed
 returns-in-Some-clause-on_placed g c P h =
     let F : Format = format_of g.K.ByteArray.LEN g.V.ByteArray.LEN g.H.HashFn.hash in
     let k : List ℕ = g.K.ByteArray.bytes c.args.key.now in
-    let f = IsFormat-format_of _ _ _ _ c.requires.key c.requires.value c.requires.hashes g.met.H.HashFn.fits in
+    let f = IsFormat-format_of _ _ _ _ c.requires.lengths.pair.key c.requires.lengths.pair.value c.requires.lengths.pair.hashes g.met.H.HashFn.fits in
     let v = c.groups.invariant in
     let p : ℕ = c.groups.probe.place in
-    let at = stands-probe F P c.args.entries.now c.args.scan.now.control k f h c.requires.entries c.index-start.result c.args.hash c.groups.probe.home c.groups.probe.mask p c.group-bytes.result.now c.groups.scan.control
+    let at = stands-probe F P c.args.entries.now c.args.scan.now.control k f h c.requires.lengths.mirrored c.index-start.result c.args.hash c.groups.probe.home c.groups.probe.mask p c.group-bytes.result.now c.groups.scan.control
     v.aligned v.within c.index-start.ensures.slot v.home v.mask c.requires.hash c.group-bytes.ensures.bytes v.control (v.passed P h) in
     (c.in-Some.ensures.on_placed P p at).0
 
@@ -54,12 +54,12 @@ pub returns-in-Some-clause-groups : goal.returns-in-Some-clause-groups
 returns-in-Some-clause-groups g c P h =
     let F : Format = format_of g.K.ByteArray.LEN g.V.ByteArray.LEN g.H.HashFn.hash in
     let k : List ℕ = g.K.ByteArray.bytes c.args.key.now in
-    let f = IsFormat-format_of _ _ _ _ c.requires.key c.requires.value c.requires.hashes g.met.H.HashFn.fits in
+    let f = IsFormat-format_of _ _ _ _ c.requires.lengths.pair.key c.requires.lengths.pair.value c.requires.lengths.pair.hashes g.met.H.HashFn.fits in
     let v = c.groups.invariant in
     let p : ℕ = c.groups.probe.place in
-    let at = stands-probe F P c.args.entries.now c.args.scan.now.control k f h c.requires.entries c.index-start.result c.args.hash c.groups.probe.home c.groups.probe.mask p c.group-bytes.result.now c.groups.scan.control
+    let at = stands-probe F P c.args.entries.now c.args.scan.now.control k f h c.requires.lengths.mirrored c.index-start.result c.args.hash c.groups.probe.home c.groups.probe.mask p c.group-bytes.result.now c.groups.scan.control
     v.aligned v.within c.index-start.ensures.slot v.home v.mask c.requires.hash c.group-bytes.ensures.bytes v.control (v.passed P h) in
-    let reads = reads-to F P c.args.entries.now c.args.scan.now.control k f h c.requires.entries p v.aligned (c.in-Some.ensures.on_placed P p at).1 in
+    let reads = reads-to F P c.args.entries.now c.args.scan.now.control k f h c.requires.lengths.mirrored p v.aligned (c.in-Some.ensures.on_placed P p at).1 in
     rw reads (omega (arith, ap (λ s. s.groups) c.group-bytes.ensures.shows, v.shown))
 
 pub returns-in-Some-clause-slot : goal.returns-in-Some-clause-slot
@@ -67,19 +67,19 @@ returns-in-Some-clause-slot g c =
     let bytes = c.group-bytes.ensures.bytes ∙ ap (λ ctrl. bytes_at ctrl c.index-start.result 16) c.groups.invariant.control in
     let low : c.index-start.result < c.args.entries.now.slots = omega (arith, c.index-start.ensures.below, c.groups.invariant.mask) in
     let few = c.slots-mask.ensures.count.least in
-    ends-free c.args.scan.now.control c.args.entries.now.slots c.index-start.result _ c.in-Some.end c.requires.entries (omega (arith, c.slots-mask.ensures.control, c.requires.entries)) low (rw bytes at c.in-Some.ensures.slot)
+    ends-free c.args.scan.now.control c.args.entries.now.slots c.index-start.result _ c.in-Some.end c.requires.lengths.mirrored (omega (arith, c.slots-mask.ensures.control, c.requires.lengths.mirrored)) low (rw bytes at c.in-Some.ensures.slot)
 
 pub returns-then-is_last-clause-on_placed : goal.returns-then-is_last-clause-on_placed
 returns-then-is_last-clause-on_placed g c P h =
     let F : Format = format_of g.K.ByteArray.LEN g.V.ByteArray.LEN g.H.HashFn.hash in
     let k : List ℕ = g.K.ByteArray.bytes c.args.key.now in
-    let f = IsFormat-format_of _ _ _ _ c.requires.key c.requires.value c.requires.hashes g.met.H.HashFn.fits in
+    let f = IsFormat-format_of _ _ _ _ c.requires.lengths.pair.key c.requires.lengths.pair.value c.requires.lengths.pair.hashes g.met.H.HashFn.fits in
     let v = c.groups.invariant in
     let p : ℕ = c.groups.probe.place in
-    let at = stands-probe F P c.args.entries.now c.args.scan.now.control k f h c.requires.entries c.index-start.result c.args.hash c.groups.probe.home c.groups.probe.mask p c.group-bytes.result.now c.groups.scan.control
+    let at = stands-probe F P c.args.entries.now c.args.scan.now.control k f h c.requires.lengths.mirrored c.index-start.result c.args.hash c.groups.probe.home c.groups.probe.mask p c.group-bytes.result.now c.groups.scan.control
     v.aligned v.within c.index-start.ensures.slot v.home v.mask c.requires.hash c.group-bytes.ensures.bytes v.control (v.passed P h) in
     let all : p + 16 ≡ c.args.entries.now.slots = omega (arith, v.within, v.mask, c.is_last.ensures.0 c.if-is_last.true) in
-    no_end F P k c.args.entries.now.bytes c.args.scan.now.control f h c.args.entries.now.slots c.requires.entries (subst (Passed F P k) all (c.in_default.ensures.on_placed P p at))
+    no_end F P k c.args.entries.now.bytes c.args.scan.now.control f h c.args.entries.now.slots c.requires.lengths.mirrored (subst (Passed F P k) all (c.in_default.ensures.on_placed P p at))
 
 pub returns-then-is_last-clause-placing : goal.returns-then-is_last-clause-placing
 returns-then-is_last-clause-placing g c P h =
@@ -90,13 +90,13 @@ pub returns-then-is_last-clause-groups : goal.returns-then-is_last-clause-groups
 returns-then-is_last-clause-groups g c P h =
     let F : Format = format_of g.K.ByteArray.LEN g.V.ByteArray.LEN g.H.HashFn.hash in
     let k : List ℕ = g.K.ByteArray.bytes c.args.key.now in
-    let f = IsFormat-format_of _ _ _ _ c.requires.key c.requires.value c.requires.hashes g.met.H.HashFn.fits in
+    let f = IsFormat-format_of _ _ _ _ c.requires.lengths.pair.key c.requires.lengths.pair.value c.requires.lengths.pair.hashes g.met.H.HashFn.fits in
     let v = c.groups.invariant in
     let p : ℕ = c.groups.probe.place in
-    let at = stands-probe F P c.args.entries.now c.args.scan.now.control k f h c.requires.entries c.index-start.result c.args.hash c.groups.probe.home c.groups.probe.mask p c.group-bytes.result.now c.groups.scan.control
+    let at = stands-probe F P c.args.entries.now c.args.scan.now.control k f h c.requires.lengths.mirrored c.index-start.result c.args.hash c.groups.probe.home c.groups.probe.mask p c.group-bytes.result.now c.groups.scan.control
     v.aligned v.within c.index-start.ensures.slot v.home v.mask c.requires.hash c.group-bytes.ensures.bytes v.control (v.passed P h) in
     let all : p + 16 ≡ c.args.entries.now.slots = omega (arith, v.within, v.mask, c.is_last.ensures.0 c.if-is_last.true) in
-    let reads = reads-all F P c.args.entries.now c.args.scan.now.control k f h c.requires.entries (subst (Passed F P k) all (c.in_default.ensures.on_placed P p at)) in
+    let reads = reads-all F P c.args.entries.now c.args.scan.now.control k f h c.requires.lengths.mirrored (subst (Passed F P k) all (c.in_default.ensures.on_placed P p at)) in
     rw reads (omega (arith, ap (λ s. s.groups) c.group-bytes.ensures.shows, v.shown, all))
 
 pub groups-preserved : goal.groups-preserved
@@ -105,14 +105,14 @@ groups-preserved g c =
     let shows : c.group-bytes.new.self.groups ≡ min (c.groups.scan.groups + 1) 18446744073709551615 = ap (λ s. s.groups) c.group-bytes.ensures.shows in
     let place : c.advance.new.self.place ≡ c.groups.probe.place + 16 = ap (λ q. q.place) c.advance.ensures in
     let sixteen = sixteens c.slots-mask.result c.slots-mask.ensures.count in
-    let slots : c.slots-mask.result ≡ c.args.entries.now.slots = omega (arith, c.slots-mask.ensures.control, c.requires.entries) in
+    let slots : c.slots-mask.result ≡ c.args.entries.now.slots = omega (arith, c.slots-mask.ensures.control, c.requires.lengths.mirrored) in
     let more : c.groups.probe.mask < c.groups.probe.place + 16 → ⊥ = λ l. true≢false (sym (c.is_last.ensures.1 l) ∙ c.if-is_last.false) in
     let passed = λ (P : Table) (h : IsPartsOf (format_of g.K.ByteArray.LEN g.V.ByteArray.LEN g.H.HashFn.hash) P c.args.entries.now.bytes c.args.scan.now.control). (
     let F : Format = format_of g.K.ByteArray.LEN g.V.ByteArray.LEN g.H.HashFn.hash in
     let k : List ℕ = g.K.ByteArray.bytes c.args.key.now in
-    let f = IsFormat-format_of _ _ _ _ c.requires.key c.requires.value c.requires.hashes g.met.H.HashFn.fits in
+    let f = IsFormat-format_of _ _ _ _ c.requires.lengths.pair.key c.requires.lengths.pair.value c.requires.lengths.pair.hashes g.met.H.HashFn.fits in
     let p : ℕ = c.groups.probe.place in
-    let at = stands-probe F P c.args.entries.now c.args.scan.now.control k f h c.requires.entries c.index-start.result c.args.hash c.groups.probe.home c.groups.probe.mask p c.group-bytes.result.now c.groups.scan.control
+    let at = stands-probe F P c.args.entries.now c.args.scan.now.control k f h c.requires.lengths.mirrored c.index-start.result c.args.hash c.groups.probe.home c.groups.probe.mask p c.group-bytes.result.now c.groups.scan.control
     v.aligned v.within c.index-start.ensures.slot v.home v.mask c.requires.hash c.group-bytes.ensures.bytes v.control (v.passed P h) in
     let next : p + 16 ≡ c.advance.new.self.place = omega (arith, place) in
     subst (Passed F P k) next (c.in_default.ensures.on_placed P p at)) in
