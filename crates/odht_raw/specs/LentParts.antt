@@ -1,14 +1,15 @@
 -- The parts of a table which can be written, of a `RawTableMut`: two slices that are lent to it.
 --     mut_control t        the control bytes with their mirror
 --     mut_entries t        the bytes of the entries
+--     mut_parts t          both, as parts of as many slots as there are control bytes without the mirror
 --     control_loan t       the loan of the control bytes: what is written goes to the slice of this loan
 --     entries_loan t       the loan of the entries
 --     table_format t       the format of the table's keys, values and hash
 --     IsParts P t          the parts are those of the placed table P
 --     pair_of t k v        the key k and the value v, in bytes
---     IsLentInsert t k v r t'  an insert of k and v through t answers r and leaves t': the clauses of an insert into parts, and
+--     IsLentInsert t k v r t'  an insert of k and v through t answers r and leaves t': what an insert into parts does, and
 --                          both slices are lent as they were
-use Rattle.std.specs.Prelude.{◌≡◌, ℕ, List, Option, Result, Err, OnErr}
+use Rattle.std.specs.Prelude.{◌≡◌, ℕ, ◌-◌, List, length, Option, Result, Err, OnErr}
 use Rattle.std.specs.Borrow.{GName}
 use Rattle.std.specs.declared.cmp.PartialEq.{Ghosts as PartialEqOf}
 use Rattle.std.specs.declared.fmt.Debug.{Ghosts as DebugOf}
@@ -18,18 +19,23 @@ use Rattle.odht_base.specs.Format.{Format, format_of}
 use Rattle.odht_base.specs.Table.{Pair, Table}
 use Rattle.odht_base.specs.Valid.{IsPartsOf}
 use Rattle.odht_raw.specs.Frame.{IsPartsFramed}
+use Rattle.odht_raw.specs.Parts.{TableParts}
 use Rattle.odht_raw.specs.PartsInserts.{AnswersFormer, IsFullUnplaced, IsFullNoRoom}
 use Rattle.odht_raw.specs.declared.error.Error.{Error}
 use Rattle.odht_raw.specs.declared.error.Error.TheVariants.{Full}
 use Rattle.odht_raw.specs.declared.raw_table.table_mut.RawTableMut.{RawTableMut}
 
 module _ {K V H : Type 0} {key : ByteArrayOf K} {key_eq : PartialEqOf K} {key_debug : DebugOf K}
-    {value : ByteArrayOf V} {value_eq : PartialEqOf V} {value_debug : DebugOf V} {hash : HashFnOf H} {hash_eq : PartialEqOf H} where
+    {value : ByteArrayOf V} {value_eq : PartialEqOf V} {value_debug : DebugOf V}
+    {hash : HashFnOf H} {hash_eq : PartialEqOf H} where
   abbrev pub mut_control : RawTableMut K V H key key_eq key_debug value value_eq value_debug hash hash_eq → List ℕ
   mut_control t = t.control.now
 
   abbrev pub mut_entries : RawTableMut K V H key key_eq key_debug value value_eq value_debug hash hash_eq → List ℕ
   mut_entries t = t.entries.now
+
+  abbrev pub mut_parts : RawTableMut K V H key key_eq key_debug value value_eq value_debug hash hash_eq → TableParts
+  mut_parts t = record { control = mut_control t; entries = record { slots = length (mut_control t) - 16; bytes = mut_entries t } }
 
   abbrev pub control_loan : RawTableMut K V H key key_eq key_debug value value_eq value_debug hash hash_eq → GName
   control_loan t = t.control.ghost_name
@@ -46,8 +52,10 @@ module _ {K V H : Type 0} {key : ByteArrayOf K} {key_eq : PartialEqOf K} {key_de
   abbrev pub pair_of : RawTableMut K V H key key_eq key_debug value value_eq value_debug hash hash_eq → K → V → Pair
   pair_of t k v = record { key = key.bytes k; value = value.bytes v }
 
-  pub record IsLentInsert (t : RawTableMut K V H key key_eq key_debug value value_eq value_debug hash hash_eq) (k : K) (v : V)
-      (r : Result (Option V) Error) (t' : RawTableMut K V H key key_eq key_debug value value_eq value_debug hash hash_eq) : Type 0 where
+  pub record IsLentInsert
+      (t : RawTableMut K V H key key_eq key_debug value value_eq value_debug hash hash_eq)
+      (k : K) (v : V) (r : Result (Option V) Error)
+      (t' : RawTableMut K V H key key_eq key_debug value value_eq value_debug hash hash_eq) : Type 0 where
     pub ok : (P : Table) → IsParts P t
         → AnswersFormer (table_format t) value.of_bytes P (pair_of t k v) r (mut_entries t') (mut_control t')
     pub full : (P : Table) → IsParts P t → IsFullUnplaced (table_format t) P (pair_of t k v) r

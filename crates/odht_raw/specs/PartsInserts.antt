@@ -19,8 +19,10 @@ use Rattle.odht_raw.specs.declared.error.Error.TheVariants.{Full}
 abbrev pub ArePartsPlaced : Format → Table → Pair → List ℕ → List ℕ → Type 0
 ArePartsPlaced F P p es' ctrl' = (Q : Table) × (place F P p ≡ Some Q) × IsPartsOf F Q es' ctrl'
 
-abbrev pub AnswersFormer : {V : Type 0} → Format → (List ℕ → V) → Table → Pair → Result (Option V) Error → List ℕ → List ℕ → Type 0
-AnswersFormer F f P p r es' ctrl' = IfOk r (λ old. (old ≡ option_map f (map_of P p.key)) × ArePartsPlaced F P p es' ctrl')
+abbrev pub AnswersFormer :
+    {V : Type 0} → Format → (List ℕ → V) → Table → Pair → Result (Option V) Error → List ℕ → List ℕ → Type 0
+AnswersFormer F f P p r es' ctrl' =
+    IfOk r (λ old. (old ≡ option_map f (map_of P p.key)) × ArePartsPlaced F P p es' ctrl')
 
 abbrev pub IsFullUnplaced : {V : Type 0} → Format → Table → Pair → Result (Option V) Error → Type 0
 IsFullUnplaced F P p r = (r ≡ Err Full) ↔ (place F P p ≡ None)

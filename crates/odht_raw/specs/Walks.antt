@@ -15,7 +15,7 @@ use Rattle.odht_base.specs.Table.{Pair}
 use Rattle.odht_base.specs.Shown.{shown_cell, counts_as_free}
 use Rattle.odht_raw.specs.Coding.{Coding}
 use Rattle.odht_raw.specs.Parts.{TableParts}
-use Rattle.odht_raw.specs.declared.raw_table.Entry.{Entry}
+use Rattle.odht_raw.specs.declared.raw_table.entries.Entry.{Entry}
 
 abbrev pub decoded : {K V : Type 0} → Coding K V → Pair → K × V
 decoded c p = (c.key_of p.key, c.value_of p.value)

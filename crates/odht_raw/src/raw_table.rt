@@ -1,12 +1,12 @@
 //! The parts of a table, control bytes and entries, and searches in them.
-ghost use Rattle.std.specs.Prelude.{◌≡◌, ℕ, ◌+◌, ◌*◌, ◌/◌, ◌^◌, ◌<◌, ◌≤◌, length, option_map, IfSome};
+ghost use Rattle.std.specs.Prelude.{◌≡◌, ◌+◌, ◌/◌, ◌^◌, ◌<◌, ◌≤◌, length, option_map, IfSome};
 ghost use Rattle.odht_base.specs.Format.{format_of};
 ghost use Rattle.odht_base.specs.Load.{IsSlotCount};
 ghost use Rattle.odht_base.specs.Table.{Table};
 ghost use Rattle.odht_base.specs.Map.{map_of};
 ghost use Rattle.odht_base.specs.Search.{groups_read};
 ghost use Rattle.odht_base.specs.Valid.{IsPartsOf};
-ghost use Rattle.odht_base.specs.Shown.{slot_key, slot_value, counts_as_free};
+ghost use Rattle.odht_base.specs.Shown.{counts_as_free};
 ghost use Rattle.odht_raw.specs.Parts.{entry_format};
 ghost use Rattle.odht_raw.specs.SearchEnds.{IsBesideKey};
 ghost use Rattle.odht_raw.specs.Walks.{items_from};
@@ -19,6 +19,7 @@ use crate::swisstable_group_query::GroupQuery;
 use std::marker::{Model, PhantomData};
 
 mod dump;
+mod entries;
 mod group_search;
 mod outcome;
 mod plain;
@@ -28,6 +29,7 @@ mod table_mut;
 mod walk;
 mod writes;
 
+pub use entries::{Entries, Entry};
 pub use group_search::{search, search_hashed};
 pub use outcome::Search;
 pub use plain::{plain_find, plain_insert};
@@ -38,104 +40,6 @@ pub use walk::RawIter;
 
 /// A control byte: the tag of a filled slot, below 128, or a free slot's 255.
 pub type EntryMetadata = u8;
-
-/// The control byte of a free slot.
-pub const FREE: EntryMetadata = 255;
-
-/// An encoded key with its encoded value, as a slot holds them.
-#[derive(Clone, Copy, PartialEq, Eq, Debug)]
-pub struct Entry<K: ByteArray, V: ByteArray> {
-    pub key: K,
-    pub value: V,
-}
-
-impl<K: ByteArray, V: ByteArray> Default for Entry<K, V> {
-    ghost use Rattle.odht_raw.specs.Parts.{IsZeros};
-
-    ghost is_default = { λ e. IsZeros K.LEN (K.bytes e.key) × IsZeros V.LEN (V.bytes e.value) };
-
-    /// The entry of a free slot: zeros.
-    #[inline]
-    fn default() -> Self {
-        Entry {
-            key: K::zeroed(),
-            value: V::zeroed(),
-        }
-    }
-}
-
-/// The entries of so many slots, read in their bytes at any alignment.
-#[derive(Drop)]
-pub struct Entries<'a, K: ByteArray, V: ByteArray> {
-    bytes: &'a [u8],
-    slots: usize,
-    types: PhantomData<(K, V)>,
-}
-
-impl<'a, K: ByteArray, V: ByteArray> Model for Entries<'a, K, V> {
-    ghost use Rattle.odht_raw.specs.Parts.{EntryBytes, IsEntries};
-
-    ghost Value = { EntryBytes };
-
-    ghost view = { λ e. record { slots = e.slots; bytes = e.bytes.now } };
-
-    ghost invariant = { λ e. IsEntries K.LEN V.LEN (record { slots = e.slots; bytes = e.bytes.now }) };
-}
-
-impl<'a, K: ByteArray, V: ByteArray> Entries<'a, K, V> {
-    /// The entries of `slots` slots in `bytes`, key then value, slot by slot.
-    #[inline]
-    pub fn new(bytes: &'a [u8], slots: usize) -> Self
-        requires key { K.LEN ≤ 255 }
-        requires value { V.LEN ≤ 255 }
-        requires len { length bytes.now ≡ slots * (K.LEN + V.LEN) }
-        ensures { result ≡ record { slots = slots; bytes = bytes.now } }
-    {
-        Entries {
-            bytes,
-            slots,
-            types: PhantomData,
-        }
-    }
-
-    // The same entries once more.
-    #[inline]
-    fn copy(&self) -> Self
-        ensures { result ≡ self.now }
-    {
-        Entries {
-            bytes: self.bytes,
-            slots: self.slots,
-            types: PhantomData,
-        }
-    }
-
-    /// How many slots there are.
-    #[inline]
-    pub fn len(&self) -> usize
-        ensures { result ≡ self.now.slots }
-    {
-        self.slots
-    }
-
-    /// The entry of a slot.
-    #[inline]
-    pub fn get(&self, slot: usize) -> Entry<K, V>
-        requires { slot < self.now.slots }
-        ensures key { result.key ≡ K.of_bytes (slot_key (entry_format K.LEN V.LEN) self.now.bytes slot) }
-        ensures value { result.value ≡ V.of_bytes (slot_value (entry_format K.LEN V.LEN) self.now.bytes slot) }
-        ensures key_bytes { K.bytes result.key ≡ slot_key (entry_format K.LEN V.LEN) self.now.bytes slot }
-        ensures value_bytes { V.bytes result.value ≡ slot_value (entry_format K.LEN V.LEN) self.now.bytes slot }
-    {
-        let bytes = self.bytes;
-        let at = slot * (K::LEN + V::LEN);
-        let entry = &bytes[at..at + K::LEN + V::LEN];
-        Entry {
-            key: K::from_slice(&entry[..K::LEN]),
-            value: V::from_slice(&entry[K::LEN..]),
-        }
-    }
-}
 
 /// Whether a control byte counts as free.
 #[inline]
@@ -168,7 +72,8 @@ impl<'a, K: ByteArray, V: ByteArray, H: HashFn> Model for RawTable<'a, K, V, H> 
 
     ghost view = { λ t. record { control = t.control.now; entries = t.entries } };
 
-    ghost invariant = { λ t. IsTableParts H.MIN_LEN K.LEN V.LEN (record { control = t.control.now; entries = t.entries }) };
+    ghost invariant = { λ t.
+        IsTableParts H.MIN_LEN K.LEN V.LEN (record { control = t.control.now; entries = t.entries }) };
 }
 
 impl<'a, K: ByteArray, V: ByteArray, H: HashFn> RawTable<'a, K, V, H> {
@@ -242,7 +147,8 @@ impl<'a, K: ByteArray, V: ByteArray, H: HashFn> RawTable<'a, K, V, H> {
     /// A mismatch tells of bytes that were written with another hash function.
     #[inline(always)]
     pub fn sanity_check_hashes(&self, slots_to_check: usize) -> Result<(), Error>
-        ensures { result ≡ checked (hashes_refusal (format_of K.LEN V.LEN H.hash) self.now.entries.bytes self.now.control slots_to_check) }
+        ensures { let F = format_of K.LEN V.LEN H.hash
+            in result ≡ checked (hashes_refusal F self.now.entries.bytes self.now.control slots_to_check) }
     {
         let slots = slots_to_check.min(self.entries.len());
         for slot in 0..slots {
@@ -255,7 +161,8 @@ impl<'a, K: ByteArray, V: ByteArray, H: HashFn> RawTable<'a, K, V, H> {
     #[inline(always)]
     fn check_slot(&self, slot: usize) -> Result<(), Error>
         requires { slot < self.now.entries.slots }
-        ensures { result ≡ checked (hashes_refusal_at (format_of K.LEN V.LEN H.hash) self.now.entries.bytes self.now.control slot) }
+        ensures { let F = format_of K.LEN V.LEN H.hash
+            in result ≡ checked (hashes_refusal_at F self.now.entries.bytes self.now.control slot) }
     {
         let found = self.control[slot];
         let entry = self.entries.get(slot);

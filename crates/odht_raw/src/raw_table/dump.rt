@@ -26,7 +26,9 @@ impl<'a, K: ByteArray, V: ByteArray, H: HashFn> RawTable<'a, K, V, H> {
     fn write_slot<W: fmt::Write>(&self, slot: usize, f: &mut fmt::Formatter<W>) -> fmt::Result
         requires { slot < self.now.entries.slots }
         ensures { DisplaysOnOk W.write_str_gives f.old result
-            (slot_text (entry_format K.LEN V.LEN) (λ b. K.debug_output (K.of_bytes b)) (λ b. V.debug_output (V.of_bytes b)) self.now slot)
+            (slot_text (entry_format K.LEN V.LEN)
+            (λ b. K.debug_output (K.of_bytes b)) (λ b. V.debug_output (V.of_bytes b))
+            self.now slot)
             f.new }
     {
         let control_byte = self.control[slot];
@@ -45,7 +47,9 @@ impl<'a, K: ByteArray, V: ByteArray, H: HashFn> fmt::Debug for RawTable<'a, K, V
     ghost use Rattle.odht_raw.specs.Parts.{entry_format};
     ghost use Rattle.odht_raw.specs.Dumps.{dump_text};
 
-    ghost debug_output = { dump_text (entry_format K.LEN V.LEN) (λ b. K.debug_output (K.of_bytes b)) (λ b. V.debug_output (V.of_bytes b)) H.hash_name };
+    ghost debug_output = { dump_text (entry_format K.LEN V.LEN)
+        (λ b. K.debug_output (K.of_bytes b)) (λ b. V.debug_output (V.of_bytes b))
+        H.hash_name };
 
     // The slot count and the name of the hash function on a line, and then each slot once, in slot order.
     fn fmt<W: fmt::Write>(&self, f: &mut fmt::Formatter<W>) -> fmt::Result {

@@ -17,10 +17,10 @@ use crate::swisstable_group_query::{Group, REFERENCE_GROUP_SIZE};
 
 /// Looks for the key group by group along its probe order, and stops at the first slot that is free or holds it.
 ///
-/// On the parts of a table whose keys are all reached the answer is the slot where a search slot by slot ends, which is where
-/// a pair with the key is placed, and exactly as many groups as there are up to it are shown. On any parts `Found` is a slot whose entry has this very key, `Free`
-/// one that counts as free, and no more groups are shown than there are. Both hold of every group search. The rules are
-/// those of docs/FORMAT.md, "Search".
+/// On the parts of a table whose keys are all reached the answer is the slot where a search slot by slot ends, which is
+/// where a pair with the key is placed, and exactly as many groups as there are up to it are shown. On any parts `Found`
+/// is a slot whose entry has this very key, `Free` one that counts as free, and no more groups are shown than there are.
+/// All this holds of every group search. The rules are those of docs/FORMAT.md, "Search".
 #[inline]
 pub fn search<K: ByteArray, V: ByteArray, H: HashFn, Q: Group>(
     scan: &mut Scan<'_>,

@@ -90,12 +90,13 @@ fn insert_parts<K: ByteArray, V: ByteArray, H: HashFn>(
 }
 
 impl<'c, 'e, K: ByteArray, V: ByteArray, H: HashFn> fmt::Debug for RawTableMut<'c, 'e, K, V, H> {
-    ghost use Rattle.std.specs.Prelude.{◌-◌, length};
     ghost use Rattle.odht_raw.specs.Parts.{entry_format};
     ghost use Rattle.odht_raw.specs.Dumps.{dump_text};
-    ghost use Rattle.odht_raw.specs.LentParts.{mut_control, mut_entries};
+    ghost use Rattle.odht_raw.specs.LentParts.{mut_parts};
 
-    ghost debug_output = { λ t. dump_text (entry_format K.LEN V.LEN) (λ b. K.debug_output (K.of_bytes b)) (λ b. V.debug_output (V.of_bytes b)) H.hash_name (record { control = mut_control t; entries = record { slots = length (mut_control t) - 16; bytes = mut_entries t } }) };
+    ghost debug_output = { λ t. dump_text (entry_format K.LEN V.LEN)
+        (λ b. K.debug_output (K.of_bytes b)) (λ b. V.debug_output (V.of_bytes b))
+        H.hash_name (mut_parts t) };
 
     // The same as the table that only reads these parts.
     fn fmt<W: fmt::Write>(&self, f: &mut fmt::Formatter<W>) -> fmt::Result {

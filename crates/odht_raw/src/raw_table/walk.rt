@@ -1,7 +1,7 @@
 //! A walk over the filled slots.
 ghost use Rattle.std.specs.Prelude.{◌≡◌, ◌+◌, ◌≤◌, length};
 ghost use Rattle.std.specs.Iterator.{YieldsFirst, item_count};
-ghost use Rattle.odht_raw.specs.Parts.{entry_format};
+ghost use Rattle.odht_raw.specs.Parts.{TableParts, entry_format};
 ghost use Rattle.odht_raw.specs.Walks.{items_from};
 
 use super::{Entries, Entry, EntryMetadata};
@@ -24,14 +24,20 @@ pub struct RawIter<'a, K: ByteArray, V: ByteArray> {
 
 impl<'a, K: ByteArray, V: ByteArray> Model for RawIter<'a, K, V> {
     ghost use Rattle.std.specs.Prelude.{◌≡◌, ◌+◌, ◌≤◌, ◌++◌, List, length, map};
-    ghost use Rattle.odht_raw.specs.Parts.{entry_format};
+    ghost use Rattle.odht_raw.specs.Parts.{TableParts, entry_format};
     ghost use Rattle.odht_raw.specs.Walks.{Item, items_of, items_from, AreFilled};
 
     ghost Value = { List (Item K V) };
 
-    ghost view = { λ w. items_of K.of_bytes V.of_bytes (entry_format K.LEN V.LEN) (record { control = w.control.now; entries = w.entries }) (map (λ i. w.base + i) w.filled) ++ items_from K.of_bytes V.of_bytes (entry_format K.LEN V.LEN) (record { control = w.control.now; entries = w.entries }) w.next_slot };
+    ghost view = { λ w.
+        let T : TableParts = record { control = w.control.now; entries = w.entries }
+        in let F = entry_format K.LEN V.LEN
+        in items_of K.of_bytes V.of_bytes F T (map (λ i. w.base + i) w.filled)
+        ++ items_from K.of_bytes V.of_bytes F T w.next_slot };
 
-    ghost invariant = { λ w. (length w.control.now ≡ w.entries.slots + 16) × (w.next_slot ≤ w.entries.slots) × AreFilled (record { control = w.control.now; entries = w.entries }) w.base w.filled };
+    ghost invariant = { λ w. (length w.control.now ≡ w.entries.slots + 16)
+        × (w.next_slot ≤ w.entries.slots)
+        × AreFilled (record { control = w.control.now; entries = w.entries }) w.base w.filled };
 }
 
 impl<'a, K: ByteArray, V: ByteArray> RawIter<'a, K, V> {
@@ -39,7 +45,8 @@ impl<'a, K: ByteArray, V: ByteArray> RawIter<'a, K, V> {
     #[inline]
     pub fn new(control: &'a [EntryMetadata], entries: Entries<'a, K, V>) -> Self
         requires { length control.now ≡ entries.slots + 16 }
-        ensures items { result ≡ items_from K.of_bytes V.of_bytes (entry_format K.LEN V.LEN) (record { control = control.now; entries = entries.entry }) 0 }
+        ensures items { let T : TableParts = record { control = control.now; entries = entries.entry }
+            in result ≡ items_from K.of_bytes V.of_bytes (entry_format K.LEN V.LEN) T 0 }
         ensures few { length result ≤ entries.entry.slots }
     {
         RawIter {

@@ -1,0 +1,102 @@
+//! The entries of a table, and how one is read in its bytes.
+ghost use Rattle.std.specs.Prelude.{◌≡◌, ◌+◌, ◌*◌, ◌<◌, ◌≤◌, length};
+ghost use Rattle.odht_base.specs.Shown.{slot_key, slot_value};
+ghost use Rattle.odht_raw.specs.Parts.{entry_format};
+
+use crate::bytes::ByteArray;
+use std::marker::{Model, PhantomData};
+
+/// An encoded key with its encoded value, as a slot holds them.
+#[derive(Clone, Copy, PartialEq, Eq, Debug)]
+pub struct Entry<K: ByteArray, V: ByteArray> {
+    pub key: K,
+    pub value: V,
+}
+
+impl<K: ByteArray, V: ByteArray> Default for Entry<K, V> {
+    ghost use Rattle.odht_raw.specs.Parts.{IsZeros};
+
+    ghost is_default = { λ e. IsZeros K.LEN (K.bytes e.key) × IsZeros V.LEN (V.bytes e.value) };
+
+    /// The entry of a free slot: zeros.
+    #[inline]
+    fn default() -> Self {
+        Entry {
+            key: K::zeroed(),
+            value: V::zeroed(),
+        }
+    }
+}
+
+/// The entries of so many slots, read in their bytes at any alignment.
+#[derive(Drop)]
+pub struct Entries<'a, K: ByteArray, V: ByteArray> {
+    bytes: &'a [u8],
+    slots: usize,
+    types: PhantomData<(K, V)>,
+}
+
+impl<'a, K: ByteArray, V: ByteArray> Model for Entries<'a, K, V> {
+    ghost use Rattle.odht_raw.specs.Parts.{EntryBytes, IsEntries};
+
+    ghost Value = { EntryBytes };
+
+    ghost view = { λ e. record { slots = e.slots; bytes = e.bytes.now } };
+
+    ghost invariant = { λ e. IsEntries K.LEN V.LEN (record { slots = e.slots; bytes = e.bytes.now }) };
+}
+
+impl<'a, K: ByteArray, V: ByteArray> Entries<'a, K, V> {
+    /// The entries of `slots` slots in `bytes`, key then value, slot by slot.
+    #[inline]
+    pub fn new(bytes: &'a [u8], slots: usize) -> Self
+        requires key { K.LEN ≤ 255 }
+        requires value { V.LEN ≤ 255 }
+        requires len { length bytes.now ≡ slots * (K.LEN + V.LEN) }
+        ensures { result ≡ record { slots = slots; bytes = bytes.now } }
+    {
+        Entries {
+            bytes,
+            slots,
+            types: PhantomData,
+        }
+    }
+
+    // The same entries once more.
+    #[inline]
+    pub(crate) fn copy(&self) -> Self
+        ensures { result ≡ self.now }
+    {
+        Entries {
+            bytes: self.bytes,
+            slots: self.slots,
+            types: PhantomData,
+        }
+    }
+
+    /// How many slots there are.
+    #[inline]
+    pub fn len(&self) -> usize
+        ensures { result ≡ self.now.slots }
+    {
+        self.slots
+    }
+
+    /// The entry of a slot.
+    #[inline]
+    pub fn get(&self, slot: usize) -> Entry<K, V>
+        requires { slot < self.now.slots }
+        ensures key { result.key ≡ K.of_bytes (slot_key (entry_format K.LEN V.LEN) self.now.bytes slot) }
+        ensures value { result.value ≡ V.of_bytes (slot_value (entry_format K.LEN V.LEN) self.now.bytes slot) }
+        ensures key_bytes { K.bytes result.key ≡ slot_key (entry_format K.LEN V.LEN) self.now.bytes slot }
+        ensures value_bytes { V.bytes result.value ≡ slot_value (entry_format K.LEN V.LEN) self.now.bytes slot }
+    {
+        let bytes = self.bytes;
+        let at = slot * (K::LEN + V::LEN);
+        let entry = &bytes[at..at + K::LEN + V::LEN];
+        Entry {
+            key: K::from_slice(&entry[..K::LEN]),
+            value: V::from_slice(&entry[K::LEN..]),
+        }
+    }
+}
