@@ -38,15 +38,24 @@ pub use scan::Scan;
 pub use table_mut::RawTableMut;
 pub use walk::RawIter;
 
-/// A control byte: the tag of a filled slot, below 128, or a free slot's 255.
+/// A control byte: the tag of a filled slot, which has seven bits, or `FREE`.
 pub type EntryMetadata = u8;
+
+/// The control byte of a free slot.
+pub const FREE: EntryMetadata = 255;
+
+// The least control byte that counts as free: one above each tag.
+const LEAST_FREE: EntryMetadata = 128;
+
+// How many lower bits of a hash its tag leaves out.
+const TAG_SHIFT: u32 = 25;
 
 /// Whether a control byte counts as free.
 #[inline]
 pub(crate) fn is_empty_or_deleted(control: EntryMetadata) -> bool
     ensures { result ≡ counts_as_free control }
 {
-    control >= 128
+    control >= LEAST_FREE
 }
 
 /// The tag of a key with this hash: its seven highest bits.
@@ -54,7 +63,7 @@ pub(crate) fn is_empty_or_deleted(control: EntryMetadata) -> bool
 pub fn tag_of(hash: u32) -> u8
     ensures { result ≡ hash / 2 ^ 25 }
 {
-    (hash >> 25) as u8
+    (hash >> TAG_SHIFT) as u8
 }
 
 /// The control bytes with their mirror, and the entries of as many slots.

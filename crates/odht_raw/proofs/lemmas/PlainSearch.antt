@@ -1,5 +1,5 @@
 -- A search slot by slot on the parts of a placed table.
-use Rattle.std.proofs.Common.{◌≡◌, ◌<◌, ◌≤◌, ◌∙◌, ◌+◌, ◌%◌, inl, inr, ℕ, true, false, true≢false, sym, ap, subst, refl, List, Option, Some, None, length, arith, leb-true, le-leb}
+use Rattle.std.proofs.Common.{◌≡◌, ◌<◌, ◌∙◌, ◌+◌, ◌%◌, inl, inr, ℕ, true, false, true≢false, sym, ap, subst, refl, List, Option, Some, None, length, arith}
 use Rattle.std.specs.Prelude.{slice_index, is_none}
 use Rattle.std.proofs.lemmas.Bool.{cases_lt, or_left, or_right, or_from, false_from_ne_true}
 use Rattle.odht_base.specs.Format.{Format, IsFormat}
@@ -7,7 +7,7 @@ use Rattle.odht_base.specs.Probe.{place_slot}
 use Rattle.odht_base.specs.Table.{Pair, Table, slot_count, cell_at, is_free, has_key}
 use Rattle.odht_base.specs.Search.{search_end, stops_at}
 use Rattle.odht_base.specs.Valid.{IsPartsOf}
-use Rattle.odht_base.specs.Shown.{slot_key}
+use Rattle.odht_base.specs.Shown.{counts_as_free, slot_key}
 use Rattle.odht_base.proofs.lemmas.Keys.{pair_key, same_bytes}
 use Rattle.odht_base.proofs.lemmas.Lookups.{search_end-at, search_end-nowhere}
 use Rattle.odht_raw.proofs.lemmas.PartCells.{slots_are, byte_is, key_is}
@@ -46,28 +46,28 @@ module _ (F : Format) (P : Table) (k es ctrl : List ℕ) (f : IsFormat F) (h : I
     ends passed stop = search_end-at F P.cells k n low passed (subst (λ j. stops_at P.cells k j ≡ true) (sym at) stop) ∙ ap Some at
 
     -- it ends at a free control byte
-    pub free_end : Passed F P k n → 128 ≤ slice_index ctrl i → Free i ≡ answer F P.cells k
+    pub free_end : Passed F P k n → counts_as_free (slice_index ctrl i) ≡ true → Free i ≡ answer F P.cells k
     unfolding answer
     free_end passed free =
-        let t : is_free P.cells i ≡ true = sym (byte_is F f P es ctrl h i below) ∙ le-leb 128 (slice_index ctrl i) free in
+        let t : is_free P.cells i ≡ true = sym (byte_is F f P es ctrl h i below) ∙ free in
         let e = ends passed (or_left _ _ t) in
         rw (e, t) refl
 
     -- and at the key
-    pub key_end : Passed F P k n → slice_index ctrl i < 128 → slot_key F es i ≡ k → Found i ≡ answer F P.cells k
+    pub key_end : Passed F P k n → counts_as_free (slice_index ctrl i) ≡ false → slot_key F es i ≡ k → Found i ≡ answer F P.cells k
     unfolding answer
     key_end passed filled same =
-        let t : is_free P.cells i ≡ false = sym (byte_is F f P es ctrl h i below) ∙ false_from_ne_true _ (λ b. let m = leb-true 128 (slice_index ctrl i) b in omega arith) in
+        let t : is_free P.cells i ≡ false = sym (byte_is F f P es ctrl h i below) ∙ filled in
         let e = ends passed (or_right _ _ (has_key_is i t same)) in
         rw (e, t) refl
 
     -- else it goes on
-    pub passed_on : Passed F P k n → slice_index ctrl i < 128 → (slot_key F es i ≡ k → ⊥) → Passed F P k (n + 1)
+    pub passed_on : Passed F P k n → counts_as_free (slice_index ctrl i) ≡ false → (slot_key F es i ≡ k → ⊥) → Passed F P k (n + 1)
     passed_on passed filled other m l = elim (cases_lt m n) [
       | inl before ↦ passed m before
       | inr here ↦
           let e : n ≡ m = omega arith in
-          let t : is_free P.cells i ≡ false = sym (byte_is F f P es ctrl h i below) ∙ false_from_ne_true _ (λ b. let q = leb-true 128 (slice_index ctrl i) b in omega arith) in
+          let t : is_free P.cells i ≡ false = sym (byte_is F f P es ctrl h i below) ∙ filled in
           subst (λ j. stops_at P.cells k (slot_of F P k j) ≡ false) e (subst (λ j. stops_at P.cells k j ≡ false) (sym at) (or_from _ _ t (has_key_not i other)))
     ]
 

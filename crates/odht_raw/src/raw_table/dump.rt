@@ -1,5 +1,5 @@
 //! What `Debug` writes of a table: each slot on a line.
-ghost use Rattle.std.specs.Prelude.{ℕ, List, ◌<◌};
+ghost use Rattle.std.specs.Prelude.{◌<◌};
 ghost use Rattle.std.specs.Fmt.{WritesOnOk, DisplaysOnOk};
 ghost use Rattle.odht_raw.specs.Parts.{entry_format};
 ghost use Rattle.odht_raw.specs.Dumps.{head_text, slot_text};

@@ -1,7 +1,7 @@
 //! The search by groups of control bytes along the probe order.
-ghost use Rattle.std.specs.Prelude.{◌≡◌, ℕ, ◌+◌, ◌/◌, ◌^◌, ◌<◌, ◌≤◌, min, length, IfSome};
+ghost use Rattle.std.specs.Prelude.{◌≡◌, ℕ, ◌+◌, ◌/◌, ◌<◌, ◌≤◌, min, length, IfSome};
 ghost use Rattle.odht_base.specs.Load.{IsSlotCount};
-ghost use Rattle.odht_base.specs.Format.{format_of};
+ghost use Rattle.odht_base.specs.Format.{format_of, tag as key_tag};
 ghost use Rattle.odht_base.specs.Table.{Table};
 ghost use Rattle.odht_base.specs.Search.{groups_read};
 ghost use Rattle.odht_base.specs.Valid.{IsPartsOf};
@@ -98,7 +98,7 @@ fn look_at_group<K: ByteArray, V: ByteArray, H: HashFn, Q: Group>(
     requires len { length bytes.now ≡ 16 }
     requires slots { IsSlotCount entries.now.slots }
     requires start { start < entries.now.slots }
-    requires tag { tag ≡ H.hash (K.bytes key.now) / 2 ^ 25 }
+    requires tag { tag ≡ key_tag (format_of K.LEN V.LEN H.hash) (K.bytes key.now) }
     requires small { tag < 128 }
     requires lengths { ArePairLengths H.MIN_LEN K.LEN V.LEN }
     ensures slot { IfSome result
@@ -135,7 +135,7 @@ fn look_at_piece<K: ByteArray, V: ByteArray, H: HashFn, Q: Group>(
     requires len { length bytes.now ≡ Q.SIZE }
     requires slots { IsSlotCount entries.now.slots }
     requires start { start + Q.SIZE ≤ entries.now.slots + 16 }
-    requires tag { tag ≡ H.hash (K.bytes key.now) / 2 ^ 25 }
+    requires tag { tag ≡ key_tag (format_of K.LEN V.LEN H.hash) (K.bytes key.now) }
     requires small { tag < 128 }
     requires lengths { ArePairLengths H.MIN_LEN K.LEN V.LEN }
     ensures slot { IfSome result

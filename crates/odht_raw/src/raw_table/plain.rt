@@ -12,7 +12,7 @@ ghost use Rattle.odht_raw.specs.PartsInserts.{IsPlacing, IsChange};
 ghost use Rattle.odht_raw.specs.SearchEnds.{IsPlainEnd, IsBesideKey};
 
 use super::writes::insert_at;
-use super::{Entries, EntryMetadata, Search, tag_of};
+use super::{Entries, EntryMetadata, Search, is_empty_or_deleted, tag_of};
 use crate::bytes::ByteArray;
 use crate::error::Error;
 use crate::hash::HashFn;
@@ -90,7 +90,7 @@ fn plain_search<K: ByteArray, V: ByteArray, H: HashFn>(
     let slots = entries.len();
     for place in 0..slots {
         let slot = slot_at(hash, slots, place);
-        if control[slot] >= 128 {
+        if is_empty_or_deleted(control[slot]) {
             return Search::Free(slot);
         }
         if entries.get(slot).key.equals(key) {

@@ -1,7 +1,7 @@
 //! The writes of an insert on the parts of a table.
-ghost use Rattle.std.specs.Prelude.{◌≡◌, ◌+◌, ◌-◌, ◌/◌, ◌^◌, ◌<◌, ◌≤◌, ◌++◌, length};
+ghost use Rattle.std.specs.Prelude.{◌≡◌, ◌+◌, ◌-◌, ◌<◌, ◌≤◌, ◌++◌, length};
 ghost use Rattle.odht_base.specs.Bytes.{overwritten_at};
-ghost use Rattle.odht_base.specs.Format.{format_of};
+ghost use Rattle.odht_base.specs.Format.{format_of, tag as key_tag};
 ghost use Rattle.odht_base.specs.Table.{Pair, Table};
 ghost use Rattle.odht_base.specs.Valid.{IsPartsOf};
 ghost use Rattle.odht_base.specs.Writes.{tagged};
@@ -29,7 +29,7 @@ pub(crate) fn insert_at<K: ByteArray, V: ByteArray, H: HashFn>(
     end: Search,
 ) -> Result<Option<V>, Error>
     requires lengths { ArePartLengths H.MIN_LEN K.LEN V.LEN (length entries.old) (length control.old) }
-    requires tag { tag ≡ H.hash (K.bytes key) / 2 ^ 25 }
+    requires tag { tag ≡ key_tag (format_of K.LEN V.LEN H.hash) (K.bytes key) }
     requires end { let shown : EntryBytes = record { slots = length control.old - 16; bytes = entries.old }
         in IsEnd (format_of K.LEN V.LEN H.hash) shown control.old (K.bytes key) end }
     ensures placed { let p : Pair = record { key = K.bytes key; value = V.bytes value }

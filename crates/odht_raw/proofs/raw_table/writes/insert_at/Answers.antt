@@ -1,8 +1,7 @@
-use Rattle.std.proofs.Common.{rules, ◌≡◌, ◌-◌, ◌↔◌, ℕ, List, length, subst, ◌∙◌, sym, ap, Some, None, Ok, Err, refl, Option, Result}
+use Rattle.std.proofs.Common.{◌-◌, length, subst, ◌∙◌, sym, ap, Some, None, Ok, Err, refl}
 use Rattle.std.specs.Prelude.{option_map}
 use Rattle.std.proofs.lemmas.Option.{none-some}
 use Rattle.odht_base.specs.Format.{Format, format_of}
-use Rattle.odht_base.specs.Insert.{place}
 use Rattle.odht_base.specs.Table.{Pair}
 use Rattle.odht_base.specs.Valid.{IsPartsOf, IsPairOf}
 use Rattle.odht_base.proofs.lemmas.Places.{written, place-None}
