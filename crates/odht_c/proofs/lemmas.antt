@@ -10,3 +10,5 @@ pub mod Refused
 pub mod InPlace
 -- iterators that are called until they end
 pub mod Drained
+-- tables that are handed out
+pub mod HandedOut

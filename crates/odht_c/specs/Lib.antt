@@ -1,3 +1,9 @@
--- The words that speak of the calls of C.
--- what a call answers, and what it leaves in the places that its caller lends
-pub mod Calls
+-- The words that speak of the calls of C: what each answers, and what it leaves in the places that its caller lends.
+-- the statuses, and what calls demand of their arguments
+pub mod Statuses
+-- the calls that read a table
+pub mod Reads
+-- the calls that make a table in bytes, and those that write to one
+pub mod Writes
+-- the calls that build a table in memory of its own
+pub mod Builds

@@ -1,23 +1,13 @@
 //! Tables from keys of 16 bytes, which are hashes already, to `u32`, lowest byte first. The hash function is `UnHashFn`.
 //!
 //! The statuses in the texts have the names of include/odht.h, and the bytes and rules are those of docs/FORMAT.md.
-ghost use Rattle.std.specs.Prelude.{◌≡◌, ℕ, List, ◌^◌, ◌<◌, ◌≤◌, length, take, slice_get, Option, Some, None, Result, IfSome};
-ghost use Rattle.std.specs.List.{zip};
+ghost use Rattle.std.specs.Prelude.{◌≡◌};
 ghost use Rattle.std.specs.Int.{w32, to_le_bytes, from_le_bytes};
 ghost use Rattle.std.proofs.Common.{lit≤};
-ghost use Rattle.odht_base.specs.Load.{factor_of, max_items, slots_for};
-ghost use Rattle.odht_base.specs.Image.{image_len};
-ghost use Rattle.odht_base.specs.Table.{Table, count, slot_count, fresh, walk};
-ghost use Rattle.odht_base.specs.Shown.{stated_count, seen};
-ghost use Rattle.odht_base.specs.Insert.{put_view};
-ghost use Rattle.odht_base.specs.Valid.{IsImage};
-ghost use Rattle.odht_raw.specs.Coding.{value_for, HasStored};
-ghost use Rattle.odht_raw.specs.Frame.{IsAccepted, IsFramed};
-ghost use Rattle.odht.specs.Lists.{encoded_all, IsFilled};
-ghost use Rattle.odht_raw.specs.Refusals.{IsTooLarge, new_refusal, opening_refusal, view_refusal};
-ghost use Rattle.odht_raw.specs.Walks.{decoded_all};
-ghost use Rattle.odht_raw.specs.declared.error.Error.{Error};
-ghost use Rattle.odht_c.specs.Calls.{status_of, status_or_ok, IsPercent, AreAsLong, IsGot, IsGotAt, IsWalked, IsAnswered, IsFramedRun, IsPut, done, bad_percent, bad_lengths};
+ghost use Rattle.odht_raw.specs.Refusals.{view_refusal};
+ghost use Rattle.odht_c.specs.Statuses.{status_or_ok};
+ghost use Rattle.odht_c.specs.Reads.{GetAnswers, GetAllAnswers, LenAnswers, WalkAnswers};
+ghost use Rattle.odht_c.specs.Writes.{BytesNeededAnswers, InitAnswers, InsertAnswers, InsertAllAnswers};
 
 use crate::status::BAD_LENGTHS;
 use crate::{read, write};
@@ -81,15 +71,8 @@ pub extern "C" fn odht_b16_u32_bytes_needed(
     max_load_factor_percent: u8,
     len: &mut usize,
 ) -> u32
-    ensures percent { (IsPercent max_load_factor_percent → ⊥) → (result ≡ bad_percent) × (len.new ≡ len.old) }
-    ensures needed { (s : ℕ)
-        → IsPercent max_load_factor_percent
-        → slots_for max_item_count (factor_of max_load_factor_percent) ≡ Some s
-        → image_len ⟦<Bytes16ToU32 as Coded>⟧.coding.format s < 2 ^ 64
-        → (result ≡ done) × (len.new ≡ image_len ⟦<Bytes16ToU32 as Coded>⟧.coding.format s) }
-    ensures capacity { IsPercent max_load_factor_percent
-        → IsTooLarge ⟦<Bytes16ToU32 as Coded>⟧.coding.format max_item_count (factor_of max_load_factor_percent)
-        → (result ≡ status_of Error.Capacity) × (len.new ≡ len.old) }
+    ensures { BytesNeededAnswers ⟦<Bytes16ToU32 as Coded>⟧.coding max_item_count max_load_factor_percent
+        len.old result len.new }
 {
     write::bytes_needed::<Bytes16ToU32>(max_item_count, max_load_factor_percent, len)
 }
@@ -102,14 +85,8 @@ pub extern "C" fn odht_b16_u32_init(
     max_item_count: usize,
     max_load_factor_percent: u8,
 ) -> u32
-    ensures percent { (IsPercent max_load_factor_percent → ⊥) → (result ≡ bad_percent) × (bytes.new ≡ bytes.old) }
-    ensures refused { (e : Error)
-        → IsPercent max_load_factor_percent
-        → new_refusal ⟦<Bytes16ToU32 as Coded>⟧.coding.format max_item_count (factor_of max_load_factor_percent) (length bytes.old) ≡ Some e
-        → (result ≡ status_of e) × (bytes.new ≡ bytes.old) }
-    ensures made { IsPercent max_load_factor_percent
-        → new_refusal ⟦<Bytes16ToU32 as Coded>⟧.coding.format max_item_count (factor_of max_load_factor_percent) (length bytes.old) ≡ None
-        → (result ≡ done) × ((P : Table) × (fresh max_item_count max_load_factor_percent ≡ Some P) × IsImage ⟦<Bytes16ToU32 as Coded>⟧.coding.format P bytes.new) }
+    ensures { InitAnswers ⟦<Bytes16ToU32 as Coded>⟧.coding max_item_count max_load_factor_percent
+        bytes.old result bytes.new }
 {
     write::init::<Bytes16ToU32>(bytes, max_item_count, max_load_factor_percent)
 }
@@ -132,14 +109,8 @@ pub extern "C" fn odht_b16_u32_insert(
     value: u32,
     former: &mut u32,
 ) -> u32
-    ensures refused { (e : Error)
-        → opening_refusal ⟦<Bytes16ToU32 as Coded>⟧.coding.format bytes.old ≡ Some e
-        → (result ≡ status_of e) × (bytes.new ≡ bytes.old) × (former.new ≡ former.old) }
-    ensures on_valid { (P : Table)
-        → IsImage ⟦<Bytes16ToU32 as Coded>⟧.coding.format P bytes.old
-        → IsPut ⟦<Bytes16ToU32 as Coded>⟧.coding P key.now value bytes.new former.old result former.new }
-    ensures on_any { IsAccepted ⟦<Bytes16ToU32 as Coded>⟧.coding.format bytes.old
-        → (r : Result (Option ℕ) Error) × IsAnswered r former.old result former.new × IsFramed ⟦<Bytes16ToU32 as Coded>⟧.coding bytes.old key.now value r bytes.new }
+    ensures { InsertAnswers ⟦<Bytes16ToU32 as Coded>⟧.coding bytes.old key.now value
+        former.old result bytes.new former.new }
 {
     write::insert::<Bytes16ToU32>(bytes, key, &value, former)
 }
@@ -154,28 +125,8 @@ pub extern "C" fn odht_b16_u32_insert_all(
     values: &[u32],
     accepted: &mut usize,
 ) -> u32
-    ensures lengths { (length values.now ≡ length keys.now → ⊥)
-        → (result ≡ bad_lengths) × (bytes.new ≡ bytes.old) × (accepted.new ≡ accepted.old) }
-    ensures refused { (e : Error)
-        → length values.now ≡ length keys.now
-        → opening_refusal ⟦<Bytes16ToU32 as Coded>⟧.coding.format bytes.old ≡ Some e
-        → (result ≡ status_of e) × (bytes.new ≡ bytes.old) × (accepted.new ≡ accepted.old) }
-    ensures bound { length values.now ≡ length keys.now → IsAccepted ⟦<Bytes16ToU32 as Coded>⟧.coding.format bytes.old → accepted.new ≤ length keys.now }
-    ensures all { length values.now ≡ length keys.now → IsAccepted ⟦<Bytes16ToU32 as Coded>⟧.coding.format bytes.old → accepted.new ≡ length keys.now → result ≡ done }
-    ensures some { length values.now ≡ length keys.now → IsAccepted ⟦<Bytes16ToU32 as Coded>⟧.coding.format bytes.old → accepted.new < length keys.now → result ≡ status_of Error.Full }
-    ensures filled { (P : Table)
-        → length values.now ≡ length keys.now
-        → IsImage ⟦<Bytes16ToU32 as Coded>⟧.coding.format P bytes.old
-        → IsFilled ⟦<Bytes16ToU32 as Coded>⟧.coding.format (put_view ⟦<Bytes16ToU32 as Coded>⟧.coding.format) P (encoded_all ⟦<Bytes16ToU32 as Coded>⟧.coding (take accepted.new (zip keys.now values.now))) bytes.new }
-    ensures framed { length values.now ≡ length keys.now
-        → IsAccepted ⟦<Bytes16ToU32 as Coded>⟧.coding.format bytes.old
-        → IsFramedRun ⟦<Bytes16ToU32 as Coded>⟧.coding bytes.old (take accepted.new (zip keys.now values.now)) bytes.new }
-    ensures at_maximum { (P : Table)
-        → length values.now ≡ length keys.now
-        → IsAccepted ⟦<Bytes16ToU32 as Coded>⟧.coding.format bytes.old
-        → IsImage ⟦<Bytes16ToU32 as Coded>⟧.coding.format P bytes.new
-        → accepted.new < length keys.now
-        → count P ≡ max_items (slot_count P) P.factor }
+    ensures { InsertAllAnswers ⟦<Bytes16ToU32 as Coded>⟧.coding bytes.old keys.now values.now
+        accepted.old result bytes.new accepted.new }
 {
     if values.len() != keys.len() {
         return BAD_LENGTHS;
@@ -187,14 +138,7 @@ pub extern "C" fn odht_b16_u32_insert_all(
 /// `value` stays.
 #[unsafe(no_mangle)]
 pub extern "C" fn odht_b16_u32_get(bytes: &[u8], key: &[u8; 16], value: &mut u32) -> u32
-    ensures refused { (e : Error)
-        → opening_refusal ⟦<Bytes16ToU32 as Coded>⟧.coding.format bytes.now ≡ Some e
-        → (result ≡ status_of e) × (value.new ≡ value.old) }
-    ensures on_valid { (P : Table)
-        → IsImage ⟦<Bytes16ToU32 as Coded>⟧.coding.format P bytes.now
-        → IsGot (value_for ⟦<Bytes16ToU32 as Coded>⟧.coding P key.now) value.old result value.new }
-    ensures on_any { IsAccepted ⟦<Bytes16ToU32 as Coded>⟧.coding.format bytes.now
-        → (o : Option ℕ) × IsGot o value.old result value.new × IfSome o (HasStored ⟦<Bytes16ToU32 as Coded>⟧.coding bytes.now key.now) }
+    ensures { GetAnswers ⟦<Bytes16ToU32 as Coded>⟧.coding bytes.now key.now value.old result value.new }
 {
     read::get::<Bytes16ToU32>(bytes, key, value)
 }
@@ -208,25 +152,8 @@ pub extern "C" fn odht_b16_u32_get_all(
     values: &mut [u32],
     found: &mut [u8],
 ) -> u32
-    ensures lengths { (AreAsLong (length keys.now) (length values.old) (length found.old) → ⊥)
-        → (result ≡ bad_lengths) × (values.new ≡ values.old) × (found.new ≡ found.old) }
-    ensures refused { (e : Error)
-        → AreAsLong (length keys.now) (length values.old) (length found.old)
-        → opening_refusal ⟦<Bytes16ToU32 as Coded>⟧.coding.format bytes.now ≡ Some e
-        → (result ≡ status_of e) × (values.new ≡ values.old) × (found.new ≡ found.old) }
-    ensures accepted { AreAsLong (length keys.now) (length values.old) (length found.old)
-        → IsAccepted ⟦<Bytes16ToU32 as Coded>⟧.coding.format bytes.now
-        → result ≡ done }
-    ensures on_valid { (P : Table) (i : ℕ) (key : List ℕ)
-        → AreAsLong (length keys.now) (length values.old) (length found.old)
-        → IsImage ⟦<Bytes16ToU32 as Coded>⟧.coding.format P bytes.now
-        → slice_get keys.now i ≡ Some key
-        → IsGotAt (value_for ⟦<Bytes16ToU32 as Coded>⟧.coding P key) (slice_get values.old i) (slice_get found.new i) (slice_get values.new i) }
-    ensures on_any { (i : ℕ) (key : List ℕ)
-        → AreAsLong (length keys.now) (length values.old) (length found.old)
-        → IsAccepted ⟦<Bytes16ToU32 as Coded>⟧.coding.format bytes.now
-        → slice_get keys.now i ≡ Some key
-        → (o : Option ℕ) × IsGotAt o (slice_get values.old i) (slice_get found.new i) (slice_get values.new i) × IfSome o (HasStored ⟦<Bytes16ToU32 as Coded>⟧.coding bytes.now key) }
+    ensures { GetAllAnswers ⟦<Bytes16ToU32 as Coded>⟧.coding bytes.now keys.now
+        values.old found.old result values.new found.new }
 {
     if values.len() != keys.len() || found.len() != keys.len() {
         return BAD_LENGTHS;
@@ -237,10 +164,7 @@ pub extern "C" fn odht_b16_u32_get_all(
 /// How many items the header states, written to `item_count`: status 0. Or a refusal of the header or length; then `item_count` stays.
 #[unsafe(no_mangle)]
 pub extern "C" fn odht_b16_u32_len(bytes: &[u8], item_count: &mut usize) -> u32
-    ensures status { result ≡ status_or_ok (opening_refusal ⟦<Bytes16ToU32 as Coded>⟧.coding.format bytes.now) }
-    ensures refused { (e : Error) → opening_refusal ⟦<Bytes16ToU32 as Coded>⟧.coding.format bytes.now ≡ Some e → item_count.new ≡ item_count.old }
-    ensures stated { IsAccepted ⟦<Bytes16ToU32 as Coded>⟧.coding.format bytes.now → item_count.new ≡ stated_count bytes.now }
-    ensures on_valid { (P : Table) → IsImage ⟦<Bytes16ToU32 as Coded>⟧.coding.format P bytes.now → item_count.new ≡ count P }
+    ensures { LenAnswers ⟦<Bytes16ToU32 as Coded>⟧.coding bytes.now item_count.old result item_count.new }
 {
     read::len::<Bytes16ToU32>(bytes, item_count)
 }
@@ -255,19 +179,8 @@ pub extern "C" fn odht_b16_u32_walk(
     values: &mut [u32],
     item_count: &mut usize,
 ) -> u32
-    ensures lengths { (length values.old ≡ length keys.old → ⊥)
-        → (result ≡ bad_lengths) × (keys.new ≡ keys.old) × (values.new ≡ values.old) × (item_count.new ≡ item_count.old) }
-    ensures refused { (e : Error)
-        → length values.old ≡ length keys.old
-        → opening_refusal ⟦<Bytes16ToU32 as Coded>⟧.coding.format bytes.now ≡ Some e
-        → (result ≡ status_of e) × (keys.new ≡ keys.old) × (values.new ≡ values.old) × (item_count.new ≡ item_count.old) }
-    ensures on_valid { (P : Table)
-        → length values.old ≡ length keys.old
-        → IsImage ⟦<Bytes16ToU32 as Coded>⟧.coding.format P bytes.now
-        → IsWalked (decoded_all ⟦<Bytes16ToU32 as Coded>⟧.coding (walk P)) keys.old values.old result keys.new values.new item_count.new }
-    ensures on_any { length values.old ≡ length keys.old
-        → IsAccepted ⟦<Bytes16ToU32 as Coded>⟧.coding.format bytes.now
-        → IsWalked (decoded_all ⟦<Bytes16ToU32 as Coded>⟧.coding (seen ⟦<Bytes16ToU32 as Coded>⟧.coding.format bytes.now)) keys.old values.old result keys.new values.new item_count.new }
+    ensures { WalkAnswers ⟦<Bytes16ToU32 as Coded>⟧.coding bytes.now
+        keys.old values.old item_count.old result keys.new values.new item_count.new }
 {
     if values.len() != keys.len() {
         return BAD_LENGTHS;

@@ -1,22 +1,16 @@
 //! What the calls read in the bytes of a table, for every configuration.
-ghost use Rattle.std.specs.Prelude.{◌≡◌, ℕ, length, slice_get, Option, Some, IfOk, IfSome};
+ghost use Rattle.std.specs.Prelude.{◌≡◌, length, IfOk};
 ghost use Rattle.std.specs.Result.{result_err};
-ghost use Rattle.odht_base.specs.Table.{Table, count};
-ghost use Rattle.odht_base.specs.Shown.{stated_count, seen};
-ghost use Rattle.odht_base.specs.Valid.{IsImage};
-ghost use Rattle.odht_raw.specs.Coding.{value_for, HasStored};
-ghost use Rattle.odht_raw.specs.Frame.{IsAccepted};
 ghost use Rattle.odht_raw.specs.Refusals.{opening_refusal, view_refusal};
-ghost use Rattle.odht_raw.specs.declared.error.Error.{Error};
-ghost use Rattle.odht_raw.specs.Walks.{decoded_all};
-ghost use Rattle.odht_c.specs.Calls.{status_of, status_or_ok, IsGot, IsGotAt, IsWalked, done};
+ghost use Rattle.odht_c.specs.Statuses.{status_or_ok};
+ghost use Rattle.odht_c.specs.Reads.{GetAnswers, GetAllAnswers, LenAnswers, WalkAnswers};
 
 use crate::status::{ABSENT, OK, TOO_SMALL, status_of};
 use odht::HashTable;
 use odht::bytes::Borrowed;
 use odht::config::{Coded, Config};
 use odht::error::Error;
-use odht::memory_layout::Header;
+use odht::memory_layout::{HEADER_SIZE, Header};
 
 /// The table in bytes whose header and length fit, of which no slot is looked at.
 #[inline(always)]
@@ -25,7 +19,7 @@ pub(crate) fn view<C: Config>(bytes: &[u8]) -> Result<HashTable<C, Borrowed<'_>>
     ensures err { result_err result ≡ opening_refusal ⟦<C as Coded>⟧.coding.format bytes.now }
 {
     let found = bytes.len();
-    if found < 32 {
+    if found < HEADER_SIZE {
         return Err(Error::TooShort { found });
     }
     Header::of(bytes).sanity_check::<C>(found)?;
@@ -49,14 +43,7 @@ pub(crate) fn open<C: Config>(bytes: &[u8]) -> u32
 /// The value of a key, written to `value` where there is one.
 #[inline]
 pub(crate) fn get<C: Config>(bytes: &[u8], key: &C::Key, value: &mut C::Value) -> u32
-    ensures refused { (e : Error)
-        → opening_refusal ⟦<C as Coded>⟧.coding.format bytes.now ≡ Some e
-        → (result ≡ status_of e) × (value.new ≡ value.old) }
-    ensures on_valid { (P : Table)
-        → IsImage ⟦<C as Coded>⟧.coding.format P bytes.now
-        → IsGot (value_for ⟦<C as Coded>⟧.coding P key.now) value.old result value.new }
-    ensures on_any { IsAccepted ⟦<C as Coded>⟧.coding.format bytes.now
-        → (o : Option C.Value) × IsGot o value.old result value.new × IfSome o (HasStored ⟦<C as Coded>⟧.coding bytes.now key.now) }
+    ensures { GetAnswers ⟦<C as Coded>⟧.coding bytes.now key.now value.old result value.new }
 {
     let table = match view::<C>(bytes) {
         Ok(table) => table,
@@ -81,18 +68,8 @@ pub(crate) fn get_all<C: Config>(
 ) -> u32
     requires values { length values.old ≡ length keys.now }
     requires found { length found.old ≡ length keys.now }
-    ensures refused { (e : Error)
-        → opening_refusal ⟦<C as Coded>⟧.coding.format bytes.now ≡ Some e
-        → (result ≡ status_of e) × (values.new ≡ values.old) × (found.new ≡ found.old) }
-    ensures accepted { IsAccepted ⟦<C as Coded>⟧.coding.format bytes.now → result ≡ done }
-    ensures on_valid { (P : Table) (i : ℕ) (key : C.Key)
-        → IsImage ⟦<C as Coded>⟧.coding.format P bytes.now
-        → slice_get keys.now i ≡ Some key
-        → IsGotAt (value_for ⟦<C as Coded>⟧.coding P key) (slice_get values.old i) (slice_get found.new i) (slice_get values.new i) }
-    ensures on_any { (i : ℕ) (key : C.Key)
-        → IsAccepted ⟦<C as Coded>⟧.coding.format bytes.now
-        → slice_get keys.now i ≡ Some key
-        → (o : Option C.Value) × IsGotAt o (slice_get values.old i) (slice_get found.new i) (slice_get values.new i) × IfSome o (HasStored ⟦<C as Coded>⟧.coding bytes.now key) }
+    ensures { GetAllAnswers ⟦<C as Coded>⟧.coding bytes.now keys.now
+        values.old found.old result values.new found.new }
 {
     let table = match view::<C>(bytes) {
         Ok(table) => table,
@@ -114,12 +91,7 @@ pub(crate) fn get_all<C: Config>(
 
 /// How many items the header states.
 pub(crate) fn len<C: Config>(bytes: &[u8], item_count: &mut usize) -> u32
-    ensures status { result ≡ status_or_ok (opening_refusal ⟦<C as Coded>⟧.coding.format bytes.now) }
-    ensures refused { (e : Error)
-        → opening_refusal ⟦<C as Coded>⟧.coding.format bytes.now ≡ Some e
-        → item_count.new ≡ item_count.old }
-    ensures stated { IsAccepted ⟦<C as Coded>⟧.coding.format bytes.now → item_count.new ≡ stated_count bytes.now }
-    ensures on_valid { (P : Table) → IsImage ⟦<C as Coded>⟧.coding.format P bytes.now → item_count.new ≡ count P }
+    ensures { LenAnswers ⟦<C as Coded>⟧.coding bytes.now item_count.old result item_count.new }
 {
     match view::<C>(bytes) {
         Ok(table) => {
@@ -139,11 +111,8 @@ pub(crate) fn walk<C: Config>(
     item_count: &mut usize,
 ) -> u32
     requires { length values.old ≡ length keys.old }
-    ensures refused { (e : Error)
-        → opening_refusal ⟦<C as Coded>⟧.coding.format bytes.now ≡ Some e
-        → (result ≡ status_of e) × (keys.new ≡ keys.old) × (values.new ≡ values.old) × (item_count.new ≡ item_count.old) }
-    ensures on_any { IsAccepted ⟦<C as Coded>⟧.coding.format bytes.now
-        → IsWalked (decoded_all ⟦<C as Coded>⟧.coding (seen ⟦<C as Coded>⟧.coding.format bytes.now)) keys.old values.old result keys.new values.new item_count.new }
+    ensures { WalkAnswers ⟦<C as Coded>⟧.coding bytes.now
+        keys.old values.old item_count.old result keys.new values.new item_count.new }
 {
     let table = match view::<C>(bytes) {
         Ok(table) => table,

@@ -1,6 +1,6 @@
 //! The numbers that the calls answer. `include/odht.h` has names for all, those of refusals too.
 ghost use Rattle.std.specs.Prelude.{◌≡◌};
-ghost use Rattle.odht_c.specs.Calls.{status_of};
+ghost use Rattle.odht_c.specs.Statuses.{status_of};
 
 use odht::error::Error;
 

@@ -7,7 +7,7 @@ use Rattle.std.specs.Prelude.{option_map}
 use Rattle.std.proofs.Math.Nat.{eq-or-lt_of_le}
 use Rattle.odht_base.specs.Format.{Format}
 use Rattle.odht_base.specs.Shown.{Stores, entries_of, stated_slots, slot_key, slot_value}
-use Rattle.odht_c.specs.Calls.{IsGotAt}
+use Rattle.odht_c.specs.Reads.{IsGotAt}
 use Rattle.odht_c.proofs.lemmas.Arrays.{slice_get-set_same, slice_get-set_other}
 
 abbrev pub IsGotBy : {K V : Type 0} → (K → Option V → Type 0) → K → Option V → Option ℕ → Option V → Type 0

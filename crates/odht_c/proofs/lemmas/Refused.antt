@@ -1,7 +1,7 @@
 -- The status of what is refused.
 use Rattle.std.proofs.Common.{◌≡◌, ◌∙◌, sym, ap, Option, Some, None}
 use Rattle.odht_raw.specs.declared.error.Error.{Error}
-use Rattle.odht_c.specs.Calls.{status_of}
+use Rattle.odht_c.specs.Statuses.{status_of}
 
 -- one refusal has one status
 pub told : (o : Option Error) (a e : Error) → o ≡ Some a → o ≡ Some e → status_of a ≡ status_of e

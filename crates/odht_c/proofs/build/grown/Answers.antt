@@ -1,4 +1,4 @@
-use Rattle.std.proofs.Common.{◌≡◌, ◌∙◌, ◌<◌, sym, ap, ap₂, subst, take, List, ℕ, arith, length, Some, zip}
+use Rattle.std.proofs.Common.{inl, inr, ◌≡◌, ◌∙◌, ◌<◌, sym, ap, ap₂, subst, take, List, ℕ, arith, length, Some, zip}
 use Rattle.std.proofs.lemmas.List.{take_all}
 use Rattle.std.proofs.lemmas.Slice.Zip.{get_or-zip, length-zip}
 use Rattle.odht_base.specs.Insert.{put_owned}
@@ -9,6 +9,8 @@ use Rattle.odht_base.proofs.lemmas.Puts.{put_owned-IsInsert}
 use Rattle.odht_raw.specs.Coding.{coding_of}
 use Rattle.odht.specs.Lists.{encoded_all, IsFilled}
 use Rattle.odht.proofs.lemmas.Fillings.{filled_more, encoded_all-more}
+use Rattle.odht_c.specs.Builds.{IsGrownFilled}
+use Rattle.odht_c.proofs.lemmas.HandedOut.{IsHandedOut-of}
 use Rattle.odht_c.proofs.build.grown.Goals as goal
 
 pub loop-index-preserved : goal.loop-index-preserved
@@ -26,27 +28,21 @@ loop-index-preserved g c P is =
     subst (λ (ps : List Pair). IsFilled K.format (put_owned K.format) P ps c.insert.new.self) (sym (encoded_all-more K items n item low_item at))
     (filled_more K.format (put_owned K.format) (put_owned-IsInsert K.format) (put_owned-PlacesBelow K.format) P (encoded_all K (take n items)) _ c.loop-index.table c.insert.new.self h put.1.0 put.1.1 put.1.2)
 
-pub returns-clause-built : goal.returns-clause-built
-returns-clause-built g c P done start =
-    let K = coding_of g.C.EncodedKey.ByteArray.LEN g.C.EncodedKey.ByteArray.bytes g.C.EncodedKey.ByteArray.of_bytes g.C.EncodedValue.ByteArray.LEN g.C.EncodedValue.ByteArray.bytes g.C.EncodedValue.ByteArray.of_bytes g.C.H.HashFn.hash g.C.Config.encode_key g.C.Config.encode_value g.C.Config.decode_key g.C.Config.decode_value in
-    let items = zip c.args.keys.now c.args.values.now in
-    let end : c.loop-index.index ≡ length c.args.keys.now = omega (arith, c.loop-index-test.false, c.loop-index.auto.index-end) in
-    let all : take c.loop-index.index items ≡ items = take_all c.loop-index.index items (omega (arith, end, length-zip c.args.keys.now c.args.values.now, c.requires)) in
-    let bytes = c.hand_out.ensures.copied done ∙ c.raw_bytes.ensures.bytes in
-    let new = c.in-Ok.ensures.ok in
-    let one : new.0 ≡ P = (let both : Some new.0 ≡ Some P = sym new.1 ∙ start in cc) in
-    let image : IsImage K.format P c.in-Ok.table = subst (λ (Q : Table). IsImage K.format Q c.in-Ok.table) one new.2 in
-    subst (λ (B : List ℕ). IsFilled K.format (put_owned K.format) P (encoded_all K items) B) (sym bytes)
-    (subst (λ (xs : List (g.row.C-Key.Denot × g.row.C-Value.Denot)). IsFilled K.format (put_owned K.format) P (encoded_all K xs) c.loop-index.table) all (c.loop-index.invariant P image))
-
-pub returns-clause-needed : goal.returns-clause-needed
-returns-clause-needed g c P done start =
+pub returns : goal.returns
+returns g c =
     let K = coding_of g.C.EncodedKey.ByteArray.LEN g.C.EncodedKey.ByteArray.bytes g.C.EncodedKey.ByteArray.of_bytes g.C.EncodedValue.ByteArray.LEN g.C.EncodedValue.ByteArray.bytes g.C.EncodedValue.ByteArray.of_bytes g.C.H.HashFn.hash g.C.Config.encode_key g.C.Config.encode_value g.C.Config.decode_key g.C.Config.decode_value in
     let items = zip c.args.keys.now c.args.values.now in
     let end : c.loop-index.index ≡ length c.args.keys.now = omega (arith, c.loop-index-test.false, c.loop-index.auto.index-end) in
     let all : take c.loop-index.index items ≡ items = take_all c.loop-index.index items (omega (arith, end, length-zip c.args.keys.now c.args.values.now, c.requires)) in
     let new = c.in-Ok.ensures.ok in
-    let one : new.0 ≡ P = (let both : Some new.0 ≡ Some P = sym new.1 ∙ start in cc) in
+    let Is : List ℕ → Type 0 = IsGrownFilled K items in
+    let is : Is c.loop-index.table = λ P start.
+    (let both : Some new.0 ≡ Some P = sym new.1 ∙ start in
+    let one : new.0 ≡ P = cc in
     let image : IsImage K.format P c.in-Ok.table = subst (λ (Q : Table). IsImage K.format Q c.in-Ok.table) one new.2 in
-    let long = sym (c.hand_out.ensures.told ∙ ap length c.raw_bytes.ensures.bytes) in
-    (c.loop-index.table, long, subst (λ (xs : List (g.row.C-Key.Denot × g.row.C-Value.Denot)). IsFilled K.format (put_owned K.format) P (encoded_all K xs) c.loop-index.table) all (c.loop-index.invariant P image))
+    subst (λ (xs : List (g.row.C-Key.Denot × g.row.C-Value.Denot)). IsFilled K.format (put_owned K.format) P (encoded_all K xs) c.loop-index.table) all (c.loop-index.invariant P image)) in
+    record {
+      lengths = λ other. absurd (other c.requires);
+      built = IsHandedOut-of Is _ _ _ _ _ (λ B same. subst Is (sym (same ∙ c.raw_bytes.ensures.bytes)) is) c.hand_out.ensures.copied;
+      refused = λ long undone roomy. elim c.hand_out.ensures.status [ inl is ↦ absurd (undone is) | inr is ↦ absurd (roomy is) ];
+    }

@@ -1,4 +1,4 @@
-use Rattle.std.proofs.Common.{◌≡◌, ◌∙◌, ◌<◌, sym, ap, subst, arith, length, set, slice_get, Some, Option, IfSome}
+use Rattle.std.proofs.Common.{ℕ, refl, ◌≡◌, ◌∙◌, ◌<◌, sym, ap, subst, arith, length, set, slice_get, Some, Option, IfSome}
 use Rattle.std.specs.Prelude.{option_map}
 use Rattle.std.proofs.lemmas.Option.{slice_get-get_or, slice_get_within}
 use Rattle.odht_base.specs.Format.{Format, format_of}
@@ -7,16 +7,24 @@ use Rattle.odht_base.specs.Shown.{entries_of, stated_slots}
 use Rattle.odht_base.specs.Table.{Table}
 use Rattle.odht_base.specs.Valid.{IsImage}
 use Rattle.odht_raw.specs.Coding.{coding_of, value_for, HasStored}
-use Rattle.odht_c.specs.Calls.{IsGotAt}
+use Rattle.odht_c.specs.Reads.{IsGotAt}
 use Rattle.odht_c.proofs.lemmas.Opened.{never_refused}
+use Rattle.odht_c.proofs.lemmas.Refused.{told, not_none}
 use Rattle.odht_c.proofs.lemmas.Got.{Wrote, other_values, got-next, option_map-twice, stored_answer}
 use Rattle.odht_c.proofs.read.get_all.Goals as goal
 use Rattle.odht_c.proofs.read.get_all.Goals.{in-Some, in-None}
 
-pub returns-in-Err-clause-on_valid : goal.returns-in-Err-clause-on_valid
-returns-in-Err-clause-on_valid g c P i key is at =
+pub returns-in-Err : goal.returns-in-Err
+returns-in-Err g c =
     let F : Format = format_of g.C.EncodedKey.ByteArray.LEN g.C.EncodedValue.ByteArray.LEN g.C.H.HashFn.hash in
-    never_refused F P c.args.bytes.now c.in-Err.refused is (sym c.in-Err.ensures.err)
+    let is = sym c.in-Err.ensures.err in
+    record {
+      lengths = λ other. absurd (other (c.requires.values, c.requires.found));
+      refused = λ e long other. (c.status_of.ensures ∙ told _ _ e is other, refl, refl);
+      accepted = λ long none. not_none _ _ is none;
+      on_valid = λ P i key long image at. never_refused F P c.args.bytes.now c.in-Err.refused image is;
+      on_any = λ i key long none at. not_none _ _ is none;
+    }
 
 pub loop-index-preserved : goal.loop-index-preserved
 loop-index-preserved g c =
@@ -48,13 +56,16 @@ loop-index-preserved g c =
       rest = λ i l. other_values answer c.loop-index.values c.match-find.values c.loop-index.found c.match-find.found n i wrote (λ e. omega (arith, e, l)) ∙ v.rest i (omega (arith, l));
     }
 
-pub returns-clause-on_valid : goal.returns-clause-on_valid
-returns-clause-on_valid g c P i key is at =
-    let low : i < length c.args.keys.now = slice_get_within c.args.keys.now i key at in
-    let got = c.loop-index.invariant.valid P is i key (omega (arith, low, c.loop-index-test.false, c.loop-index.auto.index-end)) at in
-    subst (λ o. IsGotAt o (slice_get c.args.values.now i) (slice_get c.loop-index.found i) (slice_get c.loop-index.values i)) got.2 got.1
-
-pub returns-clause-on_any : goal.returns-clause-on_any
-returns-clause-on_any g c i key accepted at =
-    let low : i < length c.args.keys.now = slice_get_within c.args.keys.now i key at in
-    c.loop-index.invariant.any i key (omega (arith, low, c.loop-index-test.false, c.loop-index.auto.index-end)) at
+pub returns : goal.returns
+returns g c =
+    let within : (i : ℕ) (key : g.row.C-Key.Denot) → slice_get c.args.keys.now i ≡ Some key → i < c.loop-index.index = λ i key at.
+    (let low : i < length c.args.keys.now = slice_get_within c.args.keys.now i key at in omega (arith, low, c.loop-index-test.false, c.loop-index.auto.index-end)) in
+    record {
+      lengths = λ other. absurd (other (c.requires.values, c.requires.found));
+      refused = λ e long is. not_none _ e is (sym c.in-Ok.ensures.err);
+      accepted = λ long none. refl;
+      on_valid = λ P i key long is at. (
+          let got = c.loop-index.invariant.valid P is i key (within i key at) at in
+          subst (λ o. IsGotAt o (slice_get c.args.values.now i) (slice_get c.loop-index.found i) (slice_get c.loop-index.values i)) got.2 got.1);
+      on_any = λ i key long accepted at. c.loop-index.invariant.any i key (within i key at) at;
+    }

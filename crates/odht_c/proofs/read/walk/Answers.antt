@@ -1,4 +1,7 @@
-use Rattle.std.proofs.Common.{◌∙◌, ◌+◌, ◌++◌, ◌<◌, [], ◌∷◌, sym, ap, arith, length, append_assoc, length-append}
+use Rattle.std.proofs.Common.{refl, ◌∙◌, ◌+◌, ◌++◌, ◌<◌, [], ◌∷◌, sym, ap, arith, length, append_assoc, length-append}
+use Rattle.odht_base.specs.Format.{Format, format_of}
+use Rattle.odht_c.proofs.lemmas.Opened.{never_refused}
+use Rattle.odht_c.proofs.lemmas.Refused.{told, not_none}
 use Rattle.odht_c.proofs.lemmas.Arrays.{set-next_of}
 use Rattle.odht_c.proofs.read.walk.Goals as goal
 
@@ -13,4 +16,15 @@ loop-key-preserved g c =
       within = omega (arith, room);
       keys = set-next_of (λ x. x.0) c.loop-key.yielded c.args.keys.now c.loop-key.keys pair c.loop-key.written v.written room v.keys;
       values = set-next_of (λ x. x.1) c.loop-key.yielded c.args.values.now c.loop-key.values pair c.loop-key.written v.written (omega (arith, room, c.requires)) v.values;
+    }
+
+pub returns-in-Err : goal.returns-in-Err
+returns-in-Err g c =
+    let F : Format = format_of g.C.EncodedKey.ByteArray.LEN g.C.EncodedValue.ByteArray.LEN g.C.H.HashFn.hash in
+    let is = sym c.in-Err.ensures.err in
+    record {
+      lengths = λ other. absurd (other c.requires);
+      refused = λ e long other. (c.status_of.ensures ∙ told _ _ e is other, refl, refl, refl);
+      on_valid = λ P long image. never_refused F P c.args.bytes.now c.in-Err.refused image is;
+      on_any = λ long none. not_none _ _ is none;
     }

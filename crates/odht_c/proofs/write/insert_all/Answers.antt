@@ -11,14 +11,25 @@ use Rattle.odht_raw.specs.Coding.{coding_of}
 use Rattle.odht_raw.specs.Frame.{IsFramed}
 use Rattle.odht.specs.Lists.{encoded_all, IsFilled}
 use Rattle.odht.proofs.lemmas.Fillings.{filled_more, encoded_all-more}
-use Rattle.odht_c.specs.Calls.{IsFramedRun}
+use Rattle.odht_c.specs.Writes.{IsFramedRun}
 use Rattle.odht_c.proofs.lemmas.Opened.{never_refused}
+use Rattle.odht_c.proofs.lemmas.Refused.{told, not_none}
 use Rattle.odht_c.proofs.write.insert_all.Goals as goal
 
-pub returns-in-Err-clause-filled : goal.returns-in-Err-clause-filled
-returns-in-Err-clause-filled g c P is =
+pub returns-in-Err : goal.returns-in-Err
+returns-in-Err g c =
     let F : Format = format_of g.C.EncodedKey.ByteArray.LEN g.C.EncodedValue.ByteArray.LEN g.C.H.HashFn.hash in
-    never_refused F P c.args.bytes.now c.in-Err.refused is (sym c.in-Err.ensures.err)
+    let is = sym c.in-Err.ensures.err in
+    record {
+      lengths = λ other. absurd (other c.requires);
+      refused = λ e long other. (c.status_of.ensures ∙ told _ _ e is other, refl, refl);
+      bound = λ long none. not_none _ _ is none;
+      all = λ long none. not_none _ _ is none;
+      some = λ long none. not_none _ _ is none;
+      filled = λ P long image. never_refused F P c.args.bytes.now c.in-Err.refused image is;
+      framed = λ long none. not_none _ _ is none;
+      at_maximum = λ P long none. not_none _ _ is none;
+    }
 
 pub loop-index-init : goal.loop-index-init
 loop-index-init g c = record {
@@ -50,7 +61,16 @@ loop-index-preserved g c =
           (filled_more K.format (put_view K.format) (put_view-IsInsert K.format) (put_view-PlacesBelow K.format) P (encoded_all K (take n items)) _ c.loop-index.bytes c.insert.new.bytes h put.1.0 put.1.1 put.1.2));
     }
 
-pub returns-clause-filled : goal.returns-clause-filled
-returns-clause-filled g c P is =
-    let all : c.loop-index.index ≡ length c.args.keys.now = omega (arith, c.loop-index-test.false, c.loop-index.auto.index-end) in
-    rw (sym all) (c.loop-index.invariant.filled P is)
+pub returns : goal.returns
+returns g c =
+    let every : c.loop-index.index ≡ length c.args.keys.now = omega (arith, c.loop-index-test.false, c.loop-index.auto.index-end) in
+    record {
+      lengths = λ other. absurd (other c.requires);
+      refused = λ e long is. not_none _ e is (sym c.in_default.ensures.err);
+      bound = λ long is. omega arith;
+      all = λ long is n. refl;
+      some = λ long is n. absurd (omega (arith, n));
+      filled = λ P long is. rw (sym every) (c.loop-index.invariant.filled P is);
+      framed = λ long is. rw (sym every) c.loop-index.invariant.framed;
+      at_maximum = λ P long is image n. absurd (omega (arith, n));
+    }
