@@ -1,15 +1,18 @@
 -- What the calls answer that read a table, and what they leave in the places that their caller lends.
--- The status is s; `old`, ks, vs, fs and n stand in the places before the call, and `new`, ks', vs', fs' and n' after it.
+-- The status is s; `old`, ks, vs, fs and n stand in the places before the call, and `new`, ks', vs', fs' and n' after.
 --     IsGot o old s new    a lookup that finds o answers the status s, and leaves `new` where `old` stood
 --     IsGotAt o old f new  the same of one key among many: f is 1 where it is found, else 0
---     IsWalked xs ks vs s ks' vs' n   a walk over the pairs xs into arrays that held ks and vs answers the status s, leaves
---                          ks' and vs', and tells n: as many pairs as the arrays take, from the first on
---     Each of the calls in the bytes B of a table, as the coding c reads them:
+--     IsWalked xs ks vs s ks' vs' n   a walk over the pairs xs into arrays that held ks and vs answers the status s,
+--                          leaves ks' and vs', and tells n: as many pairs as the arrays take, from the first on
+--     Each of the calls in bytes B, which the coding c reads:
 --     GetAnswers c B k old s new              the value of the key k
 --     GetAllAnswers c B keys vs fs s vs' fs'  the values of keys, and which of them were found
 --     LenAnswers c B old s new                how many items the header states
 --     WalkAnswers c B ks vs n s ks' vs' n'    the keys and the values in slot order, and how many
-use Rattle.std.specs.Prelude.{◌≡◌, ◌≤◌, ◌<◌, ℕ, List, ◌++◌, length, map, take, drop, min, slice_get, Option, Some, None, IfSome}
+-- Bytes whose header or length is refused change no place, and neither do arrays that are not equally long. A clause
+-- `on_valid` speaks of the bytes of a valid table, and `on_any` of all that a view of the header and length accepts.
+use Rattle.std.specs.Prelude.{◌≡◌, ◌≤◌, ◌<◌, ℕ, min, Option, Some, None, IfSome}
+use Rattle.std.specs.Prelude.{List, ◌++◌, length, map, take, drop, slice_get}
 use Rattle.odht_base.specs.Table.{Table, count, walk}
 use Rattle.odht_base.specs.Shown.{stated_count, seen}
 use Rattle.odht_base.specs.Valid.{IsImage}
@@ -41,8 +44,8 @@ pub record GetAnswers {K V : Type 0} (c : Coding K V) (B : List ℕ) (k : K) (ol
   pub on_valid : (P : Table) → IsImage c.format P B → IsGot (value_for c P k) old s new
   pub on_any : IsAccepted c.format B → (o : Option V) × IsGot o old s new × IfSome o (HasStored c B k)
 
-pub record GetAllAnswers {K V : Type 0} (c : Coding K V) (B : List ℕ) (keys : List K) (vs : List V) (fs : List ℕ) (s : ℕ)
-    (vs' : List V) (fs' : List ℕ) : Type 0 where
+pub record GetAllAnswers {K V : Type 0} (c : Coding K V) (B : List ℕ) (keys : List K)
+    (vs : List V) (fs : List ℕ) (s : ℕ) (vs' : List V) (fs' : List ℕ) : Type 0 where
   pub lengths : (AreAsLong (length keys) (length vs) (length fs) → ⊥) → (s ≡ bad_lengths) × (vs' ≡ vs) × (fs' ≡ fs)
   pub refused : (e : Error) → AreAsLong (length keys) (length vs) (length fs)
       → opening_refusal c.format B ≡ Some e → (s ≡ status_of e) × (vs' ≡ vs) × (fs' ≡ fs)

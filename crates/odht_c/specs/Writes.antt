@@ -1,4 +1,4 @@
--- What the calls answer that make a table in bytes or write to one, and what they leave in the places that their caller lends.
+-- What the calls answer that make a table in bytes or write to one, and what they leave in the places of their caller.
 -- The status is s; B, `old` and n stand in the places before the call, and B', `new` and n' after it.
 --     IsFormer o old s new an insert over the former value o answers the status s, and leaves `new` where `old` stood
 --     IsAnswered r old s new   the same of an insert that may be refused
@@ -9,9 +9,12 @@
 --     BytesNeededAnswers c m p old s new      how many bytes a new table for m items at p percent has
 --     InitAnswers c m p B s B'                an empty table for m items at p percent
 --     InsertAnswers c B k v old s B' new      an insert of the key k with the value v, and the value that k had
---     InsertAllAnswers c B keys values n s B' n'   inserts of pairs in turn up to the first that is refused, and how many
---                          were accepted
-use Rattle.std.specs.Prelude.{◌≡◌, ◌≤◌, ◌<◌, ◌^◌, ℕ, List, [], ◌∷◌, ◌++◌, length, take, Option, Some, None, Result, Ok, Err, MatchOption}
+--     InsertAllAnswers c B keys values n s B' n'   inserts of pairs in turn, up to the first that is refused, and how
+--                          many were accepted
+-- What is refused before the first insert changes no place. A clause `on_valid` speaks of the bytes of a valid table,
+-- and `on_any` of all whose header and length are accepted.
+use Rattle.std.specs.Prelude.{◌≡◌, ◌≤◌, ◌<◌, ◌^◌, ℕ, List, [], ◌∷◌, ◌++◌, length, take}
+use Rattle.std.specs.Prelude.{Option, Some, None, MatchOption, Result, Ok, Err}
 use Rattle.std.specs.List.{zip}
 use Rattle.odht_base.specs.Image.{image_len}
 use Rattle.odht_base.specs.Insert.{put_view}
@@ -65,8 +68,8 @@ pub record InsertAnswers {K V : Type 0} (c : Coding K V) (B : List ℕ) (k : K) 
   pub on_any : IsAccepted c.format B
       → (r : Result (Option V) Error) × IsAnswered r old s new × IsFramed c B k v r B'
 
-pub record InsertAllAnswers {K V : Type 0} (c : Coding K V) (B : List ℕ) (keys : List K) (values : List V) (n s : ℕ)
-    (B' : List ℕ) (n' : ℕ) : Type 0 where
+pub record InsertAllAnswers {K V : Type 0} (c : Coding K V) (B : List ℕ) (keys : List K)
+    (values : List V) (n s : ℕ) (B' : List ℕ) (n' : ℕ) : Type 0 where
   pub lengths : (length values ≡ length keys → ⊥) → (s ≡ bad_lengths) × (B' ≡ B) × (n' ≡ n)
   pub refused : (e : Error) → length values ≡ length keys → opening_refusal c.format B ≡ Some e
       → (s ≡ status_of e) × (B' ≡ B) × (n' ≡ n)

@@ -1,4 +1,5 @@
-//! Tables from keys of 16 bytes, which are hashes already, to `u32`, lowest byte first. The hash function is `UnHashFn`.
+//! Tables from keys of 16 bytes, which are hashes already, to `u32`, lowest byte first. The hash function is
+//! `UnHashFn`.
 //!
 //! The statuses in the texts have the names of include/odht.h, and the bytes and rules are those of docs/FORMAT.md.
 ghost use Rattle.std.specs.Prelude.{◌≡◌};
@@ -63,8 +64,9 @@ impl Config for Bytes16ToU32 {
     ghost key_hashes = { lit≤ tt };
 }
 
-/// How many bytes a new table for so many items has, written to `len`: status 0. `BAD_PERCENT` where the load factor is not
-/// from 1 to 100 percent, `CAPACITY` where no slot count is enough or the length passes `usize`; then `len` stays.
+/// How many bytes a new table for so many items has, written to `len`: status 0. `BAD_PERCENT` where the load factor
+/// is not from 1 to 100 percent, `CAPACITY` where no slot count is enough or the length passes `usize`; then `len`
+/// stays.
 #[unsafe(no_mangle)]
 pub extern "C" fn odht_b16_u32_bytes_needed(
     max_item_count: usize,
@@ -91,8 +93,8 @@ pub extern "C" fn odht_b16_u32_init(
     write::init::<Bytes16ToU32>(bytes, max_item_count, max_load_factor_percent)
 }
 
-/// 0 where a view accepts the bytes, or the number of the first refusal: of too few bytes, of the header, of the length, of
-/// the first ten slots.
+/// 0 where a view accepts the bytes, or the number of the first refusal: of too few bytes, of the header, of the
+/// length, of the first ten slots.
 #[unsafe(no_mangle)]
 pub extern "C" fn odht_b16_u32_open(bytes: &[u8]) -> u32
     ensures { result ≡ status_or_ok (view_refusal ⟦<Bytes16ToU32 as Coded>⟧.coding.format bytes.now) }
@@ -100,8 +102,9 @@ pub extern "C" fn odht_b16_u32_open(bytes: &[u8]) -> u32
     read::open::<Bytes16ToU32>(bytes)
 }
 
-/// Gives the key this value: status 0 where the key was new, `REPLACED` where it had a value, which is written to `former`.
-/// `FULL` at the maximum, even where the key is there, or a refusal of the header or length; then nothing changes.
+/// Gives the key this value: status 0 where the key was new, `REPLACED` where it had a value, which is written to
+/// `former`. `FULL` at the maximum, even where the key is there, or a refusal of the header or length; then nothing
+/// changes.
 #[unsafe(no_mangle)]
 pub extern "C" fn odht_b16_u32_insert(
     bytes: &mut [u8],
@@ -115,9 +118,9 @@ pub extern "C" fn odht_b16_u32_insert(
     write::insert::<Bytes16ToU32>(bytes, key, &value, former)
 }
 
-/// Inserts pairs, the key and the value at each index, in their order: status 0, or `FULL` at the first that is refused, and
-/// how many were accepted in `accepted`. `BAD_LENGTHS` where there are more of the ones than of the others, or a refusal of
-/// the header or length; then nothing changes.
+/// Inserts pairs, the key and the value at each index, in their order: status 0, or `FULL` at the first that is
+/// refused, and how many were accepted in `accepted`. `BAD_LENGTHS` where there are more of the ones than of the
+/// others, or a refusal of the header or length; then nothing changes.
 #[unsafe(no_mangle)]
 pub extern "C" fn odht_b16_u32_insert_all(
     bytes: &mut [u8],
@@ -134,8 +137,8 @@ pub extern "C" fn odht_b16_u32_insert_all(
     write::insert_all::<Bytes16ToU32>(bytes, keys, values, accepted)
 }
 
-/// The value of a key, written to `value`: status 0. `ABSENT` where there is none, or a refusal of the header or length; then
-/// `value` stays.
+/// The value of a key, written to `value`: status 0. `ABSENT` where there is none, or a refusal of the header or
+/// length; then `value` stays.
 #[unsafe(no_mangle)]
 pub extern "C" fn odht_b16_u32_get(bytes: &[u8], key: &[u8; 16], value: &mut u32) -> u32
     ensures { GetAnswers ⟦<Bytes16ToU32 as Coded>⟧.coding bytes.now key.now value.old result value.new }
@@ -143,8 +146,9 @@ pub extern "C" fn odht_b16_u32_get(bytes: &[u8], key: &[u8; 16], value: &mut u32
     read::get::<Bytes16ToU32>(bytes, key, value)
 }
 
-/// The values of many keys: status 0, and at each index `found` is 1 and the value is written, or `found` is 0 and the value
-/// stays. `BAD_LENGTHS` where the arrays are not equally long, or a refusal of the header or length; then nothing is written.
+/// The values of many keys: status 0, and at each index `found` is 1 and the value is written, or `found` is 0 and the
+/// value stays. `BAD_LENGTHS` where the arrays are not equally long, or a refusal of the header or length; then
+/// nothing is written.
 #[unsafe(no_mangle)]
 pub extern "C" fn odht_b16_u32_get_all(
     bytes: &[u8],
@@ -161,7 +165,8 @@ pub extern "C" fn odht_b16_u32_get_all(
     read::get_all::<Bytes16ToU32>(bytes, keys, values, found)
 }
 
-/// How many items the header states, written to `item_count`: status 0. Or a refusal of the header or length; then `item_count` stays.
+/// How many items the header states, written to `item_count`: status 0. Or a refusal of the header or length; then
+/// `item_count` stays.
 #[unsafe(no_mangle)]
 pub extern "C" fn odht_b16_u32_len(bytes: &[u8], item_count: &mut usize) -> u32
     ensures { LenAnswers ⟦<Bytes16ToU32 as Coded>⟧.coding bytes.now item_count.old result item_count.new }
@@ -169,9 +174,9 @@ pub extern "C" fn odht_b16_u32_len(bytes: &[u8], item_count: &mut usize) -> u32
     read::len::<Bytes16ToU32>(bytes, item_count)
 }
 
-/// The keys and values in slot order, from the first on as many as the arrays take, and in `item_count` how many: status 0, or
-/// `TOO_SMALL` where there are more. `BAD_LENGTHS` where the arrays are not equally long, or a refusal of the header or
-/// length; then nothing is written.
+/// The keys and values in slot order, from the first on as many as the arrays take, and in `item_count` how many:
+/// status 0, or `TOO_SMALL` where there are more. `BAD_LENGTHS` where the arrays are not equally long, or a refusal of
+/// the header or length; then nothing is written.
 #[unsafe(no_mangle)]
 pub extern "C" fn odht_b16_u32_walk(
     bytes: &[u8],

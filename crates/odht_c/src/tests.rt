@@ -1,5 +1,5 @@
-//! The calls that ask for memory, run with ample memory, and with each request refused in turn: the first answer of a call
-//! may be that memory was refused, and the second may not.
+//! The calls that ask for memory, run with ample memory, and with each request refused in turn: the first answer of a
+//! call may be that memory was refused, and the second may not.
 
 use crate::status::{BAD_LENGTHS, BAD_PERCENT, OK, TOO_SMALL};
 use crate::u64_u32::{

@@ -65,8 +65,9 @@ impl Config for U64ToU32 {
     ghost key_hashes = { lit≤ tt };
 }
 
-/// How many bytes a new table for so many items has, written to `len`: status 0. `BAD_PERCENT` where the load factor is not
-/// from 1 to 100 percent, `CAPACITY` where no slot count is enough or the length passes `usize`; then `len` stays.
+/// How many bytes a new table for so many items has, written to `len`: status 0. `BAD_PERCENT` where the load factor
+/// is not from 1 to 100 percent, `CAPACITY` where no slot count is enough or the length passes `usize`; then `len`
+/// stays.
 #[unsafe(no_mangle)]
 pub extern "C" fn odht_u64_u32_bytes_needed(
     max_item_count: usize,
@@ -93,8 +94,8 @@ pub extern "C" fn odht_u64_u32_init(
     write::init::<U64ToU32>(bytes, max_item_count, max_load_factor_percent)
 }
 
-/// 0 where a view accepts the bytes, or the number of the first refusal: of too few bytes, of the header, of the length, of
-/// the first ten slots.
+/// 0 where a view accepts the bytes, or the number of the first refusal: of too few bytes, of the header, of the
+/// length, of the first ten slots.
 #[unsafe(no_mangle)]
 pub extern "C" fn odht_u64_u32_open(bytes: &[u8]) -> u32
     ensures { result ≡ status_or_ok (view_refusal ⟦<U64ToU32 as Coded>⟧.coding.format bytes.now) }
@@ -102,8 +103,9 @@ pub extern "C" fn odht_u64_u32_open(bytes: &[u8]) -> u32
     read::open::<U64ToU32>(bytes)
 }
 
-/// Gives the key this value: status 0 where the key was new, `REPLACED` where it had a value, which is written to `former`.
-/// `FULL` at the maximum, even where the key is there, or a refusal of the header or length; then nothing changes.
+/// Gives the key this value: status 0 where the key was new, `REPLACED` where it had a value, which is written to
+/// `former`. `FULL` at the maximum, even where the key is there, or a refusal of the header or length; then nothing
+/// changes.
 #[unsafe(no_mangle)]
 pub extern "C" fn odht_u64_u32_insert(
     bytes: &mut [u8],
@@ -116,9 +118,9 @@ pub extern "C" fn odht_u64_u32_insert(
     write::insert::<U64ToU32>(bytes, &key, &value, former)
 }
 
-/// Inserts pairs, the key and the value at each index, in their order: status 0, or `FULL` at the first that is refused, and
-/// how many were accepted in `accepted`. `BAD_LENGTHS` where there are more of the ones than of the others, or a refusal of
-/// the header or length; then nothing changes.
+/// Inserts pairs, the key and the value at each index, in their order: status 0, or `FULL` at the first that is
+/// refused, and how many were accepted in `accepted`. `BAD_LENGTHS` where there are more of the ones than of the
+/// others, or a refusal of the header or length; then nothing changes.
 #[unsafe(no_mangle)]
 pub extern "C" fn odht_u64_u32_insert_all(
     bytes: &mut [u8],
@@ -135,8 +137,8 @@ pub extern "C" fn odht_u64_u32_insert_all(
     write::insert_all::<U64ToU32>(bytes, keys, values, accepted)
 }
 
-/// The value of a key, written to `value`: status 0. `ABSENT` where there is none, or a refusal of the header or length; then
-/// `value` stays.
+/// The value of a key, written to `value`: status 0. `ABSENT` where there is none, or a refusal of the header or
+/// length; then `value` stays.
 #[unsafe(no_mangle)]
 pub extern "C" fn odht_u64_u32_get(bytes: &[u8], key: u64, value: &mut u32) -> u32
     ensures { GetAnswers ⟦<U64ToU32 as Coded>⟧.coding bytes.now key value.old result value.new }
@@ -144,8 +146,9 @@ pub extern "C" fn odht_u64_u32_get(bytes: &[u8], key: u64, value: &mut u32) -> u
     read::get::<U64ToU32>(bytes, &key, value)
 }
 
-/// The values of many keys: status 0, and at each index `found` is 1 and the value is written, or `found` is 0 and the value
-/// stays. `BAD_LENGTHS` where the arrays are not equally long, or a refusal of the header or length; then nothing is written.
+/// The values of many keys: status 0, and at each index `found` is 1 and the value is written, or `found` is 0 and the
+/// value stays. `BAD_LENGTHS` where the arrays are not equally long, or a refusal of the header or length; then
+/// nothing is written.
 #[unsafe(no_mangle)]
 pub extern "C" fn odht_u64_u32_get_all(
     bytes: &[u8],
@@ -162,7 +165,8 @@ pub extern "C" fn odht_u64_u32_get_all(
     read::get_all::<U64ToU32>(bytes, keys, values, found)
 }
 
-/// How many items the header states, written to `item_count`: status 0. Or a refusal of the header or length; then `item_count` stays.
+/// How many items the header states, written to `item_count`: status 0. Or a refusal of the header or length; then
+/// `item_count` stays.
 #[unsafe(no_mangle)]
 pub extern "C" fn odht_u64_u32_len(bytes: &[u8], item_count: &mut usize) -> u32
     ensures { LenAnswers ⟦<U64ToU32 as Coded>⟧.coding bytes.now item_count.old result item_count.new }
@@ -170,9 +174,9 @@ pub extern "C" fn odht_u64_u32_len(bytes: &[u8], item_count: &mut usize) -> u32
     read::len::<U64ToU32>(bytes, item_count)
 }
 
-/// The keys and values in slot order, from the first on as many as the arrays take, and in `item_count` how many: status 0, or
-/// `TOO_SMALL` where there are more. `BAD_LENGTHS` where the arrays are not equally long, or a refusal of the header or
-/// length; then nothing is written.
+/// The keys and values in slot order, from the first on as many as the arrays take, and in `item_count` how many:
+/// status 0, or `TOO_SMALL` where there are more. `BAD_LENGTHS` where the arrays are not equally long, or a refusal of
+/// the header or length; then nothing is written.
 #[unsafe(no_mangle)]
 pub extern "C" fn odht_u64_u32_walk(
     bytes: &[u8],
@@ -189,12 +193,13 @@ pub extern "C" fn odht_u64_u32_walk(
     read::walk::<U64ToU32>(bytes, keys, values, item_count)
 }
 
-/// Builds the table of the pairs, the key and the value at each index, in memory of its own, copies it to the front of `out`,
-/// and tells its length in `len`: status 0. It is made for as many pairs as there are, so it never grows; a later pair gives
-/// an earlier key its value. `TOO_SMALL` where `out` is shorter than the table: then only `len` is written. `BAD_LENGTHS` where
-/// there are more of the keys or of the values, `BAD_PERCENT` where the load factor is not from 1 to 100 percent, `MEMORY`
-/// where memory was refused, `CAPACITY` only where no slot count is enough or the length passes `usize`; then nothing is
-/// written. Behind the table `out` stays. The pairs are copied first; then one insert a pair, and one copy of the table.
+/// Builds the table of the pairs, the key and the value at each index, in memory of its own, copies it to the front of
+/// `out`, and tells its length in `len`: status 0. It is made for as many pairs as there are, so it never grows; a
+/// later pair gives an earlier key its value. `TOO_SMALL` where `out` is shorter than the table: then only `len` is
+/// written. `BAD_LENGTHS` where there are more of the keys or of the values, `BAD_PERCENT` where the load factor is
+/// not from 1 to 100 percent, `MEMORY` where memory was refused, `CAPACITY` only where no slot count is enough or the
+/// length passes `usize`; then nothing is written. Behind the table `out` stays. The pairs are copied first; then one
+/// insert a pair, and one copy of the table.
 #[unsafe(no_mangle)]
 pub extern "C" fn odht_u64_u32_build(
     alloc: Global,
@@ -216,11 +221,12 @@ pub extern "C" fn odht_u64_u32_build(
     build::collected::<U64ToU32>(alloc, keys, values, max_load_factor_percent, out, len)
 }
 
-/// Builds the table of the pairs, the key and the value at each index, in memory of its own, copies it to the front of `out`,
-/// and tells its length in `len`: status 0. It begins with sixteen slots at 87 percent, and grows as the pairs are put into
-/// it; a later pair gives an earlier key its value. `TOO_SMALL` where `out` is shorter than the table: then only `len` is
-/// written. `BAD_LENGTHS` where there are more of the keys or of the values, `MEMORY` where the memory was refused; then
-/// nothing is written. Behind the table `out` stays. One insert a pair, the growths, and one copy of the table.
+/// Builds the table of the pairs, the key and the value at each index, in memory of its own, copies it to the front of
+/// `out`, and tells its length in `len`: status 0. It begins with sixteen slots at 87 percent, and grows as the pairs
+/// are put into it; a later pair gives an earlier key its value. `TOO_SMALL` where `out` is shorter than the table:
+/// then only `len` is written. `BAD_LENGTHS` where there are more of the keys or of the values, `MEMORY` where the
+/// memory was refused; then nothing is written. Behind the table `out` stays. One insert a pair, the growths, and one
+/// copy of the table.
 #[unsafe(no_mangle)]
 pub extern "C" fn odht_u64_u32_build_growing(
     alloc: Global,

@@ -4,9 +4,9 @@ use Rattle.odht_c.specs.Builds.{IsHandedOut}
 use Rattle.odht_c.specs.Statuses.{done, too_small}
 
 -- what tells of one table's bytes tells of what is handed out of it
-pub IsHandedOut-of : (Is : List ℕ → Type 0) (T out : List ℕ) (s : ℕ) (out' : List ℕ) (len' : ℕ)
-    → ((B : List ℕ) → B ≡ T → Is B) → IsHandedOut (λ B. B ≡ T) out s out' len' → IsHandedOut Is out s out' len'
-IsHandedOut-of Is T out s out' len' tells h = record {
+pub IsHandedOut-of : (IsTable : List ℕ → Type 0) (T out : List ℕ) (s : ℕ) (out' : List ℕ) (len' : ℕ)
+    → ((B : List ℕ) → B ≡ T → IsTable B) → IsHandedOut (λ B. B ≡ T) out s out' len' → IsHandedOut IsTable out s out' len'
+IsHandedOut-of IsTable T out s out' len' tells h = record {
   built = λ is. tells _ (h.built is);
   fits = h.fits;
   rest = h.rest;
@@ -15,9 +15,9 @@ IsHandedOut-of Is T out s out' len' tells h = record {
 }
 
 -- another status tells of nothing
-pub IsHandedOut-none : (Is : List ℕ → Type 0) (out : List ℕ) (s : ℕ) (out' : List ℕ) (len' : ℕ) → (s ≡ done → ⊥) → (s ≡ too_small → ⊥)
-    → IsHandedOut Is out s out' len'
-IsHandedOut-none Is out s out' len' undone roomy = record {
+pub IsHandedOut-none : (IsTable : List ℕ → Type 0) (out : List ℕ) (s : ℕ) (out' : List ℕ) (len' : ℕ) → (s ≡ done → ⊥) → (s ≡ too_small → ⊥)
+    → IsHandedOut IsTable out s out' len'
+IsHandedOut-none IsTable out s out' len' undone roomy = record {
   built = λ is. absurd (undone is);
   fits = λ is. absurd (undone is);
   rest = λ is. absurd (undone is);
