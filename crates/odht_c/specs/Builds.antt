@@ -24,8 +24,8 @@ pub record IsHandedOut (IsTable : List ℕ → Type 0) (out : List ℕ) (s : ℕ
   pub built : s ≡ done → IsTable (take len' out')
   pub fits : s ≡ done → len' ≤ length out
   pub rest : s ≡ done → drop len' out' ≡ drop len' out
-  pub longer : s ≡ too_small → (length out < len') × (out' ≡ out)
   pub needed : s ≡ too_small → (B : List ℕ) × (length B ≡ len') × IsTable B
+  pub too_small : s ≡ too_small → (length out < len') × (out' ≡ out)
 
 abbrev pub IsGrownFilled : {K V : Type 0} → Coding K V → List (K × V) → List ℕ → Type 0
 IsGrownFilled c items B =

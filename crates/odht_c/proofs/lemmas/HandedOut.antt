@@ -10,8 +10,8 @@ IsHandedOut-of IsTable T out s out' len' tells h = record {
   built = λ is. tells _ (h.built is);
   fits = h.fits;
   rest = h.rest;
-  longer = h.longer;
   needed = λ is. (let w = h.needed is in (w.0, w.1, tells w.0 w.2));
+  too_small = h.too_small;
 }
 
 -- another status tells of nothing
@@ -21,6 +21,6 @@ IsHandedOut-none IsTable out s out' len' undone roomy = record {
   built = λ is. absurd (undone is);
   fits = λ is. absurd (undone is);
   rest = λ is. absurd (undone is);
-  longer = λ is. absurd (roomy is);
   needed = λ is. absurd (roomy is);
+  too_small = λ is. absurd (roomy is);
 }
