@@ -14,22 +14,19 @@ module _ (F : Format) (B : List ℕ) where
   unfolding opening_refusal
   opening_refusal-short h = option_or-first _ _ _ (gives-Some _ _ (lt-ltb (length B) 32 h))
 
-  pub view_refusal-short : length B < 32 → view_refusal F B ≡ Some (TooShort (length B))
-  unfolding view_refusal
-  view_refusal-short h = option_or-first _ _ _ (opening_refusal-short h)
-
   -- then the header
   pub opening_refusal-header : 32 ≤ length B → opening_refusal F B ≡ header_refusal F (length B) B
   unfolding opening_refusal
   opening_refusal-header h = option_or-second _ _ (None-gives _ _ (le-ltb (length B) 32 h))
 
-  pub view_refusal-header : 32 ≤ length B → (x : Error) → header_refusal F (length B) B ≡ Some x → view_refusal F B ≡ Some x
-  unfolding view_refusal
-  view_refusal-header h x e = option_or-first _ _ _ (opening_refusal-header h ∙ e)
-
   -- which, where it passes, makes the bytes accepted
   pub accepted : 32 ≤ length B → header_refusal F (length B) B ≡ None → IsAccepted F B
   accepted h e = opening_refusal-header h ∙ e
+
+  -- what is refused so is refused of a view
+  pub view_refusal-opening : (x : Error) → opening_refusal F B ≡ Some x → view_refusal F B ≡ Some x
+  unfolding view_refusal
+  view_refusal-opening x e = option_or-first _ _ _ e
 
   -- and then the first slots
   pub view_refusal-slots : IsAccepted F B → view_refusal F B ≡ hashes_refusal F (entries_of F B) (controls_of F B) 10

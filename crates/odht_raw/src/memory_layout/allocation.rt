@@ -8,7 +8,7 @@ ghost use Rattle.odht_base.specs.Valid.{IsImage, IsPartsOf};
 ghost use Rattle.odht_base.specs.Shown.{stated_slots, entries_of, controls_of};
 ghost use Rattle.std.specs.Result.{result_err};
 ghost use Rattle.odht_raw.specs.Frame.{IsAccepted};
-ghost use Rattle.odht_raw.specs.Refusals.{view_refusal};
+ghost use Rattle.odht_raw.specs.Refusals.{opening_refusal, view_refusal};
 
 use super::{Entries, EntryMetadata, HEADER_SIZE, Header};
 use crate::bytes::{ByteArray, ByteStore};
@@ -52,22 +52,32 @@ impl<C: Config, M: ByteStore> Allocation<C, M> {
         ensures err { result_err result ≡ view_refusal ⟦<C as Coded>⟧.coding.format (M.bytes «data») }
         ensures valid { (P : Table) → IsImage ⟦<C as Coded>⟧.coding.format P (M.bytes «data») → IsOk result }
     {
-        let bytes = data.bytes();
-        let found = bytes.len();
-        if found < HEADER_SIZE {
-            return Err(Error::TooShort { found });
-        }
-        Header::of(bytes).sanity_check::<C>(found)?;
-        let allocation = Allocation {
-            store: data,
-            config: PhantomData,
-        };
+        let allocation = Self::from_raw_bytes_by_header(data)?;
         let (control, entries) = allocation.data_slices();
         let table: RawTable<'_, C::EncodedKey, C::EncodedValue, C::H> = RawTable::new(
             control, entries,
         );
         table.sanity_check_hashes(SLOTS_TO_CHECK)?;
         Ok(allocation)
+    }
+
+    /// Takes the bytes as those of a table by their header and their length alone: `TooShort`, then what
+    /// [`Header::sanity_check`] refuses. No slot is looked at. On a refusal the data is dropped.
+    #[inline(always)]
+    pub fn from_raw_bytes_by_header(data: M) -> Result<Self, Error>
+        ensures ok { IfOk result (λ a. a ≡ «data») }
+        ensures err { result_err result ≡ opening_refusal ⟦<C as Coded>⟧.coding.format (M.bytes «data») }
+    {
+        let bytes = data.bytes();
+        let found = bytes.len();
+        if found < HEADER_SIZE {
+            return Err(Error::TooShort { found });
+        }
+        Header::of(bytes).sanity_check::<C>(found)?;
+        Ok(Allocation {
+            store: data,
+            config: PhantomData,
+        })
     }
 
     /// Takes the bytes as those of a table, which the caller knows them to be: nothing is looked at.

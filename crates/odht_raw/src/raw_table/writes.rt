@@ -1,10 +1,8 @@
 //! The writes of an insert on the parts of a table.
-ghost use Rattle.std.specs.Prelude.{◌≡◌, ◌+◌, ◌-◌, ◌<◌, ◌≤◌, ◌++◌, length};
-ghost use Rattle.odht_base.specs.Bytes.{overwritten_at};
+ghost use Rattle.std.specs.Prelude.{◌≡◌, ◌-◌, length};
 ghost use Rattle.odht_base.specs.Format.{format_of, tag as key_tag};
 ghost use Rattle.odht_base.specs.Table.{Pair, Table};
 ghost use Rattle.odht_base.specs.Valid.{IsPartsOf};
-ghost use Rattle.odht_base.specs.Writes.{tagged};
 ghost use Rattle.odht_raw.specs.Answers.{answer};
 ghost use Rattle.odht_raw.specs.PartLengths.{ArePartLengths};
 ghost use Rattle.odht_raw.specs.Parts.{EntryBytes};
@@ -12,10 +10,11 @@ ghost use Rattle.odht_raw.specs.PartsInserts.{IsPlacing, IsChange};
 ghost use Rattle.odht_raw.specs.SearchEnds.{IsEnd};
 
 use super::{Entries, EntryMetadata, Search};
-use crate::bytes::{ByteArray, write_slice};
+use crate::bytes::{BorrowedMut, ByteArray, ByteStoreMut};
 use crate::error::Error;
 use crate::hash::HashFn;
 use crate::swisstable_group_query::REFERENCE_GROUP_SIZE;
+use crate::writes::{write_pair, write_tag};
 
 /// Writes a pair where the search for its key ended: the value alone into the slot that holds the key, or the entry with
 /// its tag into the free slot. Answers the former value, and `Full`, with nothing changed, where the search met neither.
@@ -45,42 +44,17 @@ pub(crate) fn insert_at<K: ByteArray, V: ByteArray, H: HashFn>(
     match end {
         Search::Found(slot) => {
             let old = shown.get(slot).value;
-            write_slice(entries, slot * (K::LEN + V::LEN) + K::LEN, value.as_slice());
+            let mut place = BorrowedMut::new(entries);
+            place.write_at(slot * (K::LEN + V::LEN) + K::LEN, value.as_slice());
             Ok(Some(old))
         }
         Search::Free(slot) => {
-            write_pair(
-                entries,
-                slot * (K::LEN + V::LEN),
-                key.as_slice(),
-                value.as_slice(),
-            );
-            write_tag(control, slot, tag);
+            let mut place = BorrowedMut::new(entries);
+            write_pair(&mut place, slot * (K::LEN + V::LEN), &key, &value);
+            let mut tags = BorrowedMut::new(control);
+            write_tag(&mut tags, slot, slots, slot, tag);
             Ok(None)
         }
         Search::Neither => Err(Error::Full),
-    }
-}
-
-// Writes the key from the byte `at` on, and the value behind it.
-#[inline(always)]
-fn write_pair(entries: &mut [u8], at: usize, key: &[u8], value: &[u8])
-    requires { at + length key.now + length value.now ≤ length entries.old }
-    ensures { entries.new ≡ overwritten_at entries.old at (key.now ++ value.now) }
-{
-    write_slice(entries, at, key);
-    write_slice(entries, at + key.len(), value);
-}
-
-// Writes the tag into the control byte of a slot, and for a slot below 16 into the mirror.
-#[inline]
-fn write_tag(control: &mut [EntryMetadata], slot: usize, tag: u8)
-    requires { slot + 16 < length control.old }
-    ensures { control.new ≡ tagged control.old slot tag }
-{
-    control[slot] = tag;
-    if slot < REFERENCE_GROUP_SIZE {
-        let mirror = control.len() - REFERENCE_GROUP_SIZE + slot;
-        control[mirror] = tag;
     }
 }

@@ -1,4 +1,4 @@
-use Rattle.std.proofs.Common.{◌-◌, length, subst, ◌∙◌, sym, ap, Some, None, Ok, Err, refl}
+use Rattle.std.proofs.Common.{rules, ◌-◌, length, subst, ◌∙◌, sym, ap, Some, None, Ok, Err, refl}
 use Rattle.std.specs.Prelude.{option_map}
 use Rattle.std.proofs.lemmas.Option.{none-some}
 use Rattle.odht_base.specs.Format.{Format, format_of}
@@ -21,14 +21,12 @@ returns-in-Found-clause-placed g c P h e =
     let old = rw c.new-shown.ensures at c.get-old.ensures.value in
     let at = answer-Found F P p.key h.placed c.in-Found.slot (sym c.in-Found.is ∙ e) in
     let fits : IsPairOf F p = record { key = found_key F P _ _ h p.key _ at; value = c.as_slice.ensures.bytes } in
-    let parts : IsPartsOf F (written P c.in-Found.slot p) c.write_slice.new.all c.args.control.now =
-    rw (c.write_slice.ensures, c.LEN.ensures, c.LEN-in-Found.ensures, c.LEN-in-Found-2.ensures, c.as_slice.ensures.value) (found_parts F P _ _ h p.key c.in-Found.slot p refl fits at) in
+    let parts : IsPartsOf F (written P c.in-Found.slot p) c.write_at.new.self.0.now c.args.control.now =
+    rw (c.write_at.ensures.bytes, c.new-place.ensures.bytes, c.LEN.ensures, c.LEN-in-Found.ensures, c.LEN-in-Found-2.ensures, c.as_slice.ensures.value) (found_parts F P _ _ h p.key c.in-Found.slot p refl fits at) in
     let some = at.places p refl in
+    let former = ap Some (old ∙ ap g.V.ByteArray.of_bytes (found_value F P _ _ h p.key c.in-Found.slot at)) ∙ sym (ap (option_map g.V.ByteArray.of_bytes) at.value) in
     record {
-      ok = (
-        ap Some (old ∙ ap g.V.ByteArray.of_bytes (found_value F P _ _ h p.key c.in-Found.slot at)) ∙ sym (ap (option_map g.V.ByteArray.of_bytes) at.value),
-        (written P c.in-Found.slot p, some, parts),
-      );
+      ok = search (rules, former, some, parts);
       full = (λ d. cc, λ d. absurd (none-some _ (sym d ∙ some)));
       no_room = (λ d. cc, λ n. absurd (none-some _ (sym ((place-None F P p h.placed).1 n) ∙ some)));
     }
@@ -38,12 +36,13 @@ returns-in-Free-clause-placed g c P h e =
     let F : Format = format_of g.K.ByteArray.LEN g.V.ByteArray.LEN g.H.HashFn.hash in
     let p : Pair = record { key = g.K.ByteArray.bytes c.args.key; value = g.V.ByteArray.bytes c.args.value } in
     let at = answer-Free F P p.key h.placed c.in-Free.slot (sym c.in-Free.is ∙ e) in
-    let fits : IsPairOf F p = record { key = c.as_slice-in-Free.ensures.bytes; value = c.as_slice-in-Free-2.ensures.bytes } in
-    let parts : IsPartsOf F (written P c.in-Free.slot p) c.write_pair.new.entries c.write_tag.new.control =
-    rw (c.write_tag.ensures, c.requires.tag, c.write_pair.ensures, c.LEN-in-Free.ensures, c.LEN-in-Free-2.ensures, c.as_slice-in-Free.ensures.value, c.as_slice-in-Free-2.ensures.value) (free_parts F P _ _ h p.key c.in-Free.slot p refl fits at) in
+    let fits : IsPairOf F p = record { key = c.write_pair.ensures.key; value = c.write_pair.ensures.value } in
+    let parts : IsPartsOf F (written P c.in-Free.slot p) c.write_pair.new.store.0.now c.write_tag.new.store.0.now =
+    rw (c.write_tag.ensures.bytes, c.new-tags.ensures.bytes, c.requires.tag, c.write_pair.ensures.bytes, c.new-place-in-Free.ensures.bytes, c.LEN-in-Free.ensures, c.LEN-in-Free-2.ensures) (free_parts F P _ _ h p.key c.in-Free.slot p refl fits at) in
     let some = at.places p refl in
+    let former = sym (ap (option_map g.V.ByteArray.of_bytes) at.value) in
     record {
-      ok = (sym (ap (option_map g.V.ByteArray.of_bytes) at.value), (written P c.in-Free.slot p, some, parts));
+      ok = search (rules, former, some, parts);
       full = (λ d. cc, λ d. absurd (none-some _ (sym d ∙ some)));
       no_room = (λ d. cc, λ n. absurd (none-some _ (sym ((place-None F P p h.placed).1 n) ∙ some)));
     }
@@ -66,10 +65,10 @@ returns-in-Found-clause-any g c =
     let shown : EntryBytes = record { slots = length ctrl - 16; bytes = es } in
     let told = subst (IsEnd F shown ctrl p.key) c.in-Found.is c.requires.end in
     let old = rw c.new-shown.ensures at c.get-old.ensures.value in
-    let framed : PartsFrame F es ctrl p (Ok (Some (slot_value F es slot))) c.write_slice.new.all ctrl =
-    rw (c.write_slice.ensures, c.LEN.ensures, c.LEN-in-Found.ensures, c.LEN-in-Found-2.ensures, c.as_slice.ensures.value) (PartsFrame.overwrote slot told.0 told.1) in
+    let framed : PartsFrame F es ctrl p (Ok (Some (slot_value F es slot))) c.write_at.new.self.0.now ctrl =
+    rw (c.write_at.ensures.bytes, c.new-place.ensures.bytes, c.LEN.ensures, c.LEN-in-Found.ensures, c.LEN-in-Found-2.ensures, c.as_slice.ensures.value) (PartsFrame.overwrote slot told.0 told.1) in
     record {
-      frame = (Ok (Some (slot_value F es slot)), ap (λ o. Ok (Some o)) old, framed);
+      frame = (Ok (Some (slot_value F es slot)), ap (λ o. Ok (Some o)) old, search (rules, framed));
       only_full = tt;
       refused_control = tt;
       refused_entries = tt;
@@ -84,9 +83,9 @@ returns-in-Free-clause-any g c =
     let slot = c.in-Free.slot in
     let shown : EntryBytes = record { slots = length ctrl - 16; bytes = es } in
     let told = subst (IsEnd F shown ctrl p.key) c.in-Free.is c.requires.end in
-    let framed : PartsFrame F es ctrl p (Ok None) c.write_pair.new.entries c.write_tag.new.control =
-    rw (c.write_tag.ensures, c.requires.tag, c.write_pair.ensures, c.LEN-in-Free.ensures, c.LEN-in-Free-2.ensures, c.as_slice-in-Free.ensures.value, c.as_slice-in-Free-2.ensures.value) (PartsFrame.added slot told.0 told.1) in
-    record { frame = (Ok None, refl, framed); only_full = tt; refused_control = tt; refused_entries = tt }
+    let framed : PartsFrame F es ctrl p (Ok None) c.write_pair.new.store.0.now c.write_tag.new.store.0.now =
+    rw (c.write_tag.ensures.bytes, c.new-tags.ensures.bytes, c.requires.tag, c.write_pair.ensures.bytes, c.new-place-in-Free.ensures.bytes, c.LEN-in-Free.ensures, c.LEN-in-Free-2.ensures) (PartsFrame.added slot told.0 told.1) in
+    record { frame = (Ok None, refl, search (rules, framed)); only_full = tt; refused_control = tt; refused_entries = tt }
 
 pub returns-in-Neither-clause-any : goal.returns-in-Neither-clause-any
 returns-in-Neither-clause-any g c = record { frame = (Err Full, refl, PartsFrame.full); only_full = refl; refused_control = refl; refused_entries = refl }
