@@ -14,7 +14,7 @@ ghost use Rattle.odht.specs.Lists.{encoded_all, IsFilled};
 ghost use Rattle.odht.specs.Inserts.{IsFresh, IsInserted};
 ghost use Rattle.odht_raw.specs.Frame.{IsAccepted, IsFramed};
 ghost use Rattle.odht_raw.specs.Walks.{decoded_all};
-ghost use Rattle.odht_raw.specs.Refusals.{IsTooLarge, new_refusal, view_refusal};
+ghost use Rattle.odht_raw.specs.Refusals.{IsTooLarge, new_refusal, opening_refusal, view_refusal};
 
 use crate::bytes::{ByteArray, ByteStore, ByteStoreMut};
 use crate::config::{Coded, Config};
@@ -66,6 +66,17 @@ impl<C: Config, D: ByteStore> HashTable<C, D> {
         ensures valid { (P : Table) → IsImage ⟦<C as Coded>⟧.coding.format P (D.bytes «data») → IsOk result }
     {
         let allocation = Allocation::from_raw_bytes(data)?;
+        Ok(HashTable { allocation })
+    }
+
+    /// Opens bytes as a table by their header and their length alone, and answers the first refusal where there is one. No
+    /// slot is looked at. On a refusal the data is dropped.
+    #[inline(always)]
+    pub fn from_raw_bytes_by_header(data: D) -> Result<Self, Error>
+        ensures ok { IfOk result (λ t. t ≡ «data») }
+        ensures err { result_err result ≡ opening_refusal ⟦<C as Coded>⟧.coding.format (D.bytes «data») }
+    {
+        let allocation = Allocation::from_raw_bytes_by_header(data)?;
         Ok(HashTable { allocation })
     }
 

@@ -6,8 +6,6 @@ pub mod Arrays
 pub mod Got
 -- the status of a refusal
 pub mod Refused
--- parts of bytes that are lent, and what an insert leaves in them
-pub mod InPlace
 -- iterators that are called until they end
 pub mod Drained
 -- tables that are handed out

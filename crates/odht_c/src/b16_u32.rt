@@ -12,6 +12,7 @@ ghost use Rattle.odht_c.specs.Writes.{BytesNeededAnswers, InitAnswers, InsertAns
 
 use crate::status::BAD_LENGTHS;
 use crate::{read, write};
+use odht::bytes::BorrowedMut;
 use odht::config::{Coded, Config};
 use odht::hash::UnHashFn;
 
@@ -90,7 +91,12 @@ pub extern "C" fn odht_b16_u32_init(
     ensures { InitAnswers ⟦<Bytes16ToU32 as Coded>⟧.coding max_item_count max_load_factor_percent
         bytes.old result bytes.new }
 {
-    write::init::<Bytes16ToU32>(bytes, max_item_count, max_load_factor_percent)
+    let mut place = BorrowedMut::new(bytes);
+    write::init::<Bytes16ToU32, BorrowedMut<'_>>(
+        &mut place,
+        max_item_count,
+        max_load_factor_percent,
+    )
 }
 
 /// 0 where a view accepts the bytes, or the number of the first refusal: of too few bytes, of the header, of the
@@ -115,7 +121,8 @@ pub extern "C" fn odht_b16_u32_insert(
     ensures { InsertAnswers ⟦<Bytes16ToU32 as Coded>⟧.coding bytes.old key.now value
         former.old result bytes.new former.new }
 {
-    write::insert::<Bytes16ToU32>(bytes, key, &value, former)
+    let mut place = BorrowedMut::new(bytes);
+    write::insert::<Bytes16ToU32, BorrowedMut<'_>>(&mut place, key, &value, former)
 }
 
 /// Inserts pairs, the key and the value at each index, in their order: status 0, or `FULL` at the first that is
@@ -134,7 +141,8 @@ pub extern "C" fn odht_b16_u32_insert_all(
     if values.len() != keys.len() {
         return BAD_LENGTHS;
     }
-    write::insert_all::<Bytes16ToU32>(bytes, keys, values, accepted)
+    let mut place = BorrowedMut::new(bytes);
+    write::insert_all::<Bytes16ToU32, BorrowedMut<'_>>(&mut place, keys, values, accepted)
 }
 
 /// The value of a key, written to `value`: status 0. `ABSENT` where there is none, or a refusal of the header or

@@ -3,7 +3,6 @@
 
 mod b16_u32;
 mod build;
-mod in_place;
 mod read;
 mod status;
 #[cfg(test)]

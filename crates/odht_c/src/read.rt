@@ -10,20 +10,14 @@ use odht::HashTable;
 use odht::bytes::Borrowed;
 use odht::config::{Coded, Config};
 use odht::error::Error;
-use odht::memory_layout::{HEADER_SIZE, Header};
 
 /// The table in bytes whose header and length fit, of which no slot is looked at.
 #[inline(always)]
 pub(crate) fn view<C: Config>(bytes: &[u8]) -> Result<HashTable<C, Borrowed<'_>>, Error>
-    ensures ok { IfOk result (λ t. t ≡ bytes.now) }
+    ensures ok { IfOk result (λ t. t.0.now ≡ bytes.now) }
     ensures err { result_err result ≡ opening_refusal ⟦<C as Coded>⟧.coding.format bytes.now }
 {
-    let found = bytes.len();
-    if found < HEADER_SIZE {
-        return Err(Error::TooShort { found });
-    }
-    Header::of(bytes).sanity_check::<C>(found)?;
-    Ok(HashTable::from_raw_bytes_unchecked(Borrowed::new(bytes)))
+    HashTable::from_raw_bytes_by_header(Borrowed::new(bytes))
 }
 
 /// 0, or the number of the first refusal.

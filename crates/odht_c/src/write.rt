@@ -1,14 +1,22 @@
 //! What the calls write into the bytes of a table, for every configuration.
-ghost use Rattle.std.specs.Prelude.{◌≡◌, length};
+ghost use Rattle.std.specs.Prelude.{◌≡◌, ◌↔◌, length, IfOk, OnErr};
+ghost use Rattle.odht_base.specs.Image.{image, image_len};
+ghost use Rattle.odht_base.specs.Insert.{put_view};
+ghost use Rattle.odht_base.specs.Load.{max_items, IsSlotCount};
+ghost use Rattle.odht_base.specs.Table.{Table, count, slot_count, empty};
+ghost use Rattle.odht_base.specs.Valid.{IsImage};
+ghost use Rattle.odht_base.specs.Writes.{with_count};
+ghost use Rattle.odht_raw.specs.Frame.{IsAccepted, IsFramed};
+ghost use Rattle.odht.specs.Inserts.{IsInserted};
 ghost use Rattle.odht_c.specs.Writes.{BytesNeededAnswers, InitAnswers, InsertAnswers, InsertAllAnswers};
 
-use crate::in_place;
 use crate::read::view;
 use crate::status::{BAD_PERCENT, CAPACITY, INIT_LENGTH, OK, REPLACED, status_of};
+use odht::bytes::ByteStoreMut;
 use odht::config::{Coded, Config};
 use odht::error::Error;
 use odht::load::{Factor, slots_needed};
-use odht::memory_layout;
+use odht::{HashTable, memory_layout};
 
 /// How many bytes a new table for so many items has.
 pub(crate) fn bytes_needed<C: Config>(
@@ -30,13 +38,15 @@ pub(crate) fn bytes_needed<C: Config>(
     }
 }
 
-/// Makes an empty table for so many items in the bytes, whatever stood there. A refusal leaves them.
-pub(crate) fn init<C: Config>(
-    bytes: &mut [u8],
+/// Makes an empty table for so many items in the place, whatever stood there. A refusal leaves it.
+pub(crate) fn init<C: Config, M: ByteStoreMut>(
+    place: &mut M,
     max_item_count: usize,
     max_load_factor_percent: u8,
 ) -> u32
-    ensures { InitAnswers ⟦<C as Coded>⟧.coding max_item_count max_load_factor_percent bytes.old result bytes.new }
+    ensures answer { InitAnswers ⟦<C as Coded>⟧.coding max_item_count max_load_factor_percent
+        (M.bytes place.old) result (M.bytes place.new) }
+    ensures place { place.new ≡ M.holding place.old (M.bytes place.new) }
 {
     if max_load_factor_percent < 1 || max_load_factor_percent > 100 {
         return BAD_PERCENT;
@@ -48,27 +58,41 @@ pub(crate) fn init<C: Config>(
     let Some(expected) = memory_layout::bytes_needed::<C>(slot_count) else {
         return CAPACITY;
     };
-    if bytes.len() != expected {
+    if place.bytes().len() != expected {
         return INIT_LENGTH;
     }
-    in_place::init::<C>(bytes, slot_count, factor);
+    make::<C, M>(place, slot_count, factor);
     OK
 }
 
+// Makes the empty table of `slot_count` slots in the place, whatever stood there. One pass over the bytes.
+fn make<C: Config, M: ByteStoreMut>(place: &mut M, slot_count: usize, max_load_factor: Factor)
+    requires slots { IsSlotCount slot_count }
+    requires len { length (M.bytes place.old) ≡ image_len ⟦<C as Coded>⟧.coding.format slot_count }
+    ensures bytes { let F = ⟦<C as Coded>⟧.coding.format
+        in M.bytes place.new ≡ with_count (image F (empty slot_count max_load_factor.0)) 0 }
+    ensures place { place.new ≡ M.holding place.old (M.bytes place.new) }
+{
+    let table = memory_layout::init_in_place::<C, &mut M>(place, slot_count, 0, max_load_factor);
+    let _place = table.into_store();
+}
+
 /// Gives the key this value, and writes its former one to `former`, where it had one.
-#[inline]
-pub(crate) fn insert<C: Config>(
-    bytes: &mut [u8],
+#[inline(always)]
+pub(crate) fn insert<C: Config, M: ByteStoreMut>(
+    place: &mut M,
     key: &C::Key,
     value: &C::Value,
     former: &mut C::Value,
 ) -> u32
-    ensures { InsertAnswers ⟦<C as Coded>⟧.coding bytes.old key.now value.now former.old result bytes.new former.new }
+    ensures answer { InsertAnswers ⟦<C as Coded>⟧.coding (M.bytes place.old) key.now value.now
+        former.old result (M.bytes place.new) former.new }
+    ensures place { place.new ≡ M.holding place.old (M.bytes place.new) }
 {
-    if let Err(refused) = view::<C>(bytes) {
+    if let Err(refused) = view::<C>(place.bytes()) {
         return status_of(&refused);
     }
-    match in_place::insert::<C>(bytes, key, value) {
+    match put::<C, M>(place, key, value) {
         Ok(Some(old)) => {
             *former = old;
             REPLACED
@@ -80,25 +104,53 @@ pub(crate) fn insert<C: Config>(
 
 /// Inserts the pairs in their order, up to the first that is refused, and tells how many were accepted.
 #[inline]
-pub(crate) fn insert_all<C: Config>(
-    bytes: &mut [u8],
+pub(crate) fn insert_all<C: Config, M: ByteStoreMut>(
+    place: &mut M,
     keys: &[C::Key],
     values: &[C::Value],
     accepted: &mut usize,
 ) -> u32
     requires { length values.now ≡ length keys.now }
-    ensures { InsertAllAnswers ⟦<C as Coded>⟧.coding bytes.old keys.now values.now
-        accepted.old result bytes.new accepted.new }
+    ensures answer { InsertAllAnswers ⟦<C as Coded>⟧.coding (M.bytes place.old) keys.now values.now
+        accepted.old result (M.bytes place.new) accepted.new }
+    ensures place { place.new ≡ M.holding place.old (M.bytes place.new) }
 {
-    if let Err(refused) = view::<C>(bytes) {
+    if let Err(refused) = view::<C>(place.bytes()) {
         return status_of(&refused);
     }
     for index in 0..keys.len() {
-        if let Err(refused) = in_place::insert::<C>(bytes, &keys[index], &values[index]) {
+        if let Err(refused) = put::<C, M>(place, &keys[index], &values[index]) {
             *accepted = index;
             return status_of(&refused);
         }
     }
     *accepted = keys.len();
     OK
+}
+
+// `HashTable::insert` into the table in the place, whose header and length fit.
+#[inline(always)]
+fn put<C: Config, M: ByteStoreMut>(
+    place: &mut M,
+    key: &C::Key,
+    value: &C::Value,
+) -> Result<Option<C::Value>, Error>
+    requires { IsAccepted ⟦<C as Coded>⟧.coding.format (M.bytes place.old) }
+    ensures ok { let c = ⟦<C as Coded>⟧.coding
+        in (P : Table)
+        → IsImage c.format P (M.bytes place.old)
+        → IfOk result (λ old. IsInserted c (put_view c.format) P key.now value.now old (M.bytes place.new)) }
+    ensures full { (P : Table)
+        → IsImage ⟦<C as Coded>⟧.coding.format P (M.bytes place.old)
+        → (result ≡ Err Error.Full) ↔ (count P ≡ max_items (slot_count P) P.factor) }
+    ensures frame { IsFramed ⟦<C as Coded>⟧.coding (M.bytes place.old) key.now value.now result (M.bytes place.new) }
+    ensures only_full { OnErr result (result ≡ Err Error.Full) }
+    ensures refused { OnErr result (place.new ≡ place.old) }
+    ensures accepted { IsAccepted ⟦<C as Coded>⟧.coding.format (M.bytes place.new) }
+    ensures place { place.new ≡ M.holding place.old (M.bytes place.new) }
+{
+    let mut table = HashTable::<C, &mut M>::from_raw_bytes_unchecked(place);
+    let answer = table.insert(key, value);
+    let _place = table.into_data();
+    answer
 }

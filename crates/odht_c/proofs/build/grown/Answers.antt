@@ -26,7 +26,7 @@ loop-index-preserved g c P is =
     let h = c.loop-index.invariant P is in
     let put = c.in_default.ensures.ok h.table h.image in
     subst (λ (ps : List Pair). IsFilled K.format (put_owned K.format) P ps c.insert.new.self) (sym (encoded_all-more K items n item low_item at))
-    (filled_more K.format (put_owned K.format) (put_owned-IsInsert K.format) (put_owned-PlacesBelow K.format) P (encoded_all K (take n items)) _ c.loop-index.table c.insert.new.self h put.1.0 put.1.1 put.1.2)
+    (filled_more K.format (put_owned K.format) (put_owned-IsInsert K.format) (put_owned-PlacesBelow K.format) P (encoded_all K (take n items)) _ c.loop-index.table c.insert.new.self h put.table put.inserted put.image)
 
 pub returns : goal.returns
 returns g c =
@@ -37,9 +37,9 @@ returns g c =
     let new = c.in-Ok.ensures.ok in
     let Is : List ℕ → Type 0 = IsGrownFilled K items in
     let is : Is c.loop-index.table = λ P start.
-    (let both : Some new.0 ≡ Some P = sym new.1 ∙ start in
-    let one : new.0 ≡ P = cc in
-    let image : IsImage K.format P c.in-Ok.table = subst (λ (Q : Table). IsImage K.format Q c.in-Ok.table) one new.2 in
+    (let both : Some new.table ≡ Some P = sym new.new ∙ start in
+    let one : new.table ≡ P = cc in
+    let image : IsImage K.format P c.in-Ok.table = subst (λ (Q : Table). IsImage K.format Q c.in-Ok.table) one new.image in
     subst (λ (xs : List (g.row.C-Key.Denot × g.row.C-Value.Denot)). IsFilled K.format (put_owned K.format) P (encoded_all K xs) c.loop-index.table) all (c.loop-index.invariant P image)) in
     record {
       lengths = λ other. absurd (other c.requires);

@@ -9,6 +9,7 @@ use Rattle.odht_base.proofs.lemmas.FreshRuns.{put_view-PlacesBelow}
 use Rattle.odht_base.proofs.lemmas.Puts.{put_view-IsInsert}
 use Rattle.odht_raw.specs.Coding.{coding_of}
 use Rattle.odht_raw.specs.Frame.{IsFramed}
+use Rattle.odht_raw.specs.Refusals.{opening_refusal}
 use Rattle.odht.specs.Lists.{encoded_all, IsFilled}
 use Rattle.odht.proofs.lemmas.Fillings.{filled_more, encoded_all-more}
 use Rattle.odht_c.specs.Writes.{IsFramedRun}
@@ -16,24 +17,25 @@ use Rattle.odht_c.proofs.lemmas.Opened.{never_refused}
 use Rattle.odht_c.proofs.lemmas.Refused.{told, not_none}
 use Rattle.odht_c.proofs.write.insert_all.Goals as goal
 
-pub returns-in-Err : goal.returns-in-Err
-returns-in-Err g c =
+pub returns-in-Err-clause-answer : goal.returns-in-Err-clause-answer
+returns-in-Err-clause-answer g c =
     let F : Format = format_of g.C.EncodedKey.ByteArray.LEN g.C.EncodedValue.ByteArray.LEN g.C.H.HashFn.hash in
-    let is = sym c.in-Err.ensures.err in
+    let is = ap (opening_refusal F) (sym c.bytes.ensures) ∙ sym c.in-Err.ensures.err in
     record {
       lengths = λ other. absurd (other c.requires);
       refused = λ e long other. (c.status_of.ensures ∙ told _ _ e is other, refl, refl);
       bound = λ long none. not_none _ _ is none;
       all = λ long none. not_none _ _ is none;
       some = λ long none. not_none _ _ is none;
-      filled = λ P long image. never_refused F P c.args.bytes.now c.in-Err.refused image is;
+      filled = λ P long image. never_refused F P (g.M.ByteStore.bytes c.args.place.now) c.in-Err.refused image is;
       framed = λ long none. not_none _ _ is none;
       at_maximum = λ P long none. not_none _ _ is none;
     }
 
 pub loop-index-init : goal.loop-index-init
 loop-index-init g c = record {
-  accepted = sym c.in_default.ensures.err;
+  place = sym (g.met.M.ByteStoreMut.held_same c.args.place.now);
+  accepted = ap (opening_refusal (format_of g.C.EncodedKey.ByteArray.LEN g.C.EncodedValue.ByteArray.LEN g.C.H.HashFn.hash)) (sym c.bytes.ensures) ∙ sym c.in_default.ensures.err;
   framed = IsFramedRun.start;
   filled = λ P is. record { table = P; runs = refl; image = is; maps = λ k. refl; stays = λ room. ((refl, refl), omega (arith)) };
 }
@@ -49,24 +51,29 @@ loop-index-preserved g c =
     let low_item : n < length items = omega (arith, low, low_value, length-zip c.args.keys.now c.args.values.now) in
     let at = get_or-zip c.args.keys.now c.args.values.now n item low low_value ∙ ap₂ (λ k v. (k, v)) (sym c.index-keys-index.is) (sym c.index-values-index.is) in
     record {
-      accepted = c.insert.ensures.accepted;
+      place =
+          c.put.ensures.place
+          ∙ ap (λ s. g.M.ByteStoreMut.holding s (g.M.ByteStore.bytes c.put.new.place)) c.loop-index.invariant.place
+          ∙ g.met.M.ByteStoreMut.held_last c.args.place.now (g.M.ByteStore.bytes c.loop-index.place) (g.M.ByteStore.bytes c.put.new.place);
+      accepted = c.put.ensures.accepted;
       framed =
-          subst (λ xs. IsFramedRun K c.args.bytes.now xs c.insert.new.bytes) (sym (take_more items n item low_item ∙ ap (λ t. take n items ++ t ∷ []) at))
-          (IsFramedRun.accepted (take n items) c.index-keys-index.result c.index-values-index.result c.in_default-insert.field-0 c.loop-index.bytes c.insert.new.bytes c.loop-index.invariant.framed
-          (subst (λ r. IsFramed K c.loop-index.bytes c.index-keys-index.result c.index-values-index.result r c.insert.new.bytes) c.in_default-insert.is c.insert.ensures.frame));
+          subst (λ xs. IsFramedRun K (g.M.ByteStore.bytes c.args.place.now) xs (g.M.ByteStore.bytes c.put.new.place)) (sym (take_more items n item low_item ∙ ap (λ t. take n items ++ t ∷ []) at))
+          (IsFramedRun.accepted (take n items) c.index-keys-index.result c.index-values-index.result c.in_default-put.field-0 (g.M.ByteStore.bytes c.loop-index.place) (g.M.ByteStore.bytes c.put.new.place) c.loop-index.invariant.framed
+          (subst (λ r. IsFramed K (g.M.ByteStore.bytes c.loop-index.place) c.index-keys-index.result c.index-values-index.result r (g.M.ByteStore.bytes c.put.new.place)) c.in_default-put.is c.put.ensures.frame));
       filled = λ P is. (
           let h = c.loop-index.invariant.filled P is in
-          let put = c.in_default-insert.ensures.ok h.table h.image in
-          subst (λ (ps : List Pair). IsFilled K.format (put_view K.format) P ps c.insert.new.bytes) (sym (encoded_all-more K items n item low_item at))
-          (filled_more K.format (put_view K.format) (put_view-IsInsert K.format) (put_view-PlacesBelow K.format) P (encoded_all K (take n items)) _ c.loop-index.bytes c.insert.new.bytes h put.1.0 put.1.1 put.1.2));
+          let put = c.in_default-put.ensures.ok h.table h.image in
+          subst (λ (ps : List Pair). IsFilled K.format (put_view K.format) P ps (g.M.ByteStore.bytes c.put.new.place)) (sym (encoded_all-more K items n item low_item at))
+          (filled_more K.format (put_view K.format) (put_view-IsInsert K.format) (put_view-PlacesBelow K.format) P (encoded_all K (take n items)) _ (g.M.ByteStore.bytes c.loop-index.place) (g.M.ByteStore.bytes c.put.new.place) h put.table put.inserted put.image));
     }
 
-pub returns : goal.returns
-returns g c =
+pub returns-clause-answer : goal.returns-clause-answer
+returns-clause-answer g c =
+    let F : Format = format_of g.C.EncodedKey.ByteArray.LEN g.C.EncodedValue.ByteArray.LEN g.C.H.HashFn.hash in
     let every : c.loop-index.index ≡ length c.args.keys.now = omega (arith, c.loop-index-test.false, c.loop-index.auto.index-end) in
     record {
       lengths = λ other. absurd (other c.requires);
-      refused = λ e long is. not_none _ e is (sym c.in_default.ensures.err);
+      refused = λ e long is. not_none _ e is (ap (opening_refusal F) (sym c.bytes.ensures) ∙ sym c.in_default.ensures.err);
       bound = λ long is. omega arith;
       all = λ long is n. refl;
       some = λ long is n. absurd (omega (arith, n));
