@@ -7,7 +7,7 @@ LIBRARIES = odht_base odht_raw odht
 LIBRARY ?= crates/odht_c/out/libodht_c.a
 QUICK ?=
 ODHT_RUST ?=
-.PHONY: run test examples bench
+.PHONY: run test examples bench FORCE
 run:
 	@for crate in $(LIBRARIES); do (cd crates/$$crate && rt lib >&2) || exit 1; done
 	@cd crates/odht_table && rt run < $(abspath $(SCRIPT))
@@ -15,7 +15,8 @@ run:
 test:
 	rt ci
 
-crates/odht_c/out/libodht_c.a:
+# always asked for: `rt lib` is quick where nothing changed
+crates/odht_c/out/libodht_c.a: FORCE
 	@for crate in $(LIBRARIES) odht_c; do (cd crates/$$crate && rt lib >&2) || exit 1; done
 
 # the kit's folder is asked for only where something is linked

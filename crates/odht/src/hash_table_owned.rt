@@ -23,7 +23,7 @@ use crate::hash_table::HashTable;
 use crate::iter::Iter;
 use crate::load::{Factor, slots_needed};
 use crate::memory_layout::{self, HEADER_SIZE};
-use crate::raw_table::{RawIter, RawTableMut};
+use crate::raw_table::{FREE, RawIter, RawTableMut};
 use std::alloc::Global;
 use std::marker::Model;
 
@@ -307,7 +307,7 @@ fn write_table<C: Config>(
         slot_count * (C::EncodedKey::LEN + C::EncodedValue::LEN),
     );
     memory_layout::write_header::<C>(header, slot_count, item_count, max_load_factor);
-    control.fill(255);
+    control.fill(FREE);
     insert_walk::<C::EncodedKey, C::EncodedValue, C::H>(control, entries, walk);
 }
 

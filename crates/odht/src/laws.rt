@@ -1,14 +1,22 @@
 //! Laws of whole tables that no call carries by itself: a table of a `Lossless` configuration is a map of the keys to the
-//! values themselves. Each function is a few calls, and its contract is the law.
-ghost use Rattle.std.specs.Prelude.{◌≡◌, ◌≤◌, ◌↔◌, ◌⊎◌, length, IfOk, OnErr};
+//! values themselves, and valid bytes are accepted. Each function is a few calls at most, and its contract is the law.
+ghost use Rattle.std.specs.Prelude.{◌≡◌, ℕ, List, ◌≤◌, ◌↔◌, ◌⊎◌, length, IfOk, OnErr};
 ghost use Rattle.odht_base.specs.Load.{factor_of};
 ghost use Rattle.odht.specs.LastValues.{IsLastValue, HasLastValues};
+ghost use Rattle.odht_base.specs.Valid.{IsValidBytes};
+ghost use Rattle.odht_raw.specs.Frame.{IsAccepted};
 ghost use Rattle.odht_raw.specs.Refusals.{IsTooLarge};
 
-use crate::config::{Coded, Lossless};
+use crate::config::{Coded, Config, Lossless};
 use crate::error::Error;
 use crate::hash_table_owned::HashTableOwned;
 use std::alloc::Global;
+
+/// The bytes of a valid table are such as a view accepts: who has them calls this and then `from_raw_bytes_unchecked`.
+pub fn valid_bytes_are_accepted<C: Config>()
+    ensures { let F = ⟦<C as Coded>⟧.coding.format
+        in (B : List ℕ) → IsValidBytes F B → IsAccepted F B }
+{}
 
 /// The value of a key in a table of the items: that of the last item with this very key, and none where no item has it.
 ///
