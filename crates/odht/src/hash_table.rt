@@ -21,7 +21,7 @@ use crate::config::{Coded, Config};
 use crate::error::Error;
 use crate::hash::HashFn;
 use crate::iter::Iter;
-use crate::load::{Factor, max_item_count_for, slots_needed};
+use crate::load::{Factor, max_item_count_for};
 use crate::memory_layout::{self, Allocation};
 use crate::raw_table::{RawIter, RawTable, Scan, Search, search_hashed, tag_of};
 use crate::swisstable_group_query::GroupQuery;
@@ -36,8 +36,8 @@ pub fn bytes_needed<C: Config>(max_item_count: usize, max_load_factor_percent: u
     ensures none { IsNone result ↔ IsTooLarge ⟦<C as Coded>⟧.coding.format max_item_count (factor_of max_load_factor_percent) }
 {
     let factor = Factor::from_percent(max_load_factor_percent);
-    let slot_count = slots_needed(max_item_count, factor)?;
-    memory_layout::bytes_needed::<C>(slot_count)
+    let (_, len) = memory_layout::layout_for::<C>(max_item_count, factor)?;
+    Some(len)
 }
 
 /// A table in the bytes of a store. A contract speaks of it as of this store: `D.bytes` are the table's bytes, and the
@@ -239,10 +239,8 @@ impl<C: Config, D: ByteStoreMut> HashTable<C, D> {
         ensures err { result_err result ≡ new_refusal ⟦<C as Coded>⟧.coding.format max_item_count (factor_of max_load_factor_percent) (length (D.bytes «data»)) }
     {
         let factor = Factor::from_percent(max_load_factor_percent);
-        let Some(slot_count) = slots_needed(max_item_count, factor) else {
-            return Err(Error::Capacity);
-        };
-        let Some(expected) = memory_layout::bytes_needed::<C>(slot_count) else {
+        let Some((slot_count, expected)) = memory_layout::layout_for::<C>(max_item_count, factor)
+        else {
             return Err(Error::Capacity);
         };
         let found = data.bytes().len();

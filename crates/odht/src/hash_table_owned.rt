@@ -273,10 +273,8 @@ impl<C: Config> HashTableOwned<C> {
         let header = self.table.allocation().header();
         let item_count = header.item_count();
         let factor = header.max_load_factor();
-        let Some(slot_count) = slots_needed((2 * item_count).max(1), factor) else {
-            return Err(Error::Memory);
-        };
-        let Some(len) = memory_layout::bytes_needed::<C>(slot_count) else {
+        let twice = (2 * item_count).max(1);
+        let Some((slot_count, len)) = memory_layout::layout_for::<C>(twice, factor) else {
             return Err(Error::Memory);
         };
         let mut bytes = vec![in self.alloc; 0; len]?;

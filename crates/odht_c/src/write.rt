@@ -15,7 +15,7 @@ use crate::status::{BAD_PERCENT, CAPACITY, INIT_LENGTH, OK, REPLACED, status_of}
 use odht::bytes::ByteStoreMut;
 use odht::config::{Coded, Config};
 use odht::error::Error;
-use odht::load::{Factor, slots_needed};
+use odht::load::Factor;
 use odht::{HashTable, memory_layout};
 
 /// How many bytes a new table for so many items has.
@@ -52,10 +52,7 @@ pub(crate) fn init<C: Config, M: ByteStoreMut>(
         return BAD_PERCENT;
     }
     let factor = Factor::from_percent(max_load_factor_percent);
-    let Some(slot_count) = slots_needed(max_item_count, factor) else {
-        return CAPACITY;
-    };
-    let Some(expected) = memory_layout::bytes_needed::<C>(slot_count) else {
+    let Some((slot_count, expected)) = memory_layout::layout_for::<C>(max_item_count, factor) else {
         return CAPACITY;
     };
     if place.bytes().len() != expected {

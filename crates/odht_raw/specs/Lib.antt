@@ -11,6 +11,8 @@ pub mod Answers
 pub mod ProbeSeqs
 -- a search at a place of the probe order
 pub mod Searches
+-- how large a new table is
+pub mod Layouts
 -- which bytes are refused as a table, and why
 pub mod Refusals
 -- what an insert may do to bytes that a view accepts, valid or not

@@ -1,5 +1,5 @@
 -- What a new table is refused for, case by case.
-use Rattle.std.proofs.Common.{◌≡◌, ◌≢◌, ◌≤◌, ◌<◌, ◌^◌, ◌∙◌, ℕ, Bool, true, false, not, nat_le, ap, refl, [], ◌∷◌, Some, None, Result, Ok, Err, OnErr, ◌⊎◌, inl, inr, arith, leb-true, le-leb, ne_eqb}
+use Rattle.std.proofs.Common.{◌≡◌, ◌≢◌, ◌≤◌, ◌<◌, ◌^◌, ◌∙◌, ℕ, Bool, true, false, not, nat_le, ap, refl, [], ◌∷◌, Option, Some, None, Result, Ok, Err, OnErr, ◌⊎◌, inl, inr, arith, leb-true, le-leb, ne_eqb}
 use Rattle.odht_base.specs.Format.{Format}
 use Rattle.odht_base.specs.Load.{slots_for, factor_of}
 use Rattle.odht_base.specs.Image.{image_len}
@@ -47,6 +47,14 @@ module _ (F : Format) (n f len : ℕ) where
         let short = not_le (2 ^ 64) (image_len F s) low in
         let right = false-differs len (image_len F s) same in
         some_slots ∙ (λ i. first_of ((short i gives Capacity) ∷ (right i gives InitLength len (image_len F s)) ∷ []))
+
+  -- there is no such table
+  pub new_refusal-large : IsTooLarge F n f → new_refusal F n f len ≡ Some Capacity
+  new_refusal-large large = go (slots_for n f) refl
+    where
+      go : (o : Option ℕ) → slots_for n f ≡ o → new_refusal F n f len ≡ Some Capacity
+      go None e = new_refusal-none e
+      go (Some s) e = new_refusal-too_long s e (large s e)
 
 -- ---- a new table in memory of its own
 -- the default table is not too large

@@ -1,10 +1,13 @@
 //! How long tables are.
-ghost use Rattle.std.specs.Prelude.{◌≡◌, ◌+◌, ◌-◌, ◌*◌, ◌<◌, ◌^◌, MatchOption, IfSome};
+ghost use Rattle.std.specs.Prelude.{◌≡◌, ◌+◌, ◌-◌, ◌*◌, ◌<◌, ◌≤◌, ◌^◌, ◌↔◌, MatchOption, IfSome, IsNone};
 ghost use Rattle.odht_base.specs.Image.{image_len};
+ghost use Rattle.odht_raw.specs.Layouts.{IsLayout};
+ghost use Rattle.odht_raw.specs.Refusals.{IsTooLarge};
 
 use super::HEADER_SIZE;
 use crate::bytes::ByteArray;
 use crate::config::{Coded, Config};
+use crate::load::{Factor, slots_needed};
 use crate::swisstable_group_query::REFERENCE_GROUP_SIZE;
 
 /// How many bytes a table of `slot_count` slots has. None exactly where that passes `usize`.
@@ -19,6 +22,22 @@ pub fn bytes_needed<C: Config>(slot_count: usize) -> Option<usize>
         return None;
     }
     Some(len as usize)
+}
+
+/// The slots of a new table for `max_item_count` items, and how many bytes it has. None exactly where no slot count is
+/// enough, or the length passes `usize`.
+pub fn layout_for<C: Config>(
+    max_item_count: usize,
+    max_load_factor: Factor,
+) -> Option<(usize, usize)>
+    requires { 1 ≤ max_load_factor.0 }
+    ensures some { let F = ⟦<C as Coded>⟧.coding.format
+        in IfSome result (λ l. IsLayout F max_item_count max_load_factor.0 l.0 l.1) }
+    ensures none { IsNone result ↔ IsTooLarge ⟦<C as Coded>⟧.coding.format max_item_count max_load_factor.0 }
+{
+    let slot_count = slots_needed(max_item_count, max_load_factor)?;
+    let len = bytes_needed::<C>(slot_count)?;
+    Some((slot_count, len))
 }
 
 // How many bytes a table of `slot_count` slots has.

@@ -28,8 +28,8 @@ overflow_mul-item_count g c =
     let small : count P < 2 ^ 63 = count_small F P is.valid in
     omega (arith, stated, small)
 
-pub slots_needed-requires : goal.slots_needed-requires
-slots_needed-requires g c =
+pub layout_for-requires-after_bounds : goal.layout_for-requires-after_bounds
+layout_for-requires-after_bounds g c κs within =
     let F : Format = format_of g.C.EncodedKey.ByteArray.LEN g.C.EncodedValue.ByteArray.LEN g.C.H.HashFn.hash in
     let P = c.self.invariant.0 in
     let is = c.self.invariant.1 in
@@ -47,9 +47,9 @@ written g c P is =
     let header = c.header-header.ensures.bytes ∙ c.allocation.ensures in
     let items = c.item_count-item_count.ensures ∙ ap stated_count header ∙ count_stated F P c.self.inside.table is in
     let factor = c.max_load_factor-factor.ensures ∙ ap stated_factor header ∙ factor_stated F P c.self.inside.table is in
-    let capacity : c.max.result ≡ max 1 (2 * count P) = c.max.ensures ∙ max_comm (2 * c.item_count-item_count.result) 1 ∙ ap (λ n. max 1 (2 * n)) items in
+    let capacity : c.max-twice.result ≡ max 1 (2 * count P) = c.max-twice.ensures ∙ max_comm (2 * c.item_count-item_count.result) 1 ∙ ap (λ n. max 1 (2 * n)) items in
     let s = c.in-Some.slot_count in
-    let enough : grown_slots P ≡ Some s = (λ i. slots_for (sym capacity i) (sym factor i)) ∙ sym c.in-Some.ensures.value in
+    let enough : grown_slots P ≡ Some s = (λ i. slots_for (sym capacity i) (sym factor i)) ∙ c.in-Some.ensures.some.slots in
     let split = c.data_slices-entries.ensures in
     let shown = (λ j. filter_map (λ x. x) (shown_cells F (split.entries j) (split.control j)))
     ∙ seen-image F P _ f (record { valid = is.valid; bytes = c.allocation-2.ensures ∙ is.bytes }) in
