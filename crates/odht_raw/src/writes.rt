@@ -32,25 +32,26 @@ pub(crate) fn write_pair<K: ByteArray, V: ByteArray, M: ByteStoreMut>(
     store.write_at(at + K::LEN, value.as_slice());
 }
 
-/// Writes the tag at the byte `at`, which is the control byte of one of so many slots, and for a slot below 16 at its mirror.
+/// Writes the tag into the control byte of one of so many slots, the first of which stands at the byte `control`, and for a
+/// slot below 16 into its mirror.
 #[inline(always)]
 pub(crate) fn write_tag<M: ByteStoreMut>(
     store: &mut M,
-    at: usize,
+    control: usize,
     slots: usize,
     slot: usize,
     tag: EntryMetadata,
 )
-    requires within { at < length (M.bytes store.old) }
-    requires mirrored { slot < 16 → at + slots < length (M.bytes store.old) }
-    ensures bytes { M.bytes store.new ≡ tagged_at (M.bytes store.old) at slots slot tag }
+    requires within { control + slot < length (M.bytes store.old) }
+    requires mirrored { slot < 16 → control + slot + slots < length (M.bytes store.old) }
+    ensures bytes { M.bytes store.new ≡ tagged_at (M.bytes store.old) (control + slot) slots slot tag }
     ensures len { length (M.bytes store.new) ≡ length (M.bytes store.old) }
     ensures place { store.new ≡ M.holding store.old (M.bytes store.new) }
 {
     // A slice's length is below 2^64, and so is each place in it.
     let _ = store.bytes();
-    store.write_at(at, &[tag]);
+    store.write_at(control + slot, &[tag]);
     if slot < REFERENCE_GROUP_SIZE {
-        store.write_at(at + slots, &[tag]);
+        store.write_at(control + (slots + slot), &[tag]);
     }
 }

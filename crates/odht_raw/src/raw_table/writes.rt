@@ -52,7 +52,7 @@ pub(crate) fn insert_at<K: ByteArray, V: ByteArray, H: HashFn>(
             let mut place = BorrowedMut::new(entries);
             write_pair(&mut place, slot * (K::LEN + V::LEN), &key, &value);
             let mut tags = BorrowedMut::new(control);
-            write_tag(&mut tags, slot, slots, slot, tag);
+            write_tag(&mut tags, 0, slots, slot, tag);
             Ok(None)
         }
         Search::Neither => Err(Error::Full),

@@ -49,13 +49,8 @@ impl<C: Config, M: ByteStoreMut> Allocation<C, M> {
         let entry_len = C::EncodedKey::LEN + C::EncodedValue::LEN;
         let store = &mut self.store;
         writes::write_pair(store, HEADER_SIZE + slot * entry_len, key, value);
-        writes::write_tag(
-            store,
-            HEADER_SIZE + slots * entry_len + slot,
-            slots,
-            slot,
-            tag,
-        );
+        let control = HEADER_SIZE + slots * entry_len;
+        writes::write_tag(store, control, slots, slot, tag);
     }
 
     /// Writes the value alone into the entry of a slot.

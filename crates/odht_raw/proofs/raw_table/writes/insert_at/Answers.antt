@@ -1,4 +1,4 @@
-use Rattle.std.proofs.Common.{rules, ◌-◌, length, subst, ◌∙◌, sym, ap, Some, None, Ok, Err, refl}
+use Rattle.std.proofs.Common.{rules, zero-add, ◌-◌, length, subst, ◌∙◌, sym, ap, Some, None, Ok, Err, refl}
 use Rattle.std.specs.Prelude.{option_map}
 use Rattle.std.proofs.lemmas.Option.{none-some}
 use Rattle.odht_base.specs.Format.{Format, format_of}
@@ -38,7 +38,7 @@ returns-in-Free-clause-placed g c P h e =
     let at = answer-Free F P p.key h.placed c.in-Free.slot (sym c.in-Free.is ∙ e) in
     let fits : IsPairOf F p = record { key = c.write_pair.ensures.key; value = c.write_pair.ensures.value } in
     let parts : IsPartsOf F (written P c.in-Free.slot p) c.write_pair.new.store.0.now c.write_tag.new.store.0.now =
-    rw (c.write_tag.ensures.bytes, c.new-tags.ensures.bytes, c.requires.tag, c.write_pair.ensures.bytes, c.new-place-in-Free.ensures.bytes, c.LEN-in-Free.ensures, c.LEN-in-Free-2.ensures) (free_parts F P _ _ h p.key c.in-Free.slot p refl fits at) in
+    rw (c.write_tag.ensures.bytes, zero-add c.in-Free.slot, c.new-tags.ensures.bytes, c.requires.tag, c.write_pair.ensures.bytes, c.new-place-in-Free.ensures.bytes, c.LEN-in-Free.ensures, c.LEN-in-Free-2.ensures) (free_parts F P _ _ h p.key c.in-Free.slot p refl fits at) in
     let some = at.places p refl in
     let former = sym (ap (option_map g.V.ByteArray.of_bytes) at.value) in
     record {
@@ -84,7 +84,7 @@ returns-in-Free-clause-any g c =
     let shown : EntryBytes = record { slots = length ctrl - 16; bytes = es } in
     let told = subst (IsEnd F shown ctrl p.key) c.in-Free.is c.requires.end in
     let framed : PartsFrame F es ctrl p (Ok None) c.write_pair.new.store.0.now c.write_tag.new.store.0.now =
-    rw (c.write_tag.ensures.bytes, c.new-tags.ensures.bytes, c.requires.tag, c.write_pair.ensures.bytes, c.new-place-in-Free.ensures.bytes, c.LEN-in-Free.ensures, c.LEN-in-Free-2.ensures) (PartsFrame.added slot told.0 told.1) in
+    rw (c.write_tag.ensures.bytes, zero-add c.in-Free.slot, c.new-tags.ensures.bytes, c.requires.tag, c.write_pair.ensures.bytes, c.new-place-in-Free.ensures.bytes, c.LEN-in-Free.ensures, c.LEN-in-Free-2.ensures) (PartsFrame.added slot told.0 told.1) in
     record { frame = (Ok None, refl, search (rules, framed)); only_full = tt; refused_control = tt; refused_entries = tt }
 
 pub returns-in-Neither-clause-any : goal.returns-in-Neither-clause-any
