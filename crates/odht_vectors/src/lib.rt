@@ -28,6 +28,8 @@ mod hashes;
 #[cfg(test)]
 mod known_tables;
 #[cfg(test)]
+mod lent_stores;
+#[cfg(test)]
 mod list_properties;
 #[cfg(test)]
 mod load_factors;
