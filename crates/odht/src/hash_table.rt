@@ -32,8 +32,11 @@ use std::marker::Model;
 pub fn bytes_needed<C: Config>(max_item_count: usize, max_load_factor_percent: u8) -> Option<usize>
     requires low { 1 ≤ max_load_factor_percent }
     requires high { max_load_factor_percent ≤ 100 }
-    ensures len { IfSome result (λ len. (s : ℕ) × (slots_for max_item_count (factor_of max_load_factor_percent) ≡ Some s) × (len ≡ image_len ⟦<C as Coded>⟧.coding.format s)) }
-    ensures none { IsNone result ↔ IsTooLarge ⟦<C as Coded>⟧.coding.format max_item_count (factor_of max_load_factor_percent) }
+    ensures len { let F = ⟦<C as Coded>⟧.coding.format
+        in let f = factor_of max_load_factor_percent
+        in IfSome result (λ len. (s : ℕ) × (slots_for max_item_count f ≡ Some s) × (len ≡ image_len F s)) }
+    ensures none { let F = ⟦<C as Coded>⟧.coding.format
+        in IsNone result ↔ IsTooLarge F max_item_count (factor_of max_load_factor_percent) }
 {
     let factor = Factor::from_percent(max_load_factor_percent);
     let (_, len) = memory_layout::layout_for::<C>(max_item_count, factor)?;
@@ -118,9 +121,10 @@ impl<C: Config, D: ByteStore> HashTable<C, D> {
         ensures on_valid { (P : Table)
             → IsImage ⟦<C as Coded>⟧.coding.format P (D.bytes self.now)
             → result.0 ≡ value_for ⟦<C as Coded>⟧.coding P key.now }
-        ensures groups { (P : Table)
-            → IsImage ⟦<C as Coded>⟧.coding.format P (D.bytes self.now)
-            → result.1 ≡ groups_read ⟦<C as Coded>⟧.coding.format P.cells (⟦<C as Coded>⟧.coding.key_bytes key.now) }
+        ensures groups { let c = ⟦<C as Coded>⟧.coding
+            in (P : Table)
+            → IsImage c.format P (D.bytes self.now)
+            → result.1 ≡ groups_read c.format P.cells (c.key_bytes key.now) }
         ensures on_any { IfSome result.0 (λ v. HasStored ⟦<C as Coded>⟧.coding (D.bytes self.now) key.now v) }
         ensures few { result.1 ≤ stated_slots (D.bytes self.now) / 16 }
     {
@@ -140,7 +144,8 @@ impl<C: Config, D: ByteStore> HashTable<C, D> {
         ensures on_valid { (P : Table)
             → IsImage ⟦<C as Coded>⟧.coding.format P (D.bytes self.now)
             → IsTrue result ↔ IsSome (map_of P (⟦<C as Coded>⟧.coding.key_bytes key.now)) }
-        ensures on_any { IsTrue result → HoldsKey ⟦<C as Coded>⟧.coding.format (D.bytes self.now) (⟦<C as Coded>⟧.coding.key_bytes key.now) }
+        ensures on_any { let c = ⟦<C as Coded>⟧.coding
+            in IsTrue result → HoldsKey c.format (D.bytes self.now) (c.key_bytes key.now) }
     {
         let table = self.as_raw();
         let key = C::encode_key(key);
@@ -154,7 +159,8 @@ impl<C: Config, D: ByteStore> HashTable<C, D> {
         ensures on_valid { (P : Table)
             → IsImage ⟦<C as Coded>⟧.coding.format P (D.bytes self.now)
             → result ≡ decoded_all ⟦<C as Coded>⟧.coding (walk P) }
-        ensures on_any { result ≡ decoded_all ⟦<C as Coded>⟧.coding (seen ⟦<C as Coded>⟧.coding.format (D.bytes self.now)) }
+        ensures on_any { let c = ⟦<C as Coded>⟧.coding
+            in result ≡ decoded_all c (seen c.format (D.bytes self.now)) }
         ensures few { length result ≤ usize.MAX }
     {
         let (control, entries) = self.allocation.data_slices();
@@ -234,9 +240,12 @@ impl<C: Config, D: ByteStoreMut> HashTable<C, D> {
     ) -> Result<Self, Error>
         requires low { 1 ≤ max_load_factor_percent }
         requires high { max_load_factor_percent ≤ 100 }
-        ensures ok { IfOk result (λ t. IsFresh ⟦<C as Coded>⟧.coding.format max_item_count max_load_factor_percent (D.bytes t)) }
+        ensures ok { let F = ⟦<C as Coded>⟧.coding.format
+            in IfOk result (λ t. IsFresh F max_item_count max_load_factor_percent (D.bytes t)) }
         ensures place { IfOk result (λ t. t ≡ D.holding «data» (D.bytes t)) }
-        ensures err { result_err result ≡ new_refusal ⟦<C as Coded>⟧.coding.format max_item_count (factor_of max_load_factor_percent) (length (D.bytes «data»)) }
+        ensures err { let F = ⟦<C as Coded>⟧.coding.format
+            in let f = factor_of max_load_factor_percent
+            in result_err result ≡ new_refusal F max_item_count f (length (D.bytes «data»)) }
     {
         let factor = Factor::from_percent(max_load_factor_percent);
         let Some((slot_count, expected)) = memory_layout::layout_for::<C>(max_item_count, factor)
@@ -268,7 +277,8 @@ impl<C: Config, D: ByteStoreMut> HashTable<C, D> {
         ensures full { (P : Table)
             → IsImage ⟦<C as Coded>⟧.coding.format P (D.bytes self.old)
             → (result ≡ Err Error.Full) ↔ (count P ≡ max_items (slot_count P) P.factor) }
-        ensures frame { IsFramed ⟦<C as Coded>⟧.coding (D.bytes self.old) key.now value.now result (D.bytes self.new) }
+        ensures frame { let c = ⟦<C as Coded>⟧.coding
+            in IsFramed c (D.bytes self.old) key.now value.now result (D.bytes self.new) }
         ensures only_full { OnErr result (result ≡ Err Error.Full) }
         ensures refused { OnErr result (self.new ≡ self.old) }
         ensures place { self.new ≡ D.holding self.old (D.bytes self.new) }

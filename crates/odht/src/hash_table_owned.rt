@@ -62,7 +62,8 @@ impl<C: Config> HashTableOwned<C> {
         requires low { 1 ≤ max_load_factor_percent }
         requires high { max_load_factor_percent ≤ 100 }
         ensures ok { IfOk result (IsFresh ⟦<C as Coded>⟧.coding.format max_item_count max_load_factor_percent) }
-        ensures capacity { (result ≡ Err Error.Capacity) ↔ IsTooLarge ⟦<C as Coded>⟧.coding.format max_item_count (factor_of max_load_factor_percent) }
+        ensures capacity { let F = ⟦<C as Coded>⟧.coding.format
+            in (result ≡ Err Error.Capacity) ↔ IsTooLarge F max_item_count (factor_of max_load_factor_percent) }
         ensures memory { OnErr result ((result ≡ Err Error.Capacity) ⊎ (result ≡ Err Error.Memory)) }
     {
         let factor = Factor::from_percent(max_load_factor_percent);
@@ -94,8 +95,12 @@ impl<C: Config> HashTableOwned<C> {
         requires ends { IsFinite (I.remaining items) }
         requires low { 1 ≤ max_load_factor_percent }
         requires high { max_load_factor_percent ≤ 100 }
-        ensures ok { IfOk result (λ t. (xs : List (C.Key × C.Value)) × Drains I.next_gives items xs × IsFreshFilled ⟦<C as Coded>⟧.coding max_load_factor_percent xs t) }
-        ensures capacity { IsErrOf result Error.Capacity → (xs : List (C.Key × C.Value)) × Drains I.next_gives items xs × IsTooLarge ⟦<C as Coded>⟧.coding.format (length xs) (factor_of max_load_factor_percent) }
+        ensures ok { IfOk result (λ t. (xs : List (C.Key × C.Value))
+            × Drains I.next_gives items xs
+            × IsFreshFilled ⟦<C as Coded>⟧.coding max_load_factor_percent xs t) }
+        ensures capacity { IsErrOf result Error.Capacity → (xs : List (C.Key × C.Value))
+            × Drains I.next_gives items xs
+            × IsTooLarge ⟦<C as Coded>⟧.coding.format (length xs) (factor_of max_load_factor_percent) }
         ensures memory { OnErr result ((result ≡ Err Error.Capacity) ⊎ (result ≡ Err Error.Memory)) }
     {
         let items: Vec<(C::Key, C::Value)> = items.collect(alloc)?;
@@ -123,9 +128,10 @@ impl<C: Config> HashTableOwned<C> {
         ensures value { (P : Table)
             → IsImage ⟦<C as Coded>⟧.coding.format P self.now
             → result.0 ≡ value_for ⟦<C as Coded>⟧.coding P key.now }
-        ensures groups { (P : Table)
-            → IsImage ⟦<C as Coded>⟧.coding.format P self.now
-            → result.1 ≡ groups_read ⟦<C as Coded>⟧.coding.format P.cells (⟦<C as Coded>⟧.coding.key_bytes key.now) }
+        ensures groups { let c = ⟦<C as Coded>⟧.coding
+            in (P : Table)
+            → IsImage c.format P self.now
+            → result.1 ≡ groups_read c.format P.cells (c.key_bytes key.now) }
     {
         self.table.get_counted(key)
     }
@@ -265,9 +271,10 @@ impl<C: Config> HashTableOwned<C> {
     // The pairs of this table, in slot order, in a table with the slots for twice as many, and for one at least.
     #[inline(never)]
     fn grown(&self) -> Result<HashTable<C, OwnedBytes>, Error>
-        ensures ok { (P : Table)
-            → IsImage ⟦<C as Coded>⟧.coding.format P self.now
-            → IfOk result (λ t. (Q : Table) × (grown ⟦<C as Coded>⟧.coding.format P ≡ Some Q) × IsImage ⟦<C as Coded>⟧.coding.format Q t) }
+        ensures ok { let F = ⟦<C as Coded>⟧.coding.format
+            in (P : Table)
+            → IsImage F P self.now
+            → IfOk result (λ t. (Q : Table) × (grown F P ≡ Some Q) × IsImage F Q t) }
         ensures memory { OnErr result (result ≡ Err Error.Memory) }
     {
         let header = self.table.allocation().header();
@@ -296,9 +303,13 @@ fn write_table<C: Config>(
     requires slots { IsSlotCount slot_count }
     requires len { length bytes.old ≡ image_len ⟦<C as Coded>⟧.coding.format slot_count }
     requires zeros { bytes.old ≡ replicate (length bytes.old) 0 }
-    ensures { (Q : Table)
-        → place_all ⟦<C as Coded>⟧.coding.format (empty slot_count max_load_factor.0) (map (λ x. record { key = C.EncodedKey.bytes x.1.key; value = C.EncodedValue.bytes x.1.value }) walk.entry) ≡ Some Q
-        → bytes.new ≡ header_bytes ⟦<C as Coded>⟧.coding.format slot_count item_count max_load_factor.0 ++ parts ⟦<C as Coded>⟧.coding.format Q.cells }
+    ensures { let F = ⟦<C as Coded>⟧.coding.format
+        in let f = max_load_factor.0
+        in let pairs = map (λ x. record { key = C.EncodedKey.bytes x.1.key; value = C.EncodedValue.bytes x.1.value })
+        walk.entry
+        in (Q : Table)
+        → place_all F (empty slot_count f) pairs ≡ Some Q
+        → bytes.new ≡ header_bytes F slot_count item_count f ++ parts F Q.cells }
 {
     let (header, parts) = bytes.split_at_mut(HEADER_SIZE);
     let (entries, control) = parts.split_at_mut(
@@ -323,7 +334,8 @@ fn insert_walk<K: ByteArray, V: ByteArray, H: HashFn>(
     ensures { let F = format_of K.LEN V.LEN H.hash
         in (P Q : Table)
         → IsPartsOf F P entries.old control.old
-        → place_all F P (map (λ x. record { key = K.bytes x.1.key; value = V.bytes x.1.value }) walk.entry) ≡ Some Q
+        → place_all F P
+        (map (λ x. record { key = K.bytes x.1.key; value = V.bytes x.1.value }) walk.entry) ≡ Some Q
         → IsPartsOf F Q entries.new control.new }
 {
     let mut table: RawTableMut<'_, '_, K, V, H> = RawTableMut::new(control, entries);
@@ -340,8 +352,11 @@ fn empty_table<C: Config>(
     max_load_factor: Factor,
 ) -> Result<HashTable<C, OwnedBytes>, Error>
     requires low { 655 ≤ max_load_factor.0 }
-    ensures ok { IfOk result (λ t. (s : ℕ) × (slots_for max_item_count max_load_factor.0 ≡ Some s) × IsImage ⟦<C as Coded>⟧.coding.format (empty s max_load_factor.0) t) }
-    ensures capacity { (result ≡ Err Error.Capacity) ↔ IsTooLarge ⟦<C as Coded>⟧.coding.format max_item_count max_load_factor.0 }
+    ensures ok { let F = ⟦<C as Coded>⟧.coding.format
+        in let f = max_load_factor.0
+        in IfOk result (λ t. (s : ℕ) × (slots_for max_item_count f ≡ Some s) × IsImage F (empty s f) t) }
+    ensures capacity { let F = ⟦<C as Coded>⟧.coding.format
+        in (result ≡ Err Error.Capacity) ↔ IsTooLarge F max_item_count max_load_factor.0 }
     ensures memory { OnErr result ((result ≡ Err Error.Capacity) ⊎ (result ≡ Err Error.Memory)) }
 {
     let Some(slot_count) = slots_needed(max_item_count, max_load_factor) else {

@@ -51,7 +51,8 @@ pub fn built_from_empty<C: Lossless>(
     requires low { 1 ≤ max_load_factor_percent }
     requires high { max_load_factor_percent ≤ 100 }
     ensures ok { IfOk result (λ value. IsLastValue items.now key.now value) }
-    ensures capacity { (result ≡ Err Error.Capacity) ↔ IsTooLarge ⟦<C as Coded>⟧.coding.format (length items.now) (factor_of max_load_factor_percent) }
+    ensures capacity { let F = ⟦<C as Coded>⟧.coding.format
+        in (result ≡ Err Error.Capacity) ↔ IsTooLarge F (length items.now) (factor_of max_load_factor_percent) }
     ensures memory { OnErr result ((result ≡ Err Error.Capacity) ⊎ (result ≡ Err Error.Memory)) }
 {
     let mut table: HashTableOwned<C> = HashTableOwned::with_capacity(
