@@ -284,14 +284,14 @@ impl<C: Config, D: ByteStoreMut> HashTable<C, D> {
         ensures place { self.new ≡ D.holding self.old (D.bytes self.new) }
         ensures accepted { IsAccepted ⟦<C as Coded>⟧.coding.format (D.bytes self.new) }
     {
+        let key = C::encode_key(key);
+        let value = C::encode_value(value);
         let header = self.allocation.header();
         let count = header.item_count();
         let max = max_item_count_for(header.slot_count(), header.max_load_factor());
         if count >= max {
             return Err(Error::Full);
         }
-        let key = C::encode_key(key);
-        let value = C::encode_value(value);
         let hash = C::H::hash(key.as_slice());
         let (control, entries) = self.allocation.data_slices();
         let mut scan = Scan::new(control, entries.len());
