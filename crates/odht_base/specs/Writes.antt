@@ -9,9 +9,7 @@
 --     with_count B n           the item count n
 --     Of control bytes ctrl with their mirror:
 --     tagged ctrl i c          the control byte c at i, and for a slot below 16 its mirror too
---     Of both:
---     with_parts B es ctrl     the header of B before these entries and control bytes
-use Rattle.std.specs.Prelude.{ℕ, ◌+◌, ◌-◌, ◌*◌, length, take, set, nat_lt, List, ◌++◌, if◌then◌else◌}
+use Rattle.std.specs.Prelude.{ℕ, ◌+◌, ◌-◌, ◌*◌, length, set, nat_lt, List, ◌++◌, if◌then◌else◌}
 use Rattle.odht_base.specs.Bytes.{overwritten_at}
 use Rattle.odht_base.specs.Format.{Format, entry_len, tag}
 use Rattle.odht_base.specs.Numbers.{le_bytes}
@@ -37,6 +35,3 @@ with_count B n = overwritten_at B 8 (le_bytes 8 n)
 
 abbrev pub tagged : List ℕ → ℕ → ℕ → List ℕ
 tagged ctrl i c = tagged_at ctrl i (length ctrl - 16) i c
-
-abbrev pub with_parts : List ℕ → List ℕ → List ℕ → List ℕ
-with_parts B es ctrl = take 32 B ++ (es ++ ctrl)

@@ -159,12 +159,6 @@ module _ (F : Format) (B : List ℕ) (h : IsAccepted F B) where
   pub IsAccepted-set : (at c : ℕ) → 32 ≤ at → at < length B → IsAccepted F (set B at c)
   IsAccepted-set at c low fits = subst (IsAccepted F) (overwritten_at-single B at c fits) (IsAccepted-overwritten_at at (c ∷ []) low (omega arith))
 
-  -- a write behind the header leaves the slot count too
-  pub stated_slots-overwritten_at : (at : ℕ) (d : List ℕ) → 32 ≤ at → at ≤ length B → stated_slots (overwritten_at B at d) ≡ stated_slots B
-  stated_slots-overwritten_at at d low fits =
-      ap num (sym (bytes_at-take_front (overwritten_at B at d) 16 8 32 (lit≤ tt))
-      ∙ ap (λ t. bytes_at t 16 8) (take-overwritten_at B at 32 d low fits) ∙ bytes_at-take_front B 16 8 32 (lit≤ tt))
-
   -- ---- entries
   -- the entry of a slot ends before the control bytes
   pub accepted_entry : (i : ℕ) → i < stated_slots B → 32 + i * entry_len F + entry_len F + (stated_slots B + 16) ≤ length B
