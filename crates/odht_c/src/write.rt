@@ -1,20 +1,15 @@
 //! What the calls write into the bytes of a table, for every configuration.
-ghost use Rattle.std.specs.Prelude.{◌≡◌, ◌↔◌, length, IfOk, OnErr};
+ghost use Rattle.std.specs.Prelude.{◌≡◌, length};
 ghost use Rattle.odht_base.specs.Image.{image, image_len};
-ghost use Rattle.odht_base.specs.Insert.{put_view};
-ghost use Rattle.odht_base.specs.Load.{max_items, IsSlotCount};
-ghost use Rattle.odht_base.specs.Table.{Table, count, slot_count, empty};
-ghost use Rattle.odht_base.specs.Valid.{IsImage};
+ghost use Rattle.odht_base.specs.Load.{IsSlotCount};
+ghost use Rattle.odht_base.specs.Table.{empty};
 ghost use Rattle.odht_base.specs.Writes.{with_count};
-ghost use Rattle.odht_raw.specs.Frame.{IsAccepted, IsFramed};
-ghost use Rattle.odht.specs.Inserts.{IsInserted};
 ghost use Rattle.odht_c.specs.Writes.{BytesNeededAnswers, InitAnswers, InsertAnswers, InsertAllAnswers};
 
 use crate::read::view;
 use crate::status::{BAD_PERCENT, CAPACITY, INIT_LENGTH, OK, REPLACED, status_of};
 use odht::bytes::ByteStoreMut;
 use odht::config::{Coded, Config};
-use odht::error::Error;
 use odht::load::Factor;
 use odht::{HashTable, memory_layout};
 
@@ -89,7 +84,10 @@ pub(crate) fn insert<C: Config, M: ByteStoreMut>(
     if let Err(refused) = view::<C>(place.bytes()) {
         return status_of(&refused);
     }
-    match put::<C, M>(place, key, value) {
+    let mut table = HashTable::<C, &mut M>::from_raw_bytes_unchecked(place);
+    let answer = table.insert(key, value);
+    let _place = table.into_data();
+    match answer {
         Ok(Some(old)) => {
             *former = old;
             REPLACED
@@ -116,38 +114,14 @@ pub(crate) fn insert_all<C: Config, M: ByteStoreMut>(
         return status_of(&refused);
     }
     for index in 0..keys.len() {
-        if let Err(refused) = put::<C, M>(place, &keys[index], &values[index]) {
+        let mut table = HashTable::<C, &mut M>::from_raw_bytes_unchecked(place);
+        let answer = table.insert(&keys[index], &values[index]);
+        let _place = table.into_data();
+        if let Err(refused) = answer {
             *accepted = index;
             return status_of(&refused);
         }
     }
     *accepted = keys.len();
     OK
-}
-
-// `HashTable::insert` into the table in the place, whose header and length fit.
-#[inline(always)]
-fn put<C: Config, M: ByteStoreMut>(
-    place: &mut M,
-    key: &C::Key,
-    value: &C::Value,
-) -> Result<Option<C::Value>, Error>
-    requires { IsAccepted ⟦<C as Coded>⟧.coding.format (M.bytes place.old) }
-    ensures ok { let c = ⟦<C as Coded>⟧.coding
-        in (P : Table)
-        → IsImage c.format P (M.bytes place.old)
-        → IfOk result (λ old. IsInserted c (put_view c.format) P key.now value.now old (M.bytes place.new)) }
-    ensures full { (P : Table)
-        → IsImage ⟦<C as Coded>⟧.coding.format P (M.bytes place.old)
-        → (result ≡ Err Error.Full) ↔ (count P ≡ max_items (slot_count P) P.factor) }
-    ensures frame { IsFramed ⟦<C as Coded>⟧.coding (M.bytes place.old) key.now value.now result (M.bytes place.new) }
-    ensures only_full { OnErr result (result ≡ Err Error.Full) }
-    ensures refused { OnErr result (place.new ≡ place.old) }
-    ensures accepted { IsAccepted ⟦<C as Coded>⟧.coding.format (M.bytes place.new) }
-    ensures place { place.new ≡ M.holding place.old (M.bytes place.new) }
-{
-    let mut table = HashTable::<C, &mut M>::from_raw_bytes_unchecked(place);
-    let answer = table.insert(key, value);
-    let _place = table.into_data();
-    answer
 }

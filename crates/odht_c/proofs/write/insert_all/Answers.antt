@@ -1,14 +1,15 @@
-use Rattle.std.proofs.Common.{◌≡◌, ◌∙◌, refl, ◌<◌, ◌++◌, [], ◌∷◌, sym, ap, ap₂, subst, take, List, arith, length}
+use Rattle.std.proofs.Common.{rules, ◌≡◌, ◌∙◌, refl, ◌<◌, ◌+◌, ◌++◌, [], ◌∷◌, sym, ap, ap₂, subst, take, List, arith, length}
 use Rattle.std.proofs.lemmas.List.{take_more}
 use Rattle.std.specs.List.{zip}
 use Rattle.std.proofs.lemmas.Slice.Zip.{get_or-zip, length-zip}
 use Rattle.odht_base.specs.Format.{Format, format_of}
 use Rattle.odht_base.specs.Insert.{put_view}
 use Rattle.odht_base.specs.Table.{Pair}
+use Rattle.odht_base.specs.Valid.{IsImage}
 use Rattle.odht_base.proofs.lemmas.FreshRuns.{put_view-PlacesBelow}
 use Rattle.odht_base.proofs.lemmas.Puts.{put_view-IsInsert}
 use Rattle.odht_raw.specs.Coding.{coding_of}
-use Rattle.odht_raw.specs.Frame.{IsFramed}
+use Rattle.odht_raw.specs.Frame.{IsAccepted, IsFramed}
 use Rattle.odht_raw.specs.Refusals.{opening_refusal}
 use Rattle.odht.specs.Lists.{encoded_all, IsFilled}
 use Rattle.odht.proofs.lemmas.Fillings.{filled_more, encoded_all-more}
@@ -50,21 +51,27 @@ loop-index-preserved g c =
     let low_value : n < length c.args.values.now = omega (arith, low, c.requires) in
     let low_item : n < length items = omega (arith, low, low_value, length-zip c.args.keys.now c.args.values.now) in
     let at = get_or-zip c.args.keys.now c.args.values.now n item low low_value ∙ ap₂ (λ k v. (k, v)) (sym c.index-keys-index.is) (sym c.index-values-index.is) in
+    let bytes = g.M.ByteStore.bytes in
+    let was = bytes c.loop-index.place in
+    let now = bytes c.insert-answer.new.self.now in
+    let opened = ap (λ s. s.now) c.from_raw_bytes_unchecked-table.ensures in
+    let closed : c.place-1.given.0 ≡ c.insert-answer.new.self.now = search (rules, c.into_data-place.ensures.data, c.insert-answer.ensures.place, c.from_raw_bytes_unchecked-table.ensures) in
     record {
       place =
-          c.put.ensures.place
-          ∙ ap (λ s. g.M.ByteStoreMut.holding s (g.M.ByteStore.bytes c.put.new.place)) c.loop-index.invariant.place
-          ∙ g.met.M.ByteStoreMut.held_last c.args.place.now (g.M.ByteStore.bytes c.loop-index.place) (g.M.ByteStore.bytes c.put.new.place);
-      accepted = c.put.ensures.accepted;
+          (let whose = ap (λ s. s.now) c.insert-answer.ensures.place ∙ ap (λ s. g.M.ByteStoreMut.holding s now) (opened ∙ c.loop-index.invariant.place) ∙ g.met.M.ByteStoreMut.held_last c.args.place.now was now in
+          subst (λ s. s ≡ g.M.ByteStoreMut.holding c.args.place.now (bytes s)) (sym closed) whose);
+      accepted = subst (λ s. IsAccepted K.format (bytes s)) (sym closed) c.insert-answer.ensures.accepted;
       framed =
-          subst (λ xs. IsFramedRun K (g.M.ByteStore.bytes c.args.place.now) xs (g.M.ByteStore.bytes c.put.new.place)) (sym (take_more items n item low_item ∙ ap (λ t. take n items ++ t ∷ []) at))
-          (IsFramedRun.accepted (take n items) c.index-keys-index.result c.index-values-index.result c.in_default-put.field-0 (g.M.ByteStore.bytes c.loop-index.place) (g.M.ByteStore.bytes c.put.new.place) c.loop-index.invariant.framed
-          (subst (λ r. IsFramed K (g.M.ByteStore.bytes c.loop-index.place) c.index-keys-index.result c.index-values-index.result r (g.M.ByteStore.bytes c.put.new.place)) c.in_default-put.is c.put.ensures.frame));
+          (let frame = subst (λ s. IsFramed K (bytes s) c.index-keys-index.result c.index-values-index.result c.insert-answer.result now) opened c.insert-answer.ensures.frame in
+          let step = IsFramedRun.accepted (take n items) c.index-keys-index.result c.index-values-index.result c.in_default-answer.field-0 was now c.loop-index.invariant.framed (subst (λ r. IsFramed K was c.index-keys-index.result c.index-values-index.result r now) c.in_default-answer.is frame) in
+          subst (λ s. IsFramedRun K (bytes c.args.place.now) (take (n + 1) items) (bytes s)) (sym closed)
+          (subst (λ xs. IsFramedRun K (bytes c.args.place.now) xs now) (sym (take_more items n item low_item ∙ ap (λ t. take n items ++ t ∷ []) at)) step));
       filled = λ P is. (
           let h = c.loop-index.invariant.filled P is in
-          let put = c.in_default-put.ensures.ok h.table h.image in
-          subst (λ (ps : List Pair). IsFilled K.format (put_view K.format) P ps (g.M.ByteStore.bytes c.put.new.place)) (sym (encoded_all-more K items n item low_item at))
-          (filled_more K.format (put_view K.format) (put_view-IsInsert K.format) (put_view-PlacesBelow K.format) P (encoded_all K (take n items)) _ (g.M.ByteStore.bytes c.loop-index.place) (g.M.ByteStore.bytes c.put.new.place) h put.table put.inserted put.image));
+          let put = c.in_default-answer.ensures.ok h.table (subst (λ s. IsImage K.format h.table (bytes s)) (sym opened) h.image) in
+          subst (λ s. IsFilled K.format (put_view K.format) P (encoded_all K (take (n + 1) items)) (bytes s)) (sym closed)
+          (subst (λ (ps : List Pair). IsFilled K.format (put_view K.format) P ps now) (sym (encoded_all-more K items n item low_item at))
+          (filled_more K.format (put_view K.format) (put_view-IsInsert K.format) (put_view-PlacesBelow K.format) P (encoded_all K (take n items)) _ was now h put.table put.inserted put.image)));
     }
 
 pub returns-clause-answer : goal.returns-clause-answer
