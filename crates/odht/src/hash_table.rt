@@ -72,8 +72,11 @@ impl<C: Config, D: ByteStore> HashTable<C, D> {
         Ok(HashTable { allocation })
     }
 
-    /// Opens bytes as a table by their header and their length alone, and answers the first refusal where there is one. No
-    /// slot is looked at. On a refusal the data is dropped.
+    /// Opens bytes as a table by their header and their length alone, and answers the first refusal where there is one: of
+    /// too few bytes, of the header, of the length. Then the data is dropped.
+    ///
+    /// No slot is looked at. A view of bytes that are not valid is safe to use, but what it answers is within a frame only,
+    /// which the calls state. docs/FORMAT.md, "Opening".
     #[inline(always)]
     pub fn from_raw_bytes_by_header(data: D) -> Result<Self, Error>
         ensures ok { IfOk result (λ t. t ≡ «data») }
@@ -178,7 +181,7 @@ impl<C: Config, D: ByteStore> HashTable<C, D> {
         self.allocation.header().item_count()
     }
 
-    /// All bytes. A view accepts them.
+    /// All bytes. Their header and length fit, so [`HashTable::from_raw_bytes_unchecked`] takes them.
     #[inline]
     pub fn raw_bytes(&self) -> &[u8]
         ensures bytes { result.now ≡ D.bytes self.now }
@@ -187,7 +190,8 @@ impl<C: Config, D: ByteStore> HashTable<C, D> {
         self.allocation.raw_bytes()
     }
 
-    /// The data, with the bytes as they are now, which a view accepts.
+    /// The data, with the bytes as they are now. Header and length fit, so [`HashTable::from_raw_bytes_unchecked`] takes
+    /// it again.
     #[inline]
     pub fn into_data(self) -> D
         ensures data { result ≡ self }
@@ -329,7 +333,7 @@ impl<C: Config, D: ByteStoreMut> HashTable<C, D> {
             → OnErr result.1 (count P ≡ max_items (slot_count P) P.factor) }
         ensures only_full { OnErr result.1 (result.1 ≡ Err Error.Full) }
     {
-        // A view accepts the bytes that are there.
+        // Header and length fit, in a table of no items too.
         let _ = self.raw_bytes();
         for accepted in 0..items.len() {
             let (key, value) = &items[accepted];

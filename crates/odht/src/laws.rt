@@ -12,7 +12,7 @@ use crate::error::Error;
 use crate::hash_table_owned::HashTableOwned;
 use std::alloc::Global;
 
-/// The bytes of a valid table are such as a view accepts: who has them calls this and then `from_raw_bytes_unchecked`.
+/// Header and length of a valid table's bytes fit: who has such bytes calls this and then `from_raw_bytes_unchecked`.
 pub fn valid_bytes_are_accepted<C: Config>()
     ensures { let F = ⟦<C as Coded>⟧.coding.format
         in (B : List ℕ) → IsValidBytes F B → IsAccepted F B }

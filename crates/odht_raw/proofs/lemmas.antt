@@ -17,7 +17,7 @@ pub mod PowersOfTwo
 pub mod SlotChecks
 -- what a header is refused for
 pub mod HeaderChecks
--- bytes that a view accepts, and writes that leave them accepted
+-- bytes whose header and length fit, and writes that leave them so
 pub mod Accepted
 -- what bytes are refused for when they are opened
 pub mod Openings

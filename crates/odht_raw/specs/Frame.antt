@@ -1,4 +1,4 @@
--- What an insert may do to bytes that a view accepts, valid or not.
+-- What an insert may do to bytes whose header and length fit, valid or not.
 --     IsAccepted F B       the header and the length fit
 --     CountsAsFree ctrl i  the control byte of slot i, or for a slot below 16 its mirror, counts as free
 --     InsertFrame F B p r B'              an insert of p, a pair of F, may answer r and leave B'

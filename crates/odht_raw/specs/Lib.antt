@@ -15,7 +15,7 @@ pub mod Searches
 pub mod Layouts
 -- which bytes are refused as a table, and why
 pub mod Refusals
--- what an insert may do to bytes that a view accepts, valid or not
+-- what an insert may do to bytes whose header and length fit, valid or not
 pub mod Frame
 -- where a search ends on any parts
 pub mod SearchEnds

@@ -17,7 +17,11 @@ pub trait ByteStore: Drop {
 /// A place whose bytes can be overwritten, and which stays the same place.
 ///
 /// A contract names the place that holds other bytes by the ghost member `holding`. So who lends a place learns what it
-/// holds when it is handed back.
+/// holds when it is handed back. Three laws say that nothing but the bytes tells one state of a place from another:
+/// it holds what it was told to hold, only the last bytes matter, and with the bytes that it has it is as it is.
+///
+/// So what a store keeps beside its bytes must stay as it is on a write. A count of the writes, say, is for the store's
+/// `Model` to leave out.
 pub trait ByteStoreMut: ByteStore {
     ghost holding: { Self → List ℕ → Self };
 
@@ -28,10 +32,13 @@ pub trait ByteStoreMut: ByteStore {
         ensures len { length (Self.bytes self.new) ≡ length (Self.bytes self.old) }
         ensures place { self.new ≡ holding self.old (Self.bytes self.new) };
 
+    // it holds the bytes that it was told to hold
     ghost held: { (s : Self) (b : List ℕ) → Self.bytes (holding s b) ≡ b };
 
+    // only the last bytes matter
     ghost held_last: { (s : Self) (a b : List ℕ) → holding (holding s a) b ≡ holding s b };
 
+    // with the bytes that it has it is as it is
     ghost held_same: { (s : Self) → holding s (Self.bytes s) ≡ s };
 }
 

@@ -1,4 +1,4 @@
--- Bytes that a view accepts: what their header says, and that writes to the count and behind the header leave them accepted.
+-- Bytes whose header and length fit: what the header says, and that writes to the count and behind the header leave them so.
 --     IsHeader F n B       the header fits n bytes
 --     IsOpening F B        so it does, and there are enough bytes for it
 use Rattle.std.proofs.Common.{◌≡◌, ◌<◌, ◌≤◌, ◌∙◌, ◌+◌, ◌*◌, ℕ, suc, not, sym, ap, subst, refl, List, [], ◌∷◌, None, take, drop, set, cond, ltb, Bool, true, false, length, arith, length-set, get_or-take, lit<, lit≤, ltb-true, ltb-false, le-ltb, nat_lt}
