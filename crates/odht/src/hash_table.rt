@@ -76,7 +76,7 @@ impl<C: Config, D: ByteStore> HashTable<C, D> {
     /// too few bytes, of the header, of the length. Then the data is dropped.
     ///
     /// No slot is looked at. A view of bytes that are not valid is safe to use, but what it answers is within a frame only,
-    /// which the calls state. docs/FORMAT.md, "Opening".
+    /// which the calls state. The order of the refusals is in docs/FORMAT.md, "What is refused, and in which order".
     #[inline(always)]
     pub fn from_raw_bytes_by_header(data: D) -> Result<Self, Error>
         ensures ok { IfOk result (λ t. t ≡ «data») }

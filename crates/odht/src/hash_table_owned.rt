@@ -311,10 +311,8 @@ fn write_table<C: Config>(
         → place_all F (empty slot_count f) pairs ≡ Some Q
         → bytes.new ≡ header_bytes F slot_count item_count f ++ parts F Q.cells }
 {
-    let (header, parts) = bytes.split_at_mut(HEADER_SIZE);
-    let (entries, control) = parts.split_at_mut(
-        slot_count * (C::EncodedKey::LEN + C::EncodedValue::LEN),
-    );
+    let (table, control) = bytes.split_at_mut(memory_layout::entry_at::<C>(slot_count));
+    let (header, entries) = table.split_at_mut(HEADER_SIZE);
     memory_layout::write_header::<C>(header, slot_count, item_count, max_load_factor);
     control.fill(FREE);
     insert_walk::<C::EncodedKey, C::EncodedValue, C::H>(control, entries, walk);

@@ -11,4 +11,4 @@ pub use crate::raw_table::{Entries, EntryMetadata};
 pub use allocation::Allocation;
 pub use header::{HEADER_SIZE, Header, write_header};
 pub use new_tables::{allocate, init_in_place};
-pub use sizes::{bytes_needed, layout_for};
+pub use sizes::{bytes_needed, entry_at, layout_for};

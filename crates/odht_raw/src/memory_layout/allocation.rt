@@ -10,7 +10,7 @@ ghost use Rattle.std.specs.Result.{result_err};
 ghost use Rattle.odht_raw.specs.Frame.{IsAccepted};
 ghost use Rattle.odht_raw.specs.Refusals.{opening_refusal, view_refusal};
 
-use super::{Entries, EntryMetadata, HEADER_SIZE, Header};
+use super::{Entries, EntryMetadata, HEADER_SIZE, Header, entry_at};
 use crate::bytes::{ByteArray, ByteStore};
 use crate::config::{Coded, Config};
 use crate::error::Error;
@@ -144,7 +144,7 @@ impl<C: Config, M: ByteStore> Allocation<C, M> {
     {
         let bytes = self.store.bytes();
         let slots = Header::of(bytes).slot_count();
-        let control = HEADER_SIZE + slots * (C::EncodedKey::LEN + C::EncodedValue::LEN);
+        let control = entry_at::<C>(slots);
         (
             &bytes[control..],
             Entries::new(&bytes[HEADER_SIZE..control], slots),

@@ -1,5 +1,6 @@
 //! How long tables are.
 ghost use Rattle.std.specs.Prelude.{◌≡◌, ◌+◌, ◌-◌, ◌*◌, ◌<◌, ◌≤◌, ◌^◌, ◌↔◌, MatchOption, IfSome, IsNone};
+ghost use Rattle.odht_base.specs.Format.{entry_len};
 ghost use Rattle.odht_base.specs.Image.{image_len};
 ghost use Rattle.odht_raw.specs.Layouts.{IsLayout};
 ghost use Rattle.odht_raw.specs.Refusals.{IsTooLarge};
@@ -38,6 +39,15 @@ pub fn layout_for<C: Config>(
     let slot_count = slots_needed(max_item_count, max_load_factor)?;
     let len = bytes_needed::<C>(slot_count)?;
     Some((slot_count, len))
+}
+
+/// Where the entry of a slot begins in the bytes of a table; for the number of slots, where the control bytes begin.
+#[inline(always)]
+pub fn entry_at<C: Config>(slot: usize) -> usize
+    requires { 32 + slot * entry_len ⟦<C as Coded>⟧.coding.format ≤ usize.MAX }
+    ensures { result ≡ 32 + slot * entry_len ⟦<C as Coded>⟧.coding.format }
+{
+    HEADER_SIZE + slot * (C::EncodedKey::LEN + C::EncodedValue::LEN)
 }
 
 // How many bytes a table of `slot_count` slots has.

@@ -11,7 +11,7 @@ use super::Allocation;
 use crate::bytes::{ByteArray, ByteStoreMut};
 use crate::config::{Coded, Config};
 use crate::memory_layout::header::ITEM_COUNT_AT;
-use crate::memory_layout::{EntryMetadata, HEADER_SIZE};
+use crate::memory_layout::{EntryMetadata, entry_at};
 use crate::writes;
 
 impl<C: Config, M: ByteStoreMut> Allocation<C, M> {
@@ -46,11 +46,9 @@ impl<C: Config, M: ByteStoreMut> Allocation<C, M> {
             (record { key = C.EncodedKey.bytes key.now; value = C.EncodedValue.bytes value.now }) }
     {
         let slots = self.header().slot_count();
-        let entry_len = C::EncodedKey::LEN + C::EncodedValue::LEN;
         let store = &mut self.store;
-        writes::write_pair(store, HEADER_SIZE + slot * entry_len, key, value);
-        let control = HEADER_SIZE + slots * entry_len;
-        writes::write_tag(store, control, slots, slot, tag);
+        writes::write_pair(store, entry_at::<C>(slot), key, value);
+        writes::write_tag(store, entry_at::<C>(slots), slots, slot, tag);
     }
 
     /// Writes the value alone into the entry of a slot.
@@ -64,7 +62,6 @@ impl<C: Config, M: ByteStoreMut> Allocation<C, M> {
         ensures value { IsBytes C.EncodedValue.LEN (C.EncodedValue.bytes value.now) }
     {
         let store = &mut self.store;
-        let entry = HEADER_SIZE + slot * (C::EncodedKey::LEN + C::EncodedValue::LEN);
-        store.write_at(entry + C::EncodedKey::LEN, value.as_slice());
+        store.write_at(entry_at::<C>(slot) + C::EncodedKey::LEN, value.as_slice());
     }
 }

@@ -1,4 +1,4 @@
-use Rattle.std.proofs.Common.{◌≡◌, ◌∙◌, sym, ap, subst, refl, arith, length, Some}
+use Rattle.std.proofs.Common.{◌≡◌, ◌∙◌, sym, ap, subst, refl, arith, length}
 use Rattle.std.specs.Prelude.{option_map}
 use Rattle.odht_base.specs.Format.{format_of}
 use Rattle.odht_base.specs.Load.{factor_of}

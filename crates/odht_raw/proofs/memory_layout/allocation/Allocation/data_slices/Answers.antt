@@ -7,6 +7,7 @@ use Rattle.odht_base.proofs.lemmas.Fits.{IsSized-IsPlaced}
 use Rattle.odht_base.proofs.lemmas.Image.{entries_of-image, controls_of-image}
 use Rattle.odht_raw.proofs.lemmas.Accepted.{accepted_opening, accepted_len, accepted_slots}
 use Rattle.odht_raw.proofs.memory_layout.allocation.Allocation.data_slices.Given.{Over}
+use Rattle.odht_raw.proofs.memory_layout.allocation.Allocation.data_slices.Goals.{After-entry_at-control}
 use Rattle.odht_raw.proofs.memory_layout.allocation.Allocation.data_slices.Goals as goal
 
 pub of-requires : goal.of-requires
@@ -15,24 +16,16 @@ of-requires g c =
     let long = (accepted_opening F (g.M.ByteStore.bytes c.self.inside.store) c.self.invariant.0).long in
     rw (c.bytes-bytes.ensures) long
 
-pub overflow_mul-control : goal.overflow_mul-control
-overflow_mul-control g c =
-    let F = format_of g.C.EncodedKey.ByteArray.LEN g.C.EncodedValue.ByteArray.LEN g.C.H.HashFn.hash in
-    let long = accepted_len F (g.M.ByteStore.bytes c.self.inside.store) c.self.invariant.0 in
-    rw (c.LEN.ensures, c.LEN-2.ensures, c.slot_count-slots.ensures, c.of.ensures, c.bytes-bytes.ensures) (omega (arith, long, c.self.invariant.1))
-
-pub overflow_add-control-2 : goal.overflow_add-control-2
-overflow_add-control-2 g c =
-    let F = format_of g.C.EncodedKey.ByteArray.LEN g.C.EncodedValue.ByteArray.LEN g.C.H.HashFn.hash in
-    let long = accepted_len F (g.M.ByteStore.bytes c.self.inside.store) c.self.invariant.0 in
-    rw (c.LEN.ensures, c.LEN-2.ensures, c.slot_count-slots.ensures, c.of.ensures, c.bytes-bytes.ensures) (omega (arith, long, c.self.invariant.1))
+pub entry_at-control-requires-after_bounds : goal.entry_at-control-requires-after_bounds
+entry_at-control-requires-after_bounds g c κs within =
+    let long = accepted_len (format_of g.C.EncodedKey.ByteArray.LEN g.C.EncodedValue.ByteArray.LEN g.C.H.HashFn.hash) (g.M.ByteStore.bytes c.self.inside.store) c.self.invariant.0 in
+    rw (c.slot_count-slots.ensures, c.of.ensures, c.bytes-bytes.ensures) (omega (arith, long, c.self.invariant.1))
 
 -- the control bytes begin within the bytes
-begins : (g : Over) (c : goal.After-LEN-2 g) → 32 + c.slot_count-slots.result * (c.LEN.result + c.LEN-2.result) ≤ length c.bytes-bytes.result.now
+begins : (g : Over) (c : After-entry_at-control g) → c.entry_at-control.result ≤ length c.bytes-bytes.result.now
 begins g c =
-    let F = format_of g.C.EncodedKey.ByteArray.LEN g.C.EncodedValue.ByteArray.LEN g.C.H.HashFn.hash in
-    let long = accepted_len F (g.M.ByteStore.bytes c.self.inside.store) c.self.invariant.0 in
-    rw (c.LEN.ensures, c.LEN-2.ensures, c.slot_count-slots.ensures, c.of.ensures, c.bytes-bytes.ensures) (omega (arith, long))
+    let long = accepted_len (format_of g.C.EncodedKey.ByteArray.LEN g.C.EncodedValue.ByteArray.LEN g.C.H.HashFn.hash) (g.M.ByteStore.bytes c.self.inside.store) c.self.invariant.0 in
+    rw (c.entry_at-control.ensures, c.slot_count-slots.ensures, c.of.ensures, c.bytes-bytes.ensures) (omega (arith, long))
 
 pub slice_bounds-result-count : goal.slice_bounds-result-count
 slice_bounds-result-count g c = begins g c
@@ -42,19 +35,18 @@ slice_bounds-result-start g c = begins g c
 
 pub slice_bounds-new-end : goal.slice_bounds-new-end
 slice_bounds-new-end g c =
-    let F = format_of g.C.EncodedKey.ByteArray.LEN g.C.EncodedValue.ByteArray.LEN g.C.H.HashFn.hash in
-    let long = accepted_len F (g.M.ByteStore.bytes c.self.inside.store) c.self.invariant.0 in
-    let end : 32 + c.slot_count-slots.result * (c.LEN.result + c.LEN-2.result) ≤ length c.bytes-bytes.result.now = rw (c.LEN.ensures, c.LEN-2.ensures, c.slot_count-slots.ensures, c.of.ensures, c.bytes-bytes.ensures) (omega (arith, long)) in
+    let long = accepted_len (format_of g.C.EncodedKey.ByteArray.LEN g.C.EncodedValue.ByteArray.LEN g.C.H.HashFn.hash) (g.M.ByteStore.bytes c.self.inside.store) c.self.invariant.0 in
+    let end : c.entry_at-control.result ≤ length c.bytes-bytes.result.now = rw (c.entry_at-control.ensures, c.slot_count-slots.ensures, c.of.ensures, c.bytes-bytes.ensures) (omega (arith, long)) in
     end
 
 pub returns-clause-control : goal.returns-clause-control
 returns-clause-control g c =
     let b = c.bytes-bytes.result.now in
-    let at = 32 + c.slot_count-slots.result * (c.LEN.result + c.LEN-2.result) in
+    let at = c.entry_at-control.result in
     let slots : c.slot_count-slots.result ≡ stated_slots (g.M.ByteStore.bytes c.args.self.now) = c.slot_count-slots.ensures ∙ ap stated_slots (c.of.ensures ∙ c.bytes-bytes.ensures ∙ (ap g.M.ByteStore.bytes c.self.view_is)) in
     let rest = length-drop at b in
     take_all (length b - at) (drop at b) (omega (arith, rest))
-    ∙ (λ i. drop (32 + slots i * (c.LEN.ensures i + c.LEN-2.ensures i)) ((c.bytes-bytes.ensures ∙ (ap g.M.ByteStore.bytes c.self.view_is)) i))
+    ∙ (λ i. drop ((c.entry_at-control.ensures ∙ ap (λ n. 32 + n * entry_len (format_of g.C.EncodedKey.ByteArray.LEN g.C.EncodedValue.ByteArray.LEN g.C.H.HashFn.hash)) slots) i) ((c.bytes-bytes.ensures ∙ (ap g.M.ByteStore.bytes c.self.view_is)) i))
 
 pub returns-clause-entries : goal.returns-clause-entries
 returns-clause-entries g c = search rules

@@ -23,9 +23,9 @@ accepted g c =
     let D = overwritten_at B (32 + slot * entry_len F) d in
     let same : length D ≡ length B = length-overwritten_at B (32 + slot * entry_len F) d fits in
     let entry : g.M.ByteStore.bytes c.write_pair.new.store ≡ D =
-    c.write_pair.ensures.bytes ∙ (λ i. overwritten_at (g.M.ByteStore.bytes (c.self.view_is i)) (32 + slot * (c.LEN.ensures i + c.LEN-2.ensures i)) d) in
+    c.write_pair.ensures.bytes ∙ (λ i. overwritten_at (g.M.ByteStore.bytes (c.self.view_is i)) (c.entry_at.ensures i) d) in
     let tag : g.M.ByteStore.bytes c.write_tag.new.store ≡ tagged_at D (32 + stated_slots B * entry_len F + slot) (stated_slots B) slot c.args.tag =
-    c.write_tag.ensures.bytes ∙ (λ i. tagged_at (entry i) (32 + slots i * (c.LEN.ensures i + c.LEN-2.ensures i) + slot) (slots i) slot c.args.tag) in
+    c.write_tag.ensures.bytes ∙ (λ i. tagged_at (entry i) ((c.entry_at-2.ensures ∙ ap (λ n. 32 + n * entry_len F) slots) i + slot) (slots i) slot c.args.tag) in
     subst (IsAccepted F) (sym tag)
     (IsAccepted-tagged_at F D (IsAccepted-overwritten_at F B is (32 + slot * entry_len F) d (omega arith) fits) (32 + stated_slots B * entry_len F + slot) (stated_slots B) slot c.args.tag
     (omega arith) (accepted_control F B is D slot same c.requires) (accepted_mirror F B is D slot same))
