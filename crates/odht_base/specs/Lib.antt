@@ -3,6 +3,8 @@
 pub mod Numbers
 -- lists of bytes: a piece of them, and a write to them
 pub mod Bytes
+-- room of a fixed length that is filled with other bytes
+pub mod Refills
 -- the hash functions
 pub mod Hashes
 -- their law: a hash has 32 bits

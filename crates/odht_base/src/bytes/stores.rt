@@ -1,7 +1,9 @@
 //! Stores of bytes, which tables live in.
 ghost use Rattle.std.specs.Prelude.{◌≡◌, ℕ, ◌+◌, ◌≤◌, List, length, refl};
+ghost use Rattle.std.specs.Borrow.{sem, Lends, Array, u8};
 ghost use Rattle.std.proofs.Common.{ap};
 ghost use Rattle.odht_base.specs.Bytes.{overwritten_at};
+ghost use Rattle.odht_base.specs.Refills.{refilled, refilled-fits};
 
 use std::marker::Model;
 
@@ -17,20 +19,32 @@ pub trait ByteStore: Drop {
 /// A place whose bytes can be overwritten, and which stays the same place.
 ///
 /// A contract names the place that holds other bytes by the ghost member `holding`. So who lends a place learns what it
-/// holds when it is handed back. Three laws say that nothing but the bytes tells one state of a place from another:
-/// it holds what it was told to hold, only the last bytes matter, and with the bytes that it has it is as it is.
+/// holds when it is handed back. Three laws say that nothing but the bytes tells one state of a place from another: it
+/// holds what it was told to hold, only the last bytes matter, and with the bytes that it has it is as it is.
 ///
 /// So what a store keeps beside its bytes must stay as it is on a write. A count of the writes, say, is for the store's
 /// `Model` to leave out.
 pub trait ByteStoreMut: ByteStore {
     ghost holding: { Self → List ℕ → Self };
 
+    // the place when the bytes that it lent end as these
+    ghost lent: { Self → List ℕ → Self };
+
+    /// All of its bytes, to be written: the place then holds what is left in them.
+    fn bytes_mut(&mut self) -> &mut [u8]
+        ensures* writes_back { sem 𝓛 (Lends Self.row (Array u8 0) self.entry result (lent self.old)) }
+        ensures value { result.now ≡ Self.bytes self.old };
+
     /// Writes `data` from the byte `at` on. No other byte changes.
-    fn write_at(&mut self, at: usize, data: &[u8])
+    #[inline(always)]
+    final fn write_at(&mut self, at: usize, data: &[u8])
         requires { at + length «data».now ≤ length (Self.bytes self.old) }
         ensures bytes { Self.bytes self.new ≡ overwritten_at (Self.bytes self.old) at «data».now }
         ensures len { length (Self.bytes self.new) ≡ length (Self.bytes self.old) }
-        ensures place { self.new ≡ holding self.old (Self.bytes self.new) };
+        ensures place { self.new ≡ holding self.old (Self.bytes self.new) }
+    {
+        write_slice(self.bytes_mut(), at, data)
+    }
 
     // it holds the bytes that it was told to hold
     ghost held: { (s : Self) (b : List ℕ) → Self.bytes (holding s b) ≡ b };
@@ -40,6 +54,9 @@ pub trait ByteStoreMut: ByteStore {
 
     // with the bytes that it has it is as it is
     ghost held_same: { (s : Self) → holding s (Self.bytes s) ≡ s };
+
+    // a slice keeps its length, and with as many bytes it holds just these
+    ghost lent_fits: { (s : Self) (b : List ℕ) → length b ≡ length (Self.bytes s) → lent s b ≡ holding s b };
 }
 
 // A place that is lent: what is written to it stands in the place itself.
@@ -55,15 +72,19 @@ impl<M: ByteStore> ByteStore for &mut M {
 impl<M: ByteStoreMut> ByteStoreMut for &mut M {
     ghost holding = { λ s b. record s { now = M.holding s.now b } };
 
+    ghost lent = { λ s b. record s { now = M.lent s.now b } };
+
     ghost held = { λ s b. M.held s.now b };
 
     ghost held_last = { λ s a b. ap (λ n. record s { now = n }) (M.held_last s.now a b) };
 
     ghost held_same = { λ s. ap (λ n. record s { now = n }) (M.held_same s.now) };
 
+    ghost lent_fits = { λ s b fits. ap (λ n. record s { now = n }) (M.lent_fits s.now b fits) };
+
     #[inline(always)]
-    fn write_at(&mut self, at: usize, data: &[u8]) {
-        M::write_at(&mut **self, at, data)
+    fn bytes_mut(&mut self) -> &mut [u8] {
+        M::bytes_mut(&mut **self)
     }
 }
 
@@ -127,15 +148,19 @@ impl ByteStore for BorrowedMut<'_> {
 impl ByteStoreMut for BorrowedMut<'_> {
     ghost holding = { λ s b. record s { 0 = record s.0 { now = b } } };
 
+    ghost lent = { λ s b. record s { 0 = record s.0 { now = b } } };
+
     ghost held = { λ s b. refl };
 
     ghost held_last = { λ s a b. refl };
 
     ghost held_same = { λ s. refl };
 
+    ghost lent_fits = { λ s b fits. refl };
+
     #[inline(always)]
-    fn write_at(&mut self, at: usize, data: &[u8]) {
-        write_slice(self.0, at, data)
+    fn bytes_mut(&mut self) -> &mut [u8] {
+        &mut *self.0
     }
 }
 
@@ -180,15 +205,19 @@ impl ByteStore for OwnedBytes {
 impl ByteStoreMut for OwnedBytes {
     ghost holding = { λ s b. b };
 
+    ghost lent = { refilled };
+
     ghost held = { λ s b. refl };
 
     ghost held_last = { λ s a b. refl };
 
     ghost held_same = { λ s. refl };
 
+    ghost lent_fits = { refilled-fits };
+
     #[inline(always)]
-    fn write_at(&mut self, at: usize, data: &[u8]) {
-        write_slice(self.0.as_mut_slice(), at, data)
+    fn bytes_mut(&mut self) -> &mut [u8] {
+        self.0.as_mut_slice()
     }
 }
 
