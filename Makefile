@@ -1,4 +1,5 @@
-# make run: the program on its first script, or on SCRIPT=file; make test: the gate
+# make run: the program on its first script, or on SCRIPT=file, in a build without proofs; make test: the gate
+# make build: the program with its proofs, as a file
 # make examples: both examples, compared with what they must print
 # make bench: the table of speeds; QUICK=1 for a short run, ODHT_RUST=folder for the Rust crate beside it
 SCRIPT ?= crates/odht_table/stdin
@@ -7,10 +8,14 @@ LIBRARIES = odht_base odht_raw odht
 LIBRARY ?= crates/odht_c/out/libodht_c.a
 QUICK ?=
 ODHT_RUST ?=
-.PHONY: run test examples bench FORCE
+.PHONY: run build test examples bench FORCE
 run:
+	@cd crates/odht_table && rt try < $(abspath $(SCRIPT))
+
+build:
 	@for crate in $(LIBRARIES); do (cd crates/$$crate && rt lib >&2) || exit 1; done
-	@cd crates/odht_table && rt run < $(abspath $(SCRIPT))
+	@cd crates/odht_table && rt run < stdin >&2
+	@echo crates/odht_table/out/odht_table
 
 test:
 	rt ci

@@ -2,7 +2,7 @@
 ghost use Rattle.std.specs.Int.{w32, w64, to_le_bytes, from_le_bytes};
 ghost use Rattle.std.proofs.Common.{lit≤};
 
-use odht::config::Config;
+use odht::config::{Config, Lossless};
 use odht::hash::FxHashFn;
 
 /// A table from `u64` to `u32`. Both stand in the bytes with their lowest byte first.
@@ -48,5 +48,16 @@ impl Config for MyConfig {
 
     fn decode_value(v: &[u8; 4]) -> u32 {
         u32::from_le_bytes(*v)
+    }
+}
+
+// A number that is read is known to fit its bytes.
+impl Lossless for MyConfig {
+    fn key_kept(k: &u64) {
+        let _key = *k;
+    }
+
+    fn value_kept(v: &u32) {
+        let _value = *v;
     }
 }

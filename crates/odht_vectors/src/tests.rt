@@ -1,0 +1,12 @@
+//! What neither a contract nor a vector says: the tests that the Rust crate has, lists beside a map of std, tables without a
+//! free slot, and want of memory.
+mod builds;
+mod carried_items;
+mod checks;
+mod errors;
+mod full_tables;
+mod list_properties;
+mod lossless;
+mod owned_tables;
+mod probe_sequences;
+mod random;

@@ -1,0 +1,181 @@
+//! Tables that own their bytes: growth, copies, and what a refused allocation leaves.
+ghost use Rattle.std.specs.Prelude.{◌≤◌};
+
+use crate::configs::U32ToU32;
+use crate::tests::checks::{holds_at, same, same_answer, same_bytes, same_len, same_value};
+use crate::tests::probe_sequences::slots_for;
+use odht::bytes::OwnedBytes;
+use odht::error::Error;
+use odht::load::Factor;
+use odht::memory_layout::{Allocation, allocate};
+use odht::raw_table::probe_order;
+use odht::{Config, HashTableOwned};
+use std::alloc::Global;
+use std::process::Abort;
+
+// Takes the first refusal of memory in a test, and no other.
+#[derive(Drop)]
+struct OneRefusal {
+    is_met: bool,
+}
+
+impl OneRefusal {
+    fn new() -> Self {
+        OneRefusal { is_met: false }
+    }
+
+    // Demands that this is a refusal of memory and the first.
+    fn take(&mut self, rt: &impl Abort, refusal: Error) {
+        same(rt, "the refusal", refusal, Error::Memory);
+        assert!(rt; !self.is_met, "memory was refused twice");
+        self.is_met = true;
+    }
+
+    // What is made, at the second try where memory was refused at the first.
+    fn made<T, F: Fn() -> Result<T, Error> + Drop>(&mut self, rt: &impl Abort, make: F) -> T
+        requires { F.IsAlwaysCallable make }
+    {
+        match make() {
+            Ok(table) => table,
+            Err(refusal) => {
+                self.take(rt, refusal);
+                make().expect(rt, "refused at the second try")
+            }
+        }
+    }
+
+    // A table of this capacity, as `made` makes what it is given.
+    fn table<C: Config>(
+        &mut self,
+        rt: &impl Abort,
+        alloc: Global,
+        capacity: usize,
+        percent: u8,
+    ) -> HashTableOwned<C>
+        requires low { 1 ≤ percent }
+        requires high { percent ≤ 100 }
+    {
+        match HashTableOwned::with_capacity(alloc, capacity, percent) {
+            Ok(table) => table,
+            Err(refusal) => {
+                self.take(rt, refusal);
+                HashTableOwned::with_capacity(alloc, capacity, percent).expect(
+                    rt,
+                    "refused at the second try",
+                )
+            }
+        }
+    }
+
+    // Inserts, and once more where memory was refused, which is to change nothing.
+    fn insert<C: Config>(
+        &mut self,
+        rt: &impl Abort,
+        table: &mut HashTableOwned<C>,
+        key: &C::Key,
+        value: &C::Value,
+    ) -> Option<C::Value> {
+        let before = fingerprint(table);
+        match table.insert(key, value) {
+            Ok(old) => old,
+            Err(refusal) => {
+                self.take(rt, refusal);
+                let found = fingerprint(table);
+                same(rt, "what a refused insert leaves", found, before);
+                table
+                    .insert(key, value)
+                    .expect(rt, "refused at the second try")
+            }
+        }
+    }
+}
+
+// What differs, but by rare chance, where a table does: its item count, how many bytes it has, and a sum of them.
+fn fingerprint<C: Config>(table: &HashTableOwned<C>) -> (usize, usize, u64) {
+    let bytes = table.raw_bytes();
+    let mut sum: u64 = 0;
+    for byte in bytes {
+        sum = sum.wrapping_mul(1099511628211).wrapping_add(*byte as u64);
+    }
+    (table.len(), bytes.len(), sum)
+}
+
+// Inserts the keys from 0 to below `end`, each with its own number and 100 more as its value.
+fn fill(rt: &impl Abort, once: &mut OneRefusal, table: &mut HashTableOwned<U32ToU32>, end: u32)
+    requires { end ≤ 100 }
+{
+    for key in 0..end {
+        same_value(rt, key, once.insert(rt, table, &key, &(key + 100)), None);
+        same_len(rt, "items", table.len(), key as usize + 1);
+    }
+}
+
+// Demands the values that `fill` gives the keys from `start` to below `end`.
+fn check_filled(rt: &impl Abort, table: &HashTableOwned<U32ToU32>, start: u32, end: u32)
+    requires { end ≤ 100 }
+{
+    for key in start..end {
+        same_value(rt, key, table.get(&key), Some(key + 100));
+        holds_at(rt, "key", key as usize, table.contains_key(&key));
+    }
+}
+
+// Demands that the keys from `start` to below `end` are absent.
+fn check_absent(rt: &impl Abort, table: &HashTableOwned<U32ToU32>, start: u32, end: u32) {
+    for key in start..end {
+        same_value(rt, key, table.get(&key), None);
+        holds_at(rt, "no key", key as usize, !table.contains_key(&key));
+    }
+}
+
+// The table of the bytes of another.
+fn copied<C: Config>(alloc: Global, table: &HashTableOwned<C>) -> Result<HashTableOwned<C>, Error> {
+    HashTableOwned::from_raw_bytes_unchecked(alloc, table.raw_bytes())
+}
+
+#[test]
+fn empty_tables(rt: HostRuntime) {
+    let (mut once, alloc) = (OneRefusal::new(), rt.alloc());
+    let table: HashTableOwned<U32ToU32> = once.made(&rt, || HashTableOwned::default(alloc));
+    let slots = slots_for(&rt, 15);
+    let factor = Factor::from_percent(87);
+    let allocation: Allocation<U32ToU32, OwnedBytes> = once.made(&rt, || {
+        allocate(alloc, slots, 0, factor)
+    });
+    same_bytes(&rt, "bytes", allocation.raw_bytes(), table.raw_bytes());
+    check_absent(&rt, &table, 0, 3);
+}
+
+#[test]
+fn an_order_that_may_be_refused_memory(rt: HostRuntime) {
+    let (mut once, alloc) = (OneRefusal::new(), rt.alloc());
+    let slots = slots_for(&rt, 63);
+    assert!(rt; slots > 40);
+    let order = once.made(&rt, || probe_order(alloc, 40, slots));
+    same_len(&rt, "slots", order.len(), 64);
+}
+
+// As the Rust crate's test of growth has it.
+#[test]
+fn a_hundred_items(rt: HostRuntime) {
+    let (mut once, alloc) = (OneRefusal::new(), rt.alloc());
+    let mut table: HashTableOwned<U32ToU32> = once.table(&rt, alloc, 10, 87);
+    fill(&rt, &mut once, &mut table, 100);
+    same_len(&rt, "bytes", table.raw_bytes().len(), 1200);
+    check_filled(&rt, &table, 0, 100);
+    check_absent(&rt, &table, 100, 200);
+}
+
+#[test]
+fn copies_have_the_same_bytes(rt: HostRuntime) {
+    let (mut once, alloc) = (OneRefusal::new(), rt.alloc());
+    let mut table: HashTableOwned<U32ToU32> = once.table(&rt, alloc, 3, 95);
+    same_answer(&rt, 1, table.insert(&1, &2), Ok(None));
+    let cloned = once.made(&rt, || table.clone());
+    let copied = once.made(&rt, || copied(alloc, &table));
+    same_bytes(&rt, "the clone", cloned.raw_bytes(), table.raw_bytes());
+    same_bytes(&rt, "the copy", copied.raw_bytes(), table.raw_bytes());
+    same_answer(&rt, 1, table.insert(&1, &9), Ok(Some(2)));
+    same_value(&rt, 1, cloned.get(&1), Some(2));
+    same_value(&rt, 1, copied.get(&1), Some(2));
+}
