@@ -10,3 +10,4 @@ mod lossless;
 mod owned_tables;
 mod probe_sequences;
 mod random;
+mod walks;
