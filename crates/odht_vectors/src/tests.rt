@@ -10,4 +10,5 @@ mod lossless;
 mod owned_tables;
 mod probe_sequences;
 mod random;
+mod refused_places;
 mod walks;

@@ -112,10 +112,10 @@ impl Run {
 
     // Runs a line once for each number of a range.
     fn each(&mut self, words: &str, output: &mut impl Write) -> Result<(), Fault> {
-        let Some((first, last, line)) = range_and_line(words) else {
+        let Some((first, end, line)) = range_and_line(words) else {
             return self.fail(words, "not understood", output);
         };
-        for number in first..last.wrapping_add(1) {
+        for number in first..end {
             let line = with_number(self.alloc, line, number)?;
             self.case(line.as_str(), output)?;
         }
@@ -180,11 +180,17 @@ impl Run {
     }
 }
 
-// The first and the last number of a range, and the line behind them.
+// The first number of a range, the one behind its last, and the line behind these words. No range is empty.
 fn range_and_line(words: &str) -> Option<(usize, usize, &str)> {
     let (first, rest) = words.split_once(' ')?;
     let (last, line) = rest.split_once(' ')?;
-    Some((number(first).ok()?, number(last).ok()?, line))
+    let first = number(first).ok()?;
+    let end = number(last).ok()?.checked_add(1)?;
+    if first < end {
+        Some((first, end, line))
+    } else {
+        None
+    }
 }
 
 // The line with the number in decimal digits for `{}`, and its lowest byte in hexadecimal digits for `{x}`.

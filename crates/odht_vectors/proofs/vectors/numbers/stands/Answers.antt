@@ -1,4 +1,4 @@
-use Rattle.std.proofs.Common.{arith, ◌≡◌, ◌∙◌, ◌+◌, ◌*◌, ◌/◌, ◌<◌, ◌≤◌, sym, mul-le-mul_right}
+use Rattle.std.proofs.Common.{arith, ◌≡◌, ◌+◌, ◌*◌, ◌/◌, ◌≤◌, sym, mul-le-mul_right}
 use Rattle.std.proofs.Math.Nat.{div-mul-le_self}
 use Rattle.odht_raw.proofs.lemmas.ProbeSteps.{divisor_pos}
 use Rattle.odht_vectors.proofs.vectors.numbers.stands.Goals as goal

@@ -1,0 +1,39 @@
+//! Places for a new table that are refused: no contract can say of a place that was moved that it stays as it was.
+use crate::configs::U32ToU32;
+use crate::tests::checks::{same, same_bytes};
+use odht::HashTable;
+use odht::bytes::BorrowedMut;
+use odht::error::Error;
+use std::process::Abort;
+
+// Asks for a new table in the place, which is refused, and demands its bytes as they were.
+fn check_refused<const N: usize>(
+    rt: &impl Abort,
+    bytes: &mut [u8; N],
+    items: usize,
+    expected: Error,
+) {
+    let before = *bytes;
+    let made: Result<HashTable<U32ToU32, BorrowedMut<'_>>, Error> = HashTable::init_in_place(
+        BorrowedMut::new(bytes),
+        items,
+        87,
+    );
+    same(rt, "the refusal", made.err(), Some(expected));
+    same_bytes(rt, "the place", bytes, &before);
+}
+
+#[test]
+fn refused_places_stay(rt: HostRuntime) {
+    let short = Error::InitLength {
+        found: 191,
+        expected: 192,
+    };
+    check_refused(&rt, &mut [0x5a; 191], 0, short);
+    let long = Error::InitLength {
+        found: 193,
+        expected: 192,
+    };
+    check_refused(&rt, &mut [0x5a; 193], 13, long);
+    check_refused(&rt, &mut [0x5a; 192], 1 << 63, Error::Capacity);
+}
