@@ -51,7 +51,7 @@ impl Config for MyConfig {
     }
 }
 
-// A number that is read is known to fit its bytes.
+// Each key and each value comes back from its bytes as it was, so no two keys are taken for one.
 impl Lossless for MyConfig {
     fn key_kept(k: &u64) {
         let _key = *k;

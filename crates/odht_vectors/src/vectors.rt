@@ -83,6 +83,9 @@ impl Run {
         for line in text.lines() {
             self.line(line, output)?;
         }
+        if self.title.is_empty() {
+            return self.fail("a file", "without a section", output);
+        }
         self.end_section(output)
     }
 
@@ -103,6 +106,9 @@ impl Run {
             self.title = String::from_str(self.alloc, title)?;
             self.config.clear();
             return Ok(());
+        }
+        if self.title.is_empty() {
+            return self.fail(line, "in no section", output);
         }
         match line.strip_prefix("each ") {
             Some(words) => self.each(words, output),
@@ -163,20 +169,20 @@ impl Run {
         written(writeln!(output, "{line}\n    {found}"))
     }
 
-    // A section holds a case at least.
+    // Tells of the section that ends, of which one case has to hold.
     fn end_section(&mut self, output: &mut impl Write) -> Result<(), Fault> {
-        let held = self.held_here;
-        self.held_here = 0;
-        self.held = self.held.wrapping_add(held);
         if self.title.is_empty() {
             return Ok(());
         }
+        let held = self.held_here;
+        self.held_here = 0;
+        self.held = self.held.wrapping_add(held);
         written(writeln!(output, "{}: {held} held", self.title.as_str()))?;
         if held > 0 {
             return Ok(());
         }
         self.failed = self.failed.wrapping_add(1);
-        written(writeln!(output, "    an empty section"))
+        written(writeln!(output, "    a section where none held"))
     }
 }
 
@@ -213,7 +219,7 @@ fn answer_of(words: &Words<'_>, config: &str, asked: &[&str]) -> Result<Answer, 
         return Err(Fault::Unread);
     };
     if config.is_empty() {
-        return numbers::answer(words.alloc, words, *call, args);
+        return numbers::answer(words, *call, args);
     }
     let config: Vec<&str> = config.split(' ').collect(words.alloc)?;
     let [name, shape @ ..] = config.as_slice() else {

@@ -20,7 +20,8 @@ pub trait ByteStore: Drop {
 ///
 /// A contract names the place that holds other bytes by the ghost member `holding`. So who lends a place learns what it
 /// holds when it is handed back. Three laws say that nothing but the bytes tells one state of a place from another: it
-/// holds what it was told to hold, only the last bytes matter, and with the bytes that it has it is as it is.
+/// holds what it was told to hold, only the last bytes matter, and with the bytes that it has it is as it is. What it
+/// holds once lent bytes have come back is `lent`; as many bytes as it has are what it holds then (`lent_fits`).
 ///
 /// So what a store keeps beside its bytes must stay as it is on a write. A count of the writes, say, is for the store's
 /// `Model` to leave out.

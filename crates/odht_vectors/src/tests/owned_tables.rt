@@ -133,6 +133,24 @@ fn copied<C: Config>(alloc: Global, table: &HashTableOwned<C>) -> Result<HashTab
     HashTableOwned::from_raw_bytes_unchecked(alloc, table.raw_bytes())
 }
 
+// The bytes of a new table of 16 slots at 87 percent, keys and values of four bytes: header, entries, control bytes.
+fn new_table() -> [u8; 192] {
+    let mut bytes = [255; 192];
+    bytes[..32].copy_from_slice(b"ODHT\x01\x04\x04\x20\0\0\0\0\0\0\0\0\x10\0\0\0\0\0\0\0\0\0\0\x02\xb7\xde\0\0");
+    bytes[32..160].fill(0);
+    bytes
+}
+
+// The same with the pair of 1 and 2, which stands in slot 5 with tag 19.
+fn table_of_a_pair() -> [u8; 192] {
+    let mut bytes = new_table();
+    bytes[8] = 1;
+    bytes[72..80].copy_from_slice(&[1, 0, 0, 0, 2, 0, 0, 0]);
+    bytes[165] = 19;
+    bytes[181] = 19;
+    bytes
+}
+
 #[test]
 fn empty_tables(rt: HostRuntime) {
     let (mut once, alloc) = (OneRefusal::new(), rt.alloc());
@@ -142,8 +160,8 @@ fn empty_tables(rt: HostRuntime) {
     let allocation: Allocation<U32ToU32, OwnedBytes> = once.made(&rt, || {
         allocate(alloc, slots, 0, factor)
     });
-    same_bytes(&rt, "bytes", allocation.raw_bytes(), table.raw_bytes());
-    check_absent(&rt, &table, 0, 3);
+    same_bytes(&rt, "the default table", table.raw_bytes(), &new_table());
+    same_bytes(&rt, "the allocation", allocation.raw_bytes(), &new_table());
 }
 
 #[test]
@@ -169,12 +187,13 @@ fn a_hundred_items(rt: HostRuntime) {
 #[test]
 fn copies_have_the_same_bytes(rt: HostRuntime) {
     let (mut once, alloc) = (OneRefusal::new(), rt.alloc());
-    let mut table: HashTableOwned<U32ToU32> = once.table(&rt, alloc, 3, 95);
+    let mut table: HashTableOwned<U32ToU32> = once.table(&rt, alloc, 13, 87);
     same_answer(&rt, 1, table.insert(&1, &2), Ok(None));
     let cloned = once.made(&rt, || table.clone());
     let copied = once.made(&rt, || copied(alloc, &table));
-    same_bytes(&rt, "the clone", cloned.raw_bytes(), table.raw_bytes());
-    same_bytes(&rt, "the copy", copied.raw_bytes(), table.raw_bytes());
+    same_bytes(&rt, "the table", table.raw_bytes(), &table_of_a_pair());
+    same_bytes(&rt, "the clone", cloned.raw_bytes(), &table_of_a_pair());
+    same_bytes(&rt, "the copy", copied.raw_bytes(), &table_of_a_pair());
     same_answer(&rt, 1, table.insert(&1, &9), Ok(Some(2)));
     same_value(&rt, 1, cloned.get(&1), Some(2));
     same_value(&rt, 1, copied.get(&1), Some(2));

@@ -1,6 +1,7 @@
 //! What a call answers: a text, and for some calls the bytes of a table behind it.
 use super::Fault;
 use super::words::Words;
+use odht::bytes::ByteArray;
 use odht::error::Error;
 use std::alloc::{AllocError, Global};
 use std::fmt::{Display, Write};
@@ -67,22 +68,42 @@ impl Answer {
     pub fn written(self) -> Result<String, AllocError> {
         let Answer { mut text, bytes } = self;
         if let Some(bytes) = bytes {
-            add_word(&mut text, &"")?;
+            begin_word(&mut text)?;
             add_hex(&mut text, bytes.as_slice())?;
         }
         Ok(text)
     }
 }
 
+/// Begins a word behind the others.
+pub fn begin_word(text: &mut String) -> Result<(), AllocError> {
+    if text.is_empty() {
+        return Ok(());
+    }
+    text.push(' ')
+}
+
 /// Sets a word behind the others.
 pub fn add_word(text: &mut String, word: &impl Display) -> Result<(), AllocError> {
-    if !text.is_empty() {
-        text.push(' ')?;
-    }
+    begin_word(text)?;
     write!(text, "{word}")
 }
 
-/// Sets the hexadecimal digits of the bytes behind the text, and a line for no bytes.
+/// Sets what an insert answered behind the other words: the former value, `none`, `full`, or another refusal's text.
+pub fn add_former<V: ByteArray>(
+    text: &mut String,
+    former: Result<Option<V>, Error>,
+) -> Result<(), AllocError> {
+    begin_word(text)?;
+    match former {
+        Ok(Some(value)) => add_hex(text, value.as_slice()),
+        Ok(None) => text.push_str("none"),
+        Err(Error::Full) => text.push_str("full"),
+        Err(refused) => write!(text, "{refused}"),
+    }
+}
+
+/// Sets the hexadecimal digits of the bytes behind the text, and `-` for no bytes.
 pub fn add_hex(text: &mut String, bytes: &[u8]) -> Result<(), AllocError> {
     if bytes.is_empty() {
         return text.push('-');

@@ -12,18 +12,14 @@ use odht::swisstable_group_query::{Group, lanes, no_simd};
 use std::alloc::{AllocError, Global};
 
 /// The answer to a call.
-pub fn answer(
-    alloc: Global,
-    words: &Words<'_>,
-    call: &str,
-    args: &[&str],
-) -> Result<Answer, Fault> {
+pub fn answer(words: &Words<'_>, call: &str, args: &[&str]) -> Result<Answer, Fault> {
+    let alloc = words.alloc;
     match call {
         "factor" | "to_percent" | "apply" | "apply_inverse" => load_factor(alloc, call, args),
         "slots_needed" | "max_item_count" => slots(alloc, call, args),
         "probe_order" => order(alloc, args),
         "probe_places" => places(alloc, args),
-        "words" | "lanes" => group(alloc, words, call, args),
+        "words" | "lanes" => group(words, call, args),
         _ => Err(Fault::Unread),
     }
 }
@@ -154,7 +150,7 @@ pub fn stands<const SIZE: usize>(
 }
 
 // The matches of a tag in a group, and its first free byte.
-fn group(alloc: Global, words: &Words<'_>, call: &str, args: &[&str]) -> Result<Answer, Fault> {
+fn group(words: &Words<'_>, call: &str, args: &[&str]) -> Result<Answer, Fault> {
     let [bytes, tag] = args else {
         return Err(Fault::Unread);
     };
@@ -164,8 +160,8 @@ fn group(alloc: Global, words: &Words<'_>, call: &str, args: &[&str]) -> Result<
         return Err(Fault::Unread);
     }
     match call {
-        "words" => group_of::<no_simd::GroupQuery>(alloc, bytes.as_slice(), tag as u8),
-        _ => group_of::<lanes::GroupQuery>(alloc, bytes.as_slice(), tag as u8),
+        "words" => group_of::<no_simd::GroupQuery>(words.alloc, bytes.as_slice(), tag as u8),
+        _ => group_of::<lanes::GroupQuery>(words.alloc, bytes.as_slice(), tag as u8),
     }
 }
 

@@ -4,8 +4,8 @@ ghost use Rattle.std.specs.Prelude.{◌≤◌, IfOk};
 mod raw;
 
 use super::Fault;
-use super::answer::{Answer, add_hex, add_word};
-use super::words::{Words, number, percent};
+use super::answer::{Answer, add_former, add_hex, add_word, begin_word};
+use super::words::{Words, array, number, percent};
 use odht::bytes::{ByteArray, OwnedBytes};
 use odht::error::Error;
 use odht::hash::HashFn;
@@ -30,8 +30,8 @@ pub fn answer<C: Config>(
     match call {
         "hash" => hash_of::<C::H>(words, args),
         "bytes_needed" => needed::<C>(words.alloc, args),
-        "table_len" => len::<C>(words.alloc, args),
-        "new" => new::<C>(words.alloc, args),
+        "table_len" => table_len::<C>(words.alloc, args),
+        "new" => new_table::<C>(words.alloc, args),
         "with_capacity" => with_capacity::<C>(words, args),
         "from_iterator" => collected::<C>(words, args),
         _ => table::<C>(words, call, args),
@@ -109,7 +109,7 @@ fn needed<C: Config>(alloc: Global, args: &[&str]) -> Result<Answer, Fault> {
 }
 
 // How many bytes a table of so many slots has.
-fn len<C: Config>(alloc: Global, args: &[&str]) -> Result<Answer, Fault> {
+fn table_len<C: Config>(alloc: Global, args: &[&str]) -> Result<Answer, Fault> {
     let [slots] = args else {
         return Err(Fault::Unread);
     };
@@ -117,7 +117,7 @@ fn len<C: Config>(alloc: Global, args: &[&str]) -> Result<Answer, Fault> {
 }
 
 // A new table in so many bytes, which held something else before.
-fn new<C: Config>(alloc: Global, args: &[&str]) -> Result<Answer, Fault> {
+fn new_table<C: Config>(alloc: Global, args: &[&str]) -> Result<Answer, Fault> {
     let [count, of_percent, len] = args else {
         return Err(Fault::Unread);
     };
@@ -198,7 +198,7 @@ fn get<C: Config>(
     view: &HashTable<C, OwnedBytes>,
     key: &str,
 ) -> Result<Answer, Fault> {
-    let key = key_of::<C>(words.bytes(key)?.as_slice())?;
+    let key = C::decode_key(&array(words.bytes(key)?.as_slice())?);
     let (found, groups) = view.get_counted(&key);
     let mut text = String::new(words.alloc);
     match found {
@@ -213,7 +213,7 @@ fn get<C: Config>(
 fn walk<C: Config>(alloc: Global, view: &HashTable<C, OwnedBytes>) -> Result<Answer, Fault> {
     let mut text = String::new(alloc);
     for (key, value) in view.iter() {
-        add_word(&mut text, &"")?;
+        begin_word(&mut text)?;
         add_hex(&mut text, C::encode_key(&key).as_slice())?;
         text.push(':')?;
         add_hex(&mut text, C::encode_value(&value).as_slice())?;
@@ -245,13 +245,12 @@ fn insert<C: Config>(
 ) -> Result<Answer, Fault> {
     let mut text = String::new(words.alloc);
     for (key, value) in list::<C>(words, pairs)?.as_slice() {
-        let former = view.insert(key, value);
-        add_word(&mut text, &"")?;
-        match former {
-            Ok(Some(value)) => add_hex(&mut text, C::encode_value(&value).as_slice())?,
-            Ok(None) => text.push_str("none")?,
-            Err(_) => text.push_str("full")?,
-        }
+        let former = match view.insert(key, value) {
+            Ok(Some(value)) => Ok(Some(C::encode_value(&value))),
+            Ok(None) => Ok(None),
+            Err(refused) => Err(refused),
+        };
+        add_former(&mut text, former)?;
     }
     Ok(Answer::table(text, view.into_data().into_vec()))
 }
@@ -276,24 +275,9 @@ fn list<C: Config>(words: &Words<'_>, pairs: &[&str]) -> Result<Vec<(C::Key, C::
     let mut list = Vec::new(words.alloc);
     for pair in pairs {
         let (key, value) = words.pair(*pair)?;
-        list.push((
-            key_of::<C>(key.as_slice())?,
-            value_of::<C>(value.as_slice())?,
-        ))?;
+        let key = C::decode_key(&array(key.as_slice())?);
+        let value = C::decode_value(&array(value.as_slice())?);
+        list.push((key, value))?;
     }
     Ok(list)
-}
-
-fn key_of<C: Config>(bytes: &[u8]) -> Result<C::Key, Fault> {
-    if bytes.len() != C::EncodedKey::LEN {
-        return Err(Fault::Unread);
-    }
-    Ok(C::decode_key(&C::EncodedKey::from_slice(bytes)))
-}
-
-fn value_of<C: Config>(bytes: &[u8]) -> Result<C::Value, Fault> {
-    if bytes.len() != C::EncodedValue::LEN {
-        return Err(Fault::Unread);
-    }
-    Ok(C::decode_value(&C::EncodedValue::from_slice(bytes)))
 }

@@ -1,7 +1,8 @@
-//! Words of a line: numbers, percentages, bytes and pairs.
+//! Words of a line: numbers, percentages, bytes, arrays and pairs.
 ghost use Rattle.std.specs.Prelude.{◌≤◌, IfOk};
 
 use super::Fault;
+use odht::bytes::ByteArray;
 use std::alloc::Global;
 
 /// Reads the words of a file, in which some bytes have names.
@@ -80,7 +81,15 @@ impl<'a> Words<'a> {
     }
 }
 
-// The bytes that hexadecimal digits write, two digits a byte. A line stands for no bytes.
+/// The array of these bytes.
+pub fn array<A: ByteArray>(bytes: &[u8]) -> Result<A, Fault> {
+    if bytes.len() != A::LEN {
+        return Err(Fault::Unread);
+    }
+    Ok(A::from_slice(bytes))
+}
+
+// The bytes that hexadecimal digits write, two digits a byte. `-` stands for no bytes.
 fn hex(alloc: Global, digits: &str) -> Result<Vec<u8>, Fault> {
     let mut bytes = Vec::new(alloc);
     if digits == "-" {

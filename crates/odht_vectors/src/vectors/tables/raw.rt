@@ -2,13 +2,12 @@
 ghost use Rattle.std.specs.Prelude.{◌≡◌, length};
 
 use crate::vectors::Fault;
-use crate::vectors::answer::{Answer, add_hex, add_word};
+use crate::vectors::answer::{Answer, add_former};
 use crate::vectors::numbers::slot_count;
-use crate::vectors::words::Words;
+use crate::vectors::words::{Words, array};
 use odht::Config;
-use odht::bytes::ByteArray;
 use odht::error::Error;
-use odht::memory_layout::Header;
+use odht::memory_layout::{self, HEADER_SIZE, Header};
 use odht::raw_table::{RawTableMut, plain_insert};
 
 /// What each pair's insert into the parts answers, and the bytes that they leave. The header stays. Both forms of an insert
@@ -29,21 +28,9 @@ pub fn insert<C: Config>(
         if found != expected || bytes.as_slice() != plain.as_slice() {
             return Answer::text(words.alloc, &"both forms differ");
         }
-        add_word(&mut text, &"")?;
-        match found {
-            Ok(Some(value)) => add_hex(&mut text, value.as_slice())?,
-            Ok(None) => text.push_str("none")?,
-            Err(_) => text.push_str("full")?,
-        }
+        add_former(&mut text, found)?;
     }
     Ok(Answer::table(text, bytes))
-}
-
-fn array<A: ByteArray>(bytes: &[u8]) -> Result<A, Fault> {
-    if bytes.len() != A::LEN {
-        return Err(Fault::Unread);
-    }
-    Ok(A::from_slice(bytes))
 }
 
 // Inserts a pair into the parts of a table in these bytes, slot by slot or by groups.
@@ -53,25 +40,23 @@ fn insert_one<C: Config>(
     value: C::EncodedValue,
     is_plain: bool,
 ) -> Result<Result<Option<C::EncodedValue>, Error>, Fault> {
-    let Some((header, parts)) = bytes.split_at_mut_checked(32) else {
-        return Err(Fault::Unread);
-    };
-    let slots = slot_count(Header::of(header).slot_count())?;
-    let entry_len = C::EncodedKey::LEN + C::EncodedValue::LEN;
-    let (entries, control) = match slots.checked_mul(entry_len) {
-        Some(len) => parts.split_at_mut_checked(len).ok_or(Fault::Unread)?,
-        None => return Err(Fault::Unread),
-    };
-    if control.len() < 16 || control.len() - 16 != slots {
+    if bytes.len() < HEADER_SIZE {
         return Err(Fault::Unread);
     }
+    let slots = slot_count(Header::of(bytes).slot_count())?;
+    match memory_layout::bytes_needed::<C>(slots) {
+        Some(len) if len == bytes.len() => (),
+        _ => return Err(Fault::Unread),
+    }
+    let (table, control) = bytes.split_at_mut(memory_layout::entry_at::<C>(slots));
+    let (_, entries) = table.split_at_mut(HEADER_SIZE);
     if is_plain {
         return Ok(plain_insert::<C::EncodedKey, C::EncodedValue, C::H>(
             control, entries, key, value,
         ));
     }
-    let mut table: RawTableMut<'_, '_, C::EncodedKey, C::EncodedValue, C::H> = RawTableMut::new(
+    let mut lent: RawTableMut<'_, '_, C::EncodedKey, C::EncodedValue, C::H> = RawTableMut::new(
         control, entries,
     );
-    Ok(table.insert(key, value))
+    Ok(lent.insert(key, value))
 }
