@@ -4,9 +4,6 @@
 //! each section without a case is told, and the program then ends with status 1.
 #![tactic(auto)]
 
-mod configs;
-#[cfg(test)]
-mod tests;
 mod vectors;
 
 use std::alloc::Global;

@@ -4,10 +4,8 @@ mod numbers;
 mod tables;
 mod words;
 
-use crate::configs::{DirectU32ToU32, Plain, U32ToU32};
 use answer::Answer;
-#[cfg(test)]
-pub use numbers::stands;
+use odht_tests::configs::{DirectU32ToU32, Plain, U32ToU32};
 use std::alloc::{AllocError, AllocFailed, Global};
 use std::fmt;
 use std::io::{self, Write};

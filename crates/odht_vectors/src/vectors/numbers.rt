@@ -7,9 +7,10 @@ use super::answer::{Answer, add_word};
 use super::words::{Words, number, percent};
 use odht::error::Error;
 use odht::load::{Factor, max_item_count_for, slots_needed};
-use odht::raw_table::{ProbeSeq, probe_order};
+use odht::raw_table::probe_order;
 use odht::swisstable_group_query::{Group, lanes, no_simd};
-use std::alloc::{AllocError, Global};
+use odht_tests::probe_places::probe_places;
+use std::alloc::Global;
 
 /// The answer to a call.
 pub fn answer(words: &Words<'_>, call: &str, args: &[&str]) -> Result<Answer, Fault> {
@@ -121,32 +122,10 @@ fn places_of<const SIZE: usize>(alloc: Global, home: usize, slots: usize) -> Res
     requires divides { 16 % SIZE ≡ 0 }
 {
     let mut text = String::new(alloc);
-    for slot in stands::<SIZE>(alloc, home, slots)?.as_slice() {
+    for slot in probe_places::<SIZE>(alloc, home, slots)?.as_slice() {
         add_word(&mut text, slot)?;
     }
     Ok(Answer::words(text))
-}
-
-/// The slots at which a probe sequence stands, up to its last place.
-pub fn stands<const SIZE: usize>(
-    alloc: Global,
-    home: usize,
-    slots: usize,
-) -> Result<Vec<usize>, AllocError>
-    requires slots { IsSlotCount slots }
-    requires divides { 16 % SIZE ≡ 0 }
-{
-    let mask = slots - 1;
-    let steps = slots / SIZE;
-    let mut probe = ProbeSeq::<SIZE>::new(home, mask);
-    let mut stands = Vec::new(alloc);
-    for step in 0..steps {
-        stands.push(probe.index())?;
-        if step + 1 < steps {
-            probe.advance(mask);
-        }
-    }
-    Ok(stands)
 }
 
 // The matches of a tag in a group, and its first free byte.

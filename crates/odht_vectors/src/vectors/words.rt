@@ -111,8 +111,8 @@ fn hex(alloc: Global, digits: &str) -> Result<Vec<u8>, Fault> {
 
 fn digit(digit: u8) -> Result<u8, Fault> {
     match digit {
-        b'0'..=b'9' => Ok(digit - b'0'),
-        b'a'..=b'f' => Ok(digit - b'a' + 10),
+        b'0'..=b'9' => Ok(digit.wrapping_sub(b'0')),
+        b'a'..=b'f' => Ok(digit.wrapping_sub(b'a' - 10)),
         _ => Err(Fault::Unread),
     }
 }

@@ -136,7 +136,9 @@ fn copied<C: Config>(alloc: Global, table: &HashTableOwned<C>) -> Result<HashTab
 // The bytes of a new table of 16 slots at 87 percent, keys and values of four bytes: header, entries, control bytes.
 fn new_table() -> [u8; 192] {
     let mut bytes = [255; 192];
-    bytes[..32].copy_from_slice(b"ODHT\x01\x04\x04\x20\0\0\0\0\0\0\0\0\x10\0\0\0\0\0\0\0\0\0\0\x02\xb7\xde\0\0");
+    bytes[..32].copy_from_slice(
+        b"ODHT\x01\x04\x04\x20\0\0\0\0\0\0\0\0\x10\0\0\0\0\0\0\0\0\0\0\x02\xb7\xde\0\0",
+    );
     bytes[32..160].fill(0);
     bytes
 }

@@ -1,5 +1,5 @@
 use Rattle.std.proofs.Common.{◌≡◌, ◌*◌, ◌<◌}
-use Rattle.odht_vectors.proofs.vectors.numbers.stands.Given as goal
+use Rattle.odht_tests.proofs.probe_places.probe_places.Given as goal
 
 abbrev pub invariant-loop-step : goal.invariant-loop-step
 invariant-loop-step g l = record {

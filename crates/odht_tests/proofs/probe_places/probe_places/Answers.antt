@@ -1,7 +1,7 @@
 use Rattle.std.proofs.Common.{arith, ◌≡◌, ◌+◌, ◌*◌, ◌/◌, ◌≤◌, sym, mul-le-mul_right}
 use Rattle.std.proofs.Math.Nat.{div-mul-le_self}
 use Rattle.odht_raw.proofs.lemmas.ProbeSteps.{divisor_pos}
-use Rattle.odht_vectors.proofs.vectors.numbers.stands.Goals as goal
+use Rattle.odht_tests.proofs.probe_places.probe_places.Goals as goal
 
 pub advance-requires : goal.advance-requires
 advance-requires g c =

@@ -1,8 +1,8 @@
 use Rattle.std.proofs.Common.{◌∙◌, ap, length}
 use Rattle.std.proofs.lemmas.List.{length-map}
 use Rattle.odht_base.specs.Table.{walk}
-use Rattle.odht_vectors.proofs.Drained.{drained}
-use Rattle.odht_vectors.proofs.tests.walks.counted.Goals as goal
+use Rattle.odht_tests.proofs.Drained.{drained}
+use Rattle.odht_tests.proofs.tests.walks.counted.Goals as goal
 
 pub returns : goal.returns
 returns g c P is =
