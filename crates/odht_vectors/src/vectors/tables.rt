@@ -10,7 +10,7 @@ use odht::bytes::{ByteArray, OwnedBytes};
 use odht::error::Error;
 use odht::hash::HashFn;
 use odht::{Config, HashTable, HashTableOwned, bytes_needed, memory_layout};
-use std::alloc::Global;
+use std::alloc::{AllocError, Global};
 
 /// The answer to a call of the configuration with these lengths and this hash function.
 pub fn answer<C: Config>(
@@ -213,15 +213,23 @@ fn get<C: Config>(
 fn walk<C: Config>(alloc: Global, view: &HashTable<C, OwnedBytes>) -> Result<Answer, Fault> {
     let mut text = String::new(alloc);
     for (key, value) in view.iter() {
-        begin_word(&mut text)?;
-        add_hex(&mut text, C::encode_key(&key).as_slice())?;
-        text.push(':')?;
-        add_hex(&mut text, C::encode_value(&value).as_slice())?;
+        add_pair::<C>(&mut text, &key, &value)?;
     }
     if text.is_empty() {
         add_word(&mut text, &"none")?;
     }
     Ok(Answer::words(text))
+}
+
+fn add_pair<C: Config>(
+    text: &mut String,
+    key: &C::Key,
+    value: &C::Value,
+) -> Result<(), AllocError> {
+    begin_word(text)?;
+    add_hex(text, C::encode_key(key).as_slice())?;
+    text.push(':')?;
+    add_hex(text, C::encode_value(value).as_slice())
 }
 
 // A line of the dump of the slots.

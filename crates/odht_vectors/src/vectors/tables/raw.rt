@@ -1,12 +1,17 @@
 //! Inserts into the parts of a table: slot by slot, and by groups.
-ghost use Rattle.std.specs.Prelude.{◌≡◌, length};
+ghost use Rattle.std.specs.Prelude.{◌≡◌, length, IfOk};
+ghost use Rattle.odht_base.specs.Image.{image_len};
+ghost use Rattle.odht_base.specs.Load.{IsSlotCount};
+ghost use Rattle.odht_raw.specs.PartLengths.{ArePartLengths};
 
 use crate::vectors::Fault;
 use crate::vectors::answer::{Answer, add_former};
 use crate::vectors::numbers::slot_count;
 use crate::vectors::words::{Words, array};
-use odht::Config;
+use odht::bytes::ByteArray;
+use odht::config::{Coded, Config};
 use odht::error::Error;
+use odht::hash::HashFn;
 use odht::memory_layout::{self, HEADER_SIZE, Header};
 use odht::raw_table::{RawTableMut, plain_insert};
 
@@ -40,23 +45,38 @@ fn insert_one<C: Config>(
     value: C::EncodedValue,
     is_plain: bool,
 ) -> Result<Result<Option<C::EncodedValue>, Error>, Fault> {
+    let slots = slots_of::<C>(bytes)?;
+    let (table, control) = bytes.split_at_mut(memory_layout::entry_at::<C>(slots));
+    let (_, entries) = table.split_at_mut(HEADER_SIZE);
+    Ok(insert_into::<C::EncodedKey, C::EncodedValue, C::H>(control, entries, key, value, is_plain))
+}
+
+// The slot count in the header of bytes that are as long as it says.
+fn slots_of<C: Config>(bytes: &[u8]) -> Result<usize, Fault>
+    ensures { IfOk result (λ slots. IsSlotCount slots × (length bytes.now ≡ image_len ⟦<C as Coded>⟧.coding.format slots)) }
+{
     if bytes.len() < HEADER_SIZE {
         return Err(Fault::Unread);
     }
     let slots = slot_count(Header::of(bytes).slot_count())?;
     match memory_layout::bytes_needed::<C>(slots) {
-        Some(len) if len == bytes.len() => (),
-        _ => return Err(Fault::Unread),
+        Some(len) if len == bytes.len() => Ok(slots),
+        _ => Err(Fault::Unread),
     }
-    let (table, control) = bytes.split_at_mut(memory_layout::entry_at::<C>(slots));
-    let (_, entries) = table.split_at_mut(HEADER_SIZE);
+}
+
+fn insert_into<K: ByteArray, V: ByteArray, H: HashFn>(
+    control: &mut [u8],
+    entries: &mut [u8],
+    key: K,
+    value: V,
+    is_plain: bool,
+) -> Result<Option<V>, Error>
+    requires { ArePartLengths H.MIN_LEN K.LEN V.LEN (length entries.old) (length control.old) }
+{
     if is_plain {
-        return Ok(plain_insert::<C::EncodedKey, C::EncodedValue, C::H>(
-            control, entries, key, value,
-        ));
+        return plain_insert::<K, V, H>(control, entries, key, value);
     }
-    let mut lent: RawTableMut<'_, '_, C::EncodedKey, C::EncodedValue, C::H> = RawTableMut::new(
-        control, entries,
-    );
-    Ok(lent.insert(key, value))
+    let mut lent: RawTableMut<'_, '_, K, V, H> = RawTableMut::new(control, entries);
+    lent.insert(key, value)
 }
