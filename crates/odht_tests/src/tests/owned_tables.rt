@@ -2,7 +2,7 @@
 ghost use Rattle.std.specs.Prelude.{◌≤◌};
 
 use crate::configs::U32ToU32;
-use crate::tests::checks::{holds_at, same, same_answer, same_bytes, same_len, same_value};
+use crate::tests::checks::{holds_at, same, same_answer, same_at, same_len, same_value};
 use crate::tests::probe_sequences::slots_for;
 use odht::bytes::OwnedBytes;
 use odht::error::Error;
@@ -133,24 +133,46 @@ fn copied<C: Config>(alloc: Global, table: &HashTableOwned<C>) -> Result<HashTab
     HashTableOwned::from_raw_bytes_unchecked(alloc, table.raw_bytes())
 }
 
-// The bytes of a new table of 16 slots at 87 percent, keys and values of four bytes: header, entries, control bytes.
-fn new_table() -> [u8; 192] {
-    let mut bytes = [255; 192];
-    bytes[..32].copy_from_slice(
-        b"ODHT\x01\x04\x04\x20\0\0\0\0\0\0\0\0\x10\0\0\0\0\0\0\0\0\0\0\x02\xb7\xde\0\0",
-    );
-    bytes[32..160].fill(0);
-    bytes
+// A byte of a new table of 16 slots at 87 percent, keys and values of four bytes: header, entries, control bytes.
+fn byte_of_new_table(at: usize) -> u8 {
+    match at {
+        0 => b'O',
+        1 => b'D',
+        2 => b'H',
+        3 => b'T',
+        4 => 1,
+        5 | 6 => 4,
+        7 => 32,
+        16 => 16,
+        27 => 2,
+        28 => 0xb7,
+        29 => 0xde,
+        160..=191 => 255,
+        _ => 0,
+    }
 }
 
-// The same with the pair of 1 and 2, which stands in slot 5 with tag 19.
-fn table_of_a_pair() -> [u8; 192] {
-    let mut bytes = new_table();
-    bytes[8] = 1;
-    bytes[72..80].copy_from_slice(&[1, 0, 0, 0, 2, 0, 0, 0]);
-    bytes[165] = 19;
-    bytes[181] = 19;
-    bytes
+// The same with the pair of 1 and 2 in slot 5, whose tag is 19.
+fn byte_with_a_pair(at: usize) -> u8 {
+    match at {
+        8 | 72 => 1,
+        76 => 2,
+        165 | 181 => 19,
+        _ => byte_of_new_table(at),
+    }
+}
+
+// Demands the bytes of such a table.
+fn check_bytes(rt: &impl Abort, what: &str, bytes: &[u8], has_pair: bool) {
+    same_len(rt, what, bytes.len(), 192);
+    for (at, byte) in bytes.iter().enumerate() {
+        let expected = if has_pair {
+            byte_with_a_pair(at)
+        } else {
+            byte_of_new_table(at)
+        };
+        same_at(rt, what, at, *byte, expected);
+    }
 }
 
 #[test]
@@ -162,8 +184,8 @@ fn empty_tables(rt: HostRuntime) {
     let allocation: Allocation<U32ToU32, OwnedBytes> = once.made(&rt, || {
         allocate(alloc, slots, 0, factor)
     });
-    same_bytes(&rt, "the default table", table.raw_bytes(), &new_table());
-    same_bytes(&rt, "the allocation", allocation.raw_bytes(), &new_table());
+    check_bytes(&rt, "the default table", table.raw_bytes(), false);
+    check_bytes(&rt, "the allocation", allocation.raw_bytes(), false);
 }
 
 #[test]
@@ -193,9 +215,9 @@ fn copies_have_the_same_bytes(rt: HostRuntime) {
     same_answer(&rt, 1, table.insert(&1, &2), Ok(None));
     let cloned = once.made(&rt, || table.clone());
     let copied = once.made(&rt, || copied(alloc, &table));
-    same_bytes(&rt, "the table", table.raw_bytes(), &table_of_a_pair());
-    same_bytes(&rt, "the clone", cloned.raw_bytes(), &table_of_a_pair());
-    same_bytes(&rt, "the copy", copied.raw_bytes(), &table_of_a_pair());
+    check_bytes(&rt, "the table", table.raw_bytes(), true);
+    check_bytes(&rt, "the clone", cloned.raw_bytes(), true);
+    check_bytes(&rt, "the copy", copied.raw_bytes(), true);
     same_answer(&rt, 1, table.insert(&1, &9), Ok(Some(2)));
     same_value(&rt, 1, cloned.get(&1), Some(2));
     same_value(&rt, 1, copied.get(&1), Some(2));
