@@ -10,3 +10,5 @@ pub mod Refused
 pub mod Drained
 -- tables that are handed out
 pub mod HandedOut
+-- walks into arrays
+pub mod Walked

@@ -9,22 +9,13 @@ use Rattle.odht_base.specs.Valid.{IsImage}
 use Rattle.odht_raw.specs.Coding.{coding_of, value_for, HasStored}
 use Rattle.odht_c.specs.Reads.{IsGotAt}
 use Rattle.odht_c.proofs.lemmas.Opened.{never_refused}
-use Rattle.odht_c.proofs.lemmas.Refused.{told, not_none}
+use Rattle.odht_c.proofs.lemmas.Refused.{refused_get_all, not_none}
 use Rattle.odht_c.proofs.lemmas.Got.{Wrote, other_values, got-next, option_map-twice, stored_answer}
 use Rattle.odht_c.proofs.read.get_all.Goals as goal
 use Rattle.odht_c.proofs.read.get_all.Goals.{in-Some, in-None}
 
 pub returns-in-Err : goal.returns-in-Err
-returns-in-Err g c =
-    let F : Format = format_of g.C.EncodedKey.ByteArray.LEN g.C.EncodedValue.ByteArray.LEN g.C.H.HashFn.hash in
-    let is = sym c.in-Err.ensures.err in
-    record {
-      lengths = λ other. absurd (other (c.requires.values, c.requires.found));
-      refused = λ e long other. (c.status_of.ensures ∙ told _ _ e is other, refl, refl);
-      accepted = λ long none. not_none _ _ is none;
-      on_valid = λ P i key long image at. never_refused F P c.args.bytes.now c.in-Err.refused image is;
-      on_any = λ i key long none at. not_none _ _ is none;
-    }
+returns-in-Err g c = refused_get_all _ _ c.in-Err.refused _ c.in-Err.ensures.err c.status_of.ensures _ _ _ (c.requires.values, c.requires.found)
 
 pub loop-index-preserved : goal.loop-index-preserved
 loop-index-preserved g c =

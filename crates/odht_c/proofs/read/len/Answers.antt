@@ -1,14 +1,5 @@
-use Rattle.std.proofs.Common.{sym, rules}
-use Rattle.odht_base.specs.Format.{Format, format_of}
-use Rattle.odht_c.proofs.lemmas.Opened.{never_refused}
+use Rattle.odht_c.proofs.lemmas.Refused.{refused_len}
 use Rattle.odht_c.proofs.read.len.Goals as goal
 
 pub returns-in-Err : goal.returns-in-Err
-returns-in-Err g c =
-    let F : Format = format_of g.C.EncodedKey.ByteArray.LEN g.C.EncodedValue.ByteArray.LEN g.C.H.HashFn.hash in
-    record {
-      status = search rules;
-      refused = search rules;
-      stated = search rules;
-      on_valid = λ P is. never_refused F P c.args.bytes.now c.in-Err.refused is (sym c.in-Err.ensures.err);
-    }
+returns-in-Err g c = refused_len _ _ c.in-Err.refused _ c.in-Err.ensures.err c.status_of.ensures _

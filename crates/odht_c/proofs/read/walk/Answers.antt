@@ -1,8 +1,7 @@
 use Rattle.std.proofs.Common.{refl, ◌∙◌, ◌+◌, ◌++◌, ◌<◌, [], ◌∷◌, sym, ap, arith, length, append_assoc, length-append}
-use Rattle.odht_base.specs.Format.{Format, format_of}
-use Rattle.odht_c.proofs.lemmas.Opened.{never_refused}
-use Rattle.odht_c.proofs.lemmas.Refused.{told, not_none}
 use Rattle.odht_c.proofs.lemmas.Arrays.{set-next_of}
+use Rattle.odht_c.proofs.lemmas.Refused.{refused_walk}
+use Rattle.odht_c.proofs.lemmas.Walked.{walked_all, walked_full, accepted_walk}
 use Rattle.odht_c.proofs.read.walk.Goals as goal
 
 pub loop-key-preserved : goal.loop-key-preserved
@@ -19,12 +18,17 @@ loop-key-preserved g c =
     }
 
 pub returns-in-Err : goal.returns-in-Err
-returns-in-Err g c =
-    let F : Format = format_of g.C.EncodedKey.ByteArray.LEN g.C.EncodedValue.ByteArray.LEN g.C.H.HashFn.hash in
-    let is = sym c.in-Err.ensures.err in
-    record {
-      lengths = λ other. absurd (other c.requires);
-      refused = λ e long other. (c.status_of.ensures ∙ told _ _ e is other, refl, refl, refl);
-      on_valid = λ P long image. never_refused F P c.args.bytes.now c.in-Err.refused image is;
-      on_any = λ long none. not_none _ _ is none;
-    }
+returns-in-Err g c = refused_walk _ _ c.in-Err.refused _ c.in-Err.ensures.err c.status_of.ensures _ _ _ c.requires
+
+pub returns-then-written-keys : goal.returns-then-written-keys
+returns-then-written-keys g c =
+    let v = c.loop-key.invariant in
+    accepted_walk _ _ _ _ _ _ _ _ _ _ _ c.requires c.in-Ok.ensures.err c.in-Ok.ensures.ok c.iter-key-items.ensures.on_valid c.iter-key-items.ensures.on_any
+    (walked_full _ _ _ _ _ _ _ _ (sym c.into_iter-key-iterator.ensures.into_iter_gives ∙ v.walk) v.written v.within v.keys v.values
+    (omega (arith, ap length c.in-Some.ensures.steps)) (omega (arith, c.if-written-keys.true, c.loop-key.auto.keys)))
+
+pub returns : goal.returns
+returns g c =
+    let v = c.loop-key.invariant in
+    accepted_walk _ _ _ _ _ _ _ _ _ _ _ c.requires c.in-Ok.ensures.err c.in-Ok.ensures.ok c.iter-key-items.ensures.on_valid c.iter-key-items.ensures.on_any
+    (walked_all _ _ _ _ _ _ _ _ (sym c.into_iter-key-iterator.ensures.into_iter_gives ∙ v.walk) v.written v.within v.keys v.values c.in-None.ensures.steps.0)

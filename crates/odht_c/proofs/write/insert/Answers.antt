@@ -8,18 +8,14 @@ use Rattle.odht_raw.specs.Refusals.{opening_refusal}
 use Rattle.odht_raw.specs.declared.error.Error.TheVariants.{Full}
 use Rattle.odht_c.specs.Statuses.{status_of}
 use Rattle.odht_c.proofs.lemmas.Opened.{never_refused}
-use Rattle.odht_c.proofs.lemmas.Refused.{told, not_none}
+use Rattle.odht_c.proofs.lemmas.Refused.{refused_insert, not_none}
 use Rattle.odht_c.proofs.write.insert.Goals as goal
 
 pub returns-in-Err-clause-answer : goal.returns-in-Err-clause-answer
 returns-in-Err-clause-answer g c =
     let F : Format = format_of g.C.EncodedKey.ByteArray.LEN g.C.EncodedValue.ByteArray.LEN g.C.H.HashFn.hash in
-    let is = ap (opening_refusal F) (sym c.bytes.ensures) ∙ sym c.in-Err.ensures.err in
-    record {
-      refused = λ e other. (c.status_of.ensures ∙ told _ _ e is other, refl, refl);
-      on_valid = λ P image. never_refused F P (g.M.ByteStore.bytes c.args.place.now) c.in-Err.refused image is;
-      on_any = λ none. not_none _ _ is none;
-    }
+    let is = c.in-Err.ensures.err ∙ ap (opening_refusal F) c.bytes.ensures in
+    refused_insert _ _ c.in-Err.refused _ is c.status_of.ensures _ _ _
 
 pub returns-in-Err-answer-clause-answer : goal.returns-in-Err-answer-clause-answer
 returns-in-Err-answer-clause-answer g c =

@@ -15,23 +15,14 @@ use Rattle.odht.specs.Lists.{encoded_all, IsFilled}
 use Rattle.odht.proofs.lemmas.Fillings.{filled_more, encoded_all-more}
 use Rattle.odht_c.specs.Writes.{IsFramedRun}
 use Rattle.odht_c.proofs.lemmas.Opened.{never_refused}
-use Rattle.odht_c.proofs.lemmas.Refused.{told, not_none}
+use Rattle.odht_c.proofs.lemmas.Refused.{refused_insert_all, not_none}
 use Rattle.odht_c.proofs.write.insert_all.Goals as goal
 
 pub returns-in-Err-clause-answer : goal.returns-in-Err-clause-answer
 returns-in-Err-clause-answer g c =
     let F : Format = format_of g.C.EncodedKey.ByteArray.LEN g.C.EncodedValue.ByteArray.LEN g.C.H.HashFn.hash in
-    let is = ap (opening_refusal F) (sym c.bytes.ensures) ∙ sym c.in-Err.ensures.err in
-    record {
-      lengths = λ other. absurd (other c.requires);
-      refused = λ e long other. (c.status_of.ensures ∙ told _ _ e is other, refl, refl);
-      bound = λ long none. not_none _ _ is none;
-      all = λ long none. not_none _ _ is none;
-      some = λ long none. not_none _ _ is none;
-      filled = λ P long image. never_refused F P (g.M.ByteStore.bytes c.args.place.now) c.in-Err.refused image is;
-      framed = λ long none. not_none _ _ is none;
-      at_maximum = λ P long none. not_none _ _ is none;
-    }
+    let is = c.in-Err.ensures.err ∙ ap (opening_refusal F) c.bytes.ensures in
+    refused_insert_all _ _ c.in-Err.refused _ is c.status_of.ensures _ _ _ c.requires
 
 pub loop-index-init : goal.loop-index-init
 loop-index-init g c = record {
