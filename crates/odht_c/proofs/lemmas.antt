@@ -12,3 +12,5 @@ pub mod Drained
 pub mod HandedOut
 -- walks into arrays
 pub mod Walked
+-- what an insert answers
+pub mod Inserted
