@@ -1,6 +1,5 @@
--- What an insert answers into bytes whose opening is accepted.
-use Rattle.std.proofs.Common.{◌≡◌, ◌∙◌, ℕ, List, sym, ap, subst, refl, Option, Some, None, Result, Ok, Err, ◌↔◌}
-use Rattle.std.specs.Prelude.{MatchOption}
+-- What inserts answer into bytes whose opening is accepted.
+use Rattle.std.proofs.Common.{◌≡◌, ◌<◌, arith, length, take, zip, ◌∙◌, ℕ, List, sym, ap, subst, refl, Option, Some, None, Result, Ok, Err, ◌↔◌}
 use Rattle.odht_base.specs.Insert.{put_view}
 use Rattle.odht_base.specs.Load.{max_items}
 use Rattle.odht_base.specs.Table.{Table, count, slot_count}
@@ -12,8 +11,9 @@ use Rattle.odht_raw.specs.Refusals.{opening_refusal}
 use Rattle.odht_raw.specs.declared.error.Error.{Error}
 use Rattle.odht_raw.specs.declared.error.Error.TheVariants.{Full}
 use Rattle.odht.specs.Inserts.{IsInserted}
-use Rattle.odht_c.specs.Statuses.{status_of}
-use Rattle.odht_c.specs.Writes.{IsFormer, InsertAnswers}
+use Rattle.odht.specs.Lists.{encoded_all, IsFilled}
+use Rattle.odht_c.specs.Statuses.{done, status_of}
+use Rattle.odht_c.specs.Writes.{IsFormer, IsFramedRun, InsertAnswers, InsertAllAnswers}
 use Rattle.odht_c.proofs.lemmas.Refused.{not_none}
 
 -- B were the bytes, S what the table saw of them and T what it left, and these are now C
@@ -45,4 +45,36 @@ module _ {K V : Type 0} (c : Coding K V) (B S T C : List ℕ) (k : K) (v old : V
         let none : put_view c.format P (encoded c k v) ≡ None = (put_view-None c.format P (encoded c k v) is.valid).1 ((full P (image P is)).0 is_full) in
         rw none (subst (IsImage c.format P) (sym (left ∙ stays ∙ seen)) is, status, kept));
     on_any = λ none. (Err Full, (status, kept), framed (Err Full) (subst (λ r. IsFramed c S k v r T) is_full frame));
+  }
+
+-- inserts of pairs in turn into the bytes B leave C
+module _ {K V : Type 0} (c : Coding K V) (B C : List ℕ) (keys : List K) (values : List V) (before n : ℕ)
+    (accepted : None ≡ opening_refusal c.format B) (equal : length values ≡ length keys)
+    (framed : IsFramedRun c B (take n (zip keys values)) C)
+    (filled : (P : Table) → IsImage c.format P B → IsFilled c.format (put_view c.format) P (encoded_all c (take n (zip keys values))) C) where
+  -- all are accepted
+  pub accepted_insert_all : n ≡ length keys → InsertAllAnswers c B keys values before done C (length keys)
+  accepted_insert_all every = record {
+    lengths = λ other. absurd (other equal);
+    refused = λ e long is. not_none _ e is (sym accepted);
+    bound = λ long is. omega arith;
+    all = λ long is e. refl;
+    some = λ long is less. absurd (omega (arith, less));
+    filled = λ P long is. rw (sym every) (filled P is);
+    framed = λ long is. rw (sym every) framed;
+    at_maximum = λ P long is image less. absurd (omega (arith, less));
+  }
+
+  -- the next one is refused, as the table is full, and these bytes are D now
+  pub full_insert_all : (D : List ℕ) (s : ℕ) → D ≡ C → n < length keys → s ≡ status_of Full
+      → ((P : Table) → IsImage c.format P C → count P ≡ max_items (slot_count P) P.factor) → InsertAllAnswers c B keys values before s D n
+  full_insert_all D s same less status full = record {
+    lengths = λ other. absurd (other equal);
+    refused = λ e long is. not_none _ e is (sym accepted);
+    bound = λ long is. omega (arith, less);
+    all = λ long is e. absurd (omega (arith, e, less));
+    some = λ long is l. status;
+    filled = λ P long is. rw same (filled P is);
+    framed = λ long is. rw same framed;
+    at_maximum = λ P long is image l. full P (subst (IsImage c.format P) same image);
   }

@@ -1,4 +1,4 @@
-use Rattle.std.proofs.Common.{rules, ◌≡◌, ◌∙◌, refl, ◌<◌, ◌+◌, ◌++◌, [], ◌∷◌, sym, ap, ap₂, subst, take, List, arith, length}
+use Rattle.std.proofs.Common.{rules, ◌≡◌, ◌∙◌, refl, ◌<◌, ◌+◌, ◌++◌, [], ◌∷◌, sym, ap, ap₂, subst, take, List, Err, arith, length}
 use Rattle.std.proofs.lemmas.List.{take_more}
 use Rattle.std.specs.List.{zip}
 use Rattle.std.proofs.lemmas.Slice.Zip.{get_or-zip, length-zip}
@@ -11,11 +11,14 @@ use Rattle.odht_base.proofs.lemmas.Puts.{put_view-IsInsert}
 use Rattle.odht_raw.specs.Coding.{coding_of}
 use Rattle.odht_raw.specs.Frame.{IsAccepted, IsFramed}
 use Rattle.odht_raw.specs.Refusals.{opening_refusal}
+use Rattle.odht_raw.specs.declared.error.Error.TheVariants.{Full}
+use Rattle.odht_c.specs.Statuses.{status_of}
 use Rattle.odht.specs.Lists.{encoded_all, IsFilled}
 use Rattle.odht.proofs.lemmas.Fillings.{filled_more, encoded_all-more}
 use Rattle.odht_c.specs.Writes.{IsFramedRun}
 use Rattle.odht_c.proofs.lemmas.Opened.{never_refused}
-use Rattle.odht_c.proofs.lemmas.Refused.{refused_insert_all, not_none}
+use Rattle.odht_c.proofs.lemmas.Refused.{refused_insert_all}
+use Rattle.odht_c.proofs.lemmas.Inserted.{accepted_insert_all, full_insert_all}
 use Rattle.odht_c.proofs.write.insert_all.Goals as goal
 
 pub returns-in-Err-clause-answer : goal.returns-in-Err-clause-answer
@@ -46,36 +49,39 @@ loop-index-preserved g c =
     let was = bytes c.loop-index.place in
     let now = bytes c.insert-answer.new.self.now in
     let opened = ap (λ s. s.now) c.from_raw_bytes_unchecked-table.ensures in
-    let closed : c.place-1.given.0 ≡ c.insert-answer.new.self.now = search (rules, c.into_data-place.ensures.data, c.insert-answer.ensures.place, c.from_raw_bytes_unchecked-table.ensures) in
     record {
       place =
           (let whose = ap (λ s. s.now) c.insert-answer.ensures.place ∙ ap (λ s. g.M.ByteStoreMut.holding s now) (opened ∙ c.loop-index.invariant.place) ∙ g.met.M.ByteStoreMut.held_last c.args.place.now was now in
-          subst (λ s. s ≡ g.M.ByteStoreMut.holding c.args.place.now (bytes s)) (sym closed) whose);
-      accepted = subst (λ s. IsAccepted K.format (bytes s)) (sym closed) c.insert-answer.ensures.accepted;
+          subst (λ s. s ≡ g.M.ByteStoreMut.holding c.args.place.now (bytes s)) (sym (search (rules, c.into_data-place.ensures.data, c.insert-answer.ensures.place, c.from_raw_bytes_unchecked-table.ensures))) whose);
+      accepted = subst (λ s. IsAccepted K.format (bytes s)) (sym (search (rules, c.into_data-place.ensures.data, c.insert-answer.ensures.place, c.from_raw_bytes_unchecked-table.ensures))) c.insert-answer.ensures.accepted;
       framed =
           (let frame = subst (λ s. IsFramed K (bytes s) c.index-keys-index.result c.index-values-index.result c.insert-answer.result now) opened c.insert-answer.ensures.frame in
           let step = IsFramedRun.accepted (take n items) c.index-keys-index.result c.index-values-index.result c.in_default-answer.field-0 was now c.loop-index.invariant.framed (subst (λ r. IsFramed K was c.index-keys-index.result c.index-values-index.result r now) c.in_default-answer.is frame) in
-          subst (λ s. IsFramedRun K (bytes c.args.place.now) (take (n + 1) items) (bytes s)) (sym closed)
+          subst (λ s. IsFramedRun K (bytes c.args.place.now) (take (n + 1) items) (bytes s)) (sym (search (rules, c.into_data-place.ensures.data, c.insert-answer.ensures.place, c.from_raw_bytes_unchecked-table.ensures)))
           (subst (λ xs. IsFramedRun K (bytes c.args.place.now) xs now) (sym (take_more items n item low_item ∙ ap (λ t. take n items ++ t ∷ []) at)) step));
       filled = λ P is. (
           let h = c.loop-index.invariant.filled P is in
           let put = c.in_default-answer.ensures.ok h.table (subst (λ s. IsImage K.format h.table (bytes s)) (sym opened) h.image) in
-          subst (λ s. IsFilled K.format (put_view K.format) P (encoded_all K (take (n + 1) items)) (bytes s)) (sym closed)
+          subst (λ s. IsFilled K.format (put_view K.format) P (encoded_all K (take (n + 1) items)) (bytes s)) (sym (search (rules, c.into_data-place.ensures.data, c.insert-answer.ensures.place, c.from_raw_bytes_unchecked-table.ensures)))
           (subst (λ (ps : List Pair). IsFilled K.format (put_view K.format) P ps now) (sym (encoded_all-more K items n item low_item at))
           (filled_more K.format (put_view K.format) (put_view-IsInsert K.format) (put_view-PlacesBelow K.format) P (encoded_all K (take n items)) _ was now h put.table put.inserted put.image)));
     }
+
+pub returns-in-Err-answer-clause-answer : goal.returns-in-Err-answer-clause-answer
+returns-in-Err-answer-clause-answer g c =
+    let K = coding_of g.C.EncodedKey.ByteArray.LEN g.C.EncodedKey.ByteArray.bytes g.C.EncodedKey.ByteArray.of_bytes g.C.EncodedValue.ByteArray.LEN g.C.EncodedValue.ByteArray.bytes g.C.EncodedValue.ByteArray.of_bytes g.C.H.HashFn.hash g.C.Config.encode_key g.C.Config.encode_value g.C.Config.decode_key g.C.Config.decode_value in
+    let bytes = g.M.ByteStore.bytes in
+    let opened = ap (λ s. s.now) c.from_raw_bytes_unchecked-table.ensures in
+    let stays : c.insert-answer.new.self.now ≡ c.loop-index.place = ap (λ s. s.now) c.in-Err-answer.ensures.refused ∙ opened in
+    let full : c.insert-answer.result ≡ Err Full = c.in-Err-answer.is ∙ c.in-Err-answer.ensures.only_full in
+    let only : c.in-Err-answer.refused ≡ Full = (let both = c.in-Err-answer.ensures.only_full in cc) in
+    full_insert_all K (bytes c.args.place.now) (bytes c.loop-index.place) c.args.keys.now c.args.values.now _ _ (c.in_default.ensures.err ∙ ap (opening_refusal K.format) c.bytes.ensures) c.requires
+    c.loop-index.invariant.framed c.loop-index.invariant.filled _ _ (ap bytes ((search (rules, c.into_data-place.ensures.data, c.insert-answer.ensures.place, c.from_raw_bytes_unchecked-table.ensures)) ∙ stays)) c.loop-index-test.true (c.status_of-in-Err-answer.ensures ∙ ap status_of only)
+    (λ P is. (c.insert-answer.ensures.full P (subst (λ s. IsImage K.format P (bytes s)) (sym opened) is)).0 full)
 
 pub returns-clause-answer : goal.returns-clause-answer
 returns-clause-answer g c =
     let F : Format = format_of g.C.EncodedKey.ByteArray.LEN g.C.EncodedValue.ByteArray.LEN g.C.H.HashFn.hash in
     let every : c.loop-index.index ≡ length c.args.keys.now = omega (arith, c.loop-index-test.false, c.loop-index.auto.index-end) in
-    record {
-      lengths = λ other. absurd (other c.requires);
-      refused = λ e long is. not_none _ e is (ap (opening_refusal F) (sym c.bytes.ensures) ∙ sym c.in_default.ensures.err);
-      bound = λ long is. omega arith;
-      all = λ long is n. refl;
-      some = λ long is n. absurd (omega (arith, n));
-      filled = λ P long is. rw (sym every) (c.loop-index.invariant.filled P is);
-      framed = λ long is. rw (sym every) c.loop-index.invariant.framed;
-      at_maximum = λ P long is image n. absurd (omega (arith, n));
-    }
+    accepted_insert_all _ _ _ _ c.args.values.now _ _ (c.in_default.ensures.err ∙ ap (opening_refusal F) c.bytes.ensures) c.requires
+    c.loop-index.invariant.framed c.loop-index.invariant.filled every
