@@ -2,6 +2,7 @@
 use crate::script::{Fault, run};
 use std::alloc::Global;
 use std::io::{self, ErrorKind, Read, Write};
+use std::process::Abort;
 use std::test::Fail;
 
 fn answers(alloc: Global, script: &[u8]) -> Result<Vec<u8>, Fault> {
@@ -10,144 +11,113 @@ fn answers(alloc: Global, script: &[u8]) -> Result<Vec<u8>, Fault> {
     Ok(output)
 }
 
+// Demands these answers to this script.
+fn check_answers(
+    rt: &impl Abort,
+    alloc: Global,
+    script: &[u8],
+    expected: &str,
+) -> Result<(), Fail> {
+    let output = answers(alloc, script)?;
+    let text = std::str::from_utf8(output.as_slice())?;
+    assert_eq!(rt; text, expected, "the answers to {script:?}");
+    Ok(())
+}
+
+// Each script ends at `>`, and its answers at `|`.
+const SCRIPTS: &str = "\
+    >|\
+    \n>malformed\n|\
+    \n\nget 1>malformed\nmalformed\nno table\n|\
+    get 1\nput 1 2\nlen\nwalk\nhex\ndump\n>no table\nno table\nno table\nno table\nno table\nno table\n|\
+    new 0 6\nput 1 2\nget 1\n\n>slots 16 max 0\nnone\n2\nmalformed\n|\
+    new 0 6\nput 1 2\nput 1 3\nlen\nwalk\n>slots 16 max 0\nnone\nwas 2\n1\n1 3\nend\n|\
+    get 1\nnew 0 0\nnew 3 95\nput 1\nput 1 4294967296\nlen\nwalk\ncheck 4f44\n>no table\nbad percent\nslots 16 max 15\nmalformed\nmalformed\n0\nend\nmalformed\n|\
+    new 3 95\nput 1 2\nput 3 4\nput 5 6\nwalk\nlen>slots 16 max 15\nnone\nnone\nnone\n1 2\n5 6\n3 4\nend\n3\n|\
+    new 0 1\nput 18446744073709551615 4294967295\nwalk\n>slots 16 max 0\nnone\n18446744073709551615 4294967295\nend\n|\
+    new 3 95\nput 1 2\nput 3 4\nput 5 6\nget 3\nget 7\n>slots 16 max 15\nnone\nnone\nnone\n4\nnone\n|\
+    new 3 95\nput 1 2\nput 1 3\nget 1>slots 16 max 15\nnone\nwas 2\n3\n|\
+    new 0003 095\nput 007 000\nput 7 0000000000000000000000001\nget 0000000000000000000000007\n>slots 16 max 15\nnone\nwas 0\n1\n|\
+    new 3 95\nput 18446744073709551615 4294967295\nget 18446744073709551615\n>slots 16 max 15\nnone\n4294967295\n|\
+    new 13 87\nnew 14 87\nnew 40 87\nnew 0 1\n>slots 16 max 13\nslots 32 max 27\nslots 64 max 55\nslots 16 max 0\n|\
+    new 15 100\nnew 16 100\nnew 1000 100\n>slots 16 max 15\nslots 32 max 31\nslots 1024 max 1023\n|\
+    new 1 0\nnew 1 101\nnew 1 18446744073709551615\n>bad percent\nbad percent\nbad percent\n|\
+    new 4611686018427387904 101\nnew 4611686018427387904 100\nnew 576460752303423488 100\n>bad percent\ncapacity\nmemory\n|\
+    new 3 95\nput 1 2\nnew 1 0\nnew 4611686018427387904 100\nnew 576460752303423488 100\nget 1\n>slots 16 max 15\nnone\nbad percent\ncapacity\nmemory\n2\n|\
+    new 3 95\nput 1 2\nnew 16 100\nget 1\n>slots 16 max 15\nnone\nslots 32 max 31\nnone\n";
+
 #[test]
 fn scripts_are_answered(rt: HostRuntime) -> Result<(), Fail> {
-    let cases = [
-        ("", ""),
-        ("\n", "malformed\n"),
-        ("\n\nget 1", "malformed\nmalformed\nno table\n"),
-        (
-            "get 1\nput 1 2\nlen\nwalk\nhex\ndump\n",
-            "no table\nno table\nno table\nno table\nno table\nno table\n",
-        ),
-        (
-            "new 0 6\nput 1 2\nget 1\n\n",
-            "slots 16 max 0\nnone\n2\nmalformed\n",
-        ),
-        (
-            "new 0 6\nput 1 2\nput 1 3\nlen\nwalk\n",
-            "slots 16 max 0\nnone\nwas 2\n1\n1 3\nend\n",
-        ),
-        (
-            "get 1\nnew 0 0\nnew 3 95\nput 1\nput 1 4294967296\nlen\nwalk\ncheck 4f44\n",
-            "no table\nbad percent\nslots 16 max 15\nmalformed\nmalformed\n0\nend\nmalformed\n",
-        ),
-        (
-            "new 3 95\nput 1 2\nput 3 4\nput 5 6\nwalk\nlen",
-            "slots 16 max 15\nnone\nnone\nnone\n1 2\n5 6\n3 4\nend\n3\n",
-        ),
-        (
-            "new 0 1\nput 18446744073709551615 4294967295\nwalk\n",
-            "slots 16 max 0\nnone\n18446744073709551615 4294967295\nend\n",
-        ),
-        (
-            "new 3 95\nput 1 2\nput 3 4\nput 5 6\nget 3\nget 7\n",
-            "slots 16 max 15\nnone\nnone\nnone\n4\nnone\n",
-        ),
-        (
-            "new 3 95\nput 1 2\nput 1 3\nget 1",
-            "slots 16 max 15\nnone\nwas 2\n3\n",
-        ),
-        (
-            "new 0003 095\nput 007 000\nput 7 0000000000000000000000001\nget 0000000000000000000000007\n",
-            "slots 16 max 15\nnone\nwas 0\n1\n",
-        ),
-        (
-            "new 3 95\nput 18446744073709551615 4294967295\nget 18446744073709551615\n",
-            "slots 16 max 15\nnone\n4294967295\n",
-        ),
-        (
-            "new 13 87\nnew 14 87\nnew 40 87\nnew 0 1\n",
-            "slots 16 max 13\nslots 32 max 27\nslots 64 max 55\nslots 16 max 0\n",
-        ),
-        (
-            "new 15 100\nnew 16 100\nnew 1000 100\n",
-            "slots 16 max 15\nslots 32 max 31\nslots 1024 max 1023\n",
-        ),
-        (
-            "new 1 0\nnew 1 101\nnew 1 18446744073709551615\n",
-            "bad percent\nbad percent\nbad percent\n",
-        ),
-        (
-            "new 4611686018427387904 101\nnew 4611686018427387904 100\nnew 576460752303423488 100\n",
-            "bad percent\ncapacity\nmemory\n",
-        ),
-        (
-            "new 3 95\nput 1 2\nnew 1 0\nnew 4611686018427387904 100\nnew 576460752303423488 100\nget 1\n",
-            "slots 16 max 15\nnone\nbad percent\ncapacity\nmemory\n2\n",
-        ),
-        (
-            "new 3 95\nput 1 2\nnew 16 100\nget 1\n",
-            "slots 16 max 15\nnone\nslots 32 max 31\nnone\n",
-        ),
-    ];
-    for (script, expected) in cases {
-        let output = answers(rt.alloc(), script.as_bytes())?;
-        let text = std::str::from_utf8(output.as_slice())?;
-        assert_eq!(rt; text, expected, "the answers to {script:?}");
+    for case in SCRIPTS.split('|') {
+        let (script, expected) = case.split_once('>').ok_or("no answers")?;
+        check_answers(&rt, rt.alloc(), script.as_bytes(), expected)?;
     }
     Ok(())
 }
 
-// Each is malformed before there is a table and afterwards.
+// Lines, each malformed.
+const MALFORMED: &[u8] = b"\
+    \n\
+    \x20\n\
+    put 1  2\n\
+    \x20put 1 2\n\
+    put 1 2 \n\
+    get  1\n\
+    get 1 \n\
+    hex \n\
+    \x20hex\n\
+    get\n\
+    get 1 2\n\
+    put 1\n\
+    put 1 2 3\n\
+    new 3\n\
+    new 3 95 1\n\
+    hex 1\n\
+    get 1\r\n\
+    hex\r\n\
+    get\t1\n\
+    PUT 1 2\n\
+    Get 1\n\
+    get +1\n\
+    get -1\n\
+    get 1.0\n\
+    get 0x1\n\
+    get one\n\
+    get \xd9\xa1\n\
+    \xff\n\
+    get \xff\n\
+    len \n\
+    \x20walk\n\
+    walk 1\n\
+    dump\r\n\
+    Len\n\
+    check 4f44\n\
+    get 18446744073709551616\n\
+    put 18446744073709551616 1\n\
+    put 1 4294967296\n\
+    new 18446744073709551616 95\n\
+    new 3 18446744073709551616\n\
+    new x 0\n\
+    remove 1";
+
+// The line is malformed before there is a table and afterwards.
+fn check_malformed(rt: &impl Abort, alloc: Global, line: &[u8]) -> Result<(), Fail> {
+    let mut script = line.to_vec(alloc)?;
+    script.extend_from_slice(b"\nnew 3 95\n")?;
+    script.extend_from_slice(line)?;
+    script.push(b'\n')?;
+    check_answers(
+        rt,
+        alloc,
+        script.as_slice(),
+        "malformed\nslots 16 max 15\nmalformed\n",
+    )
+}
+
 #[test]
 fn malformed_lines(rt: HostRuntime) -> Result<(), Fail> {
-    let lines: [&[u8]; 42] = [
-        b"",
-        b" ",
-        b"put 1  2",
-        b" put 1 2",
-        b"put 1 2 ",
-        b"get  1",
-        b"get 1 ",
-        b"hex ",
-        b" hex",
-        b"get",
-        b"get 1 2",
-        b"put 1",
-        b"put 1 2 3",
-        b"new 3",
-        b"new 3 95 1",
-        b"hex 1",
-        b"get 1\r",
-        b"hex\r",
-        b"get\t1",
-        b"PUT 1 2",
-        b"Get 1",
-        b"get +1",
-        b"get -1",
-        b"get 1.0",
-        b"get 0x1",
-        b"get one",
-        b"get \xd9\xa1",
-        b"\xff",
-        b"get \xff",
-        b"len ",
-        b" walk",
-        b"walk 1",
-        b"dump\r",
-        b"Len",
-        b"check 4f44",
-        b"get 18446744073709551616",
-        b"put 18446744073709551616 1",
-        b"put 1 4294967296",
-        b"new 18446744073709551616 95",
-        b"new 3 18446744073709551616",
-        b"new x 0",
-        b"remove 1",
-    ];
-    for line in lines {
-        let mut script = line.to_vec(rt.alloc())?;
-        script.extend_from_slice(b"\nnew 3 95\n")?;
-        script.extend_from_slice(line)?;
-        script.push(b'\n')?;
-        let output = answers(rt.alloc(), script.as_slice())?;
-        let text = std::str::from_utf8(output.as_slice())?;
-        assert_eq!(rt;
-            text,
-            "malformed\nslots 16 max 15\nmalformed\n",
-            "at {line:?}"
-        );
+    for line in MALFORMED.split(|byte| *byte == b'\n') {
+        check_malformed(&rt, rt.alloc(), line)?;
     }
     Ok(())
 }
@@ -161,10 +131,26 @@ fn long_lines(rt: HostRuntime) -> Result<(), Fail> {
     script.extend_from_slice(zeros.as_slice())?;
     script.extend_from_slice(b"1 7\nget 1\nget ")?;
     script.extend_from_slice(nines.as_slice())?;
-    let output = answers(alloc, script.as_slice())?;
-    let text = std::str::from_utf8(output.as_slice())?;
-    assert_eq!(rt; text, "slots 16 max 15\nnone\n7\nmalformed\n");
-    Ok(())
+    check_answers(
+        &rt,
+        alloc,
+        script.as_slice(),
+        "slots 16 max 15\nnone\n7\nmalformed\n",
+    )
+}
+
+// Demands 512 lower hexadecimal digits.
+fn check_digits(rt: &impl Abort, digits: &str) {
+    assert_eq!(rt; digits.len(), 512);
+    for byte in digits.bytes() {
+        assert!(rt; matches!(byte, b'0'..=b'9' | b'a'..=b'f'));
+    }
+}
+
+// The one line after those of a new table and a new key.
+fn third_line(text: &str) -> Option<&str> {
+    text.strip_prefix("slots 16 max 15\nnone\n")?
+        .strip_suffix("\n")
 }
 
 #[test]
@@ -173,25 +159,13 @@ fn hex_is_one_line_of_digits(rt: HostRuntime) -> Result<(), Fail> {
         rt.alloc(),
         b"new 3 95\nput 18446744073709551615 4294967295\nhex",
     )?;
-    let mut lines = output.split(|byte| *byte == b'\n').skip(2);
-    let digits = lines.next().ok_or("no line of digits")?;
-    assert_eq!(rt; digits.len(), 512);
-    assert!(rt;
-        digits
-            .iter()
-            .all(|byte| matches!(*byte, b'0'..=b'9' | b'a'..=b'f'))
-    );
-    assert_eq!(rt; lines.next(), Some(b"".as_slice()));
-    assert_eq!(rt; lines.next(), None);
+    let text = std::str::from_utf8(output.as_slice())?;
+    check_digits(&rt, third_line(text).ok_or("no line of digits")?);
     Ok(())
 }
 
 #[test]
 fn dump_of_three_pairs(rt: HostRuntime) -> Result<(), Fail> {
-    let output = answers(
-        rt.alloc(),
-        b"new 3 95\nput 1 2\nput 3 4\nput 5 6\ndump\nlen\n",
-    )?;
     let expected = "slots 16 max 15
 none
 none
@@ -218,8 +192,12 @@ slot 15: key=[3, 0, 0, 0, 0, 0, 0, 0], value=[4, 0, 0, 0], control_byte=58
 
 3
 ";
-    assert_eq!(rt; std::str::from_utf8(output.as_slice())?, expected);
-    Ok(())
+    check_answers(
+        &rt,
+        rt.alloc(),
+        b"new 3 95\nput 1 2\nput 3 4\nput 5 6\ndump\nlen\n",
+        expected,
+    )
 }
 
 // With one refusal of memory at most, whichever it is: the line is answered `memory`, the table is as it was, and the
