@@ -1,11 +1,11 @@
 -- What inserts answer into bytes whose opening is accepted.
-use Rattle.std.proofs.Common.{◌≡◌, ◌<◌, arith, length, take, zip, ◌∙◌, ℕ, List, sym, ap, subst, refl, Option, Some, None, Result, Ok, Err, ◌↔◌}
+use Rattle.std.proofs.Common.{◌≡◌, ◌<◌, arith, length, take, zip, ◌∙◌, ℕ, List, sym, subst, refl, Option, None, Result, Ok, Err, ◌↔◌}
 use Rattle.odht_base.specs.Insert.{put_view}
 use Rattle.odht_base.specs.Load.{max_items}
 use Rattle.odht_base.specs.Table.{Table, count, slot_count}
 use Rattle.odht_base.specs.Valid.{IsImage}
 use Rattle.odht_base.proofs.lemmas.Puts.{put_view-None}
-use Rattle.odht_raw.specs.Coding.{Coding, encoded, value_for}
+use Rattle.odht_raw.specs.Coding.{Coding, encoded}
 use Rattle.odht_raw.specs.Frame.{IsFramed}
 use Rattle.odht_raw.specs.Refusals.{opening_refusal}
 use Rattle.odht_raw.specs.declared.error.Error.{Error}

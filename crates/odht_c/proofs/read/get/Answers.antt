@@ -1,6 +1,3 @@
-use Rattle.std.proofs.Common.{◌∙◌, refl, sym}
-use Rattle.odht_base.specs.Format.{Format, format_of}
-use Rattle.odht_c.proofs.lemmas.Opened.{never_refused}
 use Rattle.odht_c.proofs.lemmas.Refused.{refused_get}
 use Rattle.odht_c.proofs.read.get.Goals as goal
 

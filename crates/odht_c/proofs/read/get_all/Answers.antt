@@ -1,14 +1,12 @@
 use Rattle.std.proofs.Common.{ℕ, refl, ◌≡◌, ◌∙◌, ◌<◌, sym, ap, subst, arith, length, set, slice_get, Some, Option, IfSome}
 use Rattle.std.specs.Prelude.{option_map}
 use Rattle.std.proofs.lemmas.Option.{slice_get-get_or, slice_get_within}
-use Rattle.odht_base.specs.Format.{Format, format_of}
 use Rattle.odht_base.specs.Map.{map_of}
 use Rattle.odht_base.specs.Shown.{entries_of, stated_slots}
 use Rattle.odht_base.specs.Table.{Table}
 use Rattle.odht_base.specs.Valid.{IsImage}
 use Rattle.odht_raw.specs.Coding.{coding_of, value_for, HasStored}
 use Rattle.odht_c.specs.Reads.{IsGotAt}
-use Rattle.odht_c.proofs.lemmas.Opened.{never_refused}
 use Rattle.odht_c.proofs.lemmas.Refused.{refused_get_all, not_none}
 use Rattle.odht_c.proofs.lemmas.Got.{Wrote, other_values, got-next, option_map-twice, stored_answer}
 use Rattle.odht_c.proofs.read.get_all.Goals as goal

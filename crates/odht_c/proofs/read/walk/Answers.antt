@@ -1,4 +1,4 @@
-use Rattle.std.proofs.Common.{refl, ◌∙◌, ◌+◌, ◌++◌, ◌<◌, [], ◌∷◌, sym, ap, arith, length, append_assoc, length-append}
+use Rattle.std.proofs.Common.{◌∙◌, ◌+◌, ◌++◌, ◌<◌, [], ◌∷◌, sym, ap, arith, length, append_assoc, length-append}
 use Rattle.odht_c.proofs.lemmas.Arrays.{set-next_of}
 use Rattle.odht_c.proofs.lemmas.Refused.{refused_walk}
 use Rattle.odht_c.proofs.lemmas.Walked.{walked_all, walked_full, accepted_walk}
