@@ -1,5 +1,5 @@
 -- Worked examples: each header byte of a fresh table set to each of its values, and how often each answer of a view comes.
-use Rattle.std.proofs.Common.{◌≡◌, ℕ, refl, List, [], ◌∷◌, Option, Some, None, map, set, length, filter, eqb}
+use Rattle.std.proofs.Common.{◌≡◌, ℕ, refl, List, [], ◌∷◌, Option, Some, None, map, set, length, filter, eqb, ltb, cond, ap, ◌++◌}
 use Rattle.std.specs.List.{range_with_len, flat_map}
 use Rattle.odht_raw.proofs.examples.Opened.{opened}
 use Rattle.odht_raw.proofs.examples.Refused.{test_bytes}
@@ -28,6 +28,24 @@ kinds from n = flat_map (λ i. map (λ b. kind (view_refusal test_config (set te
 abbrev tally : List ℕ → List ℕ
 tally ks = map (λ e. length (filter (λ k. eqb k e) ks)) (range_with_len 0 9)
 
+-- the answer for byte i set to b
+abbrev kind_at : ℕ → ℕ → ℕ
+kind_at i b = kind (view_refusal test_config (set test_bytes i b))
+
+-- none from byte k on
+abbrev none_from : ℕ → ℕ → ℕ → ℕ
+none_from k i b = cond (ltb i k) (kind_at i b) 0
+
+-- f and g agree on these bytes, whatever they are set to
+abbrev AreSame : (ℕ → ℕ → ℕ) → (ℕ → ℕ → ℕ) → List ℕ → Type 0
+AreSame f g [] = Unit
+AreSame f g (i ∷ is) = ((b : ℕ) → f i b ≡ g i b) × AreSame f g is
+
+-- then their answers are the same, and those of a byte that is not looked at are computed once
+same_rows : (f g : ℕ → ℕ → ℕ) (is bs : List ℕ) → AreSame f g is → flat_map (λ i. map (f i) bs) is ≡ flat_map (λ i. map (g i) bs) is
+same_rows f g [] bs same = refl
+same_rows f g (i ∷ is) bs same = λ j. map (λ b. same.0 b j) bs ++ same_rows f g is bs same.1 j
+
 -- tag and sizes
 pub first_eight : tally (kinds 0 8) ≡ 8 ∷ 0 ∷ 1020 ∷ 0 ∷ 1020 ∷ 0 ∷ 0 ∷ 0 ∷ 0 ∷ []
 unfolding opened
@@ -36,7 +54,10 @@ first_eight = refl
 -- the item count
 pub second_eight : tally (kinds 8 8) ≡ 2048 ∷ 0 ∷ 0 ∷ 0 ∷ 0 ∷ 0 ∷ 0 ∷ 0 ∷ 0 ∷ []
 unfolding opened
-second_eight = refl
+second_eight =
+    let same : AreSame kind_at (none_from 8) (range_with_len 8 8) =
+        ((λ b. refl), ((λ b. refl), ((λ b. refl), ((λ b. refl), ((λ b. refl), ((λ b. refl), ((λ b. refl), ((λ b. refl), tt)))))))) in
+    ap tally (same_rows kind_at (none_from 8) (range_with_len 8 8) (range_with_len 0 256) same)
 
 -- the slot count
 pub third_eight : tally (kinds 16 8) ≡ 8 ∷ 0 ∷ 0 ∷ 0 ∷ 0 ∷ 2033 ∷ 4 ∷ 3 ∷ 0 ∷ []
@@ -46,4 +67,7 @@ third_eight = refl
 -- version, load factor and padding: in all 3,092 times none, and 1,020 times each of the first three
 pub last_eight : tally (kinds 24 8) ≡ 1028 ∷ 0 ∷ 0 ∷ 1020 ∷ 0 ∷ 0 ∷ 0 ∷ 0 ∷ 0 ∷ []
 unfolding opened
-last_eight = refl
+last_eight =
+    let same : AreSame kind_at (none_from 28) (range_with_len 24 8) =
+        ((λ b. refl), ((λ b. refl), ((λ b. refl), ((λ b. refl), ((λ b. refl), ((λ b. refl), ((λ b. refl), ((λ b. refl), tt)))))))) in
+    ap tally (same_rows kind_at (none_from 28) (range_with_len 24 8) (range_with_len 0 256) same)
