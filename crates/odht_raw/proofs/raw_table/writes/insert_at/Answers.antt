@@ -1,18 +1,80 @@
-use Rattle.std.proofs.Common.{rules, zero-add, ◌-◌, length, subst, ◌∙◌, sym, ap, Some, None, Ok, Err, refl}
+use Rattle.std.proofs.Common.{rules, arith, ℕ, List, ◌≡◌, ◌≤◌, ◌<◌, ◌+◌, ◌*◌, zero-add, ◌-◌, length, subst, ◌∙◌, sym, ap, Some, None, Ok, Err, refl}
 use Rattle.std.specs.Prelude.{option_map}
 use Rattle.std.proofs.lemmas.Option.{none-some}
-use Rattle.odht_base.specs.Format.{Format, format_of}
+use Rattle.odht_base.specs.Format.{Format, format_of, entry_len}
 use Rattle.odht_base.specs.Table.{Pair}
 use Rattle.odht_base.specs.Valid.{IsPartsOf, IsPairOf}
 use Rattle.odht_base.proofs.lemmas.Places.{written, place-None}
+use Rattle.odht_base.proofs.lemmas.PartsOf.{slot_within}
 use Rattle.odht_base.specs.Shown.{slot_value}
 use Rattle.odht_raw.specs.Frame.{PartsFrame}
 use Rattle.odht_raw.specs.Parts.{EntryBytes}
 use Rattle.odht_raw.specs.SearchEnds.{IsEnd}
 use Rattle.odht_raw.specs.declared.error.Error.TheVariants.{Full}
+use Rattle.odht_raw.specs.declared.raw_table.outcome.Search.{Search}
+use Rattle.odht_raw.specs.declared.raw_table.outcome.Search.TheVariants.{Found, Free}
 use Rattle.odht_raw.proofs.lemmas.Lookups.{answer-Found, answer-Free, answer-Neither}
 use Rattle.odht_raw.proofs.lemmas.Inserts.{found_value, found_key, found_parts, free_parts}
 use Rattle.odht_raw.proofs.raw_table.writes.insert_at.Goals as goal
+
+-- a slot's entry lies within the bytes of the entries
+within : (F : Format) (es ctrl : List ℕ) (i : ℕ) → length es ≡ (length ctrl - 16) * entry_len F → i < length ctrl - 16
+    → i * entry_len F + entry_len F ≤ length es
+within F es ctrl i long low = omega (arith, long, slot_within i (length ctrl - 16) (entry_len F) low)
+
+-- a found slot is one of the slots
+found_low : (F : Format) (es ctrl k : List ℕ) (r : Search) (i : ℕ) → r ≡ Found i
+    → IsEnd F (record { slots = length ctrl - 16; bytes = es }) ctrl k r → i < length ctrl - 16
+found_low F es ctrl k r i is told = (subst (IsEnd F (record { slots = length ctrl - 16; bytes = es }) ctrl k) is told).0
+
+-- and so is a free one
+free_low : (F : Format) (es ctrl k : List ℕ) (r : Search) (i : ℕ) → r ≡ Free i
+    → IsEnd F (record { slots = length ctrl - 16; bytes = es }) ctrl k r → i < length ctrl - 16
+free_low F es ctrl k r i is told = (subst (IsEnd F (record { slots = length ctrl - 16; bytes = es }) ctrl k) is told).0
+
+pub overflow_mul-slot : goal.overflow_mul-slot
+overflow_mul-slot g c =
+    let F : Format = format_of g.K.ByteArray.LEN g.V.ByteArray.LEN g.H.HashFn.hash in
+    let es = c.args.entries.now in
+    let ctrl = c.args.control.now in
+    let low = found_low F es ctrl (g.K.ByteArray.bytes c.args.key) c.args.end c.in-Found.slot c.in-Found.is c.requires.end in
+    rw (c.LEN.ensures, c.LEN-in-Found.ensures) (omega (arith, within F es ctrl c.in-Found.slot c.requires.lengths.entries low))
+
+pub overflow_add-slot : goal.overflow_add-slot
+overflow_add-slot g c =
+    let F : Format = format_of g.K.ByteArray.LEN g.V.ByteArray.LEN g.H.HashFn.hash in
+    let es = c.args.entries.now in
+    let ctrl = c.args.control.now in
+    let low = found_low F es ctrl (g.K.ByteArray.bytes c.args.key) c.args.end c.in-Found.slot c.in-Found.is c.requires.end in
+    rw (c.LEN.ensures, c.LEN-in-Found.ensures, c.LEN-in-Found-2.ensures) (omega (arith, within F es ctrl c.in-Found.slot c.requires.lengths.entries low))
+
+pub write_at-requires : goal.write_at-requires
+write_at-requires g c =
+    let F : Format = format_of g.K.ByteArray.LEN g.V.ByteArray.LEN g.H.HashFn.hash in
+    let es = c.args.entries.now in
+    let ctrl = c.args.control.now in
+    let low = found_low F es ctrl (g.K.ByteArray.bytes c.args.key) c.args.end c.in-Found.slot c.in-Found.is c.requires.end in
+    rw (c.LEN.ensures, c.LEN-in-Found.ensures, c.LEN-in-Found-2.ensures)
+       (omega (arith, within F es ctrl c.in-Found.slot c.requires.lengths.entries low, ap length c.new-place.ensures.bytes, ap length c.as_slice.ensures.value, c.as_slice.ensures.bytes.len))
+
+pub overflow_mul-slot-in-Free : goal.overflow_mul-slot-in-Free
+overflow_mul-slot-in-Free g c =
+    let F : Format = format_of g.K.ByteArray.LEN g.V.ByteArray.LEN g.H.HashFn.hash in
+    let es = c.args.entries.now in
+    let ctrl = c.args.control.now in
+    let low = free_low F es ctrl (g.K.ByteArray.bytes c.args.key) c.args.end c.in-Free.slot c.in-Free.is c.requires.end in
+    rw (c.LEN-in-Free.ensures, c.LEN-in-Free-2.ensures) (omega (arith, within F es ctrl c.in-Free.slot c.requires.lengths.entries low))
+
+pub write_pair-requires : goal.write_pair-requires
+write_pair-requires g c =
+    let F : Format = format_of g.K.ByteArray.LEN g.V.ByteArray.LEN g.H.HashFn.hash in
+    let es = c.args.entries.now in
+    let ctrl = c.args.control.now in
+    let low = free_low F es ctrl (g.K.ByteArray.bytes c.args.key) c.args.end c.in-Free.slot c.in-Free.is c.requires.end in
+    let fits : c.in-Free.slot * (c.LEN-in-Free.result + c.LEN-in-Free-2.result) + (g.K.ByteArray.LEN + g.V.ByteArray.LEN) ≤ length c.new-place-in-Free.result.0.now =
+        rw (c.LEN-in-Free.ensures, c.LEN-in-Free-2.ensures)
+           (omega (arith, within F es ctrl c.in-Free.slot c.requires.lengths.entries low, ap length c.new-place-in-Free.ensures.bytes)) in
+    λ k. search (rules, fits)
 
 pub returns-in-Found-clause-placed : goal.returns-in-Found-clause-placed
 returns-in-Found-clause-placed g c P h e =
