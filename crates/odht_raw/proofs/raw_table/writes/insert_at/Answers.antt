@@ -88,7 +88,7 @@ returns-in-Found-clause-placed g c P h e =
     let some = at.places p refl in
     let former = ap Some (old ∙ ap g.V.ByteArray.of_bytes (found_value F P _ _ h p.key c.in-Found.slot at)) ∙ sym (ap (option_map g.V.ByteArray.of_bytes) at.value) in
     record {
-      ok = search (rules, former, some, parts);
+      ok = (former, (written P c.in-Found.slot p, some, search (rules, parts)));
       full = (λ d. cc, λ d. absurd (none-some _ (sym d ∙ some)));
       no_room = (λ d. cc, λ n. absurd (none-some _ (sym ((place-None F P p h.placed).1 n) ∙ some)));
     }
@@ -104,7 +104,7 @@ returns-in-Free-clause-placed g c P h e =
     let some = at.places p refl in
     let former = sym (ap (option_map g.V.ByteArray.of_bytes) at.value) in
     record {
-      ok = search (rules, former, some, parts);
+      ok = (former, (written P c.in-Free.slot p, some, search (rules, parts)));
       full = (λ d. cc, λ d. absurd (none-some _ (sym d ∙ some)));
       no_room = (λ d. cc, λ n. absurd (none-some _ (sym ((place-None F P p h.placed).1 n) ∙ some)));
     }
