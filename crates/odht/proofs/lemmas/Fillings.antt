@@ -16,6 +16,10 @@ use Rattle.odht_base.proofs.lemmas.Runs.{IsInsert, run-push, last-append, last-c
 use Rattle.odht_raw.specs.Coding.{Coding, encoded}
 use Rattle.odht.specs.Lists.{encoded_all, HasSizeOf, IsFilled, IsFreshFilled}
 
+-- no pairs leave the table as it is
+pub filled_none : (F : Format) (put : Table → Pair → Option Table) (P : Table) (B : List ℕ) → IsImage F P B → IsFilled F put P [] B
+filled_none F put P B is = record { table = P; runs = refl; image = is; maps = λ k. refl; stays = λ room. ((refl, refl), omega arith) }
+
 module _ (F : Format) (put : Table → Pair → Option Table) (is : IsInsert F (IsValid F) put) (places : PlacesBelow F put) (P : Table) where
   -- one more gives its key this value
   pub filled_more : (ps : List Pair) (p : Pair) (B C : List ℕ) (h : IsFilled F put P ps B) (Q : Table) → put h.table p ≡ Some Q → IsImage F Q C → IsFilled F put P (ps ++ p ∷ []) C

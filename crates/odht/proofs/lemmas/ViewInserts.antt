@@ -1,15 +1,16 @@
 -- What the writes of an insert leave where its search ended, on the bytes of a valid table below its maximum.
-use Rattle.std.proofs.Common.{◌≡◌, ◌∙◌, ◌+◌, ℕ, sym, ap, refl, subst, List, [], Option, Some}
+use Rattle.std.proofs.Common.{◌≡◌, ◌≤◌, ◌<◌, ◌∙◌, ◌+◌, ◌/◌, ◌^◌, ℕ, sym, ap, refl, subst, arith, List, [], Option, Some, None, Ok}
 use Rattle.std.specs.Prelude.{option_map}
 use Rattle.std.proofs.lemmas.Option.{none-some}
-use Rattle.odht_base.specs.Format.{Format}
+use Rattle.odht_base.specs.Format.{Format, tag}
+use Rattle.odht_base.specs.Numbers.{IsBytes}
 use Rattle.odht_base.specs.Table.{Pair, Table, count, slot_count}
 use Rattle.odht_base.specs.Load.{max_items}
 use Rattle.odht_base.specs.Insert.{put_view}
 use Rattle.odht_base.specs.Map.{map_of}
-use Rattle.odht_base.specs.Valid.{IsPairOf, IsImage, IsValid}
-use Rattle.odht_base.specs.Shown.{stated_slots, stated_count, stated_factor}
-use Rattle.odht_base.specs.Writes.{with_value, with_pair, with_count}
+use Rattle.odht_base.specs.Valid.{IsPairOf, IsImage, IsPartsOf, IsValid}
+use Rattle.odht_base.specs.Shown.{stated_slots, stated_count, stated_factor, entries_of, controls_of, slot_key, slot_value, value_at}
+use Rattle.odht_base.specs.Writes.{with_value, with_entry, with_tag, with_pair, with_count}
 use Rattle.odht_base.proofs.lemmas.Fits.{IsSized-IsPlaced}
 use Rattle.odht_base.proofs.lemmas.Image.{stated_count-image, stated_slots-image, stated_factor-image}
 use Rattle.odht_base.proofs.lemmas.Rooms.{place-IsValid_fits}
@@ -17,6 +18,8 @@ use Rattle.odht_base.proofs.lemmas.Places.{written}
 use Rattle.odht_base.proofs.lemmas.Puts.{HasRoom, place-IsValid, put_view-below, put_view-IsInsert}
 use Rattle.odht_base.proofs.lemmas.Writes.{with_value-image, with_pair-image_stated}
 use Rattle.odht_raw.specs.Coding.{Coding, encoded}
+use Rattle.odht_raw.specs.Frame.{CountsAsFree, InsertFrame, IsFramed}
+use Rattle.odht_raw.proofs.lemmas.Inserts.{found_key, found_value}
 use Rattle.odht.specs.Inserts.{IsInserted}
 use Rattle.odht_raw.proofs.lemmas.Lookups.{IsFoundAt, IsFreeAt, IsNowhere}
 
@@ -40,13 +43,21 @@ module _ (F : Format) (P : Table) (B : List ℕ) (is : IsImage F P B) where
       let slots = ap stated_slots is.bytes ∙ stated_slots-image F P (IsSized-IsPlaced F P is.valid.placed) in
       λ i. max_items (slots i) (factor_stated i)
 
-  -- so the numbers that an insert reads are the table's own
-  pub numbers_read : {header : List ℕ} {items most slots factor : ℕ} → header ≡ B → items ≡ stated_count header → slots ≡ stated_slots header → factor ≡ stated_factor header
-      → most ≡ max_items slots factor → (items ≡ count P) × (most ≡ max_items (slot_count P) P.factor)
-  numbers_read at n s f m = (
-    n ∙ ap stated_count at ∙ count_stated,
-    m ∙ (λ i. max_items ((s ∙ ap stated_slots at) i) ((f ∙ ap stated_factor at) i)) ∙ max_stated,
-  )
+  -- so what an insert reads of it is the table's own: with the count at the maximum it is full
+  module _ {header : List ℕ} {items most slots factor : ℕ} (at : header ≡ B) (n : items ≡ stated_count header) (s : slots ≡ stated_slots header)
+      (f : factor ≡ stated_factor header) (m : most ≡ max_items slots factor) where
+    most_read : most ≡ max_items (slot_count P) P.factor
+    most_read = m ∙ (λ i. max_items ((s ∙ ap stated_slots at) i) ((f ∙ ap stated_factor at) i)) ∙ max_stated
+
+    items_read : items ≡ count P
+    items_read = n ∙ ap stated_count at ∙ count_stated
+
+    pub read_full : most ≤ items → count P ≡ max_items (slot_count P) P.factor
+    read_full h = omega (arith, most_read, items_read, is.valid.room, h)
+
+    -- and below it it has room
+    pub read_room : items < most → HasRoom P
+    read_room h = omega (arith, most_read, items_read, h)
 
   -- a search that ends nowhere is none of a valid table
   pub never_nowhere : (k : List ℕ) → IsNowhere F P k → ⊥
@@ -82,6 +93,10 @@ module _ (F : Format) (P : Table) (B : List ℕ) (is : IsImage F P B) (room : Ha
       )
 
 -- ---- the answer of a view
+-- a table with room is not at its maximum
+pub room_not_full : (P : Table) → HasRoom P → count P ≡ max_items (slot_count P) P.factor → ⊥
+room_not_full P room full = omega (arith, room, full)
+
 -- an insert that ends so answers the former value, and leaves the table after the put
 pub inserted : {K V : Type 0} (c : Coding K V) (P : Table) → IsValid c.format P → (k : K) (v : V) (old : Option V) (B : List ℕ) (p : Pair) → p ≡ encoded c k v
     → old ≡ option_map c.value_of (map_of P p.key) → IsPut c.format P p B → IsInserted c (put_view c.format) P k v old B
@@ -94,3 +109,58 @@ inserted c P ok k v old B p same former put =
       image = q.2;
       maps = (put_view-IsInsert c.format).maps P q.0 (encoded c k v) ok q.1;
     }
+
+-- a place that is written twice holds the last bytes
+pub held_twice : {S : Type 0} (holding : S → List ℕ → S)
+    (held_last : (s : S) (a b : List ℕ) → holding (holding s a) b ≡ holding s b) (s t u : S) (a b : List ℕ)
+    → t ≡ holding s a → u ≡ holding t b → u ≡ holding s b
+held_twice holding held_last s t u a b first last = last ∙ ap (λ r. holding r b) first ∙ held_last s a b
+
+-- ---- an insert of the pair p, by what its code read and wrote: A are the bytes that it read
+module _ {K V : Type 0} (c : Coding K V) (A : List ℕ) (k : K) (v : V) (p : Pair) (same : p ≡ encoded c k v) (slot : ℕ) where
+  -- the overwritten value, of which r was made
+  module _ (es : List ℕ) (r : V) (old : r ≡ c.value_of (slot_value c.format es slot)) (C : List ℕ) (written : C ≡ with_value c.format A slot p.value) where
+    pub found_inserted : (P : Table) → IsImage c.format P A → HasRoom P → (ctrl : List ℕ) → IsPartsOf c.format P es ctrl → IsFoundAt c.format P p.key slot
+        → IsBytes c.format.value_len p.value → IsInserted c (put_view c.format) P k v (Some r) C
+    found_inserted P is room ctrl parts at fits =
+        inserted c P is.valid k v (Some r) C p same
+        (ap Some (old ∙ ap c.value_of (found_value c.format P es ctrl parts p.key slot at)) ∙ sym (ap (option_map c.value_of) at.value))
+        (subst (IsPut c.format P p) (sym written)
+        (found_put c.format P A is room p (record { key = found_key c.format P es ctrl parts p.key slot at; value = fits }) slot at))
+
+    -- on any bytes
+    pub found_framed : (B : List ℕ) → A ≡ B → es ≡ entries_of c.format A → (n : ℕ) → n ≡ stated_slots A → slot < n → slot_key c.format es slot ≡ p.key
+        → IsFramed c B k v (Ok (Some r)) C
+    found_framed B here entries n slots low key =
+        let frame : InsertFrame c.format A p (Ok (Some (value_at c.format A slot))) (with_value c.format A slot p.value) =
+        InsertFrame.overwrote slot (subst (λ m. slot < m) slots low) (ap (λ e. slot_key c.format e slot) (sym entries) ∙ key) in
+        subst (λ b. IsFramed c b k v (Ok (Some r)) C) here (
+          Ok (Some (value_at c.format A slot)),
+          ap (λ o. Ok (Some o)) (old ∙ ap (λ e. c.value_of (slot_value c.format e slot)) entries),
+          subst (λ q. InsertFrame c.format A q (Ok (Some (value_at c.format A slot))) C) same (subst (InsertFrame c.format A p (Ok (Some (value_at c.format A slot)))) (sym written) frame),
+        )
+
+  -- the pair written into a free slot, with its tag, and the count
+  module _ (items t h : ℕ) (key header W C : List ℕ) (counted : items ≡ stated_count header) (at : header ≡ A) (hashed : h ≡ c.format.hash key) (read : key ≡ p.key)
+      (tagged : t ≡ h / 2 ^ 25) (entry : W ≡ with_tag c.format (stated_slots A) (with_entry c.format A slot p) slot t) (written : C ≡ with_count W (items + 1)) where
+    added : C ≡ with_count (with_pair c.format (stated_slots A) A slot p) (stated_count A + 1)
+    added =
+        let tag_is : t ≡ tag c.format p.key = tagged ∙ ap (λ n. n / 2 ^ 25) (hashed ∙ ap c.format.hash read) in
+        let count_is : items ≡ stated_count A = counted ∙ ap stated_count at in
+        written
+        ∙ (λ i. with_count (entry i) (count_is i + 1))
+        ∙ (λ i. with_count (with_tag c.format (stated_slots A) (with_entry c.format A slot p) slot (tag_is i)) (stated_count A + 1))
+
+    pub free_inserted : (P : Table) → IsImage c.format P A → HasRoom P → IsFreeAt c.format P p.key slot → IsPairOf c.format p
+        → IsInserted c (put_view c.format) P k v None C
+    free_inserted P is room end fits =
+        inserted c P is.valid k v None C p same (sym (ap (option_map c.value_of) end.value))
+        (subst (IsPut c.format P p) (sym added) (free_put c.format P A is room p fits slot end))
+
+    -- on any bytes
+    pub free_framed : (B : List ℕ) → A ≡ B → (ctrl : List ℕ) → ctrl ≡ controls_of c.format A → (n : ℕ) → n ≡ stated_slots A → slot < n → CountsAsFree ctrl slot
+        → IsFramed c B k v (Ok None) C
+    free_framed B here ctrl controls n slots low free =
+        let frame : InsertFrame c.format A p (Ok None) (with_count (with_pair c.format (stated_slots A) A slot p) (stated_count A + 1)) =
+        InsertFrame.added slot (subst (λ m. slot < m) slots low) (subst (λ b. CountsAsFree b slot) controls free) in
+        subst (λ b. IsFramed c b k v (Ok None) C) here (Ok None, refl, subst (λ q. InsertFrame c.format A q (Ok None) C) same (subst (InsertFrame c.format A p (Ok None)) (sym added) frame))

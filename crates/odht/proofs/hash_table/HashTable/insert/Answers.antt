@@ -1,126 +1,196 @@
-use Rattle.std.proofs.Common.{◌≡◌, ◌+◌, ◌/◌, ◌^◌, ◌∙◌, sym, ap, subst, refl, arith, Some, None, Ok, Err, ◌<◌}
-use Rattle.std.specs.Prelude.{option_map}
-use Rattle.odht_base.specs.Format.{Format, format_of, tag}
-use Rattle.odht_base.specs.Load.{max_items}
-use Rattle.odht_base.specs.Table.{Pair, count, slot_count}
-use Rattle.odht_base.specs.Shown.{stated_count, stated_slots, entries_of, controls_of, key_at, value_at, slot_key, slot_value}
-use Rattle.odht_base.specs.Valid.{IsPairOf}
-use Rattle.odht_base.specs.Writes.{with_value, with_count, with_entry, with_tag}
-use Rattle.odht_raw.specs.Coding.{coding_of, encoded}
-use Rattle.odht_raw.specs.Frame.{InsertFrame, CountsAsFree}
+use Rattle.std.proofs.Common.{◌≡◌, ◌+◌, ◌<◌, ◌∙◌, ℕ, List, sym, ap, subst, refl, arith, Err}
+use Rattle.odht_base.specs.Load.{IsSlotCount}
+use Rattle.odht_base.specs.Table.{Pair, Table}
+use Rattle.odht_base.specs.Valid.{IsImage, IsPartsOf}
+use Rattle.odht_base.proofs.lemmas.Puts.{HasRoom}
+use Rattle.odht_raw.specs.Coding.{Coding, coding_of, encoded}
+use Rattle.odht_raw.specs.Frame.{InsertFrame, IsAccepted}
+use Rattle.odht_raw.specs.Parts.{ShownGroups}
 use Rattle.odht_raw.specs.declared.error.Error.TheVariants.{Full}
-use Rattle.odht_raw.proofs.lemmas.Lookups.{IsFoundAt, IsFreeAt, answer-Found, answer-Free, answer-Neither}
-use Rattle.odht_raw.proofs.lemmas.Inserts.{found_value, found_key}
-use Rattle.odht.proofs.lemmas.ViewInserts.{IsPut, inserted, numbers_read, never_nowhere, found_put, free_put}
+use Rattle.odht_raw.proofs.lemmas.Lookups.{answer-Found, answer-Free, answer-Neither}
+use Rattle.odht.proofs.lemmas.ViewInserts.{read_full, read_room, room_not_full, never_nowhere, held_twice}
+use Rattle.odht.proofs.lemmas.ViewInserts.{found_inserted, found_framed, free_inserted, free_framed}
+use Rattle.odht.proofs.hash_table.HashTable.insert.Given.{Over}
 use Rattle.odht.proofs.hash_table.HashTable.insert.Goals as goal
+use Rattle.odht.proofs.hash_table.HashTable.insert.Goals.{After-max_item_count_for-max}
+
+-- the coding of the configuration
+abbrev coding : (g : Over) → Coding g.row.C-Key.Denot g.row.C-Value.Denot
+coding g =
+    let key = g.C.EncodedKey.ByteArray in
+    let value = g.C.EncodedValue.ByteArray in
+    coding_of key.LEN key.bytes key.of_bytes value.LEN value.bytes value.of_bytes g.C.H.HashFn.hash
+    g.C.Config.encode_key g.C.Config.encode_value g.C.Config.decode_key g.C.Config.decode_value
+
+-- the pair that is written
+abbrev pair : (g : Over) → g.row.C-EncodedKey.Denot → g.row.C-EncodedValue.Denot → Pair
+pair g k v = record { key = g.C.EncodedKey.ByteArray.bytes k; value = g.C.EncodedValue.ByteArray.bytes v }
+
+-- it is that of the key and the value
+pair-same : (g : Over) (k : g.row.C-Key.Denot) (v : g.row.C-Value.Denot) (a : g.row.C-EncodedKey.Denot)
+    (b : g.row.C-EncodedValue.Denot) → a ≡ g.C.Config.encode_key k → b ≡ g.C.Config.encode_value v
+    → pair g a b ≡ encoded (coding g) k v
+pair-same g k v a b key value = λ i. pair g (key i) (value i)
+
+-- the table's bytes, as they are read
+here : (g : Over) (P : Table) (s t : g.row.D.Denot) → s ≡ t → IsImage (coding g).format P (g.D.ByteStore.bytes t)
+    → IsImage (coding g).format P (g.D.ByteStore.bytes s)
+here g P s t view is = record { valid = is.valid; bytes = ap g.D.ByteStore.bytes view ∙ is.bytes }
+
+-- a count below the maximum that is read leaves room
+has_room : (g : Over) (c : goal.After-max_item_count_for-max g) (P : Table)
+    → IsImage (coding g).format P (g.D.ByteStore.bytes c.args.self.now)
+    → c.item_count-count.result < c.max_item_count_for-max.result → HasRoom P
+has_room g c P is low =
+    read_room (coding g).format P _ (here g P _ _ c.self.view_is is) c.header-header.ensures.bytes
+    c.item_count-count.ensures c.slot_count.ensures c.max_load_factor.ensures c.max_item_count_for-max.ensures.value low
+
+-- and their parts, as they are scanned
+scanned : (g : Over) (P : Table) (es ctrl : List ℕ) (scan : ShownGroups) → scan ≡ record { control = ctrl; groups = 0 }
+    → IsPartsOf (coding g).format P es ctrl → IsPartsOf (coding g).format P es scan.control
+scanned g P es ctrl scan new parts =
+    subst (λ (t : ShownGroups). IsPartsOf (coding g).format P es t.control) (sym new) parts
+
+-- a count below a number that fits can be one more
+next_fits : (a b n : ℕ) → a < b → b < n → a + 1 < n
+next_fits a b n low fits = omega arith
+
+pub new-scan-requires-clause-slots : goal.new-scan-requires-clause-slots
+new-scan-requires-clause-slots g c = subst IsSlotCount (sym c.len.ensures) c.data_slices-entries.ensures.count
+
+pub new-scan-requires-clause-control : goal.new-scan-requires-clause-control
+new-scan-requires-clause-control g c = c.data_slices-entries.ensures.len ∙ ap (λ n. n + 16) (sym c.len.ensures)
+
+pub search_hashed-requires-clause-hash : goal.search_hashed-requires-clause-hash
+search_hashed-requires-clause-hash g c κs within = c.hash-hash.ensures ∙ ap g.C.H.HashFn.hash c.as_slice.ensures.value
+
+pub get-requires-after_bounds : goal.get-requires-after_bounds
+get-requires-after_bounds g c κs within = c.in-Found.ensures.slot.0
+
+pub write_value-requires-after_bounds : goal.write_value-requires-after_bounds
+write_value-requires-after_bounds g c κs within =
+    subst (λ n. c.in-Found.slot < n) c.data_slices-entries.ensures.slots c.in-Found.ensures.slot.0
+
+pub write_entry-requires-after_bounds : goal.write_entry-requires-after_bounds
+write_entry-requires-after_bounds g c κs within =
+    subst (λ n. c.in-Free.slot < n) c.data_slices-entries.ensures.slots c.in-Free.ensures.slot.0
+
+pub overflow_add-count : goal.overflow_add-count
+overflow_add-count g c =
+    let next = next_fits _ _ _ c.if-count-max.false c.max_item_count_for-max.type_inv in
+    assumption next
 
 pub returns-then-count-max-clause-full : goal.returns-then-count-max-clause-full
 returns-then-count-max-clause-full g c P is =
-    let F : Format = format_of g.C.EncodedKey.ByteArray.LEN g.C.EncodedValue.ByteArray.LEN g.C.H.HashFn.hash in
-    let B = g.D.ByteStore.bytes c.args.self.now in
-    let read = numbers_read F P B is (c.header-header.ensures.bytes ∙ (ap g.D.ByteStore.bytes c.self.view_is)) c.item_count-count.ensures c.slot_count.ensures c.max_load_factor.ensures c.max_item_count_for-max.ensures.value in
-    let full : count P ≡ max_items (slot_count P) P.factor = omega (arith, read, is.valid.room, c.if-count-max.true) in
+    let full = read_full (coding g).format P _ (here g P _ _ c.self.view_is is) c.header-header.ensures.bytes
+    c.item_count-count.ensures c.slot_count.ensures c.max_load_factor.ensures c.max_item_count_for-max.ensures.value
+    c.if-count-max.true in
     (λ e. full, λ e. refl)
 
 pub returns-in-Found-clause-ok : goal.returns-in-Found-clause-ok
 returns-in-Found-clause-ok g c P is =
-    let F : Format = format_of g.C.EncodedKey.ByteArray.LEN g.C.EncodedValue.ByteArray.LEN g.C.H.HashFn.hash in
-    let B = g.D.ByteStore.bytes c.args.self.now in
-    let read = numbers_read F P B is (c.header-header.ensures.bytes ∙ (ap g.D.ByteStore.bytes c.self.view_is)) c.item_count-count.ensures c.slot_count.ensures c.max_load_factor.ensures c.max_item_count_for-max.ensures.value in
-    let p : Pair = record { key = g.C.EncodedKey.ByteArray.bytes c.encode_key-key.result; value = g.C.EncodedValue.ByteArray.bytes c.encode_value-value.result } in
-    let slot = c.in-Found.slot in
-    let parts = c.data_slices-entries.ensures.parts P (record { valid = is.valid; bytes = (ap g.D.ByteStore.bytes c.self.view_is) ∙ is.bytes }) in
-    let at : IsFoundAt F P p.key slot = answer-Found F P _ is.valid.placed slot ((rw c.new-scan.ensures at c.in-Found.ensures).on_placed P parts) in
-    let fits : IsPairOf F p = record { key = found_key F P _ _ parts p.key slot at; value = c.write_value.ensures.value } in
-    let old = c.get.ensures.value ∙ ap g.C.EncodedValue.ByteArray.of_bytes (found_value F P _ _ parts p.key slot at) in
-    let written : g.D.ByteStore.bytes c.write_value.new.self ≡ with_value F B slot p.value = c.write_value.ensures.bytes ∙ ap (λ b. with_value F b slot p.value) (ap g.D.ByteStore.bytes c.self.view_is) in
-    let K = coding_of g.C.EncodedKey.ByteArray.LEN g.C.EncodedKey.ByteArray.bytes g.C.EncodedKey.ByteArray.of_bytes g.C.EncodedValue.ByteArray.LEN g.C.EncodedValue.ByteArray.bytes g.C.EncodedValue.ByteArray.of_bytes g.C.H.HashFn.hash g.C.Config.encode_key g.C.Config.encode_value g.C.Config.decode_key g.C.Config.decode_value in
-    let same : p ≡ encoded K c.args.key.now c.args.value.now = λ i. record { key = g.C.EncodedKey.ByteArray.bytes (c.encode_key-key.ensures i); value = g.C.EncodedValue.ByteArray.bytes (c.encode_value-value.ensures i) } in
-    inserted K P is.valid c.args.key.now c.args.value.now (Some c.decode_value.result) _ p same
-    (ap Some (c.decode_value.ensures ∙ ap g.C.Config.decode_value old) ∙ sym (ap (option_map K.value_of) at.value))
-    (subst (IsPut F P p) (sym written) (found_put F P B is (omega (arith, read, c.if-count-max.false)) p fits slot at))
+    let read = here g P _ _ c.self.view_is is in
+    let header = (goal.at.returns-in-Found-clause-ok g c).After-max_item_count_for-max in
+    let room = has_room g header P is c.if-count-max.false in
+    let parts = scanned g P _ _ _ c.new-scan.ensures (c.data_slices-entries.ensures.parts P read) in
+    found_inserted (coding g) _ c.args.key.now c.args.value.now (pair g c.encode_key-key.result c.encode_value-value.result)
+    (pair-same g _ _ _ _ c.encode_key-key.ensures c.encode_value-value.ensures) c.in-Found.slot
+    c.data_slices-entries.result.1.bytes c.decode_value.result
+    (c.decode_value.ensures ∙ ap g.C.Config.decode_value c.get.ensures.value)
+    (g.D.ByteStore.bytes c.write_value.new.self) c.write_value.ensures.bytes
+    P read room _ parts (answer-Found (coding g).format P _ is.valid.placed _ (c.in-Found.ensures.on_placed P parts))
+    c.write_value.ensures.value
 
 pub returns-in-Found-clause-full : goal.returns-in-Found-clause-full
 returns-in-Found-clause-full g c P is =
-    let F : Format = format_of g.C.EncodedKey.ByteArray.LEN g.C.EncodedValue.ByteArray.LEN g.C.H.HashFn.hash in
-    let B = g.D.ByteStore.bytes c.args.self.now in
-    let read = numbers_read F P B is (c.header-header.ensures.bytes ∙ (ap g.D.ByteStore.bytes c.self.view_is)) c.item_count-count.ensures c.slot_count.ensures c.max_load_factor.ensures c.max_item_count_for-max.ensures.value in
-    (λ e. cc, λ e. absurd (omega (arith, read, e, c.if-count-max.false)))
+    let header = (goal.at.returns-in-Found-clause-full g c).After-max_item_count_for-max in
+    let room = has_room g header P is c.if-count-max.false in
+    (λ e. cc, λ full. absurd (room_not_full P room full))
 
 pub returns-in-Free-clause-ok : goal.returns-in-Free-clause-ok
 returns-in-Free-clause-ok g c P is =
-    let F : Format = format_of g.C.EncodedKey.ByteArray.LEN g.C.EncodedValue.ByteArray.LEN g.C.H.HashFn.hash in
-    let B = g.D.ByteStore.bytes c.args.self.now in
-    let read = numbers_read F P B is (c.header-header.ensures.bytes ∙ (ap g.D.ByteStore.bytes c.self.view_is)) c.item_count-count.ensures c.slot_count.ensures c.max_load_factor.ensures c.max_item_count_for-max.ensures.value in
-    let p : Pair = record { key = g.C.EncodedKey.ByteArray.bytes c.encode_key-key.result; value = g.C.EncodedValue.ByteArray.bytes c.encode_value-value.result } in
-    let slot = c.in-Free.slot in
-    let parts = c.data_slices-entries.ensures.parts P (record { valid = is.valid; bytes = (ap g.D.ByteStore.bytes c.self.view_is) ∙ is.bytes }) in
-    let at : IsFreeAt F P p.key slot = answer-Free F P _ is.valid.placed slot ((rw c.new-scan.ensures at c.in-Free.ensures).on_placed P parts) in
-    let stated : c.item_count-count.result ≡ stated_count B = c.item_count-count.ensures ∙ ap stated_count (c.header-header.ensures.bytes ∙ (ap g.D.ByteStore.bytes c.self.view_is)) in
-    let tagged : c.tag_of.result ≡ tag F p.key = c.tag_of.ensures ∙ ap (λ h. h / 2 ^ 25) (c.hash-hash.ensures ∙ ap F.hash c.as_slice.ensures.value) in
-    let written : g.D.ByteStore.bytes c.set_item_count.new.self ≡ with_count (with_tag F (stated_slots B) (with_entry F B slot p) slot (tag F p.key)) (stated_count B + 1) =
-    c.set_item_count.ensures.bytes
-    ∙ (λ i. with_count (c.write_entry.ensures.bytes i) (stated i + 1))
-    ∙ (λ i. with_count (with_tag F (stated_slots ((ap g.D.ByteStore.bytes c.self.view_is) i)) (with_entry F ((ap g.D.ByteStore.bytes c.self.view_is) i) slot p) slot (tagged i)) (stated_count B + 1)) in
-    let K = coding_of g.C.EncodedKey.ByteArray.LEN g.C.EncodedKey.ByteArray.bytes g.C.EncodedKey.ByteArray.of_bytes g.C.EncodedValue.ByteArray.LEN g.C.EncodedValue.ByteArray.bytes g.C.EncodedValue.ByteArray.of_bytes g.C.H.HashFn.hash g.C.Config.encode_key g.C.Config.encode_value g.C.Config.decode_key g.C.Config.decode_value in
-    let same : p ≡ encoded K c.args.key.now c.args.value.now = λ i. record { key = g.C.EncodedKey.ByteArray.bytes (c.encode_key-key.ensures i); value = g.C.EncodedValue.ByteArray.bytes (c.encode_value-value.ensures i) } in
-    inserted K P is.valid c.args.key.now c.args.value.now None _ p same (sym (ap (option_map K.value_of) at.value))
-    (subst (IsPut F P p) (sym written) (free_put F P B is (omega (arith, read, c.if-count-max.false)) p c.write_entry.ensures.pair slot at))
+    let read = here g P _ _ c.self.view_is is in
+    let header = (goal.at.returns-in-Free-clause-ok g c).After-max_item_count_for-max in
+    let room = has_room g header P is c.if-count-max.false in
+    let parts = scanned g P _ _ _ c.new-scan.ensures (c.data_slices-entries.ensures.parts P read) in
+    free_inserted (coding g) _ c.args.key.now c.args.value.now (pair g c.encode_key-key.result c.encode_value-value.result)
+    (pair-same g _ _ _ _ c.encode_key-key.ensures c.encode_value-value.ensures) c.in-Free.slot
+    c.item_count-count.result c.tag_of.result c.hash-hash.result c.as_slice.result.now _ _
+    (g.D.ByteStore.bytes c.set_item_count.new.self)
+    c.item_count-count.ensures c.header-header.ensures.bytes c.hash-hash.ensures c.as_slice.ensures.value c.tag_of.ensures
+    c.write_entry.ensures.bytes c.set_item_count.ensures.bytes
+    P read room (answer-Free (coding g).format P _ is.valid.placed _ (c.in-Free.ensures.on_placed P parts))
+    c.write_entry.ensures.pair
 
 pub returns-in-Free-clause-full : goal.returns-in-Free-clause-full
 returns-in-Free-clause-full g c P is =
-    let F : Format = format_of g.C.EncodedKey.ByteArray.LEN g.C.EncodedValue.ByteArray.LEN g.C.H.HashFn.hash in
-    let B = g.D.ByteStore.bytes c.args.self.now in
-    let read = numbers_read F P B is (c.header-header.ensures.bytes ∙ (ap g.D.ByteStore.bytes c.self.view_is)) c.item_count-count.ensures c.slot_count.ensures c.max_load_factor.ensures c.max_item_count_for-max.ensures.value in
-    (λ e. cc, λ e. absurd (omega (arith, read, e, c.if-count-max.false)))
+    let header = (goal.at.returns-in-Free-clause-full g c).After-max_item_count_for-max in
+    let room = has_room g header P is c.if-count-max.false in
+    (λ e. cc, λ full. absurd (room_not_full P room full))
 
 pub returns-in-Neither-clause-full : goal.returns-in-Neither-clause-full
 returns-in-Neither-clause-full g c P is =
-    let F : Format = format_of g.C.EncodedKey.ByteArray.LEN g.C.EncodedValue.ByteArray.LEN g.C.H.HashFn.hash in
-    let parts = c.data_slices-entries.ensures.parts P (record { valid = is.valid; bytes = (ap g.D.ByteStore.bytes c.self.view_is) ∙ is.bytes }) in
-    absurd (never_nowhere F P (g.D.ByteStore.bytes c.args.self.now) is _ (answer-Neither F P _ is.valid.placed ((rw c.new-scan.ensures at c.in-Neither.ensures).on_placed P parts)))
+    let read = here g P _ _ c.self.view_is is in
+    let parts = scanned g P _ _ _ c.new-scan.ensures (c.data_slices-entries.ensures.parts P read) in
+    let end = answer-Neither (coding g).format P _ is.valid.placed (c.in-Neither.ensures.on_placed P parts) in
+    absurd (never_nowhere (coding g).format P _ read _ end)
 
 pub returns-then-count-max-clause-frame : goal.returns-then-count-max-clause-frame
 returns-then-count-max-clause-frame g c = (Err Full, refl, InsertFrame.full)
 
 pub returns-in-Found-clause-frame : goal.returns-in-Found-clause-frame
 returns-in-Found-clause-frame g c =
-    let F : Format = format_of g.C.EncodedKey.ByteArray.LEN g.C.EncodedValue.ByteArray.LEN g.C.H.HashFn.hash in
-    let B = g.D.ByteStore.bytes c.args.self.now in
-    let p : Pair = record { key = g.C.EncodedKey.ByteArray.bytes c.encode_key-key.result; value = g.C.EncodedValue.ByteArray.bytes c.encode_value-value.result } in
-    let slot = c.in-Found.slot in
-    let entries = c.data_slices-entries.ensures.entries ∙ ap (entries_of F) (ap g.D.ByteStore.bytes c.self.view_is) in
-    let within : slot < stated_slots B = subst (λ n. slot < n) (c.data_slices-entries.ensures.slots ∙ ap stated_slots (ap g.D.ByteStore.bytes c.self.view_is)) c.in-Found.ensures.slot.0 in
-    let key : key_at F B slot ≡ p.key = ap (λ e. slot_key F e slot) (sym entries) ∙ c.in-Found.ensures.slot.1 in
-    let old = c.get.ensures.value ∙ ap (λ e. g.C.EncodedValue.ByteArray.of_bytes (slot_value F e slot)) entries in
-    let written : g.D.ByteStore.bytes c.write_value.new.self ≡ with_value F B slot p.value = c.write_value.ensures.bytes ∙ ap (λ b. with_value F b slot p.value) (ap g.D.ByteStore.bytes c.self.view_is) in
-    let K = coding_of g.C.EncodedKey.ByteArray.LEN g.C.EncodedKey.ByteArray.bytes g.C.EncodedKey.ByteArray.of_bytes g.C.EncodedValue.ByteArray.LEN g.C.EncodedValue.ByteArray.bytes g.C.EncodedValue.ByteArray.of_bytes g.C.H.HashFn.hash g.C.Config.encode_key g.C.Config.encode_value g.C.Config.decode_key g.C.Config.decode_value in
-    let same : p ≡ encoded K c.args.key.now c.args.value.now = λ i. record { key = g.C.EncodedKey.ByteArray.bytes (c.encode_key-key.ensures i); value = g.C.EncodedValue.ByteArray.bytes (c.encode_value-value.ensures i) } in
-    let framed : InsertFrame F B p (Ok (Some (value_at F B slot))) (g.D.ByteStore.bytes c.write_value.new.self) = subst (InsertFrame F B p (Ok (Some (value_at F B slot)))) (sym written) (InsertFrame.overwrote slot within key) in (
-      Ok (Some (value_at F B slot)),
-      ap (λ o. Ok (Some o)) (c.decode_value.ensures ∙ ap g.C.Config.decode_value old),
-      subst (λ (q : Pair). InsertFrame F B q (Ok (Some (value_at F B slot))) (g.D.ByteStore.bytes c.write_value.new.self)) same framed,
-    )
+    found_framed (coding g) _ c.args.key.now c.args.value.now (pair g c.encode_key-key.result c.encode_value-value.result)
+    (pair-same g _ _ _ _ c.encode_key-key.ensures c.encode_value-value.ensures) c.in-Found.slot
+    c.data_slices-entries.result.1.bytes c.decode_value.result
+    (c.decode_value.ensures ∙ ap g.C.Config.decode_value c.get.ensures.value)
+    (g.D.ByteStore.bytes c.write_value.new.self) c.write_value.ensures.bytes
+    _ (ap g.D.ByteStore.bytes c.self.view_is) c.data_slices-entries.ensures.entries _ c.data_slices-entries.ensures.slots
+    c.in-Found.ensures.slot.0 c.in-Found.ensures.slot.1
 
 pub returns-in-Free-clause-frame : goal.returns-in-Free-clause-frame
 returns-in-Free-clause-frame g c =
-    let F : Format = format_of g.C.EncodedKey.ByteArray.LEN g.C.EncodedValue.ByteArray.LEN g.C.H.HashFn.hash in
-    let B = g.D.ByteStore.bytes c.args.self.now in
-    let p : Pair = record { key = g.C.EncodedKey.ByteArray.bytes c.encode_key-key.result; value = g.C.EncodedValue.ByteArray.bytes c.encode_value-value.result } in
-    let slot = c.in-Free.slot in
-    let within : slot < stated_slots B = subst (λ n. slot < n) (c.data_slices-entries.ensures.slots ∙ ap stated_slots (ap g.D.ByteStore.bytes c.self.view_is)) c.in-Free.ensures.slot.0 in
-    let free : CountsAsFree (controls_of F B) slot =
-    subst (λ b. CountsAsFree b slot) (c.data_slices-entries.ensures.control ∙ ap (controls_of F) (ap g.D.ByteStore.bytes c.self.view_is)) (rw c.new-scan.ensures at c.in-Free.ensures).slot.1 in
-    let stated : c.item_count-count.result ≡ stated_count B = c.item_count-count.ensures ∙ ap stated_count (c.header-header.ensures.bytes ∙ (ap g.D.ByteStore.bytes c.self.view_is)) in
-    let tagged : c.tag_of.result ≡ tag F p.key = c.tag_of.ensures ∙ ap (λ h. h / 2 ^ 25) (c.hash-hash.ensures ∙ ap F.hash c.as_slice.ensures.value) in
-    let written : g.D.ByteStore.bytes c.set_item_count.new.self ≡ with_count (with_tag F (stated_slots B) (with_entry F B slot p) slot (tag F p.key)) (stated_count B + 1) =
-    c.set_item_count.ensures.bytes
-    ∙ (λ i. with_count (c.write_entry.ensures.bytes i) (stated i + 1))
-    ∙ (λ i. with_count (with_tag F (stated_slots ((ap g.D.ByteStore.bytes c.self.view_is) i)) (with_entry F ((ap g.D.ByteStore.bytes c.self.view_is) i) slot p) slot (tagged i)) (stated_count B + 1)) in
-    let K = coding_of g.C.EncodedKey.ByteArray.LEN g.C.EncodedKey.ByteArray.bytes g.C.EncodedKey.ByteArray.of_bytes g.C.EncodedValue.ByteArray.LEN g.C.EncodedValue.ByteArray.bytes g.C.EncodedValue.ByteArray.of_bytes g.C.H.HashFn.hash g.C.Config.encode_key g.C.Config.encode_value g.C.Config.decode_key g.C.Config.decode_value in
-    let same : p ≡ encoded K c.args.key.now c.args.value.now = λ i. record { key = g.C.EncodedKey.ByteArray.bytes (c.encode_key-key.ensures i); value = g.C.EncodedValue.ByteArray.bytes (c.encode_value-value.ensures i) } in
-    let framed : InsertFrame F B p (Ok None) (g.D.ByteStore.bytes c.set_item_count.new.self) = subst (InsertFrame F B p (Ok None)) (sym written) (InsertFrame.added slot within free) in
-    (Ok None, refl, subst (λ (q : Pair). InsertFrame F B q (Ok None) (g.D.ByteStore.bytes c.set_item_count.new.self)) same framed)
+    free_framed (coding g) _ c.args.key.now c.args.value.now (pair g c.encode_key-key.result c.encode_value-value.result)
+    (pair-same g _ _ _ _ c.encode_key-key.ensures c.encode_value-value.ensures) c.in-Free.slot
+    c.item_count-count.result c.tag_of.result c.hash-hash.result c.as_slice.result.now _ _
+    (g.D.ByteStore.bytes c.set_item_count.new.self)
+    c.item_count-count.ensures c.header-header.ensures.bytes c.hash-hash.ensures c.as_slice.ensures.value c.tag_of.ensures
+    c.write_entry.ensures.bytes c.set_item_count.ensures.bytes
+    _ (ap g.D.ByteStore.bytes c.self.view_is) c.new-scan.result.control
+    (ap (λ (t : ShownGroups). t.control) c.new-scan.ensures ∙ c.data_slices-entries.ensures.control)
+    _ c.data_slices-entries.ensures.slots c.in-Free.ensures.slot.0 c.in-Free.ensures.slot.1
 
 pub returns-in-Neither-clause-frame : goal.returns-in-Neither-clause-frame
 returns-in-Neither-clause-frame g c = (Err Full, refl, InsertFrame.full)
+
+pub returns-then-count-max-clause-place : goal.returns-then-count-max-clause-place
+returns-then-count-max-clause-place g c = sym (g.met.D.ByteStoreMut.held_same c.args.self.now)
+
+pub returns-in-Found-clause-place : goal.returns-in-Found-clause-place
+returns-in-Found-clause-place g c =
+    let b = g.D.ByteStore.bytes c.write_value.new.self in
+    c.write_value.ensures.place ∙ ap (λ s. g.D.ByteStoreMut.holding s b) c.self.view_is
+
+pub returns-in-Free-clause-place : goal.returns-in-Free-clause-place
+returns-in-Free-clause-place g c =
+    let b = g.D.ByteStore.bytes c.set_item_count.new.self in
+    let e = g.D.ByteStore.bytes c.write_entry.new.self in
+    held_twice g.D.ByteStoreMut.holding g.met.D.ByteStoreMut.held_last _ _ _ e b
+    (c.write_entry.ensures.place ∙ ap (λ s. g.D.ByteStoreMut.holding s e) c.self.view_is) c.set_item_count.ensures.place
+
+pub returns-in-Neither-clause-place : goal.returns-in-Neither-clause-place
+returns-in-Neither-clause-place g c = sym (g.met.D.ByteStoreMut.held_same c.args.self.now)
+
+pub returns-then-count-max-clause-accepted : goal.returns-then-count-max-clause-accepted
+returns-then-count-max-clause-accepted g c =
+    subst (λ s. IsAccepted (coding g).format (g.D.ByteStore.bytes s)) c.self.view_is c.header-header.ensures.accepted
+
+pub returns-in-Found-clause-accepted : goal.returns-in-Found-clause-accepted
+returns-in-Found-clause-accepted g c = c.write_value.ensures.accepted
+
+pub returns-in-Free-clause-accepted : goal.returns-in-Free-clause-accepted
+returns-in-Free-clause-accepted g c = c.set_item_count.ensures.accepted
+
+pub returns-in-Neither-clause-accepted : goal.returns-in-Neither-clause-accepted
+returns-in-Neither-clause-accepted g c =
+    subst (λ s. IsAccepted (coding g).format (g.D.ByteStore.bytes s)) c.self.view_is c.header-header.ensures.accepted

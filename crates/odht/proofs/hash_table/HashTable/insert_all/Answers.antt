@@ -1,16 +1,29 @@
 use Rattle.std.proofs.Common.{◌∙◌, sym, ap, subst, take, List, arith}
+use Rattle.std.proofs.Math.Nat.{le_antisymm}
+use Rattle.odht_base.specs.Format.{format_of}
 use Rattle.odht_base.specs.Insert.{put_view}
 use Rattle.odht_base.specs.Table.{Pair}
+use Rattle.odht_base.specs.Valid.{IsImage}
 use Rattle.odht_base.proofs.lemmas.FreshRuns.{put_view-PlacesBelow}
 use Rattle.odht_base.proofs.lemmas.Puts.{put_view-IsInsert}
-use Rattle.odht_raw.specs.Coding.{coding_of}
+use Rattle.odht_raw.specs.Coding.{Coding, coding_of}
 use Rattle.odht.specs.Lists.{encoded_all, IsFilled}
-use Rattle.odht.proofs.lemmas.Fillings.{filled_more, encoded_all-more}
+use Rattle.odht.proofs.lemmas.Fillings.{filled_none, filled_more, encoded_all-more}
+use Rattle.odht.proofs.lemmas.ViewInserts.{held_twice}
+use Rattle.odht.proofs.hash_table.HashTable.insert_all.Given.{Over}
 use Rattle.odht.proofs.hash_table.HashTable.insert_all.Goals as goal
+
+-- the coding of the configuration
+abbrev coding : (g : Over) → Coding g.row.C-Key.Denot g.row.C-Value.Denot
+coding g =
+    let key = g.C.EncodedKey.ByteArray in
+    let value = g.C.EncodedValue.ByteArray in
+    coding_of key.LEN key.bytes key.of_bytes value.LEN value.bytes value.of_bytes g.C.H.HashFn.hash
+    g.C.Config.encode_key g.C.Config.encode_value g.C.Config.decode_key g.C.Config.decode_value
 
 pub loop-accepted-preserved : goal.loop-accepted-preserved
 loop-accepted-preserved g c =
-    let K = coding_of g.C.EncodedKey.ByteArray.LEN g.C.EncodedKey.ByteArray.bytes g.C.EncodedKey.ByteArray.of_bytes g.C.EncodedValue.ByteArray.LEN g.C.EncodedValue.ByteArray.bytes g.C.EncodedValue.ByteArray.of_bytes g.C.H.HashFn.hash g.C.Config.encode_key g.C.Config.encode_value g.C.Config.decode_key g.C.Config.decode_value in
+    let K = coding g in
     let n = c.loop-accepted.accepted in
     let items = c.args.items.now in
     let B = g.D.ByteStore.bytes c.insert.new.self in
@@ -21,7 +34,47 @@ loop-accepted-preserved g c =
           subst (λ (ps : List Pair). IsFilled K.format (put_view K.format) P ps B) more
           (filled_more K.format (put_view K.format) (put_view-IsInsert K.format) (put_view-PlacesBelow K.format) P (encoded_all K (take n items)) _ _ B h put.table put.inserted put.image)),
       c.in_default.ensures.accepted,
-      c.in_default.ensures.place
-          ∙ ap (λ s. g.D.ByteStoreMut.holding s B) c.loop-accepted.invariant.2
-          ∙ g.met.D.ByteStoreMut.held_last c.args.self.now (g.D.ByteStore.bytes c.loop-accepted.self) B,
+      held_twice g.D.ByteStoreMut.holding g.met.D.ByteStoreMut.held_last _ _ _ _ B c.loop-accepted.invariant.2
+          c.in_default.ensures.place,
     )
+
+pub loop-accepted-init : goal.loop-accepted-init
+loop-accepted-init g c =
+    let F = format_of g.C.EncodedKey.ByteArray.LEN g.C.EncodedValue.ByteArray.LEN g.C.H.HashFn.hash in (
+      (λ P is. filled_none F (put_view F) P _ is),
+      c.raw_bytes.ensures.accepted,
+      sym (g.met.D.ByteStoreMut.held_same c.args.self.now),
+    )
+
+pub returns-in-Err-clause-filled : goal.returns-in-Err-clause-filled
+returns-in-Err-clause-filled g c P is =
+    let K = coding g in
+    let filled = IsFilled K.format (put_view K.format) P (encoded_all K (take c.loop-accepted.accepted c.args.items.now)) in
+    subst (λ s. filled (g.D.ByteStore.bytes s)) (sym c.in-Err.ensures.refused) (c.loop-accepted.invariant.0 P is)
+
+pub returns-in-Err-clause-place : goal.returns-in-Err-clause-place
+returns-in-Err-clause-place g c =
+    held_twice g.D.ByteStoreMut.holding g.met.D.ByteStoreMut.held_last _ _ _ _ (g.D.ByteStore.bytes c.insert.new.self)
+    c.loop-accepted.invariant.2 c.in-Err.ensures.place
+
+pub returns-in-Err-clause-accepted : goal.returns-in-Err-clause-accepted
+returns-in-Err-clause-accepted g c = c.in-Err.ensures.accepted
+
+pub returns-in-Err-clause-at_maximum : goal.returns-in-Err-clause-at_maximum
+returns-in-Err-clause-at_maximum g c P is =
+    let before : IsImage (coding g).format P (g.D.ByteStore.bytes c.loop-accepted.self) =
+    record { valid = is.valid; bytes = ap g.D.ByteStore.bytes (sym c.in-Err.ensures.refused) ∙ is.bytes } in
+    (c.in-Err.ensures.full P before).0 c.in-Err.ensures.only_full
+
+pub returns-clause-filled : goal.returns-clause-filled
+returns-clause-filled g c P is =
+    let K = coding g in
+    let B = g.D.ByteStore.bytes c.loop-accepted.self in
+    subst (λ n. IsFilled K.format (put_view K.format) P (encoded_all K (take n c.args.items.now)) B)
+    (le_antisymm c.loop-accepted.auto.accepted-end c.loop-accepted-test.false) (c.loop-accepted.invariant.0 P is)
+
+pub returns-clause-place : goal.returns-clause-place
+returns-clause-place g c = c.loop-accepted.invariant.2
+
+pub returns-clause-accepted : goal.returns-clause-accepted
+returns-clause-accepted g c = c.loop-accepted.invariant.1
