@@ -1,0 +1,39 @@
+use Rattle.std.proofs.Common.{◌≡◌, ◌∙◌, ◌<◌, ℕ, List, Option, Some, None, sym, ap, subst, true≢false}
+use Rattle.std.specs.Prelude.{◌↔◌, option_map, IfSome, IsSome, IsTrue}
+use Rattle.std.specs.Option.{is_some}
+use Rattle.odht_base.specs.Format.{Format, format_of}
+use Rattle.odht_base.specs.Map.{map_of}
+use Rattle.odht_base.specs.Shown.{stated_slots, entries_of, slot_key, HoldsKey}
+use Rattle.odht_raw.specs.Parts.{EntryBytes}
+use Rattle.odht_raw.specs.SearchEnds.{IsBesideKey}
+use Rattle.odht.proofs.hash_table.HashTable.contains_key.Goals as goal
+
+-- whether an answer is there tells whether there is what it is made of
+there : {V : Type 0} (f : List ℕ → V) (m : Option (List ℕ)) → IsTrue (is_some (option_map f m)) ↔ IsSome m
+there f None = (λ h. h, λ h. h)
+there f (Some b) = (λ h. h, λ h. h)
+
+-- and where one is there that is stored beside the key, the bytes hold the key
+held : {V : Type 0} (F : Format) (B : List ℕ) (f : List ℕ → V) (E : EntryBytes) (k : List ℕ) (r : Option V)
+    → E.bytes ≡ entries_of F B → E.slots ≡ stated_slots B → IfSome r (IsBesideKey F f E k) → IsTrue (is_some r)
+    → HoldsKey F B k
+held F B f E k None entries slots h t = absurd (true≢false (sym t))
+held F B f E k (Some v) entries slots h t =
+    (h.0, subst (λ n. h.0 < n) slots h.1, ap (λ e. slot_key F e h.0) (sym entries) ∙ h.2)
+
+pub returns-clause-on_valid : goal.returns-clause-on_valid
+returns-clause-on_valid g c P is =
+    let key = g.C.EncodedKey.ByteArray in
+    let m = map_of P (key.bytes (g.C.Config.encode_key c.args.key.now)) in
+    let found = c.find.ensures.on_placed P (c.as_raw-table.ensures.parts P is)
+    ∙ ap (λ a. option_map g.C.EncodedValue.ByteArray.of_bytes (map_of P (key.bytes a))) c.encode_key-key.ensures in
+    subst (λ b. IsTrue b ↔ IsSome m) (sym (c.is_some.ensures ∙ ap is_some found)) (there g.C.EncodedValue.ByteArray.of_bytes m)
+
+pub returns-clause-on_any : goal.returns-clause-on_any
+returns-clause-on_any g c t =
+    let key = g.C.EncodedKey.ByteArray in
+    let F = format_of key.LEN g.C.EncodedValue.ByteArray.LEN g.C.H.HashFn.hash in
+    let B = g.D.ByteStore.bytes c.args.self.now in
+    subst (λ a. HoldsKey F B (key.bytes a)) c.encode_key-key.ensures
+    (held F B g.C.EncodedValue.ByteArray.of_bytes _ _ c.find.result c.as_raw-table.ensures.entries
+    c.as_raw-table.ensures.slots c.find.ensures.on_any (subst IsTrue c.is_some.ensures t))
