@@ -1,4 +1,4 @@
-use Rattle.std.proofs.Common.{◌≡◌, ◌+◌, ◌<◌, ◌∙◌, ℕ, List, sym, ap, subst, refl, arith, Err}
+use Rattle.std.proofs.Common.{◌≡◌, ◌+◌, ◌<◌, ◌∙◌, ℕ, List, sym, ap, subst, refl, Err}
 use Rattle.odht_base.specs.Load.{IsSlotCount}
 use Rattle.odht_base.specs.Table.{Pair, Table}
 use Rattle.odht_base.specs.Valid.{IsImage, IsPartsOf}
@@ -51,10 +51,6 @@ scanned : (g : Over) (P : Table) (es ctrl : List ℕ) (scan : ShownGroups) → s
 scanned g P es ctrl scan new parts =
     subst (λ (t : ShownGroups). IsPartsOf (coding g).format P es t.control) (sym new) parts
 
--- a count below a number that fits can be one more
-next_fits : (a b n : ℕ) → a < b → b < n → a + 1 < n
-next_fits a b n low fits = omega arith
-
 pub new-scan-requires-clause-slots : goal.new-scan-requires-clause-slots
 new-scan-requires-clause-slots g c = subst IsSlotCount (sym c.len.ensures) c.data_slices-entries.ensures.count
 
@@ -74,11 +70,6 @@ write_value-requires-after_bounds g c κs within =
 pub write_entry-requires-after_bounds : goal.write_entry-requires-after_bounds
 write_entry-requires-after_bounds g c κs within =
     subst (λ n. c.in-Free.slot < n) c.data_slices-entries.ensures.slots c.in-Free.ensures.slot.0
-
-pub overflow_add-count : goal.overflow_add-count
-overflow_add-count g c =
-    let next = next_fits _ _ _ c.if-count-max.false c.max_item_count_for-max.type_inv in
-    assumption next
 
 pub returns-then-count-max-clause-full : goal.returns-then-count-max-clause-full
 returns-then-count-max-clause-full g c P is =
