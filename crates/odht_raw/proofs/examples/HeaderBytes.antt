@@ -56,7 +56,7 @@ pub second_eight : tally (kinds 8 8) ≡ 2048 ∷ 0 ∷ 0 ∷ 0 ∷ 0 ∷ 0 ∷ 
 unfolding opened
 second_eight =
     let same : AreSame kind_at (none_from 8) (range_with_len 8 8) =
-        ((λ b. refl), ((λ b. refl), ((λ b. refl), ((λ b. refl), ((λ b. refl), ((λ b. refl), ((λ b. refl), ((λ b. refl), tt)))))))) in
+    ((λ b. refl), ((λ b. refl), ((λ b. refl), ((λ b. refl), ((λ b. refl), ((λ b. refl), ((λ b. refl), ((λ b. refl), tt)))))))) in
     ap tally (same_rows kind_at (none_from 8) (range_with_len 8 8) (range_with_len 0 256) same)
 
 -- the slot count
@@ -69,5 +69,5 @@ pub last_eight : tally (kinds 24 8) ≡ 1028 ∷ 0 ∷ 0 ∷ 1020 ∷ 0 ∷ 0 �
 unfolding opened
 last_eight =
     let same : AreSame kind_at (none_from 28) (range_with_len 24 8) =
-        ((λ b. refl), ((λ b. refl), ((λ b. refl), ((λ b. refl), ((λ b. refl), ((λ b. refl), ((λ b. refl), ((λ b. refl), tt)))))))) in
+    ((λ b. refl), ((λ b. refl), ((λ b. refl), ((λ b. refl), ((λ b. refl), ((λ b. refl), ((λ b. refl), ((λ b. refl), tt)))))))) in
     ap tally (same_rows kind_at (none_from 28) (range_with_len 24 8) (range_with_len 0 256) same)

@@ -55,7 +55,7 @@ write_at-requires g c =
     let ctrl = c.args.control.now in
     let low = found_low F es ctrl (g.K.ByteArray.bytes c.args.key) c.args.end c.in-Found.slot c.in-Found.is c.requires.end in
     rw (c.LEN.ensures, c.LEN-in-Found.ensures, c.LEN-in-Found-2.ensures)
-       (omega (arith, within F es ctrl c.in-Found.slot c.requires.lengths.entries low, ap length c.new-place.ensures.bytes, ap length c.as_slice.ensures.value, c.as_slice.ensures.bytes.len))
+    (omega (arith, within F es ctrl c.in-Found.slot c.requires.lengths.entries low, ap length c.new-place.ensures.bytes, ap length c.as_slice.ensures.value, c.as_slice.ensures.bytes.len))
 
 pub overflow_mul-slot-in-Free : goal.overflow_mul-slot-in-Free
 overflow_mul-slot-in-Free g c =
@@ -72,8 +72,8 @@ write_pair-requires g c =
     let ctrl = c.args.control.now in
     let low = free_low F es ctrl (g.K.ByteArray.bytes c.args.key) c.args.end c.in-Free.slot c.in-Free.is c.requires.end in
     let fits : c.in-Free.slot * (c.LEN-in-Free.result + c.LEN-in-Free-2.result) + (g.K.ByteArray.LEN + g.V.ByteArray.LEN) ≤ length c.new-place-in-Free.result.0.now =
-        rw (c.LEN-in-Free.ensures, c.LEN-in-Free-2.ensures)
-           (omega (arith, within F es ctrl c.in-Free.slot c.requires.lengths.entries low, ap length c.new-place-in-Free.ensures.bytes)) in
+    rw (c.LEN-in-Free.ensures, c.LEN-in-Free-2.ensures)
+    (omega (arith, within F es ctrl c.in-Free.slot c.requires.lengths.entries low, ap length c.new-place-in-Free.ensures.bytes)) in
     λ k. search (rules, fits)
 
 pub returns-in-Found-clause-placed : goal.returns-in-Found-clause-placed

@@ -23,4 +23,4 @@ returns-else-found-expected g c =
     let B = c.args.self.now in
     let is = expected_is F B _ _ c.table_len-expected.ensures c.slot_count-slot_count.ensures in
     rw (ne_eqb c.args.found (image_len F (stated_slots B)) (λ e. c.if-found-expected.false (e ∙ sym is)))
-       (λ i. Err (WrongLength (c.slot_count-slot_count.ensures i) c.args.found (is i)))
+    (λ i. Err (WrongLength (c.slot_count-slot_count.ensures i) c.args.found (is i)))
