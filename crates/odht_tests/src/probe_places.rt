@@ -5,7 +5,8 @@ ghost use Rattle.odht_base.specs.Load.{IsSlotCount};
 use odht::raw_table::ProbeSeq;
 use std::alloc::{AllocError, Global};
 
-/// The slots at which a probe sequence stands, up to its last place.
+/// The slots at which a probe sequence of groups of `SIZE` stands, one for each group, from the home on.
+/// An error where memory was refused.
 pub fn probe_places<const SIZE: usize>(
     alloc: Global,
     home: usize,

@@ -6,7 +6,6 @@
 
 mod vectors;
 
-use std::alloc::Global;
 use std::io::{BufWriter, Write};
 use std::process::ExitCode;
 use std::{env, fs};

@@ -5,7 +5,6 @@ ghost use Rattle.odht_base.specs.Load.{IsSlotCount};
 use super::Fault;
 use super::answer::{Answer, add_word};
 use super::words::{Words, number, percent};
-use odht::error::Error;
 use odht::load::{Factor, max_item_count_for, slots_needed};
 use odht::raw_table::probe_order;
 use odht::swisstable_group_query::{Group, lanes, no_simd};
