@@ -9,6 +9,7 @@ pub use odht_base::{bytes, hash, load, swisstable_group_query};
 pub use odht_raw::config::{Config, Lossless};
 pub use odht_raw::{config, error, memory_layout, raw_table};
 
+pub mod configs;
 mod hash_table;
 mod hash_table_owned;
 mod iter;

@@ -1,7 +1,6 @@
-//! Tests over several crates: what neither a contract nor a vector says. The vectors share its configurations.
+//! Tests over several crates: what neither a contract nor a vector says. The vectors share its probe orders.
 #![tactic(auto)]
 
-pub mod configs;
 pub mod probe_places;
 #[cfg(test)]
 mod tests;

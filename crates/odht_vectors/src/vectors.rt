@@ -5,7 +5,7 @@ mod tables;
 mod words;
 
 use answer::Answer;
-use odht_tests::configs::{DirectU32ToU32, Plain, U32ToU32};
+use odht::configs::{DirectU32ToU32, Plain, U32ToU32};
 use std::alloc::{AllocError, AllocFailed, Global};
 use std::fmt;
 use std::io::{self, Write};

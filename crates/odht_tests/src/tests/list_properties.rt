@@ -1,5 +1,5 @@
 //! Properties of tables of lists that look random, for keys and values of many lengths.
-use crate::configs::{Plain, Short};
+use odht::configs::{Plain, Short};
 use crate::tests::builds::check_three_builds;
 use crate::tests::checks::{same, same_bytes, same_len};
 use crate::tests::random::Random;

@@ -2,7 +2,7 @@
 //! themselves.
 ghost use Rattle.std.specs.Prelude.{◌≡◌};
 
-use crate::configs::{DirectU32ToU32, U32ToU32};
+use odht::configs::{DirectU32ToU32, U32ToU32};
 use crate::tests::checks::{same, same_at};
 use odht::error::Error;
 use odht::{Lossless, laws};

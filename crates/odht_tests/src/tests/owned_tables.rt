@@ -1,7 +1,7 @@
 //! Tables that own their bytes: growth, copies, and what a refused allocation leaves.
 ghost use Rattle.std.specs.Prelude.{◌≤◌};
 
-use crate::configs::U32ToU32;
+use odht::configs::U32ToU32;
 use crate::tests::checks::{holds_at, same, same_answer, same_at, same_len, same_value};
 use crate::tests::probe_sequences::slots_for;
 use odht::bytes::OwnedBytes;

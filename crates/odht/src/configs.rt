@@ -1,10 +1,13 @@
-//! Configurations of the vectors and of the tests.
+//! Ready configurations: numbers of 32 bits under both hashes, and bytes as they are.
+//!
+//! docs/FORMAT.md says how a key is hashed and where it stands.
 ghost use Rattle.std.specs.Prelude.{◌≤◌};
 ghost use Rattle.std.specs.Int.{w32, to_le_bytes, from_le_bytes};
 ghost use Rattle.std.proofs.Common.{lit≤, zero-le};
 
-use odht::bytes::ByteArray;
-use odht::{Config, FxHashFn, Lossless, UnHashFn};
+use crate::bytes::ByteArray;
+use crate::config::{Config, Lossless};
+use crate::hash::{FxHashFn, UnHashFn};
 use std::marker::PhantomData;
 
 /// From u32 to u32, both lowest byte first.
