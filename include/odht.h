@@ -168,9 +168,9 @@ uint32_t odht_u64_u32_open(const uint8_t *bytes, size_t bytes_len);
 /*
  * Inserts a key with its value, or gives a key that is there another value.
  * OK: the key was new. REPLACED: the key was there, and *former is its former
- * value. FULL: the table holds as many items as it takes; this is answered even
- * where the key is there. A refusal, 1 to 7. With FULL and the refusals
- * nothing changes. *former is written with REPLACED alone.
+ * value. FULL: the key is new, and the table holds as many items as it takes.
+ * A refusal, 1 to 7. With FULL and the refusals nothing changes. *former is
+ * written with REPLACED alone.
  */
 uint32_t odht_u64_u32_insert(uint8_t *bytes, size_t bytes_len, uint64_t key, uint32_t value,
                              uint32_t *former);
@@ -179,8 +179,8 @@ uint32_t odht_u64_u32_insert(uint8_t *bytes, size_t bytes_len, uint64_t key, uin
  * Inserts keys[i] with values[i], for each i from 0 on, as odht_u64_u32_insert
  * does, and stops at the first that is refused.
  * OK: all are inserted, and *accepted is keys_len. FULL: *accepted of them are
- * inserted, and the next one was refused. BAD_LENGTHS: keys_len is not
- * values_len. A refusal, 1 to 7. With the last two nothing changes, and
+ * inserted, and the next one was refused: its key is new. BAD_LENGTHS: keys_len
+ * is not values_len. A refusal, 1 to 7. With the last two nothing changes, and
  * *accepted stays as it was.
  */
 uint32_t odht_u64_u32_insert_all(uint8_t *bytes, size_t bytes_len, const uint64_t *keys,
@@ -235,9 +235,9 @@ uint32_t odht_u64_u32_build(const uint64_t *keys, size_t keys_len, const uint32_
 
 /*
  * Builds the table as one does who does not know the number of pairs before:
- * inserts them one after the other into a table that has 16 slots at 87 percent at first and doubles
- * them whenever it is full. The order of the slots can differ from that of
- * odht_u64_u32_build.
+ * inserts them one after the other into a table that has 16 slots at 87 percent
+ * at first and doubles them for a new key whenever it is full. The order of the
+ * slots can differ from that of odht_u64_u32_build.
  * OK, TOO_SMALL, MEMORY and BAD_LENGTHS as there; CAPACITY is never answered,
  * since a growth past any table is refused as MEMORY.
  */

@@ -205,8 +205,10 @@ static void fill_to_the_maximum(void)
     say("insert_all 1 to 10 until 20 to 200",
         odht_u64_u32_insert_all(bytes, sizeof bytes, keys, 20, values, 20, &count));
     printf(", %zu accepted\n", count);
-    say_line("insert 7 to 1000", odht_u64_u32_insert(bytes, sizeof bytes, 7, 1000, &value));
-    uint32_t status = odht_u64_u32_get(bytes, sizeof bytes, 7, &value);
+    say_line("insert 14 to 140", odht_u64_u32_insert(bytes, sizeof bytes, 14, 140, &value));
+    uint32_t status = odht_u64_u32_insert(bytes, sizeof bytes, 7, 1000, &value);
+    say_former("insert 7 to 1000", status, value);
+    status = odht_u64_u32_get(bytes, sizeof bytes, 7, &value);
     say_value(7, status, value);
     say("len", odht_u64_u32_len(bytes, sizeof bytes, &count));
     printf(", %zu items\n", count);

@@ -145,6 +145,7 @@ fn fill_to_the_maximum() {
     say("init", u64_u32::init(&mut bytes, 13, PERCENT));
     let answer = u64_u32::insert_all(&mut bytes, &keys, &values);
     say_accepted("insert_all 1 to 10 until 20 to 200", answer);
+    say_former("insert 14 to 140", u64_u32::insert(&mut bytes, 14, 140));
     say_former("insert 7 to 1000", u64_u32::insert(&mut bytes, 7, 1000));
     say_value(7, u64_u32::get(&bytes, 7));
     say_number("len", u64_u32::len(&bytes), "items");

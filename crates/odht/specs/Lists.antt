@@ -3,11 +3,12 @@
 --     IsFilled F put P ps B  B are the bytes of the table after the inserts `put` of the pairs ps into P, which has their
 --                          last values over those of P; where all have room below its maximum, its size stays
 --     HasSizeOf P Q        Q has the slot count and the load factor of P
+--     IsRefusedAt c P items n    P is full for the key of item n
 --     IsFreshFilled c p items B  B are the bytes of the fresh table for as many items at p percent, after these are put into
 --                          it by the owned table; it has not grown
-use Rattle.std.specs.Prelude.{◌≡◌, ℕ, ◌+◌, ◌≤◌, List, length, map, Option, Some}
+use Rattle.std.specs.Prelude.{◌≡◌, ℕ, ◌+◌, ◌≤◌, List, length, map, Option, Some, slice_get}
 use Rattle.odht_base.specs.Format.{Format}
-use Rattle.odht_base.specs.Insert.{run, put_owned}
+use Rattle.odht_base.specs.Insert.{run, put_owned, IsFullFor}
 use Rattle.odht_base.specs.Load.{max_items}
 use Rattle.odht_base.specs.Map.{map_of, last, overwritten}
 use Rattle.odht_base.specs.Table.{Pair, Table, fresh, slot_count, count}
@@ -26,6 +27,11 @@ pub record IsFilled (F : Format) (put : Table → Pair → Option Table) (P : Ta
   pub image : IsImage F table B
   pub maps : (k : List ℕ) → map_of table k ≡ overwritten (map_of P) (last ps) k
   pub stays : count P + length ps ≤ max_items (slot_count P) P.factor → HasSizeOf P table × (count table ≤ count P + length ps)
+
+pub record IsRefusedAt {K V : Type 0} (c : Coding K V) (P : Table) (items : List (K × V)) (n : ℕ) : Type 0 where
+  pub item : K × V
+  pub at : slice_get items n ≡ Some item
+  pub full : IsFullFor P (c.key_bytes item.0)
 
 pub record IsFreshFilled {K V : Type 0} (c : Coding K V) (percent : ℕ) (items : List (K × V)) (B : List ℕ) : Type 0 where
   pub start : Table

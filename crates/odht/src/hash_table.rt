@@ -1,16 +1,16 @@
 //! The table over bytes of any kind.
 ghost use Rattle.std.specs.Prelude.{◌≡◌, ℕ, ◌/◌, ◌≤◌, ◌↔◌, length, take, option_map, IfOk, IfSome, IsOk, IsSome, IsNone, IsTrue, OnErr};
 ghost use Rattle.std.specs.Result.{result_err};
-ghost use Rattle.odht_base.specs.Load.{factor_of, max_items, slots_for};
+ghost use Rattle.odht_base.specs.Load.{factor_of, slots_for};
 ghost use Rattle.odht_base.specs.Image.{image_len};
-ghost use Rattle.odht_base.specs.Table.{Table, walk, count, slot_count, fresh};
+ghost use Rattle.odht_base.specs.Table.{Table, walk, count};
 ghost use Rattle.odht_base.specs.Map.{map_of};
-ghost use Rattle.odht_base.specs.Insert.{put_view};
+ghost use Rattle.odht_base.specs.Insert.{put_view, IsFullFor};
 ghost use Rattle.odht_base.specs.Search.{groups_read};
 ghost use Rattle.odht_base.specs.Shown.{stated_count, stated_slots, entries_of, controls_of, seen, HoldsKey};
 ghost use Rattle.odht_base.specs.Valid.{IsImage, IsPartsOf};
 ghost use Rattle.odht_raw.specs.Coding.{value_for, HasStored};
-ghost use Rattle.odht.specs.Lists.{encoded_all, IsFilled};
+ghost use Rattle.odht.specs.Lists.{encoded_all, IsFilled, IsRefusedAt};
 ghost use Rattle.odht.specs.Inserts.{IsFresh, IsInserted};
 ghost use Rattle.odht_raw.specs.Frame.{IsAccepted, IsFramed};
 ghost use Rattle.odht_raw.specs.Walks.{decoded_all};
@@ -267,8 +267,11 @@ impl<C: Config, D: ByteStoreMut> HashTable<C, D> {
 
     /// Gives the key this value, and answers its former one: on valid bytes that of its last insert.
     ///
-    /// `Full` where the table holds its maximum item count, or the search meets neither the key nor a free slot: then
-    /// nothing changes. On valid bytes it comes exactly at the maximum, even where the key is there.
+    /// `Full` where the search does not find the key and the header states the maximum item count or more, or where it
+    /// meets neither the key nor a free slot: then nothing changes. On valid bytes it comes exactly at the maximum where
+    /// the key is absent: a key that is there is always given its value.
+    ///
+    /// The key is hashed once, and at most each group of control bytes is looked at once.
     ///
     /// On any bytes one value beside an equal key changes, or one entry is written with its tag into a slot that counted as
     /// free and the count rises by one, and no other byte changes.
@@ -278,9 +281,10 @@ impl<C: Config, D: ByteStoreMut> HashTable<C, D> {
             in (P : Table)
             → IsImage c.format P (D.bytes self.old)
             → IfOk result (λ old. IsInserted c (put_view c.format) P key.now value.now old (D.bytes self.new)) }
-        ensures full { (P : Table)
-            → IsImage ⟦<C as Coded>⟧.coding.format P (D.bytes self.old)
-            → (result ≡ Err Error.Full) ↔ (count P ≡ max_items (slot_count P) P.factor) }
+        ensures full { let c = ⟦<C as Coded>⟧.coding
+            in (P : Table)
+            → IsImage c.format P (D.bytes self.old)
+            → (result ≡ Err Error.Full) ↔ IsFullFor P (c.key_bytes key.now) }
         ensures frame { let c = ⟦<C as Coded>⟧.coding
             in IsFramed c (D.bytes self.old) key.now value.now result (D.bytes self.new) }
         ensures only_full { OnErr result (result ≡ Err Error.Full) }
@@ -291,11 +295,6 @@ impl<C: Config, D: ByteStoreMut> HashTable<C, D> {
         let key = C::encode_key(key);
         let value = C::encode_value(value);
         let header = self.allocation.header();
-        let count = header.item_count();
-        let max = max_item_count_for(header.slot_count(), header.max_load_factor());
-        if count >= max {
-            return Err(Error::Full);
-        }
         let hash = C::H::hash(key.as_slice());
         let (control, entries) = self.allocation.data_slices();
         let mut scan = Scan::new(control, entries.len());
@@ -308,6 +307,11 @@ impl<C: Config, D: ByteStoreMut> HashTable<C, D> {
                 Ok(Some(C::decode_value(&old)))
             }
             Search::Free(slot) => {
+                let count = header.item_count();
+                let max = max_item_count_for(header.slot_count(), header.max_load_factor());
+                if count >= max {
+                    return Err(Error::Full);
+                }
                 self.allocation
                     .write_entry(slot, &key, &value, tag_of(hash));
                 self.allocation.set_item_count(count + 1);
@@ -318,7 +322,8 @@ impl<C: Config, D: ByteStoreMut> HashTable<C, D> {
     }
 
     /// Inserts the items in their order, and stops at the first that is refused. Answers how many were accepted, and `Full`
-    /// where there was a refusal: the table is then as the accepted ones left it.
+    /// where there was a refusal: the table is then as the accepted ones left it, on valid bytes at its maximum, and the
+    /// key of the refused item is absent.
     pub fn insert_all(&mut self, items: &[(C::Key, C::Value)]) -> (usize, Result<(), Error>)
         ensures bound { result.0 ≤ length items.now }
         ensures all { IsOk result.1 ↔ (result.0 ≡ length items.now) }
@@ -328,9 +333,10 @@ impl<C: Config, D: ByteStoreMut> HashTable<C, D> {
             → IsFilled c.format (put_view c.format) P (encoded_all c (take result.0 items.now)) (D.bytes self.new) }
         ensures place { self.new ≡ D.holding self.old (D.bytes self.new) }
         ensures accepted { IsAccepted ⟦<C as Coded>⟧.coding.format (D.bytes self.new) }
-        ensures at_maximum { (P : Table)
-            → IsImage ⟦<C as Coded>⟧.coding.format P (D.bytes self.new)
-            → OnErr result.1 (count P ≡ max_items (slot_count P) P.factor) }
+        ensures at_maximum { let c = ⟦<C as Coded>⟧.coding
+            in (P : Table)
+            → IsImage c.format P (D.bytes self.new)
+            → OnErr result.1 (IsRefusedAt c P items.now result.0) }
         ensures only_full { OnErr result.1 (result.1 ≡ Err Error.Full) }
     {
         // Header and length fit, in a table of no items too.

@@ -1,15 +1,15 @@
 //! The table that owns its bytes, and grows.
 ghost use Rattle.std.specs.Prelude.{◌≡◌, ℕ, List, ◌++◌, ◌+◌, ◌-◌, ◌*◌, ◌≤◌, ◌↔◌, ◌⊎◌, Some, length, map, replicate, take, option_map, IfOk, IsOk, IsSome, IsTrue, IsErrOf, OnErr};
-ghost use Rattle.odht_base.specs.Load.{IsSlotCount, factor_of, max_items, slots_for};
-ghost use Rattle.odht_base.specs.Table.{Table, walk, count, slot_count, empty, fresh};
+ghost use Rattle.odht_base.specs.Load.{IsSlotCount, factor_of, slots_for};
+ghost use Rattle.odht_base.specs.Table.{Table, walk, count, empty};
 ghost use Rattle.odht_base.specs.Map.{map_of};
 ghost use Rattle.odht_base.specs.Search.{groups_read};
 ghost use Rattle.odht_base.specs.Format.{format_of};
 ghost use Rattle.odht_base.specs.Image.{header_bytes, image_len, parts};
-ghost use Rattle.odht_base.specs.Insert.{grown, place_all, put_owned};
+ghost use Rattle.odht_base.specs.Insert.{grown, place_all, put_owned, IsFullFor};
 ghost use Rattle.odht_base.specs.Valid.{IsImage, IsPartsOf, IsValidBytes};
 ghost use Rattle.odht_raw.specs.Coding.{value_for};
-ghost use Rattle.odht.specs.Lists.{encoded_all, IsFilled, IsFreshFilled};
+ghost use Rattle.odht.specs.Lists.{encoded_all, IsFilled, IsFreshFilled, IsRefusedAt};
 ghost use Rattle.odht.specs.Inserts.{IsFresh, IsInserted};
 ghost use Rattle.odht_raw.specs.Walks.{decoded_all};
 ghost use Rattle.std.specs.Iterator.{Drains, IsFinite};
@@ -201,20 +201,23 @@ impl<C: Config> HashTableOwned<C> {
         Self::from_raw_bytes_unchecked(self.alloc, self.table.raw_bytes())
     }
 
-    /// Gives the key this value, and answers its former one: that of its last insert. At the maximum the table grows
-    /// first, even where the key is there.
+    /// Gives the key this value, and answers its former one: that of its last insert. At the maximum the table grows for a
+    /// key that is absent; a key that is there is given its value in place, which takes no memory.
     ///
-    /// `Memory` only at the maximum, where the memory for the grown table was refused, or no slot count or no length in
-    /// `usize` is enough for it. Then nothing changes.
+    /// `Memory` only at the maximum and for an absent key, where the memory for the grown table was refused, or no slot
+    /// count or no length in `usize` is enough for it. Then nothing changes.
+    ///
+    /// The key is hashed once, and once more at a growth, which places each item again.
     #[inline(always)]
     pub fn insert(&mut self, key: &C::Key, value: &C::Value) -> Result<Option<C::Value>, Error>
         ensures ok { let c = ⟦<C as Coded>⟧.coding
             in (P : Table)
             → IsImage c.format P self.old
             → IfOk result (λ old. IsInserted c (put_owned c.format) P key.now value.now old self.new) }
-        ensures at_maximum { (P : Table)
-            → IsImage ⟦<C as Coded>⟧.coding.format P self.old
-            → OnErr result (count P ≡ max_items (slot_count P) P.factor) }
+        ensures at_maximum { let c = ⟦<C as Coded>⟧.coding
+            in (P : Table)
+            → IsImage c.format P self.old
+            → OnErr result (IsFullFor P (c.key_bytes key.now)) }
         ensures memory { OnErr result (result ≡ Err Error.Memory) }
         ensures refused { OnErr result (self.new ≡ self.old) }
     {
@@ -226,7 +229,8 @@ impl<C: Config> HashTableOwned<C> {
     }
 
     /// Inserts the items in their order, and stops at the first that is refused. Answers how many were accepted, and
-    /// `Memory` where there was a refusal: the table is then as the accepted ones left it, at its maximum.
+    /// `Memory` where there was a refusal: the table is then as the accepted ones left it, at its maximum, and the key of
+    /// the refused item is absent.
     pub fn insert_all(&mut self, items: &[(C::Key, C::Value)]) -> (usize, Result<(), Error>)
         ensures bound { result.0 ≤ length items.now }
         ensures all { IsOk result.1 ↔ (result.0 ≡ length items.now) }
@@ -234,9 +238,10 @@ impl<C: Config> HashTableOwned<C> {
             in (P : Table)
             → IsImage c.format P self.old
             → IsFilled c.format (put_owned c.format) P (encoded_all c (take result.0 items.now)) self.new }
-        ensures at_maximum { (P : Table)
-            → IsImage ⟦<C as Coded>⟧.coding.format P self.new
-            → OnErr result.1 (count P ≡ max_items (slot_count P) P.factor) }
+        ensures at_maximum { let c = ⟦<C as Coded>⟧.coding
+            in (P : Table)
+            → IsImage c.format P self.new
+            → OnErr result.1 (IsRefusedAt c P items.now result.0) }
         ensures memory { OnErr result.1 (result.1 ≡ Err Error.Memory) }
     {
         for accepted in 0..items.len() {
@@ -248,13 +253,13 @@ impl<C: Config> HashTableOwned<C> {
         (items.len(), Ok(()))
     }
 
-    // `insert` at the maximum: into the grown table.
+    // `insert` of an absent key at the maximum: into the grown table.
     #[inline(never)]
     fn insert_grown(&mut self, key: &C::Key, value: &C::Value) -> Result<Option<C::Value>, Error>
         ensures ok { let c = ⟦<C as Coded>⟧.coding
             in (P : Table)
             → IsImage c.format P self.old
-            → count P ≡ max_items (slot_count P) P.factor
+            → IsFullFor P (c.key_bytes key.now)
             → IfOk result (λ old. IsInserted c (put_owned c.format) P key.now value.now old self.new) }
         ensures memory { OnErr result (result ≡ Err Error.Memory) }
         ensures refused { OnErr result (self.new ≡ self.old) }

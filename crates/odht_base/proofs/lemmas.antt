@@ -60,6 +60,8 @@ pub mod Apart
 pub mod Grown
 -- the inserts of both tables
 pub mod Puts
+-- both rules of inserts make the same tables, but where a pair overwrites in a full one
+pub mod CountRules
 -- inserts into a table that has room for them all
 pub mod FreshRuns
 -- what a search in a placed table tells of its map

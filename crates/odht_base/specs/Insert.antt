@@ -6,12 +6,15 @@
 --     grown_slots P        the slots for twice as many pairs, and for one at least
 --     grown F P            the pairs of P, in slot order, in so many slots
 --     is_full P            P holds the most items that its slots may
---     put_owned F P p      an insert of the owned table, which grows where P is full
+--     is_full_for P k      P is full, and none of its pairs has the key k
+--     IsFullFor P k        the same as a statement
+--     put_owned F P p      an insert of the owned table, which grows where P is full for the key of p
 --     put_view F P p       an insert of a view, which refuses there
-use Rattle.std.specs.Prelude.{ℕ, ◌*◌, max, Bool, nat_lt, ◌==◌, List, [], ◌∷◌, set, position, find, Option, Some, None, option_map, option_and_then, if◌then◌else◌}
+use Rattle.std.specs.Prelude.{◌≡◌, ℕ, ◌*◌, max, Bool, ◌==◌, ◌&&◌, List, [], ◌∷◌, set, position, find, Option, Some, None, is_none, option_map, option_and_then, if◌then◌else◌}
 use Rattle.std.specs.Option.{option_or}
 use Rattle.odht_base.specs.Format.{Format}
 use Rattle.odht_base.specs.Load.{max_items, slots_for}
+use Rattle.odht_base.specs.Map.{map_of}
 use Rattle.odht_base.specs.Search.{search_order}
 use Rattle.odht_base.specs.Table.{Pair, Table, Cells, slot_count, empty, is_free, has_key, walk, count}
 
@@ -40,8 +43,14 @@ grown F P = option_and_then (λ s. place_all F (empty s P.factor) (walk P)) (gro
 abbrev pub is_full : Table → Bool
 is_full P = count P == max_items (slot_count P) P.factor
 
+abbrev pub is_full_for : Table → List ℕ → Bool
+is_full_for P k = is_full P && is_none (map_of P k)
+
+abbrev pub IsFullFor : Table → List ℕ → Type 0
+IsFullFor P k = (count P ≡ max_items (slot_count P) P.factor) × (map_of P k ≡ None)
+
 unfoldable pub put_owned : Format → Table → Pair → Option Table
-put_owned F P p = if is_full P then option_and_then (λ Q. place F Q p) (grown F P) else place F P p
+put_owned F P p = if is_full_for P p.key then option_and_then (λ Q. place F Q p) (grown F P) else place F P p
 
 unfoldable pub put_view : Format → Table → Pair → Option Table
-put_view F P p = if nat_lt (count P) (max_items (slot_count P) P.factor) then place F P p else None
+put_view F P p = if is_full_for P p.key then None else place F P p

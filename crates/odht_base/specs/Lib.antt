@@ -23,6 +23,8 @@ pub mod Map
 pub mod Search
 -- inserts into plain tables, growth included
 pub mod Insert
+-- the rule of inserts that asks the count alone
+pub mod CountRule
 -- the bytes of a plain table
 pub mod Image
 -- which plain tables, and which bytes, are valid

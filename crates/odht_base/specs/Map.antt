@@ -4,7 +4,8 @@
 --     map_of P k           the value that P holds for k
 --     last ps k            the value of the last pair with the key k
 --     overwritten m n k    n's value for k, or else m's
-use Rattle.std.specs.Prelude.{ℕ, List, reverse, find, Option, option_map, bytes_eq}
+--     KeysApart ps         no two pairs of ps have the same key
+use Rattle.std.specs.Prelude.{◌≡◌, ℕ, ⊤, List, [], ◌∷◌, reverse, find, Option, None, option_map, bytes_eq}
 use Rattle.std.specs.Option.{option_or}
 use Rattle.odht_base.specs.Table.{Pair, Table, walk}
 
@@ -22,3 +23,7 @@ last ps = value_in (reverse ps)
 
 abbrev pub overwritten : Values → Values → Values
 overwritten m n k = option_or (n k) (m k)
+
+abbrev pub KeysApart : List Pair → Type 0
+KeysApart [] = ⊤
+KeysApart (p ∷ ps) = (value_in ps p.key ≡ None) × KeysApart ps

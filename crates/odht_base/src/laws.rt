@@ -1,14 +1,15 @@
 //! Laws of the definitions that no call carries by itself. Each function does nothing: its contract is the law.
 //!
 //! They are said for every format `F`: every pair of lengths up to 255 and every hash of 32 bits.
-ghost use Rattle.std.specs.Prelude.{◌≡◌, ℕ, ◌+◌, ◌*◌, ◌%◌, ◌<◌, ◌≤◌, ◌^◌, List, length, All, Some, IsTrue, IsPermutation, bytes_eq, if◌then◌else◌};
+ghost use Rattle.std.specs.Prelude.{◌≡◌, ℕ, ◌+◌, ◌*◌, ◌%◌, ◌<◌, ◌≤◌, ◌^◌, ◌++◌, List, length, All, Some, IsTrue, IsPermutation, bytes_eq, if◌then◌else◌};
 ghost use Rattle.std.specs.List.{range_with_len};
 ghost use Rattle.odht_base.specs.Numbers.{num, le_bytes, IsBytes};
 ghost use Rattle.odht_base.specs.Load.{factor_of, IsSlotCount};
 ghost use Rattle.odht_base.specs.Format.{Format, IsFormat};
 ghost use Rattle.odht_base.specs.Probe.{place_slot, order};
 ghost use Rattle.odht_base.specs.Table.{Pair, Table, slot_count, is_free, walk, count, fresh};
-ghost use Rattle.odht_base.specs.Map.{map_of, last, overwritten};
+ghost use Rattle.odht_base.specs.Map.{map_of, last, overwritten, KeysApart};
+ghost use Rattle.odht_base.specs.CountRule.{put_owned_by_count, put_view_by_count, NoneOverwritesFull};
 ghost use Rattle.odht_base.specs.Insert.{place, grown, run, put_owned, put_view};
 ghost use Rattle.odht_base.specs.Image.{image, image_len};
 ghost use Rattle.odht_base.specs.Valid.{IsPairOf, IsPlaced, IsValid};
@@ -72,4 +73,20 @@ pub fn runs_have_the_last_values()
     ensures view { (F : Format) (P Q : Table) (ps : List Pair)
         → IsValid F P → All (IsPairOf F) ps → run (put_view F) P ps ≡ Some Q
         → IsValid F Q × ((k : List ℕ) → map_of Q k ≡ overwritten (map_of P) (last ps) k) }
+{}
+
+/// An insert into a full table asks whether the key is there; by the other rule, the Rust crate's, it asks the count alone.
+/// Both make the same table of a list, unless some pair of it overwrites in a full table; so they do of pairs whose keys
+/// are all different and new.
+pub fn rules_at_the_maximum_agree()
+    ensures owned { (F : Format) (P : Table) (ps : List Pair)
+        → NoneOverwritesFull (put_owned F) P ps → run (put_owned F) P ps ≡ run (put_owned_by_count F) P ps }
+    ensures view { (F : Format) (P : Table) (ps : List Pair)
+        → NoneOverwritesFull (put_view F) P ps → run (put_view F) P ps ≡ run (put_view_by_count F) P ps }
+    ensures new_keys_owned { (F : Format) (P : Table) (ps : List Pair)
+        → IsValid F P → All (IsPairOf F) ps → KeysApart (walk P ++ ps)
+        → run (put_owned F) P ps ≡ run (put_owned_by_count F) P ps }
+    ensures new_keys_view { (F : Format) (P : Table) (ps : List Pair)
+        → IsValid F P → All (IsPairOf F) ps → KeysApart (walk P ++ ps)
+        → run (put_view F) P ps ≡ run (put_view_by_count F) P ps }
 {}

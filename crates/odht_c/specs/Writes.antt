@@ -4,7 +4,7 @@
 --     IsAnswered r old s new   the same of an insert that may be refused
 --     IsFramedRun c B items B'   inserts of the items in turn, which are accepted, may leave B' of the accepted bytes B
 --     IsPut c P k v B' old s new   an insert of k with v into the table P leaves the bytes B' of the table after it, or
---                          is refused as full where there is no room and leaves all as it was
+--                          is refused where P is full for the key and leaves all as it was
 --     Each of the calls, of bytes that the coding c reads:
 --     BytesNeededAnswers c m p old s new      how many bytes a new table for m items at p percent has
 --     InitAnswers c m p B s B'                an empty table for m items at p percent
@@ -18,15 +18,15 @@ use Rattle.std.specs.Prelude.{Option, Some, None, MatchOption, Result, Ok, Err}
 use Rattle.std.specs.List.{zip}
 use Rattle.odht_base.specs.Image.{image_len}
 use Rattle.odht_base.specs.Insert.{put_view}
-use Rattle.odht_base.specs.Load.{factor_of, max_items, slots_for}
-use Rattle.odht_base.specs.Table.{Table, count, slot_count, fresh}
+use Rattle.odht_base.specs.Load.{factor_of, slots_for}
+use Rattle.odht_base.specs.Table.{Table, fresh}
 use Rattle.odht_base.specs.Valid.{IsImage}
 use Rattle.odht_raw.specs.Coding.{Coding, value_for, encoded}
 use Rattle.odht_raw.specs.Frame.{IsAccepted, IsFramed}
 use Rattle.odht_raw.specs.Refusals.{IsTooLarge, new_refusal, opening_refusal}
 use Rattle.odht_raw.specs.declared.error.Error.{Error}
 use Rattle.odht_raw.specs.declared.error.Error.TheVariants.{Full, Capacity}
-use Rattle.odht.specs.Lists.{encoded_all, IsFilled}
+use Rattle.odht.specs.Lists.{encoded_all, IsFilled, IsRefusedAt}
 use Rattle.odht_c.specs.Statuses.{status_of, IsPercent, done, replaced, bad_percent, bad_lengths}
 
 abbrev pub IsFormer : {V : Type 0} → Option V → V → ℕ → V → Type 0
@@ -81,4 +81,4 @@ pub record InsertAllAnswers {K V : Type 0} (c : Coding K V) (B : List ℕ) (keys
   pub framed : length values ≡ length keys → IsAccepted c.format B
       → IsFramedRun c B (take n' (zip keys values)) B'
   pub at_maximum : (P : Table) → length values ≡ length keys → IsAccepted c.format B → IsImage c.format P B'
-      → n' < length keys → count P ≡ max_items (slot_count P) P.factor
+      → n' < length keys → IsRefusedAt c P (zip keys values) n'

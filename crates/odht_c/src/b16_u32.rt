@@ -109,8 +109,7 @@ pub extern "C" fn odht_b16_u32_open(bytes: &[u8]) -> u32
 }
 
 /// Gives the key this value: status 0 where the key was new, `REPLACED` where it had a value, which is written to
-/// `former`. `FULL` at the maximum, even where the key is there, or a refusal of the header or length; then nothing
-/// changes.
+/// `former`. `FULL` at the maximum where the key is absent, or a refusal of the header or length; then nothing changes.
 #[unsafe(no_mangle)]
 pub extern "C" fn odht_b16_u32_insert(
     bytes: &mut [u8],

@@ -8,7 +8,7 @@
 --     dump_of F B           of `dump`: the text of the bytes B of a table
 --     new_text s m          of `new`: the slot count s and the maximum item count m
 --     IsPutAnswered c P k v t Q   t answers a `put` of the pair k and v, and Q is the table after it: P with the pair in it,
---                           or P, where the memory for its growth was refused
+--                           or P, where it is full for k and the memory for its growth was refused
 --     IsAnswered c P r t Q  t answers the request r of the table P, and Q is the table after it
 --     IsGoodPercent p       from 1 to 100
 --     IsRenewed F n p t o o'   t answers `new` for n items at p percent, after which o' is there in place of o: the bytes of
@@ -19,9 +19,9 @@ use Rattle.std.specs.List.{flat_map}
 use Rattle.std.specs.Fmt.{decimal, digit_glyph, debug_list}
 use Rattle.odht_base.specs.Format.{Format}
 use Rattle.odht_base.specs.Load.{factor_of, max_items, slots_for}
-use Rattle.odht_base.specs.Table.{Table as Plain, count, slot_count, walk, fresh}
+use Rattle.odht_base.specs.Table.{Table as Plain, count, walk, fresh}
 use Rattle.odht_base.specs.Image.{image}
-use Rattle.odht_base.specs.Insert.{put_owned}
+use Rattle.odht_base.specs.Insert.{put_owned, IsFullFor}
 use Rattle.odht_base.specs.Valid.{IsImage}
 use Rattle.odht_raw.specs.Coding.{Coding, encoded, value_for}
 use Rattle.odht_raw.specs.Dumps.{owned_dump_text}
@@ -62,7 +62,7 @@ new_text slots most = codes "slots " ++ decimal slots ++ codes " max " ++ decima
 abbrev pub IsPutAnswered : Coding ℕ ℕ → Plain → ℕ → ℕ → List ℕ → Plain → Type 0
 IsPutAnswered c P key value text Q =
     ((text ≡ line_of (former_text (value_for c P key))) × (put_owned c.format P (encoded c key value) ≡ Some Q))
-    ⊎ ((text ≡ line_of (codes "memory")) × (Q ≡ P) × (count P ≡ max_items (slot_count P) P.factor))
+    ⊎ ((text ≡ line_of (codes "memory")) × (Q ≡ P) × IsFullFor P (c.key_bytes key))
 
 abbrev pub IsAnswered : Coding ℕ ℕ → Plain → Request → List ℕ → Plain → Type 0
 IsAnswered c P (Put key value) text Q = IsPutAnswered c P key value text Q

@@ -200,6 +200,56 @@ slot 15: key=[3, 0, 0, 0, 0, 0, 0, 0], value=[4, 0, 0, 0], control_byte=58
     )
 }
 
+// At six percent sixteen slots take no item, and 32 take one. The key that is there is overwritten in these.
+#[test]
+fn dump_after_an_overwrite_at_the_maximum(rt: HostRuntime) -> Result<(), Fail> {
+    let expected = "slots 16 max 0
+none
+was 2
+1
+1 3
+end
+(item_count=1, max_item_count=1, max_load_factor=5%)
+RawTable (slot_count=32, hash_fn=FxHashFn) {
+slot 0: empty
+slot 1: empty
+slot 2: empty
+slot 3: empty
+slot 4: empty
+slot 5: empty
+slot 6: empty
+slot 7: empty
+slot 8: empty
+slot 9: empty
+slot 10: empty
+slot 11: empty
+slot 12: empty
+slot 13: empty
+slot 14: empty
+slot 15: empty
+slot 16: empty
+slot 17: empty
+slot 18: empty
+slot 19: empty
+slot 20: empty
+slot 21: key=[1, 0, 0, 0, 0, 0, 0, 0], value=[3, 0, 0, 0], control_byte=19
+slot 22: empty
+slot 23: empty
+slot 24: empty
+slot 25: empty
+slot 26: empty
+slot 27: empty
+slot 28: empty
+slot 29: empty
+slot 30: empty
+slot 31: empty
+}
+
+";
+    let script = b"new 0 6\nput 1 2\nput 1 3\nlen\nwalk\ndump\n";
+    check_answers(&rt, rt.alloc(), script, expected)
+}
+
 // With one refusal of memory at most, whichever it is: the line is answered `memory`, the table is as it was, and the
 // script goes on.
 #[test]
@@ -216,7 +266,7 @@ fn a_line_that_memory_is_refused_for(rt: HostRuntime) -> Result<(), Fail> {
         "slots 16 max 0\nnone\n2\nwas 2\n3\nnone\n2\n",
         "memory\nno table\nno table\nno table\nno table\nno table\nno table\n",
         "slots 16 max 0\nmemory\nnone\nnone\n3\nnone\n2\n",
-        "slots 16 max 0\nnone\n2\nmemory\n2\nnone\n2\n",
+        "slots 16 max 0\nnone\n2\nwas 2\n3\nmemory\n1\n",
     ];
     assert!(rt; expected.contains(&text), "answers {text:?}");
     Ok(())

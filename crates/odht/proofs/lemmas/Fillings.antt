@@ -1,10 +1,11 @@
 -- Inserts in turn: one more pair.
 use Rattle.std.proofs.Common.{◌≡◌, ◌<◌, ◌≤◌, ◌+◌, ◌∙◌, ◌++◌, ℕ, Bool, true, false, cond, sym, ap, refl, List, [], ◌∷◌, Option, Some, None, take, length, bytes_eq, get_or, arith, length-append}
 use Rattle.std.proofs.lemmas.List.{take_more, map-append, length-map}
+use Rattle.std.proofs.lemmas.Option.{slice_get-get_or}
 use Rattle.std.specs.Prelude.{option_and_then}
 use Rattle.std.specs.Option.{option_or}
 use Rattle.odht_base.specs.Format.{Format}
-use Rattle.odht_base.specs.Insert.{place, put_owned}
+use Rattle.odht_base.specs.Insert.{place, put_owned, IsFullFor}
 use Rattle.odht_base.specs.Load.{max_items, factor_of}
 use Rattle.odht_base.specs.Map.{map_of, last, overwritten}
 use Rattle.odht_base.specs.Table.{Pair, Table, count, slot_count, fresh}
@@ -14,7 +15,7 @@ use Rattle.odht_base.proofs.lemmas.Places.{slot_count-place, factor-place, count
 use Rattle.odht_base.proofs.lemmas.Rooms.{fresh-slots, slot_count-empty, count-empty, max_items-holds}
 use Rattle.odht_base.proofs.lemmas.Runs.{IsInsert, run-push, last-append, last-cons}
 use Rattle.odht_raw.specs.Coding.{Coding, encoded}
-use Rattle.odht.specs.Lists.{encoded_all, HasSizeOf, IsFilled, IsFreshFilled}
+use Rattle.odht.specs.Lists.{encoded_all, HasSizeOf, IsFilled, IsFreshFilled, IsRefusedAt}
 
 -- no pairs leave the table as it is
 pub filled_none : (F : Format) (put : Table → Pair → Option Table) (P : Table) (B : List ℕ) → IsImage F P B → IsFilled F put P [] B
@@ -56,6 +57,11 @@ pub encoded_all-more : {K V : Type 0} (c : Coding K V) (items : List (K × V)) (
     → encoded_all c (take (n + 1) items) ≡ encoded_all c (take n items) ++ encoded c item.0 item.1 ∷ []
 encoded_all-more {K = K} {V = V} c items n item low at =
     ap (encoded_all c) (take_more items n item low ∙ ap (λ t. take n items ++ t ∷ []) at) ∙ map-append (λ (t : K × V). encoded c t.0 t.1) (take n items) (item ∷ [])
+
+-- the item that an insert refused
+pub refused_at : {K V : Type 0} (c : Coding K V) (P : Table) (items : List (K × V)) (n : ℕ) (item : K × V) → n < length items → get_or items n item ≡ item
+    → IsFullFor P (c.key_bytes item.0) → IsRefusedAt c P items n
+refused_at c P items n item low at full = record { item = item; at = slice_get-get_or items n item low ∙ ap (λ x. Some x) at; full = full }
 
 -- the fresh table for as many items as are put into it never grows
 pub fresh_filled : {K V : Type 0} (c : Coding K V) (percent : ℕ) (items : List (K × V)) (B : List ℕ) (P : Table) → fresh (length items) percent ≡ Some P

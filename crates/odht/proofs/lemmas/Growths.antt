@@ -1,18 +1,17 @@
 -- A growth: the pairs of a table, placed in slot order in the grown slots.
-use Rattle.std.proofs.Common.{◌≡◌, ◌<◌, ◌∙◌, ◌*◌, ◌^◌, ◌++◌, ℕ, sym, ap, List, Some, Result, Ok, Err, IfOk, OnErr, arith, inl, inr}
-use Rattle.std.proofs.lemmas.Bool.{cases_lt}
+use Rattle.std.proofs.Common.{◌≡◌, ◌<◌, ◌∙◌, ◌*◌, ◌^◌, ◌++◌, ℕ, sym, ap, List, Some, Result, Ok, Err, IfOk, OnErr, arith, inl}
 use Rattle.std.specs.Prelude.{option_and_then, max}
 use Rattle.odht_base.specs.Format.{Format}
 use Rattle.odht_base.specs.Image.{header_bytes, image, parts}
-use Rattle.odht_base.specs.Load.{max_items, IsLeastSlots}
-use Rattle.odht_base.specs.Insert.{grown, grown_slots, place, place_all, put_owned, put_view}
+use Rattle.odht_base.specs.Load.{IsLeastSlots}
+use Rattle.odht_base.specs.Insert.{grown, grown_slots, place, place_all, put_owned, put_view, IsFullFor}
 use Rattle.odht_base.specs.Map.{map_of}
 use Rattle.odht_base.specs.Table.{Pair, Table, slot_count, count, empty, walk}
 use Rattle.odht_base.specs.Valid.{IsImage, IsValid}
 use Rattle.odht_base.proofs.lemmas.Apart.{walk-IsPairOf}
 use Rattle.odht_base.proofs.lemmas.Grown.{room_above, grown-IsGrown, place_all-fits, slot_count-place_all}
 use Rattle.odht_base.proofs.lemmas.Least.{slots_for-IsLeastSlots}
-use Rattle.odht_base.proofs.lemmas.Puts.{put_view-below, put_owned-below, put_owned-full}
+use Rattle.odht_base.proofs.lemmas.Puts.{put_view-takes, put_owned-full}
 use Rattle.odht_base.proofs.lemmas.Rooms.{slot_count-empty, count-empty, empty-IsPlaced, max_items-lt}
 use Rattle.odht_base.proofs.lemmas.SlotCounts.{few_slots, slots_pos}
 use Rattle.odht_raw.specs.declared.error.Error.{Error}
@@ -54,21 +53,15 @@ module _ (F : Format) (P : Table) (ok : IsValid F P) (s : ℕ) (enough : grown_s
 
 -- ---- the owned insert, by that of the view
 module _ (F : Format) (P : Table) (p : Pair) (ok : IsValid F P) where
-  -- below the maximum they are one
-  pub put_owned-view : (count P ≡ max_items (slot_count P) P.factor → ⊥) → put_owned F P p ≡ put_view F P p
-  put_owned-view other =
-      let below : count P < max_items (slot_count P) P.factor = elim (cases_lt (count P) (max_items (slot_count P) P.factor)) [ inl l ↦ l | inr m ↦ absurd (other (omega (arith, m, ok.room))) ] in
-      put_owned-below F P p ok below ∙ sym (put_view-below F P p ok below)
-
-  -- at the maximum it is that into the grown table
-  pub put_owned-grown : (Q : Table) → count P ≡ max_items (slot_count P) P.factor → grown F P ≡ Some Q → put_owned F P p ≡ put_view F Q p
+  -- where the table is full for the key it is that into the grown table
+  pub put_owned-grown : (Q : Table) → IsFullFor P p.key → grown F P ≡ Some Q → put_owned F P p ≡ put_view F Q p
   put_owned-grown Q full e =
       let is = grown-IsGrown F P ok Q e in
-      put_owned-full F P p ok full ∙ ap (option_and_then (λ R. place F R p)) e ∙ sym (put_view-below F Q p is.valid is.room)
+      put_owned-full F P p full ∙ ap (option_and_then (λ R. place F R p)) e ∙ sym (put_view-takes F Q p (inl is.room))
 
   -- which has room, and the same values
-  pub grown_below : (Q : Table) → grown F P ≡ Some Q → count Q ≡ max_items (slot_count Q) Q.factor → ⊥
-  grown_below Q e full = let is = grown-IsGrown F P ok Q e in omega (arith, is.room, full)
+  pub grown_below : (Q : Table) → grown F P ≡ Some Q → (k : List ℕ) → IsFullFor Q k → ⊥
+  grown_below Q e k full = let is = grown-IsGrown F P ok Q e in omega (arith, is.room, full.0)
 
   pub grown_maps : (Q : Table) → grown F P ≡ Some Q → (k : List ℕ) → map_of Q k ≡ map_of P k
   grown_maps Q e = (grown-IsGrown F P ok Q e).maps

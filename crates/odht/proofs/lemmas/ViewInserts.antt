@@ -1,12 +1,12 @@
--- What the writes of an insert leave where its search ended, on the bytes of a valid table below its maximum.
-use Rattle.std.proofs.Common.{◌≡◌, ◌≤◌, ◌<◌, ◌∙◌, ◌+◌, ◌/◌, ◌^◌, ℕ, sym, ap, refl, subst, arith, List, [], Option, Some, None, Ok}
+-- What the writes of an insert leave where its search ended, on the bytes of a valid table that takes the key.
+use Rattle.std.proofs.Common.{inl, inr, ◌≡◌, ◌≤◌, ◌<◌, ◌∙◌, ◌+◌, ◌/◌, ◌^◌, ℕ, sym, ap, refl, subst, arith, List, [], Option, Some, None, Ok}
 use Rattle.std.specs.Prelude.{option_map}
 use Rattle.std.proofs.lemmas.Option.{none-some}
 use Rattle.odht_base.specs.Format.{Format, tag}
 use Rattle.odht_base.specs.Numbers.{IsBytes}
 use Rattle.odht_base.specs.Table.{Pair, Table, count, slot_count}
 use Rattle.odht_base.specs.Load.{max_items}
-use Rattle.odht_base.specs.Insert.{put_view}
+use Rattle.odht_base.specs.Insert.{put_view, IsFullFor}
 use Rattle.odht_base.specs.Map.{map_of}
 use Rattle.odht_base.specs.Valid.{IsPairOf, IsImage, IsPartsOf, IsValid}
 use Rattle.odht_base.specs.Shown.{stated_slots, stated_count, stated_factor, entries_of, controls_of, slot_key, slot_value, value_at}
@@ -15,7 +15,7 @@ use Rattle.odht_base.proofs.lemmas.Fits.{IsSized-IsPlaced}
 use Rattle.odht_base.proofs.lemmas.Image.{stated_count-image, stated_slots-image, stated_factor-image}
 use Rattle.odht_base.proofs.lemmas.Rooms.{place-IsValid_fits}
 use Rattle.odht_base.proofs.lemmas.Places.{written}
-use Rattle.odht_base.proofs.lemmas.Puts.{HasRoom, place-IsValid, put_view-below, put_view-IsInsert}
+use Rattle.odht_base.proofs.lemmas.Puts.{HasRoom, TakesKey, there, place-IsValid, put_view-takes, put_view-IsInsert}
 use Rattle.odht_base.proofs.lemmas.Writes.{with_value-image, with_pair-image_stated}
 use Rattle.odht_raw.specs.Coding.{Coding, encoded}
 use Rattle.odht_raw.specs.Frame.{CountsAsFree, InsertFrame, IsFramed}
@@ -23,7 +23,7 @@ use Rattle.odht_raw.proofs.lemmas.Inserts.{found_key, found_value}
 use Rattle.odht.specs.Inserts.{IsInserted}
 use Rattle.odht_raw.proofs.lemmas.Lookups.{IsFoundAt, IsFreeAt, IsNowhere}
 
--- an insert below the maximum ends in the bytes of the table with the pair put
+-- an accepted insert ends in the bytes of the table with the pair put
 abbrev pub IsPut : Format → Table → Pair → List ℕ → Type 0
 IsPut F P p B = (Q : Table) × (put_view F P p ≡ Some Q) × IsImage F Q B
 
@@ -65,38 +65,48 @@ module _ (F : Format) (P : Table) (B : List ℕ) (is : IsImage F P B) where
       let q = place-IsValid_fits F P (record { key = k; value = [] }) is.valid in
       none-some q.0 (sym (at.places (record { key = k; value = [] }) refl) ∙ q.1)
 
+-- ---- the maximum
+-- a key that was found is taken
+found_takes : (F : Format) (P : Table) (k : List ℕ) (i : ℕ) → IsFoundAt F P k i → TakesKey P k
+found_takes F P k i at = inr (there P k at.pair.value at.value)
+
+-- so no table is full for it
+pub found_not_full : (F : Format) (P : Table) (k : List ℕ) (i : ℕ) → IsFoundAt F P k i → IsFullFor P k → ⊥
+found_not_full F P k i at full = none-some at.pair.value (sym full.1 ∙ at.value)
+
+-- nor is a table with room for any key
+pub room_not_full : (P : Table) (k : List ℕ) → HasRoom P → IsFullFor P k → ⊥
+room_not_full P k room full = omega (arith, room, full.0)
+
 -- ---- the writes
-module _ (F : Format) (P : Table) (B : List ℕ) (is : IsImage F P B) (room : HasRoom P) (p : Pair) (fits : IsPairOf F p) (i : ℕ) where
+module _ (F : Format) (P : Table) (B : List ℕ) (is : IsImage F P B) (p : Pair) (fits : IsPairOf F p) (i : ℕ) where
   -- where the search found the key, with its value overwritten
   pub found_put : IsFoundAt F P p.key i → IsPut F P p (with_value F B i p.value)
   found_put at =
-      let placed = at.places p refl in (
+      let placed = at.places p refl in
+      let takes = found_takes F P p.key i at in (
         written P i p,
-        put_view-below F P p is.valid room ∙ placed,
+        put_view-takes F P p takes ∙ placed,
         record {
-          valid = place-IsValid F P (written P i p) p is.valid room fits placed;
+          valid = place-IsValid F P (written P i p) p is.valid takes fits placed;
           bytes = ap (λ b. with_value F b i p.value) is.bytes ∙ with_value-image F P i p at.pair (IsSized-IsPlaced F P is.valid.placed) at.holds at.key fits.value.len;
         },
       )
 
-  -- where it ended at a free slot, with the pair, its tag and the count written
-  pub free_put : IsFreeAt F P p.key i → IsPut F P p (with_count (with_pair F (stated_slots B) B i p) (stated_count B + 1))
-  free_put at =
+  -- where it ended at a free slot and there is room, with the pair, its tag and the count written
+  pub free_put : HasRoom P → IsFreeAt F P p.key i → IsPut F P p (with_count (with_pair F (stated_slots B) B i p) (stated_count B + 1))
+  free_put room at =
       let placed = at.places p refl in (
         written P i p,
-        put_view-below F P p is.valid room ∙ placed,
+        put_view-takes F P p (inl room) ∙ placed,
         record {
-          valid = place-IsValid F P (written P i p) p is.valid room fits placed;
+          valid = place-IsValid F P (written P i p) p is.valid (inl room) fits placed;
           bytes = ap (λ b. with_count (with_pair F (stated_slots b) b i p) (stated_count b + 1)) is.bytes
               ∙ with_pair-image_stated F P i p (IsSized-IsPlaced F P is.valid.placed) at.within at.free fits.key.len fits.value.len;
         },
       )
 
 -- ---- the answer of a view
--- a table with room is not at its maximum
-pub room_not_full : (P : Table) → HasRoom P → count P ≡ max_items (slot_count P) P.factor → ⊥
-room_not_full P room full = omega (arith, room, full)
-
 -- an insert that ends so answers the former value, and leaves the table after the put
 pub inserted : {K V : Type 0} (c : Coding K V) (P : Table) → IsValid c.format P → (k : K) (v : V) (old : Option V) (B : List ℕ) (p : Pair) → p ≡ encoded c k v
     → old ≡ option_map c.value_of (map_of P p.key) → IsPut c.format P p B → IsInserted c (put_view c.format) P k v old B
@@ -120,13 +130,13 @@ held_twice holding held_last s t u a b first last = last ∙ ap (λ r. holding r
 module _ {K V : Type 0} (c : Coding K V) (A : List ℕ) (k : K) (v : V) (p : Pair) (same : p ≡ encoded c k v) (slot : ℕ) where
   -- the overwritten value, of which r was made
   module _ (es : List ℕ) (r : V) (old : r ≡ c.value_of (slot_value c.format es slot)) (C : List ℕ) (written : C ≡ with_value c.format A slot p.value) where
-    pub found_inserted : (P : Table) → IsImage c.format P A → HasRoom P → (ctrl : List ℕ) → IsPartsOf c.format P es ctrl → IsFoundAt c.format P p.key slot
+    pub found_inserted : (P : Table) → IsImage c.format P A → (ctrl : List ℕ) → IsPartsOf c.format P es ctrl → IsFoundAt c.format P p.key slot
         → IsBytes c.format.value_len p.value → IsInserted c (put_view c.format) P k v (Some r) C
-    found_inserted P is room ctrl parts at fits =
+    found_inserted P is ctrl parts at fits =
         inserted c P is.valid k v (Some r) C p same
         (ap Some (old ∙ ap c.value_of (found_value c.format P es ctrl parts p.key slot at)) ∙ sym (ap (option_map c.value_of) at.value))
         (subst (IsPut c.format P p) (sym written)
-        (found_put c.format P A is room p (record { key = found_key c.format P es ctrl parts p.key slot at; value = fits }) slot at))
+        (found_put c.format P A is p (record { key = found_key c.format P es ctrl parts p.key slot at; value = fits }) slot at))
 
     -- on any bytes
     pub found_framed : (B : List ℕ) → A ≡ B → es ≡ entries_of c.format A → (n : ℕ) → n ≡ stated_slots A → slot < n → slot_key c.format es slot ≡ p.key
@@ -155,7 +165,7 @@ module _ {K V : Type 0} (c : Coding K V) (A : List ℕ) (k : K) (v : V) (p : Pai
         → IsInserted c (put_view c.format) P k v None C
     free_inserted P is room end fits =
         inserted c P is.valid k v None C p same (sym (ap (option_map c.value_of) end.value))
-        (subst (IsPut c.format P p) (sym added) (free_put c.format P A is room p fits slot end))
+        (subst (IsPut c.format P p) (sym added) (free_put c.format P A is p fits slot room end))
 
     -- on any bytes
     pub free_framed : (B : List ℕ) → A ≡ B → (ctrl : List ℕ) → ctrl ≡ controls_of c.format A → (n : ℕ) → n ≡ stated_slots A → slot < n → CountsAsFree ctrl slot

@@ -14,14 +14,15 @@ use Rattle.odht_base.proofs.examples.Opened.{opened}
 abbrev sizes : Option Table → Option (List ℕ)
 sizes = option_map (λ P. slot_count P ∷ count P ∷ max_items (slot_count P) P.factor ∷ [])
 
--- from a maximum of 0: one insert at 6 percent leaves 32 slots with maximum 1, at 1 percent 128; a second one of the
--- same key at 6 percent leaves 64, since it grows first
+-- from a maximum of 0: one insert at 6 percent leaves 32 slots with maximum 1, at 1 percent 128; a second one at 6
+-- percent leaves 64, but of the same key it overwrites
 pub from_nothing : (sizes (owned_of test_config 0 6 []) ≡ Some (16 ∷ 0 ∷ 0 ∷ []))
     × (sizes (owned_of test_config 0 6 (pair32 1 2 ∷ [])) ≡ Some (32 ∷ 1 ∷ 1 ∷ []))
     × (sizes (owned_of test_config 0 1 (pair32 1 2 ∷ [])) ≡ Some (128 ∷ 1 ∷ 1 ∷ []))
-    × (sizes (owned_of test_config 0 6 (pair32 1 2 ∷ pair32 1 3 ∷ [])) ≡ Some (64 ∷ 1 ∷ 3 ∷ []))
+    × (sizes (owned_of test_config 0 6 (pair32 1 2 ∷ pair32 2 3 ∷ [])) ≡ Some (64 ∷ 2 ∷ 3 ∷ []))
+    × (sizes (owned_of test_config 0 6 (pair32 1 2 ∷ pair32 1 3 ∷ [])) ≡ Some (32 ∷ 1 ∷ 1 ∷ []))
 unfolding opened
-from_nothing = (refl, refl, refl, refl)
+from_nothing = (refl, refl, refl, refl, refl)
 
 -- thirteen keys in sixteen slots, and one more insert into the owned table: a new key or one that is there
 abbrev full_owned : Pair → Option Table
@@ -29,20 +30,21 @@ full_owned p = option_and_then (λ P. put_owned direct_config P p) (owned_of dir
 
 pub owned_grows : (sizes (owned_of direct_config 13 87 (squares 13)) ≡ Some (16 ∷ 13 ∷ 13 ∷ []))
     × (sizes (full_owned (pair32 13 7)) ≡ Some (32 ∷ 14 ∷ 27 ∷ []))
-    × (sizes (full_owned (pair32 3 7)) ≡ Some (32 ∷ 13 ∷ 27 ∷ []))
+    × (sizes (full_owned (pair32 3 7)) ≡ Some (16 ∷ 13 ∷ 13 ∷ []))
     × (option_map (λ P. map_of P (le_bytes 4 3)) (full_owned (pair32 3 7)) ≡ Some (Some (le_bytes 4 7)))
 unfolding opened
 owned_grows = (refl, refl, refl, refl)
 
--- and into a view, which refuses both
+-- and into a view, which refuses the new key alone
 abbrev full_view : Pair → Option Table
 full_view p = option_and_then (λ P. put_view direct_config P p) (view_of direct_config 13 87 (squares 13))
 
 pub view_refuses : (sizes (view_of direct_config 13 87 (squares 13)) ≡ Some (16 ∷ 13 ∷ 13 ∷ []))
     × (full_view (pair32 13 7) ≡ None)
-    × (full_view (pair32 3 7) ≡ None)
+    × (sizes (full_view (pair32 3 7)) ≡ Some (16 ∷ 13 ∷ 13 ∷ []))
+    × (option_map (λ P. map_of P (le_bytes 4 3)) (full_view (pair32 3 7)) ≡ Some (Some (le_bytes 4 7)))
 unfolding opened
-view_refuses = (refl, refl, refl)
+view_refuses = (refl, refl, refl, refl)
 
 -- fifteen items into the owned table for thirteen
 pub fifteen_items : sizes (owned_of direct_config 13 87 (squares 15)) ≡ Some (32 ∷ 15 ∷ 27 ∷ [])

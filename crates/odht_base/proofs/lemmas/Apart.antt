@@ -4,7 +4,7 @@ use Rattle.std.specs.Option.{option_or}
 use Rattle.std.proofs.lemmas.List.Elements.{All-cons}
 use Rattle.std.proofs.lemmas.Bool.{false_from_ne_true}
 use Rattle.odht_base.specs.Format.{Format}
-use Rattle.odht_base.specs.Map.{value_in, last}
+use Rattle.odht_base.specs.Map.{value_in, last, KeysApart}
 use Rattle.odht_base.specs.Table.{Pair, Table, Cells, cell_at, walk}
 use Rattle.odht_base.specs.Valid.{IsPairOf, IsPlaced}
 use Rattle.odht_base.proofs.lemmas.Counts.{pairs}
@@ -12,11 +12,6 @@ use Rattle.odht_base.proofs.lemmas.Keys.{same_bytes, key_pair}
 use Rattle.odht_base.proofs.lemmas.Pairs.{value_in-cons, value_in-None}
 use Rattle.odht_base.proofs.lemmas.Runs.{last-cons}
 use Rattle.std.proofs.lemmas.Option.{none-some}
-
--- no key stands twice
-abbrev pub KeysApart : List Pair → Type 0
-KeysApart [] = Unit {0}
-KeysApart (p ∷ ps) = (value_in ps p.key ≡ None) × KeysApart ps
 
 -- of different keys, the last value is the first
 pub last-apart : (ps : List Pair) → KeysApart ps → (k : List ℕ) → last ps k ≡ value_in ps k

@@ -1,5 +1,5 @@
 -- Inserts into a table that has room for them all neither grow it nor are refused.
-use Rattle.std.proofs.Common.{◌≡◌, ◌<◌, ◌≤◌, ◌+◌, ◌∙◌, ℕ, sym, ap, subst, refl, List, [], ◌∷◌, Option, Some, length, arith, All}
+use Rattle.std.proofs.Common.{inl, ◌≡◌, ◌<◌, ◌≤◌, ◌+◌, ◌∙◌, ℕ, sym, ap, subst, refl, List, [], ◌∷◌, Option, Some, length, arith, All}
 use Rattle.std.specs.Prelude.{option_and_then}
 use Rattle.std.specs.Option.{option_or}
 use Rattle.std.proofs.lemmas.List.Elements.{All-head, All-tail}
@@ -12,7 +12,7 @@ use Rattle.odht_base.specs.Valid.{IsPairOf, IsValid}
 use Rattle.odht_base.proofs.lemmas.Grown.{place_all-fits, slot_count-place_all}
 use Rattle.odht_base.proofs.lemmas.Options.{option_or-none_right}
 use Rattle.odht_base.proofs.lemmas.Places.{slot_count-place, factor-place, count-place_le}
-use Rattle.odht_base.proofs.lemmas.Puts.{place-IsValid, put_owned-below, put_view-below}
+use Rattle.odht_base.proofs.lemmas.Puts.{place-IsValid, put_owned-takes, put_view-takes}
 use Rattle.odht_base.proofs.lemmas.Rooms.{max_items-lt, place-IsValid_fits, count-fresh, max_items-fresh, fresh-IsValid, map_of-fresh}
 use Rattle.odht_base.proofs.lemmas.Runs.{IsInsert, run-keeps, map_of-run}
 use Rattle.odht_base.proofs.lemmas.SlotCounts.{slots_pos}
@@ -24,11 +24,11 @@ PlacesBelow F put = (P : Table) (p : Pair) → IsValid F P → count P < max_ite
 module _ (F : Format) where
   -- the owned table
   pub put_owned-PlacesBelow : PlacesBelow F (put_owned F)
-  put_owned-PlacesBelow P p ok l = put_owned-below F P p ok l
+  put_owned-PlacesBelow P p ok l = put_owned-takes F P p (inl l)
 
   -- the view
   pub put_view-PlacesBelow : PlacesBelow F (put_view F)
-  put_view-PlacesBelow P p ok l = put_view-below F P p ok l
+  put_view-PlacesBelow P p ok l = put_view-takes F P p (inl l)
 
 module _ (F : Format) (put : Table → Pair → Option Table) (places : PlacesBelow F put) where
   -- where the table has room for the pairs, the inserts place them in its slots
@@ -39,7 +39,7 @@ module _ (F : Format) (put : Table → Pair → Option Table) (places : PlacesBe
       let len = slot_count-place F P t.0 p ok.placed t.1 in
       let factor = factor-place F P t.0 p ok.placed t.1 in
       let more = count-place_le F P t.0 p ok.placed t.1 in
-      let valid = place-IsValid F P t.0 p ok (omega arith) (All-head (IsPairOf F) p ps fit) t.1 in
+      let valid = place-IsValid F P t.0 p ok (inl (omega arith)) (All-head (IsPairOf F) p ps fit) t.1 in
       let room' : count t.0 + length ps ≤ max_items (slot_count t.0) t.0.factor =
       subst (λ n. count t.0 + length ps ≤ max_items n t.0.factor) (sym len) (subst (λ f. count t.0 + length ps ≤ max_items (slot_count P) f) (sym factor) (omega arith)) in
       ap (option_and_then (λ Q. run put Q ps)) (places P p ok (omega arith) ∙ t.1)

@@ -9,10 +9,10 @@ use Rattle.std.proofs.lemmas.List.Sorted.{IsPermutation-refl, IsPermutation-tran
 use Rattle.odht_base.specs.Format.{Format}
 use Rattle.odht_base.specs.Insert.{place, place_all, grown, grown_slots, run}
 use Rattle.odht_base.specs.Load.{max_items, IsLeastSlots}
-use Rattle.odht_base.specs.Map.{value_in, map_of, last}
+use Rattle.odht_base.specs.Map.{value_in, map_of, last, KeysApart}
 use Rattle.odht_base.specs.Table.{Pair, Table, slot_count, walk, count, empty}
 use Rattle.odht_base.specs.Valid.{IsPairOf, IsPlaced, IsValid}
-use Rattle.odht_base.proofs.lemmas.Apart.{KeysApart, last-apart, walk-KeysApart, walk-IsPairOf}
+use Rattle.odht_base.proofs.lemmas.Apart.{last-apart, walk-KeysApart, walk-IsPairOf}
 use Rattle.odht_base.proofs.lemmas.Keys.{same_bytes, key_itself}
 use Rattle.odht_base.proofs.lemmas.Least.{slots_for-IsLeastSlots}
 use Rattle.odht_base.proofs.lemmas.Options.{and_then_some, some_same, option_or-none_right}
@@ -53,11 +53,11 @@ abbrev pub AreNew : Table → List Pair → Type 0
 AreNew P ps = (k : List ℕ) (v : List ℕ) → value_in ps k ≡ Some v → map_of P k ≡ None
 
 -- the first key is new
-new-head : (P : Table) (p : Pair) (ps : List Pair) → AreNew P (p ∷ ps) → map_of P p.key ≡ None
+pub new-head : (P : Table) (p : Pair) (ps : List Pair) → AreNew P (p ∷ ps) → map_of P p.key ≡ None
 new-head P p ps new = new p.key p.value (value_in-cons p ps p.key ∙ rw (key_itself p.key) refl)
 
 -- the others stay new once it is placed
-new-tail : (P Q : Table) (p : Pair) (ps : List Pair) → KeysApart (p ∷ ps) → AreNew P (p ∷ ps) → ((k : List ℕ) → map_of Q k ≡ (if bytes_eq k p.key then Some p.value else map_of P k)) → AreNew Q ps
+pub new-tail : (P Q : Table) (p : Pair) (ps : List Pair) → KeysApart (p ∷ ps) → AreNew P (p ∷ ps) → ((k : List ℕ) → map_of Q k ≡ (if bytes_eq k p.key then Some p.value else map_of P k)) → AreNew Q ps
 new-tail P Q p ps apart new maps k v e = maps k ∙ go (bytes_eq k p.key) refl
   where
     go : (b : Bool) → bytes_eq k p.key ≡ b → cond b (Some p.value) (map_of P k) ≡ None

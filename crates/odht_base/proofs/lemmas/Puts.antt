@@ -1,10 +1,10 @@
 -- The inserts of both tables, on valid tables.
-use Rattle.std.proofs.Common.{◌≡◌, ◌<◌, ◌≤◌, ◌+◌, ◌∙◌, ◌⊎◌, inl, inr, ℕ, Bool, true, false, cond, sym, ap, subst, refl, List, Option, Some, None, arith, bytes_eq, eq-eqb, ltb-true, ltb-false, lt-ltb, le-ltb, nat_lt}
-use Rattle.std.specs.Prelude.{is_none, option_and_then, if◌then◌else◌, ◌↔◌}
-use Rattle.std.proofs.lemmas.Bool.{eqb-false, ne_eqb}
+use Rattle.std.proofs.Common.{◌≡◌, ◌<◌, ◌≤◌, ◌+◌, ◌∙◌, ◌⊎◌, inl, inr, ℕ, Bool, true, false, true≢false, cond, sym, ap, ap₂, subst, refl, List, Option, Some, None, arith, bytes_eq, eq-eqb, eqb-true}
+use Rattle.std.specs.Prelude.{is_none, option_and_then, if◌then◌else◌, ◌↔◌, ◌&&◌}
+use Rattle.std.proofs.lemmas.Bool.{eqb-false, false_from_ne_true}
 use Rattle.std.proofs.lemmas.Option.{none-some}
 use Rattle.odht_base.specs.Format.{Format}
-use Rattle.odht_base.specs.Insert.{place, grown, is_full, put_owned, put_view}
+use Rattle.odht_base.specs.Insert.{place, grown, is_full, is_full_for, IsFullFor, put_owned, put_view}
 use Rattle.odht_base.specs.Load.{max_items}
 use Rattle.odht_base.specs.Map.{map_of}
 use Rattle.odht_base.specs.Table.{Pair, Table, slot_count, count}
@@ -20,33 +20,63 @@ use Rattle.odht_base.proofs.lemmas.Runs.{IsInsert}
 abbrev pub HasRoom : Table → Type 0
 HasRoom P = count P < max_items (slot_count P) P.factor
 
--- where there is room, a placed pair leaves a valid table
-pub place-IsValid : (F : Format) (P Q : Table) (p : Pair) → IsValid F P → HasRoom P → IsPairOf F p → place F P p ≡ Some Q → IsValid F Q
-place-IsValid F P Q p ok room fit e =
+-- an insert of the key stays within the maximum: there is room, or the key is there
+abbrev pub TakesKey : Table → List ℕ → Type 0
+TakesKey P k = HasRoom P ⊎ (is_none (map_of P k) ≡ false)
+
+-- where the table takes the key, a placed pair leaves a valid table
+pub place-IsValid : (F : Format) (P Q : Table) (p : Pair) → IsValid F P → TakesKey P p.key → IsPairOf F p → place F P p ≡ Some Q → IsValid F Q
+place-IsValid F P Q p ok takes fit e =
     let len = slot_count-place F P Q p ok.placed e in
     let factor = factor-place F P Q p ok.placed e in
-    let few = count-place_le F P Q p ok.placed e in
     record {
       placed = place-IsPlaced F P Q p ok.placed e fit;
       factor_low = omega (arith, ok.factor_low, factor);
       factor_high = omega (arith, ok.factor_high, factor);
-      room = subst (λ n. count Q ≤ max_items n Q.factor) (sym len) (subst (λ f. count Q ≤ max_items (slot_count P) f) (sym factor) (omega arith));
+      room = subst (λ n. count Q ≤ max_items n Q.factor) (sym len) (subst (λ f. count Q ≤ max_items (slot_count P) f) (sym factor) few);
     }
+  where
+    few : count Q ≤ max_items (slot_count P) P.factor
+    few = elim takes [
+      | inl room ↦ let more = count-place_le F P Q p ok.placed e in omega (arith, more, room)
+      | inr there ↦ let same = count-place F P Q p ok.placed e ∙ ap (λ b. cond b (count P + 1) (count P)) there in omega (arith, same, ok.room)
+    ]
 
-module _ (F : Format) (P : Table) (ok : IsValid F P) where
-  -- a table that is not full is below its maximum
-  pub is_full-false : is_full P ≡ false → count P < max_items (slot_count P) P.factor
-  is_full-false e = let ne = eqb-false (count P) (max_items (slot_count P) P.factor) e in omega (arith, ok.room, ne)
+-- a key that has a value is there
+pub there : (P : Table) (k v : List ℕ) → map_of P k ≡ Some v → is_none (map_of P k) ≡ false
+there P k v e = ap is_none e
 
-  -- at its maximum a table is full
-  pub full-is_full : count P ≡ max_items (slot_count P) P.factor → is_full P ≡ true
-  full-is_full e = eq-eqb (count P) (max_items (slot_count P) P.factor) e
+module _ (P : Table) (k : List ℕ) where
+  -- full for a key, as it is computed
+  pub IsFullFor-true : is_full_for P k ≡ true → IsFullFor P k
+  IsFullFor-true e = go (is_full P) (map_of P k) refl refl e
+    where
+      go : (b : Bool) (o : Option (List ℕ)) → is_full P ≡ b → map_of P k ≡ o → (b && is_none o) ≡ true → IsFullFor P k
+      go true None full absent h = (eqb-true (count P) (max_items (slot_count P) P.factor) full, absent)
+      go true (Some v) full absent h = absurd (true≢false (sym h))
+      go false o full absent h = absurd (true≢false (sym h))
 
-  -- below it it is not
-  pub below-is_full : count P < max_items (slot_count P) P.factor → is_full P ≡ false
-  below-is_full l = ne_eqb (count P) (max_items (slot_count P) P.factor) (λ e. omega arith)
+  -- and the other way
+  pub true-IsFullFor : IsFullFor P k → is_full_for P k ≡ true
+  true-IsFullFor full = ap₂ (λ a b. a && is_none b) (eq-eqb (count P) (max_items (slot_count P) P.factor) full.0) full.1
 
--- ---- an accepted insert places its pair in the table or in the grown table, and there is room
+  -- a table that takes the key is not full for it
+  pub TakesKey-false : TakesKey P k → is_full_for P k ≡ false
+  TakesKey-false takes = false_from_ne_true _ (λ e.
+      let full = IsFullFor-true e in elim takes [
+        | inl room ↦ omega (arith, full.0, room)
+        | inr held ↦ absurd (true≢false (sym (ap is_none full.1) ∙ held))
+      ])
+
+  -- and a valid one that is not full for it takes it
+  pub false-TakesKey : count P ≤ max_items (slot_count P) P.factor → is_full_for P k ≡ false → TakesKey P k
+  false-TakesKey most e = go (is_full P) refl e
+    where
+      go : (b : Bool) → is_full P ≡ b → (b && is_none (map_of P k)) ≡ false → TakesKey P k
+      go true full h = inr h
+      go false low h = inl (let ne = eqb-false (count P) (max_items (slot_count P) P.factor) low in omega (arith, most, ne))
+
+-- ---- an accepted insert places its pair in the table or in the grown table, which takes its key
 -- R is valid, and as P in its pairs
 pub record IsBase (F : Format) (P R : Table) : Type 0 where
   pub valid : IsValid F R
@@ -54,9 +84,13 @@ pub record IsBase (F : Format) (P R : Table) : Type 0 where
   pub counts : count R ≡ count P
   pub maps : (k : List ℕ) → map_of R k ≡ map_of P k
 
--- each accepted insert is one into such a table
+-- the pair is placed in such a table, which takes its key, and leaves Q
+abbrev pub IsPlacedIn : Format → Table → Table → Pair → Type 0
+IsPlacedIn F P Q p = (R : Table) × IsBase F P R × TakesKey R p.key × (place F R p ≡ Some Q)
+
+-- so does each accepted insert
 abbrev pub IsBased : Format → (Table → Pair → Option Table) → Type 0
-IsBased F put = (P Q : Table) (p : Pair) → IsValid F P → put P p ≡ Some Q → (R : Table) × IsBase F P R × HasRoom R × (place F R p ≡ Some Q)
+IsBased F put = (P Q : Table) (p : Pair) → IsValid F P → put P p ≡ Some Q → IsPlacedIn F P Q p
 
 -- the table itself
 base_self : (F : Format) (P : Table) → IsValid F P → IsBase F P P
@@ -73,30 +107,30 @@ cond_cases false x y z e = inr (refl, e)
 
 module _ (F : Format) (P Q : Table) (p : Pair) (ok : IsValid F P) where
   -- an insert after a growth
-  after_growth : option_and_then (λ R. place F R p) (grown F P) ≡ Some Q → (R : Table) × IsBase F P R × HasRoom R × (place F R p ≡ Some Q)
+  after_growth : option_and_then (λ R. place F R p) (grown F P) ≡ Some Q → IsPlacedIn F P Q p
   after_growth e =
       let t = and_then_some (λ R. place F R p) (grown F P) Q e in
       let g = grown-IsGrown F P ok t.0 t.1 in
-      (t.0, base_grown F P t.0 g, g.room, t.2)
+      (t.0, base_grown F P t.0 g, inl g.room, t.2)
 
   -- an insert without one
-  at_once : HasRoom P → place F P p ≡ Some Q → (R : Table) × IsBase F P R × HasRoom R × (place F R p ≡ Some Q)
-  at_once r e = (P, base_self F P ok, r, e)
+  at_once : is_full_for P p.key ≡ false → place F P p ≡ Some Q → IsPlacedIn F P Q p
+  at_once low e = (P, base_self F P ok, false-TakesKey P p.key ok.room low, e)
 
 -- the owned table
 put_owned-IsBased : (F : Format) → IsBased F (put_owned F)
 unfolding put_owned
-put_owned-IsBased F P Q p ok e = elim (cond_cases (is_full P) _ _ _ e) [
+put_owned-IsBased F P Q p ok e = elim (cond_cases (is_full_for P p.key) _ _ _ e) [
   | inl full ↦ after_growth F P Q p ok full.1
-  | inr low ↦ at_once F P Q p ok (is_full-false F P ok low.0) low.1
+  | inr low ↦ at_once F P Q p ok low.0 low.1
 ]
 
 -- the view
 put_view-IsBased : (F : Format) → IsBased F (put_view F)
 unfolding put_view
-put_view-IsBased F P Q p ok e = elim (cond_cases (nat_lt (count P) (max_items (slot_count P) P.factor)) _ _ _ e) [
-  | inl low ↦ at_once F P Q p ok (ltb-true _ _ low.0) low.1
-  | inr full ↦ absurd (none-some Q full.1)
+put_view-IsBased F P Q p ok e = elim (cond_cases (is_full_for P p.key) _ _ _ e) [
+  | inl full ↦ absurd (none-some Q full.1)
+  | inr low ↦ at_once F P Q p ok low.0 low.1
 ]
 
 -- all such inserts keep a table valid
@@ -125,35 +159,44 @@ module _ (F : Format) where
   put_view-IsInsert = IsBased-IsInsert F (put_view F) (put_view-IsBased F)
 
 -- ---- refusals
-module _ (F : Format) (P : Table) (p : Pair) (ok : IsValid F P) where
+module _ (F : Format) (P : Table) (p : Pair) where
   -- a valid table takes any pair
-  never_none : place F P p ≡ None → ⊥
-  never_none e = let q = place-IsValid_fits F P p ok in none-some q.0 (sym e ∙ q.1)
+  never_none : IsValid F P → place F P p ≡ None → ⊥
+  never_none ok e = let q = place-IsValid_fits F P p ok in none-some q.0 (sym e ∙ q.1)
 
-  -- the view refuses exactly at the maximum
-  pub put_view-None : (put_view F P p ≡ None) ↔ (count P ≡ max_items (slot_count P) P.factor)
+  -- the view refuses exactly where it is full for the key
+  pub put_view-None : IsValid F P → (put_view F P p ≡ None) ↔ IsFullFor P p.key
   unfolding put_view
-  put_view-None = (
-    (λ e. elim (cond_cases (nat_lt (count P) (max_items (slot_count P) P.factor)) _ _ _ e) [
-      | inl low ↦ absurd (never_none low.1)
-      | inr full ↦ let h = ltb-false _ _ full.0 in omega (arith, ok.room)
+  put_view-None ok = (
+    (λ e. elim (cond_cases (is_full_for P p.key) _ _ _ e) [
+      | inl full ↦ IsFullFor-true P p.key full.0
+      | inr low ↦ absurd (never_none ok low.1)
     ]),
-    (λ h. ap (λ b. cond b (place F P p) None) (le-ltb (count P) (max_items (slot_count P) P.factor) (omega arith))),
+    (λ full. ap (λ b. cond b None (place F P p)) (true-IsFullFor P p.key full)),
   )
 
-  -- below the maximum both tables place the pair
-  module _ (below : count P < max_items (slot_count P) P.factor) where
+  -- elsewhere both tables place the pair
+  module _ (takes : TakesKey P p.key) where
     -- the owned table
-    pub put_owned-below : put_owned F P p ≡ place F P p
+    pub put_owned-takes : put_owned F P p ≡ place F P p
     unfolding put_owned
-    put_owned-below = ap (λ b. cond b (option_and_then (λ R. place F R p) (grown F P)) (place F P p)) (below-is_full F P ok below)
+    put_owned-takes = ap (λ b. cond b (option_and_then (λ R. place F R p) (grown F P)) (place F P p)) (TakesKey-false P p.key takes)
 
     -- the view
-    pub put_view-below : put_view F P p ≡ place F P p
+    pub put_view-takes : put_view F P p ≡ place F P p
     unfolding put_view
-    put_view-below = ap (λ b. cond b (place F P p) None) (lt-ltb (count P) (max_items (slot_count P) P.factor) below)
+    put_view-takes = ap (λ b. cond b None (place F P p)) (TakesKey-false P p.key takes)
 
-  -- at the maximum the owned table grows
-  pub put_owned-full : count P ≡ max_items (slot_count P) P.factor → put_owned F P p ≡ option_and_then (λ R. place F R p) (grown F P)
+  -- where it is full for the key the owned table grows
+  pub put_owned-full : IsFullFor P p.key → put_owned F P p ≡ option_and_then (λ R. place F R p) (grown F P)
   unfolding put_owned
-  put_owned-full e = ap (λ b. cond b (option_and_then (λ R. place F R p) (grown F P)) (place F P p)) (full-is_full F P ok e)
+  put_owned-full full = ap (λ b. cond b (option_and_then (λ R. place F R p) (grown F P)) (place F P p)) (true-IsFullFor P p.key full)
+
+  -- and elsewhere it is as the view
+  pub put_owned-view : (IsFullFor P p.key → ⊥) → put_owned F P p ≡ put_view F P p
+  unfolding put_owned put_view
+  put_owned-view other = go (is_full_for P p.key) (false_from_ne_true _ (λ e. other (IsFullFor-true P p.key e)))
+    where
+      go : (b : Bool) → b ≡ false → cond b (option_and_then (λ R. place F R p) (grown F P)) (place F P p) ≡ cond b None (place F P p)
+      go true e = absurd (true≢false e)
+      go false e = refl

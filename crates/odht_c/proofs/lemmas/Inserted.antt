@@ -1,17 +1,18 @@
 -- What inserts answer into bytes whose opening is accepted.
-use Rattle.std.proofs.Common.{◌≡◌, ◌<◌, arith, length, take, zip, ◌∙◌, ℕ, List, sym, subst, refl, Option, None, Result, Ok, Err, ◌↔◌}
-use Rattle.odht_base.specs.Insert.{put_view}
-use Rattle.odht_base.specs.Load.{max_items}
-use Rattle.odht_base.specs.Table.{Table, count, slot_count}
+use Rattle.std.proofs.lemmas.Slice.Zip.{get_or-zip, length-zip}
+use Rattle.std.proofs.Common.{ap₂, get_or, ◌≡◌, ◌<◌, arith, length, take, zip, ◌∙◌, ℕ, List, sym, subst, refl, Option, None, Result, Ok, Err, ◌↔◌}
+use Rattle.odht_base.specs.Insert.{put_view, IsFullFor}
+use Rattle.odht_base.specs.Table.{Table}
 use Rattle.odht_base.specs.Valid.{IsImage}
 use Rattle.odht_base.proofs.lemmas.Puts.{put_view-None}
+use Rattle.odht.proofs.lemmas.Fillings.{refused_at}
 use Rattle.odht_raw.specs.Coding.{Coding, encoded}
 use Rattle.odht_raw.specs.Frame.{IsFramed}
 use Rattle.odht_raw.specs.Refusals.{opening_refusal}
 use Rattle.odht_raw.specs.declared.error.Error.{Error}
 use Rattle.odht_raw.specs.declared.error.Error.TheVariants.{Full}
 use Rattle.odht.specs.Inserts.{IsInserted}
-use Rattle.odht.specs.Lists.{encoded_all, IsFilled}
+use Rattle.odht.specs.Lists.{encoded_all, IsFilled, IsRefusedAt}
 use Rattle.odht_c.specs.Statuses.{done, status_of}
 use Rattle.odht_c.specs.Writes.{IsFormer, IsFramedRun, InsertAnswers, InsertAllAnswers}
 use Rattle.odht_c.proofs.lemmas.Refused.{not_none}
@@ -38,7 +39,7 @@ module _ {K V : Type 0} (c : Coding K V) (B S T C : List ℕ) (k : K) (v old : V
 
   -- or the table is full, and stays
   pub full_insert : (r : Result (Option V) Error) → r ≡ Err Full → T ≡ S → s ≡ status_of Full → new ≡ old
-      → ((P : Table) → IsImage c.format P S → (r ≡ Err Full) ↔ (count P ≡ max_items (slot_count P) P.factor)) → IsFramed c S k v r T → InsertAnswers c B k v old s C new
+      → ((P : Table) → IsImage c.format P S → (r ≡ Err Full) ↔ IsFullFor P (c.key_bytes k)) → IsFramed c S k v r T → InsertAnswers c B k v old s C new
   full_insert r is_full stays status kept full frame = record {
     refused = λ e is. not_none _ e is (sym accepted);
     on_valid = λ P is. (
@@ -65,9 +66,9 @@ module _ {K V : Type 0} (c : Coding K V) (B C : List ℕ) (keys : List K) (value
     at_maximum = λ P long is image less. absurd (omega (arith, less));
   }
 
-  -- the next one is refused, as the table is full, and these bytes are D now
+  -- the next one is refused, as the table is full for its key, and these bytes are D now
   pub full_insert_all : (D : List ℕ) (s : ℕ) → D ≡ C → n < length keys → s ≡ status_of Full
-      → ((P : Table) → IsImage c.format P C → count P ≡ max_items (slot_count P) P.factor) → InsertAllAnswers c B keys values before s D n
+      → ((P : Table) → IsImage c.format P C → IsRefusedAt c P (zip keys values) n) → InsertAllAnswers c B keys values before s D n
   full_insert_all D s same less status full = record {
     lengths = λ other. absurd (other equal);
     refused = λ e long is. not_none _ e is (sym accepted);
@@ -78,3 +79,10 @@ module _ {K V : Type 0} (c : Coding K V) (B C : List ℕ) (keys : List K) (value
     framed = λ long is. rw same framed;
     at_maximum = λ P long is image l. full P (subst (IsImage c.format P) same image);
   }
+
+-- the pair that was refused, of two lists
+pub refused_pair : {K V : Type 0} (c : Coding K V) (P : Table) (keys : List K) (values : List V) (n : ℕ) (k : K) (v : V) → n < length keys → length values ≡ length keys
+    → get_or keys n k ≡ k → get_or values n v ≡ v → IsFullFor P (c.key_bytes k) → IsRefusedAt c P (zip keys values) n
+refused_pair c P keys values n k v low equal key value full =
+    let low_value : n < length values = omega (arith, low, equal) in
+    refused_at c P (zip keys values) n (k, v) (omega (arith, low, low_value, length-zip keys values)) (get_or-zip keys values n (k, v) low low_value ∙ ap₂ (λ a b. (a, b)) key value) full

@@ -1,10 +1,10 @@
 //! Properties of tables of lists that look random, for keys and values of many lengths.
-use odht::configs::{Plain, Short};
 use crate::tests::builds::check_three_builds;
 use crate::tests::checks::{same, same_bytes, same_len};
 use crate::tests::random::Random;
 use odht::HashTableOwned;
 use odht::bytes::ByteArray;
+use odht::configs::{Plain, Short};
 use odht::error::Error;
 use std::alloc::{AllocError, Global};
 use std::collections::BTreeMap;

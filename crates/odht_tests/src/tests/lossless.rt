@@ -2,8 +2,8 @@
 //! themselves.
 ghost use Rattle.std.specs.Prelude.{◌≡◌};
 
-use odht::configs::{DirectU32ToU32, U32ToU32};
 use crate::tests::checks::{same, same_at};
+use odht::configs::{DirectU32ToU32, U32ToU32};
 use odht::error::Error;
 use odht::{Lossless, laws};
 

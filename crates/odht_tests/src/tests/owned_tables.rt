@@ -1,10 +1,10 @@
 //! Tables that own their bytes: growth, copies, and what a refused allocation leaves.
 ghost use Rattle.std.specs.Prelude.{◌≤◌};
 
-use odht::configs::U32ToU32;
 use crate::tests::checks::{holds_at, same, same_answer, same_at, same_len, same_value};
 use crate::tests::probe_sequences::slots_for;
 use odht::bytes::OwnedBytes;
+use odht::configs::U32ToU32;
 use odht::error::Error;
 use odht::load::Factor;
 use odht::memory_layout::{Allocation, allocate};
@@ -206,6 +206,23 @@ fn a_hundred_items(rt: HostRuntime) {
     same_len(&rt, "bytes", table.raw_bytes().len(), 1200);
     check_filled(&rt, &table, 0, 100);
     check_absent(&rt, &table, 100, 200);
+}
+
+// At the maximum of thirteen items in sixteen slots. The table asks for memory when it is made and for the new key.
+#[test]
+fn a_full_table_is_overwritten(rt: HostRuntime) {
+    let mut once = OneRefusal::new();
+    let mut table: HashTableOwned<U32ToU32> = once.table(&rt, rt.alloc(), 13, 87);
+    fill(&rt, &mut once, &mut table, 13);
+    for key in 0..13 {
+        same_answer(&rt, key, table.insert(&key, &7), Ok(Some(key + 100)));
+        same_answer(&rt, key, table.insert(&key, &(key + 100)), Ok(Some(7)));
+    }
+    same_len(&rt, "items", table.len(), 13);
+    same_len(&rt, "bytes of 16 slots", table.raw_bytes().len(), 192);
+    same_value(&rt, 13, once.insert(&rt, &mut table, &13, &113), None);
+    same_len(&rt, "bytes of 32 slots", table.raw_bytes().len(), 336);
+    check_filled(&rt, &table, 0, 14);
 }
 
 #[test]

@@ -1,8 +1,8 @@
 //! Places for a new table that are refused: no contract can say of a place that was moved that it stays as it was.
-use odht::configs::U32ToU32;
 use crate::tests::checks::{same, same_bytes};
 use odht::HashTable;
 use odht::bytes::BorrowedMut;
+use odht::configs::U32ToU32;
 use odht::error::Error;
 use std::process::Abort;
 

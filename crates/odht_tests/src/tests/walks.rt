@@ -4,9 +4,9 @@ ghost use Rattle.odht_base.specs.Table.{Table, walk, count};
 ghost use Rattle.odht_base.specs.Valid.{IsImage};
 ghost use Rattle.odht_raw.specs.Walks.{decoded_all};
 
-use odht::configs::U32ToU32;
 use crate::tests::checks::{same_answer, same_len, same_pairs};
 use odht::config::Coded;
+use odht::configs::U32ToU32;
 use odht::error::Error;
 use odht::{Config, HashTableOwned};
 use std::alloc::{AllocError, Global};

@@ -1,5 +1,6 @@
 use Rattle.std.proofs.Common.{◌≡◌, ◌+◌, ◌<◌, ◌∙◌, ℕ, List, sym, ap, subst, refl, Err}
 use Rattle.odht_base.specs.Load.{IsSlotCount}
+use Rattle.odht_base.specs.Map.{map_of}
 use Rattle.odht_base.specs.Table.{Pair, Table}
 use Rattle.odht_base.specs.Valid.{IsImage, IsPartsOf}
 use Rattle.odht_base.proofs.lemmas.Puts.{HasRoom}
@@ -8,7 +9,7 @@ use Rattle.odht_raw.specs.Frame.{InsertFrame, IsAccepted}
 use Rattle.odht_raw.specs.Parts.{ShownGroups}
 use Rattle.odht_raw.specs.declared.error.Error.TheVariants.{Full}
 use Rattle.odht_raw.proofs.lemmas.Lookups.{answer-Found, answer-Free, answer-Neither}
-use Rattle.odht.proofs.lemmas.ViewInserts.{read_full, read_room, room_not_full, never_nowhere, held_twice}
+use Rattle.odht.proofs.lemmas.ViewInserts.{read_full, read_room, room_not_full, found_not_full, never_nowhere, held_twice}
 use Rattle.odht.proofs.lemmas.ViewInserts.{found_inserted, found_framed, free_inserted, free_framed}
 use Rattle.odht.proofs.hash_table.HashTable.insert.Given.{Over}
 use Rattle.odht.proofs.hash_table.HashTable.insert.Goals as goal
@@ -36,6 +37,11 @@ pair-same g k v a b key value = λ i. pair g (key i) (value i)
 here : (g : Over) (P : Table) (s t : g.row.D.Denot) → s ≡ t → IsImage (coding g).format P (g.D.ByteStore.bytes t)
     → IsImage (coding g).format P (g.D.ByteStore.bytes s)
 here g P s t view is = record { valid = is.valid; bytes = ap g.D.ByteStore.bytes view ∙ is.bytes }
+
+-- the key that is searched for is that of the configuration
+read_key : (g : Over) (k : g.row.C-Key.Denot) (a : g.row.C-EncodedKey.Denot) → a ≡ g.C.Config.encode_key k
+    → g.C.EncodedKey.ByteArray.bytes a ≡ (coding g).key_bytes k
+read_key g k a key = ap g.C.EncodedKey.ByteArray.bytes key
 
 -- a count below the maximum that is read leaves room
 has_room : (g : Over) (c : goal.After-max_item_count_for-max g) (P : Table)
@@ -73,35 +79,38 @@ write_entry-requires-after_bounds g c κs within =
 
 pub returns-then-count-max-clause-full : goal.returns-then-count-max-clause-full
 returns-then-count-max-clause-full g c P is =
-    let full = read_full (coding g).format P _ (here g P _ _ c.self.view_is is) c.header-header.ensures.bytes
+    let read = here g P _ _ c.self.view_is is in
+    let parts = scanned g P _ _ _ c.new-scan.ensures (c.data_slices-entries.ensures.parts P read) in
+    let end = answer-Free (coding g).format P _ is.valid.placed _ (c.in-Free.ensures.on_placed P parts) in
+    let full = read_full (coding g).format P _ read c.header-header.ensures.bytes
     c.item_count-count.ensures c.slot_count.ensures c.max_load_factor.ensures c.max_item_count_for-max.ensures.value
     c.if-count-max.true in
-    (λ e. full, λ e. refl)
+    (λ e. (full, ap (map_of P) (sym (read_key g _ _ c.encode_key-key.ensures)) ∙ end.value), λ e. refl)
 
 pub returns-in-Found-clause-ok : goal.returns-in-Found-clause-ok
 returns-in-Found-clause-ok g c P is =
     let read = here g P _ _ c.self.view_is is in
-    let header = (goal.at.returns-in-Found-clause-ok g c).After-max_item_count_for-max in
-    let room = has_room g header P is c.if-count-max.false in
     let parts = scanned g P _ _ _ c.new-scan.ensures (c.data_slices-entries.ensures.parts P read) in
     found_inserted (coding g) _ c.args.key.now c.args.value.now (pair g c.encode_key-key.result c.encode_value-value.result)
     (pair-same g _ _ _ _ c.encode_key-key.ensures c.encode_value-value.ensures) c.in-Found.slot
     c.data_slices-entries.result.1.bytes c.decode_value.result
     (c.decode_value.ensures ∙ ap g.C.Config.decode_value c.get.ensures.value)
     (g.D.ByteStore.bytes c.write_value.new.self) c.write_value.ensures.bytes
-    P read room _ parts (answer-Found (coding g).format P _ is.valid.placed _ (c.in-Found.ensures.on_placed P parts))
+    P read _ parts (answer-Found (coding g).format P _ is.valid.placed _ (c.in-Found.ensures.on_placed P parts))
     c.write_value.ensures.value
 
 pub returns-in-Found-clause-full : goal.returns-in-Found-clause-full
 returns-in-Found-clause-full g c P is =
-    let header = (goal.at.returns-in-Found-clause-full g c).After-max_item_count_for-max in
-    let room = has_room g header P is c.if-count-max.false in
-    (λ e. cc, λ full. absurd (room_not_full P room full))
-
-pub returns-in-Free-clause-ok : goal.returns-in-Free-clause-ok
-returns-in-Free-clause-ok g c P is =
     let read = here g P _ _ c.self.view_is is in
-    let header = (goal.at.returns-in-Free-clause-ok g c).After-max_item_count_for-max in
+    let parts = scanned g P _ _ _ c.new-scan.ensures (c.data_slices-entries.ensures.parts P read) in
+    let end = answer-Found (coding g).format P _ is.valid.placed _ (c.in-Found.ensures.on_placed P parts) in
+    let same = ap (map_of P) (read_key g _ _ c.encode_key-key.ensures) in
+    (λ e. cc, λ full. absurd (found_not_full (coding g).format P _ _ end (full.0, same ∙ full.1)))
+
+pub returns-else-count-max-clause-ok : goal.returns-else-count-max-clause-ok
+returns-else-count-max-clause-ok g c P is =
+    let read = here g P _ _ c.self.view_is is in
+    let header = (goal.at.returns-else-count-max-clause-ok g c).After-max_item_count_for-max in
     let room = has_room g header P is c.if-count-max.false in
     let parts = scanned g P _ _ _ c.new-scan.ensures (c.data_slices-entries.ensures.parts P read) in
     free_inserted (coding g) _ c.args.key.now c.args.value.now (pair g c.encode_key-key.result c.encode_value-value.result)
@@ -113,11 +122,11 @@ returns-in-Free-clause-ok g c P is =
     P read room (answer-Free (coding g).format P _ is.valid.placed _ (c.in-Free.ensures.on_placed P parts))
     c.write_entry.ensures.pair
 
-pub returns-in-Free-clause-full : goal.returns-in-Free-clause-full
-returns-in-Free-clause-full g c P is =
-    let header = (goal.at.returns-in-Free-clause-full g c).After-max_item_count_for-max in
+pub returns-else-count-max-clause-full : goal.returns-else-count-max-clause-full
+returns-else-count-max-clause-full g c P is =
+    let header = (goal.at.returns-else-count-max-clause-full g c).After-max_item_count_for-max in
     let room = has_room g header P is c.if-count-max.false in
-    (λ e. cc, λ full. absurd (room_not_full P room full))
+    (λ e. cc, λ full. absurd (room_not_full P _ room full))
 
 pub returns-in-Neither-clause-full : goal.returns-in-Neither-clause-full
 returns-in-Neither-clause-full g c P is =
@@ -139,8 +148,8 @@ returns-in-Found-clause-frame g c =
     _ (ap g.D.ByteStore.bytes c.self.view_is) c.data_slices-entries.ensures.entries _ c.data_slices-entries.ensures.slots
     c.in-Found.ensures.slot.0 c.in-Found.ensures.slot.1
 
-pub returns-in-Free-clause-frame : goal.returns-in-Free-clause-frame
-returns-in-Free-clause-frame g c =
+pub returns-else-count-max-clause-frame : goal.returns-else-count-max-clause-frame
+returns-else-count-max-clause-frame g c =
     free_framed (coding g) _ c.args.key.now c.args.value.now (pair g c.encode_key-key.result c.encode_value-value.result)
     (pair-same g _ _ _ _ c.encode_key-key.ensures c.encode_value-value.ensures) c.in-Free.slot
     c.item_count-count.result c.tag_of.result c.hash-hash.result c.as_slice.result.now _ _
@@ -162,8 +171,8 @@ returns-in-Found-clause-place g c =
     let b = g.D.ByteStore.bytes c.write_value.new.self in
     c.write_value.ensures.place ∙ ap (λ s. g.D.ByteStoreMut.holding s b) c.self.view_is
 
-pub returns-in-Free-clause-place : goal.returns-in-Free-clause-place
-returns-in-Free-clause-place g c =
+pub returns-else-count-max-clause-place : goal.returns-else-count-max-clause-place
+returns-else-count-max-clause-place g c =
     let b = g.D.ByteStore.bytes c.set_item_count.new.self in
     let e = g.D.ByteStore.bytes c.write_entry.new.self in
     held_twice g.D.ByteStoreMut.holding g.met.D.ByteStoreMut.held_last _ _ _ e b
@@ -179,8 +188,8 @@ returns-then-count-max-clause-accepted g c =
 pub returns-in-Found-clause-accepted : goal.returns-in-Found-clause-accepted
 returns-in-Found-clause-accepted g c = c.write_value.ensures.accepted
 
-pub returns-in-Free-clause-accepted : goal.returns-in-Free-clause-accepted
-returns-in-Free-clause-accepted g c = c.set_item_count.ensures.accepted
+pub returns-else-count-max-clause-accepted : goal.returns-else-count-max-clause-accepted
+returns-else-count-max-clause-accepted g c = c.set_item_count.ensures.accepted
 
 pub returns-in-Neither-clause-accepted : goal.returns-in-Neither-clause-accepted
 returns-in-Neither-clause-accepted g c =

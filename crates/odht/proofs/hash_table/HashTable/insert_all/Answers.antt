@@ -8,7 +8,7 @@ use Rattle.odht_base.proofs.lemmas.FreshRuns.{put_view-PlacesBelow}
 use Rattle.odht_base.proofs.lemmas.Puts.{put_view-IsInsert}
 use Rattle.odht_raw.specs.Coding.{Coding, coding_of}
 use Rattle.odht.specs.Lists.{encoded_all, IsFilled}
-use Rattle.odht.proofs.lemmas.Fillings.{filled_none, filled_more, encoded_all-more}
+use Rattle.odht.proofs.lemmas.Fillings.{filled_none, filled_more, encoded_all-more, refused_at}
 use Rattle.odht.proofs.lemmas.ViewInserts.{held_twice}
 use Rattle.odht.proofs.hash_table.HashTable.insert_all.Given.{Over}
 use Rattle.odht.proofs.hash_table.HashTable.insert_all.Goals as goal
@@ -64,7 +64,8 @@ pub returns-in-Err-clause-at_maximum : goal.returns-in-Err-clause-at_maximum
 returns-in-Err-clause-at_maximum g c P is =
     let before : IsImage (coding g).format P (g.D.ByteStore.bytes c.loop-accepted.self) =
     record { valid = is.valid; bytes = ap g.D.ByteStore.bytes (sym c.in-Err.ensures.refused) ∙ is.bytes } in
-    (c.in-Err.ensures.full P before).0 c.in-Err.ensures.only_full
+    refused_at (coding g) P c.args.items.now c.loop-accepted.accepted c.index-items-accepted.result c.loop-accepted-test.true
+    (sym c.index-items-accepted.is) ((c.in-Err.ensures.full P before).0 c.in-Err.ensures.only_full)
 
 pub returns-clause-filled : goal.returns-clause-filled
 returns-clause-filled g c P is =

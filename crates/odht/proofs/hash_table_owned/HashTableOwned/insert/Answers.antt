@@ -2,7 +2,7 @@ use Rattle.std.proofs.Common.{◌∙◌}
 use Rattle.odht_base.specs.Format.{Format, format_of}
 use Rattle.odht_base.specs.Table.{Pair}
 use Rattle.odht_base.specs.Valid.{IsImage}
-use Rattle.odht.proofs.lemmas.Growths.{put_owned-view}
+use Rattle.odht_base.proofs.lemmas.Puts.{put_owned-view}
 use Rattle.odht.proofs.hash_table_owned.HashTableOwned.insert.Goals as goal
 
 pub returns-in-Ok-clause-ok : goal.returns-in-Ok-clause-ok
@@ -14,7 +14,7 @@ returns-in-Ok-clause-ok g c P is =
     record {
       former = put.former;
       table = put.table;
-      inserted = put_owned-view F P p is.valid (λ e. let no = (c.in-Ok.ensures.full P here).1 e in cc) ∙ put.inserted;
+      inserted = put_owned-view F P p (λ e. let no = (c.in-Ok.ensures.full P here).1 e in cc) ∙ put.inserted;
       image = put.image;
       maps = put.maps;
     }

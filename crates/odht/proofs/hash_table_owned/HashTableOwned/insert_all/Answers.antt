@@ -2,11 +2,12 @@ use Rattle.std.proofs.Common.{◌∙◌, sym, subst, take, List, arith}
 use Rattle.std.proofs.Math.Nat.{le_antisymm}
 use Rattle.odht_base.specs.Insert.{put_owned}
 use Rattle.odht_base.specs.Table.{Pair}
+use Rattle.odht_base.specs.Valid.{IsImage}
 use Rattle.odht_base.proofs.lemmas.FreshRuns.{put_owned-PlacesBelow}
 use Rattle.odht_base.proofs.lemmas.Puts.{put_owned-IsInsert}
 use Rattle.odht_raw.specs.Coding.{Coding, coding_of}
 use Rattle.odht.specs.Lists.{encoded_all, IsFilled}
-use Rattle.odht.proofs.lemmas.Fillings.{filled_none, filled_more, encoded_all-more}
+use Rattle.odht.proofs.lemmas.Fillings.{filled_none, filled_more, encoded_all-more, refused_at}
 use Rattle.odht.proofs.hash_table_owned.HashTableOwned.insert_all.Given.{Over}
 use Rattle.odht.proofs.hash_table_owned.HashTableOwned.insert_all.Goals as goal
 
@@ -39,7 +40,10 @@ returns-in-Err-clause-filled g c P is =
 
 pub returns-in-Err-clause-at_maximum : goal.returns-in-Err-clause-at_maximum
 returns-in-Err-clause-at_maximum g c P is =
-    c.in-Err.ensures.at_maximum P (record { valid = is.valid; bytes = sym c.in-Err.ensures.refused ∙ is.bytes })
+    let before : IsImage (coding g).format P c.loop-accepted.self =
+    record { valid = is.valid; bytes = sym c.in-Err.ensures.refused ∙ is.bytes } in
+    refused_at (coding g) P c.args.items.now c.loop-accepted.accepted c.index-items-accepted.result c.loop-accepted-test.true
+    (sym c.index-items-accepted.is) (c.in-Err.ensures.at_maximum P before)
 
 pub returns-clause-filled : goal.returns-clause-filled
 returns-clause-filled g c P is =

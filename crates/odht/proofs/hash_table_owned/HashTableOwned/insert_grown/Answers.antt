@@ -11,7 +11,7 @@ unreachable-requires g c =
     let P = c.self.invariant.0 in
     let is = c.self.invariant.1 in
     let grown = c.in_ok-grown.ensures.ok P (record { valid = is.valid; bytes = sym c.self.view_is ∙ is.bytes }) in
-    grown_below F P (record { key = []; value = [] }) is.valid grown.0 grown.1 ((c.in_default.ensures.full grown.0 grown.2).0 c.in_default.ensures.only_full)
+    grown_below F P (record { key = []; value = [] }) is.valid grown.0 grown.1 _ ((c.in_default.ensures.full grown.0 grown.2).0 c.in_default.ensures.only_full)
 
 pub invariant_of-self : goal.invariant_of-self
 invariant_of-self g c =

@@ -1,0 +1,91 @@
+-- Both rules of inserts make the same tables, but where a pair overwrites in a full table.
+use Rattle.std.proofs.Common.{◌≡◌, ◌∙◌, ◌++◌, ℕ, Bool, true, false, true≢false, cond, sym, ap, refl, List, [], ◌∷◌, Option, Some, None, IfSome, bytes_eq, All}
+use Rattle.std.specs.Prelude.{is_none, option_and_then, IsSome, IsTrue, ◌&&◌}
+use Rattle.std.specs.Option.{option_or}
+use Rattle.std.proofs.lemmas.List.Elements.{All-head, All-tail}
+use Rattle.std.proofs.lemmas.Option.{none-some}
+use Rattle.odht_base.specs.CountRule.{put_owned_by_count, put_view_by_count, OverwritesFull, NoneOverwritesFull}
+use Rattle.odht_base.specs.Format.{Format}
+use Rattle.odht_base.specs.Insert.{place, grown, run, is_full, put_owned, put_view}
+use Rattle.odht_base.specs.Map.{map_of, value_in, KeysApart}
+use Rattle.odht_base.specs.Table.{Pair, Table, walk}
+use Rattle.odht_base.specs.Valid.{IsPairOf, IsValid}
+use Rattle.odht_base.proofs.lemmas.Grown.{AreNew, new-head, new-tail}
+use Rattle.odht_base.proofs.lemmas.Keys.{same_bytes}
+use Rattle.odht_base.proofs.lemmas.Pairs.{value_in-cons}
+use Rattle.odht_base.proofs.lemmas.Runs.{IsInsert, value_in-append}
+
+-- ---- one insert
+-- a test of the key does not matter where no pair overwrites in a full table
+same_branch : {X : Type 0} (b : Bool) (o : Option (List ℕ)) (x y : X) → (IsTrue b × IsSome o → ⊥) → cond (b && is_none o) x y ≡ cond b x y
+same_branch true None x y other = refl
+same_branch true (Some v) x y other = absurd (other (refl, refl))
+same_branch false o x y other = refl
+
+-- two inserts agree where no pair overwrites in a full table
+abbrev pub AgreeElsewhere : (Table → Pair → Option Table) → (Table → Pair → Option Table) → Type 0
+AgreeElsewhere put by_count = (P : Table) (p : Pair) → (OverwritesFull P p → ⊥) → put P p ≡ by_count P p
+
+-- those of the owned table
+pub put_owned-agrees : (F : Format) → AgreeElsewhere (put_owned F) (put_owned_by_count F)
+unfolding put_owned
+put_owned-agrees F P p other = same_branch (is_full P) (map_of P p.key) (option_and_then (λ Q. place F Q p) (grown F P)) (place F P p) other
+
+-- and those of a view
+pub put_view-agrees : (F : Format) → AgreeElsewhere (put_view F) (put_view_by_count F)
+unfolding put_view
+put_view-agrees F P p other = same_branch (is_full P) (map_of P p.key) None (place F P p) other
+
+-- ---- inserts in turn
+-- a list of which no pair does so makes the same table
+pub run-agrees : (put by_count : Table → Pair → Option Table) → AgreeElsewhere put by_count → (P : Table) (ps : List Pair) → NoneOverwritesFull put P ps → run put P ps ≡ run by_count P ps
+run-agrees put by_count agree P [] none = refl
+run-agrees put by_count agree P (p ∷ ps) none = go (put P p) none.1 (λ Q. run-agrees put by_count agree Q ps) ∙ ap (option_and_then (λ Q. run by_count Q ps)) (agree P p none.0)
+  where
+    go : (o : Option Table) → IfSome o (λ Q. NoneOverwritesFull put Q ps) → ((Q : Table) → NoneOverwritesFull put Q ps → run put Q ps ≡ run by_count Q ps)
+        → option_and_then (λ Q. run put Q ps) o ≡ option_and_then (λ Q. run by_count Q ps) o
+    go None rest ih = refl
+    go (Some Q) rest ih = ih Q rest
+
+-- ---- different keys, none of them in the table
+-- of a table's pairs and others with different keys, the others have new ones
+apart-new : (qs ps : List Pair) → KeysApart (qs ++ ps) → KeysApart ps × ((k v : List ℕ) → value_in ps k ≡ Some v → value_in qs k ≡ None)
+apart-new [] ps apart = (apart, λ k v e. refl)
+apart-new (q ∷ qs) ps apart =
+    let rest = apart-new qs ps apart.1 in
+    (rest.0, λ k v e. value_in-cons q qs k ∙ go rest.1 k v e (bytes_eq k q.key) refl)
+  where
+    -- of two answers with none between them the second is none
+    neither : (a b : Option (List ℕ)) (v : List ℕ) → option_or a b ≡ None → b ≡ Some v → ⊥
+    neither None b v e h = none-some v (sym e ∙ h)
+    neither (Some w) b v e h = none-some w (sym e)
+
+    go : ((k v : List ℕ) → value_in ps k ≡ Some v → value_in qs k ≡ None) → (k v : List ℕ) → value_in ps k ≡ Some v → (b : Bool) → bytes_eq k q.key ≡ b → cond b (Some q.value) (value_in qs k) ≡ None
+    go rest k v e true t =
+        let same = same_bytes k q.key t in
+        absurd (neither (value_in qs q.key) (value_in ps q.key) v (sym (value_in-append qs ps q.key) ∙ apart.0) (ap (value_in ps) (sym same) ∙ e))
+    go rest k v e false t = rest k v e
+
+-- such pairs never overwrite
+module _ (F : Format) (put : Table → Pair → Option Table) (is : IsInsert F (IsValid F) put) where
+  new-none_overwrite : (P : Table) (ps : List Pair) → IsValid F P → All (IsPairOf F) ps → KeysApart ps → AreNew P ps → NoneOverwritesFull put P ps
+  new-none_overwrite P [] ok fit apart new = tt
+  new-none_overwrite P (p ∷ ps) ok fit apart new = (
+    (λ both. absent (map_of P p.key) (new-head P p ps new) both.1),
+    go (put P p) refl (λ Q e. new-none_overwrite Q ps (is.keeps P Q p ok (All-head (IsPairOf F) p ps fit) e) (All-tail (IsPairOf F) p ps fit) apart.1 (new-tail P Q p ps apart new (is.maps P Q p ok e))),
+  )
+    where
+      absent : (o : Option (List ℕ)) → o ≡ None → IsSome o → ⊥
+      absent None e some = true≢false (sym some)
+      absent (Some v) e some = none-some v (sym e)
+
+      go : (o : Option Table) → put P p ≡ o → ((Q : Table) → put P p ≡ Some Q → NoneOverwritesFull put Q ps) → IfSome o (λ Q. NoneOverwritesFull put Q ps)
+      go None answer ih = tt
+      go (Some Q) answer ih = ih Q answer
+
+  -- so both rules make the same table of them
+  pub run-apart : (by_count : Table → Pair → Option Table) → AgreeElsewhere put by_count → (P : Table) (ps : List Pair) → IsValid F P → All (IsPairOf F) ps → KeysApart (walk P ++ ps)
+      → run put P ps ≡ run by_count P ps
+  run-apart by_count agree P ps ok fit apart =
+      let new = apart-new (walk P) ps apart in
+      run-agrees put by_count agree P ps (new-none_overwrite P ps ok fit new.0 new.1)
