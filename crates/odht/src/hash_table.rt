@@ -10,7 +10,7 @@ ghost use Rattle.odht_base.specs.Search.{groups_read};
 ghost use Rattle.odht_base.specs.Shown.{stated_count, stated_slots, entries_of, controls_of, seen, HoldsKey};
 ghost use Rattle.odht_base.specs.Valid.{IsImage, IsPartsOf};
 ghost use Rattle.odht_raw.specs.Coding.{value_for, HasStored};
-ghost use Rattle.odht.specs.Lists.{encoded_all, IsFilled, IsRefusedAt};
+ghost use Rattle.odht.specs.Lists.{encoded_all, IsFilled, IsFramedRun, IsRefusedAt};
 ghost use Rattle.odht.specs.Inserts.{IsFresh, IsInserted};
 ghost use Rattle.odht_raw.specs.Frame.{IsAccepted, IsFramed};
 ghost use Rattle.odht_raw.specs.Walks.{decoded_all};
@@ -273,8 +273,9 @@ impl<C: Config, D: ByteStoreMut> HashTable<C, D> {
     ///
     /// The key is hashed once, and at most each group of control bytes is looked at once.
     ///
-    /// On any bytes one value beside an equal key changes, or one entry is written with its tag into a slot that counted as
-    /// free and the count rises by one, and no other byte changes.
+    /// On any bytes one value beside an equal key changes, or, below the maximum that the header states, one entry is
+    /// written with its tag into a slot that counted as free and the count rises by one; no other byte changes. `Full`
+    /// comes only at the stated maximum, or where each slot counts as filled.
     #[inline(always)]
     pub fn insert(&mut self, key: &C::Key, value: &C::Value) -> Result<Option<C::Value>, Error>
         ensures ok { let c = ⟦<C as Coded>⟧.coding
@@ -323,7 +324,7 @@ impl<C: Config, D: ByteStoreMut> HashTable<C, D> {
 
     /// Inserts the items in their order, and stops at the first that is refused. Answers how many were accepted, and `Full`
     /// where there was a refusal: the table is then as the accepted ones left it, on valid bytes at its maximum, and the
-    /// key of the refused item is absent.
+    /// key of the refused item is absent. On any bytes each accepted item changes no more than `insert` may.
     pub fn insert_all(&mut self, items: &[(C::Key, C::Value)]) -> (usize, Result<(), Error>)
         ensures bound { result.0 ≤ length items.now }
         ensures all { IsOk result.1 ↔ (result.0 ≡ length items.now) }
@@ -331,6 +332,8 @@ impl<C: Config, D: ByteStoreMut> HashTable<C, D> {
             in (P : Table)
             → IsImage c.format P (D.bytes self.old)
             → IsFilled c.format (put_view c.format) P (encoded_all c (take result.0 items.now)) (D.bytes self.new) }
+        ensures framed { let c = ⟦<C as Coded>⟧.coding
+            in IsFramedRun c (D.bytes self.old) (take result.0 items.now) (D.bytes self.new) }
         ensures place { self.new ≡ D.holding self.old (D.bytes self.new) }
         ensures accepted { IsAccepted ⟦<C as Coded>⟧.coding.format (D.bytes self.new) }
         ensures at_maximum { let c = ⟦<C as Coded>⟧.coding

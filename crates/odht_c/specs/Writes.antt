@@ -2,7 +2,6 @@
 -- The status is s; B, `old` and n stand in the places before the call, and B', `new` and n' after it.
 --     IsFormer o old s new an insert over the former value o answers the status s, and leaves `new` where `old` stood
 --     IsAnswered r old s new   the same of an insert that may be refused
---     IsFramedRun c B items B'   inserts of the items in turn, which are accepted, may leave B' of the accepted bytes B
 --     IsPut c P k v B' old s new   an insert of k with v into the table P leaves the bytes B' of the table after it, or
 --                          is refused where P is full for the key and leaves all as it was
 --     Each of the calls, of bytes that the coding c reads:
@@ -13,7 +12,7 @@
 --                          many were accepted
 -- What is refused before the first insert changes no place. A clause `on_valid` speaks of the bytes of a valid table,
 -- and `on_any` of all whose header and length are accepted.
-use Rattle.std.specs.Prelude.{◌≡◌, ◌≤◌, ◌<◌, ◌^◌, ℕ, List, [], ◌∷◌, ◌++◌, length, take}
+use Rattle.std.specs.Prelude.{◌≡◌, ◌≤◌, ◌<◌, ◌^◌, ℕ, List, length, take}
 use Rattle.std.specs.Prelude.{Option, Some, None, MatchOption, Result, Ok, Err}
 use Rattle.std.specs.List.{zip}
 use Rattle.odht_base.specs.Image.{image_len}
@@ -26,7 +25,7 @@ use Rattle.odht_raw.specs.Frame.{IsAccepted, IsFramed}
 use Rattle.odht_raw.specs.Refusals.{IsTooLarge, new_refusal, opening_refusal}
 use Rattle.odht_raw.specs.declared.error.Error.{Error}
 use Rattle.odht_raw.specs.declared.error.Error.TheVariants.{Full, Capacity}
-use Rattle.odht.specs.Lists.{encoded_all, IsFilled, IsRefusedAt}
+use Rattle.odht.specs.Lists.{encoded_all, IsFilled, IsFramedRun, IsRefusedAt}
 use Rattle.odht_c.specs.Statuses.{status_of, IsPercent, done, replaced, bad_percent, bad_lengths}
 
 abbrev pub IsFormer : {V : Type 0} → Option V → V → ℕ → V → Type 0
@@ -42,11 +41,6 @@ IsPut c P k v B' old s new =
     MatchOption (put_view c.format P (encoded c k v))
     (IsImage c.format P B' × (s ≡ status_of Full) × (new ≡ old))
     (λ Q. IsImage c.format Q B' × IsFormer (value_for c P k) old s new)
-
-pub data IsFramedRun {K V : Type 0} (c : Coding K V) (B : List ℕ) : List (K × V) → List ℕ → Type 0 where
-  start : IsFramedRun c B [] B
-  accepted : (items : List (K × V)) (k : K) (v : V) (o : Option V) (C D : List ℕ)
-      → IsFramedRun c B items C → IsFramed c C k v (Ok o) D → IsFramedRun c B (items ++ (k, v) ∷ []) D
 
 pub record BytesNeededAnswers {K V : Type 0} (c : Coding K V) (m p old s new : ℕ) : Type 0 where
   pub percent : (IsPercent p → ⊥) → (s ≡ bad_percent) × (new ≡ old)

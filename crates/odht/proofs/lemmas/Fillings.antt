@@ -1,5 +1,5 @@
 -- Inserts in turn: one more pair.
-use Rattle.std.proofs.Common.{◌≡◌, ◌<◌, ◌≤◌, ◌+◌, ◌∙◌, ◌++◌, ℕ, Bool, true, false, cond, sym, ap, refl, List, [], ◌∷◌, Option, Some, None, take, length, bytes_eq, get_or, arith, length-append}
+use Rattle.std.proofs.Common.{◌≡◌, ◌<◌, ◌≤◌, ◌+◌, ◌∙◌, ◌++◌, ℕ, Bool, true, false, cond, sym, ap, refl, List, [], ◌∷◌, Option, Some, None, Ok, subst, take, length, bytes_eq, get_or, arith, length-append}
 use Rattle.std.proofs.lemmas.List.{take_more, map-append, length-map}
 use Rattle.std.proofs.lemmas.Option.{slice_get-get_or}
 use Rattle.std.specs.Prelude.{option_and_then}
@@ -15,7 +15,8 @@ use Rattle.odht_base.proofs.lemmas.Places.{slot_count-place, factor-place, count
 use Rattle.odht_base.proofs.lemmas.Rooms.{fresh-slots, slot_count-empty, count-empty, max_items-holds}
 use Rattle.odht_base.proofs.lemmas.Runs.{IsInsert, run-push, last-append, last-cons}
 use Rattle.odht_raw.specs.Coding.{Coding, encoded}
-use Rattle.odht.specs.Lists.{encoded_all, HasSizeOf, IsFilled, IsFreshFilled, IsRefusedAt}
+use Rattle.odht_raw.specs.Frame.{IsFramed}
+use Rattle.odht.specs.Lists.{encoded_all, HasSizeOf, IsFilled, IsFramedRun, IsFreshFilled, IsRefusedAt}
 
 -- no pairs leave the table as it is
 pub filled_none : (F : Format) (put : Table → Pair → Option Table) (P : Table) (B : List ℕ) → IsImage F P B → IsFilled F put P [] B
@@ -57,6 +58,12 @@ pub encoded_all-more : {K V : Type 0} (c : Coding K V) (items : List (K × V)) (
     → encoded_all c (take (n + 1) items) ≡ encoded_all c (take n items) ++ encoded c item.0 item.1 ∷ []
 encoded_all-more {K = K} {V = V} c items n item low at =
     ap (encoded_all c) (take_more items n item low ∙ ap (λ t. take n items ++ t ∷ []) at) ∙ map-append (λ (t : K × V). encoded c t.0 t.1) (take n items) (item ∷ [])
+
+-- one more item, on any bytes
+pub framed_more : {K V : Type 0} (c : Coding K V) (B C D : List ℕ) (items : List (K × V)) (n : ℕ) (item : K × V) → n < length items → get_or items n item ≡ item
+    → (o : Option V) → IsFramedRun c B (take n items) C → IsFramed c C item.0 item.1 (Ok o) D → IsFramedRun c B (take (n + 1) items) D
+framed_more {K = K} {V = V} c B C D items n item low at o before here =
+    subst (λ (xs : List (K × V)). IsFramedRun c B xs D) (sym (take_more items n item low ∙ ap (λ t. take n items ++ t ∷ []) at)) (IsFramedRun.accepted (take n items) item.0 item.1 o C D before here)
 
 -- the item that an insert refused
 pub refused_at : {K V : Type 0} (c : Coding K V) (P : Table) (items : List (K × V)) (n : ℕ) (item : K × V) → n < length items → get_or items n item ≡ item

@@ -1,5 +1,6 @@
 -- What the writes of an insert leave where its search ended, on the bytes of a valid table that takes the key.
-use Rattle.std.proofs.Common.{inl, inr, ◌≡◌, ◌≤◌, ◌<◌, ◌∙◌, ◌+◌, ◌/◌, ◌^◌, ℕ, sym, ap, refl, subst, arith, List, [], Option, Some, None, Ok}
+use Rattle.std.proofs.Common.{inl, inr, ◌≡◌, ◌≤◌, ◌<◌, ◌∙◌, ◌+◌, ◌/◌, ◌^◌, ℕ, sym, ap, refl, subst, arith, List, [], Option, Some, None, Ok, Err}
+use Rattle.odht_raw.specs.declared.error.Error.TheVariants.{Full}
 use Rattle.std.specs.Prelude.{option_map}
 use Rattle.std.proofs.lemmas.Option.{none-some}
 use Rattle.odht_base.specs.Format.{Format, tag}
@@ -18,7 +19,7 @@ use Rattle.odht_base.proofs.lemmas.Places.{written}
 use Rattle.odht_base.proofs.lemmas.Puts.{HasRoom, TakesKey, there, place-IsValid, put_view-takes, put_view-IsInsert}
 use Rattle.odht_base.proofs.lemmas.Writes.{with_value-image, with_pair-image_stated}
 use Rattle.odht_raw.specs.Coding.{Coding, encoded}
-use Rattle.odht_raw.specs.Frame.{CountsAsFree, InsertFrame, IsFramed}
+use Rattle.odht_raw.specs.Frame.{CountsAsFree, HasNoFreeSlot, stated_maximum, InsertFrame, IsFramed}
 use Rattle.odht_raw.proofs.lemmas.Inserts.{found_key, found_value}
 use Rattle.odht.specs.Inserts.{IsInserted}
 use Rattle.odht_raw.proofs.lemmas.Lookups.{IsFoundAt, IsFreeAt, IsNowhere}
@@ -26,6 +27,25 @@ use Rattle.odht_raw.proofs.lemmas.Lookups.{IsFoundAt, IsFreeAt, IsNowhere}
 -- an accepted insert ends in the bytes of the table with the pair put
 abbrev pub IsPut : Format → Table → Pair → List ℕ → Type 0
 IsPut F P p B = (Q : Table) × (put_view F P p ≡ Some Q) × IsImage F Q B
+
+-- ---- what an insert reads of the header of any bytes
+module _ {B header : List ℕ} {items most slots factor : ℕ} (at : header ≡ B) (n : items ≡ stated_count header) (s : slots ≡ stated_slots header)
+    (f : factor ≡ stated_factor header) (m : most ≡ max_items slots factor) where
+  -- is the stated maximum
+  maximum_read : most ≡ stated_maximum B
+  maximum_read = m ∙ (λ i. max_items ((s ∙ ap stated_slots at) i) ((f ∙ ap stated_factor at) i))
+
+  -- and the stated count
+  count_read : items ≡ stated_count B
+  count_read = n ∙ ap stated_count at
+
+  -- so at the maximum the header states no room
+  pub stated_full : most ≤ items → stated_maximum B ≤ stated_count B
+  stated_full h = omega (arith, maximum_read, count_read, h)
+
+  -- and below it some
+  pub stated_room : items < most → stated_count B < stated_maximum B
+  stated_room h = omega (arith, maximum_read, count_read, h)
 
 -- ---- what the header of a valid table's bytes states
 module _ (F : Format) (P : Table) (B : List ℕ) (is : IsImage F P B) where
@@ -47,10 +67,10 @@ module _ (F : Format) (P : Table) (B : List ℕ) (is : IsImage F P B) where
   module _ {header : List ℕ} {items most slots factor : ℕ} (at : header ≡ B) (n : items ≡ stated_count header) (s : slots ≡ stated_slots header)
       (f : factor ≡ stated_factor header) (m : most ≡ max_items slots factor) where
     most_read : most ≡ max_items (slot_count P) P.factor
-    most_read = m ∙ (λ i. max_items ((s ∙ ap stated_slots at) i) ((f ∙ ap stated_factor at) i)) ∙ max_stated
+    most_read = maximum_read at n s f m ∙ max_stated
 
     items_read : items ≡ count P
-    items_read = n ∙ ap stated_count at ∙ count_stated
+    items_read = count_read at n s f m ∙ count_stated
 
     pub read_full : most ≤ items → count P ≡ max_items (slot_count P) P.factor
     read_full h = omega (arith, most_read, items_read, is.valid.room, h)
@@ -169,8 +189,20 @@ module _ {K V : Type 0} (c : Coding K V) (A : List ℕ) (k : K) (v : V) (p : Pai
 
     -- on any bytes
     pub free_framed : (B : List ℕ) → A ≡ B → (ctrl : List ℕ) → ctrl ≡ controls_of c.format A → (n : ℕ) → n ≡ stated_slots A → slot < n → CountsAsFree ctrl slot
-        → IsFramed c B k v (Ok None) C
-    free_framed B here ctrl controls n slots low free =
+        → stated_count A < stated_maximum A → IsFramed c B k v (Ok None) C
+    free_framed B here ctrl controls n slots low free room =
         let frame : InsertFrame c.format A p (Ok None) (with_count (with_pair c.format (stated_slots A) A slot p) (stated_count A + 1)) =
-        InsertFrame.added slot (subst (λ m. slot < m) slots low) (subst (λ b. CountsAsFree b slot) controls free) in
+        InsertFrame.added slot (subst (λ m. slot < m) slots low) (subst (λ b. CountsAsFree b slot) controls free) room in
         subst (λ b. IsFramed c b k v (Ok None) C) here (Ok None, refl, subst (λ q. InsertFrame c.format A q (Ok None) C) same (subst (InsertFrame c.format A p (Ok None)) (sym added) frame))
+
+-- ---- a refusal, on any bytes
+module _ {K V : Type 0} (c : Coding K V) (A B : List ℕ) (k : K) (v : V) (here : A ≡ B) where
+  -- at the stated maximum
+  pub full_framed : stated_maximum A ≤ stated_count A → IsFramed c B k v (Err Full) B
+  full_framed full = (Err Full, refl, subst (λ b. InsertFrame c.format b (encoded c k v) (Err Full) b) here (InsertFrame.full full))
+
+  -- and where each slot counts as filled
+  pub nowhere_framed : (ctrl : List ℕ) → ctrl ≡ controls_of c.format A → (n : ℕ) → n ≡ stated_slots A → HasNoFreeSlot ctrl n → IsFramed c B k v (Err Full) B
+  nowhere_framed ctrl controls n slots none =
+      let all : HasNoFreeSlot (controls_of c.format A) (stated_slots A) = subst (HasNoFreeSlot (controls_of c.format A)) slots (subst (λ b. HasNoFreeSlot b n) controls none) in
+      (Err Full, refl, subst (λ b. InsertFrame c.format b (encoded c k v) (Err Full) b) here (InsertFrame.no_slot all))

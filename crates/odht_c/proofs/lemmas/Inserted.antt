@@ -12,9 +12,9 @@ use Rattle.odht_raw.specs.Refusals.{opening_refusal}
 use Rattle.odht_raw.specs.declared.error.Error.{Error}
 use Rattle.odht_raw.specs.declared.error.Error.TheVariants.{Full}
 use Rattle.odht.specs.Inserts.{IsInserted}
-use Rattle.odht.specs.Lists.{encoded_all, IsFilled, IsRefusedAt}
+use Rattle.odht.specs.Lists.{encoded_all, IsFilled, IsFramedRun, IsRefusedAt}
 use Rattle.odht_c.specs.Statuses.{done, status_of}
-use Rattle.odht_c.specs.Writes.{IsFormer, IsFramedRun, InsertAnswers, InsertAllAnswers}
+use Rattle.odht_c.specs.Writes.{IsFormer, InsertAnswers, InsertAllAnswers}
 use Rattle.odht_c.proofs.lemmas.Refused.{not_none}
 
 -- B were the bytes, S what the table saw of them and T what it left, and these are now C

@@ -1,5 +1,5 @@
 -- Worked examples: inserts into bytes that a view accepts and that are not valid.
-use Rattle.std.proofs.Common.{◌≡◌, ◌+◌, ℕ, refl, inl, List, [], ◌∷◌, Some, None, Ok, Err, option_map, lit<}
+use Rattle.std.proofs.Common.{◌≡◌, ◌+◌, ℕ, refl, inl, List, [], ◌∷◌, Some, None, Ok, Err, option_map, lit<, lit≤}
 use Rattle.odht_base.specs.Numbers.{le_bytes}
 use Rattle.odht_base.specs.Bytes.{overwritten_at}
 use Rattle.odht_base.specs.Format.{Format}
@@ -14,9 +14,10 @@ use Rattle.odht_raw.proofs.examples.Invalid.{count_of_five, all_filled}
 use Rattle.odht_raw.specs.Frame.{InsertFrame}
 use Rattle.odht_raw.specs.declared.error.Error.TheVariants.{Full}
 
--- where no slot is free, key 99 may be refused
-pub refused : InsertFrame direct_config (all_filled 0) (pair32 99 7) (Err Full) (all_filled 0)
-refused = InsertFrame.full
+-- at the stated maximum of thirteen key 99 may be refused
+pub refused : InsertFrame direct_config (all_filled 13) (pair32 99 7) (Err Full) (all_filled 13)
+unfolding opened
+refused = InsertFrame.full (lit≤ tt)
 
 -- and 3 overwritten by 7, which changes byte 60 alone
 pub overwritten_value : InsertFrame direct_config (all_filled 0) (pair32 3 7) (Ok (Some (le_bytes 4 3))) (overwritten_at (all_filled 0) 60 (7 ∷ []))
@@ -30,7 +31,7 @@ added_bytes F B i p = with_count (with_pair F (stated_slots B) B i p) (stated_co
 -- a wrong count of 5 rises to 6
 pub added_pair : InsertFrame test_config count_of_five (pair32 1 2) (Ok None) (added_bytes test_config count_of_five 5 (pair32 1 2))
 unfolding opened
-added_pair = InsertFrame.added 5 (lit< tt) (inl refl)
+added_pair = InsertFrame.added 5 (lit< tt) (inl refl) (lit< tt)
 
 pub added_count : stated_count (added_bytes test_config count_of_five 5 (pair32 1 2)) ≡ 6
 unfolding opened
@@ -42,7 +43,7 @@ home_of_128 = overwritten_at (overwritten_at test_bytes 165 (0x80 ∷ [])) 181 (
 
 pub added_at_128 : InsertFrame test_config home_of_128 (pair32 1 2) (Ok None) (added_bytes test_config home_of_128 5 (pair32 1 2))
 unfolding opened
-added_at_128 = InsertFrame.added 5 (lit< tt) (inl refl)
+added_at_128 = InsertFrame.added 5 (lit< tt) (inl refl) (lit< tt)
 
 pub then_valid : Some (added_bytes test_config home_of_128 5 (pair32 1 2)) ≡ option_map (image test_config) (view_of test_config 0 87 (pair32 1 2 ∷ []))
 unfolding opened

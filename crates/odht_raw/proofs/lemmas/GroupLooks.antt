@@ -25,6 +25,7 @@ use Rattle.odht_base.proofs.lemmas.Pigeons.{contains_cases}
 use Rattle.odht_base.proofs.lemmas.Orders.{place_slot-apart, place_slot-lt, find-order_some, position-order}
 use Rattle.odht_base.proofs.lemmas.Parts.{counts_as_free-control_byte}
 use Rattle.odht_raw.specs.Answers.{answer}
+use Rattle.odht_raw.specs.Frame.{HasNoFree}
 use Rattle.odht_raw.specs.Parts.{EntryBytes}
 use Rattle.odht_raw.specs.Searches.{slot_of, Passed, StandsAt, EndsWithin, IsLook}
 use Rattle.odht_raw.specs.declared.raw_table.outcome.Search.{Search}
@@ -66,10 +67,21 @@ taken-all all [] T t e i c = elim (t.others i c) [ inl more ↦ absurd (omega (a
 taken-all all (y ∷ left) T t e i c = absurd (none-some y e)
 
 -- where no place is first, each fails
-position-None : (t : ℕ → Bool) (xs : List ℕ) (d : ℕ) → position t xs ≡ None → (i : ℕ) → i < length xs → t (get_or xs i d) ≡ false
+pub position-None : (t : ℕ → Bool) (xs : List ℕ) (d : ℕ) → position t xs ≡ None → (i : ℕ) → i < length xs → t (get_or xs i d) ≡ false
 position-None t xs d e i l = elim (cases_lt (position_or_len t xs) (length xs)) [
   | inl within ↦ absurd (none-some (position_or_len t xs) (sym e ∙ (rw (lt-ltb (position_or_len t xs) (length xs) within) refl)))
   | inr past ↦ fails_before_first t xs i d (omega arith)
+]
+
+-- pieces without a free byte, and one more
+pub no_free-more : (bs : List ℕ) (n size : ℕ) → HasNoFree bs (n * size) → HasNoFree (bytes_at bs (n * size) size) size → HasNoFree bs ((n + 1) * size)
+no_free-more bs n size before here i l = elim (cases_lt i (n * size)) [
+  | inl low ↦ before i low
+  | inr past ↦
+      let j : ℕ = i - n * size in
+      let at : n * size + j ≡ i = omega arith in
+      let less : j < size = omega arith in
+      subst (λ b. counts_as_free b ≡ false) (index-bytes_at bs (n * size) size j less ∙ ap (slice_index bs) at) (here j less)
 ]
 
 -- ---- where a search in a placed table ends

@@ -1,21 +1,21 @@
 -- A search by groups on parts: where it stands at a group, and what it tells at its end.
-use Rattle.std.proofs.Common.{◌≡◌, ℕ, ◌+◌, ◌-◌, ◌/◌, ◌%◌, ◌<◌, ◌≤◌, inl, inr, sym, ap, ◌∙◌, subst, arith, List, length, slice_index, IsTrue}
-use Rattle.std.specs.Prelude.{⊤}
+use Rattle.std.proofs.Common.{false, ◌≡◌, ℕ, ◌+◌, ◌-◌, ◌/◌, ◌%◌, ◌<◌, ◌≤◌, inl, inr, sym, ap, ◌∙◌, subst, arith, List, length, slice_index, IsTrue}
 use Rattle.std.proofs.Math.Nat.{mod-eq_of_lt, add-mod_right}
 use Rattle.std.proofs.lemmas.Bool.{cases_lt}
 use Rattle.odht_base.specs.Bytes.{bytes_at}
 use Rattle.odht_base.specs.Format.{Format, IsFormat, home}
 use Rattle.odht_base.specs.Image.{controls, control_byte}
+use Rattle.odht_base.specs.Load.{IsSlotCount}
 use Rattle.odht_base.specs.Probe.{place_slot}
 use Rattle.odht_base.specs.Search.{reach, groups_read}
 use Rattle.odht_base.specs.Shown.{counts_as_free}
 use Rattle.odht_base.specs.Table.{Table, Cells, slot_count, cell_at}
 use Rattle.odht_base.specs.Valid.{IsPartsOf}
 use Rattle.odht_base.proofs.lemmas.ByteRanges.{length-bytes_at}
-use Rattle.odht_base.proofs.lemmas.Orders.{place_slot-lt, position-order_none}
+use Rattle.odht_base.proofs.lemmas.Orders.{place_slot-lt, place_slot-onto, position-order_none}
 use Rattle.odht_base.proofs.lemmas.Parts.{slice_index-controls, slice_index-mirror}
 use Rattle.odht_raw.specs.Answers.{MatchSearch}
-use Rattle.odht_raw.specs.Frame.{CountsAsFree}
+use Rattle.odht_raw.specs.Frame.{CountsAsFree, CountsAsFilled, HasNoFree, HasNoFreeSlot}
 use Rattle.odht_raw.specs.Parts.{EntryBytes}
 use Rattle.odht_raw.specs.Searches.{slot_of, Passed, StandsAt, EndsWithin}
 use Rattle.odht_raw.specs.declared.raw_table.outcome.Search.{Search}
@@ -52,6 +52,42 @@ group-free ctrl s b i len few l h free =
           let behind : b + i ≡ length ctrl - 16 + x = omega arith in
           inr (rw is (omega arith, subst (λ c. IsTrue (counts_as_free c)) (byte ∙ ap (slice_index ctrl) behind) free))
     ]
+
+-- and where none is free each slot of the group counts as filled
+pub group-filled : (ctrl : List ℕ) (s b i : ℕ) → length ctrl ≡ s + 16 → 16 ≤ s → b < s → i < 16 → HasNoFree (bytes_at ctrl b 16) 16 → CountsAsFilled ctrl ((b + i) % s)
+group-filled ctrl s b i len few l h none =
+    let byte = index-bytes_at ctrl b 16 i h in
+    elim (cases_lt (b + i) s) [
+      | inl inside ↦ inl (rw (mod-eq_of_lt {n = b + i} {m = s} inside) (subst (λ c. counts_as_free c ≡ false) byte (none i h)))
+      | inr past ↦
+          let x : ℕ = b + i - s in
+          let turn : x + s ≡ b + i = omega arith in
+          let low : x < s = omega arith in
+          let is : (b + i) % s ≡ x = ap (λ y. y % s) (sym turn) ∙ add-mod_right x s ∙ mod-eq_of_lt {n = x} {m = s} low in
+          let behind : b + i ≡ length ctrl - 16 + x = omega arith in
+          inr (rw is (omega arith, subst (λ c. counts_as_free c ≡ false) (byte ∙ ap (slice_index ctrl) behind) (none i h)))
+    ]
+
+-- the slots of the places before p of the order from b on count as filled
+abbrev pub FilledBefore : List ℕ → ℕ → ℕ → ℕ → Type 0
+FilledBefore ctrl b s p = (q : ℕ) → q < p → CountsAsFilled ctrl (place_slot b s q)
+
+-- after one more group without a free byte
+pub filled-more : (ctrl bs : List ℕ) (b s start p : ℕ) → length ctrl ≡ s + 16 → 16 ≤ s → p % 16 ≡ 0 → start ≡ place_slot b s p → bs ≡ bytes_at ctrl start 16
+    → HasNoFree bs 16 → FilledBefore ctrl b s p → FilledBefore ctrl b s (p + 16)
+filled-more ctrl bs b s start p len few aligned is read none before q l = elim (cases_lt q p) [
+  | inl low ↦ before q low
+  | inr past ↦
+      let i : ℕ = q - p in
+      let at : p + i ≡ q = omega arith in
+      let low : start < s = omega (arith, is, place_slot-lt b s p (omega arith)) in
+      let stands : (start + i) % s ≡ place_slot b s q = ap (λ x. (x + i) % s) is ∙ place_slot-step b s p i (omega arith) ∙ ap (place_slot b s) at in
+      subst (CountsAsFilled ctrl) stands (group-filled ctrl s start i len few low (omega arith) (subst (λ x. HasNoFree x 16) read none))
+]
+
+-- so does each slot after the last group
+pub filled-all : (ctrl : List ℕ) (b s : ℕ) → IsSlotCount s → FilledBefore ctrl b s s → HasNoFreeSlot ctrl s
+filled-all ctrl b s count before i l = let q = place_slot-onto b s i count l in subst (CountsAsFilled ctrl) q.2 (before q.0 q.1)
 
 -- ---- a placed table
 module _ (F : Format) (P : Table) (E : EntryBytes) (ctrl k : List ℕ) (f : IsFormat F) (h : IsPartsOf F P E.bytes ctrl) (len : length ctrl ≡ E.slots + 16) where
@@ -100,9 +136,9 @@ module _ (F : Format) (P : Table) (E : EntryBytes) (ctrl k : List ℕ) (f : IsFo
       rw (position-order_none _ (home F k (slot_count P)) (slot_count P) (subst (Passed F P k) count passed)) (ap (λ n. n / 16) (sym count))
 
 -- what a group tells of any parts
-pub ends-free : (ctrl : List ℕ) (s start : ℕ) (A : ℕ → Type 0) (r : Search) → length ctrl ≡ s + 16 → 16 ≤ s → start < s
+pub ends-free : (ctrl : List ℕ) (s start : ℕ) (A : ℕ → Type 0) (N : Type 0) (r : Search) → length ctrl ≡ s + 16 → 16 ≤ s → start < s
     → MatchSearch r A (λ i. (j : ℕ) × (j < 16) × (i ≡ (start + j) % s) × IsTrue (counts_as_free (slice_index (bytes_at ctrl start 16) j))) ⊥
-    → MatchSearch r A (λ i. (i < s) × CountsAsFree ctrl i) ⊤
-ends-free ctrl s start A (Found i) len few low m = m
-ends-free ctrl s start A (Free i) len few low m = (omega (arith, m.2), subst (CountsAsFree ctrl) (sym m.2) (group-free ctrl s start m.0 len few low m.1 m.3))
-ends-free ctrl s start A Neither len few low m = tt
+    → MatchSearch r A (λ i. (i < s) × CountsAsFree ctrl i) N
+ends-free ctrl s start A N (Found i) len few low m = m
+ends-free ctrl s start A N (Free i) len few low m = (omega (arith, m.2), subst (CountsAsFree ctrl) (sym m.2) (group-free ctrl s start m.0 len few low m.1 m.3))
+ends-free ctrl s start A N Neither len few low m = absurd m

@@ -1,11 +1,12 @@
 //! The search by groups of control bytes along the probe order.
-ghost use Rattle.std.specs.Prelude.{◌≡◌, ℕ, ◌+◌, ◌/◌, ◌<◌, ◌≤◌, min, length, IfSome};
+ghost use Rattle.std.specs.Prelude.{◌≡◌, ℕ, ◌+◌, ◌/◌, ◌<◌, ◌≤◌, min, length, IfSome, IsNone};
 ghost use Rattle.odht_base.specs.Load.{IsSlotCount};
 ghost use Rattle.odht_base.specs.Format.{format_of, tag as key_tag};
 ghost use Rattle.odht_base.specs.Table.{Table};
 ghost use Rattle.odht_base.specs.Search.{groups_read};
 ghost use Rattle.odht_base.specs.Valid.{IsPartsOf};
 ghost use Rattle.odht_raw.specs.Answers.{answer, IsWherePlaced};
+ghost use Rattle.odht_raw.specs.Frame.{HasNoFree};
 ghost use Rattle.odht_raw.specs.PartLengths.{ArePairLengths, AreSearchLengths};
 ghost use Rattle.odht_raw.specs.SearchEnds.{IsEnd, IsEndAmong};
 ghost use Rattle.odht_raw.specs.Searches.{StandsAt, IsLook};
@@ -19,8 +20,8 @@ use crate::swisstable_group_query::{Group, REFERENCE_GROUP_SIZE};
 ///
 /// On the parts of a table whose keys are all reached the answer is the slot where a search slot by slot ends, which is
 /// where a pair with the key is placed, and exactly as many groups as there are up to it are shown. On any parts `Found`
-/// is a slot whose entry has this very key, `Free` one that counts as free, and no more groups are shown than there are.
-/// All this holds of every group search. The rules are those of docs/FORMAT.md, "Search".
+/// is a slot whose entry has this very key, `Free` one that counts as free, after `Neither` no slot counts as free in the
+/// bytes that were looked at, and no more groups are shown than there are. All this holds of every group search. The rules are those of docs/FORMAT.md, "Search".
 #[inline]
 pub fn search<K: ByteArray, V: ByteArray, H: HashFn, Q: Group>(
     scan: &mut Scan<'_>,
@@ -103,6 +104,7 @@ fn look_at_group<K: ByteArray, V: ByteArray, H: HashFn, Q: Group>(
     requires lengths { ArePairLengths H.MIN_LEN K.LEN V.LEN }
     ensures slot { IfSome result
         (IsEndAmong (format_of K.LEN V.LEN H.hash) entries.now bytes.now start 16 (K.bytes key.now)) }
+    ensures filled { IsNone result → HasNoFree bytes.now 16 }
     ensures on_placed { (P : Table) (p : ℕ)
         → StandsAt (format_of K.LEN V.LEN H.hash) P entries.now (K.bytes key.now) p start bytes.now
         → IsLook (format_of K.LEN V.LEN H.hash) P (K.bytes key.now) p 16 result }
@@ -140,6 +142,7 @@ fn look_at_piece<K: ByteArray, V: ByteArray, H: HashFn, Q: Group>(
     requires lengths { ArePairLengths H.MIN_LEN K.LEN V.LEN }
     ensures slot { IfSome result
         (IsEndAmong (format_of K.LEN V.LEN H.hash) entries.now bytes.now start Q.SIZE (K.bytes key.now)) }
+    ensures filled { IsNone result → HasNoFree bytes.now Q.SIZE }
     ensures on_placed { (P : Table) (p : ℕ)
         → StandsAt (format_of K.LEN V.LEN H.hash) P entries.now (K.bytes key.now) p start bytes.now
         → IsLook (format_of K.LEN V.LEN H.hash) P (K.bytes key.now) p Q.SIZE result }

@@ -13,9 +13,8 @@ use Rattle.odht_raw.specs.Frame.{IsAccepted, IsFramed}
 use Rattle.odht_raw.specs.Refusals.{opening_refusal}
 use Rattle.odht_raw.specs.declared.error.Error.TheVariants.{Full}
 use Rattle.odht_c.specs.Statuses.{status_of}
-use Rattle.odht.specs.Lists.{encoded_all, IsFilled}
+use Rattle.odht.specs.Lists.{encoded_all, IsFilled, IsFramedRun}
 use Rattle.odht.proofs.lemmas.Fillings.{filled_more, encoded_all-more}
-use Rattle.odht_c.specs.Writes.{IsFramedRun}
 use Rattle.odht_c.proofs.lemmas.Refused.{refused_insert_all}
 use Rattle.odht_c.proofs.lemmas.Inserted.{accepted_insert_all, full_insert_all, refused_pair}
 use Rattle.odht_c.proofs.write.insert_all.Goals as goal

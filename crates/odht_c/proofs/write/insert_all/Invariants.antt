@@ -5,8 +5,7 @@ use Rattle.odht_base.specs.Table.{Table}
 use Rattle.odht_base.specs.Valid.{IsImage}
 use Rattle.odht_raw.specs.Coding.{coding_of}
 use Rattle.odht_raw.specs.Frame.{IsAccepted}
-use Rattle.odht.specs.Lists.{encoded_all, IsFilled}
-use Rattle.odht_c.specs.Writes.{IsFramedRun}
+use Rattle.odht.specs.Lists.{encoded_all, IsFilled, IsFramedRun}
 use Rattle.odht_c.proofs.write.insert_all.Given as goal
 
 -- the pairs so far are in the table, whose header and length fit

@@ -10,7 +10,7 @@ use Rattle.odht_raw.specs.Parts.{ShownGroups}
 use Rattle.odht_raw.specs.declared.error.Error.TheVariants.{Full}
 use Rattle.odht_raw.proofs.lemmas.Lookups.{answer-Found, answer-Free, answer-Neither}
 use Rattle.odht.proofs.lemmas.ViewInserts.{read_full, read_room, room_not_full, found_not_full, never_nowhere, held_twice}
-use Rattle.odht.proofs.lemmas.ViewInserts.{found_inserted, found_framed, free_inserted, free_framed}
+use Rattle.odht.proofs.lemmas.ViewInserts.{found_inserted, found_framed, free_inserted, free_framed, full_framed, nowhere_framed, stated_full, stated_room}
 use Rattle.odht.proofs.hash_table.HashTable.insert.Given.{Over}
 use Rattle.odht.proofs.hash_table.HashTable.insert.Goals as goal
 use Rattle.odht.proofs.hash_table.HashTable.insert.Goals.{After-max_item_count_for-max}
@@ -136,7 +136,10 @@ returns-in-Neither-clause-full g c P is =
     absurd (never_nowhere (coding g).format P _ read _ end)
 
 pub returns-then-count-max-clause-frame : goal.returns-then-count-max-clause-frame
-returns-then-count-max-clause-frame g c = (Err Full, refl, InsertFrame.full)
+returns-then-count-max-clause-frame g c =
+    full_framed (coding g) _ _ c.args.key.now c.args.value.now (ap g.D.ByteStore.bytes c.self.view_is)
+    (stated_full c.header-header.ensures.bytes c.item_count-count.ensures c.slot_count.ensures c.max_load_factor.ensures
+    c.max_item_count_for-max.ensures.value c.if-count-max.true)
 
 pub returns-in-Found-clause-frame : goal.returns-in-Found-clause-frame
 returns-in-Found-clause-frame g c =
@@ -159,9 +162,14 @@ returns-else-count-max-clause-frame g c =
     _ (ap g.D.ByteStore.bytes c.self.view_is) c.new-scan.result.control
     (ap (λ (t : ShownGroups). t.control) c.new-scan.ensures ∙ c.data_slices-entries.ensures.control)
     _ c.data_slices-entries.ensures.slots c.in-Free.ensures.slot.0 c.in-Free.ensures.slot.1
+    (stated_room c.header-header.ensures.bytes c.item_count-count.ensures c.slot_count.ensures c.max_load_factor.ensures
+    c.max_item_count_for-max.ensures.value c.if-count-max.false)
 
 pub returns-in-Neither-clause-frame : goal.returns-in-Neither-clause-frame
-returns-in-Neither-clause-frame g c = (Err Full, refl, InsertFrame.full)
+returns-in-Neither-clause-frame g c =
+    nowhere_framed (coding g) _ _ c.args.key.now c.args.value.now (ap g.D.ByteStore.bytes c.self.view_is) c.new-scan.result.control
+    (ap (λ (t : ShownGroups). t.control) c.new-scan.ensures ∙ c.data_slices-entries.ensures.control)
+    _ c.data_slices-entries.ensures.slots c.in-Neither.ensures.slot
 
 pub returns-then-count-max-clause-place : goal.returns-then-count-max-clause-place
 returns-then-count-max-clause-place g c = sym (g.met.D.ByteStoreMut.held_same c.args.self.now)

@@ -7,7 +7,7 @@ use Rattle.odht_base.proofs.lemmas.SlotCounts.{bit_and-slots, few_slots}
 use Rattle.odht_raw.specs.Searches.{EndsWithin, Passed}
 use Rattle.odht_raw.specs.declared.raw_table.outcome.Search.TheVariants.{Found, Free}
 use Rattle.odht_raw.proofs.lemmas.Formats.{IsFormat-format_of}
-use Rattle.odht_raw.proofs.lemmas.GroupLooks.{taken-first, taken-next, taken-all, look_found, look_free, look_on}
+use Rattle.odht_raw.proofs.lemmas.GroupLooks.{taken-first, taken-next, taken-all, position-None, look_found, look_free, look_on}
 use Rattle.odht_raw.proofs.raw_table.group_search.look_at_piece.Goals as goal
 
 pub overflow_add-slot : goal.overflow_add-slot
@@ -68,6 +68,11 @@ returns-in-Some-first_empty-clause-on_placed g c P p at =
     let masked = ap (λ n. bit_and (c.args.start + c.in-Some-first_empty.index) (n - 1)) c.len-mask.ensures ∙ bit_and-slots (c.args.start + c.in-Some-first_empty.index) c.args.entries.now.slots c.requires.slots in
     let free = look_free F P c.args.entries.now k p c.args.start c.args.bytes.now f at _ report (taken-all _ _ _ c.matches.invariant.taken c.in_default.ensures.next) c.in-Some-first_empty.index first in
     (ap Free masked ∙ free.0, subst (EndsWithin F P k p) c.requires.len free.1)
+
+pub returns-clause-filled : goal.returns-clause-filled
+returns-clause-filled g c none i l =
+    let first = sym (c.in-None.ensures ∙ c.in_default.ensures.free ∙ c.matches.invariant.same ∙ c.of-group.ensures.free) in
+    position-None counts_as_free c.args.bytes.now 0 first i (omega (arith, l, c.requires.len))
 
 pub returns-clause-on_placed : goal.returns-clause-on_placed
 returns-clause-on_placed g c P p at =

@@ -5,12 +5,16 @@ use Rattle.odht_base.specs.Load.{IsSlotCount}
 use Rattle.odht_base.specs.Table.{Table}
 use Rattle.odht_base.specs.Valid.{IsPartsOf}
 use Rattle.odht_base.proofs.lemmas.SlotCounts.{sixteens}
+use Rattle.odht_base.specs.Probe.{place_slot}
+use Rattle.odht_raw.specs.Frame.{HasNoFree}
 use Rattle.odht_raw.specs.Searches.{Passed}
 use Rattle.odht_raw.proofs.lemmas.Formats.{IsFormat-format_of}
-use Rattle.odht_raw.proofs.lemmas.GroupSearches.{stands-probe, reads-to, reads-all, ends-free}
+use Rattle.odht_raw.proofs.lemmas.GroupSearches.{stands-probe, reads-to, reads-all, ends-free, FilledBefore, filled-more, filled-all}
 use Rattle.odht_raw.proofs.lemmas.Lookups.{answer-IsWherePlaced}
 use Rattle.odht_raw.proofs.lemmas.PlainSearch.{no_end}
+use Rattle.odht_raw.proofs.raw_table.group_search.search_hashed.Given.{Over}
 use Rattle.odht_raw.proofs.raw_table.group_search.search_hashed.Goals as goal
+use Rattle.odht_raw.proofs.raw_table.group_search.search_hashed.Goals.{After-look_at_group}
 
 pub new-probe-requires : goal.new-probe-requires
 new-probe-requires g c =
@@ -31,6 +35,7 @@ groups-init g c =
       mask = ap (λ q. q.mask + 1) c.new-probe.ensures ∙ slots;
       aligned = omega (arith, place);
       within = omega (arith, place, slots);
+      filled = λ q l. absurd (omega (arith, l, place));
       passed = λ P h q l. absurd (omega (arith, place));
     }
 
@@ -67,7 +72,7 @@ returns-in-Some-clause-slot g c =
     let bytes = c.group-bytes.ensures.bytes ∙ ap (λ ctrl. bytes_at ctrl c.index-start.result 16) c.groups.invariant.control in
     let low : c.index-start.result < c.args.entries.now.slots = omega (arith, c.index-start.ensures.below, c.groups.invariant.mask) in
     let few = c.slots-mask.ensures.count.least in
-    ends-free c.args.scan.now.control c.args.entries.now.slots c.index-start.result _ c.in-Some.end c.requires.lengths.mirrored (omega (arith, c.slots-mask.ensures.control, c.requires.lengths.mirrored)) low (rw bytes at c.in-Some.ensures.slot)
+    ends-free c.args.scan.now.control c.args.entries.now.slots c.index-start.result _ _ c.in-Some.end c.requires.lengths.mirrored (omega (arith, c.slots-mask.ensures.control, c.requires.lengths.mirrored)) low (rw bytes at c.in-Some.ensures.slot)
 
 pub returns-then-is_last-clause-on_placed : goal.returns-then-is_last-clause-on_placed
 returns-then-is_last-clause-on_placed g c P h =
@@ -99,6 +104,25 @@ returns-then-is_last-clause-groups g c P h =
     let reads = reads-all F P c.args.entries.now c.args.scan.now.control k f h c.requires.lengths.mirrored (subst (Passed F P k) all (c.in_default.ensures.on_placed P p at)) in
     rw reads (omega (arith, ap (λ s. s.groups) c.group-bytes.ensures.shows, v.shown, all))
 
+-- the group at the probe, without a free byte, after those before it
+passed_group : (g : Over) (c : After-look_at_group g) → HasNoFree c.group-bytes.result.now 16
+    → FilledBefore c.args.scan.now.control (c.args.hash % c.args.entries.now.slots) c.args.entries.now.slots (c.groups.probe.place + 16)
+passed_group g c none =
+    let v = c.groups.invariant in
+    let few = c.slots-mask.ensures.count.least in
+    let slots : c.slots-mask.result ≡ c.args.entries.now.slots = omega (arith, c.slots-mask.ensures.control, c.requires.lengths.mirrored) in
+    let start = c.index-start.ensures.slot ∙ (λ i. place_slot (v.home i) (v.mask i) c.groups.probe.place) in
+    filled-more c.args.scan.now.control c.group-bytes.result.now (c.args.hash % c.args.entries.now.slots) c.args.entries.now.slots c.index-start.result c.groups.probe.place
+    c.requires.lengths.mirrored (omega (arith, few, slots)) v.aligned start (c.group-bytes.ensures.bytes ∙ ap (λ ctrl. bytes_at ctrl c.index-start.result 16) v.control) none v.filled
+
+pub returns-then-is_last-clause-slot : goal.returns-then-is_last-clause-slot
+returns-then-is_last-clause-slot g c =
+    let v = c.groups.invariant in
+    let slots : c.slots-mask.result ≡ c.args.entries.now.slots = omega (arith, c.slots-mask.ensures.control, c.requires.lengths.mirrored) in
+    let all : c.groups.probe.place + 16 ≡ c.args.entries.now.slots = omega (arith, v.within, v.mask, c.is_last.ensures.0 c.if-is_last.true) in
+    let before = passed_group g (goal.at.returns-then-is_last-clause-slot g c).After-look_at_group (c.in_default.ensures.filled refl) in
+    filled-all c.args.scan.now.control _ c.args.entries.now.slots (subst IsSlotCount slots c.slots-mask.ensures.count) (subst (FilledBefore _ _ _) all before)
+
 pub groups-preserved : goal.groups-preserved
 groups-preserved g c =
     let v = c.groups.invariant in
@@ -124,5 +148,6 @@ groups-preserved g c =
       mask = ap (λ q. q.mask + 1) c.advance.ensures ∙ v.mask;
       aligned = omega (arith, place, v.aligned);
       within = omega (arith, place, v.aligned, v.mask, sixteen.2, slots, more);
+      filled = subst (FilledBefore _ _ _) (sym place) (passed_group g (goal.at.groups-preserved g c).After-look_at_group (c.in_default.ensures.filled refl));
       passed = passed;
     }

@@ -3,9 +3,10 @@ use Rattle.odht_base.specs.Format.{format_of}
 use Rattle.odht_base.specs.Table.{Table}
 use Rattle.odht_base.specs.Valid.{IsPartsOf}
 use Rattle.odht_raw.specs.Searches.{Passed}
+use Rattle.odht_raw.proofs.lemmas.GroupSearches.{FilledBefore}
 use Rattle.odht_raw.proofs.raw_table.group_search.search_hashed.Given as goal
 
--- the probe stands at the first place of a group, and each group before it was shown and passed
+-- the probe stands at the first place of a group, and each group before it was shown, had no free byte and was passed
 abbrev pub invariant-groups : goal.invariant-groups
 invariant-groups g l =
     let F = format_of g.K.ByteArray.LEN g.V.ByteArray.LEN g.H.HashFn.hash in
@@ -18,6 +19,7 @@ invariant-groups g l =
       mask : l.probe.mask + 1 ≡ l.entries.slots;
       aligned : l.probe.place % 16 ≡ 0;
       within : l.probe.place + 16 ≤ l.entries.slots;
+      filled : FilledBefore l.fn.scan.control (l.hash % l.entries.slots) l.entries.slots l.probe.place;
       passed : (P : Table) → IsPartsOf F P l.entries.bytes l.fn.scan.control → Passed F P k l.probe.place;
     }
 

@@ -150,4 +150,9 @@ returns-in-Free-clause-any g c =
     record { frame = (Ok None, refl, search (rules, framed)); only_full = tt; refused_control = tt; refused_entries = tt }
 
 pub returns-in-Neither-clause-any : goal.returns-in-Neither-clause-any
-returns-in-Neither-clause-any g c = record { frame = (Err Full, refl, PartsFrame.full); only_full = refl; refused_control = refl; refused_entries = refl }
+returns-in-Neither-clause-any g c =
+    let F : Format = format_of g.K.ByteArray.LEN g.V.ByteArray.LEN g.H.HashFn.hash in
+    let ctrl = c.args.control.now in
+    let shown : EntryBytes = record { slots = length ctrl - 16; bytes = c.args.entries.now } in
+    let told = subst (IsEnd F shown ctrl (g.K.ByteArray.bytes c.args.key)) c.in-Neither.is c.requires.end in
+    record { frame = (Err Full, refl, PartsFrame.no_slot told); only_full = refl; refused_control = refl; refused_entries = refl }
