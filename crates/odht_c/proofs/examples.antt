@@ -1,3 +1,5 @@
 -- Worked examples of the words that speak of the calls of C, each a closed theorem.
 -- the number of each status, and what calls demand of their arguments
 pub mod Statuses
+-- the coding, the tables and the bytes of the examples
+pub mod Tables

@@ -1,0 +1,96 @@
+-- The coding, the tables and the bytes of the examples.
+--     direct_coding            numbers of four bytes to numbers of four bytes; the hash of a key is the key
+--     no_items, no_bytes       a table of sixteen slots at 7 percent, which may hold one item, and its bytes
+--     one_item, one_bytes      the same with the value 7 for the key 5, which stands in slot 5
+--     miscounted               the bytes of no items, which state a count of five; they are accepted, and not valid
+--     no_image, one_image      the two tables are valid
+--     same_table               bytes are those of one valid table
+--     unequal, unequal_lists   numbers, and lists of numbers, that a test tells apart
+use Rattle.std.proofs.Common.{◌≡◌, ◌≤◌, ◌∙◌, ℕ, refl, sym, true, true≢false, List, ◌∷◌, [], Some, None, set, replicate, lit≤, subst}
+use Rattle.odht_base.specs.Bytes.{overwritten_at}
+use Rattle.odht_base.specs.Format.{IsFormat}
+use Rattle.odht_base.specs.HashLaws.{un-lt}
+use Rattle.odht_base.specs.Image.{image}
+use Rattle.odht_base.specs.Load.{factor_of}
+use Rattle.odht_base.specs.Numbers.{num, le_bytes}
+use Rattle.odht_base.specs.Table.{Table, empty}
+use Rattle.odht_base.specs.Valid.{IsImage}
+use Rattle.odht_base.proofs.examples.Configs.{direct_config, pair32}
+use Rattle.odht_base.proofs.lemmas.Image.{image-injective}
+use Rattle.odht_base.proofs.lemmas.Placed.{IsPlaced-tests}
+use Rattle.odht_base.proofs.lemmas.Rooms.{empty-IsValid}
+use Rattle.odht_raw.specs.Coding.{Coding}
+use Rattle.odht_raw.specs.Frame.{IsAccepted}
+use Rattle.odht_raw.specs.Refusals.{differs, lists_differ}
+use Rattle.odht_raw.proofs.examples.Opened.{opened}
+use Rattle.odht_raw.proofs.lemmas.FirstErrors.{false-differs, false-lists_differ}
+
+abbrev pub direct_coding : Coding ℕ ℕ
+direct_coding = record {
+  format = direct_config;
+  key_bytes = le_bytes 4;
+  value_bytes = le_bytes 4;
+  key_of = num;
+  value_of = num;
+}
+
+abbrev pub no_items : Table
+no_items = empty 16 (factor_of 7)
+
+abbrev pub one_item : Table
+one_item = record { factor = factor_of 7; cells = set (replicate 16 None) 5 (Some (pair32 5 7)) }
+
+abbrev pub no_bytes : List ℕ
+no_bytes = image direct_config no_items
+
+abbrev pub one_bytes : List ℕ
+one_bytes = image direct_config one_item
+
+abbrev pub miscounted : List ℕ
+miscounted = overwritten_at no_bytes 8 (5 ∷ [])
+
+-- the table without items is valid
+pub no_image : IsImage direct_config no_items no_bytes
+unfolding opened
+no_image = record {
+  valid = empty-IsValid 16 (factor_of 7) direct_config (record { power = refl; least = lit≤ tt }) (lit≤ tt) (lit≤ tt);
+  bytes = refl;
+}
+
+-- and so is that with one
+pub one_image : IsImage direct_config one_item one_bytes
+unfolding opened
+one_image = record {
+  valid = record {
+    placed = IsPlaced-tests direct_config one_item (record { power = refl; least = lit≤ tt }) refl refl;
+    factor_low = lit≤ tt;
+    factor_high = lit≤ tt;
+    room = lit≤ tt;
+  };
+  bytes = refl;
+}
+
+-- the header and the length of all three fit
+pub accepted_bytes : IsAccepted direct_config no_bytes × IsAccepted direct_config one_bytes × IsAccepted direct_config miscounted
+unfolding opened
+accepted_bytes = (refl, refl, refl)
+
+-- the hash of four bytes fits 32 bits
+direct_format : IsFormat direct_config
+direct_format = record {
+  key_short = lit≤ tt;
+  value_short = lit≤ tt;
+  hash_small = λ b is. un-lt b (subst (λ n. 4 ≤ n) (sym is.len) (lit≤ tt)) is.each;
+}
+
+-- so bytes are those of one valid table
+pub same_table : (P Q : Table) (B : List ℕ) → IsImage direct_config P B → IsImage direct_config Q B → P ≡ Q
+same_table P Q B p q = image-injective direct_config P Q direct_format p.valid q.valid (sym p.bytes ∙ q.bytes)
+
+-- numbers are told apart by a test
+pub unequal : (m n : ℕ) → differs m n ≡ true → m ≡ n → ⊥
+unequal m n h e = true≢false (sym h ∙ false-differs m n e)
+
+-- and so are lists of them
+pub unequal_lists : (xs ys : List ℕ) → lists_differ xs ys ≡ true → xs ≡ ys → ⊥
+unequal_lists xs ys h e = true≢false (sym h ∙ false-lists_differ xs ys e)
