@@ -3,3 +3,9 @@
 pub mod Statuses
 -- the coding, the tables and the bytes of the examples
 pub mod Tables
+-- what lookups answer
+pub mod Gets
+-- what lookups of many keys answer
+pub mod GetAlls
+-- the item count, and walks
+pub mod Walks

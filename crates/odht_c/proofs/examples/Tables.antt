@@ -6,20 +6,25 @@
 --     no_image, one_image      the two tables are valid
 --     same_table               bytes are those of one valid table
 --     unequal, unequal_lists   numbers, and lists of numbers, that a test tells apart
-use Rattle.std.proofs.Common.{◌≡◌, ◌≤◌, ◌∙◌, ℕ, refl, sym, true, true≢false, List, ◌∷◌, [], Some, None, set, replicate, lit≤, subst}
+--     not_stored               no slot of the bytes `miscounted` has the key 6
+use Rattle.std.proofs.Common.{◌≡◌, ◌≤◌, ◌<◌, ◌∙◌, ℕ, refl, sym, Bool, true, true≢false, List, ◌∷◌, [], Some, None, set, replicate, lit≤, subst, arith, zero-add}
+use Rattle.std.specs.List.{range_with_len, list_all}
+use Rattle.std.proofs.lemmas.List.FromFn.{get_or-range_with_len, length-range_with_len}
+use Rattle.std.proofs.lemmas.List.Sums.{AllPass-from_list_all}
 use Rattle.odht_base.specs.Bytes.{overwritten_at}
 use Rattle.odht_base.specs.Format.{IsFormat}
 use Rattle.odht_base.specs.HashLaws.{un-lt}
 use Rattle.odht_base.specs.Image.{image}
 use Rattle.odht_base.specs.Load.{factor_of}
 use Rattle.odht_base.specs.Numbers.{num, le_bytes}
+use Rattle.odht_base.specs.Shown.{key_at}
 use Rattle.odht_base.specs.Table.{Table, empty}
 use Rattle.odht_base.specs.Valid.{IsImage}
 use Rattle.odht_base.proofs.examples.Configs.{direct_config, pair32}
 use Rattle.odht_base.proofs.lemmas.Image.{image-injective}
 use Rattle.odht_base.proofs.lemmas.Placed.{IsPlaced-tests}
 use Rattle.odht_base.proofs.lemmas.Rooms.{empty-IsValid}
-use Rattle.odht_raw.specs.Coding.{Coding}
+use Rattle.odht_raw.specs.Coding.{Coding, HasStored}
 use Rattle.odht_raw.specs.Frame.{IsAccepted}
 use Rattle.odht_raw.specs.Refusals.{differs, lists_differ}
 use Rattle.odht_raw.proofs.examples.Opened.{opened}
@@ -94,3 +99,16 @@ unequal m n h e = true≢false (sym h ∙ false-differs m n e)
 -- and so are lists of them
 pub unequal_lists : (xs ys : List ℕ) → lists_differ xs ys ≡ true → xs ≡ ys → ⊥
 unequal_lists xs ys h e = true≢false (sym h ∙ false-lists_differ xs ys e)
+
+-- what a test tells of each of the first n numbers
+tested : (p : ℕ → Bool) (n i : ℕ) → list_all p (range_with_len 0 n) ≡ true → i < n → p i ≡ true
+tested p n i h low =
+    subst (λ j. p j ≡ true) (get_or-range_with_len 0 n i 0 low ∙ zero-add i)
+    (AllPass-from_list_all p (range_with_len 0 n) h i 0 (omega (arith, low, length-range_with_len 0 n)))
+
+-- so no slot has the key 6
+pub not_stored : (v : ℕ) → HasStored direct_coding miscounted 6 v → ⊥
+unfolding opened
+not_stored v (b, is, (i, low, key, value)) =
+    unequal_lists (key_at direct_config miscounted i) (le_bytes 4 6)
+    (tested (λ j. lists_differ (key_at direct_config miscounted j) (le_bytes 4 6)) 16 i refl low) key
