@@ -9,3 +9,7 @@ pub mod Gets
 pub mod GetAlls
 -- the item count, and walks
 pub mod Walks
+-- new tables in bytes
+pub mod Inits
+-- what an insert answers
+pub mod Inserts

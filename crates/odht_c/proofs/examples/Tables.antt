@@ -2,8 +2,9 @@
 --     direct_coding            numbers of four bytes to numbers of four bytes; the hash of a key is the key
 --     no_items, no_bytes       a table of sixteen slots at 7 percent, which may hold one item, and its bytes
 --     one_item, one_bytes      the same with the value 7 for the key 5, which stands in slot 5
+--     other_item, other_bytes  the same with the value 8
 --     miscounted               the bytes of no items, which state a count of five; they are accepted, and not valid
---     no_image, one_image      the two tables are valid
+--     no_image, one_image, other_image   the three tables are valid
 --     same_table               bytes are those of one valid table
 --     unequal, unequal_lists   numbers, and lists of numbers, that a test tells apart
 --     not_stored               no slot of the bytes `miscounted` has the key 6
@@ -45,11 +46,17 @@ no_items = empty 16 (factor_of 7)
 abbrev pub one_item : Table
 one_item = record { factor = factor_of 7; cells = set (replicate 16 None) 5 (Some (pair32 5 7)) }
 
+abbrev pub other_item : Table
+other_item = record { factor = factor_of 7; cells = set (replicate 16 None) 5 (Some (pair32 5 8)) }
+
 abbrev pub no_bytes : List ℕ
 no_bytes = image direct_config no_items
 
 abbrev pub one_bytes : List ℕ
 one_bytes = image direct_config one_item
+
+abbrev pub other_bytes : List ℕ
+other_bytes = image direct_config other_item
 
 abbrev pub miscounted : List ℕ
 miscounted = overwritten_at no_bytes 8 (5 ∷ [])
@@ -68,6 +75,19 @@ unfolding opened
 one_image = record {
   valid = record {
     placed = IsPlaced-tests direct_config one_item (record { power = refl; least = lit≤ tt }) refl refl;
+    factor_low = lit≤ tt;
+    factor_high = lit≤ tt;
+    room = lit≤ tt;
+  };
+  bytes = refl;
+}
+
+-- and with the other value
+pub other_image : IsImage direct_config other_item other_bytes
+unfolding opened
+other_image = record {
+  valid = record {
+    placed = IsPlaced-tests direct_config other_item (record { power = refl; least = lit≤ tt }) refl refl;
     factor_low = lit≤ tt;
     factor_high = lit≤ tt;
     room = lit≤ tt;
