@@ -13,3 +13,9 @@ pub mod Walks
 pub mod Inits
 -- what an insert answers
 pub mod Inserts
+-- inserts in turn, and what a call for many answers
+pub mod InsertAlls
+-- tables that are copied into bytes of the caller
+pub mod HandedOut
+-- what the calls answer that build a table
+pub mod Builds

@@ -1,24 +1,21 @@
 -- Worked examples: what the calls answer that ask for the length of a new table, and that make one.
-use Rattle.std.proofs.Common.{◌≡◌, ◌≤◌, ◌^◌, ◌-◌, ◌∙◌, ℕ, refl, sym, ap, arith, lit≤, lit<, List, [], ◌∷◌, None, Some, replicate, subst}
+use Rattle.std.proofs.Common.{◌≤◌, ◌^◌, ◌-◌, ◌∙◌, ℕ, refl, sym, ap, arith, lit≤, lit<, List, [], ◌∷◌, replicate}
 use Rattle.std.proofs.lemmas.Option.{none-some}
 use Rattle.odht_base.specs.Image.{image, image_len}
-use Rattle.odht_base.specs.Load.{factor_of, slots_for}
-use Rattle.odht_base.specs.Table.{Table, fresh}
-use Rattle.odht_base.specs.Valid.{IsImage}
+use Rattle.odht_base.specs.Load.{factor_of}
 use Rattle.odht_base.proofs.examples.Configs.{direct_config}
 use Rattle.odht_base.proofs.lemmas.Options.{some_same}
 use Rattle.odht_raw.specs.Refusals.{IsTooLarge, new_refusal}
-use Rattle.odht_raw.specs.declared.error.Error.{Error}
 use Rattle.odht_raw.specs.declared.error.Error.TheVariants.{InitLength, Capacity}
 use Rattle.odht_raw.proofs.examples.Opened.{opened}
-use Rattle.odht_c.specs.Statuses.{status_of, IsPercent}
+use Rattle.odht_c.specs.Statuses.{IsPercent}
 use Rattle.odht_c.specs.Writes.{BytesNeededAnswers, InitAnswers}
 use Rattle.odht_c.proofs.lemmas.Refused.{told, not_none}
 use Rattle.odht_c.proofs.examples.Statuses.{zero_percent_refused}
 use Rattle.odht_c.proofs.examples.Tables.{direct_coding, no_items, no_bytes, one_bytes, no_image, unequal, unequal_lists}
 
 -- 7 percent is a load factor
-seven : IsPercent 7
+pub seven : IsPercent 7
 seven = (lit≤ tt, lit≤ tt)
 
 -- and one hundred too
@@ -26,7 +23,7 @@ hundred : IsPercent 100
 hundred = (lit≤ tt, lit≤ tt)
 
 -- one item at 7 percent is not too many
-one_fits : IsTooLarge direct_config 1 (factor_of 7) → ⊥
+pub one_fits : IsTooLarge direct_config 1 (factor_of 7) → ⊥
 unfolding opened
 one_fits h = let least : 2 ^ 64 ≤ 192 = h 16 refl in omega (arith, least)
 

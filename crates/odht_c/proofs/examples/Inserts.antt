@@ -1,5 +1,5 @@
 -- Worked examples: what an insert answers.
-use Rattle.std.proofs.Common.{◌≡◌, ◌∙◌, ℕ, refl, sym, ap, inl, List, [], ◌∷◌, Option, None, Some, Result, Ok, Err, lit<, subst}
+use Rattle.std.proofs.Common.{◌≡◌, ◌∙◌, ℕ, refl, ap, inl, List, [], ◌∷◌, Option, None, Some, Result, Ok, Err, lit<, subst}
 use Rattle.odht_base.proofs.examples.Configs.{direct_config}
 use Rattle.odht_base.specs.Numbers.{le_bytes}
 use Rattle.odht_base.specs.Table.{Pair}
@@ -11,7 +11,7 @@ use Rattle.odht_c.specs.Statuses.{status_of}
 use Rattle.odht_c.specs.Writes.{IsFormer, IsAnswered, IsPut, InsertAnswers}
 use Rattle.odht_c.proofs.lemmas.Opened.{never_refused}
 use Rattle.odht_c.proofs.lemmas.Refused.{refused_insert}
-use Rattle.odht_c.proofs.examples.Tables.{direct_coding, no_items, one_item, other_item, no_bytes, one_bytes, other_bytes, miscounted, no_image, one_image, other_image, accepted_bytes, same_table, unequal, unequal_lists}
+use Rattle.odht_c.proofs.examples.Tables.{direct_coding, no_items, one_item, no_bytes, one_bytes, other_bytes, miscounted, no_image, one_image, other_image, accepted_bytes, same_table, unequal, unequal_lists}
 
 -- ---- IsFormer
 -- a new key leaves the value 9, and one that was there writes the value 7 that it had

@@ -1,0 +1,57 @@
+-- Worked examples: how a table is copied into bytes of the caller, here into up to three bytes. In place of a table
+-- stand the bytes 1 and 2.
+use Rattle.std.proofs.Common.{◌≡◌, ◌≤◌, ◌<◌, ◌∙◌, ℕ, refl, sym, ap, arith, lit<, lit≤, List, [], ◌∷◌, length}
+use Rattle.odht_c.specs.Builds.{IsHandedOut}
+use Rattle.odht_c.proofs.lemmas.HandedOut.{IsHandedOut-none}
+use Rattle.odht_c.proofs.examples.Tables.{unequal, unequal_lists}
+
+abbrev AreOneTwo : List ℕ → Type 0
+AreOneTwo B = B ≡ 1 ∷ 2 ∷ []
+
+-- three bytes take both, and the third stays
+pub copied : IsHandedOut AreOneTwo (9 ∷ 9 ∷ 9 ∷ []) 0 (1 ∷ 2 ∷ 9 ∷ []) 2
+copied = record {
+  built = λ is. refl;
+  fits = λ is. lit≤ tt;
+  rest = λ is. refl;
+  needed = λ is. absurd (unequal 0 36 refl is);
+  too_small = λ is. absurd (unequal 0 36 refl is);
+}
+
+-- one byte does not, and stays; two are told as needed
+pub too_long : IsHandedOut AreOneTwo (9 ∷ []) 36 (9 ∷ []) 2
+too_long = record {
+  built = λ is. absurd (unequal 36 0 refl is);
+  fits = λ is. absurd (unequal 36 0 refl is);
+  rest = λ is. absurd (unequal 36 0 refl is);
+  needed = λ is. (1 ∷ 2 ∷ [], refl, refl);
+  too_small = λ is. (lit< tt, refl);
+}
+
+-- other statuses say nothing here
+pub not_made : IsHandedOut AreOneTwo (9 ∷ []) 19 (9 ∷ []) 4
+not_made = IsHandedOut-none _ _ _ _ _ (unequal 19 0 refl) (unequal 19 36 refl)
+
+-- no other bytes are copied
+pub other_copied_refused : IsHandedOut AreOneTwo (9 ∷ 9 ∷ 9 ∷ []) 0 (1 ∷ 3 ∷ 9 ∷ []) 2 → ⊥
+other_copied_refused h = unequal_lists (1 ∷ 3 ∷ []) (1 ∷ 2 ∷ []) refl (h.built refl)
+
+-- and no more than there is room for
+pub overrun_refused : IsHandedOut AreOneTwo (9 ∷ []) 0 (1 ∷ 2 ∷ []) 2 → ⊥
+overrun_refused h = let fits : 2 ≤ 1 = h.fits refl in omega (arith, fits)
+
+-- the bytes behind stay
+pub behind_refused : IsHandedOut AreOneTwo (9 ∷ 9 ∷ 9 ∷ []) 0 (1 ∷ 2 ∷ 0 ∷ []) 2 → ⊥
+behind_refused h = unequal_lists (0 ∷ []) (9 ∷ []) refl (h.rest refl)
+
+-- no other length is told as needed
+pub other_needed_refused : IsHandedOut AreOneTwo (9 ∷ []) 36 (9 ∷ []) 3 → ⊥
+other_needed_refused h = let made = h.needed refl in unequal 2 3 refl (sym (ap length made.2) ∙ made.1)
+
+-- room enough is not told as too small
+pub roomy_as_small_refused : IsHandedOut AreOneTwo (9 ∷ 9 ∷ []) 36 (9 ∷ 9 ∷ []) 2 → ⊥
+roomy_as_small_refused h = let less : 2 < 2 = (h.too_small refl).0 in omega (arith, less)
+
+-- and where it is too small, all stays
+pub small_written_refused : IsHandedOut AreOneTwo (9 ∷ []) 36 (1 ∷ []) 2 → ⊥
+small_written_refused h = unequal_lists (1 ∷ []) (9 ∷ []) refl (h.too_small refl).1
