@@ -13,7 +13,9 @@ pub mod Walks
 pub mod Inits
 -- what an insert answers
 pub mod Inserts
--- inserts in turn, and what a call for many answers
+-- what inserts in turn may do to bytes
+pub mod Runs
+-- what a call for inserts in turn answers
 pub mod InsertAlls
 -- tables that are copied into bytes of the caller
 pub mod HandedOut

@@ -1,10 +1,10 @@
--- Worked examples: inserts in turn, and what a call that inserts many pairs answers, here one pair.
+-- Worked examples: what a call answers that inserts pairs in turn.
 use Rattle.std.proofs.Common.{◌≡◌, ◌∙◌, ℕ, refl, sym, ap, inl, arith, List, [], ◌∷◌, Option, None, Some, Ok, Err, length, length-append, lit<, subst}
 use Rattle.odht_base.specs.Bytes.{overwritten_at}
 use Rattle.odht_base.specs.Image.{image}
 use Rattle.odht_base.specs.Insert.{put_view, IsFullFor}
 use Rattle.odht_base.specs.Numbers.{le_bytes}
-use Rattle.odht_base.specs.Table.{Pair}
+use Rattle.odht_base.specs.Table.{Table}
 use Rattle.odht_base.specs.Writes.{with_pair, with_count}
 use Rattle.odht_base.proofs.examples.Configs.{direct_config, pair32}
 use Rattle.odht_base.proofs.lemmas.FreshRuns.{put_view-PlacesBelow}
@@ -19,50 +19,8 @@ use Rattle.odht.proofs.lemmas.Fillings.{filled_none, filled_more}
 use Rattle.odht_c.specs.Writes.{IsFramedRun, InsertAllAnswers}
 use Rattle.odht_c.proofs.lemmas.Inserted.{accepted_insert_all, full_insert_all}
 use Rattle.odht_c.proofs.lemmas.Refused.{refused_insert_all}
+use Rattle.odht_c.proofs.examples.Runs.{one_run, unchanged, misplaced}
 use Rattle.odht_c.proofs.examples.Tables.{direct_coding, no_items, one_item, no_bytes, one_bytes, other_bytes, miscounted, no_image, one_image, accepted_bytes, same_table, unequal, unequal_lists}
-
--- ---- IsFramedRun
--- no inserts
-pub no_run : IsFramedRun direct_coding no_bytes [] no_bytes
-no_run = IsFramedRun.start
-
--- one insert, of a new key
-pub one_run : IsFramedRun direct_coding no_bytes ((5, 7) ∷ []) one_bytes
-unfolding opened
-one_run = IsFramedRun.accepted [] 5 7 None no_bytes one_bytes IsFramedRun.start (Ok None, refl, InsertFrame.added 5 (lit< tt) (inl refl))
-
--- and then one of the same key
-pub two_run : IsFramedRun direct_coding no_bytes ((5, 7) ∷ (5, 8) ∷ []) other_bytes
-unfolding opened
-two_run =
-    IsFramedRun.accepted ((5, 7) ∷ []) 5 8 (Some 7) one_bytes other_bytes one_run
-    (Ok (Some (le_bytes 4 7)), refl, InsertFrame.overwrote 5 (lit< tt) refl)
-
--- no inserts leave the bytes
-unchanged : (B : List ℕ) {items : List (ℕ × ℕ)} {D : List ℕ} → IsFramedRun direct_coding B items D → length items ≡ 0 → D ≡ B
-unchanged B IsFramedRun.start e = refl
-unchanged B (IsFramedRun.accepted items k v o C D run frame) e = absurd (omega (arith, e, length-append items ((k, v) ∷ [])))
-
--- so they write nothing
-pub empty_run_refused : IsFramedRun direct_coding no_bytes [] one_bytes → ⊥
-unfolding opened
-empty_run_refused h = unequal_lists one_bytes no_bytes refl (unchanged no_bytes h refl)
-
--- no insert into no bytes is accepted
-unaccepted : (B : List ℕ) (p : Pair) (D : List ℕ) (o : Option (List ℕ)) → length B ≡ 0 → InsertFrame direct_config B p (Ok o) D → ⊥
-unaccepted [] p D o e (InsertFrame.overwrote i low same) = omega (arith, low)
-unaccepted [] p D o e (InsertFrame.added i low free) = omega (arith, low)
-unaccepted (b ∷ bs) p D o e frame = omega (arith, e)
-
-started : {items : List (ℕ × ℕ)} {D : List ℕ} → IsFramedRun direct_coding [] items D → length items ≡ 1 → ⊥
-started IsFramedRun.start e = omega (arith, e)
-started (IsFramedRun.accepted items k v o C D run (Err x, same, frame)) e = absurd cc
-started (IsFramedRun.accepted items k v o C D run (Ok x, same, frame)) e =
-    let none : length items ≡ 0 = omega (arith, e, length-append items ((k, v) ∷ [])) in
-    unaccepted C (encoded direct_coding k v) D x (ap length (unchanged [] run none)) frame
-
-pub run_refused : IsFramedRun direct_coding [] ((5, 7) ∷ []) [] → ⊥
-run_refused h = started h refl
 
 -- ---- InsertAllAnswers
 -- no bytes are refused, and the places stay
@@ -92,19 +50,38 @@ one_filled =
     filled_more direct_config (put_view direct_config) (put_view-IsInsert direct_config) (put_view-PlacesBelow direct_config)
     no_items [] (pair32 5 7) no_bytes one_bytes none one_item refl one_image
 
+-- of each table that is the one without items
+filled_from : (P : Table) → no_items ≡ P → IsFilled direct_config (put_view direct_config) P (pair32 5 7 ∷ []) one_bytes
+filled_from P same = subst (λ T. IsFilled direct_config (put_view direct_config) T (pair32 5 7 ∷ []) one_bytes) same one_filled
+
+-- and full is each that is the one with one item
+full_for : (P : Table) → one_item ≡ P → IsFullFor P (le_bytes 4 6)
+full_for P same = subst (λ T. IsFullFor T (le_bytes 4 6)) same (refl, refl)
+
+-- one pair is accepted
 pub one_insert_all : InsertAllAnswers direct_coding no_bytes (5 ∷ []) (7 ∷ []) 9 0 one_bytes 1
 unfolding opened
-one_insert_all = accepted_insert_all direct_coding no_bytes one_bytes (5 ∷ []) (7 ∷ []) 9 1 refl refl one_run
-    (λ P is. subst (λ T. IsFilled direct_config (put_view direct_config) T (pair32 5 7 ∷ []) one_bytes) (same_table no_items P no_bytes no_image is) one_filled)
-    refl
+one_insert_all =
+    accepted_insert_all direct_coding no_bytes one_bytes (5 ∷ []) (7 ∷ []) 9 1 refl refl one_run
+    (λ P is. filled_from P (same_table no_items P no_bytes no_image is)) refl
 
 -- another key into a full table
 pub full_insert_all_answers : InsertAllAnswers direct_coding one_bytes (6 ∷ []) (8 ∷ []) 9 18 one_bytes 0
 unfolding opened
-full_insert_all_answers = full_insert_all direct_coding one_bytes one_bytes (6 ∷ []) (8 ∷ []) 9 0 refl refl IsFramedRun.start
+full_insert_all_answers =
+    full_insert_all direct_coding one_bytes one_bytes (6 ∷ []) (8 ∷ []) 9 0 refl refl IsFramedRun.start
     (λ P is. filled_none direct_config (put_view direct_config) P one_bytes is)
     one_bytes 18 refl (lit< tt) refl
-    (λ P is. record { item = (6, 8); at = refl; full = subst (λ T. IsFullFor T (le_bytes 4 6)) (same_table one_item P one_bytes one_image is) (refl, refl) })
+    (λ P is. record { item = (6, 8); at = refl; full = full_for P (same_table one_item P one_bytes one_image is) })
+
+-- two pairs, of which the second is refused
+pub half_insert_all : InsertAllAnswers direct_coding no_bytes (5 ∷ 6 ∷ []) (7 ∷ 8 ∷ []) 9 18 one_bytes 1
+unfolding opened
+half_insert_all =
+    full_insert_all direct_coding no_bytes one_bytes (5 ∷ 6 ∷ []) (7 ∷ 8 ∷ []) 9 1 refl refl one_run
+    (λ P is. filled_from P (same_table no_items P no_bytes no_image is))
+    one_bytes 18 refl (lit< tt) refl
+    (λ P is. record { item = (6, 8); at = refl; full = full_for P (same_table one_item P one_bytes one_image is) })
 
 -- arrays of two lengths are not answered with ODHT_OK
 pub all_lengths_status_refused : InsertAllAnswers direct_coding no_bytes (5 ∷ []) [] 9 0 no_bytes 9 → ⊥
@@ -147,25 +124,27 @@ pub some_full_refused : InsertAllAnswers direct_coding one_bytes (6 ∷ []) (8 �
 some_full_refused h = unequal 0 18 refl (h.some refl accepted_bytes.1 (lit< tt))
 
 -- a pair stands where the table's rules place it, and in no other slot
-abbrev misplaced : List ℕ
-misplaced = with_count (with_pair direct_config 16 no_bytes 6 (pair32 5 7)) 1
-
--- which inserts in turn into bytes that are not valid may do
-pub misplaced_run : IsFramedRun direct_coding no_bytes ((5, 7) ∷ []) misplaced
-unfolding opened
-misplaced_run = IsFramedRun.accepted [] 5 7 None no_bytes misplaced IsFramedRun.start (Ok None, refl, InsertFrame.added 6 (lit< tt) (inl refl))
-
 pub misplaced_refused : InsertAllAnswers direct_coding no_bytes (5 ∷ []) (7 ∷ []) 9 0 misplaced 1 → ⊥
 unfolding opened
 misplaced_refused h =
     let filled = h.filled no_items refl no_image in
-    unequal_lists misplaced one_bytes refl (filled.image.bytes ∙ ap (image direct_config) (sym (some_same one_item filled.table filled.runs)))
+    unequal_lists misplaced one_bytes refl
+    (filled.image.bytes ∙ ap (image direct_config) (sym (some_same one_item filled.table filled.runs)))
+
+-- a count of six
+abbrev otherwise_miscounted : List ℕ
+otherwise_miscounted = overwritten_at no_bytes 8 (6 ∷ [])
 
 -- bytes that are accepted and not valid stay where no pair is accepted
-pub unframed_refused : InsertAllAnswers direct_coding miscounted (5 ∷ []) (7 ∷ []) 9 18 (overwritten_at no_bytes 8 (6 ∷ [])) 0 → ⊥
+pub unframed_refused : InsertAllAnswers direct_coding miscounted (5 ∷ []) (7 ∷ []) 9 18 otherwise_miscounted 0 → ⊥
 unfolding opened
 unframed_refused h =
-    unequal_lists (overwritten_at no_bytes 8 (6 ∷ [])) miscounted refl (unchanged miscounted (h.framed refl accepted_bytes.2) refl)
+    unequal_lists otherwise_miscounted miscounted refl (unchanged miscounted (h.framed refl accepted_bytes.2) refl)
+
+-- and of two pairs the first is not left out of the number
+pub untold_refused : InsertAllAnswers direct_coding no_bytes (5 ∷ 6 ∷ []) (7 ∷ 8 ∷ []) 9 18 one_bytes 0 → ⊥
+unfolding opened
+untold_refused h = unequal_lists one_bytes no_bytes refl (unchanged no_bytes (h.framed refl accepted_bytes.0) refl)
 
 -- a valid table that has room refuses no pair
 pub roomy_refused : InsertAllAnswers direct_coding no_bytes (5 ∷ []) (7 ∷ []) 9 18 no_bytes 0 → ⊥

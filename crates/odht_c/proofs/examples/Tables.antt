@@ -7,6 +7,7 @@
 --     no_image, one_image, other_image   the three tables are valid
 --     same_table               bytes are those of one valid table
 --     unequal, unequal_lists   numbers, and lists of numbers, that a test tells apart
+--     tested                   what a test tells of each of the first numbers
 --     not_stored               no slot of the bytes `miscounted` has the key 6
 use Rattle.std.proofs.Common.{◌≡◌, ◌≤◌, ◌<◌, ◌∙◌, ℕ, refl, sym, Bool, true, true≢false, List, ◌∷◌, [], Some, None, set, replicate, lit≤, subst, arith, zero-add}
 use Rattle.std.specs.List.{range_with_len, list_all}
@@ -121,7 +122,7 @@ pub unequal_lists : (xs ys : List ℕ) → lists_differ xs ys ≡ true → xs �
 unequal_lists xs ys h e = true≢false (sym h ∙ false-lists_differ xs ys e)
 
 -- what a test tells of each of the first n numbers
-tested : (p : ℕ → Bool) (n i : ℕ) → list_all p (range_with_len 0 n) ≡ true → i < n → p i ≡ true
+pub tested : (p : ℕ → Bool) (n i : ℕ) → list_all p (range_with_len 0 n) ≡ true → i < n → p i ≡ true
 tested p n i h low =
     subst (λ j. p j ≡ true) (get_or-range_with_len 0 n i 0 low ∙ zero-add i)
     (AllPass-from_list_all p (range_with_len 0 n) h i 0 (omega (arith, low, length-range_with_len 0 n)))
