@@ -1,26 +1,24 @@
 -- Worked examples: what a call answers that inserts pairs in turn.
-use Rattle.std.proofs.Common.{◌≡◌, ◌∙◌, ℕ, refl, sym, ap, inl, arith, List, [], ◌∷◌, Option, None, Some, Ok, Err, length, length-append, lit<, subst}
+use Rattle.std.proofs.Common.{◌≡◌, ◌∙◌, ℕ, refl, sym, ap, arith, List, [], ◌∷◌, lit<, subst}
 use Rattle.odht_base.specs.Bytes.{overwritten_at}
 use Rattle.odht_base.specs.Image.{image}
 use Rattle.odht_base.specs.Insert.{put_view, IsFullFor}
 use Rattle.odht_base.specs.Numbers.{le_bytes}
 use Rattle.odht_base.specs.Table.{Table}
-use Rattle.odht_base.specs.Writes.{with_pair, with_count}
 use Rattle.odht_base.proofs.examples.Configs.{direct_config, pair32}
 use Rattle.odht_base.proofs.lemmas.FreshRuns.{put_view-PlacesBelow}
 use Rattle.odht_base.proofs.lemmas.Options.{some_same}
 use Rattle.odht_base.proofs.lemmas.Puts.{put_view-IsInsert}
-use Rattle.odht_raw.specs.Coding.{encoded}
-use Rattle.odht_raw.specs.Frame.{InsertFrame}
 use Rattle.odht_raw.specs.declared.error.Error.TheVariants.{TooShort}
 use Rattle.odht_raw.proofs.examples.Opened.{opened}
 use Rattle.odht.specs.Lists.{IsFilled}
 use Rattle.odht.proofs.lemmas.Fillings.{filled_none, filled_more}
-use Rattle.odht_c.specs.Writes.{IsFramedRun, InsertAllAnswers}
+use Rattle.odht.specs.Lists.{IsFramedRun}
+use Rattle.odht_c.specs.Writes.{InsertAllAnswers}
 use Rattle.odht_c.proofs.lemmas.Inserted.{accepted_insert_all, full_insert_all}
 use Rattle.odht_c.proofs.lemmas.Refused.{refused_insert_all}
 use Rattle.odht_c.proofs.examples.Runs.{one_run, unchanged, misplaced}
-use Rattle.odht_c.proofs.examples.Tables.{direct_coding, no_items, one_item, no_bytes, one_bytes, other_bytes, miscounted, no_image, one_image, accepted_bytes, same_table, unequal, unequal_lists}
+use Rattle.odht_c.proofs.examples.Tables.{direct_coding, no_items, one_item, no_bytes, one_bytes, miscounted, no_image, one_image, accepted_bytes, same_table, unequal, unequal_lists}
 
 -- ---- InsertAllAnswers
 -- no bytes are refused, and the places stay

@@ -1,5 +1,5 @@
 -- Worked examples: what an insert answers.
-use Rattle.std.proofs.Common.{◌≡◌, ◌∙◌, ℕ, refl, ap, inl, List, [], ◌∷◌, Option, None, Some, Result, Ok, Err, lit<, subst}
+use Rattle.std.proofs.Common.{lit≤, ◌≡◌, ◌∙◌, ℕ, refl, ap, inl, List, [], ◌∷◌, Option, None, Some, Result, Ok, Err, lit<, subst}
 use Rattle.odht_base.proofs.examples.Configs.{direct_config}
 use Rattle.odht_base.specs.Numbers.{le_bytes}
 use Rattle.odht_base.specs.Table.{Pair}
@@ -109,7 +109,7 @@ unfolding opened
 new_insert = record {
   refused = λ e is. never_refused direct_config no_items no_bytes e no_image is;
   on_valid = λ P is. subst (λ T. IsPut direct_coding T 5 7 one_bytes 9 0 9) (same_table no_items P no_bytes no_image is) put_new;
-  on_any = λ is. (Ok None, (refl, refl), (Ok None, refl, InsertFrame.added 5 (lit< tt) (inl refl)));
+  on_any = λ is. (Ok None, (refl, refl), (Ok None, refl, InsertFrame.added 5 (lit< tt) (inl refl) (lit< tt)));
 }
 
 -- a key that was there
@@ -127,7 +127,7 @@ unfolding opened
 full_insert = record {
   refused = λ e is. never_refused direct_config one_item one_bytes e one_image is;
   on_valid = λ P is. subst (λ T. IsPut direct_coding T 6 8 one_bytes 9 18 9) (same_table one_item P one_bytes one_image is) put_full;
-  on_any = λ is. (Err Full, (refl, refl), (Err Full, refl, InsertFrame.full));
+  on_any = λ is. (Err Full, (refl, refl), (Err Full, refl, InsertFrame.full (lit≤ tt)));
 }
 
 -- a refusal is not answered with another status
@@ -152,7 +152,8 @@ insert_roomy_refused h = unequal 18 0 refl (h.on_valid no_items no_image).1.0
 
 -- what a refused insert was refused for, and what it left
 left : (B D : List ℕ) (p : Pair) (e : Error) → InsertFrame direct_config B p (Err e) D → (e ≡ Full) × (D ≡ B)
-left B D p e InsertFrame.full = (refl, refl)
+left B D p e (InsertFrame.full full) = (refl, refl)
+left B D p e (InsertFrame.no_slot none) = (refl, refl)
 
 framed_left : (B D : List ℕ) (k v : ℕ) (e : Error) → IsFramed direct_coding B k v (Err e) D → (e ≡ Full) × (D ≡ B)
 framed_left B D k v e (Ok o, same, frame) = absurd cc

@@ -1,25 +1,14 @@
 -- Worked examples: what inserts in turn may do to bytes, as far as the header and the length of these fit.
-use Rattle.std.proofs.Common.{◌≡◌, ◌∙◌, ℕ, refl, sym, ap, inl, arith, List, [], ◌∷◌, Option, None, Some, Ok, Err, length, length-append, lit<, subst, map, slice_index}
-use Rattle.odht_base.specs.Bytes.{overwritten_at}
-use Rattle.odht_base.specs.Image.{image}
-use Rattle.odht_base.specs.Insert.{put_view, IsFullFor}
+use Rattle.std.proofs.Common.{◌≡◌, ℕ, refl, sym, ap, inl, arith, List, [], ◌∷◌, Option, None, Some, Ok, Err, length, length-append, lit<, subst, map, slice_index}
 use Rattle.odht_base.specs.Numbers.{le_bytes}
 use Rattle.odht_base.specs.Table.{Pair}
 use Rattle.odht_base.specs.Writes.{with_pair, with_count}
 use Rattle.odht_base.proofs.examples.Configs.{direct_config, pair32}
-use Rattle.odht_base.proofs.lemmas.FreshRuns.{put_view-PlacesBelow}
-use Rattle.odht_base.proofs.lemmas.Options.{some_same}
-use Rattle.odht_base.proofs.lemmas.Puts.{put_view-IsInsert}
 use Rattle.odht_raw.specs.Coding.{encoded}
 use Rattle.odht_raw.specs.Frame.{InsertFrame}
-use Rattle.odht_raw.specs.declared.error.Error.TheVariants.{TooShort}
 use Rattle.odht_raw.proofs.examples.Opened.{opened}
-use Rattle.odht.specs.Lists.{IsFilled}
-use Rattle.odht.proofs.lemmas.Fillings.{filled_none, filled_more}
-use Rattle.odht_c.specs.Writes.{IsFramedRun, InsertAllAnswers}
-use Rattle.odht_c.proofs.lemmas.Inserted.{accepted_insert_all, full_insert_all}
-use Rattle.odht_c.proofs.lemmas.Refused.{refused_insert_all}
-use Rattle.odht_c.proofs.examples.Tables.{tested, direct_coding, no_items, one_item, no_bytes, one_bytes, other_bytes, miscounted, no_image, one_image, accepted_bytes, same_table, unequal, unequal_lists}
+use Rattle.odht.specs.Lists.{IsFramedRun}
+use Rattle.odht_c.proofs.examples.Tables.{tested, direct_coding, no_bytes, one_bytes, other_bytes, unequal_lists}
 use Rattle.odht_base.specs.Shown.{key_at}
 use Rattle.odht_raw.specs.Refusals.{lists_differ}
 
@@ -32,7 +21,7 @@ pub one_run : IsFramedRun direct_coding no_bytes ((5, 7) ∷ []) one_bytes
 unfolding opened
 one_run =
     IsFramedRun.accepted [] 5 7 None no_bytes one_bytes IsFramedRun.start
-    (Ok None, refl, InsertFrame.added 5 (lit< tt) (inl refl))
+    (Ok None, refl, InsertFrame.added 5 (lit< tt) (inl refl) (lit< tt))
 
 -- and then one of the same key
 pub two_run : IsFramedRun direct_coding no_bytes ((5, 7) ∷ (5, 8) ∷ []) other_bytes
@@ -57,7 +46,7 @@ empty_run_refused h = unequal_lists one_bytes no_bytes refl (unchanged no_bytes 
 unaccepted : (B : List ℕ) (p : Pair) (D : List ℕ) (o : Option (List ℕ)) → length B ≡ 0
     → InsertFrame direct_config B p (Ok o) D → ⊥
 unaccepted [] p D o e (InsertFrame.overwrote i low same) = omega (arith, low)
-unaccepted [] p D o e (InsertFrame.added i low free) = omega (arith, low)
+unaccepted [] p D o e (InsertFrame.added i low free room) = omega (arith, low)
 unaccepted (b ∷ bs) p D o e frame = omega (arith, e)
 
 -- so no run of one insert starts with them
@@ -81,7 +70,7 @@ pub misplaced_run : IsFramedRun direct_coding no_bytes ((5, 7) ∷ []) misplaced
 unfolding opened
 misplaced_run =
     IsFramedRun.accepted [] 5 7 None no_bytes misplaced IsFramedRun.start
-    (Ok None, refl, InsertFrame.added 6 (lit< tt) (inl refl))
+    (Ok None, refl, InsertFrame.added 6 (lit< tt) (inl refl) (lit< tt))
 
 -- no slot takes another value than that of the pair
 other_value : (D : List ℕ) (o : Option (List ℕ)) → InsertFrame direct_config no_bytes (pair32 5 7) (Ok o) D → D ≡ other_bytes → ⊥
@@ -89,7 +78,7 @@ unfolding opened
 other_value D o (InsertFrame.overwrote i low same) e =
     unequal_lists (key_at direct_config no_bytes i) (le_bytes 4 5)
     (tested (λ j. lists_differ (key_at direct_config no_bytes j) (le_bytes 4 5)) 16 i refl low) same
-other_value D o (InsertFrame.added i low free) e =
+other_value D o (InsertFrame.added i low free room) e =
     unequal_lists (with_count (with_pair direct_config 16 no_bytes i (pair32 5 7)) 1) other_bytes
     (tested (λ j. lists_differ (with_count (with_pair direct_config 16 no_bytes j (pair32 5 7)) 1) other_bytes) 16 i refl low) e
 
