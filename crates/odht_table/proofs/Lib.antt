@@ -6,3 +6,5 @@ pub mod NewTexts
 pub mod Puts
 -- the dump has a text
 pub mod DumpTexts
+-- worked examples of the definitions
+pub mod examples
