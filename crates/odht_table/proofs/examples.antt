@@ -1,3 +1,9 @@
 -- Worked examples of the definitions, each a closed theorem.
+-- what tells two things apart
+pub mod Apart
 -- the texts of answers and of messages
 pub mod Texts
+-- words that are numbers, and pairs of them
+pub mod NumberTexts
+-- lines that are commands
+pub mod CommandLines
