@@ -7,3 +7,7 @@ pub mod Texts
 pub mod NumberTexts
 -- lines that are commands
 pub mod CommandLines
+-- the tables of the examples below
+pub mod SmallTables
+-- what a `put` is answered with and leaves
+pub mod PutAnswers
