@@ -11,3 +11,5 @@ pub mod CommandLines
 pub mod SmallTables
 -- what a `put` is answered with and leaves
 pub mod PutAnswers
+-- what the other requests are answered with
+pub mod Requests
