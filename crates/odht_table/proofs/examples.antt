@@ -13,3 +13,7 @@ pub mod SmallTables
 pub mod PutAnswers
 -- what the other requests are answered with
 pub mod Requests
+-- what a `new` is answered with
+pub mod NewAnswers
+-- and what not
+pub mod NewRefused

@@ -1,0 +1,63 @@
+-- Worked examples: what a `new` is answered with, and which table is there afterwards.
+use Rattle.std.proofs.Common.{◌≤◌, ◌+◌, ◌*◌, ◌^◌, ℕ, refl, subst, arith, List, Some, lit≤}
+use Rattle.std.specs.Prelude.{codes}
+use Rattle.std.specs.Fmt.{digits}
+use Rattle.std.proofs.lemmas.Option.{none-some}
+use Rattle.odht_base.specs.Image.{image}
+use Rattle.odht_base.specs.Load.{factor_of}
+use Rattle.odht_base.specs.Table.{empty}
+use Rattle.odht_base.specs.Valid.{IsImage}
+use Rattle.odht_base.proofs.lemmas.Options.{some_same}
+use Rattle.odht_base.proofs.lemmas.Rooms.{fresh-IsValid}
+use Rattle.odht_base.proofs.examples.Configs.{my_config}
+use Rattle.odht_base.proofs.examples.Opened.{opened}
+use Rattle.odht_raw.specs.Refusals.{IsTooLarge}
+use Rattle.odht_table.specs.Answers.{IsGoodPercent, IsRenewed}
+use Rattle.odht_table.proofs.examples.SmallTables.{no_pairs}
+
+-- ---- percentages
+pub good_percents : IsGoodPercent 1 × IsGoodPercent 100
+good_percents = ((lit≤ tt, lit≤ tt), (lit≤ tt, lit≤ tt))
+
+pub bad_percents : (IsGoodPercent 0 → ⊥) × (IsGoodPercent 101 → ⊥)
+bad_percents = (λ h. omega (arith, h.0), λ h. omega (arith, h.1))
+
+pub good : IsGoodPercent 87
+good = (lit≤ tt, lit≤ tt)
+
+-- ---- capacities
+-- no slot count is enough, or the bytes of the least one are too many
+pub too_large : IsTooLarge my_config (2 ^ 63) (factor_of 100) × IsTooLarge my_config (2 ^ 62) (factor_of 100)
+unfolding opened
+too_large = (λ s e. absurd (none-some s e), λ s e. subst (λ n. 2 ^ 64 ≤ 32 + n * 12 + n + 16) (some_same _ s e) (lit≤ tt))
+
+-- sixteen slots are not too many
+pub not_too_large : IsTooLarge my_config 0 (factor_of 87) → ⊥
+unfolding opened
+not_too_large h = omega (arith, h 16 refl)
+
+-- ---- answers
+-- the bytes of the fresh table, and some that were there
+abbrev pub new_bytes : List ℕ
+new_bytes = image my_config no_pairs
+
+abbrev pub old_bytes : List ℕ
+old_bytes = image my_config (empty 32 (factor_of 87))
+
+fresh_image : IsImage my_config no_pairs new_bytes
+unfolding opened
+fresh_image = record { valid = fresh-IsValid 0 87 no_pairs refl my_config good.0 good.1; bytes = refl }
+
+-- each answer
+pub a_bad_percent : IsRenewed my_config 0 101 (codes "bad percent") (Some old_bytes) (Some old_bytes)
+a_bad_percent = IsRenewed.bad_percent (Some old_bytes) bad_percents.1
+
+pub a_capacity : IsRenewed my_config (2 ^ 63) 100 (codes "capacity") (Some old_bytes) (Some old_bytes)
+a_capacity = IsRenewed.capacity (Some old_bytes) good_percents.1 too_large.0
+
+pub a_memory : IsRenewed my_config 0 87 (codes "memory") (Some old_bytes) (Some old_bytes)
+a_memory = IsRenewed.memory (Some old_bytes) good not_too_large
+
+pub a_new_table : IsRenewed my_config 0 87 (codes "slots 16 max 13") (Some old_bytes) (Some new_bytes)
+unfolding opened digits
+a_new_table = IsRenewed.made (Some old_bytes) 16 no_pairs new_bytes good refl refl fresh_image
