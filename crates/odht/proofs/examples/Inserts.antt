@@ -1,0 +1,82 @@
+-- Worked examples: what a new table is, and what an insert leaves.
+use Rattle.std.proofs.Common.{◌≡◌, ◌∙◌, ℕ, Bool, true, false, refl, sym, ap, arith, List, [], ◌∷◌, Option, Some, None, option_map, if◌then◌else◌, bytes_eq}
+use Rattle.std.proofs.lemmas.Option.{none-some}
+use Rattle.odht_base.specs.Insert.{put_owned}
+use Rattle.odht_base.specs.Load.{factor_of}
+use Rattle.odht_base.specs.Map.{map_of}
+use Rattle.odht_base.specs.Numbers.{le_bytes}
+use Rattle.odht_base.specs.Table.{Pair, Table, empty, fresh}
+use Rattle.odht_base.proofs.lemmas.Options.{some_same}
+use Rattle.odht_base.proofs.examples.Configs.{my_config, pair64}
+use Rattle.odht_raw.proofs.examples.Opened.{opened}
+use Rattle.odht.specs.Inserts.{IsFresh, IsInserted}
+use Rattle.odht.proofs.examples.Apart.{texts_apart, some_texts_apart}
+use Rattle.odht.proofs.examples.SmallTables.{number_coding, no_pairs, one_pair, other_pair, one_of_32, bytes_of, no_pairs_image, one_pair_image}
+
+-- ---- new tables
+pub a_fresh_table : IsFresh my_config 0 87 (bytes_of no_pairs)
+unfolding opened
+a_fresh_table = record { table = no_pairs; new = refl; image = no_pairs_image }
+
+-- the bytes of a larger table, and those of none
+pub larger : IsFresh my_config 0 87 (bytes_of (empty 32 (factor_of 87))) → ⊥
+unfolding opened
+larger h = texts_apart _ _ refl (h.image.bytes ∙ ap bytes_of (sym (some_same no_pairs h.table h.new)))
+
+pub no_bytes : IsFresh my_config 0 87 [] → ⊥
+unfolding opened
+no_bytes h = texts_apart _ _ refl (h.image.bytes ∙ ap bytes_of (sym (some_same no_pairs h.table h.new)))
+
+-- the table at no percent, which is not valid
+pub no_percent : IsFresh my_config 0 0 (bytes_of (empty 16 0)) → ⊥
+unfolding opened
+no_percent h = omega (arith, h.image.valid.factor_low, ap (λ (T : Table). T.factor) (some_same (empty 16 0) h.table h.new))
+
+-- ---- inserts
+-- a new key, and one that is there
+pub a_new_key : IsInserted number_coding (put_owned my_config) no_pairs 1 2 None (bytes_of (one_pair 2))
+unfolding opened
+a_new_key = record { former = refl; table = one_pair 2; inserted = refl; image = one_pair_image.0; maps = λ q. go (bytes_eq q (le_bytes 8 1)) }
+  where
+    go : (b : Bool) → option_map (λ (p : Pair). p.value) (if b then Some (pair64 1 2) else None) ≡ (if b then Some (le_bytes 4 2) else None)
+    go true = refl
+    go false = refl
+
+pub an_old_key : IsInserted number_coding (put_owned my_config) (one_pair 2) 1 3 (Some 2) (bytes_of (one_pair 3))
+unfolding opened
+an_old_key = record { former = refl; table = one_pair 3; inserted = refl; image = one_pair_image.1; maps = λ q. go (bytes_eq q (le_bytes 8 1)) }
+  where
+    value : Bool → ℕ → Option (List ℕ)
+    value b v = option_map (λ (p : Pair). p.value) (if b then Some (pair64 1 v) else None)
+
+    go : (b : Bool) → value b 3 ≡ (if b then Some (le_bytes 4 3) else value b 2)
+    go true = refl
+    go false = refl
+
+-- another former value
+pub other_former : IsInserted number_coding (put_owned my_config) (one_pair 2) 1 3 (Some 3) (bytes_of (one_pair 3)) → ⊥
+other_former h = omega (arith, some_same 3 2 h.former)
+
+pub no_former : IsInserted number_coding (put_owned my_config) (one_pair 2) 1 3 None (bytes_of (one_pair 3)) → ⊥
+no_former h = none-some 2 h.former
+
+-- the bytes of another table with the same map
+pub not_inserted : IsInserted number_coding (put_owned my_config) no_pairs 1 2 None (bytes_of (one_of_32 87 2)) → ⊥
+unfolding opened
+not_inserted h = texts_apart _ _ refl (h.image.bytes ∙ ap bytes_of (sym (some_same (one_pair 2) h.table h.inserted)))
+
+-- an insert that is refused
+pub refused : IsInserted number_coding (λ P p. None) no_pairs 1 2 None (bytes_of (one_pair 2)) → ⊥
+refused h = none-some h.table h.inserted
+
+-- no bytes of a table
+pub no_image : IsInserted number_coding (put_owned my_config) no_pairs 1 2 None [] → ⊥
+unfolding opened
+no_image h = texts_apart _ _ refl (h.image.bytes ∙ ap bytes_of (sym (some_same (one_pair 2) h.table h.inserted)))
+
+-- an insert of another value, and one that loses the other keys
+pub other_value : IsInserted number_coding (λ P p. Some (one_pair 3)) no_pairs 1 2 None (bytes_of (one_pair 3)) → ⊥
+other_value h = some_texts_apart _ _ refl (ap (λ T. map_of T (le_bytes 8 1)) (some_same (one_pair 3) h.table h.inserted) ∙ h.maps (le_bytes 8 1))
+
+pub other_key_lost : IsInserted number_coding (λ P p. Some other_pair) (one_pair 2) 3 4 None (bytes_of other_pair) → ⊥
+other_key_lost h = none-some _ (ap (λ T. map_of T (le_bytes 8 1)) (some_same other_pair h.table h.inserted) ∙ h.maps (le_bytes 8 1))

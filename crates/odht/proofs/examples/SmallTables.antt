@@ -1,0 +1,93 @@
+-- The tables of the examples, from u64 to u32, and their coding.
+--     number_coding        keys and values are numbers, with their lowest byte first
+--     no_pairs             sixteen slots at 87 percent without a pair
+--     one_pair v           the same with 1 to v
+--     other_pair           the same with 3 to 4 alone
+--     full_of_none         sixteen slots at 6 percent, which may hold no item
+--     one_of_32 p v        32 slots at p percent with 1 to v; at 6 percent they may hold no other item
+--     bytes_of P           its bytes
+use Rattle.std.proofs.Common.{◌≡◌, ◌≤◌, ◌++◌, ◌∙◌, ℕ, Bool, true, false, refl, sym, ap, List, [], ◌∷◌, Option, Some, None, replicate, option_map, if◌then◌else◌, bytes_eq, lit≤}
+use Rattle.std.specs.Prelude.{IsTrue}
+use Rattle.std.specs.List.{list_all}
+use Rattle.odht_base.specs.Format.{IsFormat}
+use Rattle.odht_base.specs.HashLaws.{fx-lt}
+use Rattle.odht_base.specs.Hashes.{fx}
+use Rattle.odht_base.specs.Image.{image}
+use Rattle.odht_base.specs.Load.{factor_of, max_items, is_power_of_two}
+use Rattle.odht_base.specs.Map.{map_of}
+use Rattle.odht_base.specs.Numbers.{le_bytes, num}
+use Rattle.odht_base.specs.Shown.{shown}
+use Rattle.odht_base.specs.Table.{Pair, Table, empty, fresh, slot_count, count}
+use Rattle.odht_base.specs.Valid.{IsImage}
+use Rattle.odht_base.proofs.examples.Configs.{my_config, pair64, owned_of}
+use Rattle.odht_base.proofs.lemmas.Image.{shown-image}
+use Rattle.odht_base.proofs.lemmas.Placed.{IsPlaced-tests, pair_fits, all_arrive}
+use Rattle.odht_raw.specs.Coding.{Coding, coding_of, encoded}
+use Rattle.odht_raw.proofs.examples.Opened.{opened}
+
+abbrev pub number_coding : Coding ℕ ℕ
+number_coding = coding_of 8 (λ (b : List ℕ). b) (λ b. b) 4 (λ (b : List ℕ). b) (λ b. b) fx (le_bytes 8) (le_bytes 4) num num
+
+abbrev pub no_pairs : Table
+no_pairs = empty 16 (factor_of 87)
+
+abbrev pub one_pair : ℕ → Table
+one_pair v = record { factor = factor_of 87; cells = replicate 5 None ++ Some (pair64 1 v) ∷ replicate 10 None }
+
+abbrev pub other_pair : Table
+other_pair = record { factor = factor_of 87; cells = replicate 15 None ++ Some (pair64 3 4) ∷ [] }
+
+abbrev pub full_of_none : Table
+full_of_none = empty 16 (factor_of 6)
+
+abbrev pub one_of_32 : ℕ → ℕ → Table
+one_of_32 p v = record { factor = factor_of p; cells = replicate 21 None ++ Some (pair64 1 v) ∷ replicate 10 None }
+
+abbrev pub bytes_of : Table → List ℕ
+bytes_of P = image my_config P
+
+-- they are what inserts leave
+pub made_by_inserts : (fresh 0 87 ≡ Some no_pairs)
+    × (owned_of my_config 0 87 (pair64 1 2 ∷ []) ≡ Some (one_pair 2))
+    × (owned_of my_config 0 87 (pair64 3 4 ∷ []) ≡ Some other_pair)
+    × (fresh 0 6 ≡ Some full_of_none)
+    × (owned_of my_config 0 6 (pair64 1 2 ∷ []) ≡ Some (one_of_32 6 2))
+    × (owned_of my_config 20 87 (pair64 1 2 ∷ []) ≡ Some (one_of_32 87 2))
+unfolding opened
+made_by_inserts = (refl, refl, refl, refl, refl, refl)
+
+-- the coding writes these pairs
+pub coded_pair : encoded number_coding 1 2 ≡ pair64 1 2
+coded_pair = refl
+
+-- ---- bytes of valid tables
+-- tests decide that a table is valid
+image_by : (P : Table) → IsTrue (is_power_of_two (slot_count P)) → 16 ≤ slot_count P
+    → list_all (pair_fits my_config) P.cells ≡ true → all_arrive my_config P.cells 0 P.cells ≡ true
+    → 655 ≤ P.factor → P.factor ≤ 65535 → count P ≤ max_items (slot_count P) P.factor → IsImage my_config P (bytes_of P)
+image_by P power least fit arrive low high room = record {
+  valid = record { placed = IsPlaced-tests my_config P (record { power = power; least = least }) fit arrive; factor_low = low; factor_high = high; room = room };
+  bytes = refl;
+}
+
+pub no_pairs_image : IsImage my_config no_pairs (bytes_of no_pairs)
+unfolding opened
+no_pairs_image = image_by no_pairs refl (lit≤ tt) refl refl (lit≤ tt) (lit≤ tt) (lit≤ tt)
+
+pub one_pair_image : IsImage my_config (one_pair 2) (bytes_of (one_pair 2)) × IsImage my_config (one_pair 3) (bytes_of (one_pair 3))
+unfolding opened
+one_pair_image = (
+  image_by (one_pair 2) refl (lit≤ tt) refl refl (lit≤ tt) (lit≤ tt) (lit≤ tt),
+  image_by (one_pair 3) refl (lit≤ tt) refl refl (lit≤ tt) (lit≤ tt) (lit≤ tt),
+)
+
+pub one_of_32_image : IsImage my_config (one_of_32 6 2) (bytes_of (one_of_32 6 2))
+unfolding opened
+one_of_32_image = image_by (one_of_32 6 2) refl (lit≤ tt) refl refl (lit≤ tt) (lit≤ tt) (lit≤ tt)
+
+-- bytes are those of the one table that they show
+my_format : IsFormat my_config
+my_format = record { key_short = lit≤ tt; value_short = lit≤ tt; hash_small = λ b h. fx-lt b }
+
+pub the_table : (P : Table) (B : List ℕ) → IsImage my_config P B → shown my_config B ≡ P
+the_table P B h = ap (shown my_config) h.bytes ∙ shown-image my_config P my_format h.valid
