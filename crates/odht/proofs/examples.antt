@@ -5,3 +5,7 @@ pub mod Apart
 pub mod SmallTables
 -- what a new table is, and what an insert leaves
 pub mod Inserts
+-- lists of items that are inserted in turn
+pub mod Fillings
+-- the last value of a key in a list of items
+pub mod LastValues

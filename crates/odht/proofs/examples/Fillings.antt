@@ -1,0 +1,132 @@
+-- Worked examples: lists of items that are inserted in turn.
+use Rattle.std.proofs.Common.{◌≡◌, ◌∙◌, ℕ, Bool, true, false, refl, sym, ap, arith, List, [], ◌∷◌, Option, Some, None, option_map, if◌then◌else◌, bytes_eq, lit≤, replicate, ◌++◌}
+use Rattle.std.specs.Option.{option_or}
+use Rattle.std.proofs.lemmas.Option.{none-some}
+use Rattle.odht_base.specs.Insert.{put_owned, run}
+use Rattle.odht_base.specs.Image.{image}
+use Rattle.odht_base.specs.Load.{factor_of}
+use Rattle.odht_base.specs.Map.{map_of}
+use Rattle.odht_base.specs.Numbers.{le_bytes}
+use Rattle.odht_base.specs.Table.{Pair, Table, empty, slot_count}
+use Rattle.odht_base.proofs.lemmas.Options.{some_same}
+use Rattle.odht_base.proofs.examples.Configs.{my_config, direct_config, pair64, pair32}
+use Rattle.odht_raw.proofs.examples.Opened.{opened}
+use Rattle.odht.specs.Lists.{encoded_all, HasSizeOf, IsFilled, IsRefusedAt, IsFreshFilled}
+use Rattle.odht.proofs.examples.Apart.{texts_apart, some_texts_apart}
+use Rattle.odht.proofs.examples.SmallTables.{number_coding, no_pairs, one_pair, other_pair, full_of_none, one_of_32, bytes_of, one_pair_image, one_of_32_image}
+
+-- ---- items as pairs, in their order
+pub encoded_items : encoded_all number_coding ((1, 2) ∷ (3, 4) ∷ []) ≡ pair64 1 2 ∷ pair64 3 4 ∷ []
+encoded_items = refl
+
+-- ---- sizes
+-- the pairs do not matter, but the slot count and the load factor do
+pub same_size : HasSizeOf no_pairs (one_pair 2)
+same_size = (refl, refl)
+
+pub other_sizes : (HasSizeOf no_pairs (empty 32 (factor_of 87)) → ⊥) × (HasSizeOf no_pairs (empty 16 (factor_of 86)) → ⊥)
+other_sizes = (λ h. omega (arith, h.0), λ h. omega (arith, h.1))
+
+-- ---- fillings
+-- the values of the pair 1 to 2, over none
+abbrev value : Bool → Option (List ℕ)
+value b = option_map (λ (p : Pair). p.value) (if b then Some (pair64 1 2) else None)
+
+over_none : (b : Bool) → value b ≡ option_or (value b) None
+over_none true = refl
+over_none false = refl
+
+-- of a table with room, whose size stays, and of a full one, whose size does not
+pub a_filling : IsFilled my_config (put_owned my_config) no_pairs (pair64 1 2 ∷ []) (bytes_of (one_pair 2))
+unfolding opened
+a_filling = record {
+  table = one_pair 2;
+  runs = refl;
+  image = one_pair_image.0;
+  maps = λ k. over_none (bytes_eq k (le_bytes 8 1));
+  stays = λ room. ((refl, refl), lit≤ tt);
+}
+
+pub a_growth : IsFilled my_config (put_owned my_config) full_of_none (pair64 1 2 ∷ []) (bytes_of (one_of_32 6 2))
+unfolding opened
+a_growth = record {
+  table = one_of_32 6 2;
+  runs = refl;
+  image = one_of_32_image;
+  maps = λ k. over_none (bytes_eq k (le_bytes 8 1));
+  stays = λ room. absurd (omega (arith, room));
+}
+
+-- inserts in another order: both keys have home 15, so the first one stands there
+abbrev two_in_turn : ℕ → ℕ → Table
+two_in_turn k l = record { factor = factor_of 87; cells = Some (pair32 l l) ∷ replicate 14 None ++ Some (pair32 k k) ∷ [] }
+
+pub other_order : IsFilled direct_config (put_owned direct_config) no_pairs (pair32 15 15 ∷ pair32 31 31 ∷ []) (image direct_config (two_in_turn 31 15)) → ⊥
+unfolding opened
+other_order h = texts_apart _ _ refl (h.image.bytes ∙ ap (image direct_config) (sym (some_same (two_in_turn 15 31) h.table h.runs)))
+
+-- an insert that is refused
+pub refused : IsFilled my_config (λ P p. None) no_pairs (pair64 1 2 ∷ []) (bytes_of (one_pair 2)) → ⊥
+refused h = none-some h.table h.runs
+
+-- no bytes of a table
+pub no_image : IsFilled my_config (put_owned my_config) no_pairs (pair64 1 2 ∷ []) [] → ⊥
+unfolding opened
+no_image h = texts_apart _ _ refl (h.image.bytes ∙ ap bytes_of (sym (some_same (one_pair 2) h.table h.runs)))
+
+-- inserts of another value, and inserts that lose the other keys
+pub other_value : IsFilled my_config (λ P p. Some (one_pair 3)) no_pairs (pair64 1 2 ∷ []) (bytes_of (one_pair 3)) → ⊥
+other_value h = some_texts_apart _ _ refl (ap (λ T. map_of T (le_bytes 8 1)) (some_same (one_pair 3) h.table h.runs) ∙ h.maps (le_bytes 8 1))
+
+pub other_key_lost : IsFilled my_config (λ P p. Some other_pair) (one_pair 2) (pair64 3 4 ∷ []) (bytes_of other_pair) → ⊥
+other_key_lost h = none-some _ (ap (λ T. map_of T (le_bytes 8 1)) (some_same other_pair h.table h.runs) ∙ h.maps (le_bytes 8 1))
+
+-- inserts that change the slot count of a table with room, and such that change its load factor
+abbrev other_factor : Table
+other_factor = record { factor = factor_of 86; cells = (one_pair 2).cells }
+
+pub grown_with_room : IsFilled my_config (λ P p. Some (one_of_32 87 2)) no_pairs (pair64 1 2 ∷ []) (bytes_of (one_of_32 87 2)) → ⊥
+grown_with_room h = omega (arith, (h.stays (lit≤ tt)).0.0, ap slot_count (some_same (one_of_32 87 2) h.table h.runs))
+
+pub changed_factor : IsFilled my_config (λ P p. Some other_factor) no_pairs (pair64 1 2 ∷ []) (bytes_of other_factor) → ⊥
+changed_factor h = omega (arith, (h.stays (lit≤ tt)).0.1, ap (λ (T : Table). T.factor) (some_same other_factor h.table h.runs))
+
+-- ---- refusals
+-- 1 is there and 3 is not
+pub refused_item : IsRefusedAt number_coding (one_of_32 6 2) ((1, 5) ∷ (3, 4) ∷ []) 1
+unfolding opened
+refused_item = record { item = (3, 4); at = refl; full = (refl, refl) }
+
+-- a key that is there, though the next item is refused
+pub present_key : IsRefusedAt number_coding (one_of_32 6 2) ((1, 5) ∷ (3, 4) ∷ []) 0 → ⊥
+present_key h = none-some _ (sym h.full.1 ∙ ap (λ (x : ℕ × ℕ). map_of (one_of_32 6 2) (le_bytes 8 x.0)) (sym (some_same (1, 5) h.item h.at)))
+
+-- no such item
+pub no_item : IsRefusedAt number_coding (one_of_32 6 2) ((1, 5) ∷ (3, 4) ∷ []) 2 → ⊥
+no_item h = none-some _ h.at
+
+-- a table with room
+pub with_room : IsRefusedAt number_coding (one_pair 2) ((1, 5) ∷ (3, 4) ∷ []) 1 → ⊥
+with_room h = omega (arith, h.full.0)
+
+-- ---- fillings of a fresh table
+pub a_fresh_filling : IsFreshFilled number_coding 87 ((1, 2) ∷ []) (bytes_of (one_pair 2))
+unfolding opened a_filling
+a_fresh_filling = record { start = no_pairs; new = refl; filled = a_filling; never_grown = (refl, refl) }
+
+-- the table for the one item and its bytes
+the_filling : (B : List ℕ) → IsFreshFilled number_coding 87 ((1, 2) ∷ []) B → B ≡ bytes_of (one_pair 2)
+unfolding opened
+the_filling B h =
+    let start : no_pairs ≡ h.start = some_same no_pairs h.start h.new in
+    let runs : run (put_owned my_config) no_pairs (pair64 1 2 ∷ []) ≡ Some h.filled.table = ap (λ T. run (put_owned my_config) T (pair64 1 2 ∷ [])) start ∙ h.filled.runs in
+    h.filled.image.bytes ∙ ap bytes_of (sym (some_same (one_pair 2) h.filled.table runs))
+
+-- a larger table from the start, and no bytes of a table
+pub larger_start : IsFreshFilled number_coding 87 ((1, 2) ∷ []) (bytes_of (one_of_32 87 2)) → ⊥
+unfolding opened
+larger_start h = texts_apart _ _ refl (the_filling _ h)
+
+pub no_fresh_image : IsFreshFilled number_coding 87 ((1, 2) ∷ []) [] → ⊥
+unfolding opened
+no_fresh_image h = texts_apart _ _ refl (the_filling _ h)
