@@ -1,14 +1,12 @@
 -- Worked examples of the definitions, each a closed theorem.
--- what tells two things apart
-pub mod Apart
 -- the texts of answers and of messages
 pub mod Texts
 -- words that are numbers, and pairs of them
 pub mod NumberTexts
 -- lines that are commands
 pub mod CommandLines
--- the tables of the examples below
-pub mod SmallTables
+-- what the examples below ask of a table
+pub mod Tests
 -- what a `put` is answered with and leaves
 pub mod PutAnswers
 -- what the other requests are answered with

@@ -6,7 +6,7 @@
 --     full_of_none         sixteen slots at 6 percent, which may hold no item
 --     one_of_32 p v        32 slots at p percent with 1 to v; at 6 percent they may hold no other item
 --     bytes_of P           its bytes
-use Rattle.std.proofs.Common.{◌≡◌, ◌≤◌, ◌++◌, ◌∙◌, ℕ, Bool, true, false, refl, sym, ap, List, [], ◌∷◌, Option, Some, None, replicate, option_map, if◌then◌else◌, bytes_eq, lit≤}
+use Rattle.std.proofs.Common.{◌≡◌, ◌≤◌, ◌++◌, ◌∙◌, ℕ, true, refl, ap, List, [], ◌∷◌, Some, None, replicate, lit≤}
 use Rattle.std.specs.Prelude.{IsTrue}
 use Rattle.std.specs.List.{list_all}
 use Rattle.odht_base.specs.Format.{IsFormat}
@@ -14,10 +14,9 @@ use Rattle.odht_base.specs.HashLaws.{fx-lt}
 use Rattle.odht_base.specs.Hashes.{fx}
 use Rattle.odht_base.specs.Image.{image}
 use Rattle.odht_base.specs.Load.{factor_of, max_items, is_power_of_two}
-use Rattle.odht_base.specs.Map.{map_of}
 use Rattle.odht_base.specs.Numbers.{le_bytes, num}
 use Rattle.odht_base.specs.Shown.{shown}
-use Rattle.odht_base.specs.Table.{Pair, Table, empty, fresh, slot_count, count}
+use Rattle.odht_base.specs.Table.{Table, empty, fresh, slot_count, count}
 use Rattle.odht_base.specs.Valid.{IsImage}
 use Rattle.odht_base.proofs.examples.Configs.{my_config, pair64, owned_of}
 use Rattle.odht_base.proofs.lemmas.Image.{shown-image}

@@ -13,7 +13,7 @@ use Rattle.odht_base.proofs.examples.Configs.{my_config}
 use Rattle.odht_base.proofs.examples.Opened.{opened}
 use Rattle.odht_raw.specs.Refusals.{IsTooLarge}
 use Rattle.odht_table.specs.Answers.{IsGoodPercent, IsRenewed}
-use Rattle.odht_table.proofs.examples.SmallTables.{no_pairs}
+use Rattle.odht.proofs.examples.SmallTables.{no_pairs}
 
 -- ---- percentages
 pub good_percents : IsGoodPercent 1 × IsGoodPercent 100

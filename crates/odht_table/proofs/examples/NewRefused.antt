@@ -13,9 +13,9 @@ use Rattle.odht_base.proofs.examples.Configs.{my_config}
 use Rattle.odht_base.proofs.examples.Opened.{opened}
 use Rattle.odht_raw.specs.Refusals.{IsTooLarge}
 use Rattle.odht_table.specs.Answers.{IsGoodPercent, IsRenewed, new_text}
-use Rattle.odht_table.proofs.examples.Apart.{told_apart, texts_apart, some_texts_apart}
+use Rattle.odht.proofs.examples.Apart.{told_apart, texts_apart, some_texts_apart}
 use Rattle.odht_table.proofs.examples.NewAnswers.{bad_percents, good, too_large, not_too_large, new_bytes, old_bytes}
-use Rattle.odht_table.proofs.examples.SmallTables.{no_pairs}
+use Rattle.odht.proofs.examples.SmallTables.{no_pairs}
 
 -- ---- the parts of each answer
 abbrev IsMade : Format → ℕ → ℕ → List ℕ → Option (List ℕ) → Type 0

@@ -7,8 +7,9 @@ use Rattle.odht_base.specs.Table.{Table}
 use Rattle.odht_base.proofs.examples.Opened.{opened}
 use Rattle.odht_table.specs.Answers.{IsPutAnswered}
 use Rattle.odht_table.proofs.Puts.{my_coding}
-use Rattle.odht_table.proofs.examples.Apart.{told_apart, texts_apart}
-use Rattle.odht_table.proofs.examples.SmallTables.{no_pairs, one_pair, full_of_none, full_of_one, has_pairs, has_value}
+use Rattle.odht.proofs.examples.Apart.{told_apart, texts_apart}
+use Rattle.odht.proofs.examples.SmallTables.{no_pairs, one_pair, full_of_none, one_of_32}
+use Rattle.odht_table.proofs.examples.Tests.{has_pairs, has_value}
 
 -- a new key, and one that is there
 pub new_key : IsPutAnswered my_coding no_pairs 1 2 (codes "none\n") (one_pair 2)
@@ -20,7 +21,7 @@ unfolding opened digits
 old_key = inl (refl, refl)
 
 -- a full table grows, or memory was refused
-pub grown : IsPutAnswered my_coding full_of_none 1 2 (codes "none\n") (full_of_one 2)
+pub grown : IsPutAnswered my_coding full_of_none 1 2 (codes "none\n") (one_of_32 6 2)
 unfolding opened digits
 grown = inl (refl, refl)
 
@@ -52,7 +53,7 @@ other_refusal (inl h) = texts_apart _ _ refl h.0
 other_refusal (inr h) = texts_apart _ _ refl h.0
 
 -- memory was refused, and the table is another
-pub changed_by_refusal : IsPutAnswered my_coding full_of_none 1 2 (codes "memory\n") (full_of_one 2) → ⊥
+pub changed_by_refusal : IsPutAnswered my_coding full_of_none 1 2 (codes "memory\n") (one_of_32 6 2) → ⊥
 unfolding opened digits
 changed_by_refusal (inl h) = texts_apart _ _ refl h.0
 changed_by_refusal (inr h) = told_apart (has_pairs 1) _ _ refl refl h.1
@@ -63,7 +64,7 @@ unfolding opened digits
 refused_with_room (inl h) = texts_apart _ _ refl h.0
 refused_with_room (inr h) = omega (arith, h.2.0)
 
-pub refused_old_key : IsPutAnswered my_coding (full_of_one 2) 1 3 (codes "memory\n") (full_of_one 2) → ⊥
+pub refused_old_key : IsPutAnswered my_coding (one_of_32 6 2) 1 3 (codes "memory\n") (one_of_32 6 2) → ⊥
 unfolding opened digits
 refused_old_key (inl h) = texts_apart _ _ refl h.0
 refused_old_key (inr h) = cc

@@ -9,9 +9,10 @@ use Rattle.odht_table.specs.Answers.{IsAnswered, MayChange}
 use Rattle.odht_table.specs.declared.script.command.Request.{Request}
 use Rattle.odht_table.specs.declared.script.command.Request.TheVariants.{Put, Get, Len, Walk, Hex, Dump}
 use Rattle.odht_table.proofs.Puts.{my_coding}
-use Rattle.odht_table.proofs.examples.Apart.{told_apart, texts_apart, some_texts_apart}
+use Rattle.odht.proofs.examples.Apart.{told_apart, texts_apart, some_texts_apart}
 use Rattle.odht_table.proofs.examples.PutAnswers.{old_key, other_text}
-use Rattle.odht_table.proofs.examples.SmallTables.{no_pairs, one_pair, has_pairs}
+use Rattle.odht.proofs.examples.SmallTables.{no_pairs, one_pair}
+use Rattle.odht_table.proofs.examples.Tests.{has_pairs}
 
 -- the answer t to a request of the table of 1 and 2, after which there is Q
 abbrev Answers : Request → List ℕ → Table → Type 0
