@@ -2,8 +2,10 @@
 //! free slot, and want of memory.
 mod builds;
 mod carried_items;
+mod changed_tables;
 mod checks;
 mod errors;
+mod frame;
 mod full_tables;
 mod list_properties;
 mod lossless;
@@ -11,4 +13,5 @@ mod owned_tables;
 mod probe_sequences;
 mod random;
 mod refused_places;
+mod second_reading;
 mod walks;
