@@ -36,8 +36,8 @@
  * or writes beyond what it was lent, but get and get_all may miss a key, or find
  * a value that stands beside it in a slot that counts as free; len tells what the
  * header states; an insert, alone or of many, changes one value beside an equal
- * key, or adds one entry; and FULL may come before the maximum. docs/FORMAT.md
- * has the frame.
+ * key, or adds one entry below the maximum that the header states; and FULL comes
+ * at that maximum, or where no slot counts as free. docs/FORMAT.md has the frame.
  *
  * Memory is asked for by odht_u64_u32_build and odht_u64_u32_build_growing
  * alone, by malloc, and given back before they return. It goes through the
