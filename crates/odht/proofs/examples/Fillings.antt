@@ -24,7 +24,8 @@ encoded_items = refl
 pub same_size : HasSizeOf no_pairs (one_pair 2)
 same_size = (refl, refl)
 
-pub other_sizes : (HasSizeOf no_pairs (empty 32 (factor_of 87)) → ⊥) × (HasSizeOf no_pairs (empty 16 (factor_of 86)) → ⊥)
+pub other_sizes : (HasSizeOf no_pairs (empty 32 (factor_of 87)) → ⊥)
+    × (HasSizeOf no_pairs (empty 16 (factor_of 86)) → ⊥)
 other_sizes = (λ h. omega (arith, h.0), λ h. omega (arith, h.1))
 
 -- ---- fillings
@@ -59,11 +60,16 @@ a_growth = record {
 
 -- inserts in another order: both keys have home 15, so the first one stands there
 abbrev two_in_turn : ℕ → ℕ → Table
-two_in_turn k l = record { factor = factor_of 87; cells = Some (pair32 l l) ∷ replicate 14 None ++ Some (pair32 k k) ∷ [] }
+two_in_turn k l = record {
+  factor = factor_of 87;
+  cells = Some (pair32 l l) ∷ replicate 14 None ++ Some (pair32 k k) ∷ [];
+}
 
-pub other_order : IsFilled direct_config (put_owned direct_config) no_pairs (pair32 15 15 ∷ pair32 31 31 ∷ []) (image direct_config (two_in_turn 31 15)) → ⊥
+pub other_order : IsFilled direct_config (put_owned direct_config) no_pairs (pair32 15 15 ∷ pair32 31 31 ∷ []) (image direct_config (two_in_turn 31 15))
+    → ⊥
 unfolding opened
-other_order h = texts_apart _ _ refl (h.image.bytes ∙ ap (image direct_config) (sym (some_same (two_in_turn 15 31) h.table h.runs)))
+other_order h =
+    texts_apart _ _ refl (h.image.bytes ∙ ap (image direct_config) (sym (some_same (two_in_turn 15 31) h.table h.runs)))
 
 -- an insert that is refused
 pub refused : IsFilled my_config (λ P p. None) no_pairs (pair64 1 2 ∷ []) (bytes_of (one_pair 2)) → ⊥
@@ -76,20 +82,26 @@ no_image h = texts_apart _ _ refl (h.image.bytes ∙ ap bytes_of (sym (some_same
 
 -- inserts of another value, and inserts that lose the other keys
 pub other_value : IsFilled my_config (λ P p. Some (one_pair 3)) no_pairs (pair64 1 2 ∷ []) (bytes_of (one_pair 3)) → ⊥
-other_value h = some_texts_apart _ _ refl (ap (λ T. map_of T (le_bytes 8 1)) (some_same (one_pair 3) h.table h.runs) ∙ h.maps (le_bytes 8 1))
+other_value h =
+    some_texts_apart _ _ refl (ap (λ T. map_of T (le_bytes 8 1)) (some_same (one_pair 3) h.table h.runs) ∙ h.maps (le_bytes 8 1))
 
-pub other_key_lost : IsFilled my_config (λ P p. Some other_pair) (one_pair 2) (pair64 3 4 ∷ []) (bytes_of other_pair) → ⊥
-other_key_lost h = none-some _ (ap (λ T. map_of T (le_bytes 8 1)) (some_same other_pair h.table h.runs) ∙ h.maps (le_bytes 8 1))
+pub other_key_lost : IsFilled my_config (λ P p. Some other_pair) (one_pair 2) (pair64 3 4 ∷ []) (bytes_of other_pair)
+    → ⊥
+other_key_lost h =
+    none-some _ (ap (λ T. map_of T (le_bytes 8 1)) (some_same other_pair h.table h.runs) ∙ h.maps (le_bytes 8 1))
 
 -- inserts that change the slot count of a table with room, and such that change its load factor
 abbrev other_factor : Table
 other_factor = record { factor = factor_of 86; cells = (one_pair 2).cells }
 
-pub grown_with_room : IsFilled my_config (λ P p. Some (one_of_32 87 2)) no_pairs (pair64 1 2 ∷ []) (bytes_of (one_of_32 87 2)) → ⊥
+pub grown_with_room : IsFilled my_config (λ P p. Some (one_of_32 87 2)) no_pairs (pair64 1 2 ∷ []) (bytes_of (one_of_32 87 2))
+    → ⊥
 grown_with_room h = omega (arith, (h.stays (lit≤ tt)).0.0, ap slot_count (some_same (one_of_32 87 2) h.table h.runs))
 
-pub changed_factor : IsFilled my_config (λ P p. Some other_factor) no_pairs (pair64 1 2 ∷ []) (bytes_of other_factor) → ⊥
-changed_factor h = omega (arith, (h.stays (lit≤ tt)).0.1, ap (λ (T : Table). T.factor) (some_same other_factor h.table h.runs))
+pub changed_factor : IsFilled my_config (λ P p. Some other_factor) no_pairs (pair64 1 2 ∷ []) (bytes_of other_factor)
+    → ⊥
+changed_factor h =
+    omega (arith, (h.stays (lit≤ tt)).0.1, ap (λ (T : Table). T.factor) (some_same other_factor h.table h.runs))
 
 -- ---- refusals
 -- 1 is there and 3 is not
@@ -99,7 +111,8 @@ refused_item = record { item = (3, 4); at = refl; full = (refl, refl) }
 
 -- a key that is there, though the next item is refused
 pub present_key : IsRefusedAt number_coding (one_of_32 6 2) ((1, 5) ∷ (3, 4) ∷ []) 0 → ⊥
-present_key h = none-some _ (sym h.full.1 ∙ ap (λ (x : ℕ × ℕ). map_of (one_of_32 6 2) (le_bytes 8 x.0)) (sym (some_same (1, 5) h.item h.at)))
+present_key h =
+    none-some _ (sym h.full.1 ∙ ap (λ (x : ℕ × ℕ). map_of (one_of_32 6 2) (le_bytes 8 x.0)) (sym (some_same (1, 5) h.item h.at)))
 
 -- no such item
 pub no_item : IsRefusedAt number_coding (one_of_32 6 2) ((1, 5) ∷ (3, 4) ∷ []) 2 → ⊥
@@ -119,7 +132,8 @@ the_filling : (B : List ℕ) → IsFreshFilled number_coding 87 ((1, 2) ∷ []) 
 unfolding opened
 the_filling B h =
     let start : no_pairs ≡ h.start = some_same no_pairs h.start h.new in
-    let runs : run (put_owned my_config) no_pairs (pair64 1 2 ∷ []) ≡ Some h.filled.table = ap (λ T. run (put_owned my_config) T (pair64 1 2 ∷ [])) start ∙ h.filled.runs in
+    let runs : run (put_owned my_config) no_pairs (pair64 1 2 ∷ []) ≡ Some h.filled.table =
+    ap (λ T. run (put_owned my_config) T (pair64 1 2 ∷ [])) start ∙ h.filled.runs in
     h.filled.image.bytes ∙ ap bytes_of (sym (some_same (one_pair 2) h.filled.table runs))
 
 -- a larger table from the start, and no bytes of a table

@@ -30,21 +30,35 @@ no_bytes h = texts_apart _ _ refl (h.image.bytes ∙ ap bytes_of (sym (some_same
 -- the table at no percent, which is not valid
 pub no_percent : IsFresh my_config 0 0 (bytes_of (empty 16 0)) → ⊥
 unfolding opened
-no_percent h = omega (arith, h.image.valid.factor_low, ap (λ (T : Table). T.factor) (some_same (empty 16 0) h.table h.new))
+no_percent h =
+    omega (arith, h.image.valid.factor_low, ap (λ (T : Table). T.factor) (some_same (empty 16 0) h.table h.new))
 
 -- ---- inserts
 -- a new key, and one that is there
 pub a_new_key : IsInserted number_coding (put_owned my_config) no_pairs 1 2 None (bytes_of (one_pair 2))
 unfolding opened
-a_new_key = record { former = refl; table = one_pair 2; inserted = refl; image = one_pair_image.0; maps = λ q. go (bytes_eq q (le_bytes 8 1)) }
+a_new_key = record {
+  former = refl;
+  table = one_pair 2;
+  inserted = refl;
+  image = one_pair_image.0;
+  maps = λ q. go (bytes_eq q (le_bytes 8 1));
+}
   where
-    go : (b : Bool) → option_map (λ (p : Pair). p.value) (if b then Some (pair64 1 2) else None) ≡ (if b then Some (le_bytes 4 2) else None)
+    go : (b : Bool)
+        → option_map (λ (p : Pair). p.value) (if b then Some (pair64 1 2) else None) ≡ (if b then Some (le_bytes 4 2) else None)
     go true = refl
     go false = refl
 
 pub an_old_key : IsInserted number_coding (put_owned my_config) (one_pair 2) 1 3 (Some 2) (bytes_of (one_pair 3))
 unfolding opened
-an_old_key = record { former = refl; table = one_pair 3; inserted = refl; image = one_pair_image.1; maps = λ q. go (bytes_eq q (le_bytes 8 1)) }
+an_old_key = record {
+  former = refl;
+  table = one_pair 3;
+  inserted = refl;
+  image = one_pair_image.1;
+  maps = λ q. go (bytes_eq q (le_bytes 8 1));
+}
   where
     value : Bool → ℕ → Option (List ℕ)
     value b v = option_map (λ (p : Pair). p.value) (if b then Some (pair64 1 v) else None)
@@ -76,7 +90,9 @@ no_image h = texts_apart _ _ refl (h.image.bytes ∙ ap bytes_of (sym (some_same
 
 -- an insert of another value, and one that loses the other keys
 pub other_value : IsInserted number_coding (λ P p. Some (one_pair 3)) no_pairs 1 2 None (bytes_of (one_pair 3)) → ⊥
-other_value h = some_texts_apart _ _ refl (ap (λ T. map_of T (le_bytes 8 1)) (some_same (one_pair 3) h.table h.inserted) ∙ h.maps (le_bytes 8 1))
+other_value h =
+    some_texts_apart _ _ refl (ap (λ T. map_of T (le_bytes 8 1)) (some_same (one_pair 3) h.table h.inserted) ∙ h.maps (le_bytes 8 1))
 
 pub other_key_lost : IsInserted number_coding (λ P p. Some other_pair) (one_pair 2) 3 4 None (bytes_of other_pair) → ⊥
-other_key_lost h = none-some _ (ap (λ T. map_of T (le_bytes 8 1)) (some_same other_pair h.table h.inserted) ∙ h.maps (le_bytes 8 1))
+other_key_lost h =
+    none-some _ (ap (λ T. map_of T (le_bytes 8 1)) (some_same other_pair h.table h.inserted) ∙ h.maps (le_bytes 8 1))

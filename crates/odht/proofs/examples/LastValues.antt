@@ -26,7 +26,8 @@ abbrev Lacks : ℕ → ℕ × ℕ → Type 0
 Lacks k item = item.0 ≢ k
 
 pub without_key : HasNoKey items 2
-without_key = All-cons (Lacks 2) (1, 2) ((3, 4) ∷ []) (λ e. omega (arith, e)) (All-cons (Lacks 2) (3, 4) [] (λ e. omega (arith, e)) (All-nil (Lacks 2)))
+without_key =
+    All-cons (Lacks 2) (1, 2) ((3, 4) ∷ []) (λ e. omega (arith, e)) (All-cons (Lacks 2) (3, 4) [] (λ e. omega (arith, e)) (All-nil (Lacks 2)))
 
 pub without_first : HasNoKey items 1 → ⊥
 without_first h = h 0 (0, 0) (lit< tt) refl
@@ -47,7 +48,8 @@ a_last_item = record {
 abbrev IsOneOfTwo : ℕ × ℕ → ℕ × ℕ → ℕ → ℕ → List (ℕ × ℕ) → Type 0
 IsOneOfTwo x y k v after = ((x.0 ≡ k) × (x.1 ≡ v) × (after ≡ y ∷ [])) ⊎ ((y.0 ≡ k) × (y.1 ≡ v))
 
-one_of_two : (x y : ℕ × ℕ) (k v : ℕ) (before after : List (ℕ × ℕ)) → x ∷ y ∷ [] ≡ before ++ (k, v) ∷ after → IsOneOfTwo x y k v after
+one_of_two : (x y : ℕ × ℕ) (k v : ℕ) (before after : List (ℕ × ℕ)) → x ∷ y ∷ [] ≡ before ++ (k, v) ∷ after
+    → IsOneOfTwo x y k v after
 one_of_two x y k v [] after e = inl (cc, cc, cc)
 one_of_two x y k v (a ∷ []) after e = inr (cc, cc)
 one_of_two x y k v (a ∷ b ∷ before) after e = absurd (omega (arith, ap length e, length-append before ((k, v) ∷ after)))
@@ -72,7 +74,9 @@ earlier_value h = go h.after h.latest (one_of_two _ _ _ _ h.before h.after h.sta
 pub last_values : IsLastValue in_turn 1 (Some 5) × IsLastValue items 2 None
 last_values = (a_last_item, without_key)
 
-pub no_last_values : (IsLastValue items 1 (Some 4) → ⊥) × (IsLastValue twice 1 (Some 2) → ⊥) × (IsLastValue items 3 None → ⊥)
+pub no_last_values : (IsLastValue items 1 (Some 4) → ⊥)
+    × (IsLastValue twice 1 (Some 2) → ⊥)
+    × (IsLastValue items 3 None → ⊥)
 no_last_values = (other_value, earlier_value, without_second)
 
 -- ---- bytes of a table of last values
@@ -88,11 +92,13 @@ a_table = record { table = one_pair 3; image = one_pair_image.1; maps = λ k. go
 -- the table of the first value, one that lacks the key, and one that has a further key
 pub first_value : HasLastValues number_coding ((1, 2) ∷ (1, 3) ∷ []) (bytes_of (one_pair 2)) → ⊥
 unfolding opened
-first_value h = some_texts_apart _ _ refl (ap (λ T. map_of T (le_bytes 8 1)) (the_table h.table _ h.image) ∙ h.maps (le_bytes 8 1))
+first_value h =
+    some_texts_apart _ _ refl (ap (λ T. map_of T (le_bytes 8 1)) (the_table h.table _ h.image) ∙ h.maps (le_bytes 8 1))
 
 pub further_key : HasLastValues number_coding [] (bytes_of (one_pair 2)) → ⊥
 unfolding opened
-further_key h = none-some _ (sym (ap (λ T. map_of T (le_bytes 8 1)) (the_table h.table _ h.image) ∙ h.maps (le_bytes 8 1)))
+further_key h =
+    none-some _ (sym (ap (λ T. map_of T (le_bytes 8 1)) (the_table h.table _ h.image) ∙ h.maps (le_bytes 8 1)))
 
 pub lacking_key : HasLastValues number_coding ((1, 2) ∷ (3, 4) ∷ []) (bytes_of (one_pair 2)) → ⊥
 unfolding opened

@@ -25,7 +25,8 @@ use Rattle.odht_raw.specs.Coding.{Coding, coding_of, encoded}
 use Rattle.odht_raw.proofs.examples.Opened.{opened}
 
 abbrev pub number_coding : Coding ℕ ℕ
-number_coding = coding_of 8 (λ (b : List ℕ). b) (λ b. b) 4 (λ (b : List ℕ). b) (λ b. b) fx (le_bytes 8) (le_bytes 4) num num
+number_coding =
+    coding_of 8 (λ (b : List ℕ). b) (λ b. b) 4 (λ (b : List ℕ). b) (λ b. b) fx (le_bytes 8) (le_bytes 4) num num
 
 abbrev pub no_pairs : Table
 no_pairs = empty 16 (factor_of 87)
@@ -65,7 +66,12 @@ image_by : (P : Table) → IsTrue (is_power_of_two (slot_count P)) → 16 ≤ sl
     → list_all (pair_fits my_config) P.cells ≡ true → all_arrive my_config P.cells 0 P.cells ≡ true
     → 655 ≤ P.factor → P.factor ≤ 65535 → count P ≤ max_items (slot_count P) P.factor → IsImage my_config P (bytes_of P)
 image_by P power least fit arrive low high room = record {
-  valid = record { placed = IsPlaced-tests my_config P (record { power = power; least = least }) fit arrive; factor_low = low; factor_high = high; room = room };
+  valid = record {
+    placed = IsPlaced-tests my_config P (record { power = power; least = least }) fit arrive;
+    factor_low = low;
+    factor_high = high;
+    room = room;
+  };
   bytes = refl;
 }
 
@@ -73,7 +79,8 @@ pub no_pairs_image : IsImage my_config no_pairs (bytes_of no_pairs)
 unfolding opened
 no_pairs_image = image_by no_pairs refl (lit≤ tt) refl refl (lit≤ tt) (lit≤ tt) (lit≤ tt)
 
-pub one_pair_image : IsImage my_config (one_pair 2) (bytes_of (one_pair 2)) × IsImage my_config (one_pair 3) (bytes_of (one_pair 3))
+pub one_pair_image : IsImage my_config (one_pair 2) (bytes_of (one_pair 2))
+    × IsImage my_config (one_pair 3) (bytes_of (one_pair 3))
 unfolding opened
 one_pair_image = (
   image_by (one_pair 2) refl (lit≤ tt) refl refl (lit≤ tt) (lit≤ tt) (lit≤ tt),

@@ -9,18 +9,29 @@ use Rattle.odht_table.proofs.examples.NumberTexts.{a_pair, a_number, another_num
 
 -- two lines with another byte at one place
 other_byte : (i : ℕ) (line other : List ℕ) → line ≡ other → (slice_index line i == slice_index other i) ≡ false → ⊥
-other_byte i line other e differ = told_apart (λ l. slice_index line i == slice_index l i) line other (eq-eqb _ _ refl) differ e
+other_byte i line other e differ =
+    told_apart (λ l. slice_index line i == slice_index l i) line other (eq-eqb _ _ refl) differ e
 
 -- ---- words
 -- each word that stands alone
-pub words : IsWordText (codes "len") Len × IsWordText (codes "walk") Walk × IsWordText (codes "hex") Hex × IsWordText (codes "dump") Dump
+pub words : IsWordText (codes "len") Len
+    × IsWordText (codes "walk") Walk
+    × IsWordText (codes "hex") Hex
+    × IsWordText (codes "dump") Dump
 words = (refl, refl, refl, refl)
 
--- another word is not that request, nor is the word with a further byte or in capitals
-pub other_words : (IsWordText (codes "hex") Len → ⊥) × (IsWordText (codes "len") Walk → ⊥) × (IsWordText (codes "len") Hex → ⊥) × (IsWordText (codes "walk") Dump → ⊥)
+-- another word is not that request
+pub other_words : (IsWordText (codes "hex") Len → ⊥)
+    × (IsWordText (codes "len") Walk → ⊥)
+    × (IsWordText (codes "len") Hex → ⊥)
+    × (IsWordText (codes "walk") Dump → ⊥)
 other_words = (texts_apart _ _ refl, texts_apart _ _ refl, texts_apart _ _ refl, texts_apart _ _ refl)
 
-pub longer_words : (IsWordText (codes "len ") Len → ⊥) × (IsWordText (codes "walks") Walk → ⊥) × (IsWordText (codes "HEX") Hex → ⊥) × (IsWordText [] Dump → ⊥)
+-- nor is the word with a further byte or in capitals, nor no word
+pub longer_words : (IsWordText (codes "len ") Len → ⊥)
+    × (IsWordText (codes "walks") Walk → ⊥)
+    × (IsWordText (codes "HEX") Hex → ⊥)
+    × (IsWordText [] Dump → ⊥)
 longer_words = (texts_apart _ _ refl, texts_apart _ _ refl, texts_apart _ _ refl, texts_apart _ _ refl)
 
 -- no word asks for a request with numbers
@@ -28,17 +39,23 @@ pub requests_with_numbers : (IsWordText (codes "put") (Put 1 2) → ⊥) × (IsW
 requests_with_numbers = (λ h. h, λ h. h)
 
 -- ---- lines
--- each command
+-- two numbers
 pub new_line : IsCommandText (codes "new 1 02") (New 1 2)
 new_line = (codes "1 02", refl, a_pair)
 
+-- a key and a value
 pub put_line : IsCommandText (codes "put 1 02") (OnTable (Put 1 2))
 put_line = (codes "1 02", refl, a_pair, lit< tt)
 
+-- a key
 pub get_line : IsCommandText (codes "get 042") (OnTable (Get 42))
 get_line = (codes "042", refl, a_number)
 
-pub word_lines : IsCommandText (codes "len") (OnTable Len) × IsCommandText (codes "walk") (OnTable Walk) × IsCommandText (codes "hex") (OnTable Hex) × IsCommandText (codes "dump") (OnTable Dump)
+-- a word alone
+pub word_lines : IsCommandText (codes "len") (OnTable Len)
+    × IsCommandText (codes "walk") (OnTable Walk)
+    × IsCommandText (codes "hex") (OnTable Hex)
+    × IsCommandText (codes "dump") (OnTable Dump)
 word_lines = (refl, refl, refl, refl)
 
 -- a line with another name, though its numbers are right

@@ -16,9 +16,11 @@ use Rattle.odht_table.specs.Answers.{IsGoodPercent, IsRenewed}
 use Rattle.odht.proofs.examples.SmallTables.{no_pairs}
 
 -- ---- percentages
+-- the least and the greatest
 pub good_percents : IsGoodPercent 1 × IsGoodPercent 100
 good_percents = ((lit≤ tt, lit≤ tt), (lit≤ tt, lit≤ tt))
 
+-- the next ones
 pub bad_percents : (IsGoodPercent 0 → ⊥) × (IsGoodPercent 101 → ⊥)
 bad_percents = (λ h. omega (arith, h.0), λ h. omega (arith, h.1))
 
@@ -29,7 +31,8 @@ good = (lit≤ tt, lit≤ tt)
 -- no slot count is enough, or the bytes of the least one are too many
 pub too_large : IsTooLarge my_config (2 ^ 63) (factor_of 100) × IsTooLarge my_config (2 ^ 62) (factor_of 100)
 unfolding opened
-too_large = (λ s e. absurd (none-some s e), λ s e. subst (λ n. 2 ^ 64 ≤ 32 + n * 12 + n + 16) (some_same _ s e) (lit≤ tt))
+too_large =
+    (λ s e. absurd (none-some s e), λ s e. subst (λ n. 2 ^ 64 ≤ 32 + n * 12 + n + 16) (some_same _ s e) (lit≤ tt))
 
 -- sixteen slots are not too many
 pub not_too_large : IsTooLarge my_config 0 (factor_of 87) → ⊥
@@ -48,16 +51,19 @@ fresh_image : IsImage my_config no_pairs new_bytes
 unfolding opened
 fresh_image = record { valid = fresh-IsValid 0 87 no_pairs refl my_config good.0 good.1; bytes = refl }
 
--- each answer
+-- a percentage past 100
 pub a_bad_percent : IsRenewed my_config 0 101 (codes "bad percent") (Some old_bytes) (Some old_bytes)
 a_bad_percent = IsRenewed.bad_percent (Some old_bytes) bad_percents.1
 
+-- no slot count is enough
 pub a_capacity : IsRenewed my_config (2 ^ 63) 100 (codes "capacity") (Some old_bytes) (Some old_bytes)
 a_capacity = IsRenewed.capacity (Some old_bytes) good_percents.1 too_large.0
 
+-- memory may be refused at any good percentage where there is room
 pub a_memory : IsRenewed my_config 0 87 (codes "memory") (Some old_bytes) (Some old_bytes)
 a_memory = IsRenewed.memory (Some old_bytes) good not_too_large
 
+-- sixteen slots, of which thirteen may be filled
 pub a_new_table : IsRenewed my_config 0 87 (codes "slots 16 max 13") (Some old_bytes) (Some new_bytes)
 unfolding opened digits
 a_new_table = IsRenewed.made (Some old_bytes) 16 no_pairs new_bytes good refl refl fresh_image

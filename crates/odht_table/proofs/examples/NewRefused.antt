@@ -19,7 +19,8 @@ use Rattle.odht.proofs.examples.SmallTables.{no_pairs}
 
 -- ---- the parts of each answer
 abbrev IsMade : Format → ℕ → ℕ → List ℕ → Option (List ℕ) → Type 0
-IsMade F n p text now = (s : ℕ) × (P : Table) × (bytes : List ℕ) × (text ≡ new_text s (max_items s (factor_of p))) × (now ≡ Some bytes)
+IsMade F n p text now =
+    (s : ℕ) × (P : Table) × (bytes : List ℕ) × (text ≡ new_text s (max_items s (factor_of p))) × (now ≡ Some bytes)
     × IsGoodPercent p × (slots_for n (factor_of p) ≡ Some s) × (fresh n p ≡ Some P) × IsImage F P bytes
 
 abbrev HasAnswer : Format → ℕ → ℕ → List ℕ → Option (List ℕ) → Option (List ℕ) → Type 0
@@ -29,14 +30,17 @@ HasAnswer F n p text old now =
     ⊎ (((text ≡ codes "memory") × (now ≡ old) × IsGoodPercent p × ¬ (IsTooLarge F n (factor_of p)))
     ⊎ IsMade F n p text now))
 
-has_answer : (F : Format) (n p : ℕ) (text : List ℕ) (old now : Option (List ℕ)) → IsRenewed F n p text old now → HasAnswer F n p text old now
+has_answer : (F : Format) (n p : ℕ) (text : List ℕ) (old now : Option (List ℕ)) → IsRenewed F n p text old now
+    → HasAnswer F n p text old now
 has_answer F n p text old now (IsRenewed.bad_percent same bad) = inl (refl, refl, bad)
 has_answer F n p text old now (IsRenewed.capacity same good large) = inr (inl (refl, refl, good, large))
 has_answer F n p text old now (IsRenewed.memory same good small) = inr (inr (inl (refl, refl, good, small)))
-has_answer F n p text old now (IsRenewed.made same s P bytes good slots new image) = inr (inr (inr (s, P, bytes, refl, refl, good, slots, new, image)))
+has_answer F n p text old now (IsRenewed.made same s P bytes good slots new image) =
+    inr (inr (inr (s, P, bytes, refl, refl, good, slots, new, image)))
 
 -- the text of a new table begins with another letter than a refusal's
-made_letter : (F : Format) (n p : ℕ) (text : List ℕ) (now : Option (List ℕ)) → (slice_index text 0 == 115) ≡ false → IsMade F n p text now → ⊥
+made_letter : (F : Format) (n p : ℕ) (text : List ℕ) (now : Option (List ℕ)) → (slice_index text 0 == 115) ≡ false
+    → IsMade F n p text now → ⊥
 made_letter F n p text now other h = told_apart (λ t. slice_index t 0 == 115) _ text refl other (sym h.3)
 
 module _ (n p : ℕ) (old now : Option (List ℕ)) where
@@ -49,25 +53,30 @@ module _ (n p : ℕ) (old now : Option (List ℕ)) where
       go (inr (inr (inl k))) = absurd (texts_apart _ _ refl k.0)
       go (inr (inr (inr k))) = absurd (made_letter _ _ _ _ _ refl k)
 
-  capacity_parts : IsRenewed my_config n p (codes "capacity") old now → (now ≡ old) × IsGoodPercent p × IsTooLarge my_config n (factor_of p)
+  capacity_parts : IsRenewed my_config n p (codes "capacity") old now
+      → (now ≡ old) × IsGoodPercent p × IsTooLarge my_config n (factor_of p)
   capacity_parts h = go (has_answer _ _ _ _ _ _ h)
     where
-      go : HasAnswer my_config n p (codes "capacity") old now → (now ≡ old) × IsGoodPercent p × IsTooLarge my_config n (factor_of p)
+      go : HasAnswer my_config n p (codes "capacity") old now
+          → (now ≡ old) × IsGoodPercent p × IsTooLarge my_config n (factor_of p)
       go (inl k) = absurd (texts_apart _ _ refl k.0)
       go (inr (inl k)) = (k.1, k.2, k.3)
       go (inr (inr (inl k))) = absurd (texts_apart _ _ refl k.0)
       go (inr (inr (inr k))) = absurd (made_letter _ _ _ _ _ refl k)
 
-  memory_parts : IsRenewed my_config n p (codes "memory") old now → (now ≡ old) × IsGoodPercent p × ¬ (IsTooLarge my_config n (factor_of p))
+  memory_parts : IsRenewed my_config n p (codes "memory") old now
+      → (now ≡ old) × IsGoodPercent p × ¬ (IsTooLarge my_config n (factor_of p))
   memory_parts h = go (has_answer _ _ _ _ _ _ h)
     where
-      go : HasAnswer my_config n p (codes "memory") old now → (now ≡ old) × IsGoodPercent p × ¬ (IsTooLarge my_config n (factor_of p))
+      go : HasAnswer my_config n p (codes "memory") old now
+          → (now ≡ old) × IsGoodPercent p × ¬ (IsTooLarge my_config n (factor_of p))
       go (inl k) = absurd (texts_apart _ _ refl k.0)
       go (inr (inl k)) = absurd (texts_apart _ _ refl k.0)
       go (inr (inr (inl k))) = (k.1, k.2, k.3)
       go (inr (inr (inr k))) = absurd (made_letter _ _ _ _ _ refl k)
 
-  made_parts : (text : List ℕ) → (slice_index text 0 == 115) ≡ true → IsRenewed my_config n p text old now → IsMade my_config n p text now
+  made_parts : (text : List ℕ) → (slice_index text 0 == 115) ≡ true → IsRenewed my_config n p text old now
+      → IsMade my_config n p text now
   made_parts text letter h = go (has_answer _ _ _ _ _ _ h)
     where
       go : HasAnswer my_config n p text old now → IsMade my_config n p text now
@@ -77,32 +86,37 @@ module _ (n p : ℕ) (old now : Option (List ℕ)) where
       go (inr (inr (inr k))) = k
 
 -- ---- `bad percent`
--- at a good percentage, and where the table went away
+-- at a good percentage
 pub bad_percent_at_a_good_one : IsRenewed my_config 0 87 (codes "bad percent") None None → ⊥
 bad_percent_at_a_good_one h = (bad_percent_parts _ _ _ _ h).1 good
 
+-- where the table went away
 pub changed_by_bad_percent : IsRenewed my_config 0 101 (codes "bad percent") (Some old_bytes) None → ⊥
 changed_by_bad_percent h = none-some _ (bad_percent_parts _ _ _ _ h).0
 
 -- ---- `capacity`
--- at a bad percentage, where there is room, and where the table went away
+-- at a bad percentage
 pub capacity_at_a_bad_percent : IsRenewed my_config (2 ^ 63) 0 (codes "capacity") None None → ⊥
 capacity_at_a_bad_percent h = bad_percents.0 (capacity_parts _ _ _ _ h).1
 
+-- where there is room
 pub capacity_with_room : IsRenewed my_config 0 87 (codes "capacity") None None → ⊥
 capacity_with_room h = not_too_large (capacity_parts _ _ _ _ h).2
 
+-- where the table went away
 pub changed_by_capacity : IsRenewed my_config (2 ^ 63) 100 (codes "capacity") (Some old_bytes) None → ⊥
 changed_by_capacity h = none-some _ (capacity_parts _ _ _ _ h).0
 
 -- ---- `memory`
--- at a bad percentage, where no memory is enough, and where the table went away
+-- at a bad percentage
 pub memory_at_a_bad_percent : IsRenewed my_config 0 101 (codes "memory") None None → ⊥
 memory_at_a_bad_percent h = bad_percents.1 (memory_parts _ _ _ _ h).1
 
+-- where no memory is enough
 pub memory_without_room : IsRenewed my_config (2 ^ 62) 100 (codes "memory") None None → ⊥
 memory_without_room h = (memory_parts _ _ _ _ h).2 too_large.1
 
+-- where the table went away
 pub changed_by_memory : IsRenewed my_config 0 87 (codes "memory") (Some old_bytes) None → ⊥
 changed_by_memory h = none-some _ (memory_parts _ _ _ _ h).0
 
@@ -116,25 +130,29 @@ the_bytes : (text : List ℕ) (now : Option (List ℕ)) → IsMade my_config 0 8
 unfolding opened
 the_bytes text now h = h.4 ∙ ap Some (h.8.bytes ∙ ap (image my_config) (sym (some_same no_pairs h.1 h.7)))
 
--- another slot count, and another maximum
+-- another slot count
 pub other_slots : IsRenewed my_config 0 87 (codes "slots 32 max 13") None (Some new_bytes) → ⊥
 other_slots h = texts_apart _ _ refl (the_text _ _ (made_parts _ _ _ _ _ refl h))
 
+-- another maximum
 pub other_maximum : IsRenewed my_config 0 87 (codes "slots 16 max 14") None (Some new_bytes) → ⊥
 other_maximum h = texts_apart _ _ refl (the_text _ _ (made_parts _ _ _ _ _ refl h))
 
--- the bytes of another table, those of none, and no table
+-- the bytes of another table
 pub other_table : IsRenewed my_config 0 87 (codes "slots 16 max 13") (Some old_bytes) (Some old_bytes) → ⊥
 unfolding opened
 other_table h = some_texts_apart _ _ refl (the_bytes _ _ (made_parts _ _ _ _ _ refl h))
 
+-- the bytes of none
 pub no_bytes : IsRenewed my_config 0 87 (codes "slots 16 max 13") (Some old_bytes) (Some []) → ⊥
 unfolding opened
 no_bytes h = some_texts_apart _ _ refl (the_bytes _ _ (made_parts _ _ _ _ _ refl h))
 
+-- no table
 pub no_table : IsRenewed my_config 0 87 (codes "slots 16 max 13") None None → ⊥
 no_table h = none-some _ (the_bytes _ _ (made_parts _ _ _ _ _ refl h))
 
 -- a bad percentage
-pub made_at_a_bad_percent : IsRenewed my_config 0 0 (codes "slots 16 max 0") None (Some (image my_config (empty 16 0))) → ⊥
+pub made_at_a_bad_percent : IsRenewed my_config 0 0 (codes "slots 16 max 0") None (Some (image my_config (empty 16 0)))
+    → ⊥
 made_at_a_bad_percent h = bad_percents.0 (made_parts _ _ _ _ _ refl h).5

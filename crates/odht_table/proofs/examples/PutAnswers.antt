@@ -11,20 +11,22 @@ use Rattle.odht.proofs.examples.Apart.{told_apart, texts_apart}
 use Rattle.odht.proofs.examples.SmallTables.{no_pairs, one_pair, full_of_none, one_of_32}
 use Rattle.odht_table.proofs.examples.Tests.{has_pairs, has_value}
 
--- a new key, and one that is there
+-- a new key
 pub new_key : IsPutAnswered my_coding no_pairs 1 2 (codes "none\n") (one_pair 2)
 unfolding opened digits
 new_key = inl (refl, refl)
 
+-- a key that is there
 pub old_key : IsPutAnswered my_coding (one_pair 2) 1 3 (codes "was 2\n") (one_pair 3)
 unfolding opened digits
 old_key = inl (refl, refl)
 
--- a full table grows, or memory was refused
+-- a full table grows
 pub grown : IsPutAnswered my_coding full_of_none 1 2 (codes "none\n") (one_of_32 6 2)
 unfolding opened digits
 grown = inl (refl, refl)
 
+-- or memory was refused for that
 pub not_grown : IsPutAnswered my_coding full_of_none 1 2 (codes "memory\n") full_of_none
 unfolding opened digits
 not_grown = inr (refl, refl, (refl, refl))
@@ -35,12 +37,13 @@ unfolding opened digits
 other_text (inl h) = texts_apart _ _ refl h.0
 other_text (inr h) = texts_apart _ _ refl h.0
 
--- the right text and another table: that of before, or of another value
+-- the right text and the table of before
 pub nothing_put : IsPutAnswered my_coding no_pairs 1 2 (codes "none\n") no_pairs → ⊥
 unfolding opened digits
 nothing_put (inl h) = told_apart (λ (o : Option Table). option_map_or (has_pairs 1) o false) _ _ refl refl h.1
 nothing_put (inr h) = texts_apart _ _ refl h.0
 
+-- the table of another value
 pub other_value : IsPutAnswered my_coding (one_pair 2) 1 3 (codes "was 2\n") (one_pair 2) → ⊥
 unfolding opened digits
 other_value (inl h) = told_apart (λ (o : Option Table). option_map_or (has_value 1 3) o false) _ _ refl refl h.1
@@ -58,12 +61,13 @@ unfolding opened digits
 changed_by_refusal (inl h) = texts_apart _ _ refl h.0
 changed_by_refusal (inr h) = told_apart (has_pairs 1) _ _ refl refl h.1
 
--- memory is refused neither where there is room, nor where the key is there
+-- memory is refused neither where there is room
 pub refused_with_room : IsPutAnswered my_coding no_pairs 1 2 (codes "memory\n") no_pairs → ⊥
 unfolding opened digits
 refused_with_room (inl h) = texts_apart _ _ refl h.0
 refused_with_room (inr h) = omega (arith, h.2.0)
 
+-- nor where the key is there
 pub refused_old_key : IsPutAnswered my_coding (one_of_32 6 2) 1 3 (codes "memory\n") (one_of_32 6 2) → ⊥
 unfolding opened digits
 refused_old_key (inl h) = texts_apart _ _ refl h.0

@@ -23,51 +23,61 @@ changed : no_pairs ≡ one_pair 2 → ⊥
 changed = told_apart (has_pairs 0) no_pairs (one_pair 2) refl refl
 
 -- ---- put
+-- a present key with a new value
 pub a_put : Answers (Put 1 3) (codes "was 2\n") (one_pair 3)
 a_put = old_key
 
+-- the same with another text
 pub no_put : Answers (Put 1 3) (codes "was 3\n") (one_pair 3) → ⊥
 no_put = other_text
 
 -- ---- get
--- a key that is there, and one that is not
+-- a key that is there
 pub a_get : Answers (Get 1) (codes "2\n") (one_pair 2)
 unfolding opened digits
 a_get = (refl, refl)
 
+-- a key that is not there
 pub a_missing_get : Answers (Get 2) (codes "none\n") (one_pair 2)
 unfolding opened digits
 a_missing_get = (refl, refl)
 
--- another text, and another table
+-- another text
 pub other_get : Answers (Get 1) (codes "none\n") (one_pair 2) → ⊥
 unfolding opened digits
 other_get h = texts_apart _ _ refl h.0
 
+-- another table
 pub changed_by_get : Answers (Get 1) (codes "2\n") no_pairs → ⊥
 changed_by_get h = changed h.1
 
 -- ---- len
+-- one item
 pub a_len : Answers Len (codes "1\n") (one_pair 2)
 unfolding opened digits
 a_len = (refl, refl)
 
+-- another text
 pub other_len : Answers Len (codes "0\n") (one_pair 2) → ⊥
 unfolding opened digits
 other_len h = texts_apart _ _ refl h.0
 
+-- another table
 pub changed_by_len : Answers Len (codes "1\n") no_pairs → ⊥
 changed_by_len h = changed h.1
 
 -- ---- walk
+-- one line for the pair, and the end
 pub a_walk : Answers Walk (codes "1 2\nend\n") (one_pair 2)
 unfolding opened digits
 a_walk = (refl, refl)
 
+-- a walk that misses the pair
 pub other_walk : Answers Walk (codes "end\n") (one_pair 2) → ⊥
 unfolding opened digits
 other_walk h = texts_apart _ _ refl h.0
 
+-- another table
 pub changed_by_walk : Answers Walk (codes "1 2\nend\n") no_pairs → ⊥
 changed_by_walk h = changed h.1
 
@@ -83,14 +93,17 @@ all_bytes =
     ++ times 60 (codes "00") ++ codes "010000000000000002000000" ++ times 120 (codes "00")
     ++ times 2 (times 5 (codes "ff") ++ codes "13" ++ times 10 (codes "ff"))
 
+-- all bytes and the end of the line
 pub a_hex : Answers Hex (all_bytes ++ codes "\n") (one_pair 2)
 unfolding opened digits
 a_hex = (refl, refl)
 
+-- the first two bytes alone
 pub other_hex : Answers Hex (codes "4f44\n") (one_pair 2) → ⊥
 unfolding opened digits
 other_hex h = texts_apart _ _ refl h.0
 
+-- another table
 pub changed_by_hex : Answers Hex (all_bytes ++ codes "\n") no_pairs → ⊥
 changed_by_hex h = changed h.1
 
@@ -105,20 +118,29 @@ all_slots =
     ++ free_lines 0 5 ++ codes "slot 5: key=[1, 0, 0, 0, 0, 0, 0, 0], value=[2, 0, 0, 0], control_byte=19\n"
     ++ free_lines 6 10 ++ codes "}\n\n"
 
+-- the numbers, and a line for each slot
 pub a_dump : Answers Dump all_slots (one_pair 2)
 unfolding opened digits
 a_dump = (refl, refl)
 
+-- a part of the first line
 pub other_dump : Answers Dump (codes "(item_count=1)\n") (one_pair 2) → ⊥
 unfolding opened digits
 other_dump h = some_texts_apart _ all_slots refl h.0
 
+-- another table
 pub changed_by_dump : Answers Dump all_slots no_pairs → ⊥
 changed_by_dump h = changed h.1
 
 -- ---- what may change the table
+-- a `put`
 pub may_change : MayChange (Put 1 2)
 may_change = tt
 
-pub may_not_change : (MayChange (Get 1) → ⊥) × (MayChange Len → ⊥) × (MayChange Walk → ⊥) × (MayChange Hex → ⊥) × (MayChange Dump → ⊥)
+-- the other requests do not
+pub may_not_change : (MayChange (Get 1) → ⊥)
+    × (MayChange Len → ⊥)
+    × (MayChange Walk → ⊥)
+    × (MayChange Hex → ⊥)
+    × (MayChange Dump → ⊥)
 may_not_change = (λ h. h, λ h. h, λ h. h, λ h. h, λ h. h)

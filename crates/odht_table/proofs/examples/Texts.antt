@@ -22,17 +22,22 @@ pub hexadecimal : (hex_digits 0 ≡ codes "00")
 hexadecimal = (refl, refl, refl, refl, refl, refl, refl)
 
 -- what `get` tells
-pub values : (value_text None ≡ codes "none") × (value_text (Some 0) ≡ codes "0") × (value_text (Some 4294967295) ≡ codes "4294967295")
+pub values : (value_text None ≡ codes "none")
+    × (value_text (Some 0) ≡ codes "0")
+    × (value_text (Some 4294967295) ≡ codes "4294967295")
 unfolding digits
 values = (refl, refl, refl)
 
 -- what `put` tells
-pub formers : (former_text None ≡ codes "none") × (former_text (Some 2) ≡ codes "was 2") × (former_text (Some 120) ≡ codes "was 120")
+pub formers : (former_text None ≡ codes "none")
+    × (former_text (Some 2) ≡ codes "was 2")
+    × (former_text (Some 120) ≡ codes "was 120")
 unfolding digits
 formers = (refl, refl, refl)
 
 -- the key, a space and the value
-pub pair_lines : (pair_line (1, 2) ≡ codes "1 2\n") × (pair_line (18446744073709551615, 0) ≡ codes "18446744073709551615 0\n")
+pub pair_lines : (pair_line (1, 2) ≡ codes "1 2\n")
+    × (pair_line (18446744073709551615, 0) ≡ codes "18446744073709551615 0\n")
 unfolding digits
 pair_lines = (refl, refl)
 
@@ -49,9 +54,13 @@ unfolding digits
 new_texts = (refl, refl)
 
 -- what stops a run
-pub fault_texts : (fault_text Read ≡ codes "read failed") × (fault_text Write ≡ codes "write failed") × (fault_text no_memory ≡ codes "memory")
+pub fault_texts : (fault_text Read ≡ codes "read failed")
+    × (fault_text Write ≡ codes "write failed")
+    × (fault_text no_memory ≡ codes "memory")
 fault_texts = (refl, refl, refl)
 
 -- why a `new` made no table
-pub refusal_texts : (refusal_text BadPercent ≡ codes "bad percent") × (refusal_text Capacity ≡ codes "capacity") × (refusal_text Memory ≡ codes "memory")
+pub refusal_texts : (refusal_text BadPercent ≡ codes "bad percent")
+    × (refusal_text Capacity ≡ codes "capacity")
+    × (refusal_text Memory ≡ codes "memory")
 refusal_texts = (refl, refl, refl)
