@@ -37,7 +37,7 @@ over_none : (b : Bool) → value b ≡ option_or (value b) None
 over_none true = refl
 over_none false = refl
 
--- of a table with room, whose size stays, and of a full one, whose size does not
+-- of a table with room, whose size stays
 pub a_filling : IsFilled my_config (put_owned my_config) no_pairs (pair64 1 2 ∷ []) (bytes_of (one_pair 2))
 unfolding opened
 a_filling = record {
@@ -48,6 +48,7 @@ a_filling = record {
   stays = λ room. ((refl, refl), lit≤ tt);
 }
 
+-- of a full one, whose size does not stay
 pub a_growth : IsFilled my_config (put_owned my_config) full_of_none (pair64 1 2 ∷ []) (bytes_of (one_of_32 6 2))
 unfolding opened
 a_growth = record {
@@ -80,24 +81,27 @@ pub no_image : IsFilled my_config (put_owned my_config) no_pairs (pair64 1 2 ∷
 unfolding opened
 no_image h = texts_apart _ _ refl (h.image.bytes ∙ ap bytes_of (sym (some_same (one_pair 2) h.table h.runs)))
 
--- inserts of another value, and inserts that lose the other keys
+-- inserts of another value
 pub other_value : IsFilled my_config (λ P p. Some (one_pair 3)) no_pairs (pair64 1 2 ∷ []) (bytes_of (one_pair 3)) → ⊥
 other_value h =
     some_texts_apart _ _ refl (ap (λ T. map_of T (le_bytes 8 1)) (some_same (one_pair 3) h.table h.runs) ∙ h.maps (le_bytes 8 1))
 
+-- inserts that lose the other keys
 pub other_key_lost : IsFilled my_config (λ P p. Some other_pair) (one_pair 2) (pair64 3 4 ∷ []) (bytes_of other_pair)
     → ⊥
 other_key_lost h =
     none-some _ (ap (λ T. map_of T (le_bytes 8 1)) (some_same other_pair h.table h.runs) ∙ h.maps (le_bytes 8 1))
 
--- inserts that change the slot count of a table with room, and such that change its load factor
+-- the table of 1 to 2 at another load factor
 abbrev other_factor : Table
 other_factor = record { factor = factor_of 86; cells = (one_pair 2).cells }
 
+-- inserts that change the slot count of a table with room
 pub grown_with_room : IsFilled my_config (λ P p. Some (one_of_32 87 2)) no_pairs (pair64 1 2 ∷ []) (bytes_of (one_of_32 87 2))
     → ⊥
 grown_with_room h = omega (arith, (h.stays (lit≤ tt)).0.0, ap slot_count (some_same (one_of_32 87 2) h.table h.runs))
 
+-- inserts that change its load factor
 pub changed_factor : IsFilled my_config (λ P p. Some other_factor) no_pairs (pair64 1 2 ∷ []) (bytes_of other_factor)
     → ⊥
 changed_factor h =
@@ -123,6 +127,7 @@ pub with_room : IsRefusedAt number_coding (one_pair 2) ((1, 5) ∷ (3, 4) ∷ []
 with_room h = omega (arith, h.full.0)
 
 -- ---- fillings of a fresh table
+-- one item in sixteen slots
 pub a_fresh_filling : IsFreshFilled number_coding 87 ((1, 2) ∷ []) (bytes_of (one_pair 2))
 unfolding opened a_filling
 a_fresh_filling = record { start = no_pairs; new = refl; filled = a_filling; never_grown = (refl, refl) }
@@ -136,11 +141,12 @@ the_filling B h =
     ap (λ T. run (put_owned my_config) T (pair64 1 2 ∷ [])) start ∙ h.filled.runs in
     h.filled.image.bytes ∙ ap bytes_of (sym (some_same (one_pair 2) h.filled.table runs))
 
--- a larger table from the start, and no bytes of a table
+-- a larger table from the start
 pub larger_start : IsFreshFilled number_coding 87 ((1, 2) ∷ []) (bytes_of (one_of_32 87 2)) → ⊥
 unfolding opened
 larger_start h = texts_apart _ _ refl (the_filling _ h)
 
+-- no bytes of a table
 pub no_fresh_image : IsFreshFilled number_coding 87 ((1, 2) ∷ []) [] → ⊥
 unfolding opened
 no_fresh_image h = texts_apart _ _ refl (the_filling _ h)

@@ -14,15 +14,17 @@ use Rattle.odht.proofs.examples.Apart.{texts_apart, some_texts_apart}
 use Rattle.odht.proofs.examples.SmallTables.{number_coding, no_pairs, one_pair, other_pair, one_of_32, bytes_of, no_pairs_image, one_pair_image}
 
 -- ---- new tables
+-- sixteen slots at 87 percent
 pub a_fresh_table : IsFresh my_config 0 87 (bytes_of no_pairs)
 unfolding opened
 a_fresh_table = record { table = no_pairs; new = refl; image = no_pairs_image }
 
--- the bytes of a larger table, and those of none
+-- the bytes of a larger table
 pub larger : IsFresh my_config 0 87 (bytes_of (empty 32 (factor_of 87))) → ⊥
 unfolding opened
 larger h = texts_apart _ _ refl (h.image.bytes ∙ ap bytes_of (sym (some_same no_pairs h.table h.new)))
 
+-- the bytes of none
 pub no_bytes : IsFresh my_config 0 87 [] → ⊥
 unfolding opened
 no_bytes h = texts_apart _ _ refl (h.image.bytes ∙ ap bytes_of (sym (some_same no_pairs h.table h.new)))
@@ -34,7 +36,7 @@ no_percent h =
     omega (arith, h.image.valid.factor_low, ap (λ (T : Table). T.factor) (some_same (empty 16 0) h.table h.new))
 
 -- ---- inserts
--- a new key, and one that is there
+-- a new key
 pub a_new_key : IsInserted number_coding (put_owned my_config) no_pairs 1 2 None (bytes_of (one_pair 2))
 unfolding opened
 a_new_key = record {
@@ -50,6 +52,7 @@ a_new_key = record {
     go true = refl
     go false = refl
 
+-- a key that is there
 pub an_old_key : IsInserted number_coding (put_owned my_config) (one_pair 2) 1 3 (Some 2) (bytes_of (one_pair 3))
 unfolding opened
 an_old_key = record {
@@ -71,6 +74,7 @@ an_old_key = record {
 pub other_former : IsInserted number_coding (put_owned my_config) (one_pair 2) 1 3 (Some 3) (bytes_of (one_pair 3)) → ⊥
 other_former h = omega (arith, some_same 3 2 h.former)
 
+-- no former value
 pub no_former : IsInserted number_coding (put_owned my_config) (one_pair 2) 1 3 None (bytes_of (one_pair 3)) → ⊥
 no_former h = none-some 2 h.former
 
@@ -88,11 +92,12 @@ pub no_image : IsInserted number_coding (put_owned my_config) no_pairs 1 2 None 
 unfolding opened
 no_image h = texts_apart _ _ refl (h.image.bytes ∙ ap bytes_of (sym (some_same (one_pair 2) h.table h.inserted)))
 
--- an insert of another value, and one that loses the other keys
+-- an insert of another value
 pub other_value : IsInserted number_coding (λ P p. Some (one_pair 3)) no_pairs 1 2 None (bytes_of (one_pair 3)) → ⊥
 other_value h =
     some_texts_apart _ _ refl (ap (λ T. map_of T (le_bytes 8 1)) (some_same (one_pair 3) h.table h.inserted) ∙ h.maps (le_bytes 8 1))
 
+-- one that loses the other keys
 pub other_key_lost : IsInserted number_coding (λ P p. Some other_pair) (one_pair 2) 3 4 None (bytes_of other_pair) → ⊥
 other_key_lost h =
     none-some _ (ap (λ T. map_of T (le_bytes 8 1)) (some_same other_pair h.table h.inserted) ∙ h.maps (le_bytes 8 1))

@@ -25,17 +25,21 @@ in_turn = (1, 2) ∷ (3, 4) ∷ (1, 5) ∷ (3, 6) ∷ []
 abbrev Lacks : ℕ → ℕ × ℕ → Type 0
 Lacks k item = item.0 ≢ k
 
+-- no item has it
 pub without_key : HasNoKey items 2
 without_key =
     All-cons (Lacks 2) (1, 2) ((3, 4) ∷ []) (λ e. omega (arith, e)) (All-cons (Lacks 2) (3, 4) [] (λ e. omega (arith, e)) (All-nil (Lacks 2)))
 
+-- the first item has it
 pub without_first : HasNoKey items 1 → ⊥
 without_first h = h 0 (0, 0) (lit< tt) refl
 
+-- the last item has it
 pub without_second : HasNoKey items 3 → ⊥
 without_second h = h 1 (0, 0) (lit< tt) refl
 
 -- ---- last items
+-- an item of the same key stands before
 pub a_last_item : IsLastItem in_turn 1 5
 a_last_item = record {
   before = (1, 2) ∷ (3, 4) ∷ [];
@@ -71,15 +75,18 @@ earlier_value h = go h.after h.latest (one_of_two _ _ _ _ h.before h.after h.sta
     go after latest (inr k) = omega (arith, k.1)
 
 -- ---- last values
+-- the value of the last item, or none
 pub last_values : IsLastValue in_turn 1 (Some 5) × IsLastValue items 2 None
 last_values = (a_last_item, without_key)
 
+-- a value of another key, one that is not the last, and none for a key that is there
 pub no_last_values : (IsLastValue items 1 (Some 4) → ⊥)
     × (IsLastValue twice 1 (Some 2) → ⊥)
     × (IsLastValue items 3 None → ⊥)
 no_last_values = (other_value, earlier_value, without_second)
 
 -- ---- bytes of a table of last values
+-- the later value of the one key
 pub a_table : HasLastValues number_coding ((1, 2) ∷ (1, 3) ∷ []) (bytes_of (one_pair 3))
 unfolding opened
 a_table = record { table = one_pair 3; image = one_pair_image.1; maps = λ k. go (bytes_eq k (le_bytes 8 1)) }
@@ -89,17 +96,19 @@ a_table = record { table = one_pair 3; image = one_pair_image.1; maps = λ k. go
     go true = refl
     go false = refl
 
--- the table of the first value, one that lacks the key, and one that has a further key
+-- the table of the first value
 pub first_value : HasLastValues number_coding ((1, 2) ∷ (1, 3) ∷ []) (bytes_of (one_pair 2)) → ⊥
 unfolding opened
 first_value h =
     some_texts_apart _ _ refl (ap (λ T. map_of T (le_bytes 8 1)) (the_table h.table _ h.image) ∙ h.maps (le_bytes 8 1))
 
+-- a table with a further key
 pub further_key : HasLastValues number_coding [] (bytes_of (one_pair 2)) → ⊥
 unfolding opened
 further_key h =
     none-some _ (sym (ap (λ T. map_of T (le_bytes 8 1)) (the_table h.table _ h.image) ∙ h.maps (le_bytes 8 1)))
 
+-- a table that lacks a key
 pub lacking_key : HasLastValues number_coding ((1, 2) ∷ (3, 4) ∷ []) (bytes_of (one_pair 2)) → ⊥
 unfolding opened
 lacking_key h = none-some _ (ap (λ T. map_of T (le_bytes 8 3)) (the_table h.table _ h.image) ∙ h.maps (le_bytes 8 3))
