@@ -19,5 +19,7 @@ pub mod Runs
 pub mod InsertAlls
 -- tables that are copied into bytes of the caller
 pub mod HandedOut
+-- tables that are built in memory
+pub mod Filled
 -- what the calls answer that build a table
 pub mod Builds

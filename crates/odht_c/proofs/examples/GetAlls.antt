@@ -43,12 +43,16 @@ present_all = record {
         → IsGotAt (value_for direct_coding P k) (slice_get (9 ∷ []) i) (slice_get (1 ∷ []) i) (slice_get (7 ∷ []) i)
     valid P same zero k at =
         subst (λ T. IsGotAt (value_for direct_coding T k) (Some 9) (Some 1) (Some 7)) same
-        (subst (λ x. IsGotAt (value_for direct_coding one_item x) (Some 9) (Some 1) (Some 7)) (some_same 5 k at) (refl, refl))
+        (subst (λ x. IsGotAt (value_for direct_coding one_item x) (Some 9) (Some 1) (Some 7))
+        (some_same 5 k at) (refl, refl))
     valid P same (suc i) k at = absurd (none-some k at)
 
     any : (i k : ℕ) → slice_get (5 ∷ []) i ≡ Some k
-        → (o : Option ℕ) × IsGotAt o (slice_get (9 ∷ []) i) (slice_get (1 ∷ []) i) (slice_get (7 ∷ []) i) × IfSome o (HasStored direct_coding one_bytes k)
-    any zero k at = (Some 7, (refl, refl), subst (λ x. HasStored direct_coding one_bytes x 7) (some_same 5 k at) (le_bytes 4 7, refl, (5, lit< tt, refl, refl)))
+        → (o : Option ℕ) × IsGotAt o (slice_get (9 ∷ []) i) (slice_get (1 ∷ []) i) (slice_get (7 ∷ []) i)
+        × IfSome o (HasStored direct_coding one_bytes k)
+    any zero k at =
+        let stored : HasStored direct_coding one_bytes 5 7 = (le_bytes 4 7, refl, (5, lit< tt, refl, refl)) in
+        (Some 7, (refl, refl), subst (λ x. HasStored direct_coding one_bytes x 7) (some_same 5 k at) stored)
     any (suc i) k at = absurd (none-some k at)
 
 -- ---- lengths
@@ -87,14 +91,17 @@ accepted_status_refused h = unequal 32 0 refl (h.accepted (refl, refl) accepted_
 
 -- ---- on_valid
 -- a present key of a valid table is not told as absent
-pub present_missed_all_refused : GetAllAnswers direct_coding one_bytes (5 ∷ []) (9 ∷ []) (3 ∷ []) 0 (9 ∷ []) (0 ∷ []) → ⊥
+pub present_missed_all_refused : GetAllAnswers direct_coding one_bytes (5 ∷ []) (9 ∷ []) (3 ∷ []) 0 (9 ∷ []) (0 ∷ [])
+    → ⊥
 unfolding opened
 present_missed_all_refused h = unequal 0 1 refl (some_same 0 1 (h.on_valid one_item 0 5 (refl, refl) one_image refl).0)
 
 -- and its value is written
-pub present_unwritten_all_refused : GetAllAnswers direct_coding one_bytes (5 ∷ []) (9 ∷ []) (3 ∷ []) 0 (9 ∷ []) (1 ∷ []) → ⊥
+pub present_unwritten_all_refused : GetAllAnswers direct_coding one_bytes (5 ∷ []) (9 ∷ []) (3 ∷ []) 0 (9 ∷ []) (1 ∷ [])
+    → ⊥
 unfolding opened
-present_unwritten_all_refused h = unequal 9 7 refl (some_same 9 7 (h.on_valid one_item 0 5 (refl, refl) one_image refl).1)
+present_unwritten_all_refused h =
+    unequal 9 7 refl (some_same 9 7 (h.on_valid one_item 0 5 (refl, refl) one_image refl).1)
 
 -- ---- on_any
 -- what was found is 0 or 1, also of bytes that are accepted and not valid

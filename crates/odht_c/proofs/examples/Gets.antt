@@ -63,7 +63,8 @@ pub present_answers : GetAnswers direct_coding one_bytes 5 9 0 7
 unfolding opened
 present_answers = record {
   refused = λ e is. never_refused direct_coding.format one_item one_bytes e one_image is;
-  on_valid = λ P is. subst (λ T. IsGot (value_for direct_coding T 5) 9 0 7) (same_table one_item P one_bytes one_image is) (refl, refl);
+  on_valid = λ P is. subst (λ T. IsGot (value_for direct_coding T 5) 9 0 7)
+      (same_table one_item P one_bytes one_image is) (refl, refl);
   on_any = λ is. (Some 7, (refl, refl), (le_bytes 4 7, refl, (5, lit< tt, refl, refl)));
 }
 
@@ -72,7 +73,8 @@ pub absent_answers : GetAnswers direct_coding one_bytes 6 9 32 9
 unfolding opened
 absent_answers = record {
   refused = λ e is. never_refused direct_coding.format one_item one_bytes e one_image is;
-  on_valid = λ P is. subst (λ T. IsGot (value_for direct_coding T 6) 9 32 9) (same_table one_item P one_bytes one_image is) (refl, refl);
+  on_valid = λ P is. subst (λ T. IsGot (value_for direct_coding T 6) 9 32 9)
+      (same_table one_item P one_bytes one_image is) (refl, refl);
   on_any = λ is. (None, (refl, refl), tt);
 }
 

@@ -5,6 +5,7 @@ use Rattle.odht_c.specs.Builds.{IsHandedOut}
 use Rattle.odht_c.proofs.lemmas.HandedOut.{IsHandedOut-none}
 use Rattle.odht_c.proofs.examples.Tables.{unequal, unequal_lists}
 
+-- the bytes that stand for a table
 abbrev AreOneTwo : List ℕ → Type 0
 AreOneTwo B = B ≡ 1 ∷ 2 ∷ []
 

@@ -154,4 +154,5 @@ pub init_made_filled_refused : InitAnswers direct_coding 1 7 ones 0 one_bytes �
 unfolding opened new_refusal
 init_made_filled_refused h =
     let made = (h.made seven refl).1 in
-    unequal_lists one_bytes no_bytes refl (made.2.bytes ∙ ap (image direct_config) (sym (some_same no_items made.0 made.1)))
+    unequal_lists one_bytes no_bytes refl
+    (made.2.bytes ∙ ap (image direct_config) (sym (some_same no_items made.0 made.1)))

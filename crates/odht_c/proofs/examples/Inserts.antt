@@ -36,7 +36,9 @@ replaced_unwritten_refused h = unequal 9 7 refl h.1
 
 -- ---- IsAnswered
 -- an insert, one of a key that was there, and a refusal
-pub answers : IsAnswered {V = ℕ} (Ok None) 9 0 9 × IsAnswered {V = ℕ} (Ok (Some 7)) 9 33 7 × IsAnswered {V = ℕ} (Err Full) 9 18 9
+pub answers : IsAnswered {V = ℕ} (Ok None) 9 0 9
+    × IsAnswered {V = ℕ} (Ok (Some 7)) 9 33 7
+    × IsAnswered {V = ℕ} (Err Full) 9 18 9
 answers = ((refl, refl), (refl, refl), (refl, refl))
 
 -- an insert is not answered as one of a key that was there
@@ -108,7 +110,8 @@ pub new_insert : InsertAnswers direct_coding no_bytes 5 7 9 0 one_bytes 9
 unfolding opened
 new_insert = record {
   refused = λ e is. never_refused direct_config no_items no_bytes e no_image is;
-  on_valid = λ P is. subst (λ T. IsPut direct_coding T 5 7 one_bytes 9 0 9) (same_table no_items P no_bytes no_image is) put_new;
+  on_valid = λ P is. subst (λ T. IsPut direct_coding T 5 7 one_bytes 9 0 9)
+      (same_table no_items P no_bytes no_image is) put_new;
   on_any = λ is. (Ok None, (refl, refl), (Ok None, refl, InsertFrame.added 5 (lit< tt) (inl refl) (lit< tt)));
 }
 
@@ -117,7 +120,8 @@ pub again_insert : InsertAnswers direct_coding one_bytes 5 8 9 33 other_bytes 7
 unfolding opened
 again_insert = record {
   refused = λ e is. never_refused direct_config one_item one_bytes e one_image is;
-  on_valid = λ P is. subst (λ T. IsPut direct_coding T 5 8 other_bytes 9 33 7) (same_table one_item P one_bytes one_image is) put_again;
+  on_valid = λ P is. subst (λ T. IsPut direct_coding T 5 8 other_bytes 9 33 7)
+      (same_table one_item P one_bytes one_image is) put_again;
   on_any = λ is. (Ok (Some 7), (refl, refl), (Ok (Some (le_bytes 4 7)), refl, InsertFrame.overwrote 5 (lit< tt) refl));
 }
 
@@ -126,7 +130,8 @@ pub full_insert : InsertAnswers direct_coding one_bytes 6 8 9 18 one_bytes 9
 unfolding opened
 full_insert = record {
   refused = λ e is. never_refused direct_config one_item one_bytes e one_image is;
-  on_valid = λ P is. subst (λ T. IsPut direct_coding T 6 8 one_bytes 9 18 9) (same_table one_item P one_bytes one_image is) put_full;
+  on_valid = λ P is. subst (λ T. IsPut direct_coding T 6 8 one_bytes 9 18 9)
+      (same_table one_item P one_bytes one_image is) put_full;
   on_any = λ is. (Err Full, (refl, refl), (Err Full, refl, InsertFrame.full (lit≤ tt)));
 }
 
@@ -155,6 +160,7 @@ left : (B D : List ℕ) (p : Pair) (e : Error) → InsertFrame direct_config B p
 left B D p e (InsertFrame.full full) = (refl, refl)
 left B D p e (InsertFrame.no_slot none) = (refl, refl)
 
+-- of a key and a value
 framed_left : (B D : List ℕ) (k v : ℕ) (e : Error) → IsFramed direct_coding B k v (Err e) D → (e ≡ Full) × (D ≡ B)
 framed_left B D k v e (Ok o, same, frame) = absurd cc
 framed_left B D k v e (Err x, same, frame) =
@@ -168,7 +174,8 @@ insert_other_status_refused h = go (h.on_any accepted_bytes.2)
     go : (r : Result (Option ℕ) Error) × IsAnswered r 9 50 9 × IsFramed direct_coding miscounted 6 8 r miscounted → ⊥
     go (Ok None, answer, frame) = unequal 50 0 refl answer.0
     go (Ok (Some v), answer, frame) = unequal 50 33 refl answer.0
-    go (Err e, answer, frame) = unequal 50 18 refl (answer.0 ∙ ap status_of (framed_left miscounted miscounted 6 8 e frame).0)
+    go (Err e, answer, frame) =
+        unequal 50 18 refl (answer.0 ∙ ap status_of (framed_left miscounted miscounted 6 8 e frame).0)
 
 -- and stay where the insert is refused
 pub insert_other_bytes_refused : InsertAnswers direct_coding miscounted 6 8 9 18 no_bytes 9 → ⊥

@@ -98,5 +98,6 @@ other_run (IsFramedRun.accepted [] k v o C D run (Ok x, same, frame)) e is =
     (subst (λ n. InsertFrame direct_config C (pair32 n v) (Ok x) D) (sym key) frame)))
     is
 
+-- the value 7 is not written as 8
 pub other_value_run_refused : IsFramedRun direct_coding no_bytes ((5, 7) ∷ []) other_bytes → ⊥
 other_value_run_refused h = other_run h refl refl

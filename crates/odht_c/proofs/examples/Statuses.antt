@@ -5,7 +5,7 @@ use Rattle.odht_raw.specs.declared.error.Part.{Part}
 use Rattle.odht_c.specs.Statuses.{status_of, done, absent, replaced, bad_percent, bad_lengths, too_small, status_or_ok, IsPercent, AreAsLong}
 
 -- ODHT_TOO_SHORT to ODHT_WRONG_LENGTH, which are about the header and the length
-pub opening_statuses : (a b : ℕ) (c : ℕ) (bs : List ℕ) (part : Part)
+pub opening_statuses : (a b c : ℕ) (bs : List ℕ) (part : Part)
     → (status_of (TooShort a) ≡ 1)
     × (status_of (WrongTag bs) ≡ 2)
     × (status_of (WrongVersion bs) ≡ 3)
@@ -48,7 +48,9 @@ pub other_statuses : (done ≡ 0)
 other_statuses = (refl, refl, refl, refl, refl, refl)
 
 -- no refusal is ODHT_OK, and a refusal has its own status
-pub status_or_ok_statuses : (status_or_ok None ≡ 0) × (status_or_ok (Some Full) ≡ 18) × (status_or_ok (Some (TooShort 0)) ≡ 1)
+pub status_or_ok_statuses : (status_or_ok None ≡ 0)
+    × (status_or_ok (Some Full) ≡ 18)
+    × (status_or_ok (Some (TooShort 0)) ≡ 1)
 status_or_ok_statuses = (refl, refl, refl)
 
 -- 1 and 100 are load factors in percent

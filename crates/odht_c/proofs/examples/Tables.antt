@@ -97,7 +97,9 @@ other_image = record {
 }
 
 -- the header and the length of all three fit
-pub accepted_bytes : IsAccepted direct_config no_bytes × IsAccepted direct_config one_bytes × IsAccepted direct_config miscounted
+pub accepted_bytes : IsAccepted direct_config no_bytes
+    × IsAccepted direct_config one_bytes
+    × IsAccepted direct_config miscounted
 unfolding opened
 accepted_bytes = (refl, refl, refl)
 

@@ -53,15 +53,33 @@ pairs = (1, 2) ∷ (3, 4) ∷ []
 
 -- arrays of three elements take both, and their last elements stay
 pub walked_all : IsWalked pairs (9 ∷ 9 ∷ 9 ∷ []) (8 ∷ 8 ∷ 8 ∷ []) 0 (1 ∷ 3 ∷ 9 ∷ []) (2 ∷ 4 ∷ 8 ∷ []) 2
-walked_all = record { told = refl; keys = refl; values = refl; all = λ fits. refl; more = λ less. absurd (omega (arith, less)) }
+walked_all = record {
+  told = refl;
+  keys = refl;
+  values = refl;
+  all = λ fits. refl;
+  more = λ less. absurd (omega (arith, less));
+}
 
 -- arrays of two elements take both too
 pub walked_exactly : IsWalked pairs (9 ∷ 9 ∷ []) (8 ∷ 8 ∷ []) 0 (1 ∷ 3 ∷ []) (2 ∷ 4 ∷ []) 2
-walked_exactly = record { told = refl; keys = refl; values = refl; all = λ fits. refl; more = λ less. absurd (omega (arith, less)) }
+walked_exactly = record {
+  told = refl;
+  keys = refl;
+  values = refl;
+  all = λ fits. refl;
+  more = λ less. absurd (omega (arith, less));
+}
 
 -- arrays of one element take the first
 pub walked_first : IsWalked pairs (9 ∷ []) (8 ∷ []) 36 (1 ∷ []) (2 ∷ []) 1
-walked_first = record { told = refl; keys = refl; values = refl; all = λ fits. absurd (omega (arith, fits)); more = λ less. refl }
+walked_first = record {
+  told = refl;
+  keys = refl;
+  values = refl;
+  all = λ fits. absurd (omega (arith, fits));
+  more = λ less. refl;
+}
 
 -- no fewer pairs are told than the arrays take
 pub walked_fewer_refused : IsWalked pairs (9 ∷ 9 ∷ 9 ∷ []) (8 ∷ 8 ∷ 8 ∷ []) 0 (1 ∷ 9 ∷ 9 ∷ []) (2 ∷ 8 ∷ 8 ∷ []) 1 → ⊥
@@ -72,7 +90,8 @@ pub walked_keys_refused : IsWalked pairs (9 ∷ 9 ∷ 9 ∷ []) (8 ∷ 8 ∷ 8 �
 walked_keys_refused h = unequal_lists (3 ∷ 1 ∷ 9 ∷ []) (1 ∷ 3 ∷ 9 ∷ []) refl h.keys
 
 -- and no key behind them changes
-pub walked_keys_behind_refused : IsWalked pairs (9 ∷ 9 ∷ 9 ∷ []) (8 ∷ 8 ∷ 8 ∷ []) 0 (1 ∷ 3 ∷ 0 ∷ []) (2 ∷ 4 ∷ 8 ∷ []) 2 → ⊥
+pub walked_keys_behind_refused : IsWalked pairs (9 ∷ 9 ∷ 9 ∷ []) (8 ∷ 8 ∷ 8 ∷ []) 0 (1 ∷ 3 ∷ 0 ∷ []) (2 ∷ 4 ∷ 8 ∷ []) 2
+    → ⊥
 walked_keys_behind_refused h = unequal_lists (1 ∷ 3 ∷ 0 ∷ []) (1 ∷ 3 ∷ 9 ∷ []) refl h.keys
 
 -- each value stands where its key does
@@ -80,7 +99,8 @@ pub walked_values_refused : IsWalked pairs (9 ∷ 9 ∷ 9 ∷ []) (8 ∷ 8 ∷ 8
 walked_values_refused h = unequal_lists (4 ∷ 2 ∷ 8 ∷ []) (2 ∷ 4 ∷ 8 ∷ []) refl h.values
 
 -- and no value behind them changes
-pub walked_values_behind_refused : IsWalked pairs (9 ∷ 9 ∷ 9 ∷ []) (8 ∷ 8 ∷ 8 ∷ []) 0 (1 ∷ 3 ∷ 9 ∷ []) (2 ∷ 4 ∷ 0 ∷ []) 2 → ⊥
+pub walked_values_behind_refused : IsWalked pairs (9 ∷ 9 ∷ 9 ∷ []) (8 ∷ 8 ∷ 8 ∷ []) 0 (1 ∷ 3 ∷ 9 ∷ []) (2 ∷ 4 ∷ 0 ∷ []) 2
+    → ⊥
 walked_values_behind_refused h = unequal_lists (2 ∷ 4 ∷ 0 ∷ []) (2 ∷ 4 ∷ 8 ∷ []) refl h.values
 
 -- arrays that take all pairs, and no more, are not too small
@@ -108,14 +128,23 @@ lengths_walk = record {
 
 -- the pair of a valid table with one item
 one_walked : IsWalked {K = ℕ} {V = ℕ} ((5, 7) ∷ []) (9 ∷ 9 ∷ []) (8 ∷ 8 ∷ []) 0 (5 ∷ 9 ∷ []) (7 ∷ 8 ∷ []) 1
-one_walked = record { told = refl; keys = refl; values = refl; all = λ fits. refl; more = λ less. absurd (omega (arith, less)) }
+one_walked = record {
+  told = refl;
+  keys = refl;
+  values = refl;
+  all = λ fits. refl;
+  more = λ less. absurd (omega (arith, less));
+}
 
+-- and the walk over its bytes
 pub one_walk : WalkAnswers direct_coding one_bytes (9 ∷ 9 ∷ []) (8 ∷ 8 ∷ []) 4 0 (5 ∷ 9 ∷ []) (7 ∷ 8 ∷ []) 1
 unfolding opened
 one_walk = record {
   lengths = λ other. absurd (other refl);
   refused = λ e long is. never_refused direct_coding.format one_item one_bytes e one_image is;
-  on_valid = λ P long is. subst (λ T. IsWalked (decoded_all direct_coding (walk T)) (9 ∷ 9 ∷ []) (8 ∷ 8 ∷ []) 0 (5 ∷ 9 ∷ []) (7 ∷ 8 ∷ []) 1) (same_table one_item P one_bytes one_image is) one_walked;
+  on_valid = λ P long is. subst
+      (λ T. IsWalked (decoded_all direct_coding (walk T)) (9 ∷ 9 ∷ []) (8 ∷ 8 ∷ []) 0 (5 ∷ 9 ∷ []) (7 ∷ 8 ∷ []) 1)
+      (same_table one_item P one_bytes one_image is) one_walked;
   on_any = λ long is. one_walked;
 }
 
