@@ -127,7 +127,8 @@ grown_filled = record {
   image = grown_image;
   maps =
       map_of-run direct_config (IsValid direct_config) (put_owned direct_config) (put_owned-IsInsert direct_config)
-      start grown_item (squares 14) roomy_images.0.valid (walk-IsPairOf direct_config grown_item grown_image.valid.placed) refl;
+      start grown_item (squares 14) roomy_images.0.valid
+      (walk-IsPairOf direct_config grown_item grown_image.valid.placed) refl;
   stays = λ room. absurd (let few : 14 ≤ 13 = room in omega (arith, few));
 }
 

@@ -20,7 +20,6 @@ use Rattle.odht_c.proofs.lemmas.Refused.{refused_insert_all}
 use Rattle.odht_c.proofs.examples.Runs.{one_run, unchanged, misplaced}
 use Rattle.odht_c.proofs.examples.Tables.{direct_coding, no_items, one_item, no_bytes, one_bytes, miscounted, no_image, one_image, accepted_bytes, same_table, unequal, unequal_lists}
 
--- ---- InsertAllAnswers
 -- no bytes are refused, and the places stay
 pub too_short_insert_all : InsertAllAnswers direct_coding [] (5 ∷ []) (7 ∷ []) 9 1 [] 9
 unfolding opened
@@ -45,12 +44,14 @@ unfolding opened
 one_filled =
     let none : IsFilled direct_config (put_view direct_config) no_items [] no_bytes = (
     record { table = no_items; runs = refl; image = no_image; maps = λ k. refl; stays = λ room. ((refl, refl), omega arith) }) in
-    filled_more direct_config (put_view direct_config) (put_view-IsInsert direct_config) (put_view-PlacesBelow direct_config)
-    no_items [] (pair32 5 7) no_bytes one_bytes none one_item refl one_image
+    filled_more direct_config (put_view direct_config) (put_view-IsInsert direct_config)
+    (put_view-PlacesBelow direct_config) no_items [] (pair32 5 7) no_bytes one_bytes none one_item refl one_image
 
 -- of each table that is the one without items
-filled_from : (P : Table) → no_items ≡ P → IsFilled direct_config (put_view direct_config) P (pair32 5 7 ∷ []) one_bytes
-filled_from P same = subst (λ T. IsFilled direct_config (put_view direct_config) T (pair32 5 7 ∷ []) one_bytes) same one_filled
+filled_from : (P : Table) → no_items ≡ P
+    → IsFilled direct_config (put_view direct_config) P (pair32 5 7 ∷ []) one_bytes
+filled_from P same =
+    subst (λ T. IsFilled direct_config (put_view direct_config) T (pair32 5 7 ∷ []) one_bytes) same one_filled
 
 -- and full is each that is the one with one item
 full_for : (P : Table) → one_item ≡ P → IsFullFor P (le_bytes 4 6)

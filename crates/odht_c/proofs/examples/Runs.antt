@@ -73,14 +73,16 @@ misplaced_run =
     (Ok None, refl, InsertFrame.added 6 (lit< tt) (inl refl) (lit< tt))
 
 -- no slot takes another value than that of the pair
-other_value : (D : List ℕ) (o : Option (List ℕ)) → InsertFrame direct_config no_bytes (pair32 5 7) (Ok o) D → D ≡ other_bytes → ⊥
+other_value : (D : List ℕ) (o : Option (List ℕ)) → InsertFrame direct_config no_bytes (pair32 5 7) (Ok o) D
+    → D ≡ other_bytes → ⊥
 unfolding opened
 other_value D o (InsertFrame.overwrote i low same) e =
     unequal_lists (key_at direct_config no_bytes i) (le_bytes 4 5)
     (tested (λ j. lists_differ (key_at direct_config no_bytes j) (le_bytes 4 5)) 16 i refl low) same
 other_value D o (InsertFrame.added i low free room) e =
     unequal_lists (with_count (with_pair direct_config 16 no_bytes i (pair32 5 7)) 1) other_bytes
-    (tested (λ j. lists_differ (with_count (with_pair direct_config 16 no_bytes j (pair32 5 7)) 1) other_bytes) 16 i refl low) e
+    (tested (λ j. lists_differ (with_count (with_pair direct_config 16 no_bytes j (pair32 5 7)) 1) other_bytes)
+    16 i refl low) e
 
 -- so a run of one insert leaves no other value
 other_run : {items : List (ℕ × ℕ)} {D : List ℕ}
