@@ -1,5 +1,5 @@
 //! What neither a contract nor a vector says: the tests that the Rust crate has, lists beside a map of std, tables without a
-//! free slot, and want of memory.
+//! free slot, and want of memory. Views of changed tables are seen as run too.
 mod builds;
 mod carried_items;
 mod changed_tables;

@@ -305,22 +305,33 @@ fn is_opened<C: Numbers>(bytes: &[u8]) -> bool {
     opened.is_ok()
 }
 
-// Each call over bytes that are opened stays in the frame.
+// Each call over a copy of the bytes that can be written stays in the frame.
+fn check_written<C: Numbers>(
+    rt: &impl Abort,
+    alloc: Global,
+    cases: &mut Cases,
+    copy: &mut [u8],
+    random: &mut Random,
+) -> Result<(), AllocError> {
+    let bytes = copy.to_vec(alloc)?;
+    let bytes = bytes.as_slice();
+    check_read::<C, BorrowedMut<'_>>(rt, alloc, cases, BorrowedMut::new(copy), bytes)?;
+    check_inserts_at_once::<C, BorrowedMut<'_>>(rt, cases, BorrowedMut::new(copy), bytes, random);
+    Ok(())
+}
+
+// So does each over the bytes, and inserts one by one into them.
 fn check_calls<C: Numbers>(
     rt: &impl Abort,
     alloc: Global,
     cases: &mut Cases,
-    bytes: &[u8],
+    bytes: &mut [u8],
     random: &mut Random,
 ) -> Result<(), AllocError> {
-    check_read::<C, Borrowed<'_>>(rt, alloc, cases, Borrowed::new(bytes), bytes)?;
     let mut copy = bytes.to_vec(alloc)?;
-    let all = copy.as_mut_slice();
-    check_read::<C, BorrowedMut<'_>>(rt, alloc, cases, BorrowedMut::new(all), bytes)?;
-    check_inserts::<C, BorrowedMut<'_>>(rt, alloc, cases, BorrowedMut::new(all), random)?;
-    all.copy_from_slice(bytes);
-    check_inserts_at_once::<C, BorrowedMut<'_>>(rt, cases, BorrowedMut::new(all), bytes, random);
-    Ok(())
+    check_read::<C, Borrowed<'_>>(rt, alloc, cases, Borrowed::new(bytes), copy.as_slice())?;
+    check_written::<C>(rt, alloc, cases, copy.as_mut_slice(), random)?;
+    check_inserts::<C, BorrowedMut<'_>>(rt, alloc, cases, BorrowedMut::new(bytes), random)
 }
 
 // Changes a table, demands that it is opened just where the second reading finds nothing, and then looks at each call.
@@ -331,8 +342,11 @@ fn try_table<C: Numbers>(
     seed: u64,
     change: Change,
 ) -> Result<(), Error> {
-    let Changed { bytes, mut random } = changed_table::<C>(alloc, seed, change)?;
-    let bytes = bytes.as_slice();
+    let Changed {
+        mut bytes,
+        mut random,
+    } = changed_table::<C>(alloc, seed, change)?;
+    let bytes = bytes.as_mut_slice();
     let is_so = is_opened::<C>(bytes);
     let expected = Reading { bytes }.is_opened::<C>();
     same_at(rt, "opening of table", seed, is_so, expected);
