@@ -9,5 +9,7 @@ pub mod HeaderBytes
 pub mod Invalid
 -- inserts into such bytes
 pub mod Frames
+-- what such an insert may not do
+pub mod FrameRefusals
 -- the dump of a table
 pub mod Dumps
