@@ -1,18 +1,19 @@
 -- Worked examples: what an insert may not do, also to bytes that are not valid.
-use Rattle.std.proofs.Common.{◌≡◌, ◌<◌, ◌∙◌, ◌+◌, ◌-◌, ℕ, refl, sym, ap, inl, inr, Bool, true, true≢false, not, List, [], ◌∷◌, Option, Some, None, Ok, Err, length, replicate, set, slice_index, lit<, subst, arith, zero-add}
+use Rattle.std.proofs.Common.{◌≡◌, ◌<◌, ◌∙◌, ◌+◌, ◌-◌, ℕ, refl, sym, ap, inl, inr, Bool, true, false, true≢false, not, ◌||◌, List, [], ◌∷◌, Option, Some, None, Ok, Err, length, replicate, set, slice_index, lit<, subst, arith, zero-add}
 use Rattle.std.specs.List.{range_with_len, list_all}
 use Rattle.std.proofs.lemmas.List.FromFn.{get_or-range_with_len, length-range_with_len}
 use Rattle.std.proofs.lemmas.List.Sums.{AllPass-from_list_all}
 use Rattle.odht_base.specs.Bytes.{overwritten_at}
 use Rattle.odht_base.specs.Format.{Format}
 use Rattle.odht_base.specs.Numbers.{le_bytes}
-use Rattle.odht_base.specs.Shown.{controls_of, counts_as_free, key_at}
+use Rattle.odht_base.specs.Shown.{controls_of, counts_as_free, key_at, value_at, slot_key}
 use Rattle.odht_base.specs.Table.{Pair}
+use Rattle.odht_base.specs.Writes.{with_value, with_pair, with_count}
 use Rattle.odht_base.proofs.examples.Configs.{test_config, direct_config, pair32}
-use Rattle.odht_raw.specs.Frame.{InsertFrame, PartsFrame, CountsAsFree, CountsAsFilled}
+use Rattle.odht_raw.specs.Frame.{InsertFrame, PartsFrame, CountsAsFree, CountsAsFilled, HasNoFree, HasNoFreeSlot}
 use Rattle.odht_raw.specs.Refusals.{lists_differ}
 use Rattle.odht_raw.specs.declared.error.Error.{Error}
-use Rattle.odht_raw.specs.declared.error.Error.TheVariants.{Full}
+use Rattle.odht_raw.specs.declared.error.Error.TheVariants.{Full, TooShort}
 use Rattle.odht_raw.proofs.examples.Opened.{opened}
 use Rattle.odht_raw.proofs.examples.Refused.{test_bytes}
 use Rattle.odht_raw.proofs.examples.Invalid.{all_filled}
@@ -113,3 +114,221 @@ absent_key o v D (InsertFrame.added i low free room) e = absurd cc
 -- a key that no entry has is not answered with a value
 pub overwrite_of_absent_key_refused : (v D : List ℕ) → InsertFrame test_config test_bytes (pair32 1 2) (Ok (Some v)) D → ⊥
 overwrite_of_absent_key_refused v D h = absent_key (Some v) v D h refl
+
+-- ---- another byte
+-- the overwrite of 3 by 7, after which the bytes are D
+abbrev overwrites_three : Option (List ℕ) → List ℕ → Type 0
+overwrites_three o D = InsertFrame direct_config (all_filled 0) (pair32 3 7) (Ok o) D
+
+-- of two tests one holds
+neither : (a b : Bool) → (a ≡ true → ⊥) → (b ≡ true → ⊥) → (a || b) ≡ true → ⊥
+neither true b f g h = f refl
+neither false b f g h = g h
+
+-- whether slot j has another key than 3, or its overwrite by 7 leaves other bytes than E, or its value is not v
+abbrev is_no_overwrite : List ℕ → List ℕ → ℕ → Bool
+is_no_overwrite v E j =
+    lists_differ (key_at direct_config (all_filled 0) j) (le_bytes 4 3)
+    || (lists_differ (with_value direct_config (all_filled 0) j (le_bytes 4 7)) E || lists_differ (value_at direct_config (all_filled 0) j) v)
+
+other_overwrite : (o : Option (List ℕ)) (v D E : List ℕ) → list_all (is_no_overwrite v E) (range_with_len 0 16) ≡ true
+    → overwrites_three o D → o ≡ Some v → D ≡ E → ⊥
+unfolding opened
+other_overwrite o v D E h (InsertFrame.overwrote i low same) e is =
+    let value : value_at direct_config (all_filled 0) i ≡ v = cc in
+    neither (lists_differ (key_at direct_config (all_filled 0) i) (le_bytes 4 3))
+    (lists_differ (with_value direct_config (all_filled 0) i (le_bytes 4 7)) E || lists_differ (value_at direct_config (all_filled 0) i) v)
+    (λ k. unequal_lists (key_at direct_config (all_filled 0) i) (le_bytes 4 3) k same)
+    (neither (lists_differ (with_value direct_config (all_filled 0) i (le_bytes 4 7)) E) (lists_differ (value_at direct_config (all_filled 0) i) v)
+    (λ k. unequal_lists (with_value direct_config (all_filled 0) i (le_bytes 4 7)) E k is)
+    (λ k. unequal_lists (value_at direct_config (all_filled 0) i) v k value))
+    (tested (is_no_overwrite v E) 16 i h low)
+other_overwrite o v D E h (InsertFrame.added i low free room) e is = absurd cc
+
+-- the bytes with 3 overwritten by 7, and then the bytes d written from `at` on
+abbrev overwritten_and : ℕ → List ℕ → List ℕ
+overwritten_and at d = overwritten_at (overwritten_at (all_filled 0) 60 (7 ∷ [])) at d
+
+-- an overwrite changes no padding byte
+pub overwrite_of_padding_refused : (v : List ℕ) → overwrites_three (Some v) (overwritten_and 30 (1 ∷ [])) → ⊥
+unfolding opened
+overwrite_of_padding_refused v h = other_overwrite (Some v) v (overwritten_and 30 (1 ∷ [])) (overwritten_and 30 (1 ∷ [])) refl h refl refl
+
+-- nor the count
+pub overwrite_of_count_refused : (v : List ℕ) → overwrites_three (Some v) (overwritten_and 8 (1 ∷ [])) → ⊥
+unfolding opened
+overwrite_of_count_refused v h = other_overwrite (Some v) v (overwritten_and 8 (1 ∷ [])) (overwritten_and 8 (1 ∷ [])) refl h refl refl
+
+-- nor a control byte
+pub overwrite_of_control_refused : (v : List ℕ) → overwrites_three (Some v) (overwritten_and 163 (1 ∷ [])) → ⊥
+unfolding opened
+overwrite_of_control_refused v h = other_overwrite (Some v) v (overwritten_and 163 (1 ∷ [])) (overwritten_and 163 (1 ∷ [])) refl h refl refl
+
+-- nor the value of another slot, here the value 4 of slot 4
+pub overwrite_of_neighbour_refused : (v : List ℕ) → overwrites_three (Some v) (overwritten_and 68 (7 ∷ [])) → ⊥
+unfolding opened
+overwrite_of_neighbour_refused v h = other_overwrite (Some v) v (overwritten_and 68 (7 ∷ [])) (overwritten_and 68 (7 ∷ [])) refl h refl refl
+
+-- and it does not leave the bytes as they were, though slot 7 has the value 7
+pub unwritten_overwrite_refused : (v : List ℕ) → overwrites_three (Some v) (all_filled 0) → ⊥
+unfolding opened
+unwritten_overwrite_refused v h = other_overwrite (Some v) v (all_filled 0) (all_filled 0) refl h refl refl
+
+-- and it does not take the slot of another key
+pub overwrite_of_other_key_refused : (v : List ℕ) → overwrites_three (Some v) (overwritten_at (all_filled 0) 68 (7 ∷ [])) → ⊥
+unfolding opened
+overwrite_of_other_key_refused v h = other_overwrite (Some v) v (overwritten_at (all_filled 0) 68 (7 ∷ [])) (overwritten_at (all_filled 0) 68 (7 ∷ [])) refl h refl refl
+
+-- and it answers the value that was there, not the new one
+pub new_value_as_former_refused : overwrites_three (Some (le_bytes 4 7)) (overwritten_at (all_filled 0) 60 (7 ∷ [])) → ⊥
+unfolding opened
+new_value_as_former_refused h =
+    other_overwrite (Some (le_bytes 4 7)) (le_bytes 4 7) (overwritten_at (all_filled 0) 60 (7 ∷ [])) (overwritten_at (all_filled 0) 60 (7 ∷ [])) refl h refl refl
+
+-- a fresh table's bytes with 1 to 2 added in slot i and the count n
+abbrev with_one : ℕ → ℕ → List ℕ
+with_one i n = with_count (with_pair test_config 16 test_bytes i (pair32 1 2)) n
+
+-- whether E is other than what an insert of 1 to 2 leaves, whatever slot it takes
+abbrev no_addition : List ℕ → Bool
+no_addition E = list_all (λ j. lists_differ (with_one j 1) E) (range_with_len 0 16)
+
+other_addition : (o : Option (List ℕ)) (D E : List ℕ) → no_addition E ≡ true
+    → InsertFrame test_config test_bytes (pair32 1 2) (Ok o) D → o ≡ None → D ≡ E → ⊥
+unfolding opened
+other_addition o D E h (InsertFrame.overwrote i low same) e is = absurd cc
+other_addition o D E h (InsertFrame.added i low free room) e is =
+    unequal_lists (with_one i 1) E (tested (λ j. lists_differ (with_one j 1) E) 16 i h low) is
+
+-- an added entry changes no padding byte
+pub addition_with_padding_refused : InsertFrame test_config test_bytes (pair32 1 2) (Ok None) (overwritten_at (with_one 5 1) 30 (1 ∷ [])) → ⊥
+unfolding opened
+addition_with_padding_refused h = other_addition None (overwritten_at (with_one 5 1) 30 (1 ∷ [])) (overwritten_at (with_one 5 1) 30 (1 ∷ [])) refl h refl refl
+
+-- it is counted
+pub uncounted_addition_refused : InsertFrame test_config test_bytes (pair32 1 2) (Ok None) (with_one 5 0) → ⊥
+unfolding opened
+uncounted_addition_refused h = other_addition None (with_one 5 0) (with_one 5 0) refl h refl refl
+
+-- once
+pub addition_counted_twice_refused : InsertFrame test_config test_bytes (pair32 1 2) (Ok None) (with_one 5 2) → ⊥
+unfolding opened
+addition_counted_twice_refused h = other_addition None (with_one 5 2) (with_one 5 2) refl h refl refl
+
+-- its mirror byte is written too
+pub addition_without_mirror_refused : InsertFrame test_config test_bytes (pair32 1 2) (Ok None) (overwritten_at (with_one 5 1) 181 (255 ∷ [])) → ⊥
+unfolding opened
+addition_without_mirror_refused h = other_addition None (overwritten_at (with_one 5 1) 181 (255 ∷ [])) (overwritten_at (with_one 5 1) 181 (255 ∷ [])) refl h refl refl
+
+-- and no other slot is written
+pub addition_in_two_slots_refused : InsertFrame test_config test_bytes (pair32 1 2) (Ok None) (with_count (with_pair test_config 16 (with_one 5 1) 6 (pair32 1 2)) 1) → ⊥
+unfolding opened
+addition_in_two_slots_refused h =
+    other_addition None (with_count (with_pair test_config 16 (with_one 5 1) 6 (pair32 1 2)) 1) (with_count (with_pair test_config 16 (with_one 5 1) 6 (pair32 1 2)) 1) refl h refl refl
+
+unchanged : (F : Format) (B : List ℕ) (p : Pair) (e : Error) (D : List ℕ) → InsertFrame F B p (Err e) D → (e ≡ Full) × (D ≡ B)
+unchanged F B p e D (InsertFrame.full full) = (refl, refl)
+unchanged F B p e D (InsertFrame.no_slot none) = (refl, refl)
+
+-- a refused insert writes nothing
+pub written_refusal_refused : InsertFrame direct_config (all_filled 13) (pair32 99 7) (Err Full) (overwritten_at (all_filled 13) 30 (1 ∷ [])) → ⊥
+unfolding opened
+written_refusal_refused h =
+    unequal_lists (overwritten_at (all_filled 13) 30 (1 ∷ [])) (all_filled 13) refl
+    (unchanged direct_config (all_filled 13) (pair32 99 7) Full (overwritten_at (all_filled 13) 30 (1 ∷ [])) h).1
+
+-- and answers no other error
+pub other_error_refused : (F : Format) (B : List ℕ) (p : Pair) (n : ℕ) (D : List ℕ) → InsertFrame F B p (Err (TooShort n)) D → ⊥
+other_error_refused F B p n D h = let only = (unchanged F B p (TooShort n) D h).0 in absurd cc
+
+-- entries of zeros
+abbrev no_entries : List ℕ
+no_entries = replicate 128 0
+
+absent_from_parts : (o : Option (List ℕ)) (v es' ctrl' : List ℕ)
+    → PartsFrame test_config no_entries filled_controls (pair32 1 2) (Ok o) es' ctrl' → o ≡ Some v → ⊥
+unfolding opened
+absent_from_parts o v es' ctrl' (PartsFrame.overwrote i low same) e =
+    unequal_lists (slot_key test_config no_entries i) (le_bytes 4 1)
+    (tested (λ j. lists_differ (slot_key test_config no_entries j) (le_bytes 4 1)) 16 i refl low) same
+absent_from_parts o v es' ctrl' (PartsFrame.added i low free) e = absurd cc
+
+-- of parts too a key that no entry has is not answered with a value
+pub parts_overwrite_of_absent_key_refused : (v es' ctrl' : List ℕ)
+    → PartsFrame test_config no_entries filled_controls (pair32 1 2) (Ok (Some v)) es' ctrl' → ⊥
+parts_overwrite_of_absent_key_refused v es' ctrl' h = absent_from_parts (Some v) v es' ctrl' h refl
+
+kept_controls : (F : Format) (es ctrl : List ℕ) (p : Pair) (o : Option (List ℕ)) (v es' ctrl' : List ℕ)
+    → PartsFrame F es ctrl p (Ok o) es' ctrl' → o ≡ Some v → ctrl' ≡ ctrl
+kept_controls F es ctrl p o v es' ctrl' (PartsFrame.overwrote i low same) e = refl
+kept_controls F es ctrl p o v es' ctrl' (PartsFrame.added i low free) e = absurd cc
+
+-- an overwrite of parts changes no control byte
+pub parts_overwrite_of_control_refused : (F : Format) (es : List ℕ) (p : Pair) (v es' : List ℕ)
+    → PartsFrame F es filled_controls p (Ok (Some v)) es' (set filled_controls 3 1) → ⊥
+parts_overwrite_of_control_refused F es p v es' h =
+    unequal_lists (set filled_controls 3 1) filled_controls refl (kept_controls F es filled_controls p (Some v) v es' (set filled_controls 3 1) h refl)
+
+parts_unchanged : (F : Format) (es ctrl : List ℕ) (p : Pair) (e : Error) (es' ctrl' : List ℕ)
+    → PartsFrame F es ctrl p (Err e) es' ctrl' → (es' ≡ es) × (ctrl' ≡ ctrl)
+parts_unchanged F es ctrl p e es' ctrl' (PartsFrame.no_slot none) = (refl, refl)
+
+-- and a refused insert writes no entry
+pub parts_written_refusal_refused : (F : Format) (p : Pair) (ctrl ctrl' : List ℕ)
+    → PartsFrame F no_entries ctrl p (Err Full) (set no_entries 3 1) ctrl' → ⊥
+parts_written_refusal_refused F p ctrl ctrl' h =
+    unequal_lists (set no_entries 3 1) no_entries refl (parts_unchanged F no_entries ctrl p Full (set no_entries 3 1) ctrl' h).0
+
+-- ---- the words for one slot and for all
+-- slot 5 alone free, by its own byte and its mirror
+abbrev slot_five_free : List ℕ
+slot_five_free = set (set filled_controls 5 255) 21 255
+
+-- only the mirror of slot 5 free
+abbrev mirror_five_free : List ℕ
+mirror_five_free = set filled_controls 21 255
+
+-- a slot counts as free by its own byte, and one below 16 by its mirror
+pub counted_as_free : CountsAsFree slot_five_free 5 × CountsAsFree (set filled_controls 5 255) 5 × CountsAsFree mirror_five_free 5
+counted_as_free = (inl refl, inl refl, inr (lit< tt, refl))
+
+-- not by the byte of another slot
+pub neighbour_not_free : CountsAsFree slot_five_free 6 → ⊥
+neighbour_not_free (inl e) = true≢false (sym e)
+neighbour_not_free (inr (low, e)) = true≢false (sym e)
+
+-- a slot counts as filled by its own byte, and one below 16 by its mirror
+pub counted_as_filled : CountsAsFilled slot_five_free 6 × CountsAsFilled mirror_five_free 5 × CountsAsFilled (set filled_controls 5 255) 5
+counted_as_filled = (inl refl, inl refl, inr (lit< tt, refl))
+
+-- not where both are free
+pub free_slot_not_filled : CountsAsFilled slot_five_free 5 → ⊥
+free_slot_not_filled h = free_slot_refused slot_five_free 5 refl refl h
+
+-- no byte is free where all are 0
+filled_bytes : (i : ℕ) → i < 16 → (b : Bool) → counts_as_free (slice_index filled_controls i) ≡ b → b ≡ false
+filled_bytes i low true e = absurd (untrue (λ j. counts_as_free (slice_index filled_controls j)) 16 i refl low e)
+filled_bytes i low false e = refl
+
+pub none_free : HasNoFree filled_controls 16
+none_free i low = filled_bytes i low (counts_as_free (slice_index filled_controls i)) refl
+
+-- one of sixteen is free
+pub one_free_refused : HasNoFree slot_five_free 16 → ⊥
+one_free_refused h = true≢false (h 5 (lit< tt))
+
+-- but none of the first five
+first_bytes : (i : ℕ) → i < 5 → (b : Bool) → counts_as_free (slice_index slot_five_free i) ≡ b → b ≡ false
+first_bytes i low true e = absurd (untrue (λ j. counts_as_free (slice_index slot_five_free j)) 5 i refl low e)
+first_bytes i low false e = refl
+
+pub none_of_five_free : HasNoFree slot_five_free 5
+none_of_five_free i low = first_bytes i low (counts_as_free (slice_index slot_five_free i)) refl
+
+-- no slot is free where all control bytes are 0
+pub no_free_slots : HasNoFreeSlot filled_controls 16
+no_free_slots i low = inl (none_free i low)
+
+-- slot 5 of sixteen is free
+pub one_free_slot_refused : HasNoFreeSlot slot_five_free 16 → ⊥
+one_free_slot_refused h = free_slot_not_filled (h 5 (lit< tt))
