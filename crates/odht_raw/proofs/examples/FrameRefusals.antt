@@ -120,7 +120,7 @@ overwrite_of_absent_key_refused v D h = absent_key (Some v) v D h refl
 abbrev overwrites_three : Option (List ℕ) → List ℕ → Type 0
 overwrites_three o D = InsertFrame direct_config (all_filled 0) (pair32 3 7) (Ok o) D
 
--- of two tests one holds
+-- where one of two tests holds, not both are refuted
 neither : (a b : Bool) → (a ≡ true → ⊥) → (b ≡ true → ⊥) → (a || b) ≡ true → ⊥
 neither true b f g h = f refl
 neither false b f g h = g h
@@ -145,6 +145,9 @@ other_overwrite o v D E h (InsertFrame.overwrote i low same) e is =
     (tested (is_no_overwrite v E) 16 i h low)
 other_overwrite o v D E h (InsertFrame.added i low free room) e is = absurd cc
 
+left_by_none : (v E : List ℕ) → list_all (is_no_overwrite v E) (range_with_len 0 16) ≡ true → overwrites_three (Some v) E → ⊥
+left_by_none v E t h = other_overwrite (Some v) v E E t h refl refl
+
 -- the bytes with 3 overwritten by 7, and then the bytes d written from `at` on
 abbrev overwritten_and : ℕ → List ℕ → List ℕ
 overwritten_and at d = overwritten_at (overwritten_at (all_filled 0) 60 (7 ∷ [])) at d
@@ -152,38 +155,38 @@ overwritten_and at d = overwritten_at (overwritten_at (all_filled 0) 60 (7 ∷ [
 -- an overwrite changes no padding byte
 pub overwrite_of_padding_refused : (v : List ℕ) → overwrites_three (Some v) (overwritten_and 30 (1 ∷ [])) → ⊥
 unfolding opened
-overwrite_of_padding_refused v h = other_overwrite (Some v) v (overwritten_and 30 (1 ∷ [])) (overwritten_and 30 (1 ∷ [])) refl h refl refl
+overwrite_of_padding_refused v h = left_by_none v (overwritten_and 30 (1 ∷ [])) refl h
 
 -- nor the count
 pub overwrite_of_count_refused : (v : List ℕ) → overwrites_three (Some v) (overwritten_and 8 (1 ∷ [])) → ⊥
 unfolding opened
-overwrite_of_count_refused v h = other_overwrite (Some v) v (overwritten_and 8 (1 ∷ [])) (overwritten_and 8 (1 ∷ [])) refl h refl refl
+overwrite_of_count_refused v h = left_by_none v (overwritten_and 8 (1 ∷ [])) refl h
 
 -- nor a control byte
 pub overwrite_of_control_refused : (v : List ℕ) → overwrites_three (Some v) (overwritten_and 163 (1 ∷ [])) → ⊥
 unfolding opened
-overwrite_of_control_refused v h = other_overwrite (Some v) v (overwritten_and 163 (1 ∷ [])) (overwritten_and 163 (1 ∷ [])) refl h refl refl
+overwrite_of_control_refused v h = left_by_none v (overwritten_and 163 (1 ∷ [])) refl h
 
 -- nor the value of another slot, here the value 4 of slot 4
 pub overwrite_of_neighbour_refused : (v : List ℕ) → overwrites_three (Some v) (overwritten_and 68 (7 ∷ [])) → ⊥
 unfolding opened
-overwrite_of_neighbour_refused v h = other_overwrite (Some v) v (overwritten_and 68 (7 ∷ [])) (overwritten_and 68 (7 ∷ [])) refl h refl refl
+overwrite_of_neighbour_refused v h = left_by_none v (overwritten_and 68 (7 ∷ [])) refl h
 
 -- and it does not leave the bytes as they were, though slot 7 has the value 7
 pub unwritten_overwrite_refused : (v : List ℕ) → overwrites_three (Some v) (all_filled 0) → ⊥
 unfolding opened
-unwritten_overwrite_refused v h = other_overwrite (Some v) v (all_filled 0) (all_filled 0) refl h refl refl
+unwritten_overwrite_refused v h = left_by_none v (all_filled 0) refl h
 
--- and it does not take the slot of another key
+-- and it does not take the slot of another key, here of 4
 pub overwrite_of_other_key_refused : (v : List ℕ) → overwrites_three (Some v) (overwritten_at (all_filled 0) 68 (7 ∷ [])) → ⊥
 unfolding opened
-overwrite_of_other_key_refused v h = other_overwrite (Some v) v (overwritten_at (all_filled 0) 68 (7 ∷ [])) (overwritten_at (all_filled 0) 68 (7 ∷ [])) refl h refl refl
+overwrite_of_other_key_refused v h = left_by_none v (overwritten_at (all_filled 0) 68 (7 ∷ [])) refl h
 
 -- and it answers the value that was there, not the new one
 pub new_value_as_former_refused : overwrites_three (Some (le_bytes 4 7)) (overwritten_at (all_filled 0) 60 (7 ∷ [])) → ⊥
 unfolding opened
 new_value_as_former_refused h =
-    other_overwrite (Some (le_bytes 4 7)) (le_bytes 4 7) (overwritten_at (all_filled 0) 60 (7 ∷ [])) (overwritten_at (all_filled 0) 60 (7 ∷ [])) refl h refl refl
+    left_by_none (le_bytes 4 7) (overwritten_at (all_filled 0) 60 (7 ∷ [])) refl h
 
 -- a fresh table's bytes with 1 to 2 added in slot i and the count n
 abbrev with_one : ℕ → ℕ → List ℕ
@@ -200,31 +203,34 @@ other_addition o D E h (InsertFrame.overwrote i low same) e is = absurd cc
 other_addition o D E h (InsertFrame.added i low free room) e is =
     unequal_lists (with_one i 1) E (tested (λ j. lists_differ (with_one j 1) E) 16 i h low) is
 
+added_by_none : (E : List ℕ) → no_addition E ≡ true → InsertFrame test_config test_bytes (pair32 1 2) (Ok None) E → ⊥
+added_by_none E t h = other_addition None E E t h refl refl
+
 -- an added entry changes no padding byte
 pub addition_with_padding_refused : InsertFrame test_config test_bytes (pair32 1 2) (Ok None) (overwritten_at (with_one 5 1) 30 (1 ∷ [])) → ⊥
 unfolding opened
-addition_with_padding_refused h = other_addition None (overwritten_at (with_one 5 1) 30 (1 ∷ [])) (overwritten_at (with_one 5 1) 30 (1 ∷ [])) refl h refl refl
+addition_with_padding_refused h = added_by_none (overwritten_at (with_one 5 1) 30 (1 ∷ [])) refl h
 
--- it is counted
+-- an added entry is counted
 pub uncounted_addition_refused : InsertFrame test_config test_bytes (pair32 1 2) (Ok None) (with_one 5 0) → ⊥
 unfolding opened
-uncounted_addition_refused h = other_addition None (with_one 5 0) (with_one 5 0) refl h refl refl
+uncounted_addition_refused h = added_by_none (with_one 5 0) refl h
 
--- once
+-- and not as two
 pub addition_counted_twice_refused : InsertFrame test_config test_bytes (pair32 1 2) (Ok None) (with_one 5 2) → ⊥
 unfolding opened
-addition_counted_twice_refused h = other_addition None (with_one 5 2) (with_one 5 2) refl h refl refl
+addition_counted_twice_refused h = added_by_none (with_one 5 2) refl h
 
 -- its mirror byte is written too
 pub addition_without_mirror_refused : InsertFrame test_config test_bytes (pair32 1 2) (Ok None) (overwritten_at (with_one 5 1) 181 (255 ∷ [])) → ⊥
 unfolding opened
-addition_without_mirror_refused h = other_addition None (overwritten_at (with_one 5 1) 181 (255 ∷ [])) (overwritten_at (with_one 5 1) 181 (255 ∷ [])) refl h refl refl
+addition_without_mirror_refused h = added_by_none (overwritten_at (with_one 5 1) 181 (255 ∷ [])) refl h
 
 -- and no other slot is written
 pub addition_in_two_slots_refused : InsertFrame test_config test_bytes (pair32 1 2) (Ok None) (with_count (with_pair test_config 16 (with_one 5 1) 6 (pair32 1 2)) 1) → ⊥
 unfolding opened
 addition_in_two_slots_refused h =
-    other_addition None (with_count (with_pair test_config 16 (with_one 5 1) 6 (pair32 1 2)) 1) (with_count (with_pair test_config 16 (with_one 5 1) 6 (pair32 1 2)) 1) refl h refl refl
+    added_by_none (with_count (with_pair test_config 16 (with_one 5 1) 6 (pair32 1 2)) 1) refl h
 
 unchanged : (F : Format) (B : List ℕ) (p : Pair) (e : Error) (D : List ℕ) → InsertFrame F B p (Err e) D → (e ≡ Full) × (D ≡ B)
 unchanged F B p e D (InsertFrame.full full) = (refl, refl)
@@ -247,7 +253,6 @@ no_entries = replicate 128 0
 
 absent_from_parts : (o : Option (List ℕ)) (v es' ctrl' : List ℕ)
     → PartsFrame test_config no_entries filled_controls (pair32 1 2) (Ok o) es' ctrl' → o ≡ Some v → ⊥
-unfolding opened
 absent_from_parts o v es' ctrl' (PartsFrame.overwrote i low same) e =
     unequal_lists (slot_key test_config no_entries i) (le_bytes 4 1)
     (tested (λ j. lists_differ (slot_key test_config no_entries j) (le_bytes 4 1)) 16 i refl low) same
@@ -305,11 +310,11 @@ counted_as_filled = (inl refl, inl refl, inr (lit< tt, refl))
 pub free_slot_not_filled : CountsAsFilled slot_five_free 5 → ⊥
 free_slot_not_filled h = free_slot_refused slot_five_free 5 refl refl h
 
--- no byte is free where all are 0
 filled_bytes : (i : ℕ) → i < 16 → (b : Bool) → counts_as_free (slice_index filled_controls i) ≡ b → b ≡ false
 filled_bytes i low true e = absurd (untrue (λ j. counts_as_free (slice_index filled_controls j)) 16 i refl low e)
 filled_bytes i low false e = refl
 
+-- no byte is free where all are 0
 pub none_free : HasNoFree filled_controls 16
 none_free i low = filled_bytes i low (counts_as_free (slice_index filled_controls i)) refl
 
@@ -317,11 +322,11 @@ none_free i low = filled_bytes i low (counts_as_free (slice_index filled_control
 pub one_free_refused : HasNoFree slot_five_free 16 → ⊥
 one_free_refused h = true≢false (h 5 (lit< tt))
 
--- but none of the first five
 first_bytes : (i : ℕ) → i < 5 → (b : Bool) → counts_as_free (slice_index slot_five_free i) ≡ b → b ≡ false
 first_bytes i low true e = absurd (untrue (λ j. counts_as_free (slice_index slot_five_free j)) 5 i refl low e)
 first_bytes i low false e = refl
 
+-- but none of the first five
 pub none_of_five_free : HasNoFree slot_five_free 5
 none_of_five_free i low = first_bytes i low (counts_as_free (slice_index slot_five_free i)) refl
 
