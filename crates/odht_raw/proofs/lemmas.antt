@@ -15,14 +15,20 @@ pub mod FirstErrors
 pub mod PowersOfTwo
 -- what one slot is refused for
 pub mod SlotChecks
+-- slots of which the whole check refuses nothing
+pub mod SlotFits
 -- what a header is refused for
 pub mod HeaderChecks
 -- bytes whose header and length fit, and writes that leave them so
 pub mod Accepted
--- what bytes are refused for when they are opened
+-- what bytes are refused for, stage by stage
 pub mod Openings
+-- bytes of which the whole check refuses nothing
+pub mod SoundBytes
 -- valid bytes are never refused
 pub mod ImagesOpen
+-- the whole check refuses nothing exactly of valid bytes
+pub mod WholeChecks
 -- a write of one byte again and again
 pub mod Fills
 -- a header that is written field by field
@@ -41,3 +47,13 @@ pub mod ProbeSteps
 pub mod GroupLooks
 -- a search by groups
 pub mod GroupSearches
+-- a look at the mirror
+pub mod MirrorChecks
+-- the slots before a key's own, in its probe order
+pub mod KeyPasses
+-- and its own place there
+pub mod KeyPlaces
+-- a look at the slots in turn
+pub mod SlotsSeen
+-- what the whole check looks at beyond a view
+pub mod LateStages

@@ -15,6 +15,8 @@ pub mod Searches
 pub mod Layouts
 -- which bytes are refused as a table, and why
 pub mod Refusals
+-- what the whole check sees in the parts
+pub mod Checks
 -- what an insert may do to bytes whose header and length fit, valid or not
 pub mod Frame
 -- where a search ends on any parts

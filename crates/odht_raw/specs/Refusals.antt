@@ -9,6 +9,8 @@
 --                                  control byte that is not its key's tag
 --     view_refusal F B             of what a view looks at: opening_refusal, then the first ten slots
 --     slots_refusal F es ctrl      of all slots, as the whole check looks at them: a free slot's control byte is 255 too
+--     mirror_refusal ctrl          of the sixteen control bytes behind those of the slots
+--     reach_refusal F es ctrl      of a key that is not where the search for it ends, among the cells that the parts show
 --     late_refusal F B             of what the whole check looks at beyond a view: load factor, padding, all slots, the
 --                                  mirror, the item count, its maximum, and that each key is reached by its search
 --     check_refusal F B            of everything: view_refusal, then late_refusal
@@ -25,7 +27,7 @@ use Rattle.odht_base.specs.Table.{count}
 use Rattle.odht_base.specs.Image.{image_len}
 use Rattle.odht_base.specs.Search.{search_end, is_at}
 use Rattle.odht_base.specs.Bytes.{bytes_at}
-use Rattle.odht_base.specs.Shown.{stated_count, stated_slots, stated_factor, control_at, key_at, counts_as_free, shown, slot_entry, slot_key, entries_of, controls_of}
+use Rattle.odht_base.specs.Shown.{stated_count, stated_slots, stated_factor, counts_as_free, shown, shown_cells, slot_entry, slot_key, entries_of, controls_of}
 use Rattle.odht_raw.specs.declared.error.Error.{Error}
 use Rattle.odht_raw.specs.declared.error.Error.TheVariants.{TooShort, WrongTag, WrongVersion, WrongSizeOf, SlotCountNotPowerOfTwo, SlotCountTooSmall, WrongLength, NonZeroEmpty, ControlMismatch, LoadFactorTooSmall, NonZeroPadding, BadFreeControl, MirrorMismatch, WrongItemCount, TooManyItems, Unreachable, InitLength, Capacity}
 use Rattle.odht_raw.specs.declared.error.Part.{Part}
@@ -120,19 +122,21 @@ view_refusal F B = option_or (opening_refusal F B) (hashes_refusal F (entries_of
 unfoldable pub slots_refusal : Format → List ℕ → List ℕ → Option Error
 slots_refusal F es ctrl = first_slot (slot_refusal_at F es ctrl) (length ctrl - 16)
 
-abbrev pub mirror_refusal_at : Format → List ℕ → ℕ → Option Error
-mirror_refusal_at F B i = differs (control_at F B (stated_slots B + i)) (control_at F B i) gives MirrorMismatch i
+-- a control byte of the mirror, behind those of the slots, that is not its slot's
+abbrev pub mirror_refusal_at : List ℕ → ℕ → Option Error
+mirror_refusal_at ctrl i = differs (slice_index ctrl (length ctrl - 16 + i)) (slice_index ctrl i) gives MirrorMismatch i
 
-unfoldable pub mirror_refusal : Format → List ℕ → Option Error
-mirror_refusal F B = first_slot (mirror_refusal_at F B) 16
+unfoldable pub mirror_refusal : List ℕ → Option Error
+mirror_refusal ctrl = first_slot (mirror_refusal_at ctrl) 16
 
 -- slot i holds a key, and a search for it ends elsewhere
-abbrev pub unreachable : Format → List ℕ → ℕ → Option Error
-unreachable F B i =
-    not (counts_as_free (control_at F B i)) && not (is_at i (search_end F (shown F B).cells (key_at F B i))) gives Unreachable i
+abbrev pub unreachable : Format → List ℕ → List ℕ → ℕ → Option Error
+unreachable F es ctrl i =
+    not (counts_as_free (slice_index ctrl i)) && not (is_at i (search_end F (shown_cells F es ctrl) (slot_key F es i))) gives
+    Unreachable i
 
-unfoldable pub reach_refusal : Format → List ℕ → Option Error
-reach_refusal F B = first_slot (unreachable F B) (stated_slots B)
+unfoldable pub reach_refusal : Format → List ℕ → List ℕ → Option Error
+reach_refusal F es ctrl = first_slot (unreachable F es ctrl) (length ctrl - 16)
 
 abbrev pub factor_refusal : List ℕ → Option Error
 factor_refusal B = nat_lt (stated_factor B) 655 gives LoadFactorTooSmall (stated_factor B)
@@ -140,8 +144,9 @@ factor_refusal B = nat_lt (stated_factor B) 655 gives LoadFactorTooSmall (stated
 abbrev pub padding_refusal : List ℕ → Option Error
 padding_refusal B = lists_differ (bytes_at B 30 2) (0 ∷ 0 ∷ []) gives NonZeroPadding (bytes_at B 30 2)
 
-abbrev pub count_refusal : Format → List ℕ → Option Error
-count_refusal F B = differs (stated_count B) (count (shown F B)) gives WrongItemCount (stated_count B) (count (shown F B))
+-- of a header that states another count than that of the pairs that were found
+abbrev pub count_refusal : ℕ → List ℕ → Option Error
+count_refusal found B = differs (stated_count B) found gives WrongItemCount (stated_count B) found
 
 abbrev pub room_refusal : List ℕ → Option Error
 room_refusal B =
@@ -154,10 +159,10 @@ late_refusals F B =
     factor_refusal B
     ∷ padding_refusal B
     ∷ slots_refusal F (entries_of F B) (controls_of F B)
-    ∷ mirror_refusal F B
-    ∷ count_refusal F B
+    ∷ mirror_refusal (controls_of F B)
+    ∷ count_refusal (count (shown F B)) B
     ∷ room_refusal B
-    ∷ reach_refusal F B
+    ∷ reach_refusal F (entries_of F B) (controls_of F B)
     ∷ []
 
 unfoldable pub late_refusal : Format → List ℕ → Option Error

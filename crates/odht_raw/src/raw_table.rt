@@ -1,5 +1,6 @@
 //! The parts of a table, control bytes and entries, and searches in them.
-ghost use Rattle.std.specs.Prelude.{◌≡◌, ◌+◌, ◌/◌, ◌^◌, ◌<◌, ◌≤◌, length, option_map, IfSome};
+ghost use Rattle.std.specs.Prelude.{◌≡◌, ◌+◌, ◌/◌, ◌^◌, ◌<◌, ◌≤◌, length, option_map, IfOk, IfSome};
+ghost use Rattle.std.specs.Result.{result_err};
 ghost use Rattle.odht_base.specs.Format.{format_of};
 ghost use Rattle.odht_base.specs.Load.{IsSlotCount};
 ghost use Rattle.odht_base.specs.Table.{Table};
@@ -8,6 +9,7 @@ ghost use Rattle.odht_base.specs.Search.{groups_read};
 ghost use Rattle.odht_base.specs.Valid.{IsPartsOf};
 ghost use Rattle.odht_base.specs.Shown.{counts_as_free};
 ghost use Rattle.odht_raw.specs.Parts.{entry_format};
+ghost use Rattle.odht_raw.specs.Checks.{IsSlotHash};
 ghost use Rattle.odht_raw.specs.SearchEnds.{IsBesideKey};
 ghost use Rattle.odht_raw.specs.Walks.{items_from};
 ghost use Rattle.odht_raw.specs.Refusals.{checked, hashes_refusal, hashes_refusal_at};
@@ -18,6 +20,7 @@ use crate::hash::HashFn;
 use crate::swisstable_group_query::GroupQuery;
 use std::marker::{Model, PhantomData};
 
+mod check;
 mod dump;
 mod entries;
 mod group_search;
@@ -166,22 +169,24 @@ impl<'a, K: ByteArray, V: ByteArray, H: HashFn> RawTable<'a, K, V, H> {
         Ok(())
     }
 
-    // What a view looks at in one slot.
+    // What a view looks at in one slot. It tells the hash of the key where the slot does not count as free.
     #[inline(always)]
-    fn check_slot(&self, slot: usize) -> Result<(), Error>
+    fn check_slot(&self, slot: usize) -> Result<Option<u32>, Error>
         requires { slot < self.now.entries.slots }
-        ensures { let F = format_of K.LEN V.LEN H.hash
-            in result ≡ checked (hashes_refusal_at F self.now.entries.bytes self.now.control slot) }
+        ensures err { let F = format_of K.LEN V.LEN H.hash
+            in result_err result ≡ hashes_refusal_at F self.now.entries.bytes self.now.control slot }
+        ensures hash { IfOk result (IsSlotHash (format_of K.LEN V.LEN H.hash) self.now slot) }
     {
         let found = self.control[slot];
         let entry = self.entries.get(slot);
         if is_empty_or_deleted(found) {
             if entry.key.is_all_zeros() && entry.value.is_all_zeros() {
-                return Ok(());
+                return Ok(None);
             }
             return Err(Error::NonZeroEmpty { slot });
         }
-        let expected = tag_of(H::hash(entry.key.as_slice()));
+        let hash = H::hash(entry.key.as_slice());
+        let expected = tag_of(hash);
         if found != expected {
             return Err(Error::ControlMismatch {
                 slot,
@@ -189,6 +194,6 @@ impl<'a, K: ByteArray, V: ByteArray, H: HashFn> RawTable<'a, K, V, H> {
                 found,
             });
         }
-        Ok(())
+        Ok(Some(hash))
     }
 }

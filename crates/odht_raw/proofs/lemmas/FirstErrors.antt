@@ -1,5 +1,6 @@
 -- Laws of the first error: of a list, of one condition, and of the slots in order.
-use Rattle.std.proofs.Common.{◌≡◌, ◌<◌, ◌∙◌, ◌+◌, ℕ, zero, suc, Bool, true, false, not, ◌==◌, ap, subst, refl, List, Option, Some, None, Ok, Err, map, arith, eqb-true, eq-eqb}
+use Rattle.std.proofs.Common.{◌≡◌, ◌<◌, ◌∙◌, ◌+◌, ℕ, zero, suc, Bool, true, false, not, ◌&&◌, ◌==◌, ap, subst, refl, List, Option, Some, None, Ok, Err, map, arith, eqb-true, eq-eqb}
+use Rattle.std.specs.Prelude.{IsOk}
 use Rattle.std.specs.List.{range_with_len}
 use Rattle.std.specs.Option.{option_or}
 use Rattle.std.proofs.lemmas.Slice.Eq.{bytes_eq-Decides}
@@ -51,6 +52,16 @@ pub Err-checked : (o : Option Error) (x : Error) → Err x ≡ checked o → o �
 Err-checked None x e = cc
 Err-checked (Some y) x e = cc
 
+-- it passes exactly where nothing is refused
+pub IsOk-checked : (o : Option Error) → IsOk (checked o) → o ≡ None
+IsOk-checked None h = refl
+IsOk-checked (Some x) h = cc
+
+-- and the other way round
+pub checked-IsOk : (o : Option Error) → o ≡ None → IsOk (checked o)
+checked-IsOk None e = refl
+checked-IsOk (Some x) e = cc
+
 -- ---- one condition
 
 -- no error where the condition fails, and only there
@@ -67,6 +78,21 @@ None-gives true e h = cc
 pub not-false : (c : Bool) → not c ≡ false → c ≡ true
 not-false false h = cc
 not-false true h = refl
+
+-- and what is not true is false
+pub not-true : (c : Bool) → not c ≡ true → c ≡ false
+not-true false h = refl
+not-true true h = cc
+
+-- of two tests the second fails where the first holds, and only there is no error
+pub gives_both-None : (c d : Bool) (e : Error) → (c && d gives e) ≡ None → c ≡ true → d ≡ false
+gives_both-None true d e h t = gives-None d e h
+gives_both-None false d e h t = cc
+
+-- and the other way round
+pub None-gives_both : (c d : Bool) (e : Error) → (c ≡ true → d ≡ false) → (c && d gives e) ≡ None
+None-gives_both true d e h = None-gives d e (h refl)
+None-gives_both false d e h = refl
 
 -- numbers that do not differ are one
 pub differs-false : (m n : ℕ) → differs m n ≡ false → m ≡ n
@@ -91,6 +117,12 @@ gives-Some false e h = cc
 
 -- ---- the slots in order
 
+-- where the slots from a on give no error, none of them has one
+first_from-None : (f : ℕ → Option Error) (a n : ℕ) → first_of (map f (range_with_len a n)) ≡ None → (i j : ℕ) → i < n → a + i ≡ j → f j ≡ None
+first_from-None f a zero e i j h g = absurd (omega arith)
+first_from-None f a (suc n) e zero j h g = let at : a ≡ j = omega arith in subst (λ k. f k ≡ None) at (option_or-None (f a) _ e).0
+first_from-None f a (suc n) e (suc i) j h g = first_from-None f (a + 1) n (option_or-None (f a) _ e).1 i j (omega arith) (omega arith)
+
 -- where no slot from a on has an error, there is none
 None-first_from : (f : ℕ → Option Error) (a n : ℕ) → ((i j : ℕ) → i < n → a + i ≡ j → f j ≡ None) → first_of (map f (range_with_len a n)) ≡ None
 None-first_from f a zero h = refl
@@ -103,6 +135,10 @@ first_from-at f a zero i j x h g below here = absurd (omega arith)
 first_from-at f a (suc n) zero j x h g below here = let at : j ≡ a = omega arith in option_or-first (f a) _ x (subst (λ k. f k ≡ Some x) at here)
 first_from-at f a (suc n) (suc i) j x h g below here =
     option_or-second (f a) _ (below a (omega arith)) ∙ first_from-at f (a + 1) n i j x (omega arith) (omega arith) below here
+
+-- where the first n slots give no error, none of them has one
+pub first_slot-None : (f : ℕ → Option Error) (n : ℕ) → first_slot f n ≡ None → (i : ℕ) → i < n → f i ≡ None
+first_slot-None f n e i h = first_from-None f 0 n e i i h (omega arith)
 
 -- a walk that met no error below n
 pub None-first_slot : (f : ℕ → Option Error) (n : ℕ) → ((i : ℕ) → i < n → f i ≡ None) → first_slot f n ≡ None

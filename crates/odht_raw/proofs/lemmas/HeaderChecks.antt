@@ -18,7 +18,7 @@ IsPassed [] = ⊤
 IsPassed (r ∷ rs) = (r ≡ None) × IsPassed rs
 
 -- errors behind such a list come first
-first_of-behind : (rs ss : List (Option Error)) → IsPassed rs → first_of (rs ++ ss) ≡ first_of ss
+pub first_of-behind : (rs ss : List (Option Error)) → IsPassed rs → first_of (rs ++ ss) ≡ first_of ss
 first_of-behind [] ss p = refl
 first_of-behind (r ∷ rs) ss p = option_or-second r _ p.0 ∙ first_of-behind rs ss p.1
 

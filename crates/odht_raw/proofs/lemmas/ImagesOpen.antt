@@ -42,7 +42,7 @@ module _ (F : Format) (f : IsFormat F) (P : Table) (h : IsPlaced F P) where
           filled_refusal F (entries F P.cells) (controls F P.cells) i (counted ∙ ap is_none e) ∙ None-gives _ _ (false-differs _ _ same)
 
   -- so nothing of its image is
-  view_refusal-image : view_refusal F (image F P) ≡ None
+  pub view_refusal-image : view_refusal F (image F P) ≡ None
   view_refusal-image =
       let sized = IsSized-IsPlaced F P h in
       let slots : length (controls F P.cells) - 16 ≡ slot_count P = omega (arith, length-controls F P.cells h.slots.least) in

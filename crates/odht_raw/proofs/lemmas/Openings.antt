@@ -1,12 +1,12 @@
--- What bytes are refused for when they are opened, stage by stage.
+-- What bytes are refused for, stage by stage: when they are opened, and then by the whole check.
 use Rattle.std.proofs.Common.{◌≡◌, ◌<◌, ◌≤◌, ◌∙◌, List, ℕ, Some, None, length, lt-ltb, le-ltb}
 use Rattle.odht_base.specs.Format.{Format}
 use Rattle.odht_base.specs.Shown.{entries_of, controls_of}
 use Rattle.odht_raw.specs.declared.error.Error.{Error}
 use Rattle.odht_raw.specs.declared.error.Error.TheVariants.{TooShort}
 use Rattle.odht_raw.specs.Frame.{IsAccepted}
-use Rattle.odht_raw.specs.Refusals.{header_refusal, opening_refusal, hashes_refusal, view_refusal}
-use Rattle.odht_raw.proofs.lemmas.FirstErrors.{option_or-first, option_or-second, gives-Some, None-gives}
+use Rattle.odht_raw.specs.Refusals.{header_refusal, opening_refusal, hashes_refusal, view_refusal, late_refusal, check_refusal}
+use Rattle.odht_raw.proofs.lemmas.FirstErrors.{option_or-None, option_or-first, option_or-second, gives-Some, None-gives}
 
 module _ (F : Format) (B : List ℕ) where
   -- too few bytes for a header
@@ -32,3 +32,18 @@ module _ (F : Format) (B : List ℕ) where
   pub view_refusal-slots : IsAccepted F B → view_refusal F B ≡ hashes_refusal F (entries_of F B) (controls_of F B) 10
   unfolding view_refusal
   view_refusal-slots a = option_or-second _ _ a
+
+  -- where a view refuses nothing they are accepted
+  pub view_refusal-accepted : view_refusal F B ≡ None → IsAccepted F B
+  unfolding view_refusal
+  view_refusal-accepted e = (option_or-None _ _ e).0
+
+  -- what is refused of a view is refused by the whole check
+  pub check_refusal-view : (x : Error) → view_refusal F B ≡ Some x → check_refusal F B ≡ Some x
+  unfolding check_refusal
+  check_refusal-view x e = option_or-first _ _ _ e
+
+  -- and then what it looks at beyond a view
+  pub check_refusal-late : view_refusal F B ≡ None → check_refusal F B ≡ late_refusal F B
+  unfolding check_refusal
+  check_refusal-late e = option_or-second _ _ e

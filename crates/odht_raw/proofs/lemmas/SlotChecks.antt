@@ -16,12 +16,12 @@ abbrev pub is_zero : ℕ → Bool
 is_zero x = x == 0
 
 -- zeros are all zero
-list_all-zeros : (n : ℕ) → list_all is_zero (replicate n 0) ≡ true
+pub list_all-zeros : (n : ℕ) → list_all is_zero (replicate n 0) ≡ true
 list_all-zeros zero = refl
 list_all-zeros (suc n) = list_all-zeros n
 
 -- and nothing else is
-zeros-list_all : (xs : List ℕ) → list_all is_zero xs ≡ true → xs ≡ replicate (length xs) 0
+pub zeros-list_all : (xs : List ℕ) → list_all is_zero xs ≡ true → xs ≡ replicate (length xs) 0
 zeros-list_all [] h = refl
 zeros-list_all (x ∷ xs) h =
     let p = and_parts _ _ h in

@@ -6,13 +6,13 @@ ghost use Rattle.odht_base.specs.Bytes.{bytes_at};
 ghost use Rattle.odht_base.specs.Image.{header_bytes};
 ghost use Rattle.odht_base.specs.Shown.{stated_count, stated_slots, stated_factor};
 ghost use Rattle.std.specs.Option.{option_or};
-ghost use Rattle.odht_raw.specs.Refusals.{checked, tag_refusal, version_refusal, wrong_size, power_refusal, few_slots_refusal, length_refusal, header_refusal};
+ghost use Rattle.odht_raw.specs.Refusals.{checked, tag_refusal, version_refusal, wrong_size, power_refusal, few_slots_refusal, length_refusal, header_refusal, factor_refusal, padding_refusal, count_refusal, room_refusal};
 
 use super::sizes::table_len;
 use crate::bytes::{ByteArray, read_u64, write_slice};
 use crate::config::{Coded, Config};
 use crate::error::{Error, Part};
-use crate::load::Factor;
+use crate::load::{Factor, max_item_count_for};
 use crate::swisstable_group_query::REFERENCE_GROUP_SIZE;
 use std::marker::Model;
 
@@ -44,6 +44,8 @@ const LOAD_FACTOR_AT: usize = 28;
 const PADDING_AT: usize = 30;
 // How many bytes a control byte takes.
 const METADATA_SIZE: usize = 1;
+// The load factor of one percent, which is the least.
+const LEAST_FACTOR: u16 = 655;
 
 /// A reader of a table's header, field by field, at any alignment.
 #[derive(Drop)]
@@ -173,6 +175,47 @@ impl<'a> Header<'a> {
                 expected,
             })
         }
+    }
+
+    /// Whether the load factor is one of at least one percent; else `LoadFactorTooSmall`.
+    pub(super) fn check_load_factor(&self) -> Result<(), Error>
+        ensures { result ≡ checked (factor_refusal self.now) }
+    {
+        let Factor(found) = self.max_load_factor();
+        if found < LEAST_FACTOR {
+            Err(Error::LoadFactorTooSmall { found })
+        } else {
+            Ok(())
+        }
+    }
+
+    /// Whether the padding is zeros; else `NonZeroPadding`.
+    pub(super) fn check_padding(&self) -> Result<(), Error>
+        ensures { result ≡ checked (padding_refusal self.now) }
+    {
+        let bytes = self.bytes;
+        let found = [bytes[PADDING_AT], bytes[PADDING_AT + 1]];
+        if found == [0, 0] {
+            Ok(())
+        } else {
+            Err(Error::NonZeroPadding { found })
+        }
+    }
+
+    /// Whether so many items as were found are stated, and no more than the maximum; else `WrongItemCount`, then
+    /// `TooManyItems`.
+    pub(super) fn check_item_count(&self, found: usize) -> Result<(), Error>
+        ensures { result ≡ checked (option_or (count_refusal found self.now) (room_refusal self.now)) }
+    {
+        let stated = self.item_count();
+        if stated != found {
+            return Err(Error::WrongItemCount { stated, found });
+        }
+        let max = max_item_count_for(self.slot_count(), self.max_load_factor());
+        if max < stated {
+            return Err(Error::TooManyItems { count: stated, max });
+        }
+        Ok(())
     }
 
     /// How many items the header states.

@@ -1,9 +1,9 @@
 use Rattle.std.proofs.Common.{rules, ◌≡◌, ◌∙◌, ◌-◌, min, length, sym, ap, subst, Err, arith, inl, inr, None}
+use Rattle.std.specs.Result.{result_err}
 use Rattle.std.proofs.lemmas.Bool.{cases_lt}
 use Rattle.odht_base.specs.Format.{Format, format_of}
 use Rattle.odht_raw.specs.Parts.{TableParts}
 use Rattle.odht_raw.specs.Refusals.{checked, hashes_refusal_at}
-use Rattle.odht_raw.proofs.lemmas.FirstErrors.{Ok-checked, Err-checked}
 use Rattle.odht_raw.proofs.lemmas.SlotChecks.{hashes_refusal-None, hashes_refusal-at}
 use Rattle.odht_raw.proofs.raw_table.RawTable.sanity_check_hashes.Goals as goal
 
@@ -12,7 +12,7 @@ returns-in_err-check_slot g c =
     let F : Format = format_of g.K.ByteArray.LEN g.V.ByteArray.LEN g.H.HashFn.hash in
     let is : length c.args.self.now.control - 16 ≡ c.len.result =
     ap (λ (t : TableParts). length t.control - 16) (sym c.self.view_is) ∙ omega (arith, c.self.invariant.mirrored, c.len.ensures) in
-    let here = Err-checked _ c.in_err-check_slot.field-0.0 (sym (c.in_err-check_slot.was) ∙ c.check_slot.ensures) in
+    let here = sym c.check_slot.ensures.err ∙ ap result_err c.in_err-check_slot.was in
     let refusal : c.from_residual.result ≡ Err c.in_err-check_slot.field-0.0 = search rules in
     refusal ∙ sym (ap checked (hashes_refusal-at F c.args.self.now.entries.bytes c.args.self.now.control c.args.slots_to_check c.min-slots.result
     (ap (min c.args.slots_to_check) is ∙ sym c.min-slots.ensures) c.loop-slot.slot _ c.loop-slot-test.true c.loop-slot.invariant here))
@@ -23,7 +23,7 @@ loop-slot-preserved g c i l = elim (cases_lt i c.loop-slot.slot) [
   | inr here ↦
       let F : Format = format_of g.K.ByteArray.LEN g.V.ByteArray.LEN g.H.HashFn.hash in
       let e : c.loop-slot.slot ≡ i = omega (arith, l, here) in
-      subst (λ j. hashes_refusal_at F c.args.self.now.entries.bytes c.args.self.now.control j ≡ None) e (Ok-checked _ (sym c.in_ok-check_slot.was ∙ c.check_slot.ensures))
+      subst (λ j. hashes_refusal_at F c.args.self.now.entries.bytes c.args.self.now.control j ≡ None) e (sym c.check_slot.ensures.err ∙ ap result_err c.in_ok-check_slot.was)
 ]
 
 pub returns : goal.returns

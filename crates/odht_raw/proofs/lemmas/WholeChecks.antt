@@ -1,0 +1,117 @@
+-- The whole check refuses nothing exactly of valid bytes.
+use Rattle.std.proofs.Common.{◌≡◌, ◌<◌, ◌≤◌, ◌∙◌, ◌+◌, ◌-◌, ◌==◌, ℕ, true≢false, sym, ap, ap₂, subst, subst₂, refl, List, [], ◌∷◌, Option, Some, None, is_none, All, length, slice_index, arith}
+use Rattle.std.specs.List.{list_all}
+use Rattle.odht_base.specs.Bytes.{bytes_at}
+use Rattle.odht_base.specs.Format.{Format, IsFormat, entry_len, tag}
+use Rattle.odht_base.specs.Image.{control_byte, image}
+use Rattle.odht_base.specs.Load.{max_items}
+use Rattle.odht_base.specs.Search.{search_end}
+use Rattle.odht_base.specs.Shown.{slot_entry, slot_key, counts_as_free, shown_cells, entries_of, controls_of}
+use Rattle.odht_base.specs.Table.{Pair, Table, slot_count, count, cell_at}
+use Rattle.odht_base.specs.Valid.{IsPartsOf, IsValid, IsValidBytes}
+use Rattle.odht_base.proofs.lemmas.Fits.{HasLengths-IsPlaced, IsSized-IsPlaced}
+use Rattle.odht_base.proofs.lemmas.Image.{stated_slots-image, stated_count-image, stated_factor-image, entries_of-image, controls_of-image, shown-image}
+use Rattle.odht_base.proofs.lemmas.Lookups.{AllArrive-IsPlaced}
+use Rattle.odht_base.proofs.lemmas.Parts.{length-controls, slice_index-controls, slice_index-mirror, slot_entry-free, shown_cells-parts}
+use Rattle.odht_raw.specs.Frame.{IsAccepted}
+use Rattle.odht_raw.specs.Refusals.{view_refusal, late_refusal, check_refusal}
+use Rattle.odht_raw.proofs.lemmas.Accepted.{IsAccepted-image}
+use Rattle.odht_raw.proofs.lemmas.FirstErrors.{option_or-None}
+use Rattle.odht_raw.proofs.lemmas.ImagesOpen.{view_refusal-image}
+use Rattle.odht_raw.proofs.lemmas.Openings.{view_refusal-accepted, check_refusal-late}
+use Rattle.odht_raw.proofs.lemmas.PartCells.{byte_is, key_is, cell_filled}
+use Rattle.odht_raw.proofs.lemmas.SlotChecks.{list_all-zeros}
+use Rattle.odht_raw.proofs.lemmas.SlotFits.{IsSlotFit, AllFit, IsMirrored, AllFound}
+use Rattle.odht_raw.proofs.lemmas.SoundBytes.{IsSound, IsSound-late_refusal, late_refusal-IsSound, IsValidBytes-IsSound}
+
+-- the padding of an image is zeros
+padding-image : (F : Format) (P : Table) → bytes_at (image F P) 30 2 ≡ 0 ∷ 0 ∷ []
+unfolding image
+padding-image F P = refl
+
+-- ---- the parts of a placed table
+module _ (F : Format) (f : IsFormat F) (P : Table) (es ctrl : List ℕ) (h : IsPartsOf F P es ctrl) where
+  slots : length ctrl - 16 ≡ slot_count P
+  slots = omega (arith, ap length h.controls_are, length-controls F P.cells h.placed.slots.least)
+
+  -- each slot fits
+  AllFit-IsPartsOf : AllFit F es ctrl
+  AllFit-IsPartsOf i l = go (cell_at P.cells i) refl
+    where
+      within : i < slot_count P
+      within = subst (λ n. i < n) slots l
+
+      byte : slice_index ctrl i ≡ control_byte F (cell_at P.cells i)
+      byte = ap (λ c. slice_index c i) h.controls_are ∙ slice_index-controls F P.cells i within
+
+      counted : (c : Option Pair) → cell_at P.cells i ≡ c → counts_as_free (slice_index ctrl i) ≡ is_none c
+      counted c e = byte_is F f P es ctrl h i within ∙ ap (is_none {T = Pair}) e
+
+      go : (c : Option Pair) → cell_at P.cells i ≡ c → IsSlotFit F es ctrl i
+      go None e = record {
+        free_zeros = λ t. ap (λ b. list_all (λ x. x == 0) (slot_entry F b i)) h.entries_are
+            ∙ ap (list_all (λ x. x == 0)) (slot_entry-free F P.cells i (HasLengths-IsPlaced F P h.placed) within e) ∙ list_all-zeros (entry_len F);
+        free_byte = λ t. byte ∙ ap (control_byte F) e;
+        filled_tag = λ t. absurd (true≢false (sym (counted None e) ∙ t));
+      }
+      go (Some p) e = record {
+        free_zeros = λ t. absurd (true≢false (sym t ∙ counted (Some p) e));
+        free_byte = λ t. absurd (true≢false (sym t ∙ counted (Some p) e));
+        filled_tag = λ t. byte ∙ ap (control_byte F) e ∙ ap (tag F) (sym (key_is F f P es ctrl h i p e));
+      }
+
+  -- the mirror is one
+  IsMirrored-IsPartsOf : IsMirrored ctrl
+  IsMirrored-IsPartsOf i l =
+      let below : i < slot_count P = omega (arith, h.placed.slots.least) in
+      ap₂ (λ c n. slice_index c (n + i)) h.controls_are slots ∙ slice_index-mirror F P.cells i l below
+      ∙ sym (ap (λ c. slice_index c i) h.controls_are ∙ slice_index-controls F P.cells i below)
+
+  -- and each filled slot is where the search for its key ends
+  AllFound-IsPartsOf : AllFound F es ctrl
+  AllFound-IsPartsOf i l t =
+      let cells : shown_cells F es ctrl ≡ P.cells = ap₂ (shown_cells F) h.entries_are h.controls_are ∙ shown_cells-parts F P.cells f h.placed.pairs h.placed.slots.least in
+      ap (λ cs. search_end F cs (slot_key F es i)) cells
+      ∙ AllArrive-IsPlaced F P h.placed i _ (cell_filled F f P es ctrl h i (subst (λ n. i < n) slots l) t)
+
+-- so the image of a valid table is sound
+IsSound-image : (F : Format) (f : IsFormat F) (P : Table) → IsValid F P → IsSound F (image F P)
+IsSound-image F f P h =
+    let sized = IsSized-IsPlaced F P h.placed in
+    let s = stated_slots-image F P sized in
+    let n = stated_count-image F P sized in
+    let l = stated_factor-image F P h.factor_high in
+    let es = entries_of F (image F P) in
+    let ctrl = controls_of F (image F P) in
+    let is : IsPartsOf F P es ctrl = record { placed = h.placed; entries_are = entries_of-image F P sized; controls_are = controls_of-image F P sized } in
+    record {
+      accepted = IsAccepted-image F P h.placed.slots sized;
+      factor_low = subst (λ m. 655 ≤ m) (sym l) h.factor_low;
+      padding_is = padding-image F P;
+      slots_fit = AllFit-IsPartsOf F f P es ctrl is;
+      mirrored = IsMirrored-IsPartsOf F f P es ctrl is;
+      count_is = n ∙ sym (ap count (shown-image F P f h));
+      room = subst₂ (λ a b. a ≤ b) (sym n) (sym (ap₂ max_items s l)) h.room;
+      found = AllFound-IsPartsOf F f P es ctrl is;
+    }
+
+-- ---- the whole check
+-- accepted bytes of which the rest refuses nothing are valid
+pub valid_late : (F : Format) (B : List ℕ) → All (λ x. x < 256) B → IsAccepted F B → late_refusal F B ≡ None → IsValidBytes F B
+valid_late F B small accepted e = IsValidBytes-IsSound F B small (IsSound-late_refusal F B accepted e)
+
+-- and the other way round
+pub late_valid : (F : Format) (B : List ℕ) → IsFormat F → IsValidBytes F B → late_refusal F B ≡ None
+late_valid F B f (P, is) = ap (late_refusal F) is.bytes ∙ late_refusal-IsSound F (image F P) (IsSound-image F f P is.valid)
+
+-- bytes of which nothing is refused are valid
+pub check_valid : (F : Format) (B : List ℕ) → All (λ x. x < 256) B → check_refusal F B ≡ None → IsValidBytes F B
+unfolding check_refusal
+check_valid F B small e =
+    let both = option_or-None (view_refusal F B) (late_refusal F B) e in
+    valid_late F B small (view_refusal-accepted F B both.0) both.1
+
+-- and the other way round
+pub valid_check : (F : Format) (B : List ℕ) → IsFormat F → IsValidBytes F B → check_refusal F B ≡ None
+valid_check F B f (P, is) =
+    check_refusal-late F B (ap (view_refusal F) is.bytes ∙ view_refusal-image F f P is.valid.placed) ∙ late_valid F B f (P, is)

@@ -1,0 +1,16 @@
+use Rattle.std.proofs.Common.{◌<◌, sym, subst, All}
+use Rattle.std.specs.Prelude.{IsOk}
+use Rattle.odht_base.specs.Format.{Format, format_of}
+use Rattle.odht_raw.proofs.lemmas.FirstErrors.{IsOk-checked, checked-IsOk}
+use Rattle.odht_raw.proofs.lemmas.Formats.{IsFormat-format_of}
+use Rattle.odht_raw.proofs.lemmas.WholeChecks.{valid_late, late_valid}
+use Rattle.odht_raw.proofs.memory_layout.allocation.Allocation.check_rest.Goals as goal
+
+pub returns-clause-valid : goal.returns-clause-valid
+returns-clause-valid g c =
+    let F : Format = format_of g.C.EncodedKey.ByteArray.LEN g.C.EncodedValue.ByteArray.LEN g.C.H.HashFn.hash in
+    let f = IsFormat-format_of _ _ _ _ g.met.C.Config.key_fits g.met.C.Config.value_fits g.met.C.Config.key_hashes g.met.C.H.HashFn.fits in
+    let small = subst (All (λ x. x < 256)) c.raw_bytes.ensures.bytes c.hold_bytes.ensures in (
+      λ ok. valid_late F _ small c.raw_bytes.ensures.accepted (IsOk-checked _ (subst IsOk c.check_late.ensures ok)),
+      λ valid. subst IsOk (sym c.check_late.ensures) (checked-IsOk _ (late_valid F _ f valid)),
+    )

@@ -1,0 +1,31 @@
+-- What the whole check sees in the parts T of a table.
+--     cells_of F T         the cells that T shows
+--     pairs_shown F T      how many of them hold a pair
+--     IsFitting F T        no slot of T is refused, and not its mirror
+--     IsSlotHash F T i o   o is the hash of the key in slot i, or none where the slot counts as free
+--     ArePassed F T k b n  none of the n slots from b on, counted on around the end, is free or holds the key k
+use Rattle.std.specs.Prelude.{◌≡◌, ℕ, ◌+◌, ◌%◌, ◌<◌, List, length, filter_map, slice_index, Option, None, MatchOption, IsTrue, IsFalse}
+use Rattle.odht_base.specs.Format.{Format}
+use Rattle.odht_base.specs.Search.{stops_at}
+use Rattle.odht_base.specs.Shown.{counts_as_free, slot_key, shown_cells}
+use Rattle.odht_base.specs.Table.{Cells}
+use Rattle.odht_raw.specs.Parts.{TableParts}
+use Rattle.odht_raw.specs.Refusals.{slots_refusal, mirror_refusal}
+
+abbrev pub cells_of : Format → TableParts → Cells
+cells_of F T = shown_cells F T.entries.bytes T.control
+
+abbrev pub pairs_shown : Format → TableParts → ℕ
+pairs_shown F T = length (filter_map (λ c. c) (cells_of F T))
+
+pub record IsFitting (F : Format) (T : TableParts) : Type 0 where
+  pub slots : slots_refusal F T.entries.bytes T.control ≡ None
+  pub mirror : mirror_refusal T.control ≡ None
+
+abbrev pub IsSlotHash : Format → TableParts → ℕ → Option ℕ → Type 0
+IsSlotHash F T i o =
+    let control = slice_index T.control i in
+    MatchOption o (IsTrue (counts_as_free control)) (λ h. IsFalse (counts_as_free control) × (h ≡ F.hash (slot_key F T.entries.bytes i)))
+
+abbrev pub ArePassed : Format → TableParts → List ℕ → ℕ → ℕ → Type 0
+ArePassed F T k b n = (j : ℕ) → j < n → IsFalse (stops_at (cells_of F T) k ((b + j) % T.entries.slots))

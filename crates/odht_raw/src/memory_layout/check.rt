@@ -1,0 +1,66 @@
+//! The whole check of the bytes of a table.
+ghost use Rattle.std.specs.Prelude.{◌≡◌, ◌<◌, ◌↔◌, All, IsOk};
+ghost use Rattle.odht_base.specs.Valid.{IsValidBytes};
+ghost use Rattle.odht_raw.specs.Refusals.{checked, late_refusal, check_refusal};
+
+use super::Allocation;
+use crate::bytes::{Borrowed, ByteStore};
+use crate::config::{Coded, Config};
+use crate::error::Error;
+use crate::raw_table::RawTable;
+
+/// Looks at all of the bytes, and answers the first refusal: what [`Allocation::from_raw_bytes`] refuses, then what
+/// [`Allocation::check_rest`] does. Ok exactly for valid bytes.
+///
+/// The rules and their order are those of docs/FORMAT.md, "What is refused, and in which order"; so is what it costs. It
+/// takes no memory.
+pub fn check_all<C: Config>(bytes: &[u8]) -> Result<(), Error>
+    ensures first { result ≡ checked (check_refusal ⟦<C as Coded>⟧.coding.format bytes.now) }
+    ensures valid { IsOk result ↔ IsValidBytes ⟦<C as Coded>⟧.coding.format bytes.now }
+{
+    let allocation: Allocation<C, Borrowed<'_>> = Allocation::from_raw_bytes(Borrowed::new(bytes))?;
+    allocation.check_rest()
+}
+
+impl<C: Config, M: ByteStore> Allocation<C, M> {
+    /// Looks at what opening leaves out, and answers the first refusal: `LoadFactorTooSmall`, `NonZeroPadding`; of the
+    /// slots in order `NonZeroEmpty`, `BadFreeControl` or `ControlMismatch`; `MirrorMismatch`, `WrongItemCount`,
+    /// `TooManyItems`; and `Unreachable` of the first filled slot that is not where a search slot by slot for its key ends.
+    /// Ok exactly for valid bytes.
+    ///
+    /// Each slot is read once, in slot order, and for each filled slot the control bytes of its key's probe order up to it,
+    /// sixteen at a time. A key is compared only where an earlier place has its tag.
+    pub fn check_rest(&self) -> Result<(), Error>
+        ensures first { result ≡ checked (late_refusal ⟦<C as Coded>⟧.coding.format (M.bytes self.now)) }
+        ensures valid { IsOk result ↔ IsValidBytes ⟦<C as Coded>⟧.coding.format (M.bytes self.now) }
+    {
+        hold_bytes(self.raw_bytes());
+        self.check_late()
+    }
+
+    // `check_rest`, of which nothing is said but the first refusal.
+    fn check_late(&self) -> Result<(), Error>
+        ensures { result ≡ checked (late_refusal ⟦<C as Coded>⟧.coding.format (M.bytes self.now)) }
+    {
+        let header = self.header();
+        header.check_load_factor()?;
+        header.check_padding()?;
+        let (control, entries) = self.data_slices();
+        let table: RawTable<'_, C::EncodedKey, C::EncodedValue, C::H> = RawTable::new(
+            control, entries,
+        );
+        let seen = table.check_slots()?;
+        table.check_mirror()?;
+        header.check_item_count(seen.filled)?;
+        match seen.unreachable {
+            Some(slot) => Err(Error::Unreachable { slot }),
+            None => Ok(()),
+        }
+    }
+}
+
+// What a slice of bytes holds, for the proof: it does nothing.
+#[inline(always)]
+fn hold_bytes(bytes: &[u8])
+    ensures { All (λ byte. byte < 256) bytes.now }
+{}

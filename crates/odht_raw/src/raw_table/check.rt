@@ -1,0 +1,158 @@
+//! The whole check of the parts of a table: each slot, the mirror, and that each key stands where the search for it ends.
+ghost use Rattle.std.specs.Prelude.{◌≡◌, ◌<◌, ◌≤◌, ◌↔◌, slice_index, option_map, IfOk, IsTrue, IsFalse, None};
+ghost use Rattle.std.specs.Result.{result_err};
+ghost use Rattle.odht_base.specs.Format.{format_of, tag as key_tag};
+ghost use Rattle.odht_base.specs.Search.{search_end, is_at};
+ghost use Rattle.odht_base.specs.Shown.{counts_as_free, slot_key};
+ghost use Rattle.odht_raw.specs.Checks.{cells_of, pairs_shown, IsFitting, ArePassed};
+ghost use Rattle.odht_raw.specs.Refusals.{checked, bad_free_control, slots_refusal, mirror_refusal, reach_refusal};
+
+use super::{FREE, ProbeSeq, RawTable, tag_of};
+use crate::bytes::ByteArray;
+use crate::error::Error;
+use crate::hash::HashFn;
+use crate::swisstable_group_query::lanes::GroupQuery;
+use crate::swisstable_group_query::{Group, REFERENCE_GROUP_SIZE};
+
+/// What a look at all slots tells, where none is refused.
+#[derive(Clone, Copy)]
+pub(crate) struct SlotsSeen {
+    /// How many slots are filled.
+    pub filled: usize,
+    /// The first filled slot that is not where the search for its key ends.
+    pub unreachable: Option<usize>,
+}
+
+impl<'a, K: ByteArray, V: ByteArray, H: HashFn> RawTable<'a, K, V, H> {
+    /// Looks at each slot once, in slot order, and answers the first refusal: `NonZeroEmpty`, then `BadFreeControl`, of a
+    /// slot that counts as free, `ControlMismatch` of any other.
+    ///
+    /// Where none is refused and the mirror is right, it tells which slot is the first that its key's search misses.
+    // Inlined beside an opening, it would keep the first ten control bytes in registers.
+    #[inline(never)]
+    pub(crate) fn check_slots(&self) -> Result<SlotsSeen, Error>
+        ensures err { let F = format_of K.LEN V.LEN H.hash
+            in result_err result ≡ slots_refusal F self.now.entries.bytes self.now.control }
+        ensures filled { IfOk result (λ seen. seen.filled ≡ pairs_shown (format_of K.LEN V.LEN H.hash) self.now) }
+        ensures reached { let reach = reach_refusal (format_of K.LEN V.LEN H.hash) self.now.entries.bytes self.now.control
+            in mirror_refusal self.now.control ≡ None
+            → IfOk result (λ seen. option_map Error.Unreachable seen.unreachable ≡ reach) }
+    {
+        let mut filled = 0;
+        let mut unreachable = None;
+        for slot in 0..self.entries.len() {
+            match self.check_slot(slot)? {
+                None => self.check_free_control(slot)?,
+                Some(hash) => {
+                    filled += 1;
+                    if unreachable.is_none() && !self.is_reached(slot, hash) {
+                        unreachable = Some(slot);
+                    }
+                }
+            }
+        }
+        Ok(SlotsSeen {
+            filled,
+            unreachable,
+        })
+    }
+
+    // Whether the control byte of a slot that counts as free is `FREE`.
+    #[inline]
+    fn check_free_control(&self, slot: usize) -> Result<(), Error>
+        requires slot { slot < self.now.entries.slots }
+        requires free { IsTrue (counts_as_free (slice_index self.now.control slot)) }
+        ensures { result ≡ checked (bad_free_control self.now.control slot) }
+    {
+        let found = self.control[slot];
+        if found == FREE {
+            Ok(())
+        } else {
+            Err(Error::BadFreeControl { slot, found })
+        }
+    }
+
+    // Whether the search for the key of a filled slot, slot by slot along the probe order, ends there. A key is compared
+    // only where an earlier place has its tag.
+    #[inline]
+    fn is_reached(&self, slot: usize, hash: u32) -> bool
+        requires slot { slot < self.now.entries.slots }
+        requires filled { IsFalse (counts_as_free (slice_index self.now.control slot)) }
+        requires hash { hash ≡ H.hash (slot_key (format_of K.LEN V.LEN H.hash) self.now.entries.bytes slot) }
+        ensures { let F = format_of K.LEN V.LEN H.hash
+            in IsFitting F self.now
+            → result ≡ is_at slot (search_end F (cells_of F self.now) (slot_key F self.now.entries.bytes slot)) }
+    {
+        let slots = self.entries.len();
+        let mask = slots - 1;
+        let tag = tag_of(hash);
+        let mut probe = ProbeSeq::<REFERENCE_GROUP_SIZE>::new(hash as usize, mask);
+        'groups: loop {
+            let start = probe.index();
+            let before = (slot + slots - start) & mask;
+            if before < REFERENCE_GROUP_SIZE {
+                return self.are_passed(start, before, slot, tag);
+            }
+            if !self.are_passed(start, REFERENCE_GROUP_SIZE, slot, tag) {
+                return false;
+            }
+            probe.advance(mask);
+        }
+    }
+
+    // Whether each of the `count` slots from `start` on, counted on around the end, is filled with another key than that of
+    // the slot, which has this tag.
+    #[inline]
+    fn are_passed(&self, start: usize, count: usize, slot: usize, tag: u8) -> bool
+        requires start { start < self.now.entries.slots }
+        requires count { count ≤ 16 }
+        requires slot { slot < self.now.entries.slots }
+        requires tag { let F = format_of K.LEN V.LEN H.hash
+            in tag ≡ key_tag F (slot_key F self.now.entries.bytes slot) }
+        requires small { tag < 128 }
+        ensures { let F = format_of K.LEN V.LEN H.hash
+            in IsFitting F self.now
+            → IsTrue result ↔ ArePassed F self.now (slot_key F self.now.entries.bytes slot) start count }
+    {
+        let control = &self.control[start..start + REFERENCE_GROUP_SIZE];
+        let mut group = GroupQuery::of(control, tag);
+        if group.first_empty().unwrap_or(REFERENCE_GROUP_SIZE) < count {
+            return false;
+        }
+        let mask = self.entries.len() - 1;
+        'matches: while let Some(index) = group.next_match() {
+            if index < count && self.have_same_key((start + index) & mask, slot) {
+                return false;
+            }
+        }
+        true
+    }
+
+    // Whether the entries of two slots have the same key.
+    #[inline]
+    fn have_same_key(&self, slot: usize, other: usize) -> bool
+        requires slot { slot < self.now.entries.slots }
+        requires other { other < self.now.entries.slots }
+        ensures { let key = slot_key (format_of K.LEN V.LEN H.hash) self.now.entries.bytes
+            in IsTrue result ↔ (key slot ≡ key other) }
+    {
+        self.entries
+            .get(slot)
+            .key
+            .equals(&self.entries.get(other).key)
+    }
+
+    /// Compares the mirror with the control bytes of the first sixteen slots, and answers the first index that differs.
+    #[inline]
+    pub(crate) fn check_mirror(&self) -> Result<(), Error>
+        ensures { result ≡ checked (mirror_refusal self.now.control) }
+    {
+        let slots = self.entries.len();
+        for index in 0..REFERENCE_GROUP_SIZE {
+            if self.control[slots + index] != self.control[index] {
+                return Err(Error::MirrorMismatch { index });
+            }
+        }
+        Ok(())
+    }
+}
