@@ -8,7 +8,7 @@ ghost use Rattle.odht_base.specs.Map.{map_of};
 ghost use Rattle.odht_base.specs.Insert.{put_view, IsFullFor};
 ghost use Rattle.odht_base.specs.Search.{groups_read};
 ghost use Rattle.odht_base.specs.Shown.{stated_count, stated_slots, entries_of, controls_of, seen, HoldsKey};
-ghost use Rattle.odht_base.specs.Valid.{IsImage, IsPartsOf};
+ghost use Rattle.odht_base.specs.Valid.{IsImage, IsPartsOf, IsValidBytes};
 ghost use Rattle.odht_raw.specs.Coding.{value_for, HasStored};
 ghost use Rattle.odht.specs.Lists.{encoded_all, IsFilled, IsFramedRun, IsRefusedAt};
 ghost use Rattle.odht.specs.Inserts.{IsFresh, IsInserted};
@@ -179,6 +179,17 @@ impl<C: Config, D: ByteStore> HashTable<C, D> {
             → result ≡ count P }
     {
         self.allocation.header().item_count()
+    }
+
+    /// Whether the bytes are valid: those of a table that the format allows, to the last byte. On valid bytes each call
+    /// answers as a map does.
+    ///
+    /// All of the bytes are looked at, as [`memory_layout::check_all`] does, which tells what is refused. It takes no
+    /// memory.
+    pub fn verify(&self) -> bool
+        ensures { IsTrue result ↔ IsValidBytes ⟦<C as Coded>⟧.coding.format (D.bytes self.now) }
+    {
+        self.allocation.check_rest().is_ok()
     }
 
     /// All bytes. Their header and length fit, so [`HashTable::from_raw_bytes_unchecked`] takes them.

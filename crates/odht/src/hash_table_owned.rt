@@ -13,7 +13,7 @@ ghost use Rattle.odht.specs.Lists.{encoded_all, IsFilled, IsFreshFilled, IsRefus
 ghost use Rattle.odht.specs.Inserts.{IsFresh, IsInserted};
 ghost use Rattle.odht_raw.specs.Walks.{decoded_all};
 ghost use Rattle.std.specs.Iterator.{Drains, IsFinite};
-ghost use Rattle.odht_raw.specs.Refusals.{IsTooLarge};
+ghost use Rattle.odht_raw.specs.Refusals.{IsTooLarge, check_refusal};
 
 use crate::bytes::{ByteArray, OwnedBytes};
 use crate::config::{Coded, Config};
@@ -174,6 +174,22 @@ impl<C: Config> HashTableOwned<C> {
         ensures valid { IsValidBytes ⟦<C as Coded>⟧.coding.format self.now }
     {
         self.table.raw_bytes()
+    }
+
+    /// A copy of the bytes, once all of them were looked at. The first refusal that [`memory_layout::check_all`] answers
+    /// is answered before memory is asked for; valid bytes are never refused.
+    ///
+    /// `Memory` where the memory was refused.
+    pub fn from_raw_bytes(alloc: Global, raw_bytes: &[u8]) -> Result<Self, Error>
+        ensures ok { IfOk result (λ t. t ≡ raw_bytes.now) }
+        ensures refused { (e : Error)
+            → check_refusal ⟦<C as Coded>⟧.coding.format raw_bytes.now ≡ Some e
+            → result ≡ Err e }
+        ensures memory { IsValidBytes ⟦<C as Coded>⟧.coding.format raw_bytes.now
+            → OnErr result (result ≡ Err Error.Memory) }
+    {
+        memory_layout::check_all::<C>(raw_bytes)?;
+        Self::from_raw_bytes_unchecked(alloc, raw_bytes)
     }
 
     /// A copy of the bytes, which the caller knows to be valid: nothing is looked at.
