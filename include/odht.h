@@ -30,10 +30,11 @@
  * - size_t has 64 bits. Arrays of numbers and single places are aligned as C
  *   demands; a table's bytes alone may begin at any address.
  *
- * What is said of answers holds for the bytes of a valid table: those that these
- * calls have made. odht_*_open does not find out whether bytes are valid, since
- * it looks at ten slots. On other bytes that pass refusals 1 to 7 no call reads
- * or writes beyond what it was lent, but get and get_all may miss a key, or find
+ * What is said of answers holds for valid bytes: those that these calls have
+ * made, and all others that odht_*_check passes. It looks at every byte.
+ * odht_*_open does not find out whether bytes are valid, since it looks at ten
+ * slots. On other bytes that pass refusals 1 to 7 no call reads or writes
+ * beyond what it was lent, but get and get_all may miss a key, or find
  * a value that stands beside it in a slot that counts as free; len tells what the
  * header states; an insert, alone or of many, changes one value beside an equal
  * key, or adds one entry below the maximum that the header states; and FULL comes
@@ -66,7 +67,7 @@ enum odht_status {
     /* Bytes that are not a table of this kind. A call looks in this order, 1 to
        7, and answers the first that applies; nothing is changed then. After
        these odht_*_open looks at slots 0 to 9 in turn, and the first bad one
-       gives 8 or 9. */
+       gives 8 or 9. So does odht_*_check, and goes on as told below. */
     ODHT_TOO_SHORT = 1,                   /* fewer than 32 bytes */
     ODHT_WRONG_TAG = 2,                   /* the first four bytes are not ODHT */
     ODHT_WRONG_VERSION = 3,               /* not version 2 of the format */
@@ -74,17 +75,19 @@ enum odht_status {
     ODHT_SLOT_COUNT_NOT_POWER_OF_TWO = 5,
     ODHT_SLOT_COUNT_TOO_SMALL = 6,        /* fewer than 16 slots */
     ODHT_WRONG_LENGTH = 7,                /* not as many bytes as the slots need */
-    ODHT_NON_ZERO_EMPTY = 8,              /* a free slot's entry is not zero (open) */
-    ODHT_CONTROL_MISMATCH = 9,            /* a control byte is not its key's tag (open) */
+    ODHT_NON_ZERO_EMPTY = 8,              /* a free slot's entry is not zero (open, check) */
+    ODHT_CONTROL_MISMATCH = 9,            /* a control byte is not its key's tag (open, check) */
 
-    /* Refusals of a check of the whole table. No call of today answers them. */
-    ODHT_LOAD_FACTOR_TOO_SMALL = 10,
-    ODHT_NON_ZERO_PADDING = 11,
-    ODHT_BAD_FREE_CONTROL = 12,
-    ODHT_MIRROR_MISMATCH = 13,
-    ODHT_WRONG_ITEM_COUNT = 14,
-    ODHT_TOO_MANY_ITEMS = 15,
-    ODHT_UNREACHABLE = 16,
+    /* Refusals of odht_*_check alone. After 1 to 9 as above it looks at the load
+       factor and the padding, then at all slots in turn, where the first bad one
+       gives 8, 12 or 9, and then for 13 to 16. */
+    ODHT_LOAD_FACTOR_TOO_SMALL = 10,      /* below 1 percent */
+    ODHT_NON_ZERO_PADDING = 11,           /* bytes 30 and 31 are not zero */
+    ODHT_BAD_FREE_CONTROL = 12,           /* a free slot's control byte is not 255 */
+    ODHT_MIRROR_MISMATCH = 13,            /* the last 16 bytes do not repeat the first control bytes */
+    ODHT_WRONG_ITEM_COUNT = 14,           /* not as many items as the header states */
+    ODHT_TOO_MANY_ITEMS = 15,             /* more items than the load factor allows */
+    ODHT_UNREACHABLE = 16,                /* a key that a search for it does not find in its slot */
 
     /* Refusals of making and filling tables. */
     ODHT_INIT_LENGTH = 17,                /* not the length that was asked for */
@@ -164,6 +167,22 @@ uint32_t odht_u64_u32_init(uint8_t *bytes, size_t bytes_len, size_t max_item_cou
  * A refusal, 1 to 9.
  */
 uint32_t odht_u64_u32_open(const uint8_t *bytes, size_t bytes_len);
+
+/*
+ * Asks whether bytes are valid, to the last one: those of a table that the
+ * format allows. Then all that is said of answers here holds for them.
+ * OK: they are valid. A refusal, 1 to 16: the first in the order that is told
+ * above; which slot it is about is not told.
+ * It goes over the slots once, and looks for each filled slot at the control
+ * bytes of its key's probe order up to it, sixteen at a time; a key is compared
+ * only where an earlier place has its tag. It takes no memory. For a table of
+ * keys whose hashes vary this takes as long as one to three lookups of each key.
+ * Where many keys have one hash, by chance or since somebody has forged them, it
+ * is far longer: up to one compare for each two keys, so it grows as the square
+ * of the number of slots. bench/README.md has times. Who takes bytes from
+ * strangers bounds their length.
+ */
+uint32_t odht_u64_u32_check(const uint8_t *bytes, size_t bytes_len);
 
 /*
  * Inserts a key with its value, or gives a key that is there another value.
@@ -260,6 +279,9 @@ uint32_t odht_b16_u32_init(uint8_t *bytes, size_t bytes_len, size_t max_item_cou
 
 /* OK, or a refusal, 1 to 9. */
 uint32_t odht_b16_u32_open(const uint8_t *bytes, size_t bytes_len);
+
+/* OK: the bytes are valid. Or a refusal, 1 to 16. */
+uint32_t odht_b16_u32_check(const uint8_t *bytes, size_t bytes_len);
 
 /* OK. REPLACED: *former is the former value. FULL, or a refusal, 1 to 7: nothing changes. */
 uint32_t odht_b16_u32_insert(uint8_t *bytes, size_t bytes_len, const uint8_t key[16],

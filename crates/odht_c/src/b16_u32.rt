@@ -5,7 +5,7 @@
 ghost use Rattle.std.specs.Prelude.{◌≡◌};
 ghost use Rattle.std.specs.Int.{w32, to_le_bytes, from_le_bytes};
 ghost use Rattle.std.proofs.Common.{lit≤};
-ghost use Rattle.odht_raw.specs.Refusals.{view_refusal};
+ghost use Rattle.odht_raw.specs.Refusals.{view_refusal, check_refusal};
 ghost use Rattle.odht_c.specs.Statuses.{status_or_ok};
 ghost use Rattle.odht_c.specs.Reads.{GetAnswers, GetAllAnswers, LenAnswers, WalkAnswers};
 ghost use Rattle.odht_c.specs.Writes.{BytesNeededAnswers, InitAnswers, InsertAnswers, InsertAllAnswers};
@@ -106,6 +106,15 @@ pub extern "C" fn odht_b16_u32_open(bytes: &[u8]) -> u32
     ensures { result ≡ status_or_ok (view_refusal ⟦<Bytes16ToU32 as Coded>⟧.coding.format bytes.now) }
 {
     read::open::<Bytes16ToU32>(bytes)
+}
+
+/// 0 exactly where the bytes are valid, or the number of the first refusal of the whole check, 1 to 16. One pass over
+/// the slots, and for each filled one the control bytes of its key's probe order up to it.
+#[unsafe(no_mangle)]
+pub extern "C" fn odht_b16_u32_check(bytes: &[u8]) -> u32
+    ensures { result ≡ status_or_ok (check_refusal ⟦<Bytes16ToU32 as Coded>⟧.coding.format bytes.now) }
+{
+    read::check::<Bytes16ToU32>(bytes)
 }
 
 /// Gives the key this value: status 0 where the key was new, `REPLACED` where it had a value, which is written to

@@ -3,6 +3,8 @@
 
 mod b16_u32;
 mod build;
+#[cfg(test)]
+mod check_tests;
 mod read;
 mod status;
 #[cfg(test)]

@@ -1,15 +1,15 @@
 //! What the calls read in the bytes of a table, for every configuration.
 ghost use Rattle.std.specs.Prelude.{◌≡◌, length, IfOk};
 ghost use Rattle.std.specs.Result.{result_err};
-ghost use Rattle.odht_raw.specs.Refusals.{opening_refusal, view_refusal};
+ghost use Rattle.odht_raw.specs.Refusals.{opening_refusal, view_refusal, check_refusal};
 ghost use Rattle.odht_c.specs.Statuses.{status_or_ok};
 ghost use Rattle.odht_c.specs.Reads.{GetAnswers, GetAllAnswers, LenAnswers, WalkAnswers};
 
 use crate::status::{ABSENT, OK, TOO_SMALL, status_of};
-use odht::HashTable;
 use odht::bytes::Borrowed;
 use odht::config::{Coded, Config};
 use odht::error::Error;
+use odht::{HashTable, memory_layout};
 
 /// The table in bytes whose header and length fit, of which no slot is looked at.
 #[inline(always)]
@@ -30,6 +30,17 @@ pub(crate) fn open<C: Config>(bytes: &[u8]) -> u32
     ));
     match opened {
         Ok(_) => OK,
+        Err(refused) => status_of(&refused),
+    }
+}
+
+/// 0 where the bytes are valid, or the number of the first refusal of the whole check.
+#[inline]
+pub(crate) fn check<C: Config>(bytes: &[u8]) -> u32
+    ensures { result ≡ status_or_ok (check_refusal ⟦<C as Coded>⟧.coding.format bytes.now) }
+{
+    match memory_layout::check_all::<C>(bytes) {
+        Ok(()) => OK,
         Err(refused) => status_of(&refused),
     }
 }
