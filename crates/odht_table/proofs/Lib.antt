@@ -1,5 +1,7 @@
 -- laws over the texts of commands
 pub mod CommandTexts
+-- laws over hexadecimal digits, and over lines that check bytes
+pub mod HexTexts
 -- laws over the answers to `new`
 pub mod NewTexts
 -- what a `put` answers and leaves

@@ -14,6 +14,8 @@
 --     IsRenewed F n p t o o'   t answers `new` for n items at p percent, after which o' is there in place of o: the bytes of
 --                           a fresh table, or o itself where there is none
 --     MayChange r           the request r is a `put`
+--     check_text F B        of `check`: `valid`, or the text of what the bytes B are refused for first
+--     IsChecked F B t       t answers `check` of the bytes B: check_text, or `memory` where they found no room
 use Rattle.std.specs.Prelude.{◌≡◌, ℕ, ◌/◌, ◌%◌, ◌≤◌, ◌⊎◌, ⊤, false, List, [], ◌∷◌, ◌++◌, Option, Some, None, codes}
 use Rattle.std.specs.List.{flat_map}
 use Rattle.std.specs.Fmt.{decimal, digit_glyph, debug_list}
@@ -25,7 +27,9 @@ use Rattle.odht_base.specs.Insert.{put_owned, IsFullFor}
 use Rattle.odht_base.specs.Valid.{IsImage}
 use Rattle.odht_raw.specs.Coding.{Coding, encoded, value_for}
 use Rattle.odht_raw.specs.Dumps.{owned_dump_text}
-use Rattle.odht_raw.specs.Refusals.{IsTooLarge}
+use Rattle.odht_raw.specs.ErrorTexts.{error_text}
+use Rattle.odht_raw.specs.Refusals.{IsTooLarge, check_refusal}
+use Rattle.odht_raw.specs.declared.error.Error.{Error}
 use Rattle.odht_raw.specs.Walks.{decoded_all}
 use Rattle.odht_table.specs.declared.script.command.Request.{Request}
 use Rattle.odht_table.specs.declared.script.command.Request.TheVariants.{Put, Get, Len, Walk, Hex, Dump}
@@ -90,3 +94,13 @@ MayChange Len = ⊥
 MayChange Walk = ⊥
 MayChange Hex = ⊥
 MayChange Dump = ⊥
+
+abbrev pub refused_text : Option Error → List ℕ
+refused_text None = codes "valid"
+refused_text (Some error) = error_text error
+
+abbrev pub check_text : Format → List ℕ → List ℕ
+check_text F B = refused_text (check_refusal F B)
+
+abbrev pub IsChecked : Format → List ℕ → List ℕ → Type 0
+IsChecked F B text = (text ≡ check_text F B) ⊎ (text ≡ codes "memory")

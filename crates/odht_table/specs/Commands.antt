@@ -4,9 +4,14 @@
 --     IsWordText word r        the word is `len`, `walk`, `hex` or `dump`, and the request r asks for just that
 --     IsCommandText line c     the line is the word `new`, `put` or `get`, one space and the numbers of the command c;
 --                              or the one word of the command c alone
+--     IsHexText digits bytes   the digits, letters in either case, are the two of each byte in turn, as `hex` answers them
+--     IsCheckText line bytes   the line is the word `check`, one space and such digits of these bytes, of which there may be none
 -- A space is the byte 32. Digits may begin with zeros; a sign is no digit.
 use Rattle.std.specs.Prelude.{◌≡◌, ℕ, ◌^◌, ◌<◌, List, ◌∷◌, ◌++◌, codes}
 use Rattle.std.specs.Str.Parse.{IsNumeral, digits_value}
+use Rattle.std.specs.List.{All}
+use Rattle.std.specs.Str.{str_to_ascii_lowercase}
+use Rattle.odht_table.specs.Answers.{hex_text}
 use Rattle.odht_table.specs.declared.script.command.Command.{Command}
 use Rattle.odht_table.specs.declared.script.command.Command.TheVariants.{New, OnTable}
 use Rattle.odht_table.specs.declared.script.command.Request.{Request}
@@ -40,3 +45,12 @@ IsCommandText line (OnTable Len) = IsWordText line Len
 IsCommandText line (OnTable Walk) = IsWordText line Walk
 IsCommandText line (OnTable Hex) = IsWordText line Hex
 IsCommandText line (OnTable Dump) = IsWordText line Dump
+
+pub record IsHexText (digits bytes : List ℕ) : Type 0 where
+  pub text : str_to_ascii_lowercase digits ≡ hex_text bytes
+  pub bytes_fit : All (λ b. b < 2 ^ 8) bytes
+
+pub record IsCheckText (line bytes : List ℕ) : Type 0 where
+  pub digits : List ℕ
+  pub whole : line ≡ codes "check " ++ digits
+  pub hex : IsHexText digits bytes

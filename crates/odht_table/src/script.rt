@@ -6,14 +6,16 @@ ghost use Rattle.odht_base.specs.Load.{factor_of, max_items, slots_for};
 ghost use Rattle.odht_base.specs.Table.{Table as Plain, fresh};
 ghost use Rattle.odht_base.specs.Valid.{IsImage};
 ghost use Rattle.odht_raw.specs.Refusals.{IsTooLarge};
-ghost use Rattle.odht_table.specs.Answers.{line_of, hex_digits, hex_text, value_text, walk_text, IsPutAnswered, IsAnswered, IsRenewed, MayChange};
-ghost use Rattle.odht_table.specs.Commands.{IsCommandText};
+ghost use Rattle.odht_table.specs.Answers.{line_of, hex_digits, hex_text, value_text, walk_text, IsPutAnswered, IsAnswered, IsChecked, IsRenewed, MayChange};
+ghost use Rattle.odht_table.specs.Commands.{IsCheckText, IsCommandText};
 ghost use Rattle.odht_table.specs.declared.script.command.Request.{Request};
 ghost use Rattle.odht_table.specs.declared.script.command.Command.{Command};
 
+mod check;
 mod command;
 
 use crate::my_config::MyConfig;
+use check::answer_check;
 use command::{Command, Request, parse};
 use odht::config::Coded;
 use odht::error::Error;
@@ -65,9 +67,10 @@ impl std::error::Error for Fault {}
 /// | `walk` | a line `K V` for each pair, in slot order, and then the line `end` |
 /// | `hex` | the bytes of the table in hexadecimal digits |
 /// | `dump` | the numbers of the header on a line, then each slot on a line |
+/// | `check HEX` | `valid` where these hexadecimal digits are those of a valid table, or the refusal; or `memory` |
 ///
-/// Any other line is `malformed`. Before the first table each line but `new` is answered with `no table`. A `new` or a
-/// `put` that is refused leaves the table as it was.
+/// Any other line is `malformed`. Before the first table each line but `new` and `check` is answered with `no table`. A
+/// `new` or a `put` that is refused leaves the table as it was, and so does each `check`, whose digits may be none.
 pub fn run(alloc: Global, input: &mut impl Read, output: &mut impl Write) -> Result<(), Fault> {
     let script = read_script(alloc, input)?;
     answer_lines(alloc, script.as_slice(), output).map_err(|_| Fault::Write)
@@ -103,7 +106,10 @@ fn answer<W: Write>(
     output: &mut W,
 ) -> io::Result<()>
     ensures malformed { ((command : Command) → ¬ (IsCommandText line.now command))
+        → ((bytes : List ℕ) → ¬ (IsCheckText line.now bytes))
         → (table.new ≡ table.old) × OnOk result (Appends (W.contents output.old) (W.contents output.new) (line_of (codes "malformed"))) }
+    ensures checked { (bytes : List ℕ) → IsCheckText line.now bytes
+        → (table.new ≡ table.old) × (text : List ℕ) × IsChecked ⟦<MyConfig as Coded>⟧.coding.format bytes text × OnOk result (Appends (W.contents output.old) (W.contents output.new) (line_of text)) }
     ensures no_table { (request : Request) → IsCommandText line.now (Command.OnTable request) → IsNone table.old
         → IsNone table.new × OnOk result (Appends (W.contents output.old) (W.contents output.new) (line_of (codes "no table"))) }
     ensures renewed { (max_item_count percent : ℕ) → IsCommandText line.now (Command.New max_item_count percent)
@@ -115,7 +121,7 @@ fn answer<W: Write>(
         → (Q : Plain) × (text : List ℕ) × IsAnswered ⟦<MyConfig as Coded>⟧.coding P request text Q × ((after : List ℕ) × (table.new ≡ Some after) × IsImage ⟦<MyConfig as Coded>⟧.coding.format Q after) × OnOk result (Appends (W.contents output.old) (W.contents output.new) text) }
 {
     let Some(command) = parse(line) else {
-        return writeln!(output, "malformed");
+        return answer_check(alloc, line, output);
     };
     match command {
         Command::New {

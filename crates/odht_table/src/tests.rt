@@ -1,4 +1,6 @@
 //! Scripts and their answers, and runs that stop early.
+mod check_lines;
+
 use crate::script::{Fault, run};
 use std::alloc::Global;
 use std::io::{self, ErrorKind, Read, Write};
@@ -32,7 +34,7 @@ const SCRIPTS: &str = "\
     get 1\nput 1 2\nlen\nwalk\nhex\ndump\n>no table\nno table\nno table\nno table\nno table\nno table\n|\
     new 0 6\nput 1 2\nget 1\n\n>slots 16 max 0\nnone\n2\nmalformed\n|\
     new 0 6\nput 1 2\nput 1 3\nlen\nwalk\n>slots 16 max 0\nnone\nwas 2\n1\n1 3\nend\n|\
-    get 1\nnew 0 0\nnew 3 95\nput 1\nput 1 4294967296\nlen\nwalk\ncheck 4f44\n>no table\nbad percent\nslots 16 max 15\nmalformed\nmalformed\n0\nend\nmalformed\n|\
+    get 1\nnew 0 0\nnew 3 95\nput 1\nput 1 4294967296\nlen\nwalk\ncheck 4f44\n>no table\nbad percent\nslots 16 max 15\nmalformed\nmalformed\n0\nend\nProvided data has 2 bytes but the header needs 32\n|\
     new 3 95\nput 1 2\nput 3 4\nput 5 6\nwalk\nlen>slots 16 max 15\nnone\nnone\nnone\n1 2\n5 6\n3 4\nend\n3\n|\
     new 0 1\nput 18446744073709551615 4294967295\nwalk\n>slots 16 max 0\nnone\n18446744073709551615 4294967295\nend\n|\
     new 3 95\nput 1 2\nput 3 4\nput 5 6\nget 3\nget 7\n>slots 16 max 15\nnone\nnone\nnone\n4\nnone\n|\
@@ -91,7 +93,26 @@ const MALFORMED: &[u8] = b"\
     walk 1\n\
     dump\r\n\
     Len\n\
-    check 4f44\n\
+    check\n\
+    checks 4f44\n\
+    Check 4f44\n\
+    check\t4f44\n\
+    check  4f44\n\
+    check 4f44 \n\
+    check 4f 44\n\
+    check 4f44\r\n\
+    check 4\n\
+    check 4f4\n\
+    check 4g\n\
+    check g4\n\
+    check 0x\n\
+    check +4\n\
+    check 4f44/0\n\
+    check :0\n\
+    check @0\n\
+    check `0\n\
+    check \xd9\xa1\n\
+    check 4f44\xff\xff\n\
     get 18446744073709551616\n\
     put 18446744073709551616 1\n\
     put 1 4294967296\n\

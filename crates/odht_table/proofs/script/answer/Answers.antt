@@ -19,6 +19,10 @@ pub returns-in_default-clause-answered : goal.returns-in_default-clause-answered
 returns-in_default-clause-answered g c request bytes P line some is =
     absurd (none-some (OnTable request) (c.in_default.ensures.misses_none (OnTable request) line))
 
+-- a line that is no command is answered as one that checks bytes
+pub returns-in_default-clause-checked : goal.returns-in_default-clause-checked
+returns-in_default-clause-checked g c bytes is = let told = c.answer_check.ensures.checked bytes is in (refl, told.0, told.1, told.2)
+
 -- the command that was read is the line's
 pub returns-in-New-clause-renewed : goal.returns-in-New-clause-renewed
 returns-in-New-clause-renewed g c items percent is =
