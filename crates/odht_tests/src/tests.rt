@@ -1,10 +1,9 @@
 //! What neither a contract nor a vector says: the tests that the Rust crate has, lists beside a map of std, tables without a
-//! free slot, and want of memory. Views of changed tables are seen as run too.
+//! free slot, and want of memory. Views and checks of changed tables are seen as run too.
 mod builds;
 mod carried_items;
 mod changed_tables;
 mod checks;
-mod errors;
 mod frame;
 mod full_tables;
 mod list_properties;
@@ -14,4 +13,6 @@ mod probe_sequences;
 mod random;
 mod refused_places;
 mod second_reading;
+mod slow_check;
 mod walks;
+mod whole_check;

@@ -10,28 +10,6 @@ use odht::{HashTable, HashTableOwned};
 use std::alloc::{AllocError, Global};
 use std::process::Abort;
 
-impl Random {
-    // A number of four bytes.
-    fn word(&mut self) -> u32 {
-        u32::from_le_bytes([self.byte(), self.byte(), self.byte(), self.byte()])
-    }
-
-    // A number below the bound.
-    fn below(&mut self, bound: usize) -> usize {
-        let number = u16::from_le_bytes([self.byte(), self.byte()]);
-        (number as usize).wrapping_mul(bound) / 65536
-    }
-
-    // A key, which is small as often as not.
-    fn key(&mut self) -> u32 {
-        if self.below(2) == 0 {
-            self.byte() as u32
-        } else {
-            self.word()
-        }
-    }
-}
-
 // How the bytes of a table are changed.
 #[derive(Clone, Copy, PartialEq)]
 enum Change {

@@ -239,3 +239,68 @@ fn copies_have_the_same_bytes(rt: HostRuntime) {
     same_value(&rt, 1, cloned.get(&1), Some(2));
     same_value(&rt, 1, copied.get(&1), Some(2));
 }
+
+// The bytes of such a table with the pair, of which one is another.
+fn changed_bytes(at: usize, byte: u8) -> [u8; 192] {
+    let mut bytes = [0; 192];
+    for (place, found) in bytes.iter_mut().enumerate() {
+        *found = if place == at {
+            byte
+        } else {
+            byte_with_a_pair(place)
+        };
+    }
+    bytes
+}
+
+#[test]
+fn checked_copies_have_the_same_bytes(rt: HostRuntime) {
+    let (mut once, alloc) = (OneRefusal::new(), rt.alloc());
+    let bytes = changed_bytes(8, 1);
+    let copied: HashTableOwned<U32ToU32> = once.made(&rt, || {
+        HashTableOwned::from_raw_bytes(alloc, &bytes)
+    });
+    check_bytes(&rt, "the copy", copied.raw_bytes(), true);
+    same_value(&rt, 1, copied.get(&1), Some(2));
+}
+
+// No memory is asked for, so no refusal of memory is met.
+#[test]
+fn refused_bytes_are_not_copied(rt: HostRuntime) {
+    let slot = 15;
+    let refusals = [
+        (16, 17, Error::SlotCountNotPowerOfTwo { found: 17 }),
+        (
+            72,
+            3,
+            Error::ControlMismatch {
+                slot: 5,
+                expected: 58,
+                found: 19,
+            },
+        ),
+        (29, 1, Error::LoadFactorTooSmall { found: 439 }),
+        (30, 1, Error::NonZeroPadding { found: [1, 0] }),
+        (159, 1, Error::NonZeroEmpty { slot }),
+        (175, 128, Error::BadFreeControl { slot, found: 128 }),
+        (191, 0, Error::MirrorMismatch { index: 15 }),
+        (
+            8,
+            2,
+            Error::WrongItemCount {
+                stated: 2,
+                found: 1,
+            },
+        ),
+        (29, 3, Error::TooManyItems { count: 1, max: 0 }),
+        (72, 158, Error::Unreachable { slot: 5 }),
+    ];
+    for (at, byte, expected) in refusals {
+        let bytes = changed_bytes(at, byte);
+        let copied: Result<HashTableOwned<U32ToU32>, Error> = HashTableOwned::from_raw_bytes(
+            rt.alloc(),
+            &bytes,
+        );
+        same_at(&rt, "changed byte", at, copied.err(), Some(expected));
+    }
+}

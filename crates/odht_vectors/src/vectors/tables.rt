@@ -46,6 +46,16 @@ fn table<C: Config>(words: &Words<'_>, call: &str, args: &[&str]) -> Result<Answ
     let bytes = words.bytes(*bytes)?;
     match call {
         "open" if args.is_empty() => open::<C>(words.alloc, bytes),
+        "check" if args.is_empty() => {
+            let checked = memory_layout::check_all::<C>(bytes.as_slice());
+            Answer::refusal(words.alloc, checked.err())
+        }
+        "owned" if args.is_empty() => {
+            made::<C>(
+                words.alloc,
+                HashTableOwned::from_raw_bytes(words.alloc, bytes.as_slice()),
+            )
+        }
         "raw_insert" => raw::insert::<C>(words, bytes, args),
         _ => match HashTable::from_raw_bytes(OwnedBytes::new(bytes)) {
             Ok(view) => on_view::<C>(words, call, view, args),
@@ -63,6 +73,7 @@ fn on_view<C: Config>(
 ) -> Result<Answer, Fault> {
     match (call, args) {
         ("len", []) => Answer::text(words.alloc, &view.len()),
+        ("verify", []) => Answer::text(words.alloc, &view.verify()),
         ("walk", []) => walk(words.alloc, &view),
         ("get", [key]) => get(words, &view, *key),
         ("dump", [line]) => dump(words.alloc, &view, number(*line)?),
@@ -156,17 +167,20 @@ fn collected<C: Config>(words: &Words<'_>, args: &[&str]) -> Result<Answer, Faul
     };
     let (_, percent) = size("0", *of_percent)?;
     let list = list::<C>(words, pairs)?;
-    let made: Result<HashTableOwned<C>, Error> = HashTableOwned::from_iterator(
+    made::<C>(
         words.alloc,
-        list.into_iter(),
-        percent,
-    );
+        HashTableOwned::from_iterator(words.alloc, list.into_iter(), percent),
+    )
+}
+
+// The bytes of a table that was made, or the refusal.
+fn made<C: Config>(alloc: Global, made: Result<HashTableOwned<C>, Error>) -> Result<Answer, Fault> {
     match made {
         Ok(table) => {
-            let bytes = table.raw_bytes().to_vec(words.alloc)?;
-            Ok(Answer::table(String::new(words.alloc), bytes))
+            let bytes = table.raw_bytes().to_vec(alloc)?;
+            Ok(Answer::table(String::new(alloc), bytes))
         }
-        Err(refused) => Answer::refusal(words.alloc, Some(refused)),
+        Err(refused) => Answer::refusal(alloc, Some(refused)),
     }
 }
 
