@@ -1,12 +1,15 @@
 # make run: the program on its first script, or on SCRIPT=file, in a build without proofs; make test: the gate
 # make build: the program with its proofs, as a file
 # make examples: both examples, compared with what they must print
-# make bench: the table of speeds; QUICK=1 for a short run, ODHT_RUST=folder for the Rust crate beside it
+# make bench: the tables of speeds; QUICK=1 for a short run, ODHT_RUST=folder for the Rust crate beside it, CHECK=1 for
+# the tables of the whole check alone, WORST=1 for the largest forged table too, an hour or more
 SCRIPT ?= crates/odht_table/stdin
 # lowest first
 LIBRARIES = odht_base odht_raw odht
 LIBRARY ?= crates/odht_c/out/libodht_c.a
 QUICK ?=
+CHECK ?=
+WORST ?=
 ODHT_RUST ?=
 .PHONY: run build test examples bench FORCE
 run:
@@ -47,7 +50,7 @@ LINK_ORIGINAL = $(if $(ODHT_RUST),--cfg original -L dependency=build/original --
 bench: $(LIBRARY) $(if $(ODHT_RUST),original)
 	@mkdir -p build
 	@$(BENCH_RUST) --edition 2021 -D warnings --check-cfg 'cfg(original)' $(LINK_ORIGINAL) bench/main.rs $(LINK_RUST) -o build/bench
-	@build/bench $(if $(QUICK),quick)
+	@build/bench $(if $(QUICK),quick) $(if $(CHECK),check) $(if $(WORST),worst)
 
 # the Rust crate, from a checkout or from a flat folder with names as src--lib.rs.txt
 .PHONY: original

@@ -1,10 +1,11 @@
 //! Measures this library beside `HashMap`, and beside the original Rust crate where it is built with
-//! `--cfg original`. It prints one table. README.md says how it measures.
+//! `--cfg original`. It prints one table, and two of the whole check. README.md says how it measures.
 
 use std::hash::RandomState;
 use std::io::Write;
 use std::time::{Duration, Instant};
 
+mod check;
 #[allow(dead_code)]
 #[path = "../examples/rust/odht.rs"]
 mod library;
@@ -208,8 +209,7 @@ fn run_all(items: usize, rounds: usize) {
     run(from_iterator, rounds, work);
 }
 
-fn main() {
-    let quick = std::env::args().nth(1).as_deref() == Some("quick");
+fn print_first_table(quick: bool) {
     print_heading();
     if quick {
         run_all(1_000, 7);
@@ -220,4 +220,15 @@ fn main() {
     run_all(100_000, 31);
     run_all(1_000_000, 9);
     run_all(10_000_000, 5);
+}
+
+fn main() {
+    let words: Vec<String> = std::env::args().skip(1).collect();
+    let is_asked = |word: &str| words.iter().any(|given| given == word);
+    let quick = is_asked("quick");
+    if !is_asked("check") {
+        print_first_table(quick);
+    }
+    check::print_full_tables(quick);
+    check::print_forged_tables(quick, is_asked("worst"));
 }

@@ -33,6 +33,20 @@ pub fn open(work: &mut Work) {
     assert!(black_box(u64_u32::open(&work.table)).is_ok());
 }
 
+pub fn check(work: &mut Work) {
+    assert!(black_box(u64_u32::check(&work.table)).is_ok());
+}
+
+/// Makes a table of the pairs in the order in which they stand in another.
+pub fn rebuild(work: &mut Work) {
+    walk(work);
+    let answers = &work.answers;
+    let count = answers.keys.len();
+    u64_u32::init(&mut work.spare, count, PERCENT).expect("the length is right");
+    let answer = u64_u32::insert_all(&mut work.spare, &answers.keys, &answers.values);
+    assert_eq!(answer, (Status::OK, count));
+}
+
 pub fn insert_growing(work: &mut Work) {
     let answer = u64_u32::build_growing(&work.keys, &work.values, &mut work.table);
     assert_eq!(answer, (Status::OK, work.table.len()));

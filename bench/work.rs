@@ -63,6 +63,8 @@ pub struct Work {
     pub queries: Vec<u64>,
     /// The bytes of the table: inserts write them, lookups, walks and opens read them.
     pub table: Vec<u8>,
+    /// The bytes of a second table, for jobs that make one of the first.
+    pub spare: Vec<u8>,
     pub answers: Answers,
     pub sip_map: HashMap<u64, u32, RandomState>,
     pub fx_map: HashMap<u64, u32, FxBuild>,
@@ -79,6 +81,7 @@ impl Work {
             keys,
             queries: Vec::new(),
             table: vec![0; length],
+            spare: Vec::new(),
             answers: Answers {
                 keys: vec![0; count],
                 values: vec![0; count],
@@ -106,6 +109,10 @@ impl Work {
 
     pub fn drop_answers_and_maps(&mut self) {
         self.answers = Answers::default();
+        self.drop_maps();
+    }
+
+    pub fn drop_maps(&mut self) {
         self.sip_map = HashMap::default();
         self.fx_map = HashMap::default();
     }

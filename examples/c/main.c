@@ -300,6 +300,9 @@ static void byte_keys(void)
         odht_b16_u32_insert_all(bytes, sizeof bytes, keys + 5, 4, values + 5, 4, &accepted));
     printf(", %zu accepted\n", accepted);
     say_line("open as keys of 64 bits", odht_u64_u32_open(bytes, sizeof bytes));
+    say_line("check", odht_b16_u32_check(bytes, sizeof bytes));
+    bytes[369] = 255;
+    say_line("check where byte 369 is 255", odht_b16_u32_check(bytes, sizeof bytes));
 }
 
 /* ---- Refusals ---- */
@@ -320,6 +323,25 @@ static void open_damaged(const uint8_t *bytes, size_t length)
         copy[changes[index].index] = changes[index].byte;
         printf("byte %zu is %d", changes[index].index, changes[index].byte);
         say_line("", odht_u64_u32_open(copy, LENGTH));
+    }
+}
+
+/* Opening sees nothing of these changes. */
+static void check_damaged(const uint8_t *bytes, size_t length)
+{
+    static const struct { size_t index; uint8_t byte; } changes[] = {
+        {29, 0}, {30, 1}, {800, 128}, {872, 255}, {8, 41}, {29, 3},
+    };
+    uint8_t copy[LENGTH];
+
+    printf("\nthe whole check of such copies\n");
+    say_line("none", odht_u64_u32_check(bytes, length));
+    for (size_t index = 0; index < sizeof changes / sizeof changes[0]; index++) {
+        memcpy(copy, bytes, LENGTH);
+        copy[changes[index].index] = changes[index].byte;
+        printf("byte %zu is %d", changes[index].index, changes[index].byte);
+        say(", open", odht_u64_u32_open(copy, LENGTH));
+        say_line(", check", odht_u64_u32_check(copy, LENGTH));
     }
 }
 
@@ -367,6 +389,7 @@ int main(int count, char **arguments)
     fill_to_the_maximum();
     byte_keys();
     open_damaged(bytes, length);
+    check_damaged(bytes, length);
     wrong_arguments(bytes);
     return EXIT_SUCCESS;
 }

@@ -200,6 +200,9 @@ fn byte_keys() {
     let answer = b16_u32::insert_all(&mut bytes, &keys[5..], &values[5..]);
     say_accepted("insert_all 6 to 600 until 9 to 900", answer);
     say("open as keys of 64 bits", u64_u32::open(&bytes));
+    say("check", b16_u32::check(&bytes));
+    bytes[369] = 255;
+    say("check where byte 369 is 255", b16_u32::check(&bytes));
 }
 
 // ---- Refusals ----
@@ -223,6 +226,20 @@ fn open_damaged(bytes: &[u8]) {
         let mut copy = bytes.to_vec();
         copy[index] = byte;
         say(&format!("byte {index} is {byte}"), u64_u32::open(&copy));
+    }
+}
+
+/// Opening sees nothing of these changes.
+fn check_damaged(bytes: &[u8]) {
+    println!("\nthe whole check of such copies");
+    say("none", u64_u32::check(bytes));
+    let changes = [(29, 0), (30, 1), (800, 128), (872, 255), (8, 41), (29, 3)];
+    for (index, byte) in changes {
+        let mut copy = bytes.to_vec();
+        copy[index] = byte;
+        let opened = status_of(&u64_u32::open(&copy));
+        let what = format!("byte {index} is {byte}, open: {opened}, check");
+        say(&what, u64_u32::check(&copy));
     }
 }
 
@@ -273,6 +290,7 @@ fn main() -> std::io::Result<()> {
     fill_to_the_maximum();
     byte_keys();
     open_damaged(&bytes);
+    check_damaged(&bytes);
     wrong_arguments(&bytes);
     Ok(())
 }

@@ -73,8 +73,9 @@ pub mod declared {
     use super::Status;
 
     macro_rules! declare {
-        ($key:ty, $passed_key:ty, $bytes_needed:ident, $init:ident, $open:ident, $insert:ident,
-         $insert_all:ident, $get:ident, $get_all:ident, $len:ident, $walk:ident) => {
+        ($key:ty, $passed_key:ty, $bytes_needed:ident, $init:ident, $open:ident, $check:ident,
+         $insert:ident, $insert_all:ident, $get:ident, $get_all:ident, $len:ident,
+         $walk:ident) => {
             unsafe extern "C" {
                 pub fn $bytes_needed(max_item_count: usize, percent: u8, len: *mut usize)
                     -> Status;
@@ -85,6 +86,7 @@ pub mod declared {
                     percent: u8,
                 ) -> Status;
                 pub fn $open(bytes: *const u8, bytes_len: usize) -> Status;
+                pub fn $check(bytes: *const u8, bytes_len: usize) -> Status;
                 pub fn $insert(
                     bytes: *mut u8,
                     bytes_len: usize,
@@ -136,6 +138,7 @@ pub mod declared {
         odht_u64_u32_bytes_needed,
         odht_u64_u32_init,
         odht_u64_u32_open,
+        odht_u64_u32_check,
         odht_u64_u32_insert,
         odht_u64_u32_insert_all,
         odht_u64_u32_get,
@@ -149,6 +152,7 @@ pub mod declared {
         odht_b16_u32_bytes_needed,
         odht_b16_u32_init,
         odht_b16_u32_open,
+        odht_b16_u32_check,
         odht_b16_u32_insert,
         odht_b16_u32_insert_all,
         odht_b16_u32_get,
@@ -183,8 +187,9 @@ pub mod declared {
 /// single key is handed over.
 macro_rules! safe_calls {
     ($(#[$comment:meta])* $module:ident, $argument:ident: $argument_type:ty => $passed:expr,
-     $key:ty, $bytes_needed:ident, $init:ident, $open:ident, $insert:ident, $insert_all:ident,
-     $get:ident, $get_all:ident, $len:ident, $walk:ident, { $($more:item)* }) => {
+     $key:ty, $bytes_needed:ident, $init:ident, $open:ident, $check:ident, $insert:ident,
+     $insert_all:ident, $get:ident, $get_all:ident, $len:ident, $walk:ident,
+     { $($more:item)* }) => {
         $(#[$comment])*
         pub mod $module {
             use super::{declared, Status};
@@ -206,6 +211,11 @@ macro_rules! safe_calls {
             /// Whether the bytes can be used as a table.
             pub fn open(bytes: &[u8]) -> Result<(), Status> {
                 unsafe { declared::$open(bytes.as_ptr(), bytes.len()) }.with(())
+            }
+
+            /// Whether the bytes are valid, to the last one.
+            pub fn check(bytes: &[u8]) -> Result<(), Status> {
+                unsafe { declared::$check(bytes.as_ptr(), bytes.len()) }.with(())
             }
 
             /// Inserts a pair; the answer is the former value where the key was there.
@@ -275,9 +285,9 @@ macro_rules! safe_calls {
 safe_calls! {
     /// Tables from numbers of 64 bits to numbers of 32 bits, hashed by `FxHashFn`.
     u64_u32, key: u64 => key,
-    u64, odht_u64_u32_bytes_needed, odht_u64_u32_init, odht_u64_u32_open, odht_u64_u32_insert,
-    odht_u64_u32_insert_all, odht_u64_u32_get, odht_u64_u32_get_all, odht_u64_u32_len,
-    odht_u64_u32_walk, {
+    u64, odht_u64_u32_bytes_needed, odht_u64_u32_init, odht_u64_u32_open, odht_u64_u32_check,
+    odht_u64_u32_insert, odht_u64_u32_insert_all, odht_u64_u32_get, odht_u64_u32_get_all,
+    odht_u64_u32_len, odht_u64_u32_walk, {
         /// Makes a table for exactly these pairs in the first bytes of `out`; the answer is the
         /// status, and the table's length where it is `OK` or `TOO_SMALL`.
         pub fn build(keys: &[u64], values: &[u32], percent: u8, out: &mut [u8])
@@ -306,6 +316,6 @@ safe_calls! {
     /// Tables from 16 bytes, a hash already, to numbers of 32 bits, hashed by `UnHashFn`.
     b16_u32, key: &[u8; 16] => key,
     [u8; 16], odht_b16_u32_bytes_needed, odht_b16_u32_init, odht_b16_u32_open,
-    odht_b16_u32_insert, odht_b16_u32_insert_all, odht_b16_u32_get, odht_b16_u32_get_all,
-    odht_b16_u32_len, odht_b16_u32_walk, {}
+    odht_b16_u32_check, odht_b16_u32_insert, odht_b16_u32_insert_all, odht_b16_u32_get,
+    odht_b16_u32_get_all, odht_b16_u32_len, odht_b16_u32_walk, {}
 }
