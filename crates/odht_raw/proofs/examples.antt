@@ -1,6 +1,8 @@
 -- Worked examples of what is refused, each a closed theorem by computation.
 -- one name that opens every definition
 pub mod Opened
+-- what tells two things apart
+pub mod Apart
 -- forged headers and cut bytes
 pub mod Refused
 -- each header byte set to each of its values
@@ -13,3 +15,11 @@ pub mod Frames
 pub mod FrameRefusals
 -- the dump of a table
 pub mod Dumps
+-- where a search ends
+pub mod SearchEnds
+-- where a pair is placed, and what an insert into parts may answer
+pub mod Placings
+-- what the whole check sees
+pub mod Checked
+-- what an insert through lent parts may not do
+pub mod LentInserts

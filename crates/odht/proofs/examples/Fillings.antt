@@ -12,7 +12,7 @@ use Rattle.odht_base.proofs.lemmas.Options.{some_same}
 use Rattle.odht_base.proofs.examples.Configs.{my_config, direct_config, pair64, pair32}
 use Rattle.odht_raw.proofs.examples.Opened.{opened}
 use Rattle.odht.specs.Lists.{encoded_all, HasSizeOf, IsFilled, IsRefusedAt, IsFreshFilled}
-use Rattle.odht.proofs.examples.Apart.{texts_apart, some_texts_apart}
+use Rattle.odht_raw.proofs.examples.Apart.{unequal_lists, some_unequal_lists}
 use Rattle.odht.proofs.examples.SmallTables.{number_coding, no_pairs, one_pair, other_pair, full_of_none, one_of_32, bytes_of, one_pair_image, one_of_32_image}
 
 -- ---- items as pairs, in their order
@@ -70,7 +70,7 @@ pub other_order : IsFilled direct_config (put_owned direct_config) no_pairs (pai
     → ⊥
 unfolding opened
 other_order h =
-    texts_apart _ _ refl (h.image.bytes ∙ ap (image direct_config) (sym (some_same (two_in_turn 15 31) h.table h.runs)))
+    unequal_lists _ _ refl (h.image.bytes ∙ ap (image direct_config) (sym (some_same (two_in_turn 15 31) h.table h.runs)))
 
 -- an insert that is refused
 pub refused : IsFilled my_config (λ P p. None) no_pairs (pair64 1 2 ∷ []) (bytes_of (one_pair 2)) → ⊥
@@ -79,12 +79,12 @@ refused h = none-some h.table h.runs
 -- no bytes of a table
 pub no_image : IsFilled my_config (put_owned my_config) no_pairs (pair64 1 2 ∷ []) [] → ⊥
 unfolding opened
-no_image h = texts_apart _ _ refl (h.image.bytes ∙ ap bytes_of (sym (some_same (one_pair 2) h.table h.runs)))
+no_image h = unequal_lists _ _ refl (h.image.bytes ∙ ap bytes_of (sym (some_same (one_pair 2) h.table h.runs)))
 
 -- inserts of another value
 pub other_value : IsFilled my_config (λ P p. Some (one_pair 3)) no_pairs (pair64 1 2 ∷ []) (bytes_of (one_pair 3)) → ⊥
 other_value h =
-    some_texts_apart _ _ refl (ap (λ T. map_of T (le_bytes 8 1)) (some_same (one_pair 3) h.table h.runs) ∙ h.maps (le_bytes 8 1))
+    some_unequal_lists _ _ refl (ap (λ T. map_of T (le_bytes 8 1)) (some_same (one_pair 3) h.table h.runs) ∙ h.maps (le_bytes 8 1))
 
 -- inserts that lose the other keys
 pub other_key_lost : IsFilled my_config (λ P p. Some other_pair) (one_pair 2) (pair64 3 4 ∷ []) (bytes_of other_pair)
@@ -144,9 +144,9 @@ the_filling B h =
 -- a larger table from the start
 pub larger_start : IsFreshFilled number_coding 87 ((1, 2) ∷ []) (bytes_of (one_of_32 87 2)) → ⊥
 unfolding opened
-larger_start h = texts_apart _ _ refl (the_filling _ h)
+larger_start h = unequal_lists _ _ refl (the_filling _ h)
 
 -- no bytes of a table
 pub no_fresh_image : IsFreshFilled number_coding 87 ((1, 2) ∷ []) [] → ⊥
 unfolding opened
-no_fresh_image h = texts_apart _ _ refl (the_filling _ h)
+no_fresh_image h = unequal_lists _ _ refl (the_filling _ h)

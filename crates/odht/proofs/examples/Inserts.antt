@@ -10,7 +10,7 @@ use Rattle.odht_base.proofs.lemmas.Options.{some_same}
 use Rattle.odht_base.proofs.examples.Configs.{my_config, pair64}
 use Rattle.odht_raw.proofs.examples.Opened.{opened}
 use Rattle.odht.specs.Inserts.{IsFresh, IsInserted}
-use Rattle.odht.proofs.examples.Apart.{texts_apart, some_texts_apart}
+use Rattle.odht_raw.proofs.examples.Apart.{unequal_lists, some_unequal_lists}
 use Rattle.odht.proofs.examples.SmallTables.{number_coding, no_pairs, one_pair, other_pair, one_of_32, bytes_of, no_pairs_image, one_pair_image}
 
 -- ---- new tables
@@ -22,12 +22,12 @@ a_fresh_table = record { table = no_pairs; new = refl; image = no_pairs_image }
 -- the bytes of a larger table
 pub larger : IsFresh my_config 0 87 (bytes_of (empty 32 (factor_of 87))) → ⊥
 unfolding opened
-larger h = texts_apart _ _ refl (h.image.bytes ∙ ap bytes_of (sym (some_same no_pairs h.table h.new)))
+larger h = unequal_lists _ _ refl (h.image.bytes ∙ ap bytes_of (sym (some_same no_pairs h.table h.new)))
 
 -- the bytes of none
 pub no_bytes : IsFresh my_config 0 87 [] → ⊥
 unfolding opened
-no_bytes h = texts_apart _ _ refl (h.image.bytes ∙ ap bytes_of (sym (some_same no_pairs h.table h.new)))
+no_bytes h = unequal_lists _ _ refl (h.image.bytes ∙ ap bytes_of (sym (some_same no_pairs h.table h.new)))
 
 -- the table at no percent, which is not valid
 pub no_percent : IsFresh my_config 0 0 (bytes_of (empty 16 0)) → ⊥
@@ -81,7 +81,7 @@ no_former h = none-some 2 h.former
 -- the bytes of another table with the same map
 pub not_inserted : IsInserted number_coding (put_owned my_config) no_pairs 1 2 None (bytes_of (one_of_32 87 2)) → ⊥
 unfolding opened
-not_inserted h = texts_apart _ _ refl (h.image.bytes ∙ ap bytes_of (sym (some_same (one_pair 2) h.table h.inserted)))
+not_inserted h = unequal_lists _ _ refl (h.image.bytes ∙ ap bytes_of (sym (some_same (one_pair 2) h.table h.inserted)))
 
 -- an insert that is refused
 pub refused : IsInserted number_coding (λ P p. None) no_pairs 1 2 None (bytes_of (one_pair 2)) → ⊥
@@ -90,12 +90,12 @@ refused h = none-some h.table h.inserted
 -- no bytes of a table
 pub no_image : IsInserted number_coding (put_owned my_config) no_pairs 1 2 None [] → ⊥
 unfolding opened
-no_image h = texts_apart _ _ refl (h.image.bytes ∙ ap bytes_of (sym (some_same (one_pair 2) h.table h.inserted)))
+no_image h = unequal_lists _ _ refl (h.image.bytes ∙ ap bytes_of (sym (some_same (one_pair 2) h.table h.inserted)))
 
 -- an insert of another value
 pub other_value : IsInserted number_coding (λ P p. Some (one_pair 3)) no_pairs 1 2 None (bytes_of (one_pair 3)) → ⊥
 other_value h =
-    some_texts_apart _ _ refl (ap (λ T. map_of T (le_bytes 8 1)) (some_same (one_pair 3) h.table h.inserted) ∙ h.maps (le_bytes 8 1))
+    some_unequal_lists _ _ refl (ap (λ T. map_of T (le_bytes 8 1)) (some_same (one_pair 3) h.table h.inserted) ∙ h.maps (le_bytes 8 1))
 
 -- one that loses the other keys
 pub other_key_lost : IsInserted number_coding (λ P p. Some other_pair) (one_pair 2) 3 4 None (bytes_of other_pair) → ⊥

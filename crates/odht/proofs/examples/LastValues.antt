@@ -8,7 +8,7 @@ use Rattle.odht_base.specs.Table.{Pair, Table}
 use Rattle.odht_base.proofs.examples.Configs.{pair64}
 use Rattle.odht_raw.proofs.examples.Opened.{opened}
 use Rattle.odht.specs.LastValues.{HasNoKey, IsLastItem, IsLastValue, HasLastValues}
-use Rattle.odht.proofs.examples.Apart.{some_texts_apart}
+use Rattle.odht_raw.proofs.examples.Apart.{some_unequal_lists}
 use Rattle.odht.proofs.examples.SmallTables.{number_coding, one_pair, bytes_of, one_pair_image, the_table}
 
 -- the items of the examples
@@ -100,7 +100,7 @@ a_table = record { table = one_pair 3; image = one_pair_image.1; maps = λ k. go
 pub first_value : HasLastValues number_coding ((1, 2) ∷ (1, 3) ∷ []) (bytes_of (one_pair 2)) → ⊥
 unfolding opened
 first_value h =
-    some_texts_apart _ _ refl (ap (λ T. map_of T (le_bytes 8 1)) (the_table h.table _ h.image) ∙ h.maps (le_bytes 8 1))
+    some_unequal_lists _ _ refl (ap (λ T. map_of T (le_bytes 8 1)) (the_table h.table _ h.image) ∙ h.maps (le_bytes 8 1))
 
 -- a table with a further key
 pub further_key : HasLastValues number_coding [] (bytes_of (one_pair 2)) → ⊥

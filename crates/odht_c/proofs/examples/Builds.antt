@@ -6,7 +6,8 @@ use Rattle.odht_c.proofs.lemmas.HandedOut.{IsHandedOut-none}
 use Rattle.odht_c.proofs.examples.Filled.{roomy_bytes, one_built, only_built, one_grown, only_grown}
 use Rattle.odht_c.proofs.examples.Inits.{seven, one_fits}
 use Rattle.odht_c.proofs.examples.Statuses.{zero_percent_refused}
-use Rattle.odht_c.proofs.examples.Tables.{direct_coding, one_bytes, unequal, unequal_lists}
+use Rattle.odht_raw.proofs.examples.Apart.{unequal, unequal_lists}
+use Rattle.odht_c.proofs.examples.Tables.{direct_coding, one_bytes}
 
 -- ---- BuildAnswers
 -- the bytes of the caller

@@ -18,7 +18,8 @@ use Rattle.odht_raw.proofs.examples.Opened.{opened}
 use Rattle.odht.specs.Lists.{IsFilled, IsFreshFilled}
 use Rattle.odht.proofs.lemmas.Fillings.{filled_more, fresh_filled}
 use Rattle.odht_c.specs.Builds.{IsGrownFilled}
-use Rattle.odht_c.proofs.examples.Tables.{direct_coding, no_items, one_item, no_bytes, one_bytes, no_image, one_image, unequal_lists}
+use Rattle.odht_raw.proofs.examples.Apart.{unequal_lists}
+use Rattle.odht_c.proofs.examples.Tables.{direct_coding, no_items, one_item, no_bytes, one_bytes, no_image, one_image}
 
 -- one pair, put into a valid table by the owned table
 owned : (P Q : Table) (B C : List ℕ) → IsImage direct_config P B

@@ -10,7 +10,8 @@ use Rattle.odht_raw.proofs.examples.Opened.{opened}
 use Rattle.odht_c.specs.Reads.{IsGotAt, GetAllAnswers}
 use Rattle.odht_c.proofs.lemmas.Opened.{never_refused}
 use Rattle.odht_c.proofs.lemmas.Refused.{refused_get_all}
-use Rattle.odht_c.proofs.examples.Tables.{direct_coding, one_item, one_bytes, miscounted, one_image, accepted_bytes, same_table, unequal, unequal_lists, not_stored}
+use Rattle.odht_raw.proofs.examples.Apart.{unequal, unequal_lists}
+use Rattle.odht_c.proofs.examples.Tables.{direct_coding, one_item, one_bytes, miscounted, one_image, accepted_bytes, same_table, not_stored}
 
 -- ---- what holds
 -- no bytes are refused, and the arrays stay

@@ -8,7 +8,8 @@ use Rattle.odht_raw.proofs.examples.Opened.{opened}
 use Rattle.odht_c.specs.Reads.{IsGot, IsGotAt, GetAnswers}
 use Rattle.odht_c.proofs.lemmas.Opened.{never_refused}
 use Rattle.odht_c.proofs.lemmas.Refused.{refused_get}
-use Rattle.odht_c.proofs.examples.Tables.{direct_coding, one_item, one_bytes, miscounted, one_image, accepted_bytes, same_table, unequal, not_stored}
+use Rattle.odht_raw.proofs.examples.Apart.{unequal}
+use Rattle.odht_c.proofs.examples.Tables.{direct_coding, one_item, one_bytes, miscounted, one_image, accepted_bytes, same_table, not_stored}
 
 -- ---- IsGot
 -- an absent key leaves the value 9, and a present one writes its value 7

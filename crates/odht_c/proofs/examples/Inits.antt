@@ -12,7 +12,8 @@ use Rattle.odht_c.specs.Statuses.{IsPercent}
 use Rattle.odht_c.specs.Writes.{BytesNeededAnswers, InitAnswers}
 use Rattle.odht_c.proofs.lemmas.Refused.{told, not_none}
 use Rattle.odht_c.proofs.examples.Statuses.{zero_percent_refused}
-use Rattle.odht_c.proofs.examples.Tables.{direct_coding, no_items, no_bytes, one_bytes, no_image, unequal, unequal_lists}
+use Rattle.odht_raw.proofs.examples.Apart.{unequal, unequal_lists}
+use Rattle.odht_c.proofs.examples.Tables.{direct_coding, no_items, no_bytes, one_bytes, no_image}
 
 -- 7 percent is a load factor
 pub seven : IsPercent 7

@@ -18,7 +18,8 @@ use Rattle.odht_c.specs.Writes.{InsertAllAnswers}
 use Rattle.odht_c.proofs.lemmas.Inserted.{accepted_insert_all, full_insert_all}
 use Rattle.odht_c.proofs.lemmas.Refused.{refused_insert_all}
 use Rattle.odht_c.proofs.examples.Runs.{one_run, unchanged, misplaced}
-use Rattle.odht_c.proofs.examples.Tables.{direct_coding, no_items, one_item, no_bytes, one_bytes, miscounted, no_image, one_image, accepted_bytes, same_table, unequal, unequal_lists}
+use Rattle.odht_raw.proofs.examples.Apart.{unequal, unequal_lists}
+use Rattle.odht_c.proofs.examples.Tables.{direct_coding, no_items, one_item, no_bytes, one_bytes, miscounted, no_image, one_image, accepted_bytes, same_table}
 
 -- no bytes are refused, and the places stay
 pub too_short_insert_all : InsertAllAnswers direct_coding [] (5 ∷ []) (7 ∷ []) 9 1 [] 9

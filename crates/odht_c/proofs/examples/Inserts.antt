@@ -11,7 +11,8 @@ use Rattle.odht_c.specs.Statuses.{status_of}
 use Rattle.odht_c.specs.Writes.{IsFormer, IsAnswered, IsPut, InsertAnswers}
 use Rattle.odht_c.proofs.lemmas.Opened.{never_refused}
 use Rattle.odht_c.proofs.lemmas.Refused.{refused_insert}
-use Rattle.odht_c.proofs.examples.Tables.{direct_coding, no_items, one_item, no_bytes, one_bytes, other_bytes, miscounted, no_image, one_image, other_image, accepted_bytes, same_table, unequal, unequal_lists}
+use Rattle.odht_raw.proofs.examples.Apart.{unequal, unequal_lists}
+use Rattle.odht_c.proofs.examples.Tables.{direct_coding, no_items, one_item, no_bytes, one_bytes, other_bytes, miscounted, no_image, one_image, other_image, accepted_bytes, same_table}
 
 -- ---- IsFormer
 -- a new key leaves the value 9, and one that was there writes the value 7 that it had

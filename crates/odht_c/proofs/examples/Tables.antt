@@ -6,8 +6,6 @@
 --     miscounted               the bytes of no items, which state a count of five; they are accepted, and not valid
 --     no_image, one_image, other_image   the three tables are valid
 --     same_table               bytes are those of one valid table
---     unequal, unequal_lists   numbers, and lists of numbers, that a test tells apart
---     tested                   what a test tells of each of the first numbers
 --     not_stored               no slot of the bytes `miscounted` has the key 6
 use Rattle.std.proofs.Common.{◌≡◌, ◌≤◌, ◌<◌, ◌∙◌, ℕ, refl, sym, Bool, true, true≢false, List, ◌∷◌, [], Some, None, set, replicate, lit≤, subst, arith, zero-add}
 use Rattle.std.specs.List.{range_with_len, list_all}
@@ -28,9 +26,9 @@ use Rattle.odht_base.proofs.lemmas.Placed.{IsPlaced-tests}
 use Rattle.odht_base.proofs.lemmas.Rooms.{empty-IsValid}
 use Rattle.odht_raw.specs.Coding.{Coding, HasStored}
 use Rattle.odht_raw.specs.Frame.{IsAccepted}
-use Rattle.odht_raw.specs.Refusals.{differs, lists_differ}
+use Rattle.odht_raw.specs.Refusals.{lists_differ}
+use Rattle.odht_raw.proofs.examples.Apart.{unequal_lists, tested}
 use Rattle.odht_raw.proofs.examples.Opened.{opened}
-use Rattle.odht_raw.proofs.lemmas.FirstErrors.{false-differs, false-lists_differ}
 
 abbrev pub direct_coding : Coding ℕ ℕ
 direct_coding = record {
@@ -115,21 +113,7 @@ direct_format = record {
 pub same_table : (P Q : Table) (B : List ℕ) → IsImage direct_config P B → IsImage direct_config Q B → P ≡ Q
 same_table P Q B p q = image-injective direct_config P Q direct_format p.valid q.valid (sym p.bytes ∙ q.bytes)
 
--- numbers are told apart by a test
-pub unequal : (m n : ℕ) → differs m n ≡ true → m ≡ n → ⊥
-unequal m n h e = true≢false (sym h ∙ false-differs m n e)
-
--- and so are lists of them
-pub unequal_lists : (xs ys : List ℕ) → lists_differ xs ys ≡ true → xs ≡ ys → ⊥
-unequal_lists xs ys h e = true≢false (sym h ∙ false-lists_differ xs ys e)
-
--- what a test tells of each of the first n numbers
-pub tested : (p : ℕ → Bool) (n i : ℕ) → list_all p (range_with_len 0 n) ≡ true → i < n → p i ≡ true
-tested p n i h low =
-    subst (λ j. p j ≡ true) (get_or-range_with_len 0 n i 0 low ∙ zero-add i)
-    (AllPass-from_list_all p (range_with_len 0 n) h i 0 (omega (arith, low, length-range_with_len 0 n)))
-
--- so no slot has the key 6
+-- no slot has the key 6
 pub not_stored : (v : ℕ) → HasStored direct_coding miscounted 6 v → ⊥
 unfolding opened
 not_stored v (b, is, (i, low, key, value)) =

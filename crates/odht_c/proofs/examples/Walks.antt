@@ -8,7 +8,8 @@ use Rattle.odht_raw.proofs.examples.Opened.{opened}
 use Rattle.odht_c.specs.Reads.{IsWalked, LenAnswers, WalkAnswers}
 use Rattle.odht_c.proofs.lemmas.Opened.{never_refused}
 use Rattle.odht_c.proofs.lemmas.Refused.{refused_len, refused_walk}
-use Rattle.odht_c.proofs.examples.Tables.{direct_coding, one_item, one_bytes, miscounted, one_image, accepted_bytes, same_table, unequal, unequal_lists}
+use Rattle.odht_raw.proofs.examples.Apart.{unequal, unequal_lists}
+use Rattle.odht_c.proofs.examples.Tables.{direct_coding, one_item, one_bytes, miscounted, one_image, accepted_bytes, same_table}
 
 -- ---- LenAnswers
 -- no bytes are refused, and the place stays

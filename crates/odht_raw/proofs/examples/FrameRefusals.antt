@@ -1,8 +1,6 @@
 -- Worked examples: what an insert may not do, also to bytes that are not valid.
-use Rattle.std.proofs.Common.{◌≡◌, ◌<◌, ◌∙◌, ◌+◌, ◌-◌, ℕ, refl, sym, ap, inl, inr, Bool, true, false, true≢false, not, ◌||◌, List, [], ◌∷◌, Option, Some, None, Ok, Err, length, replicate, set, slice_index, lit<, subst, arith, zero-add}
+use Rattle.std.proofs.Common.{◌≡◌, ◌<◌, ◌∙◌, ◌+◌, ◌-◌, ℕ, refl, sym, inl, inr, Bool, true, false, true≢false, ◌||◌, List, [], ◌∷◌, Option, Some, None, Ok, Err, length, replicate, set, slice_index, lit<, arith}
 use Rattle.std.specs.List.{range_with_len, list_all}
-use Rattle.std.proofs.lemmas.List.FromFn.{get_or-range_with_len, length-range_with_len}
-use Rattle.std.proofs.lemmas.List.Sums.{AllPass-from_list_all}
 use Rattle.odht_base.specs.Bytes.{overwritten_at}
 use Rattle.odht_base.specs.Format.{Format}
 use Rattle.odht_base.specs.Numbers.{le_bytes}
@@ -14,24 +12,10 @@ use Rattle.odht_raw.specs.Frame.{InsertFrame, PartsFrame, CountsAsFree, CountsAs
 use Rattle.odht_raw.specs.Refusals.{lists_differ}
 use Rattle.odht_raw.specs.declared.error.Error.{Error}
 use Rattle.odht_raw.specs.declared.error.Error.TheVariants.{Full, TooShort}
+use Rattle.odht_raw.proofs.examples.Apart.{unequal_lists, tested, untrue, neither}
 use Rattle.odht_raw.proofs.examples.Opened.{opened}
 use Rattle.odht_raw.proofs.examples.Refused.{test_bytes}
 use Rattle.odht_raw.proofs.examples.Invalid.{all_filled}
-use Rattle.odht_raw.proofs.lemmas.FirstErrors.{false-lists_differ}
-
--- lists of numbers are told apart by a test
-unequal_lists : (xs ys : List ℕ) → lists_differ xs ys ≡ true → xs ≡ ys → ⊥
-unequal_lists xs ys h e = true≢false (sym h ∙ false-lists_differ xs ys e)
-
--- what a test tells of each of the first n numbers
-tested : (f : ℕ → Bool) (n i : ℕ) → list_all f (range_with_len 0 n) ≡ true → i < n → f i ≡ true
-tested f n i h low =
-    subst (λ j. f j ≡ true) (get_or-range_with_len 0 n i 0 low ∙ zero-add i)
-    (AllPass-from_list_all f (range_with_len 0 n) h i 0 (omega (arith, low, length-range_with_len 0 n)))
-
--- a test that fails for each of the first n numbers holds for none of them
-untrue : (f : ℕ → Bool) (n i : ℕ) → list_all (λ j. not (f j)) (range_with_len 0 n) ≡ true → i < n → f i ≡ true → ⊥
-untrue f n i h low e = true≢false (sym (tested (λ j. not (f j)) n i h low) ∙ ap not e)
 
 -- ---- Full
 -- a free slot whose mirror is free too does not count as filled
@@ -76,7 +60,7 @@ entry_at_maximum_refused p D h = unadded_at_maximum p None D h refl
 
 -- ---- a new entry in a filled slot
 -- sixteen control bytes of 0 with their mirror
-abbrev filled_controls : List ℕ
+abbrev pub filled_controls : List ℕ
 filled_controls = replicate 32 0
 
 -- none of these slots counts as free
@@ -119,11 +103,6 @@ overwrite_of_absent_key_refused v D h = absent_key (Some v) v D h refl
 -- the overwrite of 3 by 7, after which the bytes are D
 abbrev overwrites_three : Option (List ℕ) → List ℕ → Type 0
 overwrites_three o D = InsertFrame direct_config (all_filled 0) (pair32 3 7) (Ok o) D
-
--- where one of two tests holds, not both are refuted
-neither : (a b : Bool) → (a ≡ true → ⊥) → (b ≡ true → ⊥) → (a || b) ≡ true → ⊥
-neither true b f g h = f refl
-neither false b f g h = g h
 
 -- whether slot j has another key than 3, or its overwrite by 7 leaves other bytes than E, or its value is not v
 abbrev is_no_overwrite : List ℕ → List ℕ → ℕ → Bool
@@ -248,7 +227,7 @@ pub other_error_refused : (F : Format) (B : List ℕ) (p : Pair) (n : ℕ) (D : 
 other_error_refused F B p n D h = let only = (unchanged F B p (TooShort n) D h).0 in absurd cc
 
 -- entries of zeros
-abbrev no_entries : List ℕ
+abbrev pub no_entries : List ℕ
 no_entries = replicate 128 0
 
 absent_from_parts : (o : Option (List ℕ)) (v es' ctrl' : List ℕ)
@@ -286,11 +265,11 @@ parts_written_refusal_refused F p ctrl ctrl' h =
 
 -- ---- the words for one slot and for all
 -- slot 5 alone free, by its own byte and its mirror
-abbrev slot_five_free : List ℕ
+abbrev pub slot_five_free : List ℕ
 slot_five_free = set (set filled_controls 5 255) 21 255
 
 -- only the mirror of slot 5 free
-abbrev mirror_five_free : List ℕ
+abbrev pub mirror_five_free : List ℕ
 mirror_five_free = set filled_controls 21 255
 
 -- a slot counts as free by its own byte, and one below 16 by its mirror

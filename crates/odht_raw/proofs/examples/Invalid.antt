@@ -64,7 +64,7 @@ unfolding opened
 no_free_slot = (refl, refl, refl, refl)
 
 -- the pair (5, 5) in these of sixteen slots, and nothing else
-abbrev fives_at : List ℕ → Table
+abbrev pub fives_at : List ℕ → Table
 fives_at slots = record { factor = factor_of 87; cells = map (λ i. if list_any (λ j. i == j) slots then Some (pair32 5 5) else None) (range_with_len 0 16) }
 
 -- key 5 behind its free home, and twice

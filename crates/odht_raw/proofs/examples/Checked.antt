@@ -1,0 +1,58 @@
+-- Worked examples: what the whole check sees in the parts of a table, and what not.
+use Rattle.std.proofs.Common.{◌≡◌, ◌+◌, ◌%◌, ℕ, refl, sym, true≢false, not, List, [], ◌∷◌, Some, None, replicate, set, lit<}
+use Rattle.odht_base.specs.Bytes.{overwritten_at}
+use Rattle.odht_base.specs.Numbers.{le_bytes}
+use Rattle.odht_base.specs.Search.{stops_at}
+use Rattle.odht_base.proofs.examples.Configs.{direct_config}
+use Rattle.odht_raw.specs.Checks.{cells_of, pairs_shown, IsFitting, IsSlotHash, ArePassed}
+use Rattle.odht_raw.specs.Parts.{TableParts}
+use Rattle.odht_raw.proofs.lemmas.FirstErrors.{not-true}
+use Rattle.std.proofs.lemmas.Option.{none-some}
+use Rattle.odht_raw.proofs.examples.Apart.{unequal, tested}
+use Rattle.odht_raw.proofs.examples.Opened.{opened}
+
+-- sixteen slots: 5 beside 7 in slot 5 and 6 beside 8 in slot 6, both with their tag 0; the others are free
+abbrev entries_of_two : List ℕ
+entries_of_two = overwritten_at (overwritten_at (replicate 128 0) 40 (5 ∷ 0 ∷ 0 ∷ 0 ∷ 7 ∷ [])) 48 (6 ∷ 0 ∷ 0 ∷ 0 ∷ 8 ∷ [])
+
+abbrev parts : List ℕ → TableParts
+parts control = record { control = control; entries = record { slots = 16; bytes = entries_of_two } }
+
+abbrev two : List ℕ
+two = set (set (set (set (replicate 32 255) 5 0) 6 0) 21 0) 22 0
+
+-- both are shown, and no slot is refused, nor the mirror
+pub two_shown : (pairs_shown direct_config (parts two) ≡ 2) × IsFitting direct_config (parts two)
+unfolding opened
+two_shown = (refl, record { slots = refl; mirror = refl })
+
+-- a wrong tag, a free slot with an entry, and another mirror do not fit
+pub unfitting_refused : (IsFitting direct_config (parts (set (set two 5 1) 21 1)) → ⊥)
+    × (IsFitting direct_config (parts (set (set two 5 255) 21 255)) → ⊥)
+    × (IsFitting direct_config (parts (set two 21 255)) → ⊥)
+unfolding opened
+unfitting_refused =
+    (λ h. none-some _ (sym h.slots), λ h. none-some _ (sym h.slots), λ h. none-some _ (sym h.mirror))
+
+-- a filled slot has its key's hash, and a free one none
+pub hashes : IsSlotHash direct_config (parts two) 5 (Some 5) × IsSlotHash direct_config (parts two) 4 None
+unfolding opened
+hashes = ((refl, refl), refl)
+
+-- no other hash, none where the slot is filled, and one only there
+pub other_hash_refused : (IsSlotHash direct_config (parts two) 5 (Some 6) → ⊥)
+    × (IsSlotHash direct_config (parts two) 5 None → ⊥)
+    × (IsSlotHash direct_config (parts two) 4 (Some 0) → ⊥)
+unfolding opened
+other_hash_refused = (λ h. unequal 6 5 refl h.1, λ h. true≢false (sym h), λ h. true≢false h.0)
+
+-- slots 5 and 6 are passed by the search for 7
+pub passed : ArePassed direct_config (parts two) (le_bytes 4 7) 5 2
+unfolding opened
+passed j low =
+    not-true _ (tested (λ i. not (stops_at (cells_of direct_config (parts two)) (le_bytes 4 7) ((5 + i) % 16))) 2 j refl low)
+
+-- not by that for 6, and slot 7 by none
+pub unpassed_refused : (ArePassed direct_config (parts two) (le_bytes 4 6) 5 2 → ⊥) × (ArePassed direct_config (parts two) (le_bytes 4 7) 5 3 → ⊥)
+unfolding opened
+unpassed_refused = (λ h. true≢false (h 1 (lit< tt)), λ h. true≢false (h 2 (lit< tt)))

@@ -1,0 +1,130 @@
+-- Worked examples: where a search for the key 5 ends in sixteen slots, and what is no end of it.
+use Rattle.std.proofs.Common.{◌≡◌, ◌+◌, ◌%◌, ◌==◌, ◌||◌, ℕ, refl, sym, Bool, true, true≢false, List, [], ◌∷◌, replicate, set, slice_index, lit<, arith, eq-eqb}
+use Rattle.std.specs.List.{range_with_len, list_all}
+use Rattle.odht_base.specs.Bytes.{overwritten_at}
+use Rattle.odht_base.specs.Numbers.{le_bytes}
+use Rattle.odht_base.specs.Shown.{slot_key, slot_value, counts_as_free}
+use Rattle.odht_base.proofs.examples.Configs.{direct_config}
+use Rattle.odht_raw.specs.Parts.{EntryBytes}
+use Rattle.odht_raw.specs.Refusals.{lists_differ}
+use Rattle.odht_raw.specs.SearchEnds.{IsEnd, IsPlainEnd, IsEndAmong, IsBesideKey}
+use Rattle.odht_raw.specs.declared.raw_table.outcome.Search.TheVariants.{Found, Free, Neither}
+use Rattle.odht_raw.proofs.examples.Apart.{unequal_lists, tested, untrue, neither}
+use Rattle.odht_raw.proofs.examples.FrameRefusals.{filled_controls, slot_five_free, mirror_five_free, counted_as_free, neighbour_not_free, no_free_slots, one_free_slot_refused, none_free, one_free_refused}
+
+-- ---- in any parts
+-- the entries of sixteen slots: 5 beside 7 in slot 3, and zeros elsewhere; and the same bytes as entries of three slots
+abbrev five_in_three : ℕ → EntryBytes
+five_in_three slots = record { slots = slots; bytes = overwritten_at (replicate 128 0) 24 (5 ∷ 0 ∷ 0 ∷ 0 ∷ 7 ∷ []) }
+
+abbrev five : List ℕ
+five = le_bytes 4 5
+
+-- a key is found in its slot
+pub found : IsEnd direct_config (five_in_three 16) filled_controls five (Found 3)
+found = (lit< tt, refl)
+
+-- not in the slot of another
+pub found_elsewhere_refused : IsEnd direct_config (five_in_three 16) filled_controls five (Found 4) → ⊥
+found_elsewhere_refused (low, same) = unequal_lists (slot_key direct_config (five_in_three 16).bytes 4) five refl same
+
+-- nor behind the last slot
+pub found_behind_refused : IsEnd direct_config (five_in_three 3) filled_controls five (Found 3) → ⊥
+found_behind_refused (low, same) = omega (arith, low)
+
+-- a free slot is one that counts as free by its own byte or by its mirror
+pub free : IsEnd direct_config (five_in_three 16) slot_five_free five (Free 5) × IsEnd direct_config (five_in_three 16) mirror_five_free five (Free 5)
+free = ((lit< tt, counted_as_free.0), (lit< tt, counted_as_free.2))
+
+-- not the slot beside it
+pub filled_refused : IsEnd direct_config (five_in_three 16) slot_five_free five (Free 6) → ⊥
+filled_refused (low, is) = neighbour_not_free is
+
+-- nor one behind the last
+pub free_behind_refused : IsEnd direct_config (five_in_three 5) slot_five_free five (Free 5) → ⊥
+free_behind_refused (low, is) = omega (arith, low)
+
+-- the search ends nowhere where each slot counts as filled
+pub nowhere : IsEnd direct_config (five_in_three 16) filled_controls five Neither
+nowhere = no_free_slots
+
+-- and only there
+pub nowhere_refused : IsEnd direct_config (five_in_three 16) slot_five_free five Neither → ⊥
+nowhere_refused h = one_free_slot_refused h
+
+-- ---- slot by slot
+-- the end of a search slot by slot, which does not look at the mirror
+pub plain : IsPlainEnd direct_config (five_in_three 16) filled_controls five (Found 3)
+    × IsPlainEnd direct_config (five_in_three 16) slot_five_free five (Free 5)
+    × IsPlainEnd direct_config (five_in_three 16) filled_controls five Neither
+plain = ((lit< tt, refl), (lit< tt, refl), none_free)
+
+-- so no slot is free by its mirror alone
+pub plain_mirror_refused : IsPlainEnd direct_config (five_in_three 16) mirror_five_free five (Free 5) → ⊥
+plain_mirror_refused (low, is) = true≢false (sym is)
+
+-- a key is not found in the slot of another, nor behind the last
+pub plain_elsewhere_refused : (IsPlainEnd direct_config (five_in_three 16) filled_controls five (Found 4) → ⊥)
+    × (IsPlainEnd direct_config (five_in_three 3) filled_controls five (Found 3) → ⊥)
+plain_elsewhere_refused =
+    (λ h. unequal_lists (slot_key direct_config (five_in_three 16).bytes 4) five refl h.1, λ h. omega (arith, h.0))
+
+-- no free slot is behind the last
+pub plain_behind_refused : IsPlainEnd direct_config (five_in_three 5) slot_five_free five (Free 5) → ⊥
+plain_behind_refused (low, is) = omega (arith, low)
+
+-- and where one is free the search does not end nowhere
+pub plain_nowhere_refused : IsPlainEnd direct_config (five_in_three 16) slot_five_free five Neither → ⊥
+plain_nowhere_refused h = one_free_refused h
+
+-- ---- in one group, here the four slots 14, 15, 0 and 1
+-- slot 1 is free by the fourth byte
+pub free_in_group : IsEndAmong direct_config (five_in_three 16) (set (replicate 4 0) 3 255) 14 4 five (Free 1)
+free_in_group = (3, lit< tt, refl, refl)
+
+-- not where that byte is beyond those that are looked at
+pub free_beyond_refused : IsEndAmong direct_config (five_in_three 16) (set (replicate 4 0) 3 255) 14 3 five (Free 1) → ⊥
+free_beyond_refused (j, low, is, counts) = untrue (λ i. counts_as_free (slice_index (set (replicate 4 0) 3 255) i)) 3 j refl low counts
+
+-- nor where no byte is free
+pub filled_in_group_refused : IsEndAmong direct_config (five_in_three 16) (replicate 4 0) 14 4 five (Free 1) → ⊥
+filled_in_group_refused (j, low, is, counts) = untrue (λ i. counts_as_free (slice_index (replicate 4 0) i)) 4 j refl low counts
+
+-- and no other slot is
+pub other_in_group_refused : IsEndAmong direct_config (five_in_three 16) (replicate 4 255) 14 4 five (Free 2) → ⊥
+other_in_group_refused (j, low, is, counts) = untrue (λ i. 2 == (14 + i) % 16) 4 j refl low (eq-eqb 2 ((14 + j) % 16) is)
+
+-- a group tells of a key that was found, and it does not tell that there is none
+pub found_in_group : IsEndAmong direct_config (five_in_three 16) (replicate 4 0) 14 4 five (Found 3)
+    × (IsEndAmong direct_config (five_in_three 16) (replicate 4 0) 14 4 five (Found 4) → ⊥)
+    × (IsEndAmong direct_config (five_in_three 16) (replicate 4 0) 14 4 five Neither → ⊥)
+found_in_group =
+    ((lit< tt, refl), λ h. unequal_lists (slot_key direct_config (five_in_three 16).bytes 4) five refl h.1, λ h. h)
+
+-- ---- the value of a find
+-- whether slot i does not hold the key k beside the value v
+abbrev is_no_pair : EntryBytes → List ℕ → List ℕ → ℕ → Bool
+is_no_pair E k v i = lists_differ (slot_key direct_config E.bytes i) k || lists_differ (slot_value direct_config E.bytes i) v
+
+not_beside : (k v : List ℕ) → list_all (is_no_pair (five_in_three 16) k v) (range_with_len 0 16) ≡ true
+    → IsBesideKey direct_config (λ b. b) (five_in_three 16) k v → ⊥
+not_beside k v h (i, low, same, is) =
+    neither (lists_differ (slot_key direct_config (five_in_three 16).bytes i) k) (lists_differ (slot_value direct_config (five_in_three 16).bytes i) v)
+    (λ t. unequal_lists (slot_key direct_config (five_in_three 16).bytes i) k t same)
+    (λ t. unequal_lists (slot_value direct_config (five_in_three 16).bytes i) v t (sym is))
+    (tested (is_no_pair (five_in_three 16) k v) 16 i h low)
+
+-- it stands beside the key
+pub beside : IsBesideKey direct_config (λ b. b) (five_in_three 16) five (le_bytes 4 7)
+beside = (3, lit< tt, refl, refl)
+
+-- not beside another, and no key that is in no slot has one
+pub not_beside_refused : (IsBesideKey direct_config (λ b. b) (five_in_three 16) five (le_bytes 4 0) → ⊥)
+    × (IsBesideKey direct_config (λ b. b) (five_in_three 16) (le_bytes 4 6) (le_bytes 4 0) → ⊥)
+    × (IsBesideKey direct_config (λ b. b) (five_in_three 3) five (le_bytes 4 7) → ⊥)
+not_beside_refused = (not_beside five (le_bytes 4 0) refl, not_beside (le_bytes 4 6) (le_bytes 4 0) refl, behind)
+  where
+    behind : IsBesideKey direct_config (λ b. b) (five_in_three 3) five (le_bytes 4 7) → ⊥
+    behind (i, low, same, is) =
+        unequal_lists (slot_key direct_config (five_in_three 3).bytes i) five
+        (tested (λ j. lists_differ (slot_key direct_config (five_in_three 3).bytes j) five) 3 i refl low) same
