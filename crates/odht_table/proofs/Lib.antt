@@ -6,6 +6,8 @@ pub mod HexTexts
 pub mod NewTexts
 -- what a `put` answers and leaves
 pub mod Puts
+-- the lines of a script, and their answers
+pub mod ScriptTexts
 -- the dump has a text
 pub mod DumpTexts
 -- worked examples of the definitions

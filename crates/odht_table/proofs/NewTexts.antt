@@ -23,6 +23,11 @@ pub OnOk-more : {T E P Q : Type 0} (r : Result T E) → (P → Q) → OnOk r P �
 OnOk-more (Ok x) f h = f h
 OnOk-more (Err e) f h = h
 
+-- and so does what holds always
+pub OnOk-always : {T E Q : Type 0} (r : Result T E) → Q → OnOk r Q
+OnOk-always (Ok x) h = h
+OnOk-always (Err e) h = tt
+
 -- a refusal is answered with its text, and keeps the table
 pub refused_new : {T : Type 0} (F : Format) (items percent : ℕ) (refusal : Refusal) (old : Option (List ℕ))
     → IsErrOf {T = T} (Err refusal) BadPercent ↔ ((percent < 1) ⊎ (100 < percent))

@@ -19,3 +19,5 @@ pub mod CheckAnswers
 pub mod NewAnswers
 -- and what not
 pub mod NewRefused
+-- what the lines of a script are answered with, in their order
+pub mod ScriptAnswers

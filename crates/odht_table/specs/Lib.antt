@@ -2,3 +2,4 @@
 pub mod Answers
 pub mod Commands
 pub mod Messages
+pub mod Scripts

@@ -3,11 +3,18 @@
 //! The script works on one table from `u64` to `u32`, which grows as it fills. `script::run` says what each line does.
 #![tactic(auto)]
 
+ghost use Rattle.std.specs.Prelude.{IfOk, OnOk, IfSome, IsErrOf, List, ℕ};
+ghost use Rattle.std.specs.Io.KnownBytes.{IsAtEnd, Appends};
+ghost use Rattle.odht_table.specs.Scripts.{IsAnsweredBy};
+ghost use Rattle.odht_table.specs.declared.script.Fault.{Fault};
+
 mod my_config;
 mod script;
 #[cfg(test)]
 mod tests;
 
+use my_config::MyConfig;
+use odht::config::Coded;
 use script::{Fault, run};
 use std::alloc::Global;
 use std::io::{BufWriter, Read, Write};
@@ -15,7 +22,7 @@ use std::process::ExitCode;
 
 fn main(rt: HostRuntime) -> ExitCode {
     match run_buffered(rt.alloc(), &mut rt.stdin(), rt.stdout()) {
-        Ok(()) => ExitCode::SUCCESS,
+        Ok(_) => ExitCode::SUCCESS,
         Err(fault) => {
             // Where standard error takes nothing either, the status says it alone.
             let _ = eprintln!(rt; "{fault}");
@@ -24,12 +31,17 @@ fn main(rt: HostRuntime) -> ExitCode {
     }
 }
 
-// Answers come in small pieces: a buffer joins them.
-fn run_buffered(
+// Answers come in small pieces: a buffer joins them. It gives the writer back when it is empty.
+fn run_buffered<R: Read, W: Write + Drop>(
     alloc: Global,
-    input: &mut impl Read,
-    output: impl Write + Drop,
-) -> Result<(), Fault> {
+    input: &mut R,
+    output: W,
+) -> Result<W, Fault>
+    ensures answers { IfOk result (λ writer. IfSome (R.remaining input.old) (λ script. (text : List ℕ) × IsAnsweredBy ⟦<MyConfig as Coded>⟧.coding script text × Appends (W.contents output) (W.contents writer) text)) }
+    ensures end { OnOk result (IsAtEnd (R.remaining input.new)) }
+    ensures write { IsErrOf result Fault.Write → IsAtEnd (R.remaining input.new) }
+{
     let mut output = BufWriter::new(alloc, output).or(Err(Fault::Memory))?;
-    run(alloc, input, &mut output)
+    run(alloc, input, &mut output)?;
+    output.into_inner().or(Err(Fault::Write))
 }

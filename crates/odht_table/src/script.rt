@@ -1,15 +1,13 @@
 //! Runs a script: a list of lines, each of which makes, changes or shows a table.
-ghost use Rattle.std.specs.Prelude.{◌≡◌, ◌≢◌, ◌↔◌, ◌⊎◌, ◌<◌, ◌≤◌, false, IfOk, OnOk, IfSome, IsErrOf, IsNone, Some, ℕ, List, codes};
+ghost use Rattle.std.specs.Prelude.{◌≡◌, ◌≢◌, ◌↔◌, ◌⊎◌, ◌<◌, ◌≤◌, false, IfOk, OnOk, IfSome, IsErrOf, Some, ℕ, List, ◌∷◌, length, position, codes};
 ghost use Rattle.std.specs.Io.KnownBytes.{IsAtEnd, Appends};
 ghost use Rattle.std.specs.Fmt.{digit_glyph};
 ghost use Rattle.odht_base.specs.Load.{factor_of, max_items, slots_for};
 ghost use Rattle.odht_base.specs.Table.{Table as Plain, fresh};
 ghost use Rattle.odht_base.specs.Valid.{IsImage};
 ghost use Rattle.odht_raw.specs.Refusals.{IsTooLarge};
-ghost use Rattle.odht_table.specs.Answers.{line_of, hex_digits, hex_text, value_text, walk_text, IsPutAnswered, IsAnswered, IsChecked, IsRenewed, MayChange};
-ghost use Rattle.odht_table.specs.Commands.{IsCheckText, IsCommandText};
-ghost use Rattle.odht_table.specs.declared.script.command.Request.{Request};
-ghost use Rattle.odht_table.specs.declared.script.command.Command.{Command};
+ghost use Rattle.odht_table.specs.Answers.{line_of, hex_digits, hex_text, value_text, walk_text, IsPutAnswered, IsAnswered, IsRenewed, MayChange};
+ghost use Rattle.odht_table.specs.Scripts.{ends_line, script_lines, IsHeld, IsLineAnswered, IsAnsweredBy};
 
 mod check;
 mod command;
@@ -71,9 +69,14 @@ impl std::error::Error for Fault {}
 ///
 /// Any other line is `malformed`. Before the first table each line but `new` and `check` is answered with `no table`. A
 /// `new` or a `put` that is refused leaves the table as it was, and so does each `check`, whose digits may be none.
-pub fn run(alloc: Global, input: &mut impl Read, output: &mut impl Write) -> Result<(), Fault> {
+pub fn run<R: Read, W: Write>(alloc: Global, input: &mut R, output: &mut W) -> Result<(), Fault>
+    ensures answers { OnOk result (IfSome (R.remaining input.old) (λ script. (text : List ℕ) × IsAnsweredBy ⟦<MyConfig as Coded>⟧.coding script text × Appends (W.contents output.old) (W.contents output.new) text)) }
+    ensures end { OnOk result (IsAtEnd (R.remaining input.new)) }
+    ensures write { IsErrOf result Fault.Write → IsAtEnd (R.remaining input.new) }
+    ensures silent { IsErrOf result Fault.Read ⊎ IsErrOf result Fault.Memory → output.new ≡ output.old }
+{
     let script = read_script(alloc, input)?;
-    answer_lines(alloc, script.as_slice(), output).map_err(|_| Fault::Write)
+    answer_lines(alloc, script.as_slice(), output).or(Err(Fault::Write))
 }
 
 fn read_script<R: Read>(alloc: Global, input: &mut R) -> Result<Vec<u8>, Fault>
@@ -89,14 +92,35 @@ fn read_script<R: Read>(alloc: Global, input: &mut R) -> Result<Vec<u8>, Fault>
     }
 }
 
-// A last line without its end counts too, unless it is empty.
-fn answer_lines(alloc: Global, script: &[u8], output: &mut impl Write) -> io::Result<()> {
+fn answer_lines<W: Write>(alloc: Global, script: &[u8], output: &mut W) -> io::Result<()>
+    ensures { OnOk result ((text : List ℕ) × IsAnsweredBy ⟦<MyConfig as Coded>⟧.coding script.now text × Appends (W.contents output.old) (W.contents output.new) text) }
+{
     let mut table = None;
-    for line in script.split_inclusive(|byte| *byte == b'\n') {
-        let line = line.strip_suffix(b"\n").unwrap_or(line);
+    let mut rest = script;
+    while !rest.is_empty() {
+        let (line, next) = cut_line(rest);
         answer(alloc, line, &mut table, output)?;
+        rest = next;
     }
     output.flush()
+}
+
+// The first line, without its end, and what follows it. A last line without an end counts too.
+fn cut_line(script: &[u8]) -> (&[u8], &[u8])
+    requires { 0 < length script.now }
+    ensures line { script_lines script.now ≡ result.0.now ∷ script_lines result.1.now }
+    ensures shorter { length result.1.now < length script.now }
+{
+    match line_end(script) {
+        Some(end) => (&script[..end], &script[end + 1..]),
+        None => (script, &[]),
+    }
+}
+
+fn line_end(script: &[u8]) -> Option<usize>
+    ensures { result ≡ position ends_line script.now }
+{
+    script.iter().position(|byte| *byte == b'\n')
 }
 
 fn answer<W: Write>(
@@ -105,20 +129,8 @@ fn answer<W: Write>(
     table: &mut Option<Table>,
     output: &mut W,
 ) -> io::Result<()>
-    ensures malformed { ((command : Command) → ¬ (IsCommandText line.now command))
-        → ((bytes : List ℕ) → ¬ (IsCheckText line.now bytes))
-        → (table.new ≡ table.old) × OnOk result (Appends (W.contents output.old) (W.contents output.new) (line_of (codes "malformed"))) }
-    ensures checked { (bytes : List ℕ) → IsCheckText line.now bytes
-        → (table.new ≡ table.old) × (text : List ℕ) × IsChecked ⟦<MyConfig as Coded>⟧.coding.format bytes text × OnOk result (Appends (W.contents output.old) (W.contents output.new) (line_of text)) }
-    ensures no_table { (request : Request) → IsCommandText line.now (Command.OnTable request) → IsNone table.old
-        → IsNone table.new × OnOk result (Appends (W.contents output.old) (W.contents output.new) (line_of (codes "no table"))) }
-    ensures renewed { (max_item_count percent : ℕ) → IsCommandText line.now (Command.New max_item_count percent)
-        → (text : List ℕ) × IsRenewed ⟦<MyConfig as Coded>⟧.coding.format max_item_count percent text table.old table.new × OnOk result (Appends (W.contents output.old) (W.contents output.new) (line_of text)) }
-    ensures answered { (request : Request) (bytes : List ℕ) (P : Plain)
-        → IsCommandText line.now (Command.OnTable request)
-        → table.old ≡ Some bytes
-        → IsImage ⟦<MyConfig as Coded>⟧.coding.format P bytes
-        → (Q : Plain) × (text : List ℕ) × IsAnswered ⟦<MyConfig as Coded>⟧.coding P request text Q × ((after : List ℕ) × (table.new ≡ Some after) × IsImage ⟦<MyConfig as Coded>⟧.coding.format Q after) × OnOk result (Appends (W.contents output.old) (W.contents output.new) text) }
+    ensures { IsHeld ⟦<MyConfig as Coded>⟧.coding.format table.old
+        → (text : List ℕ) × IsLineAnswered ⟦<MyConfig as Coded>⟧.coding line.now table.old text table.new × OnOk result (Appends (W.contents output.old) (W.contents output.new) text) }
 {
     let Some(command) = parse(line) else {
         return answer_check(alloc, line, output);

@@ -2,7 +2,7 @@
 use Rattle.std.proofs.Common.{◌≡◌, ◌∙◌, ℕ, inl, inr, List, [], ◌∷◌, None, ap, refl, sym}
 use Rattle.std.specs.Prelude.{codes}
 use Rattle.std.specs.Fmt.{digits}
-use Rattle.odht.proofs.examples.Apart.{texts_apart}
+use Rattle.odht_raw.proofs.examples.Apart.{unequal_lists}
 use Rattle.odht_base.specs.Format.{Format}
 use Rattle.odht_base.proofs.examples.Configs.{my_config}
 use Rattle.odht_raw.specs.Refusals.{opening_refusal, view_refusal, check_refusal}
@@ -26,5 +26,5 @@ no_room B = inr refl
 
 -- but refused ones are never answered as valid
 pub not_valid : IsChecked my_config (79 ∷ 68 ∷ []) (codes "valid") → ⊥
-not_valid (inl e) = texts_apart (codes "valid") (codes "Provided data has 2 bytes but the header needs 32") refl (e ∙ too_short)
-not_valid (inr e) = texts_apart (codes "valid") (codes "memory") refl e
+not_valid (inl e) = unequal_lists (codes "valid") (codes "Provided data has 2 bytes but the header needs 32") refl (e ∙ too_short)
+not_valid (inr e) = unequal_lists (codes "valid") (codes "memory") refl e

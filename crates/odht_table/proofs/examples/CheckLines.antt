@@ -4,7 +4,7 @@ use Rattle.std.proofs.lemmas.Bool.{false≢true}
 use Rattle.std.proofs.lemmas.List.Elements.{All-cons, All-nil}
 use Rattle.std.specs.Prelude.{codes}
 use Rattle.odht_table.specs.Commands.{IsHexText, IsCheckText}
-use Rattle.odht_table.proofs.HexTexts.{check_digits, digits_even, digits_pass}
+use Rattle.odht_table.proofs.HexTexts.{check_digits, digits_even, digits_pass, hex_same}
 
 abbrev IsByte : ℕ → Type 0
 IsByte b = b < 2 ^ 8
@@ -53,3 +53,7 @@ halves_exchanged h = let e = ap (λ ds. slice_index ds 0) h.text in absurd (omeg
 -- no number from 256 on is a byte
 pub no_byte : IsHexText (codes "4f") (335 ∷ []) → ⊥
 no_byte h = let small : 335 < 2 ^ 8 = h.bytes_fit 0 0 (lit< tt) in omega (arith, small)
+
+-- a line writes one list of bytes alone
+pub bytes_alone : (line xs ys : List ℕ) → IsCheckText line xs → IsCheckText line ys → xs ≡ ys
+bytes_alone line xs ys h k = hex_same h.digits xs ys h.hex (check_digits line h.digits ys h.whole k)

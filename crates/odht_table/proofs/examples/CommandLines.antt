@@ -4,7 +4,7 @@ use Rattle.std.specs.Prelude.{codes}
 use Rattle.odht_table.specs.Commands.{IsPairText, IsNumberText, IsWordText, IsCommandText}
 use Rattle.odht_table.specs.declared.script.command.Command.TheVariants.{New, OnTable}
 use Rattle.odht_table.specs.declared.script.command.Request.TheVariants.{Put, Get, Len, Walk, Hex, Dump}
-use Rattle.odht.proofs.examples.Apart.{told_apart, texts_apart}
+use Rattle.odht_raw.proofs.examples.Apart.{told_apart, unequal_lists}
 use Rattle.odht_table.proofs.examples.NumberTexts.{a_pair, a_number, another_number, another_second}
 
 -- two lines with another byte at one place
@@ -25,14 +25,14 @@ pub other_words : (IsWordText (codes "hex") Len → ⊥)
     × (IsWordText (codes "len") Walk → ⊥)
     × (IsWordText (codes "len") Hex → ⊥)
     × (IsWordText (codes "walk") Dump → ⊥)
-other_words = (texts_apart _ _ refl, texts_apart _ _ refl, texts_apart _ _ refl, texts_apart _ _ refl)
+other_words = (unequal_lists _ _ refl, unequal_lists _ _ refl, unequal_lists _ _ refl, unequal_lists _ _ refl)
 
 -- nor is the word with a further byte or in capitals, nor no word
 pub longer_words : (IsWordText (codes "len ") Len → ⊥)
     × (IsWordText (codes "walks") Walk → ⊥)
     × (IsWordText (codes "HEX") Hex → ⊥)
     × (IsWordText [] Dump → ⊥)
-longer_words = (texts_apart _ _ refl, texts_apart _ _ refl, texts_apart _ _ refl, texts_apart _ _ refl)
+longer_words = (unequal_lists _ _ refl, unequal_lists _ _ refl, unequal_lists _ _ refl, unequal_lists _ _ refl)
 
 -- no word asks for a request with numbers
 pub requests_with_numbers : (IsWordText (codes "put") (Put 1 2) → ⊥) × (IsWordText (codes "get") (Get 1) → ⊥)
@@ -89,4 +89,4 @@ pub other_word_lines : (IsCommandText (codes "len ") (OnTable Len) → ⊥)
     × (IsCommandText (codes "walk ") (OnTable Walk) → ⊥)
     × (IsCommandText (codes "dump") (OnTable Hex) → ⊥)
     × (IsCommandText (codes "hex") (OnTable Dump) → ⊥)
-other_word_lines = (texts_apart _ _ refl, texts_apart _ _ refl, texts_apart _ _ refl, texts_apart _ _ refl)
+other_word_lines = (unequal_lists _ _ refl, unequal_lists _ _ refl, unequal_lists _ _ refl, unequal_lists _ _ refl)

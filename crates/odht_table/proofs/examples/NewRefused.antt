@@ -13,7 +13,7 @@ use Rattle.odht_base.proofs.examples.Configs.{my_config}
 use Rattle.odht_base.proofs.examples.Opened.{opened}
 use Rattle.odht_raw.specs.Refusals.{IsTooLarge}
 use Rattle.odht_table.specs.Answers.{IsGoodPercent, IsRenewed, new_text}
-use Rattle.odht.proofs.examples.Apart.{told_apart, texts_apart, some_texts_apart}
+use Rattle.odht_raw.proofs.examples.Apart.{told_apart, unequal_lists, some_unequal_lists}
 use Rattle.odht_table.proofs.examples.NewAnswers.{bad_percents, good, too_large, not_too_large, new_bytes, old_bytes}
 use Rattle.odht.proofs.examples.SmallTables.{no_pairs}
 
@@ -49,8 +49,8 @@ module _ (n p : ℕ) (old now : Option (List ℕ)) where
     where
       go : HasAnswer my_config n p (codes "bad percent") old now → (now ≡ old) × ¬ (IsGoodPercent p)
       go (inl k) = (k.1, k.2)
-      go (inr (inl k)) = absurd (texts_apart _ _ refl k.0)
-      go (inr (inr (inl k))) = absurd (texts_apart _ _ refl k.0)
+      go (inr (inl k)) = absurd (unequal_lists _ _ refl k.0)
+      go (inr (inr (inl k))) = absurd (unequal_lists _ _ refl k.0)
       go (inr (inr (inr k))) = absurd (made_letter _ _ _ _ _ refl k)
 
   capacity_parts : IsRenewed my_config n p (codes "capacity") old now
@@ -59,9 +59,9 @@ module _ (n p : ℕ) (old now : Option (List ℕ)) where
     where
       go : HasAnswer my_config n p (codes "capacity") old now
           → (now ≡ old) × IsGoodPercent p × IsTooLarge my_config n (factor_of p)
-      go (inl k) = absurd (texts_apart _ _ refl k.0)
+      go (inl k) = absurd (unequal_lists _ _ refl k.0)
       go (inr (inl k)) = (k.1, k.2, k.3)
-      go (inr (inr (inl k))) = absurd (texts_apart _ _ refl k.0)
+      go (inr (inr (inl k))) = absurd (unequal_lists _ _ refl k.0)
       go (inr (inr (inr k))) = absurd (made_letter _ _ _ _ _ refl k)
 
   memory_parts : IsRenewed my_config n p (codes "memory") old now
@@ -70,8 +70,8 @@ module _ (n p : ℕ) (old now : Option (List ℕ)) where
     where
       go : HasAnswer my_config n p (codes "memory") old now
           → (now ≡ old) × IsGoodPercent p × ¬ (IsTooLarge my_config n (factor_of p))
-      go (inl k) = absurd (texts_apart _ _ refl k.0)
-      go (inr (inl k)) = absurd (texts_apart _ _ refl k.0)
+      go (inl k) = absurd (unequal_lists _ _ refl k.0)
+      go (inr (inl k)) = absurd (unequal_lists _ _ refl k.0)
       go (inr (inr (inl k))) = (k.1, k.2, k.3)
       go (inr (inr (inr k))) = absurd (made_letter _ _ _ _ _ refl k)
 
@@ -132,21 +132,21 @@ the_bytes text now h = h.4 ∙ ap Some (h.8.bytes ∙ ap (image my_config) (sym 
 
 -- another slot count
 pub other_slots : IsRenewed my_config 0 87 (codes "slots 32 max 13") None (Some new_bytes) → ⊥
-other_slots h = texts_apart _ _ refl (the_text _ _ (made_parts _ _ _ _ _ refl h))
+other_slots h = unequal_lists _ _ refl (the_text _ _ (made_parts _ _ _ _ _ refl h))
 
 -- another maximum
 pub other_maximum : IsRenewed my_config 0 87 (codes "slots 16 max 14") None (Some new_bytes) → ⊥
-other_maximum h = texts_apart _ _ refl (the_text _ _ (made_parts _ _ _ _ _ refl h))
+other_maximum h = unequal_lists _ _ refl (the_text _ _ (made_parts _ _ _ _ _ refl h))
 
 -- the bytes of another table
 pub other_table : IsRenewed my_config 0 87 (codes "slots 16 max 13") (Some old_bytes) (Some old_bytes) → ⊥
 unfolding opened
-other_table h = some_texts_apart _ _ refl (the_bytes _ _ (made_parts _ _ _ _ _ refl h))
+other_table h = some_unequal_lists _ _ refl (the_bytes _ _ (made_parts _ _ _ _ _ refl h))
 
 -- the bytes of none
 pub no_bytes : IsRenewed my_config 0 87 (codes "slots 16 max 13") (Some old_bytes) (Some []) → ⊥
 unfolding opened
-no_bytes h = some_texts_apart _ _ refl (the_bytes _ _ (made_parts _ _ _ _ _ refl h))
+no_bytes h = some_unequal_lists _ _ refl (the_bytes _ _ (made_parts _ _ _ _ _ refl h))
 
 -- no table
 pub no_table : IsRenewed my_config 0 87 (codes "slots 16 max 13") None None → ⊥

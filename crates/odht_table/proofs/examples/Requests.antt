@@ -9,7 +9,7 @@ use Rattle.odht_table.specs.Answers.{IsAnswered, MayChange}
 use Rattle.odht_table.specs.declared.script.command.Request.{Request}
 use Rattle.odht_table.specs.declared.script.command.Request.TheVariants.{Put, Get, Len, Walk, Hex, Dump}
 use Rattle.odht_table.proofs.Puts.{my_coding}
-use Rattle.odht.proofs.examples.Apart.{told_apart, texts_apart, some_texts_apart}
+use Rattle.odht_raw.proofs.examples.Apart.{told_apart, unequal_lists, some_unequal_lists}
 use Rattle.odht_table.proofs.examples.PutAnswers.{old_key, other_text}
 use Rattle.odht.proofs.examples.SmallTables.{no_pairs, one_pair}
 use Rattle.odht_table.proofs.examples.Tests.{has_pairs}
@@ -45,7 +45,7 @@ a_missing_get = (refl, refl)
 -- another text
 pub other_get : Answers (Get 1) (codes "none\n") (one_pair 2) → ⊥
 unfolding opened digits
-other_get h = texts_apart _ _ refl h.0
+other_get h = unequal_lists _ _ refl h.0
 
 -- another table
 pub changed_by_get : Answers (Get 1) (codes "2\n") no_pairs → ⊥
@@ -60,7 +60,7 @@ a_len = (refl, refl)
 -- another text
 pub other_len : Answers Len (codes "0\n") (one_pair 2) → ⊥
 unfolding opened digits
-other_len h = texts_apart _ _ refl h.0
+other_len h = unequal_lists _ _ refl h.0
 
 -- another table
 pub changed_by_len : Answers Len (codes "1\n") no_pairs → ⊥
@@ -75,7 +75,7 @@ a_walk = (refl, refl)
 -- a walk that misses the pair
 pub other_walk : Answers Walk (codes "end\n") (one_pair 2) → ⊥
 unfolding opened digits
-other_walk h = texts_apart _ _ refl h.0
+other_walk h = unequal_lists _ _ refl h.0
 
 -- another table
 pub changed_by_walk : Answers Walk (codes "1 2\nend\n") no_pairs → ⊥
@@ -101,7 +101,7 @@ a_hex = (refl, refl)
 -- the first two bytes alone
 pub other_hex : Answers Hex (codes "4f44\n") (one_pair 2) → ⊥
 unfolding opened digits
-other_hex h = texts_apart _ _ refl h.0
+other_hex h = unequal_lists _ _ refl h.0
 
 -- another table
 pub changed_by_hex : Answers Hex (all_bytes ++ codes "\n") no_pairs → ⊥
@@ -126,7 +126,7 @@ a_dump = (refl, refl)
 -- a part of the first line
 pub other_dump : Answers Dump (codes "(item_count=1)\n") (one_pair 2) → ⊥
 unfolding opened digits
-other_dump h = some_texts_apart _ all_slots refl h.0
+other_dump h = some_unequal_lists _ all_slots refl h.0
 
 -- another table
 pub changed_by_dump : Answers Dump all_slots no_pairs → ⊥

@@ -4,8 +4,9 @@ ghost use Rattle.std.specs.Char.{is_ascii_hexdigit, to_ascii_lowercase};
 ghost use Rattle.std.specs.Fmt.{digit_glyph};
 ghost use Rattle.std.specs.Io.KnownBytes.{Appends};
 ghost use Rattle.std.specs.List.{AllPass};
-ghost use Rattle.odht_table.specs.Answers.{line_of, check_text, IsChecked};
+ghost use Rattle.odht_table.specs.Answers.{line_of, check_text};
 ghost use Rattle.odht_table.specs.Commands.{IsHexText, IsCheckText};
+ghost use Rattle.odht_table.specs.Scripts.{IsOtherAnswered};
 
 use crate::my_config::MyConfig;
 use odht::config::Coded;
@@ -15,10 +16,7 @@ use std::io::{self, Write};
 
 /// Answers a line that is no command: with what the whole check says of the bytes that it writes, or as malformed.
 pub fn answer_check<W: Write>(alloc: Global, line: &[u8], output: &mut W) -> io::Result<()>
-    ensures malformed { ((bytes : List ℕ) → ¬ (IsCheckText line.now bytes))
-        → OnOk result (Appends (W.contents output.old) (W.contents output.new) (line_of (codes "malformed"))) }
-    ensures checked { (bytes : List ℕ) → IsCheckText line.now bytes
-        → (text : List ℕ) × IsChecked ⟦<MyConfig as Coded>⟧.coding.format bytes text × OnOk result (Appends (W.contents output.old) (W.contents output.new) (line_of text)) }
+    ensures { (text : List ℕ) × IsOtherAnswered ⟦<MyConfig as Coded>⟧.coding.format line.now text × OnOk result (Appends (W.contents output.old) (W.contents output.new) (line_of text)) }
 {
     let Some(digits) = digits_of(line) else {
         return writeln!(output, "malformed");

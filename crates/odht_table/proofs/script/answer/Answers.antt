@@ -1,41 +1,43 @@
-use Rattle.std.proofs.Common.{◌≡◌, refl, sym, subst}
+use Rattle.std.proofs.Common.{sym, subst, Some, None}
+use Rattle.std.specs.Prelude.{codes}
 use Rattle.std.proofs.lemmas.Option.{none-some}
-use Rattle.odht_base.specs.Valid.{IsImage}
-use Rattle.odht_table.specs.Answers.{IsAnswered}
+use Rattle.odht_base.specs.Valid.{IsValidBytes}
+use Rattle.odht_table.specs.Answers.{line_of}
+use Rattle.odht_table.specs.Commands.{IsCommandText}
+use Rattle.odht_table.specs.Scripts.{IsHeld, IsLineAnswered}
+use Rattle.odht_table.specs.declared.script.command.Command.{Command}
+use Rattle.odht_table.specs.Scripts.IsLineAnswered.{other, renewed, no_table, answered}
 use Rattle.odht_table.proofs.Puts.{my_coding}
-use Rattle.odht_table.specs.declared.script.command.Command.TheVariants.{New, OnTable}
 use Rattle.odht_table.proofs.script.answer.Goals as goal
 
--- the line of a command is not malformed
-pub returns-in_default-clause-no_table : goal.returns-in_default-clause-no_table
-returns-in_default-clause-no_table g c request is none =
-    absurd (none-some (OnTable request) (c.in_default.ensures.misses_none (OnTable request) is))
+-- a line that is no command
+pub returns-in_default : goal.returns-in_default
+returns-in_default g c held =
+    let told = c.answer_check.ensures in
+    let none = λ (command : Command) (is : IsCommandText c.args.line.now command). absurd (none-some command (c.in_default.ensures.misses_none command is)) in
+    (line_of told.0, other c.args.table.now told.0 none told.1, told.2)
 
-pub returns-in_default-clause-renewed : goal.returns-in_default-clause-renewed
-returns-in_default-clause-renewed g c items percent is =
-    absurd (none-some (New items percent) (c.in_default.ensures.misses_none (New items percent) is))
+-- a fresh table
+pub returns-in-New : goal.returns-in-New
+returns-in-New g c held =
+    let told = c.renew.ensures in
+    let line = subst (IsCommandText c.args.line.now) c.in-New.is c.in-Some.ensures.reads in
+    (line_of told.0, renewed _ _ c.args.table.now c.renew.new.table told.0 line told.1, told.2)
 
-pub returns-in_default-clause-answered : goal.returns-in_default-clause-answered
-returns-in_default-clause-answered g c request bytes P line some is =
-    absurd (none-some (OnTable request) (c.in_default.ensures.misses_none (OnTable request) line))
+-- a request before the first table
+pub returns-in-None : goal.returns-in-None
+returns-in-None g c held =
+    let line = subst (IsCommandText c.args.line.now) c.in-OnTable.is c.in-Some.ensures.reads in
+    let text = line_of (codes "no table") in
+    let before : IsLineAnswered my_coding c.args.line.now None text None = no_table _ line in
+    (text, subst (λ o. IsLineAnswered my_coding c.args.line.now o text o) (sym c.in-None.is) before, c.writeln.ensures.bytes)
 
--- a line that is no command is answered as one that checks bytes
-pub returns-in_default-clause-checked : goal.returns-in_default-clause-checked
-returns-in_default-clause-checked g c bytes is = let told = c.answer_check.ensures.checked bytes is in (refl, told.0, told.1, told.2)
-
--- the command that was read is the line's
-pub returns-in-New-clause-renewed : goal.returns-in-New-clause-renewed
-returns-in-New-clause-renewed g c items percent is =
-    let read = c.in-Some.ensures.misses_none (New items percent) is in
-    let same_items : c.in-New.max_item_count ≡ items = cc in
-    let same_percent : c.in-New.percent ≡ percent = cc in
-    rw (sym same_items, sym same_percent) c.renew.ensures
-
--- and the table that is there is this one
-pub returns-in-Some-table-clause-answered : goal.returns-in-Some-table-clause-answered
-returns-in-Some-table-clause-answered g c request bytes P line some is =
-    let read = c.in-Some.ensures.misses_none (OnTable request) line in
-    let same : c.in-OnTable.request ≡ request = cc in
-    let here : c.in-Some-table.table ≡ bytes = cc in
-    let told = c.serve.ensures.answered P (subst (IsImage my_coding.format P) (sym here) is) in
-    (told.0, told.1, subst (λ r. IsAnswered my_coding P r told.1 told.0) same told.2, (c.serve.new.table, refl, told.3), told.4)
+-- a request of the table
+pub returns-in-Some-table : goal.returns-in-Some-table
+returns-in-Some-table g c held =
+    let line = subst (IsCommandText c.args.line.now) c.in-OnTable.is c.in-Some.ensures.reads in
+    let valid : IsValidBytes my_coding.format c.in-Some-table.table = subst (IsHeld my_coding.format) c.in-Some-table.is held in
+    let told = c.serve.ensures.answered valid.0 valid.1 in
+    let after : IsLineAnswered my_coding c.args.line.now (Some c.in-Some-table.table) told.1 (Some c.serve.new.table) =
+    answered c.in-OnTable.request valid.0 told.0 c.in-Some-table.table c.serve.new.table told.1 line valid.1 told.2 told.3 in
+    (told.1, subst (λ o. IsLineAnswered my_coding c.args.line.now o told.1 (Some c.serve.new.table)) (sym c.in-Some-table.is) after, told.4)

@@ -1,4 +1,4 @@
-use Rattle.std.proofs.Common.{◌≡◌, ◌∙◌, ◌*◌, ◌/◌, ◌+◌, [], take, take_all, sym, ap, subst, arith, length}
+use Rattle.std.proofs.Common.{◌≡◌, ◌*◌, ◌+◌, [], take, take_all, sym, subst, arith}
 use Rattle.odht_table.specs.Commands.{IsHexText}
 use Rattle.odht_table.proofs.HexTexts.{no_bytes, one_more}
 use Rattle.odht_table.proofs.script.check.bytes_of.Goals as goal

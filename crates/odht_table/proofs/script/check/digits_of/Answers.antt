@@ -1,4 +1,4 @@
-use Rattle.std.proofs.Common.{◌≡◌, ◌∙◌, false, true, drop, length, ◌%◌, sym, ap, subst}
+use Rattle.std.proofs.Common.{◌≡◌, ◌∙◌, drop, length, ◌%◌, sym, ap, subst}
 use Rattle.std.specs.Char.{is_ascii_hexdigit}
 use Rattle.std.specs.List.{AllPass}
 use Rattle.odht_table.proofs.HexTexts.{digits_even, digits_pass}

@@ -1,0 +1,88 @@
+-- The lines of a script, one after the other, and what their answers make together.
+use Rattle.std.proofs.Common.{◌≡◌, ◌∙◌, ℕ, ◌+◌, ◌-◌, ◌<◌, ◌≤◌, false, List, [], ◌∷◌, ◌++◌, length, take, drop, if◌then◌else◌, Option, Some, None, sym, ap, subst, refl, arith, ne_eqb, append-nil, append_assoc}
+use Rattle.std.specs.List.{All, slice_split, position, position_or_len}
+use Rattle.std.proofs.lemmas.Grind.{common_steps}
+use Rattle.std.proofs.lemmas.List.Quantifiers.{position-Some}
+use Rattle.std.proofs.lemmas.List.Splits.{slice_split_none, slice_split_first, length-slice_split}
+use Rattle.std.proofs.lemmas.List.Sums.{fails_before_first}
+use Rattle.std.specs.Io.KnownBytes.{Appends, Keeps}
+use Rattle.std.proofs.KnownBytes.{Appends-nil, Appends-trans, Appends-kept}
+use Rattle.odht_table.specs.Answers.{IsRenewed}
+use Rattle.odht_table.specs.Answers.IsRenewed.{bad_percent, capacity, memory, made}
+use Rattle.odht_raw.specs.Coding.{Coding}
+use Rattle.odht_table.specs.Scripts.{ends_line, without_empty_last, script_lines, IsHeld, IsLineAnswered, AreAnswered, IsAnsweredBy}
+use Rattle.odht_table.specs.Scripts.IsLineAnswered.{other, renewed, no_table, answered}
+use Rattle.odht_table.specs.Scripts.AreAnswered.{no_lines, one_more}
+
+-- a first part stays, whatever the others are
+first_part : (part : List ℕ) (parts : List (List ℕ)) → 0 < length parts → without_empty_last (part ∷ parts) ≡ part ∷ without_empty_last parts
+first_part part [] l = absurd (omega (arith, l))
+first_part part (next ∷ more) l = refl
+
+-- a line ends at the first end, and the others follow it
+pub first_line : (script : List ℕ) (i : ℕ) → position ends_line script ≡ Some i
+    → script_lines script ≡ take i script ∷ script_lines (take (length script - (i + 1)) (drop (i + 1) script))
+first_line script i e =
+    let first = position-Some ends_line script i 0 e in
+    let at : position_or_len ends_line script ≡ i = grind (arith, common_steps) in
+    let parts = slice_split_first ends_line script 0 (omega (arith, at, first.0)) in
+    let rest = drop (i + 1) script in
+    let whole : take (length script - (i + 1)) rest ≡ rest = grind (arith, common_steps) in
+    ap without_empty_last parts
+    ∙ ap (λ k. without_empty_last (take k script ∷ slice_split ends_line (drop (k + 1) script))) at
+    ∙ first_part (take i script) (slice_split ends_line rest) (omega (arith, length-slice_split ends_line rest))
+    ∙ ap (λ ys. take i script ∷ script_lines ys) (sym whole)
+
+-- a last line needs no end
+pub last_line : (script : List ℕ) → position ends_line script ≡ None → 0 < length script → script_lines script ≡ script ∷ []
+last_line script e l =
+    let end : length script ≤ position_or_len ends_line script = grind (arith, common_steps) in
+    let no_end : All (λ b. ends_line b ≡ false) script = λ k d low. fails_before_first ends_line script k d (omega (arith, low, end)) in
+    ap without_empty_last (slice_split_none ends_line script no_end) ∙ ap (λ b. if b then [] else script ∷ []) (ne_eqb (length script) 0 (omega (arith, l)))
+
+-- a line leaves a valid table where there was one, or none
+held_after : (c : Coding ℕ ℕ) (line : List ℕ) (old new : Option (List ℕ)) (text : List ℕ) → IsHeld c.format old → IsLineAnswered c line old text new → IsHeld c.format new
+held_after c line _ _ _ held (other old text no_command is) = held
+held_after c line _ _ _ held (renewed items percent old new text is table) = renewed_held old new text held table
+  where
+    renewed_held : (old new : Option (List ℕ)) (text : List ℕ) → IsHeld c.format old → IsRenewed c.format items percent text old new → IsHeld c.format new
+    renewed_held _ _ _ held (bad_percent old bad) = held
+    renewed_held _ _ _ held (capacity old good large) = held
+    renewed_held _ _ _ held (memory old good small) = held
+    renewed_held _ _ _ held (made old slots P bytes good least new image) = (P, image)
+held_after c line _ _ _ held (no_table request is) = held
+held_after c line _ _ _ held (answered request P Q old new text is image answer after) = (Q, after)
+
+-- a script is answered up to its rest: by a text that the answers to the rest make whole
+pub record IsAnsweredUpTo (c : Coding ℕ ℕ) (script rest : List ℕ) (table before now : Option (List ℕ)) : Type 0 where
+  pub held : IsHeld c.format table
+  pub text : List ℕ
+  pub written : Appends before now text
+  pub goes_on : (texts : List ℕ) (last : Option (List ℕ)) → AreAnswered c (script_lines rest) table texts last
+      → AreAnswered c (script_lines script) None (text ++ texts) last
+
+-- at first nothing is answered
+pub up_to_start : (c : Coding ℕ ℕ) (script : List ℕ) (before : Option (List ℕ)) → IsAnsweredUpTo c script script None before before
+up_to_start c script before = record { held = tt; text = []; written = Appends-nil before; goes_on = λ texts last h. h }
+
+-- then a line more
+pub up_to_next : (c : Coding ℕ ℕ) (script rest line next : List ℕ) (table new before now after : Option (List ℕ)) (text : List ℕ)
+    → IsAnsweredUpTo c script rest table before now → script_lines rest ≡ line ∷ script_lines next
+    → IsLineAnswered c line table text new → Appends now after text → IsAnsweredUpTo c script next new before after
+up_to_next c script rest line next table new before now after text h cut is written = record {
+  held = held_after c line table new text h.held is;
+  text = h.text ++ text;
+  written = Appends-trans before now after h.text text h.written written;
+  goes_on = λ texts last more.
+      subst (λ ts. AreAnswered c (script_lines script) None ts last) (sym (append_assoc h.text text texts))
+      (h.goes_on (text ++ texts) last (subst (λ ls. AreAnswered c ls table (text ++ texts) last) (sym cut) (one_more line (script_lines next) table new last text texts is more)));
+}
+
+-- and in the end the whole
+pub up_to_end : (c : Coding ℕ ℕ) (script rest : List ℕ) (table before now after : Option (List ℕ))
+    → IsAnsweredUpTo c script rest table before now → length rest ≡ 0 → Keeps now after
+    → (text : List ℕ) × IsAnsweredBy c script text × Appends before after text
+up_to_end c script [] table before now after h end kept =
+    let whole = subst (λ ts. AreAnswered c (script_lines script) None ts table) (append-nil h.text) (h.goes_on [] table (no_lines table)) in
+    (h.text, (table, whole), Appends-kept before now after h.text h.written kept)
+up_to_end c script (b ∷ rest) table before now after h end kept = absurd (omega (arith, end))
