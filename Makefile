@@ -1,8 +1,9 @@
-# make run: the program on its first script, or on SCRIPT=file, in a build without proofs; make test: the gate
+# make run: the program on its first script, or on SCRIPT=file, in a build without proofs
+# make test: the gate: each request for memory refused in turn (make memory), then rt ci
 # make build: the program with its proofs, as a file
 # make examples: both examples, compared with what they must print
 # make bench: the tables of speeds; QUICK=1 for a short run, ODHT_RUST=folder for the Rust crate beside it, CHECK=1 for
-# the tables of the whole check alone, WORST=1 for the largest forged table too, an hour or more
+# the tables of the whole check alone, WORST=1 for the largest forged table too, about an hour
 SCRIPT ?= crates/odht_table/stdin
 # lowest first
 LIBRARIES = odht_base odht_raw odht
@@ -11,7 +12,7 @@ QUICK ?=
 CHECK ?=
 WORST ?=
 ODHT_RUST ?=
-.PHONY: run build test examples bench FORCE
+.PHONY: run build test memory examples bench FORCE
 run:
 	@cd crates/odht_table && rt try < $(abspath $(SCRIPT))
 
@@ -20,8 +21,11 @@ build:
 	@cd crates/odht_table && rt run < stdin >&2
 	@echo crates/odht_table/out/odht_table
 
-test:
+test: memory
 	rt ci
+
+memory:
+	@sh crates/odht_memory/refuse.sh
 
 # always asked for: `rt lib` is quick where nothing changed
 crates/odht_c/out/libodht_c.a: FORCE

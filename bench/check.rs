@@ -40,7 +40,7 @@ fn run_full(slots: usize, rounds: usize) {
     let _ = std::io::stdout().flush();
 }
 
-/// A valid table that costs the check most: it is full, and all its keys have one home and one tag. The lower half of a
+/// A valid table that costs the check most, of those at 87 percent: it is full, and all its keys have one home and one tag. The lower half of a
 /// product depends on the lower halves of its factors alone, so all multiples of 2^32 have the hash 0.
 fn forged_table(slots: usize) -> Vec<u8> {
     let items = max_items(slots);
@@ -111,7 +111,7 @@ pub fn print_full_tables(quick: bool) {
 
 const FORGED: [usize; 4] = [1 << 12, 1 << 14, 1 << 16, 1 << 18];
 const QUICK_FORGED: [usize; 2] = [1 << 12, 1 << 14];
-/// Takes an hour or more.
+/// Takes about an hour.
 const WORST: usize = 1 << 20;
 
 pub fn print_forged_tables(quick: bool, worst: bool) {

@@ -37,8 +37,9 @@
  * beyond what it was lent, but get and get_all may miss a key, or find
  * a value that stands beside it in a slot that counts as free; len tells what the
  * header states; an insert, alone or of many, changes one value beside an equal
- * key, or adds one entry below the maximum that the header states; and FULL comes
- * at that maximum, or where no slot counts as free. docs/FORMAT.md has the frame.
+ * key, or adds one entry below the maximum that the header states; and one alone
+ * answers FULL only at that maximum, or where each slot counts as filled, by its
+ * control byte or its copy in the mirror. docs/FORMAT.md has the frame.
  *
  * Memory is asked for by odht_u64_u32_build and odht_u64_u32_build_growing
  * alone, by malloc, and given back before they return. It goes through the
@@ -87,7 +88,7 @@ enum odht_status {
     ODHT_MIRROR_MISMATCH = 13,            /* the last 16 bytes do not repeat the first control bytes */
     ODHT_WRONG_ITEM_COUNT = 14,           /* not as many items as the header states */
     ODHT_TOO_MANY_ITEMS = 15,             /* more items than the load factor allows */
-    ODHT_UNREACHABLE = 16,                /* a key that a search for it does not find in its slot */
+    ODHT_UNREACHABLE = 16,                /* a key behind a free slot of its probe order, or there a second time */
 
     /* Refusals of making and filling tables. */
     ODHT_INIT_LENGTH = 17,                /* not the length that was asked for */
@@ -173,14 +174,15 @@ uint32_t odht_u64_u32_open(const uint8_t *bytes, size_t bytes_len);
  * format allows. Then all that is said of answers here holds for them.
  * OK: they are valid. A refusal, 1 to 16: the first in the order that is told
  * above; which slot it is about is not told.
- * It goes over the slots once, and looks for each filled slot at the control
+ * It goes over the slots in their order, and looks for each filled slot at the control
  * bytes of its key's probe order up to it, sixteen at a time; a key is compared
  * only where an earlier place has its tag. It takes no memory. For a table of
- * keys whose hashes vary this takes as long as one to three lookups of each key.
+ * keys whose hashes vary this takes from a fifth to two and a half times as long
+ * as looking up each key once.
  * Where many keys have one hash, by chance or since somebody has forged them, it
  * is far longer: up to one compare for each two keys, so it grows as the square
- * of the number of slots. bench/README.md has times. Who takes bytes from
- * strangers bounds their length.
+ * of the number of slots. bench/README.md has times. A caller that takes bytes
+ * from strangers should bound their length.
  */
 uint32_t odht_u64_u32_check(const uint8_t *bytes, size_t bytes_len);
 

@@ -176,8 +176,8 @@ impl<C: Config> HashTableOwned<C> {
         self.table.raw_bytes()
     }
 
-    /// A copy of the bytes, once all of them were looked at. The first refusal that [`memory_layout::check_all`] answers
-    /// is answered before memory is asked for; valid bytes are never refused.
+    /// A copy of the bytes, once all of them were looked at. The first refusal that [`memory_layout::check_all`]
+    /// answers is answered before memory is asked for; valid bytes are never refused. It costs what that call does.
     ///
     /// `Memory` where the memory was refused.
     pub fn from_raw_bytes(alloc: Global, raw_bytes: &[u8]) -> Result<Self, Error>

@@ -1,7 +1,7 @@
 -- What the whole check sees in the parts T of a table.
 --     cells_of F T         the cells that T shows
 --     pairs_shown F T      how many of them hold a pair
---     IsFitting F T        no slot of T is refused, and not its mirror
+--     IsFitting F T        neither a slot of T nor its mirror is refused
 --     IsSlotHash F T i o   o is the hash of the key in slot i, or none where the slot counts as free
 --     ArePassed F T k b n  none of the n slots from b on, counted on around the end, is free or holds the key k
 use Rattle.std.specs.Prelude.{◌≡◌, ℕ, ◌+◌, ◌%◌, ◌<◌, List, length, filter_map, slice_index, Option, None, MatchOption, IsTrue, IsFalse}

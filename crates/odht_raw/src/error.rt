@@ -107,7 +107,7 @@ pub enum Error {
         count: usize,
         max: usize,
     },
-    /// A filled slot is not where a search for its key ends.
+    /// A filled slot is not where a search slot by slot for its key ends.
     Unreachable {
         slot: usize,
     },

@@ -325,11 +325,17 @@ fn readers(rt: HostRuntime) -> Result<(), Fail> {
     run(rt.alloc(), &mut Slow(script), &mut output)?;
     assert_eq!(rt; output.as_slice(), b"slots 16 max 15\nnone\n2\n".as_slice());
 
-    // No line is answered before the script is read to its end.
-    let mut output = Vec::new(rt.alloc());
-    let outcome = run(rt.alloc(), &mut Slow(script).chain(Broken), &mut output);
-    assert_eq!(rt; outcome, Err(Fault::Read));
-    assert!(rt; output.is_empty());
+    // Wherever reading fails, no line was answered.
+    for length in 0..=script.len() {
+        let mut output = Vec::new(rt.alloc());
+        let outcome = run(
+            rt.alloc(),
+            &mut Slow(&script[..length]).chain(Broken),
+            &mut output,
+        );
+        assert_eq!(rt; outcome, Err(Fault::Read), "after {length} bytes");
+        assert!(rt; output.is_empty());
+    }
     Ok(())
 }
 
@@ -377,5 +383,25 @@ fn writers(rt: HostRuntime) {
                 "room for {room} bytes, flush {can_flush}"
             );
         }
+    }
+}
+
+// A place with room for so many bytes holds the first of the answers, each once, and nothing else.
+#[test]
+fn places(rt: HostRuntime) {
+    let script = b"new 3 95\nput 1 2\n";
+    let answers = b"slots 16 max 15\nnone\n";
+    for room in 0..30 {
+        let mut buffer = [0; 30];
+        let mut place = &mut buffer[..room];
+        let outcome = run(rt.alloc(), &mut script.as_slice(), &mut place);
+        assert_eq!(rt; outcome.is_ok(), room >= 21, "room for {room} bytes");
+        let written = room.min(21);
+        assert_eq!(rt;
+            &buffer[..written],
+            &answers[..written],
+            "room for {room} bytes"
+        );
+        assert!(rt; buffer[written..].iter().all(|byte| *byte == 0));
     }
 }

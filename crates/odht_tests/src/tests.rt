@@ -6,6 +6,7 @@ mod changed_tables;
 mod checks;
 mod frame;
 mod full_tables;
+mod header_bytes;
 mod list_properties;
 mod lossless;
 mod owned_tables;

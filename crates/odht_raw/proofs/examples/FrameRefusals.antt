@@ -24,6 +24,7 @@ free_slot_refused : (ctrl : List ℕ) (i : ℕ) → counts_as_free (slice_index 
 free_slot_refused ctrl i own mirror (inl e) = true≢false (sym own ∙ e)
 free_slot_refused ctrl i own mirror (inr (low, e)) = true≢false (sym mirror ∙ e)
 
+-- no error at all comes for a fresh table
 roomy : (p : Pair) (e : Error) (D : List ℕ) → InsertFrame test_config test_bytes p (Err e) D → ⊥
 unfolding opened
 roomy p e D (InsertFrame.full full) = omega (arith, full)
@@ -33,6 +34,7 @@ roomy p e D (InsertFrame.no_slot none) = free_slot_refused (controls_of test_con
 pub full_with_room_refused : (p : Pair) (D : List ℕ) → InsertFrame test_config test_bytes p (Err Full) D → ⊥
 full_with_room_refused p D h = roomy p Full D h
 
+-- nor for parts whose slot 0 is free
 roomy_parts : (es ctrl : List ℕ) (p : Pair) (e : Error) (es' ctrl' : List ℕ) → 0 < length ctrl - 16
     → counts_as_free (slice_index ctrl 0) ≡ true → counts_as_free (slice_index ctrl (length ctrl - 16 + 0)) ≡ true
     → PartsFrame test_config es ctrl p (Err e) es' ctrl' → ⊥
@@ -49,6 +51,7 @@ full_parts_with_room_refused es p es' ctrl' h =
 abbrev at_maximum : List ℕ
 at_maximum = overwritten_at test_bytes 8 (13 ∷ [])
 
+-- what is answered there is no None
 unadded_at_maximum : (p : Pair) (o : Option (List ℕ)) (D : List ℕ) → InsertFrame test_config at_maximum p (Ok o) D → o ≡ None → ⊥
 unfolding opened
 unadded_at_maximum p o D (InsertFrame.overwrote i low same) e = absurd cc
@@ -68,6 +71,7 @@ filled_slots : (i : ℕ) → i < 16 → CountsAsFree filled_controls i → ⊥
 filled_slots i low (inl e) = untrue (λ j. counts_as_free (slice_index filled_controls j)) 16 i refl low e
 filled_slots i low (inr (small, e)) = untrue (λ j. counts_as_free (slice_index filled_controls (16 + j))) 16 i refl low e
 
+-- what is answered where each slot is filled is no None
 unadded_where_filled : (p : Pair) (o : Option (List ℕ)) (D : List ℕ) → InsertFrame direct_config (all_filled 0) p (Ok o) D → o ≡ None → ⊥
 unfolding opened
 unadded_where_filled p o D (InsertFrame.overwrote i low same) e = absurd cc
@@ -77,6 +81,7 @@ unadded_where_filled p o D (InsertFrame.added i low free room) e = filled_slots 
 pub entry_in_filled_slot_refused : (p : Pair) (D : List ℕ) → InsertFrame direct_config (all_filled 0) p (Ok None) D → ⊥
 entry_in_filled_slot_refused p D h = unadded_where_filled p None D h refl
 
+-- nor for parts of which each slot is filled
 unadded_parts : (F : Format) (es : List ℕ) (p : Pair) (o : Option (List ℕ)) (es' ctrl' : List ℕ)
     → PartsFrame F es filled_controls p (Ok o) es' ctrl' → o ≡ None → ⊥
 unadded_parts F es p o es' ctrl' (PartsFrame.overwrote i low same) e = absurd cc
@@ -110,6 +115,7 @@ is_no_overwrite v E j =
     lists_differ (key_at direct_config (all_filled 0) j) (le_bytes 4 3)
     || (lists_differ (with_value direct_config (all_filled 0) j (le_bytes 4 7)) E || lists_differ (value_at direct_config (all_filled 0) j) v)
 
+-- entries that no overwrite leaves are left by none of slot i
 other_overwrite : (o : Option (List ℕ)) (v D E : List ℕ) → list_all (is_no_overwrite v E) (range_with_len 0 16) ≡ true
     → overwrites_three o D → o ≡ Some v → D ≡ E → ⊥
 unfolding opened
@@ -124,6 +130,7 @@ other_overwrite o v D E h (InsertFrame.overwrote i low same) e is =
     (tested (is_no_overwrite v E) 16 i h low)
 other_overwrite o v D E h (InsertFrame.added i low free room) e is = absurd cc
 
+-- so they are left by no overwrite
 left_by_none : (v E : List ℕ) → list_all (is_no_overwrite v E) (range_with_len 0 16) ≡ true → overwrites_three (Some v) E → ⊥
 left_by_none v E t h = other_overwrite (Some v) v E E t h refl refl
 
@@ -175,6 +182,7 @@ with_one i n = with_count (with_pair test_config 16 test_bytes i (pair32 1 2)) n
 abbrev no_addition : List ℕ → Bool
 no_addition E = list_all (λ j. lists_differ (with_one j 1) E) (range_with_len 0 16)
 
+-- bytes that no new entry leaves are left by none in slot i
 other_addition : (o : Option (List ℕ)) (D E : List ℕ) → no_addition E ≡ true
     → InsertFrame test_config test_bytes (pair32 1 2) (Ok o) D → o ≡ None → D ≡ E → ⊥
 unfolding opened
@@ -182,6 +190,7 @@ other_addition o D E h (InsertFrame.overwrote i low same) e is = absurd cc
 other_addition o D E h (InsertFrame.added i low free room) e is =
     unequal_lists (with_one i 1) E (tested (λ j. lists_differ (with_one j 1) E) 16 i h low) is
 
+-- so they are left by no insert of 1 and 2
 added_by_none : (E : List ℕ) → no_addition E ≡ true → InsertFrame test_config test_bytes (pair32 1 2) (Ok None) E → ⊥
 added_by_none E t h = other_addition None E E t h refl refl
 
@@ -211,6 +220,7 @@ unfolding opened
 addition_in_two_slots_refused h =
     added_by_none (with_count (with_pair test_config 16 (with_one 5 1) 6 (pair32 1 2)) 1) refl h
 
+-- a refusal is Full, and leaves the bytes
 unchanged : (F : Format) (B : List ℕ) (p : Pair) (e : Error) (D : List ℕ) → InsertFrame F B p (Err e) D → (e ≡ Full) × (D ≡ B)
 unchanged F B p e D (InsertFrame.full full) = (refl, refl)
 unchanged F B p e D (InsertFrame.no_slot none) = (refl, refl)
@@ -230,6 +240,7 @@ other_error_refused F B p n D h = let only = (unchanged F B p (TooShort n) D h).
 abbrev pub no_entries : List ℕ
 no_entries = replicate 128 0
 
+-- no value is overwritten where no slot has the key
 absent_from_parts : (o : Option (List ℕ)) (v es' ctrl' : List ℕ)
     → PartsFrame test_config no_entries filled_controls (pair32 1 2) (Ok o) es' ctrl' → o ≡ Some v → ⊥
 absent_from_parts o v es' ctrl' (PartsFrame.overwrote i low same) e =
@@ -242,6 +253,7 @@ pub parts_overwrite_of_absent_key_refused : (v es' ctrl' : List ℕ)
     → PartsFrame test_config no_entries filled_controls (pair32 1 2) (Ok (Some v)) es' ctrl' → ⊥
 parts_overwrite_of_absent_key_refused v es' ctrl' h = absent_from_parts (Some v) v es' ctrl' h refl
 
+-- an overwrite leaves the control bytes
 kept_controls : (F : Format) (es ctrl : List ℕ) (p : Pair) (o : Option (List ℕ)) (v es' ctrl' : List ℕ)
     → PartsFrame F es ctrl p (Ok o) es' ctrl' → o ≡ Some v → ctrl' ≡ ctrl
 kept_controls F es ctrl p o v es' ctrl' (PartsFrame.overwrote i low same) e = refl
@@ -253,6 +265,7 @@ pub parts_overwrite_of_control_refused : (F : Format) (es : List ℕ) (p : Pair)
 parts_overwrite_of_control_refused F es p v es' h =
     unequal_lists (set filled_controls 3 1) filled_controls refl (kept_controls F es filled_controls p (Some v) v es' (set filled_controls 3 1) h refl)
 
+-- a refusal of parts is Full, and leaves them
 parts_unchanged : (F : Format) (es ctrl : List ℕ) (p : Pair) (e : Error) (es' ctrl' : List ℕ)
     → PartsFrame F es ctrl p (Err e) es' ctrl' → (es' ≡ es) × (ctrl' ≡ ctrl)
 parts_unchanged F es ctrl p e es' ctrl' (PartsFrame.no_slot none) = (refl, refl)
@@ -289,6 +302,7 @@ counted_as_filled = (inl refl, inl refl, inr (lit< tt, refl))
 pub free_slot_not_filled : CountsAsFilled slot_five_free 5 → ⊥
 free_slot_not_filled h = free_slot_refused slot_five_free 5 refl refl h
 
+-- each of these control bytes counts as filled
 filled_bytes : (i : ℕ) → i < 16 → (b : Bool) → counts_as_free (slice_index filled_controls i) ≡ b → b ≡ false
 filled_bytes i low true e = absurd (untrue (λ j. counts_as_free (slice_index filled_controls j)) 16 i refl low e)
 filled_bytes i low false e = refl
@@ -301,6 +315,7 @@ none_free i low = filled_bytes i low (counts_as_free (slice_index filled_control
 pub one_free_refused : HasNoFree slot_five_free 16 → ⊥
 one_free_refused h = true≢false (h 5 (lit< tt))
 
+-- so does each of the first five of these
 first_bytes : (i : ℕ) → i < 5 → (b : Bool) → counts_as_free (slice_index slot_five_free i) ≡ b → b ≡ false
 first_bytes i low true e = absurd (untrue (λ j. counts_as_free (slice_index slot_five_free j)) 5 i refl low e)
 first_bytes i low false e = refl
@@ -316,3 +331,8 @@ no_free_slots i low = inl (none_free i low)
 -- slot 5 of sixteen is free
 pub one_free_slot_refused : HasNoFreeSlot slot_five_free 16 → ⊥
 one_free_slot_refused h = free_slot_not_filled (h 5 (lit< tt))
+
+-- slot 16 of 32 has no mirror: free by its own byte it does not count as filled
+pub free_slot_without_mirror : CountsAsFilled (set (replicate 48 0) 16 255) 16 → ⊥
+free_slot_without_mirror (inl e) = true≢false e
+free_slot_without_mirror (inr (low, e)) = omega (arith, low)

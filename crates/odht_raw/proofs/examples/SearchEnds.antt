@@ -106,6 +106,7 @@ found_in_group =
 abbrev is_no_pair : EntryBytes → List ℕ → List ℕ → ℕ → Bool
 is_no_pair E k v i = lists_differ (slot_key direct_config E.bytes i) k || lists_differ (slot_value direct_config E.bytes i) v
 
+-- where no slot does, the value is beside no key
 not_beside : (k v : List ℕ) → list_all (is_no_pair (five_in_three 16) k v) (range_with_len 0 16) ≡ true
     → IsBesideKey direct_config (λ b. b) (five_in_three 16) k v → ⊥
 not_beside k v h (i, low, same, is) =

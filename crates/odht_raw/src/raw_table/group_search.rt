@@ -20,8 +20,9 @@ use crate::swisstable_group_query::{Group, REFERENCE_GROUP_SIZE};
 ///
 /// On the parts of a table whose keys are all reached the answer is the slot where a search slot by slot ends, which is
 /// where a pair with the key is placed, and exactly as many groups as there are up to it are shown. On any parts `Found`
-/// is a slot whose entry has this very key, `Free` one that counts as free, after `Neither` no slot counts as free in the
-/// bytes that were looked at, and no more groups are shown than there are. All this holds of every group search. The rules are those of docs/FORMAT.md, "Search".
+/// is a slot whose entry has this very key, `Free` one that counts as free, `Neither` comes only where each slot counts as
+/// filled, by its control byte or its mirror, and no more groups are shown than there are. All this holds of every group
+/// search. The rules are those of docs/FORMAT.md, "Search".
 #[inline]
 pub fn search<K: ByteArray, V: ByteArray, H: HashFn, Q: Group>(
     scan: &mut Scan<'_>,

@@ -56,7 +56,7 @@ impl<'c, 'e, K: ByteArray, V: ByteArray, H: HashFn> RawTableMut<'c, 'e, K, V, H>
     /// On the parts of a table whose keys are all reached it leaves those of the table with the pair placed, and answers
     /// `Full`, with nothing changed, exactly where there is no place: where each slot is filled, and none with the key. On
     /// any parts one value beside an equal key changes, or one entry is written with its tag into a slot that counted as
-    /// free, and nothing else. At most each group is looked at once.
+    /// free, and nothing else; `Full` comes only where each slot counts as filled. At most each group is looked at once.
     #[inline(always)]
     pub fn insert(&mut self, key: K, value: V) -> Result<Option<V>, Error>
         ensures { IsLentInsert self.old key value result self.new }

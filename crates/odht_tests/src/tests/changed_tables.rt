@@ -365,3 +365,22 @@ fn calls_stay_in_the_frame_where_keys_are_hashes(rt: HostRuntime) -> Result<(), 
     same_len(&rt, "tables accepted", cases.accepted, 334);
     Ok(())
 }
+
+// The mirror of slot 0 counts as filled, and the slot as free: a search by groups and one slot by slot may differ here.
+#[test]
+fn a_mirror_that_hides_a_free_slot(rt: HostRuntime) -> Result<(), Error> {
+    let alloc = rt.alloc();
+    let fresh: HashTableOwned<DirectU32ToU32> = HashTableOwned::default(alloc)?;
+    let mut bytes = fresh.raw_bytes().to_vec(alloc)?;
+    if let Some(byte) = bytes.as_mut_slice().get_mut(176) {
+        *byte = 5;
+    }
+    let mut table: HashTable<DirectU32ToU32, BorrowedMut<'_>> = HashTable::from_raw_bytes(
+        BorrowedMut::new(bytes.as_mut_slice()),
+    )?;
+    let mut cases = Cases::new();
+    check_insert(&rt, alloc, &mut cases, &mut table, 15, 1)?;
+    check_insert(&rt, alloc, &mut cases, &mut table, 31, 2)?;
+    same_len(&rt, "new entries", cases.added, 2);
+    Ok(())
+}

@@ -264,7 +264,7 @@ fn checked_copies_have_the_same_bytes(rt: HostRuntime) {
     same_value(&rt, 1, copied.get(&1), Some(2));
 }
 
-// No memory is asked for, so no refusal of memory is met.
+// The refusal of the bytes comes also where the first request for memory would fail.
 #[test]
 fn refused_bytes_are_not_copied(rt: HostRuntime) {
     let slot = 15;

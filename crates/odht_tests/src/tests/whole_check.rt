@@ -64,22 +64,25 @@ fn kind_of_contents(error: Error) -> usize {
     }
 }
 
-// How many answers of each kind there were.
+/// How many answers of each kind there were.
 #[derive(Drop)]
-struct Counts([usize; 17]);
+pub struct Counts([usize; 17]);
 
 impl Counts {
-    fn new() -> Self {
+    /// None yet.
+    pub fn new() -> Self {
         Counts([0; 17])
     }
 
-    fn add(&mut self, answer: Result<(), Error>) {
+    /// One more of this kind.
+    pub fn add(&mut self, answer: Result<(), Error>) {
         if let Some(count) = self.0.get_mut(kind_of(answer)) {
             *count = count.wrapping_add(1);
         }
     }
 
-    fn demand(&self, rt: &impl Abort, expected: [usize; 17]) {
+    /// Demands these numbers.
+    pub fn demand(&self, rt: &impl Abort, expected: [usize; 17]) {
         for ((kind, count), expected) in KINDS.iter().zip(self.0.iter()).zip(expected) {
             same_len(rt, kind, *count, expected);
         }

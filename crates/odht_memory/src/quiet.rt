@@ -1,0 +1,156 @@
+//! Calls that take no memory.
+ghost use Rattle.std.specs.Prelude.{◌≡◌, length};
+
+use crate::told::{Table, fill, tell, value_of};
+use odht::bytes::{BorrowedMut, ByteArray, ByteStore};
+use odht::configs::DirectU32ToU32;
+use odht::error::Error;
+use odht::hash::{FxHashFn, HashFn, UnHashFn};
+use odht::load::{Factor, max_item_count_for, slots_needed};
+use odht::memory_layout::{self, check_all};
+use odht::swisstable_group_query::{Group, lanes, no_simd};
+use odht::{HashTable, bytes_needed};
+use std::alloc::Global;
+use std::io::{self, Write};
+
+/// A table that owns its bytes: up to its maximum, and at it where the keys are there. Making it is one request.
+pub fn below_the_maximum<W: Write>(alloc: Global, output: &mut W) -> io::Result<()> {
+    let made = Table::with_capacity(alloc, 13, 87);
+    tell("with_capacity", &made, output)?;
+    let Ok(mut table) = made else {
+        return Ok(());
+    };
+    writeln!(output, "{} inserted", fill(&mut table))?;
+    writeln!(output, "{} overwritten", fill(&mut table))?;
+    let (accepted, answer) = table.insert_all(&[(0, 100), (12, 112)]);
+    tell("insert_all", &answer, output)?;
+    let (value, groups) = table.get_counted(&12);
+    let all = table.iter().all(|(key, value)| value == value_of(key));
+    writeln!(
+        output,
+        "{accepted} accepted, 12 has {value:?} in {groups} group, 13 is there: {}",
+        table.contains_key(&13)
+    )?;
+    writeln!(
+        output,
+        "{} walked, each with its value: {all}",
+        table.iter().count()
+    )?;
+    tell_checked(table.raw_bytes(), output)?;
+    crate::told::tell_table(&table, output)
+}
+
+type View<'a> = HashTable<DirectU32ToU32, BorrowedMut<'a>>;
+
+/// A view, from the place that it is made in to its data.
+pub fn view<W: Write>(output: &mut W) -> io::Result<()> {
+    let mut bytes = [7; 192];
+    let made: Result<View<'_>, Error> = HashTable::init_in_place(
+        BorrowedMut::new(&mut bytes),
+        13,
+        87,
+    );
+    tell("init_in_place", &made, output)?;
+    let Ok(mut view) = made else {
+        return Ok(());
+    };
+    tell("insert", &view.insert(&5, &7), output)?;
+    let (accepted, answer) = view.insert_all(&[(6, 106), (5, 105)]);
+    tell("insert_all", &answer, output)?;
+    writeln!(output, "{accepted} accepted")?;
+    let opened: Result<View<'_>, Error> = HashTable::from_raw_bytes(view.into_data());
+    tell("from_raw_bytes", &opened, output)?;
+    let Ok(view) = opened else {
+        return Ok(());
+    };
+    let view: View<'_> = HashTable::from_raw_bytes_unchecked(view.into_data());
+    tell_view(&view, output)?;
+    let opened: Result<View<'_>, Error> = HashTable::from_raw_bytes_by_header(view.into_data());
+    tell("from_raw_bytes_by_header", &opened, output)
+}
+
+fn tell_view<D: ByteStore, W: Write>(
+    view: &HashTable<DirectU32ToU32, D>,
+    output: &mut W,
+) -> io::Result<()> {
+    let (value, groups) = view.get_counted(&6);
+    writeln!(
+        output,
+        "5 has {:?}, 6 has {value:?} in {groups} group, 7 is there: {}",
+        view.get(&5),
+        view.contains_key(&7)
+    )?;
+    let found = view.as_raw().find(&[5, 0, 0, 0]);
+    writeln!(
+        output,
+        "{} items, {} walked, raw {found:?}, whole: {}",
+        view.len(),
+        view.iter().count(),
+        view.verify()
+    )?;
+    tell_checked(view.raw_bytes(), output)
+}
+
+fn tell_checked<W: Write>(bytes: &[u8], output: &mut W) -> io::Result<()> {
+    tell("check_all", &check_all::<DirectU32ToU32>(bytes), output)
+}
+
+/// Sizes, hash values, arrays of bytes, and both group searches.
+pub fn numbers<W: Write>(output: &mut W) -> io::Result<()> {
+    let factor = Factor::from_percent(87);
+    writeln!(
+        output,
+        "factor {} of {} percent, slots {:?}, items {}",
+        factor.0,
+        factor.to_percent(),
+        slots_needed(13, factor),
+        max_item_count_for(16, factor)
+    )?;
+    writeln!(
+        output,
+        "apply {}, apply_inverse {}",
+        factor.apply(16),
+        factor.apply_inverse(13)
+    )?;
+    writeln!(
+        output,
+        "bytes_needed {:?} and {:?}",
+        bytes_needed::<DirectU32ToU32>(13, 87),
+        memory_layout::bytes_needed::<DirectU32ToU32>(16)
+    )?;
+    writeln!(
+        output,
+        "{} {}, {} {}",
+        FxHashFn::hash_name(),
+        FxHashFn::hash(&[1, 0, 0, 0]),
+        UnHashFn::hash_name(),
+        UnHashFn::hash(&[1, 0, 0, 0])
+    )?;
+    let zeros = <[u8; 4]>::zeroed();
+    let ones = <[u8; 4]>::from_slice(&[1, 1, 1, 1]);
+    writeln!(
+        output,
+        "zeros: {}, {}, equal: {}",
+        zeros.is_all_zeros(),
+        ones.is_all_zeros(),
+        zeros.equals(&ones)
+    )?;
+    let mut group = [3; 16];
+    group[9] = 255;
+    tell_group::<lanes::GroupQuery, W>(&group, output)?;
+    tell_group::<no_simd::GroupQuery, W>(&group[..8], output)
+}
+
+// What a search of a group for the tag 3 says.
+fn tell_group<Q: Group, W: Write>(group: &[u8], output: &mut W) -> io::Result<()>
+    requires { length group.now ≡ Q.SIZE }
+{
+    let mut query = Q::of(group, 3);
+    writeln!(
+        output,
+        "free: {} at {:?}, first match {:?}",
+        query.any_empty(),
+        query.first_empty(),
+        query.next_match()
+    )
+}
