@@ -13,3 +13,5 @@ pub mod Tables
 pub mod Growth
 -- a valid table that no list of inserts makes
 pub mod Unmade
+-- what a search of a group may report
+pub mod Groups

@@ -1,9 +1,13 @@
 -- Worked examples: inserts at the maximum.
-use Rattle.std.proofs.Common.{◌≡◌, ℕ, refl, List, [], ◌∷◌, Option, Some, None, option_map, option_and_then, map}
+use Rattle.std.proofs.Common.{◌≡◌, ℕ, refl, sym, List, [], ◌∷◌, Option, Some, None, option_map, option_and_then, map}
+use Rattle.std.specs.Prelude.{IfSome}
 use Rattle.std.specs.List.{range_with_len}
+use Rattle.std.proofs.lemmas.Bool.{false≢true}
+use Rattle.std.proofs.lemmas.Option.{none-some}
+use Rattle.odht_base.specs.CountRule.{put_owned_by_count, put_view_by_count, OverwritesFull, NoneOverwritesFull}
 use Rattle.odht_base.specs.Insert.{put_owned, put_view}
 use Rattle.odht_base.specs.Load.{max_items}
-use Rattle.odht_base.specs.Map.{map_of}
+use Rattle.odht_base.specs.Map.{map_of, KeysApart}
 use Rattle.odht_base.specs.Numbers.{le_bytes}
 use Rattle.odht_base.specs.Search.{search_end}
 use Rattle.odht_base.specs.Table.{Table, Pair, count, slot_count}
@@ -45,6 +49,46 @@ pub view_refuses : (sizes (view_of direct_config 13 87 (squares 13)) ≡ Some (1
     × (option_map (λ P. map_of P (le_bytes 4 3)) (full_view (pair32 3 7)) ≡ Some (Some (le_bytes 4 7)))
 unfolding opened
 view_refuses = (refl, refl, refl, refl)
+
+-- ---- the rule that asks the count alone
+-- at the maximum it grows, or refuses, whatever the key
+pub by_count : (sizes (option_and_then (λ P. put_owned_by_count direct_config P (pair32 3 7)) (owned_of direct_config 13 87 (squares 13))) ≡ Some (32 ∷ 13 ∷ 27 ∷ []))
+    × (option_and_then (λ P. put_view_by_count direct_config P (pair32 3 7)) (view_of direct_config 13 87 (squares 13)) ≡ None)
+unfolding opened
+by_count = (refl, refl)
+
+-- below it, it overwrites as the other does
+pub by_count_below : (sizes (option_and_then (λ P. put_owned_by_count direct_config P (pair32 3 7)) (owned_of direct_config 13 87 (squares 12))) ≡ Some (16 ∷ 12 ∷ 13 ∷ []))
+    × (sizes (option_and_then (λ P. put_view_by_count direct_config P (pair32 3 7)) (view_of direct_config 13 87 (squares 12))) ≡ Some (16 ∷ 12 ∷ 13 ∷ []))
+unfolding opened
+by_count_below = (refl, refl)
+
+-- a pair overwrites in a full table where its key is there, and not below the maximum
+pub overwrites_full : IfSome (owned_of direct_config 13 87 (squares 13)) (λ P. OverwritesFull P (pair32 3 7))
+unfolding opened
+overwrites_full = (refl, refl)
+
+pub new_key_refused : IfSome (owned_of direct_config 13 87 (squares 13)) (λ P. OverwritesFull P (pair32 13 7) → ⊥)
+unfolding opened
+new_key_refused h = false≢true h.1
+
+pub below_refused : IfSome (owned_of direct_config 13 87 (squares 12)) (λ P. OverwritesFull P (pair32 3 7) → ⊥)
+unfolding opened
+below_refused h = false≢true h.0
+
+-- of a new key and then the same again, none overwrites in a full table: the first has grown it
+pub none_overwrites : IfSome (owned_of direct_config 13 87 (squares 13)) (λ P. NoneOverwritesFull (put_owned direct_config) P (pair32 13 7 ∷ pair32 13 8 ∷ []))
+unfolding opened
+none_overwrites = (λ h. false≢true h.1, (λ h. false≢true h.0, tt))
+
+pub one_overwrites : IfSome (owned_of direct_config 13 87 (squares 13)) (λ P. NoneOverwritesFull (put_owned direct_config) P (pair32 3 7 ∷ []) → ⊥)
+unfolding opened
+one_overwrites h = h.0 (refl, refl)
+
+-- keys are apart where none comes twice
+pub keys_apart : KeysApart (pair32 1 2 ∷ pair32 2 3 ∷ []) × (KeysApart (pair32 1 2 ∷ pair32 1 3 ∷ []) → ⊥)
+unfolding opened
+keys_apart = ((refl, (refl, tt)), λ h. none-some (le_bytes 4 3) (sym h.0))
 
 -- fifteen items into the owned table for thirteen
 pub fifteen_items : sizes (owned_of direct_config 13 87 (squares 15)) ≡ Some (32 ∷ 15 ∷ 27 ∷ [])

@@ -1,9 +1,10 @@
 -- Worked examples: hashes, load factors and slot counts.
-use Rattle.std.proofs.Common.{◌≡◌, ◌^◌, ◌-◌, refl, [], ◌∷◌, Some, None, map, option_map}
+use Rattle.std.proofs.Common.{◌≡◌, ◌^◌, ◌-◌, refl, [], ◌∷◌, Some, None, map, option_map, lit≤, arith}
 use Rattle.odht_base.specs.Hashes.{fx, un}
 use Rattle.odht_base.specs.Image.{image_len}
-use Rattle.odht_base.specs.Load.{slots_for, max_items, factor_of, percent_of}
+use Rattle.odht_base.specs.Load.{slots_for, max_items, factor_of, percent_of, IsLeastSlots}
 use Rattle.odht_base.specs.Numbers.{le_bytes}
+use Rattle.odht_base.proofs.lemmas.Least.{slots_for-IsLeastSlots}
 use Rattle.odht_base.proofs.examples.Configs.{my_config, test_config}
 use Rattle.odht_base.proofs.examples.Opened.{opened}
 
@@ -71,3 +72,16 @@ pub byte_counts : (option_map (image_len my_config) (slots_for 3 (factor_of 95))
     × (image_len test_config (2 ^ 63) ≡ 83010348331692982320)
 unfolding opened
 byte_counts = (refl, refl, refl, refl, refl)
+
+-- thirteen items at 87 percent need sixteen slots, not 32, not none, and fourteen do not fit
+pub least_slots : IsLeastSlots 13 57015 16
+unfolding opened
+least_slots = slots_for-IsLeastSlots 13 57015 16 refl
+
+pub other_slots_refused : (IsLeastSlots 13 57015 32 → ⊥) × (IsLeastSlots 0 57015 0 → ⊥) × (IsLeastSlots 14 57015 16 → ⊥)
+unfolding opened
+other_slots_refused = (
+  λ h. let least = h.least 16 (record { power = refl; least = lit≤ tt }) (lit≤ tt) in omega (arith, least),
+  λ h. let low = h.is_count.least in omega (arith, low),
+  λ h. let fits = h.holds in omega (arith, fits),
+)
