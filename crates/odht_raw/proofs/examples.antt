@@ -23,3 +23,7 @@ pub mod Placings
 pub mod Checked
 -- what an insert through lent parts may not do
 pub mod LentInserts
+-- inserts into any parts
+pub mod PartsFrames
+-- how large a new table is, and which keys bytes hold
+pub mod Layouts

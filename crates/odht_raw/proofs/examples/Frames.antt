@@ -1,6 +1,6 @@
 -- Worked examples: inserts into bytes that a view accepts and that are not valid.
 use Rattle.std.proofs.Common.{◌≡◌, ◌+◌, ℕ, refl, inl, List, [], ◌∷◌, Some, None, Ok, Err, option_map, lit<, lit≤}
-use Rattle.odht_base.specs.Numbers.{le_bytes}
+use Rattle.odht_base.specs.Numbers.{le_bytes, num}
 use Rattle.odht_base.specs.Bytes.{overwritten_at}
 use Rattle.odht_base.specs.Format.{Format}
 use Rattle.odht_base.specs.Image.{image}
@@ -11,7 +11,7 @@ use Rattle.odht_base.proofs.examples.Configs.{test_config, direct_config, pair32
 use Rattle.odht_raw.proofs.examples.Opened.{opened}
 use Rattle.odht_raw.proofs.examples.Refused.{test_bytes}
 use Rattle.odht_raw.proofs.examples.Invalid.{count_of_five, all_filled}
-use Rattle.odht_raw.specs.Frame.{InsertFrame}
+use Rattle.odht_raw.specs.Frame.{InsertFrame, IsBytesFramed}
 use Rattle.odht_raw.specs.declared.error.Error.TheVariants.{Full}
 
 -- at the stated maximum of thirteen key 99 may be refused
@@ -48,3 +48,14 @@ added_at_128 = InsertFrame.added 5 (lit< tt) (inl refl) (lit< tt)
 pub then_valid : Some (added_bytes test_config home_of_128 5 (pair32 1 2)) ≡ option_map (image test_config) (view_of test_config 0 87 (pair32 1 2 ∷ []))
 unfolding opened
 then_valid = refl
+
+-- the former value is told as it is decoded, here as a number
+pub decoded_value : IsBytesFramed direct_config num (all_filled 0) (pair32 3 7) (Ok (Some 3)) (overwritten_at (all_filled 0) 60 (7 ∷ []))
+unfolding opened
+decoded_value = (Ok (Some (le_bytes 4 3)), refl, overwritten_value)
+
+-- and not as another
+pub other_decoding_refused : (B : List ℕ) (p : Pair) (B' : List ℕ) → IsBytesFramed {V = ℕ} direct_config (λ b. 0) B p (Ok (Some 1)) B' → ⊥
+other_decoding_refused B p B' (Ok None, is, frame) = absurd cc
+other_decoding_refused B p B' (Ok (Some v), is, frame) = absurd cc
+other_decoding_refused B p B' (Err e, is, frame) = absurd cc
