@@ -1,5 +1,5 @@
 #!/bin/sh
-# Refuses each request for memory in turn, and compares all that is told, the number of requests too, with `expected`:
+# Refuses each request for memory in turn, and compares all that is told with `expected`:
 # of the calls (cases/), of the program on `script`, and of the tests of the builds for C. At the last request of each
 # row nothing is left to be refused.
 cd "$(dirname "$0")" || exit 1
