@@ -13,5 +13,7 @@ pub mod Tables
 pub mod Growth
 -- a valid table that no list of inserts makes
 pub mod Unmade
+-- orders of inserts
+pub mod InsertOrders
 -- what a search of a group may report
 pub mod Groups

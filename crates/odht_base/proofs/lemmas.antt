@@ -64,8 +64,25 @@ pub mod Puts
 pub mod CountRules
 -- inserts into a table that has room for them all
 pub mod FreshRuns
+-- the inserts that ask the count alone
+pub mod CountPuts
 -- what a search in a placed table tells of its map
 pub mod Lookups
+-- ---- Tables that inserts make, and insert orders
+-- the filled slots of a table
+pub mod Filled
+-- which slots are ready after others
+pub mod ReadySlots
+-- the slots taken so far in the search for an insert order
+pub mod SoFar
+-- their pairs, placed in turn, fill just these slots
+pub mod Rebuilt
+-- inserts leave an order in which each slot is ready
+pub mod OrdersKept
+-- a search for an insert order finds one, or is stuck where there is none
+pub mod InsertOrders
+-- a valid table is made exactly where it has an insert order
+pub mod MadeTables
 -- ---- Masks of a group of control bytes
 -- the places of what is true
 pub mod MarkedPlaces

@@ -1,6 +1,5 @@
 -- The rule of inserts that asks the count alone, as the Rust crate's do: where a table is full, the owned one grows and a
--- view refuses (there it panics), whatever the key. It is here for one law, which compares the tables of this rule and of
--- the other.
+-- view refuses (there it panics), whatever the key. It is here to compare the tables that this rule and the other make.
 --     put_owned_by_count F P p   an insert of the owned table by this rule
 --     put_view_by_count F P p    an insert of a view by this rule
 --     OverwritesFull P p         P is full, and has the key of p

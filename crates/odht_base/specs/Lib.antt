@@ -29,6 +29,10 @@ pub mod CountRule
 pub mod Image
 -- which plain tables, and which bytes, are valid
 pub mod Valid
+-- which tables inserts make, and in which order of inserts
+pub mod Made
+-- one step of the search for such an order
+pub mod Ready
 -- what any bytes show as a table
 pub mod Shown
 -- the writes of an insert

@@ -1,5 +1,5 @@
 -- Worked examples: what a search of a group may report.
-use Rattle.std.proofs.Common.{◌≡◌, ◌<◌, ◌+◌, ◌⊎◌, ℕ, zero, suc, inl, inr, List, [], ◌∷◌, refl, subst, lit<, arith}
+use Rattle.std.proofs.Common.{◌≡◌, ◌<◌, ◌+◌, ◌⊎◌, ℕ, zero, suc, inl, inr, [], ◌∷◌, refl, subst, lit<, arith}
 use Rattle.std.specs.Prelude.{Contains, slice_index, bit_xor}
 use Rattle.odht_base.specs.Groups.{IsReport, IsWordReport}
 

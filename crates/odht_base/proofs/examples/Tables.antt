@@ -27,7 +27,7 @@ unfolding opened
 one_insert = (refl, refl, refl, refl)
 
 -- 15 and 31 both have home 15 in 16 slots, so the second wraps to slot 0
-abbrev wrapped : Option Table
+abbrev pub wrapped : Option Table
 wrapped = view_of direct_config 0 87 (pair32 15 15 ∷ pair32 31 31 ∷ [])
 
 pub wrapped_insert : (option_map (λ P. slice_range (image direct_config P) 32 40) wrapped ≡ Some (31 ∷ 0 ∷ 0 ∷ 0 ∷ 31 ∷ 0 ∷ 0 ∷ 0 ∷ []))

@@ -10,7 +10,7 @@ use Rattle.odht_base.specs.Numbers.{IsBytes}
 use Rattle.odht_base.specs.Probe.{order, place_slot}
 use Rattle.odht_base.specs.Search.{search_end, stops_at, is_at}
 use Rattle.odht_base.specs.Table.{Pair, Table, Cells, slot_count, cell_at}
-use Rattle.odht_base.specs.Valid.{HasPairsOf, HoldsPair, IsReached, IsPlaced}
+use Rattle.odht_base.specs.Valid.{IsPairOf, HasPairsOf, HoldsPair, IsReached, IsPlaced}
 use Rattle.odht_base.proofs.lemmas.Firsts.{find-Some}
 use Rattle.odht_base.proofs.lemmas.Keys.{cell_at-within}
 use Rattle.odht_base.proofs.lemmas.Options.{some_same}
@@ -70,6 +70,10 @@ IsBytes-is_bytes w b h =
       each = λ k d g. ltb-true _ 256 (all k d g);
     }
 
+-- a pair that passes is one of the format
+pub IsPairOf-pair_fits : (F : Format) (p : Pair) → pair_fits F (Some p) ≡ true → IsPairOf F p
+IsPairOf-pair_fits F p t = record { key = IsBytes-is_bytes F.key_len p.key (and_parts _ _ t).0; value = IsBytes-is_bytes F.value_len p.value (and_parts _ _ t).1 }
+
 pair_fits-at : (F : Format) (P : Table) → list_all (pair_fits F) P.cells ≡ true → (i : ℕ) (p : Pair) → HoldsPair P i p → pair_fits F (Some p) ≡ true
 pair_fits-at F P h i p g =
     subst (λ c. pair_fits F c ≡ true) g (AllPass-from_list_all (pair_fits F) P.cells h i None (cell_at-within P.cells i p g))
@@ -90,5 +94,5 @@ arrives-from F cs n (c ∷ rest) i (suc j) p h g e = arrives-from F cs (suc n) r
 -- the tests decide it
 pub IsPlaced-tests : (F : Format) (P : Table) → IsSlotCount (slot_count P) → list_all (pair_fits F) P.cells ≡ true → all_arrive F P.cells 0 P.cells ≡ true → IsPlaced F P
 IsPlaced-tests F P s fits arrive = IsPlaced-AllArrive F P s
-    (λ i p h. let t = pair_fits-at F P fits i p h in record { key = IsBytes-is_bytes F.key_len p.key (and_parts _ _ t).0; value = IsBytes-is_bytes F.value_len p.value (and_parts _ _ t).1 })
+    (λ i p h. IsPairOf-pair_fits F p (pair_fits-at F P fits i p h))
     (λ i p h. arrives-from F P.cells 0 P.cells i i p arrive h (zero-add i))

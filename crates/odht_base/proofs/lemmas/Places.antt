@@ -78,11 +78,11 @@ map_of-holds F P i p ok h = go (map_of P p.key) refl
 -- ---- a placed table with a pair written where the search for its key ends
 module _ (P : Table) (i : ℕ) (p : Pair) (within : i < slot_count P) where
   -- slot i holds the pair
-  written_here : cell_at (written P i p).cells i ≡ Some p
+  pub written_here : cell_at (written P i p).cells i ≡ Some p
   written_here = get_or-set_same P.cells i (Some p) None within
 
   -- every other slot what it held
-  written_other : (j : ℕ) → j ≢ i → cell_at (written P i p).cells j ≡ cell_at P.cells j
+  pub written_other : (j : ℕ) → j ≢ i → cell_at (written P i p).cells j ≡ cell_at P.cells j
   written_other j ne = get_or-set_other P.cells i j (Some p) None ne
 
   -- a filled slot stays filled
@@ -93,7 +93,7 @@ module _ (P : Table) (i : ℕ) (p : Pair) (within : i < slot_count P) where
   ]
 
   -- a held pair is the written one or was held
-  written_holds : (j : ℕ) (q : Pair) → HoldsPair (written P i p) j q → ((j ≡ i) × (q ≡ p)) ⊎ HoldsPair P j q
+  pub written_holds : (j : ℕ) (q : Pair) → HoldsPair (written P i p) j q → ((j ≡ i) × (q ≡ p)) ⊎ HoldsPair P j q
   written_holds j q h = elim (cases_eq j i) [
     | inl here ↦ inl (here, some_same _ _ (sym h ∙ ap (cell_at (written P i p).cells) here ∙ written_here))
     | inr ne ↦ inr (sym (written_other j ne) ∙ h)

@@ -77,8 +77,9 @@ module _ (P : Table) (k : List ℕ) where
       go false low h = inl (let ne = eqb-false (count P) (max_items (slot_count P) P.factor) low in omega (arith, most, ne))
 
 -- ---- an accepted insert places its pair in the table or in the grown table, which takes its key
--- R is valid, and as P in its pairs
+-- R is P or the grown P, valid, and as P in its pairs
 pub record IsBase (F : Format) (P R : Table) : Type 0 where
+  pub is : (R ≡ P) ⊎ (grown F P ≡ Some R)
   pub valid : IsValid F R
   pub factor : R.factor ≡ P.factor
   pub counts : count R ≡ count P
@@ -94,47 +95,47 @@ IsBased F put = (P Q : Table) (p : Pair) → IsValid F P → put P p ≡ Some Q 
 
 -- the table itself
 base_self : (F : Format) (P : Table) → IsValid F P → IsBase F P P
-base_self F P ok = record { valid = ok; factor = refl; counts = refl; maps = λ k. refl }
+base_self F P ok = record { is = inl refl; valid = ok; factor = refl; counts = refl; maps = λ k. refl }
 
 -- the grown table
-base_grown : (F : Format) (P R : Table) → IsGrown F P R → IsBase F P R
-base_grown F P R g = record { valid = g.valid; factor = g.factor; counts = g.counts; maps = g.maps }
+base_grown : (F : Format) (P R : Table) → grown F P ≡ Some R → IsGrown F P R → IsBase F P R
+base_grown F P R e g = record { is = inr e; valid = g.valid; factor = g.factor; counts = g.counts; maps = g.maps }
 
 -- which branch gave the answer
-cond_cases : {X : Type 0} (b : Bool) (x y z : X) → cond b x y ≡ z → ((b ≡ true) × (x ≡ z)) ⊎ ((b ≡ false) × (y ≡ z))
+pub cond_cases : {X : Type 0} (b : Bool) (x y z : X) → cond b x y ≡ z → ((b ≡ true) × (x ≡ z)) ⊎ ((b ≡ false) × (y ≡ z))
 cond_cases true x y z e = inl (refl, e)
 cond_cases false x y z e = inr (refl, e)
 
 module _ (F : Format) (P Q : Table) (p : Pair) (ok : IsValid F P) where
   -- an insert after a growth
-  after_growth : option_and_then (λ R. place F R p) (grown F P) ≡ Some Q → IsPlacedIn F P Q p
+  pub after_growth : option_and_then (λ R. place F R p) (grown F P) ≡ Some Q → IsPlacedIn F P Q p
   after_growth e =
       let t = and_then_some (λ R. place F R p) (grown F P) Q e in
       let g = grown-IsGrown F P ok t.0 t.1 in
-      (t.0, base_grown F P t.0 g, inl g.room, t.2)
+      (t.0, base_grown F P t.0 t.1 g, inl g.room, t.2)
 
   -- an insert without one
-  at_once : is_full_for P p.key ≡ false → place F P p ≡ Some Q → IsPlacedIn F P Q p
-  at_once low e = (P, base_self F P ok, false-TakesKey P p.key ok.room low, e)
+  pub at_once : TakesKey P p.key → place F P p ≡ Some Q → IsPlacedIn F P Q p
+  at_once takes e = (P, base_self F P ok, takes, e)
 
 -- the owned table
-put_owned-IsBased : (F : Format) → IsBased F (put_owned F)
+pub put_owned-IsBased : (F : Format) → IsBased F (put_owned F)
 unfolding put_owned
 put_owned-IsBased F P Q p ok e = elim (cond_cases (is_full_for P p.key) _ _ _ e) [
   | inl full ↦ after_growth F P Q p ok full.1
-  | inr low ↦ at_once F P Q p ok low.0 low.1
+  | inr low ↦ at_once F P Q p ok (false-TakesKey P p.key ok.room low.0) low.1
 ]
 
 -- the view
-put_view-IsBased : (F : Format) → IsBased F (put_view F)
+pub put_view-IsBased : (F : Format) → IsBased F (put_view F)
 unfolding put_view
 put_view-IsBased F P Q p ok e = elim (cond_cases (is_full_for P p.key) _ _ _ e) [
   | inl full ↦ absurd (none-some Q full.1)
-  | inr low ↦ at_once F P Q p ok low.0 low.1
+  | inr low ↦ at_once F P Q p ok (false-TakesKey P p.key ok.room low.0) low.1
 ]
 
 -- all such inserts keep a table valid
-IsBased-IsInsert : (F : Format) (put : Table → Pair → Option Table) → IsBased F put → IsInsert F (IsValid F) put
+pub IsBased-IsInsert : (F : Format) (put : Table → Pair → Option Table) → IsBased F put → IsInsert F (IsValid F) put
 IsBased-IsInsert F put based = record {
   keeps = λ P Q p ok fit e. let b = based P Q p ok e in place-IsValid F b.0 Q p b.1.valid b.2 fit b.3;
   factor = λ P Q p ok e. let b = based P Q p ok e in factor-place F b.0 Q p b.1.valid.placed b.3 ∙ b.1.factor;
