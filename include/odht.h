@@ -37,7 +37,7 @@
  * beyond what it was lent, but get and get_all may miss a key, or find
  * a value that stands beside it in a slot that counts as free; len tells what the
  * header states; an insert, alone or of many, changes one value beside an equal
- * key, or adds one entry below the maximum that the header states; and one alone
+ * key, or adds one entry below the maximum that the header states; and it
  * answers FULL only at that maximum, or where each slot counts as filled, by its
  * control byte or its copy in the mirror. docs/FORMAT.md has the frame.
  *

@@ -25,7 +25,7 @@ use Rattle.odht_raw.specs.Frame.{IsAccepted, IsFramed}
 use Rattle.odht_raw.specs.Refusals.{IsTooLarge, new_refusal, opening_refusal}
 use Rattle.odht_raw.specs.declared.error.Error.{Error}
 use Rattle.odht_raw.specs.declared.error.Error.TheVariants.{Full, Capacity}
-use Rattle.odht.specs.Lists.{encoded_all, IsFilled, IsFramedRun, IsRefusedAt}
+use Rattle.odht.specs.Lists.{encoded_all, IsFilled, IsFramedRun, IsRefusedAt, IsStoppedAt}
 use Rattle.odht_c.specs.Statuses.{status_of, IsPercent, done, replaced, bad_percent, bad_lengths}
 
 abbrev pub IsFormer : {V : Type 0} → Option V → V → ℕ → V → Type 0
@@ -76,3 +76,5 @@ pub record InsertAllAnswers {K V : Type 0} (c : Coding K V) (B : List ℕ) (keys
       → IsFramedRun c B (take n' (zip keys values)) B'
   pub at_maximum : (P : Table) → length values ≡ length keys → IsAccepted c.format B → IsImage c.format P B'
       → n' < length keys → IsRefusedAt c P (zip keys values) n'
+  pub stopped : length values ≡ length keys → IsAccepted c.format B → n' < length keys
+      → IsStoppedAt c (zip keys values) n' B'

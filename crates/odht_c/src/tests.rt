@@ -1,5 +1,6 @@
-//! The calls that ask for memory, run with ample memory, and with each request refused in turn: the first answer of a
-//! call may be that memory was refused, and the second may not.
+//! The calls that ask for memory, run with ample memory, and with each request refused in turn. The first answer of a
+//! call may then be that memory was refused, and the second may not. The tests of one try fail where a request is
+//! refused, and so count the requests.
 
 use crate::status::{BAD_LENGTHS, BAD_PERCENT, OK, TOO_SMALL};
 use crate::u64_u32::{
@@ -94,16 +95,37 @@ fn three_pairs_in_256_bytes(rt: HostRuntime) {
 
 #[test]
 fn forty_pairs_that_grow_to_64_slots(rt: HostRuntime) {
-    let (mut keys, mut values) = ([0; 40], [0; 40]);
-    for index in 0..40 {
-        keys[index] = index as u64;
-        values[index] = 10 * index as u32;
-    }
+    let (keys, values) = forty_pairs();
     let (mut out, mut len) = ([7; 880], 0);
     let status = build_growing(&rt, rt.alloc(), &keys, &values, &mut out, &mut len);
     same_status(&rt, "build_growing", status, OK);
     same(&rt, "length", len, 880);
     check_table(&rt, &out, 40);
+}
+
+// The keys from 0 on, and ten times each as its value.
+fn forty_pairs() -> ([u64; 40], [u32; 40]) {
+    let (mut keys, mut values) = ([0; 40], [0; 40]);
+    for index in 0..40 {
+        keys[index] = index as u64;
+        values[index] = 10 * index as u32;
+    }
+    (keys, values)
+}
+
+#[test]
+fn one_try_to_build(rt: HostRuntime) {
+    let (mut out, mut len) = ([7; 256], 0);
+    let status = odht_u64_u32_build(rt.alloc(), &[0], &[0], 95, &mut out, &mut len);
+    same_status(&rt, "build", status, OK);
+}
+
+#[test]
+fn one_try_to_build_growing(rt: HostRuntime) {
+    let (keys, values) = forty_pairs();
+    let (mut out, mut len) = ([7; 880], 0);
+    let status = odht_u64_u32_build_growing(rt.alloc(), &keys, &values, &mut out, &mut len);
+    same_status(&rt, "build_growing", status, OK);
 }
 
 #[test]

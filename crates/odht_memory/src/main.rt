@@ -48,6 +48,7 @@ fn run<W: Write>(alloc: Global, call: &str, output: &mut W) -> io::Result<()> {
         "clone" => owned::clone(alloc, output),
         "from_raw_bytes" => owned::from_raw_bytes(alloc, output),
         "from_raw_bytes_unchecked" => owned::from_raw_bytes_unchecked(alloc, output),
+        "refused_bytes" => owned::refused_bytes(alloc, output),
         "allocate" => parts::allocation(alloc, output),
         "probe_order" => parts::order(alloc, output),
         "below_the_maximum" => quiet::below_the_maximum(alloc, output),

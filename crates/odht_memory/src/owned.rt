@@ -119,7 +119,16 @@ pub fn from_raw_bytes<W: Write>(alloc: Global, output: &mut W) -> io::Result<()>
     tell_table(&table, output)
 }
 
-/// The same, not checked.
+/// Takes bytes of no table: they are refused before memory is asked for.
+pub fn refused_bytes<W: Write>(alloc: Global, output: &mut W) -> io::Result<()> {
+    tell(
+        "from_raw_bytes",
+        &Table::from_raw_bytes(alloc, &[7; 192]),
+        output,
+    )
+}
+
+/// Takes the bytes of a full table, not checked.
 pub fn from_raw_bytes_unchecked<W: Write>(alloc: Global, output: &mut W) -> io::Result<()> {
     let Some(table) = full_table(alloc, output)? else {
         return Ok(());

@@ -130,12 +130,14 @@ pub fn numbers<W: Write>(output: &mut W) -> io::Result<()> {
     let ones = <[u8; 4]>::from_slice(&[1, 1, 1, 1]);
     writeln!(
         output,
-        "zeros: {}, {}, equal: {}",
+        "zeros: {}, {}, equal: {}, ones: {}",
         zeros.is_all_zeros(),
         ones.is_all_zeros(),
-        zeros.equals(&ones)
+        zeros.equals(&ones),
+        ones.as_slice() == [1; 4].as_slice()
     )?;
     let mut group = [3; 16];
+    group[5] = 255;
     group[9] = 255;
     tell_group::<lanes::GroupQuery, W>(&group, output)?;
     tell_group::<no_simd::GroupQuery, W>(&group[..8], output)

@@ -1,6 +1,7 @@
 //! Scripts and their answers, and runs that stop early.
 mod check_lines;
 
+use crate::run_buffered;
 use crate::script::{Fault, run};
 use std::alloc::Global;
 use std::io::{self, ErrorKind, Read, Write};
@@ -335,6 +336,20 @@ fn readers(rt: HostRuntime) -> Result<(), Fail> {
         );
         assert_eq!(rt; outcome, Err(Fault::Read), "after {length} bytes");
         assert!(rt; output.is_empty());
+        let output = Narrow {
+            room: 0,
+            can_flush: false,
+        };
+        let buffered = run_buffered(
+            rt.alloc(),
+            &mut Slow(&script[..length]).chain(Broken),
+            output,
+        );
+        assert_eq!(rt;
+            buffered.err(),
+            Some(Fault::Read),
+            "buffered, after {length} bytes"
+        );
     }
     Ok(())
 }
@@ -379,6 +394,28 @@ fn writers(rt: HostRuntime) {
             };
             assert_eq!(rt;
                 outcome,
+                expected,
+                "room for {room} bytes, flush {can_flush}"
+            );
+        }
+    }
+}
+
+// The same with a buffer before the writer, which is given back where all was written.
+#[test]
+fn buffered_writers(rt: HostRuntime) {
+    let script = b"new 3 95\nput 1 2\n";
+    for room in 0..30 {
+        for can_flush in [false, true] {
+            let output = Narrow { room, can_flush };
+            let outcome = run_buffered(rt.alloc(), &mut script.as_slice(), output);
+            let expected = if room >= 21 && can_flush {
+                Ok(room - 21)
+            } else {
+                Err(Fault::Write)
+            };
+            assert_eq!(rt;
+                outcome.map(|output| output.room),
                 expected,
                 "room for {room} bytes, flush {can_flush}"
             );

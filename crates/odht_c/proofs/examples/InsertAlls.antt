@@ -1,16 +1,22 @@
 -- Worked examples: what a call answers that inserts pairs in turn.
-use Rattle.std.proofs.Common.{◌≡◌, ◌∙◌, ℕ, refl, sym, ap, arith, List, [], ◌∷◌, lit<, subst}
+use Rattle.std.proofs.Common.{◌≡◌, ◌∙◌, ℕ, refl, sym, ap, arith, List, [], ◌∷◌, lit<, lit≤, subst, Option, option_map, Result, Ok, Err}
 use Rattle.odht_base.specs.Bytes.{overwritten_at}
 use Rattle.odht_base.specs.Image.{image}
 use Rattle.odht_base.specs.Insert.{put_view, IsFullFor}
 use Rattle.odht_base.specs.Numbers.{le_bytes}
-use Rattle.odht_base.specs.Table.{Table}
+use Rattle.odht_base.specs.Shown.{controls_of}
+use Rattle.odht_base.specs.Table.{Pair, Table}
 use Rattle.odht_base.proofs.examples.Configs.{direct_config, pair32}
 use Rattle.odht_base.proofs.lemmas.FreshRuns.{put_view-PlacesBelow}
 use Rattle.odht_base.proofs.lemmas.Options.{some_same}
 use Rattle.odht_base.proofs.lemmas.Puts.{put_view-IsInsert}
-use Rattle.odht_raw.specs.declared.error.Error.TheVariants.{TooShort}
+use Rattle.odht_raw.specs.declared.error.Error.TheVariants.{TooShort, Full}
+use Rattle.odht_raw.specs.declared.error.Error.{Error}
+use Rattle.odht_raw.specs.Coding.{encoded}
+use Rattle.odht_raw.specs.Frame.{IsFramed, InsertFrame}
+use Rattle.odht_raw.proofs.examples.FrameRefusals.{free_slot_refused}
 use Rattle.odht_raw.proofs.examples.Opened.{opened}
+use Rattle.std.specs.Result.{result_map_both}
 use Rattle.odht.specs.Lists.{IsFilled}
 use Rattle.odht.proofs.lemmas.Fillings.{filled_none, filled_more}
 use Rattle.odht.specs.Lists.{IsFramedRun}
@@ -37,6 +43,7 @@ lengths_insert_all = record {
   filled = λ P long is. absurd (unequal 0 1 refl long);
   framed = λ long is. absurd (unequal 0 1 refl long);
   at_maximum = λ P long is image less. absurd (unequal 0 1 refl long);
+  stopped = λ long is less. absurd (unequal 0 1 refl long);
 }
 
 -- one pair into a valid table
@@ -65,6 +72,11 @@ one_insert_all =
     accepted_insert_all direct_coding no_bytes one_bytes (5 ∷ []) (7 ∷ []) 9 1 refl refl one_run
     (λ P is. filled_from P (same_table no_items P no_bytes no_image is)) refl
 
+-- an insert of the key 6 may be refused there
+six_refused : IsFramed direct_coding one_bytes 6 8 (Err Full) one_bytes
+unfolding opened
+six_refused = (Err Full, refl, InsertFrame.full (lit≤ tt))
+
 -- another key into a full table
 pub full_insert_all_answers : InsertAllAnswers direct_coding one_bytes (6 ∷ []) (8 ∷ []) 9 18 one_bytes 0
 unfolding opened
@@ -73,6 +85,7 @@ full_insert_all_answers =
     (λ P is. filled_none direct_config (put_view direct_config) P one_bytes is)
     one_bytes 18 refl (lit< tt) refl
     (λ P is. record { item = (6, 8); at = refl; full = full_for P (same_table one_item P one_bytes one_image is) })
+    (record { item = (6, 8); at = refl; framed = six_refused })
 
 -- two pairs, of which the second is refused
 pub half_insert_all : InsertAllAnswers direct_coding no_bytes (5 ∷ 6 ∷ []) (7 ∷ 8 ∷ []) 9 18 one_bytes 1
@@ -82,6 +95,7 @@ half_insert_all =
     (λ P is. filled_from P (same_table no_items P no_bytes no_image is))
     one_bytes 18 refl (lit< tt) refl
     (λ P is. record { item = (6, 8); at = refl; full = full_for P (same_table one_item P one_bytes one_image is) })
+    (record { item = (6, 8); at = refl; framed = six_refused })
 
 -- arrays of two lengths are not answered with ODHT_OK
 pub all_lengths_status_refused : InsertAllAnswers direct_coding no_bytes (5 ∷ []) [] 9 0 no_bytes 9 → ⊥
@@ -150,3 +164,22 @@ untold_refused h = unequal_lists one_bytes no_bytes refl (unchanged no_bytes (h.
 pub roomy_refused : InsertAllAnswers direct_coding no_bytes (5 ∷ []) (7 ∷ []) 9 18 no_bytes 0 → ⊥
 unfolding opened
 roomy_refused h = unequal 0 1 refl (h.at_maximum no_items refl accepted_bytes.0 no_image (lit< tt)).full.0
+
+-- and no bytes with room refuse one, as far as they tell
+roomy : (a : Result (Option (List ℕ)) Error) (p : Pair) (D : List ℕ) → InsertFrame direct_config no_bytes p a D → (e : Error) → a ≡ Err e → ⊥
+unfolding opened
+roomy a p D (InsertFrame.full full) e is = omega (arith, full)
+roomy a p D (InsertFrame.no_slot none) e is =
+    free_slot_refused (controls_of direct_config no_bytes) 0 refl refl (none 0 (lit< tt))
+roomy a p D (InsertFrame.overwrote i low same) e is = absurd cc
+roomy a p D (InsertFrame.added i low free room) e is = absurd cc
+
+pub stopped_with_room_refused : InsertAllAnswers direct_coding no_bytes (5 ∷ []) (7 ∷ []) 9 18 no_bytes 0 → ⊥
+stopped_with_room_refused h =
+    let stop = h.stopped refl accepted_bytes.0 (lit< tt) in
+    go stop.item stop.framed.0 stop.framed.1 stop.framed.2
+  where
+    go : (item : ℕ × ℕ) (a : Result (Option (List ℕ)) Error) → Err Full ≡ result_map_both (option_map direct_coding.value_of) (λ e. e) a
+        → InsertFrame direct_config no_bytes (encoded direct_coding item.0 item.1) a no_bytes → ⊥
+    go item (Err e) same frame = roomy (Err e) _ _ frame e refl
+    go item (Ok o) same frame = absurd cc

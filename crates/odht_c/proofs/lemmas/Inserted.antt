@@ -5,14 +5,14 @@ use Rattle.odht_base.specs.Insert.{put_view, IsFullFor}
 use Rattle.odht_base.specs.Table.{Table}
 use Rattle.odht_base.specs.Valid.{IsImage}
 use Rattle.odht_base.proofs.lemmas.Puts.{put_view-None}
-use Rattle.odht.proofs.lemmas.Fillings.{refused_at}
+use Rattle.odht.proofs.lemmas.Fillings.{refused_at, stopped_at}
 use Rattle.odht_raw.specs.Coding.{Coding, encoded}
 use Rattle.odht_raw.specs.Frame.{IsFramed}
 use Rattle.odht_raw.specs.Refusals.{opening_refusal}
 use Rattle.odht_raw.specs.declared.error.Error.{Error}
 use Rattle.odht_raw.specs.declared.error.Error.TheVariants.{Full}
 use Rattle.odht.specs.Inserts.{IsInserted}
-use Rattle.odht.specs.Lists.{encoded_all, IsFilled, IsFramedRun, IsRefusedAt}
+use Rattle.odht.specs.Lists.{encoded_all, IsFilled, IsFramedRun, IsRefusedAt, IsStoppedAt}
 use Rattle.odht_c.specs.Statuses.{done, status_of}
 use Rattle.odht_c.specs.Writes.{IsFormer, InsertAnswers, InsertAllAnswers}
 use Rattle.odht_c.proofs.lemmas.Refused.{not_none}
@@ -64,12 +64,14 @@ module _ {K V : Type 0} (c : Coding K V) (B C : List ℕ) (keys : List K) (value
     filled = λ P long is. rw (sym every) (filled P is);
     framed = λ long is. rw (sym every) framed;
     at_maximum = λ P long is image less. absurd (omega (arith, less));
+    stopped = λ long is less. absurd (omega (arith, less));
   }
 
   -- the next one is refused, as the table is full for its key, and these bytes are D now
   pub full_insert_all : (D : List ℕ) (s : ℕ) → D ≡ C → n < length keys → s ≡ status_of Full
-      → ((P : Table) → IsImage c.format P C → IsRefusedAt c P (zip keys values) n) → InsertAllAnswers c B keys values before s D n
-  full_insert_all D s same less status full = record {
+      → ((P : Table) → IsImage c.format P C → IsRefusedAt c P (zip keys values) n) → IsStoppedAt c (zip keys values) n C
+      → InsertAllAnswers c B keys values before s D n
+  full_insert_all D s same less status full stop = record {
     lengths = λ other. absurd (other equal);
     refused = λ e long is. not_none _ e is (sym accepted);
     bound = λ long is. omega (arith, less);
@@ -78,6 +80,7 @@ module _ {K V : Type 0} (c : Coding K V) (B C : List ℕ) (keys : List K) (value
     filled = λ P long is. rw same (filled P is);
     framed = λ long is. rw same framed;
     at_maximum = λ P long is image l. full P (subst (IsImage c.format P) same image);
+    stopped = λ long is l. rw same stop;
   }
 
 -- the pair that was refused, of two lists
@@ -86,3 +89,11 @@ pub refused_pair : {K V : Type 0} (c : Coding K V) (P : Table) (keys : List K) (
 refused_pair c P keys values n k v low equal key value full =
     let low_value : n < length values = omega (arith, low, equal) in
     refused_at c P (zip keys values) n (k, v) (omega (arith, low, low_value, length-zip keys values)) (get_or-zip keys values n (k, v) low low_value ∙ ap₂ (λ a b. (a, b)) key value) full
+
+-- the same on any bytes
+pub stopped_pair : {K V : Type 0} (c : Coding K V) (B : List ℕ) (keys : List K) (values : List V) (n : ℕ) (k : K) (v : V) → n < length keys → length values ≡ length keys
+    → get_or keys n k ≡ k → get_or values n v ≡ v → (r : Result (Option V) Error) → r ≡ Err Full → IsFramed c B k v r B → IsStoppedAt c (zip keys values) n B
+stopped_pair c B keys values n k v low equal key value r full frame =
+    let low_value : n < length values = omega (arith, low, equal) in
+    stopped_at c B B (zip keys values) n (k, v) (omega (arith, low, low_value, length-zip keys values))
+    (get_or-zip keys values n (k, v) low low_value ∙ ap₂ (λ a b. (a, b)) key value) refl r full frame

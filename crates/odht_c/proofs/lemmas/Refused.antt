@@ -67,4 +67,5 @@ module _ {K V : Type 0} (c : Coding K V) (B : List ℕ) (a : Error) (s : ℕ) (i
     filled = λ P long image. never_refused c.format P B a image (sym is);
     framed = λ long none. not_none _ a (sym is) none;
     at_maximum = λ P long none. not_none _ a (sym is) none;
+    stopped = λ long none. not_none _ a (sym is) none;
   }

@@ -1,4 +1,4 @@
-//! Tables that own their bytes: growth, copies, and what a refused allocation leaves.
+//! Tables that own their bytes, with ample memory: growth, copies, and bytes that are refused.
 ghost use Rattle.std.specs.Prelude.{◌≤◌};
 
 use crate::tests::checks::{holds_at, same, same_answer, same_at, same_len, same_value};
@@ -13,99 +13,17 @@ use odht::{Config, HashTableOwned};
 use std::alloc::Global;
 use std::process::Abort;
 
-// Takes the first refusal of memory in a test, and no other.
-#[derive(Drop)]
-struct OneRefusal {
-    is_met: bool,
-}
-
-impl OneRefusal {
-    fn new() -> Self {
-        OneRefusal { is_met: false }
-    }
-
-    // Demands that this is a refusal of memory and the first.
-    fn take(&mut self, rt: &impl Abort, refusal: Error) {
-        same(rt, "the refusal", refusal, Error::Memory);
-        assert!(rt; !self.is_met, "memory was refused twice");
-        self.is_met = true;
-    }
-
-    // What is made, at the second try where memory was refused at the first.
-    fn made<T, F: Fn() -> Result<T, Error> + Drop>(&mut self, rt: &impl Abort, make: F) -> T
-        requires { F.IsAlwaysCallable make }
-    {
-        match make() {
-            Ok(table) => table,
-            Err(refusal) => {
-                self.take(rt, refusal);
-                make().expect(rt, "refused at the second try")
-            }
-        }
-    }
-
-    // A table of this capacity, as `made` makes what it is given.
-    fn table<C: Config>(
-        &mut self,
-        rt: &impl Abort,
-        alloc: Global,
-        capacity: usize,
-        percent: u8,
-    ) -> HashTableOwned<C>
-        requires low { 1 ≤ percent }
-        requires high { percent ≤ 100 }
-    {
-        match HashTableOwned::with_capacity(alloc, capacity, percent) {
-            Ok(table) => table,
-            Err(refusal) => {
-                self.take(rt, refusal);
-                HashTableOwned::with_capacity(alloc, capacity, percent).expect(
-                    rt,
-                    "refused at the second try",
-                )
-            }
-        }
-    }
-
-    // Inserts, and once more where memory was refused, which is to change nothing.
-    fn insert<C: Config>(
-        &mut self,
-        rt: &impl Abort,
-        table: &mut HashTableOwned<C>,
-        key: &C::Key,
-        value: &C::Value,
-    ) -> Option<C::Value> {
-        let before = fingerprint(table);
-        match table.insert(key, value) {
-            Ok(old) => old,
-            Err(refusal) => {
-                self.take(rt, refusal);
-                let found = fingerprint(table);
-                same(rt, "what a refused insert leaves", found, before);
-                table
-                    .insert(key, value)
-                    .expect(rt, "refused at the second try")
-            }
-        }
-    }
-}
-
-// What differs, but by rare chance, where a table does: its item count, how many bytes it has, and a sum of them.
-fn fingerprint<C: Config>(table: &HashTableOwned<C>) -> (usize, usize, u64) {
-    let bytes = table.raw_bytes();
-    let mut sum: u64 = 0;
-    for byte in bytes {
-        sum = sum.wrapping_mul(1099511628211).wrapping_add(*byte as u64);
-    }
-    (table.len(), bytes.len(), sum)
+// A table of this capacity at 87 percent.
+fn table_for<C: Config>(rt: &impl Abort, alloc: Global, capacity: usize) -> HashTableOwned<C> {
+    HashTableOwned::with_capacity(alloc, capacity, 87).expect(rt, "a table")
 }
 
 // Inserts the keys from 0 to below `end`, each with its own number and 100 more as its value.
-fn fill(rt: &impl Abort, once: &mut OneRefusal, table: &mut HashTableOwned<U32ToU32>, end: u32)
+fn fill(rt: &impl Abort, table: &mut HashTableOwned<U32ToU32>, end: u32)
     requires { end ≤ 100 }
 {
     for key in 0..end {
-        same_value(rt, key, once.insert(rt, table, &key, &(key + 100)), None);
+        same_answer(rt, key, table.insert(&key, &(key + 100)), Ok(None));
         same_len(rt, "items", table.len(), key as usize + 1);
     }
 }
@@ -126,11 +44,6 @@ fn check_absent(rt: &impl Abort, table: &HashTableOwned<U32ToU32>, start: u32, e
         same_value(rt, key, table.get(&key), None);
         holds_at(rt, "no key", key as usize, !table.contains_key(&key));
     }
-}
-
-// The table of the bytes of another.
-fn copied<C: Config>(alloc: Global, table: &HashTableOwned<C>) -> Result<HashTableOwned<C>, Error> {
-    HashTableOwned::from_raw_bytes_unchecked(alloc, table.raw_bytes())
 }
 
 // A byte of a new table of 16 slots at 87 percent, keys and values of four bytes: header, entries, control bytes.
@@ -177,61 +90,63 @@ fn check_bytes(rt: &impl Abort, what: &str, bytes: &[u8], has_pair: bool) {
 
 #[test]
 fn empty_tables(rt: HostRuntime) {
-    let (mut once, alloc) = (OneRefusal::new(), rt.alloc());
-    let table: HashTableOwned<U32ToU32> = once.made(&rt, || HashTableOwned::default(alloc));
+    let table: HashTableOwned<U32ToU32> = HashTableOwned::default(rt.alloc()).expect(
+        &rt, "a table",
+    );
     let slots = slots_for(&rt, 15);
-    let factor = Factor::from_percent(87);
-    let allocation: Allocation<U32ToU32, OwnedBytes> = once.made(&rt, || {
-        allocate(alloc, slots, 0, factor)
-    });
+    let allocation: Allocation<U32ToU32, OwnedBytes> = allocate(
+        rt.alloc(),
+        slots,
+        0,
+        Factor::from_percent(87),
+    ).expect(&rt, "an allocation");
     check_bytes(&rt, "the default table", table.raw_bytes(), false);
     check_bytes(&rt, "the allocation", allocation.raw_bytes(), false);
 }
 
 #[test]
-fn an_order_that_may_be_refused_memory(rt: HostRuntime) {
-    let (mut once, alloc) = (OneRefusal::new(), rt.alloc());
+fn an_order_of_all_slots(rt: HostRuntime) {
     let slots = slots_for(&rt, 63);
     assert!(rt; slots > 40);
-    let order = once.made(&rt, || probe_order(alloc, 40, slots));
+    let order = probe_order(rt.alloc(), 40, slots).expect(&rt, "an order");
     same_len(&rt, "slots", order.len(), 64);
 }
 
 // As the Rust crate's test of growth has it.
 #[test]
 fn a_hundred_items(rt: HostRuntime) {
-    let (mut once, alloc) = (OneRefusal::new(), rt.alloc());
-    let mut table: HashTableOwned<U32ToU32> = once.table(&rt, alloc, 10, 87);
-    fill(&rt, &mut once, &mut table, 100);
+    let mut table = table_for(&rt, rt.alloc(), 10);
+    fill(&rt, &mut table, 100);
     same_len(&rt, "bytes", table.raw_bytes().len(), 1200);
     check_filled(&rt, &table, 0, 100);
     check_absent(&rt, &table, 100, 200);
 }
 
-// At the maximum of thirteen items in sixteen slots. The table asks for memory when it is made and for the new key.
+// At the maximum of thirteen items in sixteen slots.
 #[test]
 fn a_full_table_is_overwritten(rt: HostRuntime) {
-    let mut once = OneRefusal::new();
-    let mut table: HashTableOwned<U32ToU32> = once.table(&rt, rt.alloc(), 13, 87);
-    fill(&rt, &mut once, &mut table, 13);
+    let mut table = table_for(&rt, rt.alloc(), 13);
+    fill(&rt, &mut table, 13);
     for key in 0..13 {
         same_answer(&rt, key, table.insert(&key, &7), Ok(Some(key + 100)));
         same_answer(&rt, key, table.insert(&key, &(key + 100)), Ok(Some(7)));
     }
     same_len(&rt, "items", table.len(), 13);
     same_len(&rt, "bytes of 16 slots", table.raw_bytes().len(), 192);
-    same_value(&rt, 13, once.insert(&rt, &mut table, &13, &113), None);
+    same_answer(&rt, 13, table.insert(&13, &113), Ok(None));
     same_len(&rt, "bytes of 32 slots", table.raw_bytes().len(), 336);
     check_filled(&rt, &table, 0, 14);
 }
 
 #[test]
 fn copies_have_the_same_bytes(rt: HostRuntime) {
-    let (mut once, alloc) = (OneRefusal::new(), rt.alloc());
-    let mut table: HashTableOwned<U32ToU32> = once.table(&rt, alloc, 13, 87);
+    let mut table: HashTableOwned<U32ToU32> = table_for(&rt, rt.alloc(), 13);
     same_answer(&rt, 1, table.insert(&1, &2), Ok(None));
-    let cloned = once.made(&rt, || table.clone());
-    let copied = once.made(&rt, || copied(alloc, &table));
+    let cloned = table.clone().expect(&rt, "a clone");
+    let copied: HashTableOwned<U32ToU32> = HashTableOwned::from_raw_bytes_unchecked(
+        rt.alloc(),
+        table.raw_bytes(),
+    ).expect(&rt, "a copy");
     check_bytes(&rt, "the table", table.raw_bytes(), true);
     check_bytes(&rt, "the clone", cloned.raw_bytes(), true);
     check_bytes(&rt, "the copy", copied.raw_bytes(), true);
@@ -255,11 +170,11 @@ fn changed_bytes(at: usize, byte: u8) -> [u8; 192] {
 
 #[test]
 fn checked_copies_have_the_same_bytes(rt: HostRuntime) {
-    let (mut once, alloc) = (OneRefusal::new(), rt.alloc());
     let bytes = changed_bytes(8, 1);
-    let copied: HashTableOwned<U32ToU32> = once.made(&rt, || {
-        HashTableOwned::from_raw_bytes(alloc, &bytes)
-    });
+    let copied: HashTableOwned<U32ToU32> = HashTableOwned::from_raw_bytes(
+        rt.alloc(),
+        &bytes,
+    ).expect(&rt, "a copy");
     check_bytes(&rt, "the copy", copied.raw_bytes(), true);
     same_value(&rt, 1, copied.get(&1), Some(2));
 }

@@ -16,7 +16,7 @@ use Rattle.odht_c.specs.Statuses.{status_of}
 use Rattle.odht.specs.Lists.{encoded_all, IsFilled, IsFramedRun}
 use Rattle.odht.proofs.lemmas.Fillings.{filled_more, encoded_all-more}
 use Rattle.odht_c.proofs.lemmas.Refused.{refused_insert_all}
-use Rattle.odht_c.proofs.lemmas.Inserted.{accepted_insert_all, full_insert_all, refused_pair}
+use Rattle.odht_c.proofs.lemmas.Inserted.{accepted_insert_all, full_insert_all, refused_pair, stopped_pair}
 use Rattle.odht_c.proofs.write.insert_all.Goals as goal
 
 pub returns-in-Err-clause-answer : goal.returns-in-Err-clause-answer
@@ -77,6 +77,10 @@ returns-in-Err-answer-clause-answer g c =
     c.loop-index.invariant.framed c.loop-index.invariant.filled _ _ (ap bytes ((search (rules, c.into_data-place.ensures.data, c.insert-answer.ensures.place, c.from_raw_bytes_unchecked-table.ensures)) ∙ stays)) c.loop-index-test.true (c.status_of-in-Err-answer.ensures ∙ ap status_of only)
     (λ P is. refused_pair K P c.args.keys.now c.args.values.now c.loop-index.index c.index-keys-index.result c.index-values-index.result c.loop-index-test.true c.requires
     (sym c.index-keys-index.is) (sym c.index-values-index.is) ((c.insert-answer.ensures.full P (subst (λ s. IsImage K.format P (bytes s)) (sym opened) is)).0 full))
+    (stopped_pair K _ c.args.keys.now c.args.values.now c.loop-index.index c.index-keys-index.result c.index-values-index.result c.loop-index-test.true c.requires
+    (sym c.index-keys-index.is) (sym c.index-values-index.is) c.insert-answer.result full
+    (subst (λ s. IsFramed K (bytes c.loop-index.place) c.index-keys-index.result c.index-values-index.result c.insert-answer.result (bytes s)) stays
+    (subst (λ s. IsFramed K (bytes s) c.index-keys-index.result c.index-values-index.result c.insert-answer.result (bytes c.insert-answer.new.self.now)) opened c.insert-answer.ensures.frame)))
 
 pub returns-clause-answer : goal.returns-clause-answer
 returns-clause-answer g c =
