@@ -5,9 +5,10 @@
 --     HasSizeOf P Q        Q has the slot count and the load factor of P
 --     IsFramedRun c B items B'  inserts of the items in turn, which are accepted, may leave B' of the accepted bytes B
 --     IsRefusedAt c P items n    P is full for the key of item n
+--     IsStoppedAt c items n B    on the bytes B, accepted, an insert of item n may be refused
 --     IsFreshFilled c p items B  B are the bytes of the fresh table for as many items at p percent, after these are put into
 --                          it by the owned table; it has not grown
-use Rattle.std.specs.Prelude.{◌≡◌, ℕ, ◌+◌, ◌≤◌, List, [], ◌∷◌, ◌++◌, length, map, Option, Some, Ok, slice_get}
+use Rattle.std.specs.Prelude.{◌≡◌, ℕ, ◌+◌, ◌≤◌, List, [], ◌∷◌, ◌++◌, length, map, Option, Some, Ok, Err, slice_get}
 use Rattle.odht_base.specs.Format.{Format}
 use Rattle.odht_base.specs.Insert.{run, put_owned, IsFullFor}
 use Rattle.odht_base.specs.Load.{max_items}
@@ -16,6 +17,7 @@ use Rattle.odht_base.specs.Table.{Pair, Table, fresh, slot_count, count}
 use Rattle.odht_base.specs.Valid.{IsImage}
 use Rattle.odht_raw.specs.Coding.{Coding, encoded}
 use Rattle.odht_raw.specs.Frame.{IsFramed}
+use Rattle.odht_raw.specs.declared.error.Error.TheVariants.{Full}
 
 abbrev pub encoded_all : {K V : Type 0} → Coding K V → List (K × V) → List Pair
 encoded_all c items = map (λ item. encoded c item.0 item.1) items
@@ -39,6 +41,11 @@ pub record IsRefusedAt {K V : Type 0} (c : Coding K V) (P : Table) (items : List
   pub item : K × V
   pub at : slice_get items n ≡ Some item
   pub full : IsFullFor P (c.key_bytes item.0)
+
+pub record IsStoppedAt {K V : Type 0} (c : Coding K V) (items : List (K × V)) (n : ℕ) (B : List ℕ) : Type 0 where
+  pub item : K × V
+  pub at : slice_get items n ≡ Some item
+  pub framed : IsFramed c B item.0 item.1 (Err Full) B
 
 pub record IsFreshFilled {K V : Type 0} (c : Coding K V) (percent : ℕ) (items : List (K × V)) (B : List ℕ) : Type 0 where
   pub start : Table

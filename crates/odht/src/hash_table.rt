@@ -10,7 +10,7 @@ ghost use Rattle.odht_base.specs.Search.{groups_read};
 ghost use Rattle.odht_base.specs.Shown.{stated_count, stated_slots, entries_of, controls_of, seen, HoldsKey};
 ghost use Rattle.odht_base.specs.Valid.{IsImage, IsPartsOf, IsValidBytes};
 ghost use Rattle.odht_raw.specs.Coding.{value_for, HasStored};
-ghost use Rattle.odht.specs.Lists.{encoded_all, IsFilled, IsFramedRun, IsRefusedAt};
+ghost use Rattle.odht.specs.Lists.{encoded_all, IsFilled, IsFramedRun, IsRefusedAt, IsStoppedAt};
 ghost use Rattle.odht.specs.Inserts.{IsFresh, IsInserted};
 ghost use Rattle.odht_raw.specs.Frame.{IsAccepted, IsFramed};
 ghost use Rattle.odht_raw.specs.Walks.{decoded_all};
@@ -335,7 +335,8 @@ impl<C: Config, D: ByteStoreMut> HashTable<C, D> {
 
     /// Inserts the items in their order, and stops at the first that is refused. Answers how many were accepted, and `Full`
     /// where there was a refusal: the table is then as the accepted ones left it, on valid bytes at its maximum, and the
-    /// key of the refused item is absent. On any bytes each accepted item changes no more than `insert` may.
+    /// key of the refused item is absent. On any bytes each accepted item changes no more than `insert` may, and the item
+    /// that is refused is one that `insert` may refuse.
     pub fn insert_all(&mut self, items: &[(C::Key, C::Value)]) -> (usize, Result<(), Error>)
         ensures bound { result.0 ≤ length items.now }
         ensures all { IsOk result.1 ↔ (result.0 ≡ length items.now) }
@@ -351,6 +352,8 @@ impl<C: Config, D: ByteStoreMut> HashTable<C, D> {
             in (P : Table)
             → IsImage c.format P (D.bytes self.new)
             → OnErr result.1 (IsRefusedAt c P items.now result.0) }
+        ensures stopped { let c = ⟦<C as Coded>⟧.coding
+            in OnErr result.1 (IsStoppedAt c items.now result.0 (D.bytes self.new)) }
         ensures only_full { OnErr result.1 (result.1 ≡ Err Error.Full) }
     {
         // Header and length fit, in a table of no items too.

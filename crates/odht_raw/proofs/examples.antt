@@ -27,3 +27,5 @@ pub mod LentInserts
 pub mod PartsFrames
 -- how large a new table is, and which keys bytes hold
 pub mod Layouts
+-- the items of slots
+pub mod WalkedSlots

@@ -31,3 +31,5 @@ pub mod Walks
 pub mod Dumps
 -- the parts of a table which can be written
 pub mod LentParts
+-- the slots that wait while an order of inserts is looked for
+pub mod Waiting

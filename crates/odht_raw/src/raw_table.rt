@@ -24,6 +24,7 @@ mod check;
 mod dump;
 mod entries;
 mod group_search;
+mod insert_order;
 mod outcome;
 mod plain;
 mod probe_seq;

@@ -1,5 +1,5 @@
 -- Worked examples: lists of items that are inserted in turn.
-use Rattle.std.proofs.Common.{◌≡◌, ◌∙◌, ℕ, Bool, true, false, refl, sym, ap, arith, List, [], ◌∷◌, Option, Some, None, option_map, if◌then◌else◌, bytes_eq, lit≤, replicate, ◌++◌}
+use Rattle.std.proofs.Common.{◌≡◌, ◌∙◌, ℕ, Bool, true, false, refl, sym, ap, arith, List, [], ◌∷◌, Option, Some, None, Result, Ok, Err, option_map, lit<, if◌then◌else◌, bytes_eq, lit≤, replicate, ◌++◌}
 use Rattle.std.specs.Option.{option_or}
 use Rattle.std.proofs.lemmas.Option.{none-some}
 use Rattle.odht_base.specs.Insert.{put_owned, run}
@@ -7,11 +7,18 @@ use Rattle.odht_base.specs.Image.{image}
 use Rattle.odht_base.specs.Load.{factor_of}
 use Rattle.odht_base.specs.Map.{map_of}
 use Rattle.odht_base.specs.Numbers.{le_bytes}
+use Rattle.odht_base.specs.Shown.{controls_of}
 use Rattle.odht_base.specs.Table.{Pair, Table, empty, slot_count}
 use Rattle.odht_base.proofs.lemmas.Options.{some_same}
 use Rattle.odht_base.proofs.examples.Configs.{my_config, direct_config, pair64, pair32}
+use Rattle.odht_raw.proofs.examples.FrameRefusals.{free_slot_refused}
 use Rattle.odht_raw.proofs.examples.Opened.{opened}
-use Rattle.odht.specs.Lists.{encoded_all, HasSizeOf, IsFilled, IsRefusedAt, IsFreshFilled}
+use Rattle.odht_raw.specs.Coding.{encoded}
+use Rattle.odht_raw.specs.Frame.{InsertFrame}
+use Rattle.odht_raw.specs.declared.error.Error.{Error}
+use Rattle.odht_raw.specs.declared.error.Error.TheVariants.{Full}
+use Rattle.std.specs.Result.{result_map_both}
+use Rattle.odht.specs.Lists.{encoded_all, HasSizeOf, IsFilled, IsRefusedAt, IsStoppedAt, IsFreshFilled}
 use Rattle.odht_raw.proofs.examples.Apart.{unequal_lists, some_unequal_lists}
 use Rattle.odht.proofs.examples.SmallTables.{number_coding, no_pairs, one_pair, other_pair, full_of_none, one_of_32, bytes_of, one_pair_image, one_of_32_image}
 
@@ -125,6 +132,33 @@ no_item h = none-some _ h.at
 -- a table with room
 pub with_room : IsRefusedAt number_coding (one_pair 2) ((1, 5) ∷ (3, 4) ∷ []) 1 → ⊥
 with_room h = omega (arith, h.full.0)
+
+-- ---- refusals on any bytes
+-- at the maximum an insert may be refused, as far as the bytes tell
+pub stopped_item : IsStoppedAt number_coding ((1, 5) ∷ (3, 4) ∷ []) 1 (bytes_of (one_of_32 6 2))
+unfolding opened
+stopped_item = record { item = (3, 4); at = refl; framed = (Err Full, refl, InsertFrame.full (lit≤ tt)) }
+
+-- no such item
+pub stopped_behind : IsStoppedAt number_coding ((1, 5) ∷ []) 1 (bytes_of (one_of_32 6 2)) → ⊥
+stopped_behind h = none-some _ h.at
+
+-- below the maximum, with a free slot
+roomy : (p : Pair) (a : Result (Option (List ℕ)) Error) (D : List ℕ) → InsertFrame my_config (bytes_of no_pairs) p a D → (e : Error) → a ≡ Err e → ⊥
+unfolding opened
+roomy p a D (InsertFrame.full full) e is = omega (arith, full)
+roomy p a D (InsertFrame.no_slot none) e is =
+    free_slot_refused (controls_of my_config (bytes_of no_pairs)) 0 refl refl (none 0 (lit< tt))
+roomy p a D (InsertFrame.overwrote i low same) e is = absurd cc
+roomy p a D (InsertFrame.added i low free room) e is = absurd cc
+
+pub stopped_with_room : IsStoppedAt number_coding ((1, 5) ∷ []) 0 (bytes_of no_pairs) → ⊥
+stopped_with_room h = go h.framed.0 h.framed.1 h.framed.2
+  where
+    go : (a : Result (Option (List ℕ)) Error) → Err Full ≡ result_map_both (option_map number_coding.value_of) (λ e. e) a
+        → InsertFrame my_config (bytes_of no_pairs) (encoded number_coding h.item.0 h.item.1) a (bytes_of no_pairs) → ⊥
+    go (Err e) same frame = roomy _ (Err e) _ frame e refl
+    go (Ok o) same frame = absurd cc
 
 -- ---- fillings of a fresh table
 -- one item in sixteen slots

@@ -1,5 +1,5 @@
 -- Inserts in turn: one more pair.
-use Rattle.std.proofs.Common.{◌≡◌, ◌<◌, ◌≤◌, ◌+◌, ◌∙◌, ◌++◌, ℕ, Bool, true, false, cond, sym, ap, refl, List, [], ◌∷◌, Option, Some, None, Ok, subst, take, length, bytes_eq, get_or, arith, length-append}
+use Rattle.std.proofs.Common.{◌≡◌, ◌<◌, ◌≤◌, ◌+◌, ◌∙◌, ◌++◌, ℕ, Bool, true, false, cond, sym, ap, refl, List, [], ◌∷◌, Option, Some, None, Result, Ok, Err, subst, take, length, bytes_eq, get_or, arith, length-append}
 use Rattle.std.proofs.lemmas.List.{take_more, map-append, length-map}
 use Rattle.std.proofs.lemmas.Option.{slice_get-get_or}
 use Rattle.std.specs.Prelude.{option_and_then}
@@ -16,7 +16,9 @@ use Rattle.odht_base.proofs.lemmas.Rooms.{fresh-slots, slot_count-empty, count-e
 use Rattle.odht_base.proofs.lemmas.Runs.{IsInsert, run-push, last-append, last-cons}
 use Rattle.odht_raw.specs.Coding.{Coding, encoded}
 use Rattle.odht_raw.specs.Frame.{IsFramed}
-use Rattle.odht.specs.Lists.{encoded_all, HasSizeOf, IsFilled, IsFramedRun, IsFreshFilled, IsRefusedAt}
+use Rattle.odht_raw.specs.declared.error.Error.{Error}
+use Rattle.odht_raw.specs.declared.error.Error.TheVariants.{Full}
+use Rattle.odht.specs.Lists.{encoded_all, HasSizeOf, IsFilled, IsFramedRun, IsFreshFilled, IsRefusedAt, IsStoppedAt}
 
 -- no pairs leave the table as it is
 pub filled_none : (F : Format) (put : Table → Pair → Option Table) (P : Table) (B : List ℕ) → IsImage F P B → IsFilled F put P [] B
@@ -69,6 +71,15 @@ framed_more {K = K} {V = V} c B C D items n item low at o before here =
 pub refused_at : {K V : Type 0} (c : Coding K V) (P : Table) (items : List (K × V)) (n : ℕ) (item : K × V) → n < length items → get_or items n item ≡ item
     → IsFullFor P (c.key_bytes item.0) → IsRefusedAt c P items n
 refused_at c P items n item low at full = record { item = item; at = slice_get-get_or items n item low ∙ ap (λ x. Some x) at; full = full }
+
+-- the item that an insert refused, on any bytes
+pub stopped_at : {K V : Type 0} (c : Coding K V) (B C : List ℕ) (items : List (K × V)) (n : ℕ) (item : K × V) → n < length items → get_or items n item ≡ item
+    → C ≡ B → (r : Result (Option V) Error) → r ≡ Err Full → IsFramed c B item.0 item.1 r C → IsStoppedAt c items n C
+stopped_at c B C items n item low at same r full frame = record {
+  item = item;
+  at = slice_get-get_or items n item low ∙ ap (λ x. Some x) at;
+  framed = subst (λ b. IsFramed c b item.0 item.1 (Err Full) C) (sym same) (subst (λ a. IsFramed c B item.0 item.1 a C) full frame);
+}
 
 -- the fresh table for as many items as are put into it never grows
 pub fresh_filled : {K V : Type 0} (c : Coding K V) (percent : ℕ) (items : List (K × V)) (B : List ℕ) (P : Table) → fresh (length items) percent ≡ Some P

@@ -19,7 +19,7 @@ use Rattle.odht_raw.proofs.examples.Invalid.{all_filled}
 
 -- ---- Full
 -- a free slot whose mirror is free too does not count as filled
-free_slot_refused : (ctrl : List ℕ) (i : ℕ) → counts_as_free (slice_index ctrl i) ≡ true
+pub free_slot_refused : (ctrl : List ℕ) (i : ℕ) → counts_as_free (slice_index ctrl i) ≡ true
     → counts_as_free (slice_index ctrl (length ctrl - 16 + i)) ≡ true → CountsAsFilled ctrl i → ⊥
 free_slot_refused ctrl i own mirror (inl e) = true≢false (sym own ∙ e)
 free_slot_refused ctrl i own mirror (inr (low, e)) = true≢false (sym mirror ∙ e)

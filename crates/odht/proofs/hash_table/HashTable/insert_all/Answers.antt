@@ -9,7 +9,7 @@ use Rattle.odht_base.proofs.lemmas.Puts.{put_view-IsInsert}
 use Rattle.odht_raw.specs.Coding.{Coding, coding_of}
 use Rattle.odht_raw.specs.Frame.{IsFramed}
 use Rattle.odht.specs.Lists.{encoded_all, IsFilled, IsFramedRun}
-use Rattle.odht.proofs.lemmas.Fillings.{filled_none, filled_more, framed_more, encoded_all-more, refused_at}
+use Rattle.odht.proofs.lemmas.Fillings.{filled_none, filled_more, framed_more, encoded_all-more, refused_at, stopped_at}
 use Rattle.odht.proofs.lemmas.ViewInserts.{held_twice}
 use Rattle.odht.proofs.hash_table.HashTable.insert_all.Given.{Over}
 use Rattle.odht.proofs.hash_table.HashTable.insert_all.Goals as goal
@@ -81,6 +81,11 @@ returns-in-Err-clause-at_maximum g c P is =
     record { valid = is.valid; bytes = ap g.D.ByteStore.bytes (sym c.in-Err.ensures.refused) ∙ is.bytes } in
     refused_at (coding g) P c.args.items.now c.loop-accepted.accepted c.index-items-accepted.result c.loop-accepted-test.true
     (sym c.index-items-accepted.is) ((c.in-Err.ensures.full P before).0 c.in-Err.ensures.only_full)
+
+pub returns-in-Err-clause-stopped : goal.returns-in-Err-clause-stopped
+returns-in-Err-clause-stopped g c =
+    stopped_at (coding g) _ _ c.args.items.now c.loop-accepted.accepted c.index-items-accepted.result c.loop-accepted-test.true
+    (sym c.index-items-accepted.is) (ap g.D.ByteStore.bytes c.in-Err.ensures.refused) _ c.in-Err.ensures.only_full c.in-Err.ensures.frame
 
 pub returns-clause-filled : goal.returns-clause-filled
 returns-clause-filled g c P is =

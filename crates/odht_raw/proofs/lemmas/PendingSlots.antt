@@ -1,0 +1,104 @@
+-- The search for an insert order from its start, where all slots wait, to its end.
+use Rattle.std.proofs.Common.{◌≡◌, ◌<◌, ◌≤◌, ◌+◌, ◌-◌, ◌^◌, ◌∙◌, ◌++◌, ℕ, suc, sym, ap, subst, refl, List, [], ◌∷◌, length, map, take, drop, get_or, arith, All, AllPairs, IsPermutation, is_some}
+use Rattle.std.specs.List.{range_with_len}
+use Rattle.std.proofs.lemmas.List.{append-nil, append_assoc, get_or-map, length-map, take_all, take_at, drop_all, drop_at, length-drop, take-append-drop, length-take-le, length-append}
+use Rattle.std.proofs.lemmas.List.Elements.{Contains-get_or}
+use Rattle.std.proofs.lemmas.List.FromFn.{length-range_with_len, get_or-range_with_len}
+use Rattle.std.proofs.lemmas.List.Kept.{AllPairs-filter}
+use Rattle.std.proofs.lemmas.List.Sorted.{IsPermutation-refl}
+use borrow.Rule.Slice.PartMut.{put_mid}
+use Rattle.odht_base.specs.Format.{Format}
+use Rattle.odht_base.specs.Made.{filled, IsMade, IsInsertOrder}
+use Rattle.odht_base.specs.Ready.{IsSoFar, IsStuck}
+use Rattle.odht_base.specs.Table.{Table, slot_count, cell_at}
+use Rattle.odht_base.proofs.lemmas.Filled.{filled-Contains}
+use Rattle.odht_base.proofs.lemmas.InsertOrders.{order_if_all}
+use Rattle.odht_base.proofs.lemmas.Keys.{cell_at-within}
+use Rattle.odht_base.proofs.lemmas.MadeTables.{not_made_if_fewer}
+use Rattle.odht_base.proofs.lemmas.SoFar.{so_far_none}
+use Rattle.odht_raw.specs.Parts.{TableParts}
+use Rattle.odht_raw.specs.Waiting.{waiting, slot_of, placed_of, IsWaiting, IsPending, AreWholeParts}
+use Rattle.odht_raw.proofs.lemmas.PlacedFirst.{none_placed}
+
+-- ---- the start
+module _ (P : Table) (small : slot_count P ≤ 2 ^ 63) where
+  -- a filled slot is one of the table
+  filled-lt : (k : ℕ) → k < length (filled P) → get_or (filled P) k 0 < slot_count P
+  filled-lt k l =
+      let h = (filled-Contains P (get_or (filled P) k 0)).0 (Contains-get_or (filled P) k 0 l) in
+      cell_at-within P.cells (get_or (filled P) k 0) h.0 h.1
+
+  -- so each is listed as one that waits
+  pub all_wait : All (IsWaiting (slot_count P)) (map waiting (filled P))
+  all_wait k d l =
+      let low : k < length (filled P) = omega (arith, l, length-map (filled P) waiting) in
+      let is : get_or (map waiting (filled P)) k d ≡ waiting (get_or (filled P) k 0) = get_or-map waiting (filled P) k 0 d low in
+      (omega (arith, is), omega (arith, is, filled-lt k low))
+
+  -- and its slot is itself
+  same_slots : (xs : List ℕ) → ((k : ℕ) → k < length xs → get_or xs k 0 < 2 ^ 63) → map slot_of (map waiting xs) ≡ xs
+  same_slots [] low = refl
+  same_slots (x ∷ xs) low =
+      let here : slot_of (waiting x) ≡ x = omega (arith, low 0 (omega arith)) in
+      (λ i. here i ∷ same_slots xs (λ k l. low (suc k) (omega (arith, l))) i)
+
+  slots_are : map slot_of (map waiting (filled P)) ≡ filled P
+  slots_are = same_slots (filled P) (λ k l. omega (arith, filled-lt k l, small))
+
+  -- the filled slots rise
+  filled_rise : AllPairs ◌<◌ (filled P)
+  filled_rise = AllPairs-filter ◌<◌ (λ i. is_some (cell_at P.cells i)) (range_with_len 0 (slot_count P)) (λ i j d lt l.
+      let n = length-range_with_len 0 (slot_count P) in
+      omega (arith, lt, l, get_or-range_with_len 0 (slot_count P) i d (omega arith), get_or-range_with_len 0 (slot_count P) j d (omega arith)))
+
+  -- all of them are pending
+  pub all_pending : (F : Format) → IsPending F P [] (map waiting (filled P))
+  all_pending F = record {
+    listed = subst (λ xs. IsPermutation (filled P) xs) (sym slots_are) (IsPermutation-refl (filled P));
+    rising = subst (AllPairs ◌<◌) (sym slots_are) filled_rise;
+    so_far = subst (IsSoFar F P) (sym (none_placed (map waiting (filled P)) (λ k d l. (all_wait k d l).0))) (so_far_none F P);
+  }
+
+-- ---- a pass over the end of a list
+module _ (xs ys : List ℕ) (a : ℕ) (low : a ≤ length xs) where
+  -- the list with ys for its end from a on
+  ended : put_mid a (length xs - a) xs ys ≡ take a xs ++ ys
+  ended =
+      let none : drop (length xs - a) (drop a xs) ≡ [] = drop_all (length xs - a) (drop a xs) (omega (arith, length-drop a xs)) in
+      ap (λ zs. take a xs ++ (ys ++ zs)) none ∙ ap (λ zs. take a xs ++ zs) (append-nil ys)
+
+  front : length (take a xs) ≡ a
+  front = length-take-le a xs low
+
+  -- it is as long as both
+  pub ended-length : length (put_mid a (length xs - a) xs ys) ≡ a + length ys
+  ended-length = omega (arith, ap length ended, length-append (take a xs) ys, front)
+
+  module _ (n : ℕ) (few : n ≤ length ys) where
+    -- the first n of that end are after the front
+    parted : put_mid a (length xs - a) xs ys ≡ (take a xs ++ take n ys) ++ drop n ys
+    parted = ended ∙ ap (λ zs. take a xs ++ zs) (sym (take-append-drop n ys)) ∙ sym (append_assoc (take a xs) (take n ys) (drop n ys))
+
+    so_long : length (take a xs ++ take n ys) ≡ a + n
+    so_long = omega (arith, length-append (take a xs) (take n ys), front, length-take-le n ys few)
+
+    pub ended-take : take (a + n) (put_mid a (length xs - a) xs ys) ≡ take a xs ++ take n ys
+    ended-take = ap (take (a + n)) parted ∙ take_at (take a xs ++ take n ys) (drop n ys) (a + n) so_long
+
+    -- and the others behind them
+    pub ended-drop : drop (a + n) (put_mid a (length xs - a) xs ys) ≡ drop n ys
+    ended-drop = ap (drop (a + n)) parted ∙ drop_at (take a xs ++ take n ys) (drop n ys) (a + n) so_long
+
+-- ---- the end
+module _ (F : Format) (P : Table) (T : TableParts) (out : List ℕ) (n : ℕ) (counted : length out ≡ n) (whole : AreWholeParts F P T n) where
+  -- none waits any more: an insert order
+  pub order_found : (a : ℕ) → length out ≤ a → IsPending F P (take a out) (drop a out) → IsInsertOrder F P out
+  order_found a all h = order_if_all F P whole.parts.placed out (so_far a all h) (counted ∙ whole.counted)
+    where
+      so_far : (a : ℕ) → length out ≤ a → IsPending F P (take a out) (drop a out) → IsSoFar F P out
+      so_far a all h =
+          subst (IsSoFar F P) (ap (λ ns. take a out ++ placed_of ns) (drop_all a out all) ∙ append-nil (take a out) ∙ take_all a out all) h.so_far
+
+  -- stuck with slots that wait: no inserts make it
+  pub order_missing : (a : ℕ) → a < length out → IsStuck F P (take a out) → IsMade F P → ⊥
+  order_missing a few stuck = not_made_if_fewer F P whole.valid (take a out) stuck (omega (arith, few, length-take-le a out (omega (arith, few)), counted, whole.counted))

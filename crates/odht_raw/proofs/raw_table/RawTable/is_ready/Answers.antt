@@ -1,0 +1,117 @@
+use Rattle.std.proofs.Common.{◌≡◌, ◌∙◌, ◌+◌, ◌%◌, ◌<◌, ◌^◌, ℕ, true≢false, length, sym, ap, subst, arith, refl, inl, inr, Contains, All}
+use Rattle.std.proofs.lemmas.Bool.{cases_lt}
+use Rattle.std.proofs.lemmas.List.{get_or_default}
+use Rattle.odht_base.specs.Format.{Format, IsFormat, format_of}
+use Rattle.odht_base.specs.Load.{IsSlotCount}
+use Rattle.odht_base.specs.Probe.{place_slot}
+use Rattle.odht_base.specs.Shown.{slot_key}
+use Rattle.odht_base.proofs.lemmas.SlotCounts.{slots-le}
+use Rattle.odht_raw.specs.Parts.{TableParts}
+use Rattle.odht_raw.specs.Waiting.{waiting}
+use Rattle.odht_raw.proofs.lemmas.Formats.{IsFormat-format_of}
+use Rattle.odht_raw.proofs.lemmas.ReadyPlaces.{ready_seen, waiting_seen, nowhere_seen}
+use Rattle.odht_raw.proofs.raw_table.RawTable.is_ready.Given.{Over}
+use Rattle.odht_raw.proofs.raw_table.RawTable.is_ready.Goals.{After-index, then-is_waiting-via-then-is_waiting, then-is_waiting-via-else-is_waiting+then-is_last}
+use Rattle.odht_raw.proofs.raw_table.RawTable.is_ready.Goals as goal
+
+abbrev format : Over → Format
+format g = format_of g.K.ByteArray.LEN g.V.ByteArray.LEN g.H.HashFn.hash
+
+-- what holds at each place
+module _ (g : Over) (c : After-index g) where
+  abbrev s : ℕ
+  s = c.args.self.now.entries.slots
+
+  count : IsSlotCount s
+  count = subst (λ (t : TableParts). IsSlotCount t.entries.slots) c.self.view_is c.self.invariant.slots
+
+  mirrored : length c.args.self.now.control ≡ s + 16
+  mirrored = subst (λ (t : TableParts). length t.control ≡ t.entries.slots + 16) c.self.view_is c.self.invariant.mirrored
+
+  fits : IsFormat (format g)
+  fits =
+      let v = c.self.invariant in
+      IsFormat-format_of _ _ _ _ v.fitting.key_short v.fitting.value_short v.hashes g.met.H.HashFn.fits
+
+  -- the listed numbers fit
+  small : All (λ n. n < 2 ^ 64) c.args.slots.now
+  small k d l = omega (arith, c.type_inv.slots k, get_or_default c.args.slots.now k d 0 l)
+
+  -- the slot at a place of the order of the key
+  abbrev seen : ℕ → ℕ
+  seen q = place_slot ((format g).hash (slot_key (format g) c.args.self.now.entries.bytes c.args.slot) % s) s q
+
+  -- the probe's slot is that of its place
+  slot_is : c.index.result ≡ seen c.loop-probe.probe.place
+  slot_is = c.index.ensures.slot ∙ (λ i. place_slot (c.loop-probe.invariant.home i) (c.loop-probe.invariant.mask i) c.loop-probe.probe.place)
+
+pub returns-then-is_waiting : goal.returns-then-is_waiting
+returns-then-is_waiting g c P done p parts h holds =
+    let at = (goal.at.returns-then-is_waiting g c).After-index in
+    let v = c.loop-probe.invariant in
+    let F = format g in
+    let n = c.loop-probe.probe.place in
+    let es = c.args.self.now.entries.bytes in
+    let ctrl = c.args.self.now.control in
+    let ns = c.args.slots.now in
+    let here = c.index-in-loop-probe.ensures.slot ∙ (λ i. place_slot (v.home i) (v.mask i) n) in (
+      λ t. absurd (true≢false (sym t)),
+      λ r. absurd (elim c.then-is_waiting.branch [
+        | then-is_waiting-via-then-is_waiting w ↦
+            waiting_seen F (fits g at) P es ctrl parts (s g at) (mirrored g at) done ns h (small g at) c.args.slot p holds
+            n v.others v.passed (λ e. c.loop-probe-test.true (slot_is g at ∙ e))
+            (λ rising. subst (λ j. Contains ns (waiting j)) here ((c.is_waiting.ensures rising).0 w.if-is_waiting.true))
+            (omega (arith, here, c.index-in-loop-probe.ensures.below, v.mask, slots-le (s g at) (count g at))) r
+        | then-is_waiting-via-else-is_waiting+then-is_last w ↦
+            let last = w.is_last.ensures.0 w.if-is_last.true in
+            nowhere_seen F (fits g at) P es ctrl parts (s g at) (mirrored g at) done ns h (small g at) c.args.slot p holds
+            (n + 1)
+            (λ q l e. elim (cases_lt q n) [
+              | inl before ↦ v.others q before e
+              | inr now ↦ let same : n ≡ q = omega (arith, now, l) in c.loop-probe-test.true (slot_is g at ∙ ap (seen g at) same ∙ e)
+            ])
+            (λ rising q l x. elim (cases_lt q n) [
+              | inl before ↦ v.passed rising q before x
+              | inr now ↦
+                  let same : q ≡ n = omega (arith, now, l) in
+                  true≢false (sym ((c.is_waiting.ensures rising).1 (subst (λ j. Contains ns (waiting j)) (ap (seen g at) same ∙ sym here) x)) ∙ w.if-is_waiting.false)
+            ])
+            (omega (arith, last, v.mask)) r
+      ]),
+    )
+
+pub loop-probe-preserved : goal.loop-probe-preserved
+loop-probe-preserved g c =
+    let at = (goal.at.loop-probe-preserved g c).After-index in
+    let v = c.loop-probe.invariant in
+    let place : c.advance.new.self.place ≡ c.loop-probe.probe.place + 1 = ap (λ q. q.place) c.advance.ensures in
+    let here = c.index-in-loop-probe.ensures.slot ∙ (λ i. place_slot (v.home i) (v.mask i) c.loop-probe.probe.place) in
+    record {
+      home = ap (λ q. q.home) c.advance.ensures ∙ v.home;
+      mask = ap (λ q. q.mask + 1) c.advance.ensures ∙ v.mask;
+      within = elim (cases_lt (c.loop-probe.probe.place + 1) (s g at)) [
+        | inl low ↦ omega (arith, place, low)
+        | inr past ↦ absurd (true≢false (sym (c.is_last.ensures.1 (omega (arith, past, v.mask))) ∙ c.if-is_last.false))
+      ];
+      others = λ q l e. elim (cases_lt q c.loop-probe.probe.place) [
+        | inl before ↦ v.others q before e
+        | inr now ↦
+            let same : c.loop-probe.probe.place ≡ q = omega (arith, now, l, place) in
+            c.loop-probe-test.true (slot_is g at ∙ ap (seen g at) same ∙ e)
+      ];
+      passed = λ rising q l w. elim (cases_lt q c.loop-probe.probe.place) [
+        | inl before ↦ v.passed rising q before w
+        | inr now ↦
+            let same : q ≡ c.loop-probe.probe.place = omega (arith, now, l, place) in
+            true≢false (sym ((c.is_waiting.ensures rising).1 (subst (λ j. Contains c.args.slots.now (waiting j)) (ap (seen g at) same ∙ sym here) w)) ∙ c.if-is_waiting.false)
+      ];
+    }
+
+pub returns : goal.returns
+returns g c P done p parts h holds =
+    let at = (goal.at.returns g c).After-index in
+    let v = c.loop-probe.invariant in (
+      λ t. ready_seen (format g) (fits g at) P c.args.self.now.entries.bytes c.args.self.now.control parts (s g at) (mirrored g at) done c.args.slots.now h (small g at) c.args.slot p holds
+          c.loop-probe.probe.place v.others v.passed v.within (sym (slot_is g at) ∙ c.loop-probe-test.false),
+      λ r. refl,
+    )

@@ -1,0 +1,23 @@
+use Rattle.std.proofs.Common.{◌≡◌, ◌<◌, ◌+◌, ◌-◌, ◌%◌, ℕ, Contains}
+use Rattle.odht_base.specs.Format.{format_of}
+use Rattle.odht_base.specs.Probe.{place_slot}
+use Rattle.odht_base.specs.Shown.{slot_key}
+use Rattle.odht_raw.specs.Waiting.{waiting, AreRising}
+use Rattle.odht_raw.proofs.raw_table.RawTable.is_ready.Given as goal
+
+-- the probe stands at a place of the key's order, and before it stood neither the slot nor one that waits
+abbrev pub invariant-loop-probe : goal.invariant-loop-probe
+invariant-loop-probe g l =
+    let F = format_of g.K.ByteArray.LEN g.V.ByteArray.LEN g.H.HashFn.hash in
+    let s = l.fn.self.entries.slots in
+    let b = F.hash (slot_key F l.fn.self.entries.bytes l.fn.slot) % s in
+    record {
+      home : l.probe.home ≡ b;
+      mask : l.probe.mask + 1 ≡ s;
+      within : l.probe.place < s;
+      others : (q : ℕ) → q < l.probe.place → place_slot b s q ≡ l.fn.slot → ⊥;
+      passed : AreRising l.fn.slots → (q : ℕ) → q < l.probe.place → Contains l.fn.slots (waiting (place_slot b s q)) → ⊥;
+    }
+
+abbrev pub decreases-loop-probe : goal.decreases-loop-probe
+decreases-loop-probe g l = l.fn.self.entries.slots - l.probe.place

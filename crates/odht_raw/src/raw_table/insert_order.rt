@@ -1,0 +1,133 @@
+//! An order of inserts that makes a table, found in the place that it is written to.
+ghost use Rattle.std.specs.Prelude.{◌≡◌, ◌≤◌, ◌<◌, ◌+◌, ◌^◌, ◌↔◌, ℕ, List, ◌++◌, slice_index, length, map, take, drop, IsTrue, All, Contains};
+ghost use Rattle.odht_base.specs.Format.{format_of};
+ghost use Rattle.odht_base.specs.Made.{filled, IsMade, IsInsertOrder};
+ghost use Rattle.odht_base.specs.Ready.{IsReady, IsStuck};
+ghost use Rattle.odht_base.specs.Shown.{counts_as_free};
+ghost use Rattle.odht_base.specs.Table.{Table, Pair, count, slot_count as slots_of, is_free};
+ghost use Rattle.odht_base.specs.Valid.{HoldsPair, IsPartsOf};
+ghost use Rattle.odht_raw.specs.Waiting.{waiting, placed_of, IsWaiting, AreRising, IsPending, AreWholeParts};
+
+use super::{EntryMetadata, ProbeSeq, RawTable, is_empty_or_deleted};
+use crate::bytes::ByteArray;
+use crate::hash::HashFn;
+
+// What is added to a slot that waits to be placed. No slot is as large.
+const WAITING: usize = 1 << 63;
+
+impl<'a, K: ByteArray, V: ByteArray, H: HashFn> RawTable<'a, K, V, H> {
+    /// Whether inserts can make the table, and an order of its filled slots in which they do: their pairs, inserted in this
+    /// order into an empty table of as many slots, leave this very table. Where no inserts make it, `out` holds numbers
+    /// that say nothing.
+    ///
+    /// The slots are gone through in their order, and each is placed as soon as all slots before it in the probe order of
+    /// its key are, until none waits, or none was placed. That takes one pass more than the longest chain of slots of
+    /// which each waits for one behind it. In a pass each waiting slot asks for the places before it, by a binary search
+    /// among those that wait. It takes no memory.
+    pub fn insert_order(&self, out: &mut [usize]) -> bool
+        requires whole { let F = format_of K.LEN V.LEN H.hash
+            in (P : Table) × AreWholeParts F P self.now (length out.old) }
+        ensures order { let F = format_of K.LEN V.LEN H.hash
+            in (P : Table)
+            → AreWholeParts F P self.now (length out.old)
+            → IsTrue result
+            → IsInsertOrder F P out.new }
+        ensures made { let F = format_of K.LEN V.LEN H.hash
+            in (P : Table)
+            → AreWholeParts F P self.now (length out.old)
+            → (IsTrue result ↔ IsMade F P) }
+    {
+        list_filled(self.control, self.entries.len(), out);
+        let mut placed = 0;
+        while placed < out.len() {
+            let ready = self.place_ready(&mut out[placed..]);
+            if ready == 0 {
+                return false;
+            }
+            placed += ready;
+        }
+        true
+    }
+
+    // Goes once through the slots that wait, and places each that is ready by then. Those come first in the end, in their
+    // order, and behind them the others. Answers how many were placed.
+    fn place_ready(&self, slots: &mut [usize]) -> usize
+        requires waiting { All (IsWaiting self.now.entries.slots) slots.old }
+        requires pending { let F = format_of K.LEN V.LEN H.hash
+            in (P : Table) × (done : List ℕ) × IsPartsOf F P self.now.entries.bytes self.now.control × IsPending F P done slots.old }
+        ensures few { result ≤ length slots.new }
+        ensures waiting { All (IsWaiting self.now.entries.slots) (drop result slots.new) }
+        ensures pending { let F = format_of K.LEN V.LEN H.hash
+            in (P : Table) (done : List ℕ)
+            → IsPartsOf F P self.now.entries.bytes self.now.control
+            → IsPending F P done slots.old
+            → IsPending F P (done ++ take result slots.new) (drop result slots.new) }
+        ensures stuck { let F = format_of K.LEN V.LEN H.hash
+            in (P : Table) (done : List ℕ)
+            → IsPartsOf F P self.now.entries.bytes self.now.control
+            → IsPending F P done slots.old
+            → result ≡ 0
+            → IsStuck F P done }
+    {
+        let mut placed = 0;
+        for at in 0..slots.len() {
+            let slot = slots[at] - WAITING;
+            if self.is_ready(slot, slots) {
+                slots[at] = slot;
+                placed += 1;
+            }
+        }
+        slots.sort_unstable();
+        placed
+    }
+
+    // Whether no slot before this one in the probe order of its key waits.
+    fn is_ready(&self, slot: usize, slots: &[usize]) -> bool
+        requires { slot < self.now.entries.slots }
+        ensures { let F = format_of K.LEN V.LEN H.hash
+            in (P : Table) (done : List ℕ) (p : Pair)
+            → IsPartsOf F P self.now.entries.bytes self.now.control
+            → IsPending F P done slots.now
+            → HoldsPair P slot p
+            → (IsTrue result ↔ IsReady F P (done ++ placed_of slots.now) slot) }
+    {
+        let key = self.entries.get(slot).key;
+        let mask = self.entries.len() - 1;
+        let mut probe = ProbeSeq::<1>::new(H::hash(key.as_slice()) as usize, mask);
+        while probe.index() != slot {
+            if is_waiting(probe.index(), slots) || probe.is_last() {
+                return false;
+            }
+            probe.advance(mask);
+        }
+        true
+    }
+}
+
+// Whether the slot is one that waits. The slots of the list rise.
+fn is_waiting(slot: usize, slots: &[usize]) -> bool
+    requires { slot < 2 ^ 63 }
+    ensures { AreRising slots.now → (IsTrue result ↔ Contains slots.now (waiting slot)) }
+{
+    let place = slots.partition_point(|listed| *listed % WAITING < slot);
+    slots.get(place) == Some(&(WAITING + slot))
+}
+
+// Lists the filled slots, as far as there is room, each as one that waits.
+fn list_filled(control: &[EntryMetadata], slot_count: usize, out: &mut [usize])
+    requires slots { slot_count ≤ 2 ^ 63 }
+    requires control { slot_count ≤ length control.now }
+    ensures { (P : Table)
+        → slots_of P ≡ slot_count
+        → ((i : ℕ) → i < slot_count → counts_as_free (slice_index control.now i) ≡ is_free P.cells i)
+        → length out.old ≡ count P
+        → out.new ≡ map waiting (filled P) }
+{
+    let mut filled = 0;
+    for slot in 0..slot_count {
+        if filled < out.len() && !is_empty_or_deleted(control[slot]) {
+            out[filled] = WAITING + slot;
+            filled += 1;
+        }
+    }
+}
