@@ -7,3 +7,5 @@ pub mod Inserts
 pub mod Fillings
 -- the last value of a key in a list of items
 pub mod LastValues
+-- items that make a table again
+pub mod Rebuilds

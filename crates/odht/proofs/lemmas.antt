@@ -9,3 +9,5 @@ pub mod Growths
 pub mod Fillings
 -- keys and values that their bytes decode to
 pub mod Kept
+-- inserts in an insert order make a table again
+pub mod Rebuilding

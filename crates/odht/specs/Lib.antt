@@ -5,3 +5,5 @@ pub mod Inserts
 pub mod Lists
 -- the last value of a key in a list of items
 pub mod LastValues
+-- making a table again by inserts
+pub mod Rebuilds

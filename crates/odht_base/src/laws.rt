@@ -1,17 +1,18 @@
 //! Laws of the definitions that no call carries by itself. Each function does nothing: its contract is the law.
 //!
 //! They are said for every format `F`: every pair of lengths up to 255 and every hash of 32 bits.
-ghost use Rattle.std.specs.Prelude.{◌≡◌, ℕ, ◌+◌, ◌*◌, ◌%◌, ◌<◌, ◌≤◌, ◌^◌, ◌++◌, List, length, All, Some, IsTrue, IsPermutation, bytes_eq, if◌then◌else◌};
+ghost use Rattle.std.specs.Prelude.{◌≡◌, ℕ, ◌+◌, ◌*◌, ◌%◌, ◌<◌, ◌≤◌, ◌^◌, ◌++◌, ◌↔◌, List, length, All, Some, IsTrue, IsPermutation, bytes_eq, if◌then◌else◌};
 ghost use Rattle.std.specs.List.{range_with_len};
 ghost use Rattle.odht_base.specs.Numbers.{num, le_bytes, IsBytes};
 ghost use Rattle.odht_base.specs.Load.{factor_of, IsSlotCount};
 ghost use Rattle.odht_base.specs.Format.{Format, IsFormat};
 ghost use Rattle.odht_base.specs.Probe.{place_slot, order};
-ghost use Rattle.odht_base.specs.Table.{Pair, Table, slot_count, is_free, walk, count, fresh};
+ghost use Rattle.odht_base.specs.Table.{Pair, Table, slot_count, is_free, walk, count, empty, fresh};
 ghost use Rattle.odht_base.specs.Map.{map_of, last, overwritten, KeysApart};
 ghost use Rattle.odht_base.specs.CountRule.{put_owned_by_count, put_view_by_count, NoneOverwritesFull};
 ghost use Rattle.odht_base.specs.Insert.{place, grown, run, put_owned, put_view};
 ghost use Rattle.odht_base.specs.Image.{image, image_len};
+ghost use Rattle.odht_base.specs.Made.{IsMade, IsInsertOrder, pairs_of};
 ghost use Rattle.odht_base.specs.Valid.{IsPairOf, IsPlaced, IsValid};
 ghost use Rattle.odht_base.specs.Shown.{shown};
 
@@ -89,4 +90,24 @@ pub fn rules_at_the_maximum_agree()
     ensures new_keys_view { (F : Format) (P : Table) (ps : List Pair)
         → IsValid F P → All (IsPairOf F) ps → KeysApart (walk P ++ ps)
         → run (put_view F) P ps ≡ run (put_view_by_count F) P ps }
+{}
+
+/// The valid tables that inserts make, growths included, are exactly those with an insert order. The pairs in such an order,
+/// inserted into an empty table of as many slots, give the table: by the owned table or a view, and by either rule at the
+/// maximum.
+pub fn insert_orders_make_tables()
+    ensures made { (F : Format) (P : Table)
+        → IsValid F P → (IsMade F P ↔ (order : List ℕ) × IsInsertOrder F P order) }
+    ensures owned { (F : Format) (P : Table) (order : List ℕ)
+        → IsValid F P → IsInsertOrder F P order
+        → run (put_owned F) (empty (slot_count P) P.factor) (pairs_of P order) ≡ Some P }
+    ensures view { (F : Format) (P : Table) (order : List ℕ)
+        → IsValid F P → IsInsertOrder F P order
+        → run (put_view F) (empty (slot_count P) P.factor) (pairs_of P order) ≡ Some P }
+    ensures owned_by_count { (F : Format) (P : Table) (order : List ℕ)
+        → IsValid F P → IsInsertOrder F P order
+        → run (put_owned_by_count F) (empty (slot_count P) P.factor) (pairs_of P order) ≡ Some P }
+    ensures view_by_count { (F : Format) (P : Table) (order : List ℕ)
+        → IsValid F P → IsInsertOrder F P order
+        → run (put_view_by_count F) (empty (slot_count P) P.factor) (pairs_of P order) ≡ Some P }
 {}

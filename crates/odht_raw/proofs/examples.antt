@@ -29,3 +29,5 @@ pub mod PartsFrames
 pub mod Layouts
 -- the items of slots
 pub mod WalkedSlots
+-- slots that wait while an order of inserts is looked for
+pub mod WaitingSlots

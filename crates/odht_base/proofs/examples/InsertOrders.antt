@@ -29,7 +29,7 @@ unfolding opened
 fresh_order = record { each_once = IsPermutation-refl []; gives = refl }
 
 -- 15 and then 31, with home 15 both: 15 stands in slot 15, and 31 in slot 0
-abbrev fifteen_first : Table
+abbrev pub fifteen_first : Table
 fifteen_first = record { factor = factor_of 87; cells = Some (pair32 31 31) ∷ replicate 14 None ++ Some (pair32 15 15) ∷ [] }
 
 -- that is what two inserts into a view give

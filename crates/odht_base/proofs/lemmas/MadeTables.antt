@@ -4,7 +4,7 @@ use Rattle.std.specs.List.{cons_option}
 use Rattle.std.proofs.lemmas.List.Sorted.{length_permutation}
 use Rattle.odht_base.specs.CountRule.{put_owned_by_count, put_view_by_count}
 use Rattle.odht_base.specs.Format.{Format}
-use Rattle.odht_base.specs.Insert.{put_owned, put_view}
+use Rattle.odht_base.specs.Insert.{run, put_owned, put_view}
 use Rattle.odht_base.specs.Load.{max_items}
 use Rattle.odht_base.specs.Made.{IsMadeBy, IsMade, IsInsertOrder, filled, pairs_of}
 use Rattle.odht_base.specs.Ready.{IsSoFar, IsStuck}
@@ -33,15 +33,20 @@ length-IsInsertOrder F P out o = length_permutation (filled P) out o.each_once �
 
 module _ (F : Format) (P : Table) (ok : IsValid F P) where
   -- ---- from an order to inserts
-  -- an empty table of as many slots takes the pairs of an insert order without growth or refusal
-  order-IsMadeBy : (put : Table → Pair → Option Table) → PlacesBelow F put → (out : List ℕ) → IsInsertOrder F P out → IsMadeBy F put P
-  order-IsMadeBy put places out o =
+  -- an empty table of as many slots takes the pairs of an insert order without growth or refusal, and is then the table
+  pub order-runs : (put : Table → Pair → Option Table) → PlacesBelow F put → (out : List ℕ) → IsInsertOrder F P out → run put (empty (slot_count P) P.factor) (pairs_of P out) ≡ Some P
+  order-runs put places out o =
       let s = slot_count P in
       let fit = pairs_of-IsPairOf F P out ok.placed.pairs in
       let most : max_items (slot_count (empty s P.factor)) P.factor ≡ max_items s P.factor = ap (λ n. max_items n P.factor) (slot_count-empty s P.factor) in
       let room : count (empty s P.factor) + length (pairs_of P out) ≤ max_items (slot_count (empty s P.factor)) P.factor =
       omega (arith, count-empty s P.factor, pairs_of-le P out, length-IsInsertOrder F P out o, ok.room, most) in
-      (s, pairs_of P out, ok.placed.slots, fit, run-place_all F put places (empty s P.factor) (pairs_of P out) (empty-IsValid s P.factor F ok.placed.slots ok.factor_low ok.factor_high) fit room ∙ o.gives)
+      run-place_all F put places (empty s P.factor) (pairs_of P out) (empty-IsValid s P.factor F ok.placed.slots ok.factor_low ok.factor_high) fit room ∙ o.gives
+
+  -- so these inserts make it
+  order-IsMadeBy : (put : Table → Pair → Option Table) → PlacesBelow F put → (out : List ℕ) → IsInsertOrder F P out → IsMadeBy F put P
+  order-IsMadeBy put places out o =
+      (slot_count P, pairs_of P out, ok.placed.slots, pairs_of-IsPairOf F P out ok.placed.pairs, order-runs put places out o)
 
   -- so a table with an insert order is made by each of the four inserts
   pub made_by_each : (out : List ℕ) → IsInsertOrder F P out → IsMadeBy F (put_owned F) P × IsMadeBy F (put_view F) P × IsMadeBy F (put_owned_by_count F) P × IsMadeBy F (put_view_by_count F) P

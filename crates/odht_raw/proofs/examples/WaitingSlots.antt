@@ -1,0 +1,106 @@
+-- Worked examples: slots that wait while an order of inserts is looked for, in the table with 15 in slot 15 and 31 in slot 0.
+use Rattle.std.proofs.Common.{◌≡◌, ◌<◌, ◌++◌, ℕ, refl, subst, arith, List, [], ◌∷◌, get_or, map, AllPairs, IsPermutation, lit<, lit≤}
+use Rattle.std.proofs.lemmas.List.Sorted.{IsPermutation-refl, IsPermutation-append_comm, length_permutation}
+use Rattle.odht_base.specs.Image.{entries, controls}
+use Rattle.odht_base.specs.Ready.{IsSoFar}
+use Rattle.odht_base.specs.Table.{Table}
+use Rattle.odht_base.specs.Valid.{IsValid}
+use Rattle.odht_base.proofs.examples.Configs.{direct_config}
+use Rattle.odht_base.proofs.examples.InsertOrders.{fifteen_first, fifteen_slots, fifteen_ready, fifteen_so_far, zero_so_far_refused}
+use Rattle.odht_base.proofs.lemmas.Placed.{IsPlaced-tests}
+use Rattle.odht_base.proofs.lemmas.SoFar.{so_far_none}
+use Rattle.odht_raw.specs.Parts.{TableParts}
+use Rattle.odht_raw.specs.Waiting.{waiting, slot_of, placed_of, IsWaiting, AreRising, IsPending, AreWholeParts}
+use Rattle.odht_raw.proofs.examples.Opened.{opened}
+
+-- ---- lists of slots
+-- how a slot that waits is listed, and which slots of a list do not wait
+pub as_listed : (waiting 5 ≡ 9223372036854775813) × (slot_of (waiting 5) ≡ 5) × (slot_of 5 ≡ 5) × (placed_of (3 ∷ waiting 5 ∷ 7 ∷ []) ≡ 3 ∷ 7 ∷ [])
+as_listed = (refl, refl, refl, refl)
+
+-- slot 15 of sixteen, as one that waits
+pub waits : IsWaiting 16 (waiting 15)
+waits = (lit≤ tt, lit< tt)
+
+-- a slot as one that is placed does not wait, and there is no slot 16
+pub others_refused : (IsWaiting 16 15 → ⊥) × (IsWaiting 16 (waiting 16) → ⊥)
+others_refused = (λ h. absurd (omega (arith, h.0)), λ h. absurd (omega (arith, h.1)))
+
+-- two numbers rise
+two_rise : (a b : ℕ) → a < b → AllPairs ◌<◌ (a ∷ b ∷ [])
+two_rise a b low i j d lt l =
+    let first : 0 ≡ i = omega (arith, lt, l) in
+    let second : 1 ≡ j = omega (arith, lt, l) in
+    subst (λ m. get_or (a ∷ b ∷ []) m d < get_or (a ∷ b ∷ []) j d) first (subst (λ m. a < get_or (a ∷ b ∷ []) m d) second low)
+
+-- slots rise, whether they wait or not
+pub rises : AreRising (3 ∷ waiting 5 ∷ [])
+rises = two_rise 3 5 (lit< tt)
+
+-- they do not where a later one is below, or the same
+pub falls_refused : (AreRising (5 ∷ waiting 3 ∷ []) → ⊥) × (AreRising (5 ∷ waiting 5 ∷ []) → ⊥)
+falls_refused = (λ h. omega (arith, h 0 1 0 (lit< tt) (lit< tt)), λ h. omega (arith, h 0 1 0 (lit< tt) (lit< tt)))
+
+-- ---- a search
+-- at its start both slots wait
+pub at_start : IsPending direct_config fifteen_first [] (waiting 0 ∷ waiting 15 ∷ [])
+unfolding opened
+at_start = record { listed = IsPermutation-refl (0 ∷ 15 ∷ []); rising = two_rise 0 15 (lit< tt); so_far = so_far_none direct_config fifteen_first }
+
+-- within the first pass slot 15 is placed, where it stands in the list
+pub within_pass : IsSoFar direct_config fifteen_first (15 ∷ []) → IsPending direct_config fifteen_first [] (waiting 0 ∷ 15 ∷ [])
+unfolding opened
+within_pass taken = record { listed = IsPermutation-refl (0 ∷ 15 ∷ []); rising = two_rise 0 15 (lit< tt); so_far = taken }
+
+-- behind it slot 0 alone is left
+pub behind_pass : IsSoFar direct_config fifteen_first (15 ∷ []) → IsPending direct_config fifteen_first (15 ∷ []) (waiting 0 ∷ [])
+unfolding opened
+behind_pass taken = record {
+  listed = IsPermutation-append_comm (0 ∷ []) (15 ∷ []);
+  rising = λ i j d lt l. absurd (omega (arith, lt, l));
+  so_far = taken;
+}
+
+-- in the end none is
+pub at_end : IsPending direct_config fifteen_first (15 ∷ 0 ∷ []) []
+unfolding opened
+at_end = record {
+  listed = IsPermutation-append_comm (0 ∷ []) (15 ∷ []);
+  rising = λ i j d lt l. absurd (omega (arith, l));
+  so_far = fifteen_so_far;
+}
+
+-- none is left out, they do not fall, and slot 0 is not placed first
+pub pending_refused : (IsPending direct_config fifteen_first [] (waiting 0 ∷ []) → ⊥)
+    × (IsPending direct_config fifteen_first [] (waiting 15 ∷ waiting 0 ∷ []) → ⊥)
+    × (IsPending direct_config fifteen_first (0 ∷ 15 ∷ []) [] → ⊥)
+unfolding opened
+pending_refused = (
+  λ h. omega (arith, length_permutation (0 ∷ 15 ∷ []) (0 ∷ []) h.listed),
+  λ h. omega (arith, h.rising 0 1 0 (lit< tt) (lit< tt)),
+  λ h. zero_so_far_refused h.so_far,
+)
+
+-- ---- parts
+-- the parts of the table
+abbrev parts : TableParts
+parts = record { control = controls direct_config fifteen_first.cells; entries = record { slots = 16; bytes = entries direct_config fifteen_first.cells } }
+
+-- it is valid
+fifteen_valid : IsValid direct_config fifteen_first
+unfolding opened
+fifteen_valid = record {
+  placed = IsPlaced-tests direct_config fifteen_first (record { power = refl; least = lit≤ tt }) refl refl;
+  factor_low = lit≤ tt;
+  factor_high = lit≤ tt;
+  room = lit≤ tt;
+}
+
+-- they are whole, with two pairs
+pub whole : AreWholeParts direct_config fifteen_first parts 2
+unfolding opened
+whole = record { valid = fifteen_valid; parts = record { placed = fifteen_valid.placed; entries_are = refl; controls_are = refl }; counted = refl }
+
+-- and not with one
+pub one_refused : AreWholeParts direct_config fifteen_first parts 1 → ⊥
+one_refused h = omega (arith, h.counted, fifteen_slots.2)
