@@ -1,4 +1,4 @@
--- Worked examples: what an insert through lent parts may not do, to any table.
+-- Worked examples: an insert through lent parts, and what it may not do, to any table.
 use Rattle.std.proofs.Common.{◌≡◌, ◌∙◌, ℕ, refl, Option, Some, None, Result, Ok, Err, sym, true, true≢false, ◌<◌}
 use Rattle.std.proofs.lemmas.Option.{none-some}
 use Rattle.std.specs.declared.cmp.PartialEq.{Ghosts as PartialEqOf}
@@ -8,6 +8,7 @@ use Rattle.odht_base.specs.declared.hash.HashFn.{Ghosts as HashFnOf}
 use Rattle.odht_base.specs.Insert.{place}
 use Rattle.odht_base.specs.Map.{map_of}
 use Rattle.odht_base.specs.Table.{Table, slot_count, is_free}
+use Rattle.odht_raw.specs.PartsInserts.{IsPlacing, IsChange}
 use Rattle.odht_raw.specs.LentParts.{mut_control, mut_entries, control_loan, entries_loan, table_format, IsParts, pair_of, IsLentInsert}
 use Rattle.odht_raw.specs.declared.error.Error.{Error}
 use Rattle.odht_raw.specs.declared.error.Error.TheVariants.{Full, TooShort}
@@ -18,6 +19,24 @@ module _ {K V H : Type 0} {key : ByteArrayOf K} {key_eq : PartialEqOf K} {key_de
     {hash : HashFnOf H} {hash_eq : PartialEqOf H}
     (t : RawTableMut K V H key key_eq key_debug value value_eq value_debug hash hash_eq) (k : K) (v : V)
     (t' : RawTableMut K V H key key_eq key_debug value value_eq value_debug hash hash_eq) where
+  -- what is an insert into the parts, of each table that they are of, is one through them, where both slices stay lent
+  pub of_its_parts : (r : Result (Option V) Error)
+      → ((P : Table) → IsParts P t → IsPlacing (table_format t) value.of_bytes P (pair_of t k v) r (mut_entries t') (mut_control t'))
+      → IsChange (table_format t) value.of_bytes (mut_entries t) (mut_control t) (pair_of t k v) r (mut_entries t') (mut_control t')
+      → control_loan t' ≡ control_loan t → entries_loan t' ≡ entries_loan t
+      → IsLentInsert t k v r t'
+  of_its_parts r placing change control entries = record {
+    ok = λ P is. (placing P is).ok;
+    full = λ P is. (placing P is).full;
+    no_room = λ P is. (placing P is).no_room;
+    frame = change.frame;
+    only_full = change.only_full;
+    refused_control = change.refused_control;
+    refused_entries = change.refused_entries;
+    control_loan = control;
+    entries_loan = entries;
+  }
+
   -- it answers no other error than Full
   pub other_error_refused : (n : ℕ) → IsLentInsert t k v (Err (TooShort n)) t' → ⊥
   other_error_refused n h = let is = h.only_full in absurd cc

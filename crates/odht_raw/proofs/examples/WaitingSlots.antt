@@ -1,12 +1,11 @@
 -- Worked examples: slots that wait while an order of inserts is looked for, in the table with 15 in slot 15 and 31 in slot 0.
-use Rattle.std.proofs.Common.{◌≡◌, ◌<◌, ◌++◌, ℕ, refl, subst, arith, List, [], ◌∷◌, get_or, map, AllPairs, IsPermutation, lit<, lit≤}
+use Rattle.std.proofs.Common.{◌≡◌, ◌<◌, ℕ, refl, subst, arith, [], ◌∷◌, get_or, AllPairs, lit<, lit≤}
 use Rattle.std.proofs.lemmas.List.Sorted.{IsPermutation-refl, IsPermutation-append_comm, length_permutation}
 use Rattle.odht_base.specs.Image.{entries, controls}
 use Rattle.odht_base.specs.Ready.{IsSoFar}
-use Rattle.odht_base.specs.Table.{Table}
 use Rattle.odht_base.specs.Valid.{IsValid}
 use Rattle.odht_base.proofs.examples.Configs.{direct_config}
-use Rattle.odht_base.proofs.examples.InsertOrders.{fifteen_first, fifteen_slots, fifteen_ready, fifteen_so_far, zero_so_far_refused}
+use Rattle.odht_base.proofs.examples.InsertOrders.{fifteen_first, fifteen_slots, fifteen_so_far, zero_so_far_refused}
 use Rattle.odht_base.proofs.lemmas.Placed.{IsPlaced-tests}
 use Rattle.odht_base.proofs.lemmas.SoFar.{so_far_none}
 use Rattle.odht_raw.specs.Parts.{TableParts}

@@ -1,5 +1,5 @@
 -- Worked examples: the items of slots, as a walk over parts gives them.
-use Rattle.std.proofs.Common.{◌≡◌, ◌<◌, ℕ, zero, suc, refl, arith, true≢false, List, [], ◌∷◌, length, lit<}
+use Rattle.std.proofs.Common.{◌≡◌, ℕ, zero, suc, refl, arith, true≢false, List, [], ◌∷◌, lit<}
 use Rattle.odht_base.specs.Image.{entries, controls}
 use Rattle.odht_base.specs.Numbers.{le_bytes}
 use Rattle.odht_base.specs.Table.{Table}
