@@ -1,5 +1,5 @@
 //! The table that owns its bytes, and grows.
-ghost use Rattle.std.specs.Prelude.{◌≡◌, ℕ, List, ◌++◌, ◌+◌, ◌-◌, ◌*◌, ◌≤◌, ◌↔◌, ◌⊎◌, Some, length, map, replicate, take, option_map, IfOk, IsOk, IsSome, IsTrue, IsErrOf, OnErr};
+ghost use Rattle.std.specs.Prelude.{◌≡◌, ℕ, List, ◌++◌, ◌+◌, ◌-◌, ◌*◌, ◌≤◌, ◌↔◌, ◌⊎◌, Some, length, map, replicate, take, option_map, IfOk, IsOk, IsSome, IsTrue, IsErrOf, OnErr, OnOk};
 ghost use Rattle.odht_base.specs.Load.{IsSlotCount, factor_of, slots_for};
 ghost use Rattle.odht_base.specs.Table.{Table, walk, count, empty};
 ghost use Rattle.odht_base.specs.Map.{map_of};
@@ -11,6 +11,7 @@ ghost use Rattle.odht_base.specs.Valid.{IsImage, IsPartsOf, IsValidBytes};
 ghost use Rattle.odht_raw.specs.Coding.{value_for};
 ghost use Rattle.odht.specs.Lists.{encoded_all, IsFilled, IsFreshFilled, IsRefusedAt};
 ghost use Rattle.odht.specs.Inserts.{IsFresh, IsInserted};
+ghost use Rattle.odht.specs.LastValues.{HasLastValues};
 ghost use Rattle.odht_raw.specs.Walks.{decoded_all};
 ghost use Rattle.std.specs.Iterator.{Drains, IsFinite};
 ghost use Rattle.odht_raw.specs.Refusals.{IsTooLarge, check_refusal};
@@ -248,6 +249,8 @@ impl<C: Config> HashTableOwned<C> {
     /// Inserts the items in their order, and stops at the first that is refused. Answers how many were accepted, and
     /// `Memory` where there was a refusal: the table is then as the accepted ones left it, at its maximum, and the key of
     /// the refused item is absent.
+    ///
+    /// A fresh table then has the items' last values; one for as many as there are has not grown.
     pub fn insert_all(&mut self, items: &[(C::Key, C::Value)]) -> (usize, Result<(), Error>)
         ensures bound { result.0 ≤ length items.now }
         ensures all { IsOk result.1 ↔ (result.0 ≡ length items.now) }
@@ -255,6 +258,14 @@ impl<C: Config> HashTableOwned<C> {
             in (P : Table)
             → IsImage c.format P self.old
             → IsFilled c.format (put_owned c.format) P (encoded_all c (take result.0 items.now)) self.new }
+        ensures fresh { let c = ⟦<C as Coded>⟧.coding
+            in (p : ℕ)
+            → IsFresh c.format (length items.now) p self.old
+            → OnOk result.1 (IsFreshFilled c p items.now self.new) }
+        ensures last_values { let c = ⟦<C as Coded>⟧.coding
+            in (n p : ℕ)
+            → IsFresh c.format n p self.old
+            → OnOk result.1 (HasLastValues c items.now self.new) }
         ensures at_maximum { let c = ⟦<C as Coded>⟧.coding
             in (P : Table)
             → IsImage c.format P self.new

@@ -6,6 +6,7 @@ ghost use Rattle.odht_base.specs.Load.{factor_of};
 ghost use Rattle.odht.specs.LastValues.{IsLastValue, HasLastValues};
 ghost use Rattle.odht.specs.Rebuilds.{IsMadeAgain};
 ghost use Rattle.odht_base.specs.Valid.{IsValidBytes};
+ghost use Rattle.odht_raw.specs.Coding.{value_for};
 ghost use Rattle.odht_raw.specs.Frame.{IsAccepted};
 ghost use Rattle.odht_raw.specs.Refusals.{IsTooLarge};
 
@@ -20,6 +21,21 @@ pub fn valid_bytes_are_accepted<C: Config>()
         in (B : List ℕ) → IsValidBytes F B → IsAccepted F B }
 {}
 
+/// What a table that has the last values of the items has for a key is the value of the last item with this very key, and
+/// nothing where no item has it.
+///
+/// It does nothing, but looks at each item once.
+pub fn keys_have_last_values<C: Lossless>(items: &[(C::Key, C::Value)], key: &C::Key)
+    ensures { let c = ⟦<C as Coded>⟧.coding
+        in (B : List ℕ) (h : HasLastValues c items.now B) → IsLastValue items.now key.now (value_for c h.table key.now) }
+{
+    for (k, v) in items {
+        C::key_kept(k);
+        C::value_kept(v);
+    }
+    C::key_kept(key);
+}
+
 /// The value of a key in a table of the items: that of the last item with this very key, and none where no item has it.
 ///
 /// Each item is looked at once, and each slot at most once.
@@ -31,11 +47,7 @@ pub fn last_value<C: Lossless>(
     requires { HasLastValues ⟦<C as Coded>⟧.coding items.now table.now }
     ensures { IsLastValue items.now key.now result }
 {
-    for (k, v) in items {
-        C::key_kept(k);
-        C::value_kept(v);
-    }
-    C::key_kept(key);
+    keys_have_last_values::<C>(items, key);
     table.get(key)
 }
 

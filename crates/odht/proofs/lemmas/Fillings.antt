@@ -1,6 +1,6 @@
 -- Inserts in turn: one more pair.
 use Rattle.std.proofs.Common.{◌≡◌, ◌<◌, ◌≤◌, ◌+◌, ◌∙◌, ◌++◌, ℕ, Bool, true, false, cond, sym, ap, refl, List, [], ◌∷◌, Option, Some, None, Result, Ok, Err, subst, take, length, bytes_eq, get_or, arith, length-append}
-use Rattle.std.proofs.lemmas.List.{take_more, map-append, length-map}
+use Rattle.std.proofs.lemmas.List.{take_all, take_more, map-append, length-map}
 use Rattle.std.proofs.lemmas.Option.{slice_get-get_or}
 use Rattle.std.specs.Prelude.{option_and_then}
 use Rattle.std.specs.Option.{option_or}
@@ -80,6 +80,11 @@ stopped_at c B C items n item low at same r full frame = record {
   at = slice_get-get_or items n item low ∙ ap (λ x. Some x) at;
   framed = subst (λ b. IsFramed c b item.0 item.1 (Err Full) C) (sym same) (subst (λ a. IsFramed c B item.0 item.1 a C) full frame);
 }
+
+-- once each item is accepted, all are
+pub filled_all : {K V : Type 0} (c : Coding K V) (put : Table → Pair → Option Table) (P : Table) (items : List (K × V)) (n : ℕ) (B : List ℕ) → length items ≤ n
+    → IsFilled c.format put P (encoded_all c (take n items)) B → IsFilled c.format put P (encoded_all c items) B
+filled_all {K = K} {V = V} c put P items n B all filled = subst (λ (xs : List (K × V)). IsFilled c.format put P (encoded_all c xs) B) (take_all n items all) filled
 
 -- the fresh table for as many items as are put into it never grows
 pub fresh_filled : {K V : Type 0} (c : Coding K V) (percent : ℕ) (items : List (K × V)) (B : List ℕ) (P : Table) → fresh (length items) percent ≡ Some P

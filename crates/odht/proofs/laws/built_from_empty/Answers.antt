@@ -1,17 +1,11 @@
-use Rattle.std.proofs.Common.{◌≡◌, sym, subst, refl, take, length, List, IsOk, arith}
-use Rattle.std.proofs.lemmas.List.{take_all}
-use Rattle.odht_base.specs.Insert.{put_owned}
+use Rattle.std.proofs.Common.{subst}
+use Rattle.std.specs.Prelude.{OnOk}
 use Rattle.odht_raw.specs.Coding.{coding_of}
-use Rattle.odht.specs.Lists.{encoded_all, IsFilled}
-use Rattle.odht.proofs.lemmas.Kept.{filled-HasLastValues}
+use Rattle.odht.specs.LastValues.{HasLastValues}
 use Rattle.odht.proofs.laws.built_from_empty.Goals as goal
 
 pub last_value-requires-after_bounds : goal.last_value-requires-after_bounds
 last_value-requires-after_bounds g c κs within =
     let K = coding_of g.C.EncodedKey.ByteArray.LEN g.C.EncodedKey.ByteArray.bytes g.C.EncodedKey.ByteArray.of_bytes g.C.EncodedValue.ByteArray.LEN g.C.EncodedValue.ByteArray.bytes g.C.EncodedValue.ByteArray.of_bytes g.C.H.HashFn.hash g.C.Config.encode_key g.C.Config.encode_value g.C.Config.decode_key g.C.Config.decode_value in
-    let items = c.args.items.now in
-    let made = c.in_ok-table.ensures.ok in
-    let all = c.insert_all.ensures.all.0 (subst IsOk (sym c.in_ok-insert_all.was) refl) in
-    let taken : take c.insert_all.result.0 items ≡ items = take_all c.insert_all.result.0 items (omega (arith, all)) in
-    let filled = subst (λ (xs : List (g.row.C-Key.Denot × g.row.C-Value.Denot)). IsFilled K.format (put_owned K.format) made.table (encoded_all K xs) c.insert_all.new.self) taken (c.insert_all.ensures.filled made.table made.image) in
-    filled-HasLastValues K (put_owned K.format) (length items) c.args.max_load_factor_percent made.table items c.insert_all.new.self made.new filled
+    subst (λ r. OnOk r (HasLastValues K c.args.items.now c.insert_all.new.self)) c.in_ok-insert_all.was
+    (c.insert_all.ensures.last_values _ c.args.max_load_factor_percent c.in_ok-table.ensures.ok)

@@ -7,7 +7,8 @@ use Rattle.odht_base.proofs.lemmas.FreshRuns.{put_owned-PlacesBelow}
 use Rattle.odht_base.proofs.lemmas.Puts.{put_owned-IsInsert}
 use Rattle.odht_raw.specs.Coding.{Coding, coding_of}
 use Rattle.odht.specs.Lists.{encoded_all, IsFilled}
-use Rattle.odht.proofs.lemmas.Fillings.{filled_none, filled_more, encoded_all-more, refused_at}
+use Rattle.odht.proofs.lemmas.Fillings.{filled_none, filled_more, filled_all, fresh_filled, encoded_all-more, refused_at}
+use Rattle.odht.proofs.lemmas.Kept.{filled-HasLastValues}
 use Rattle.odht.proofs.hash_table_owned.HashTableOwned.insert_all.Given.{Over}
 use Rattle.odht.proofs.hash_table_owned.HashTableOwned.insert_all.Goals as goal
 
@@ -50,3 +51,17 @@ returns-clause-filled g c P is =
     let K = coding g in
     subst (λ n. IsFilled K.format (put_owned K.format) P (encoded_all K (take n c.args.items.now)) c.loop-accepted.self)
     (le_antisymm c.loop-accepted.auto.accepted-end c.loop-accepted-test.false) (c.loop-accepted.invariant P is)
+
+pub returns-clause-fresh : goal.returns-clause-fresh
+returns-clause-fresh g c p made =
+    let K = coding g in
+    let items = c.args.items.now in
+    fresh_filled K p items c.loop-accepted.self made.table made.new
+    (filled_all K (put_owned K.format) made.table items c.loop-accepted.accepted c.loop-accepted.self c.loop-accepted-test.false (c.loop-accepted.invariant made.table made.image))
+
+pub returns-clause-last_values : goal.returns-clause-last_values
+returns-clause-last_values g c n p made =
+    let K = coding g in
+    let items = c.args.items.now in
+    filled-HasLastValues K (put_owned K.format) n p made.table items c.loop-accepted.self made.new
+    (filled_all K (put_owned K.format) made.table items c.loop-accepted.accepted c.loop-accepted.self c.loop-accepted-test.false (c.loop-accepted.invariant made.table made.image))
