@@ -5,6 +5,7 @@
 //! refused. Each answer is a line on standard output.
 #![tactic(auto)]
 
+mod index;
 mod owned;
 mod parts;
 mod quiet;
@@ -49,6 +50,7 @@ fn run<W: Write>(alloc: Global, call: &str, output: &mut W) -> io::Result<()> {
         "from_raw_bytes" => owned::from_raw_bytes(alloc, output),
         "from_raw_bytes_unchecked" => owned::from_raw_bytes_unchecked(alloc, output),
         "refused_bytes" => owned::refused_bytes(alloc, output),
+        "index" => index::build(alloc, output),
         "allocate" => parts::allocation(alloc, output),
         "probe_order" => parts::order(alloc, output),
         "below_the_maximum" => quiet::below_the_maximum(alloc, output),
