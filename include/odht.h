@@ -79,7 +79,8 @@ enum odht_status {
     ODHT_NON_ZERO_EMPTY = 8,              /* a free slot's entry is not zero (open, check) */
     ODHT_CONTROL_MISMATCH = 9,            /* a control byte is not its key's tag (open, check) */
 
-    /* Refusals of odht_*_check alone. After 1 to 9 as above it looks at the load
+    /* Refusals of the whole check alone: of odht_*_check, and of odht_*_insert_order,
+       which makes it first. After 1 to 9 as above it looks at the load
        factor and the padding, then at all slots in turn, where the first bad one
        gives 8, 12 or 9, and then for 13 to 16. */
     ODHT_LOAD_FACTOR_TOO_SMALL = 10,      /* below 1 percent */
@@ -100,8 +101,9 @@ enum odht_status {
     ODHT_ABSENT = 32,                     /* the key is not in the table */
     ODHT_REPLACED = 33,                   /* the key was there with a value */
     ODHT_BAD_PERCENT = 34,                /* 0 percent, or more than 100 */
-    ODHT_BAD_LENGTHS = 35,                /* arrays of different lengths */
-    ODHT_TOO_SMALL = 36                   /* there is more than there is room for */
+    ODHT_BAD_LENGTHS = 35,                /* arrays of different lengths, or not a place for each item */
+    ODHT_TOO_SMALL = 36,                  /* there is more than there is room for */
+    ODHT_UNMADE = 37                      /* no list of inserts makes the table */
 };
 
 /* A short text for a status, such as "wrong length". */
@@ -134,6 +136,7 @@ static inline const char *odht_status_name(uint32_t status)
     case ODHT_BAD_PERCENT: return "bad percent";
     case ODHT_BAD_LENGTHS: return "bad lengths";
     case ODHT_TOO_SMALL: return "too small";
+    case ODHT_UNMADE: return "unmade";
     default: return "unknown status";
     }
 }
@@ -242,6 +245,24 @@ uint32_t odht_u64_u32_walk(const uint8_t *bytes, size_t bytes_len, uint64_t *key
                            uint32_t *values, size_t values_len, size_t *count);
 
 /*
+ * Asks whether inserts can make the table, and in which order. Its pairs, inserted
+ * in that order into an empty table of as many slots and the same load factor,
+ * leave these very bytes. Not every valid table has been made by inserts.
+ * OK: out holds the slots that hold a pair, each once, in such an order. Slots
+ * count from 0. UNMADE: no list of inserts makes the table, growths included, and
+ * out holds numbers that say nothing. A refusal of the whole check, 1 to 16.
+ * BAD_LENGTHS: the check passes the bytes, and out_len is not the number of items.
+ * With the last two out stays as it was.
+ * It makes the whole check first, as odht_u64_u32_check does. Then it goes over the
+ * items, in one pass more than the longest chain of slots of which each waits for
+ * one behind it: a handful for tables of keys whose hashes vary. In a pass each item
+ * that waits asks for the places before its own, by a binary search among those that
+ * wait. It takes no memory.
+ */
+uint32_t odht_u64_u32_insert_order(const uint8_t *bytes, size_t bytes_len, size_t *out,
+                                   size_t out_len);
+
+/*
  * Makes a table for exactly these pairs and inserts them one after the other;
  * they are copied into memory first, and the table is copied out at the end.
  * Of equal keys the last value counts.
@@ -311,6 +332,11 @@ uint32_t odht_b16_u32_len(const uint8_t *bytes, size_t bytes_len, size_t *count)
    more. BAD_LENGTHS, or a refusal, 1 to 7: the arrays and *count stay. */
 uint32_t odht_b16_u32_walk(const uint8_t *bytes, size_t bytes_len, uint8_t (*keys)[16],
                            size_t keys_len, uint32_t *values, size_t values_len, size_t *count);
+
+/* OK: out holds the slots that hold a pair, in an order of inserts. UNMADE: no inserts make the
+   table, and the numbers in out say nothing. BAD_LENGTHS, or a refusal, 1 to 16: out stays. */
+uint32_t odht_b16_u32_insert_order(const uint8_t *bytes, size_t bytes_len, size_t *out,
+                                   size_t out_len);
 
 #ifdef __cplusplus
 }

@@ -9,6 +9,8 @@ pub mod Gets
 pub mod GetAlls
 -- the item count, and walks
 pub mod Walks
+-- orders of inserts
+pub mod Orders
 -- new tables in bytes
 pub mod Inits
 -- what an insert answers

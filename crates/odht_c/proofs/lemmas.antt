@@ -14,3 +14,5 @@ pub mod HandedOut
 pub mod Walked
 -- what an insert answers
 pub mod Inserted
+-- what the call for an order of inserts answers
+pub mod Ordered

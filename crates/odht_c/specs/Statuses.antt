@@ -1,6 +1,6 @@
 -- The statuses that calls of C answer, which are numbers, and what calls demand of their arguments.
 --     status_of e          the status of the refusal e
---     done absent replaced bad_percent bad_lengths too_small   the statuses of what is no refusal of the library
+--     done absent replaced bad_percent bad_lengths too_small unmade   the statuses of what is no refusal of the library
 --     status_or_ok o       the status of a refusal, or `done` where there is none
 --     IsPercent p          p is a load factor in percent
 --     AreAsLong n a b      two arrays of a and of b elements belong to n keys
@@ -48,6 +48,9 @@ bad_lengths = 35
 
 abbrev pub too_small : ℕ
 too_small = 36
+
+abbrev pub unmade : ℕ
+unmade = 37
 
 abbrev pub status_or_ok : Option Error → ℕ
 status_or_ok None = done

@@ -5,6 +5,9 @@ mod b16_u32;
 mod build;
 #[cfg(test)]
 mod check_tests;
+mod order;
+#[cfg(test)]
+mod order_tests;
 mod read;
 mod status;
 #[cfg(test)]

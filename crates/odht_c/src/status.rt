@@ -28,6 +28,9 @@ pub(crate) const BAD_LENGTHS: u32 = 35;
 /// An array is too short for all that it should take.
 pub(crate) const TOO_SMALL: u32 = 36;
 
+/// No list of inserts makes the table.
+pub(crate) const UNMADE: u32 = 37;
+
 /// The number of a refusal.
 pub(crate) fn status_of(error: &Error) -> u32
     ensures { result ≡ status_of error.now }

@@ -7,11 +7,12 @@ ghost use Rattle.std.proofs.Common.{lit≤};
 ghost use Rattle.odht_raw.specs.Refusals.{view_refusal, check_refusal};
 ghost use Rattle.odht_c.specs.Statuses.{status_or_ok};
 ghost use Rattle.odht_c.specs.Reads.{GetAnswers, GetAllAnswers, LenAnswers, WalkAnswers};
+ghost use Rattle.odht_c.specs.Orders.{OrderAnswers};
 ghost use Rattle.odht_c.specs.Writes.{BytesNeededAnswers, InitAnswers, InsertAnswers, InsertAllAnswers};
 ghost use Rattle.odht_c.specs.Builds.{BuildAnswers, BuildGrowingAnswers};
 
 use crate::status::{BAD_LENGTHS, BAD_PERCENT};
-use crate::{build, read, write};
+use crate::{build, order, read, write};
 use odht::bytes::BorrowedMut;
 use odht::config::{Coded, Config};
 use odht::hash::FxHashFn;
@@ -203,6 +204,21 @@ pub extern "C" fn odht_u64_u32_walk(
         return BAD_LENGTHS;
     }
     read::walk::<U64ToU32>(bytes, keys, values, item_count)
+}
+
+/// The filled slots in an order in which inserts make the table, written to `out`, which has a place for each item:
+/// status 0. Their pairs, inserted in this order into an empty table of as many slots and the same load factor, leave
+/// these very bytes. `UNMADE` where no list of inserts makes the table: then `out` holds numbers that say nothing.
+/// The number of the first refusal of the whole check, 1 to 16, or `BAD_LENGTHS` where `out` has not as many places as
+/// there are items; then `out` stays.
+///
+/// It takes no memory. It costs the whole check, and then one pass over the items more than the longest chain of slots
+/// of which each waits for one behind it.
+#[unsafe(no_mangle)]
+pub extern "C" fn odht_u64_u32_insert_order(bytes: &[u8], out: &mut [usize]) -> u32
+    ensures { OrderAnswers ⟦<U64ToU32 as Coded>⟧.coding bytes.now out.old result out.new }
+{
+    order::insert_order::<U64ToU32>(bytes, out)
 }
 
 /// Builds the table of the pairs, the key and the value at each index, in memory of its own, copies it to the front of

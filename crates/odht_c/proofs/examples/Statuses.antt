@@ -2,7 +2,7 @@
 use Rattle.std.proofs.Common.{◌≡◌, ℕ, refl, lit≤, arith, List, Some, None}
 use Rattle.odht_raw.specs.declared.error.Error.TheVariants.{TooShort, WrongTag, WrongVersion, WrongSizeOf, SlotCountNotPowerOfTwo, SlotCountTooSmall, WrongLength, NonZeroEmpty, ControlMismatch, LoadFactorTooSmall, NonZeroPadding, BadFreeControl, MirrorMismatch, WrongItemCount, TooManyItems, Unreachable, InitLength, Full, Memory, Capacity}
 use Rattle.odht_raw.specs.declared.error.Part.{Part}
-use Rattle.odht_c.specs.Statuses.{status_of, done, absent, replaced, bad_percent, bad_lengths, too_small, status_or_ok, IsPercent, AreAsLong}
+use Rattle.odht_c.specs.Statuses.{status_of, done, absent, replaced, bad_percent, bad_lengths, too_small, unmade, status_or_ok, IsPercent, AreAsLong}
 
 -- ODHT_TOO_SHORT to ODHT_WRONG_LENGTH, which are about the header and the length
 pub opening_statuses : (a b c : ℕ) (bs : List ℕ) (part : Part)
@@ -38,14 +38,15 @@ pub call_statuses : (a b : ℕ)
     × (status_of Capacity ≡ 20)
 call_statuses a b = (refl, refl, refl, refl)
 
--- ODHT_OK, and ODHT_ABSENT to ODHT_TOO_SMALL
+-- ODHT_OK, and ODHT_ABSENT to ODHT_UNMADE
 pub other_statuses : (done ≡ 0)
     × (absent ≡ 32)
     × (replaced ≡ 33)
     × (bad_percent ≡ 34)
     × (bad_lengths ≡ 35)
     × (too_small ≡ 36)
-other_statuses = (refl, refl, refl, refl, refl, refl)
+    × (unmade ≡ 37)
+other_statuses = (refl, refl, refl, refl, refl, refl, refl)
 
 -- no refusal is ODHT_OK, and a refusal has its own status
 pub status_or_ok_statuses : (status_or_ok None ≡ 0)

@@ -5,12 +5,10 @@
 --     other_item, other_bytes  the same with the value 8
 --     miscounted               the bytes of no items, which state a count of five; they are accepted, and not valid
 --     no_image, one_image, other_image   the three tables are valid
+--     direct_format            the hash of four bytes fits 32 bits
 --     same_table               bytes are those of one valid table
 --     not_stored               no slot of the bytes `miscounted` has the key 6
-use Rattle.std.proofs.Common.{◌≡◌, ◌≤◌, ◌<◌, ◌∙◌, ℕ, refl, sym, Bool, true, true≢false, List, ◌∷◌, [], Some, None, set, replicate, lit≤, subst, arith, zero-add}
-use Rattle.std.specs.List.{range_with_len, list_all}
-use Rattle.std.proofs.lemmas.List.FromFn.{get_or-range_with_len, length-range_with_len}
-use Rattle.std.proofs.lemmas.List.Sums.{AllPass-from_list_all}
+use Rattle.std.proofs.Common.{◌≡◌, ◌≤◌, ◌∙◌, ℕ, refl, sym, List, ◌∷◌, [], Some, None, set, replicate, lit≤, subst}
 use Rattle.odht_base.specs.Bytes.{overwritten_at}
 use Rattle.odht_base.specs.Format.{IsFormat}
 use Rattle.odht_base.specs.HashLaws.{un-lt}
@@ -102,7 +100,7 @@ unfolding opened
 accepted_bytes = (refl, refl, refl)
 
 -- the hash of four bytes fits 32 bits
-direct_format : IsFormat direct_config
+pub direct_format : IsFormat direct_config
 direct_format = record {
   key_short = lit≤ tt;
   value_short = lit≤ tt;
