@@ -37,7 +37,7 @@ LINK_RUST = -L native=$(dir $(LIBRARY)) -l static=odht_c -L native=$(KIT)c -l st
 
 examples: $(LIBRARY)
 	@mkdir -p build
-	@gcc -std=c11 -O2 -Wall -Wextra -Werror -Iinclude examples/c/main.c $(LIBRARY) $(KIT)c/liblibc_c.a -o build/example_c
+	@gcc -std=c11 -O2 -Wall -Wextra -Werror -Iinclude examples/c/*.c $(LIBRARY) $(KIT)c/liblibc_c.a -o build/example_c
 	@rustc --edition 2021 -O -D warnings examples/rust/main.rs $(LINK_RUST) -o build/example_rust
 	@build/example_c build/c.odht > build/c.txt
 	@build/example_rust build/rust.odht > build/rust.txt

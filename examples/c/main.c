@@ -7,6 +7,7 @@
 
 #include <fcntl.h>
 #include <inttypes.h>
+#include <stdint.h>
 #include <stdio.h>
 #include <stdlib.h>
 #include <string.h>
@@ -15,49 +16,10 @@
 #include <unistd.h>
 
 #include "odht.h"
+#include "orders.h"
+#include "say.h"
 
 enum { PAIRS = 40, PERCENT = 87, LENGTH = 880, KEY_LENGTH = 16 };
-
-/* Prints "what: 0 ok", without the end of the line. */
-static void say(const char *what, uint32_t status)
-{
-    printf("%s: %" PRIu32 " %s", what, status, odht_status_name(status));
-}
-
-static void say_line(const char *what, uint32_t status)
-{
-    say(what, status);
-    printf("\n");
-}
-
-/* Prints what a lookup has answered. */
-static void say_value(uint64_t key, uint32_t status, uint32_t value)
-{
-    printf("get %" PRIu64, key);
-    say("", status);
-    if (status == ODHT_OK)
-        printf(", value %" PRIu32, value);
-    printf("\n");
-}
-
-static void say_former(const char *what, uint32_t status, uint32_t former)
-{
-    say(what, status);
-    if (status == ODHT_REPLACED)
-        printf(", the former value is %" PRIu32, former);
-    printf("\n");
-}
-
-static void say_found(size_t count, const uint8_t *found, const uint32_t *values)
-{
-    printf(", found");
-    for (size_t index = 0; index < count; index++)
-        printf(" %d", found[index]);
-    printf(", values");
-    for (size_t index = 0; index < count; index++)
-        printf(" %" PRIu32, values[index]);
-    printf("\n");
-}
 
 static void fail(const char *what)
 {
@@ -387,7 +349,9 @@ int main(int count, char **arguments)
     walk(bytes, length);
     build(bytes);
     fill_to_the_maximum();
+    order_of_inserts();
     byte_keys();
+    unmade_table();
     open_damaged(bytes, length);
     check_damaged(bytes, length);
     wrong_arguments(bytes);

@@ -61,6 +61,16 @@ fn say_found(what: &str, answer: Result<(), Status>, found: &[u8], values: &[u32
     );
 }
 
+fn say_order(what: &str, answer: Result<bool, Status>, slots: &[usize]) {
+    let listed: String = slots.iter().map(|slot| format!(" {slot}")).collect();
+    match answer {
+        Ok(true) if slots.is_empty() => println!("{what}: {}", Status::OK),
+        Ok(true) => println!("{what}: {}, slots{listed}", Status::OK),
+        Ok(false) => println!("{what}: {}", Status::UNMADE),
+        Err(status) => println!("{what}: {status}"),
+    }
+}
+
 fn say_walk(answer: Result<usize, Status>, key_sum: u64, value_sum: u64) {
     let count = answer.expect("the arrays have room for the pairs");
     let ok = Status::OK;
@@ -151,6 +161,40 @@ fn fill_to_the_maximum() {
     say_number("len", u64_u32::len(&bytes), "items");
 }
 
+/// Puts the keys into an empty table of 16 slots, and says whether it is as that of `bytes`.
+fn insert_again(what: &str, keys: &[u64], values: &[u32], bytes: &[u8]) {
+    let mut again = [0; 256];
+    u64_u32::init(&mut again, 13, PERCENT).expect("13 items fit into 256 bytes");
+    u64_u32::insert_all(&mut again, keys, values);
+    let likeness = if again == bytes { "same" } else { "other" };
+    println!("{what}: {likeness} bytes");
+}
+
+fn order_of_inserts() {
+    let mut bytes = [0; 256];
+    println!("\nan order of inserts");
+    say("init", u64_u32::init(&mut bytes, 13, PERCENT));
+    let answer = u64_u32::insert_all(&mut bytes, &[3, 19, 35], &[30, 190, 350]);
+    say_accepted("insert_all 3 19 35", answer);
+    let (mut keys, mut values, mut slots) = ([0; 3], [0; 3], [0; 3]);
+    u64_u32::walk(&bytes, &mut keys, &mut values).expect("three pairs");
+    insert_again("inserts in slot order", &keys, &values, &bytes);
+    let answer = u64_u32::insert_order(&bytes, &mut slots);
+    say_order("insert_order", answer, &slots);
+    // The walk is in slot order: before a pair stand those of the smaller slots.
+    let place = |slot: &usize| slots.iter().filter(|other| *other < slot).count();
+    let ordered_keys: Vec<u64> = slots.iter().map(|slot| keys[place(slot)]).collect();
+    let ordered_values: Vec<u32> = slots.iter().map(|slot| values[place(slot)]).collect();
+    insert_again(
+        "inserts in this order",
+        &ordered_keys,
+        &ordered_values,
+        &bytes,
+    );
+    let answer = u64_u32::insert_order(&bytes, &mut slots[..2]);
+    say_order("insert_order into 2 places", answer, &[]);
+}
+
 // ---- Keys of 16 bytes ----
 
 /// The pairs 1 to 100, 2 to 200, and so on; each of a key's bytes is its number.
@@ -203,6 +247,25 @@ fn byte_keys() {
     say("check", b16_u32::check(&bytes));
     bytes[369] = 255;
     say("check where byte 369 is 255", b16_u32::check(&bytes));
+}
+
+/// Each key stands in its home, and then two of them in each other's.
+fn unmade_table() {
+    let mut bytes = [0; 1392];
+    let mut slots = [0; 48];
+    println!("\na valid table that no inserts make");
+    say("init", b16_u32::init(&mut bytes, 48, PERCENT));
+    for number in (0..33).chain(49..64) {
+        let mut key = [0; 16];
+        key[12] = number;
+        b16_u32::insert(&mut bytes, &key, u32::from(number)).expect("48 items fit");
+    }
+    let answer = b16_u32::insert_order(&bytes, &mut slots);
+    say_order("insert_order", answer, &[]);
+    (bytes[44], bytes[64]) = (1, 0);
+    say("check where 0 and 1 change places", b16_u32::check(&bytes));
+    let answer = b16_u32::insert_order(&bytes, &mut slots);
+    say_order("insert_order", answer, &[]);
 }
 
 // ---- Refusals ----
@@ -288,7 +351,9 @@ fn main() -> std::io::Result<()> {
     walk(&bytes);
     build(&bytes);
     fill_to_the_maximum();
+    order_of_inserts();
     byte_keys();
+    unmade_table();
     open_damaged(&bytes);
     check_damaged(&bytes);
     wrong_arguments(&bytes);

@@ -18,6 +18,7 @@ impl Status {
     pub const ABSENT: Status = Status(32);
     pub const REPLACED: Status = Status(33);
     pub const TOO_SMALL: Status = Status(36);
+    pub const UNMADE: Status = Status(37);
 
     /// A short text, as that of `odht_status_name`.
     pub fn name(self) -> &'static str {
@@ -48,6 +49,7 @@ impl Status {
             34 => "bad percent",
             35 => "bad lengths",
             36 => "too small",
+            37 => "unmade",
             _ => "unknown status",
         }
     }
@@ -75,7 +77,7 @@ pub mod declared {
     macro_rules! declare {
         ($key:ty, $passed_key:ty, $bytes_needed:ident, $init:ident, $open:ident, $check:ident,
          $insert:ident, $insert_all:ident, $get:ident, $get_all:ident, $len:ident,
-         $walk:ident) => {
+         $walk:ident, $insert_order:ident) => {
             unsafe extern "C" {
                 pub fn $bytes_needed(max_item_count: usize, percent: u8, len: *mut usize)
                     -> Status;
@@ -129,6 +131,12 @@ pub mod declared {
                     values_len: usize,
                     count: *mut usize,
                 ) -> Status;
+                pub fn $insert_order(
+                    bytes: *const u8,
+                    bytes_len: usize,
+                    out: *mut usize,
+                    out_len: usize,
+                ) -> Status;
             }
         };
     }
@@ -144,7 +152,8 @@ pub mod declared {
         odht_u64_u32_get,
         odht_u64_u32_get_all,
         odht_u64_u32_len,
-        odht_u64_u32_walk
+        odht_u64_u32_walk,
+        odht_u64_u32_insert_order
     );
     declare!(
         [u8; 16],
@@ -158,7 +167,8 @@ pub mod declared {
         odht_b16_u32_get,
         odht_b16_u32_get_all,
         odht_b16_u32_len,
-        odht_b16_u32_walk
+        odht_b16_u32_walk,
+        odht_b16_u32_insert_order
     );
     unsafe extern "C" {
         pub fn odht_u64_u32_build(
@@ -189,7 +199,7 @@ macro_rules! safe_calls {
     ($(#[$comment:meta])* $module:ident, $argument:ident: $argument_type:ty => $passed:expr,
      $key:ty, $bytes_needed:ident, $init:ident, $open:ident, $check:ident, $insert:ident,
      $insert_all:ident, $get:ident, $get_all:ident, $len:ident, $walk:ident,
-     { $($more:item)* }) => {
+     $insert_order:ident, { $($more:item)* }) => {
         $(#[$comment])*
         pub mod $module {
             use super::{declared, Status};
@@ -277,6 +287,16 @@ macro_rules! safe_calls {
                 status.with(count)
             }
 
+            /// Whether inserts can make the table; `out`, which has a place for each item, then
+            /// lists the slots that hold a pair in an order in which they do.
+            pub fn insert_order(bytes: &[u8], out: &mut [usize]) -> Result<bool, Status> {
+                let status = unsafe {
+                    declared::$insert_order(bytes.as_ptr(), bytes.len(), out.as_mut_ptr(),
+                        out.len())
+                };
+                if status == Status::UNMADE { Ok(false) } else { status.with(true) }
+            }
+
             $($more)*
         }
     };
@@ -287,7 +307,7 @@ safe_calls! {
     u64_u32, key: u64 => key,
     u64, odht_u64_u32_bytes_needed, odht_u64_u32_init, odht_u64_u32_open, odht_u64_u32_check,
     odht_u64_u32_insert, odht_u64_u32_insert_all, odht_u64_u32_get, odht_u64_u32_get_all,
-    odht_u64_u32_len, odht_u64_u32_walk, {
+    odht_u64_u32_len, odht_u64_u32_walk, odht_u64_u32_insert_order, {
         /// Makes a table for exactly these pairs in the first bytes of `out`; the answer is the
         /// status, and the table's length where it is `OK` or `TOO_SMALL`.
         pub fn build(keys: &[u64], values: &[u32], percent: u8, out: &mut [u8])
@@ -317,5 +337,5 @@ safe_calls! {
     b16_u32, key: &[u8; 16] => key,
     [u8; 16], odht_b16_u32_bytes_needed, odht_b16_u32_init, odht_b16_u32_open,
     odht_b16_u32_check, odht_b16_u32_insert, odht_b16_u32_insert_all, odht_b16_u32_get,
-    odht_b16_u32_get_all, odht_b16_u32_len, odht_b16_u32_walk, {}
+    odht_b16_u32_get_all, odht_b16_u32_len, odht_b16_u32_walk, odht_b16_u32_insert_order, {}
 }

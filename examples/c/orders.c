@@ -1,0 +1,79 @@
+/* Asks for orders of inserts, of tables of both kinds. */
+#include <inttypes.h>
+#include <stdint.h>
+#include <stdio.h>
+#include <string.h>
+
+#include "odht.h"
+#include "orders.h"
+#include "say.h"
+
+/* Puts the keys into an empty table of 16 slots, and says whether it is as that of `bytes`. */
+static void insert_again(const char *what, const uint64_t *keys, const uint32_t *values,
+                         const uint8_t *bytes)
+{
+    uint8_t again[256];
+    size_t accepted = 0;
+
+    odht_u64_u32_init(again, sizeof again, 13, 87);
+    odht_u64_u32_insert_all(again, sizeof again, keys, 3, values, 3, &accepted);
+    printf("%s: %s bytes\n", what, memcmp(again, bytes, sizeof again) == 0 ? "same" : "other");
+}
+
+/* The place of a slot's pair in the walk, which is in slot order: behind those of the smaller slots. */
+static size_t place_in_walk(size_t slot, const size_t *slots)
+{
+    size_t place = 0;
+    for (size_t index = 0; index < 3; index++)
+        place += slots[index] < slot;
+    return place;
+}
+
+void order_of_inserts(void)
+{
+    static const uint64_t collide[] = {3, 19, 35};
+    uint64_t keys[3], ordered_keys[3];
+    uint32_t values[3] = {30, 190, 350}, ordered_values[3];
+    uint8_t bytes[256];
+    size_t slots[3];
+    size_t count = 0;
+
+    printf("\nan order of inserts\n");
+    say_line("init", odht_u64_u32_init(bytes, sizeof bytes, 13, 87));
+    say("insert_all 3 19 35",
+        odht_u64_u32_insert_all(bytes, sizeof bytes, collide, 3, values, 3, &count));
+    printf(", %zu accepted\n", count);
+    odht_u64_u32_walk(bytes, sizeof bytes, keys, 3, values, 3, &count);
+    insert_again("inserts in slot order", keys, values, bytes);
+    say("insert_order", odht_u64_u32_insert_order(bytes, sizeof bytes, slots, 3));
+    say_slots(3, slots);
+    for (size_t index = 0; index < 3; index++) {
+        size_t place = place_in_walk(slots[index], slots);
+        ordered_keys[index] = keys[place];
+        ordered_values[index] = values[place];
+    }
+    insert_again("inserts in this order", ordered_keys, ordered_values, bytes);
+    say_line("insert_order into 2 places",
+             odht_u64_u32_insert_order(bytes, sizeof bytes, slots, 2));
+}
+
+/* Each key stands in its home, and then two of them in each other's. */
+void unmade_table(void)
+{
+    uint8_t bytes[1392];
+    size_t slots[48];
+    uint32_t former = 0;
+
+    printf("\na valid table that no inserts make\n");
+    say_line("init", odht_b16_u32_init(bytes, sizeof bytes, 48, 87));
+    for (uint8_t number = 0; number < 64; number++) {
+        uint8_t key[16] = {[12] = number};
+        if (number < 33 || number > 48)
+            odht_b16_u32_insert(bytes, sizeof bytes, key, number, &former);
+    }
+    say_line("insert_order", odht_b16_u32_insert_order(bytes, sizeof bytes, slots, 48));
+    bytes[44] = 1;
+    bytes[64] = 0;
+    say_line("check where 0 and 1 change places", odht_b16_u32_check(bytes, sizeof bytes));
+    say_line("insert_order", odht_b16_u32_insert_order(bytes, sizeof bytes, slots, 48));
+}
