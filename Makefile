@@ -3,7 +3,8 @@
 # make build: the program with its proofs, as a file
 # make examples: both examples, compared with what they must print
 # make bench: the tables of speeds; QUICK=1 for a short run, ODHT_RUST=folder for the Rust crate beside it, CHECK=1 for
-# the tables of the whole check alone, WORST=1 for the largest forged table too, about an hour
+# the tables of the whole check alone, WORST=1 for the largest forged table too, about an hour, ORDER=1 for the line of
+# an order of inserts alone
 SCRIPT ?= crates/odht_table/stdin
 # lowest first
 LIBRARIES = odht_base odht_raw odht
@@ -11,6 +12,7 @@ LIBRARY ?= crates/odht_c/out/libodht_c.a
 QUICK ?=
 CHECK ?=
 WORST ?=
+ORDER ?=
 ODHT_RUST ?=
 .PHONY: run build test memory examples bench FORCE
 run:
@@ -54,7 +56,7 @@ LINK_ORIGINAL = $(if $(ODHT_RUST),--cfg original -L dependency=build/original --
 bench: $(LIBRARY) $(if $(ODHT_RUST),original)
 	@mkdir -p build
 	@$(BENCH_RUST) --edition 2021 -D warnings --check-cfg 'cfg(original)' $(LINK_ORIGINAL) bench/main.rs $(LINK_RUST) -o build/bench
-	@build/bench $(if $(QUICK),quick) $(if $(CHECK),check) $(if $(WORST),worst)
+	@build/bench $(if $(QUICK),quick) $(if $(CHECK),check) $(if $(WORST),worst) $(if $(ORDER),order)
 
 # the Rust crate, from a checkout or from a flat folder with names as src--lib.rs.txt
 .PHONY: original

@@ -9,8 +9,8 @@ use crate::ours;
 use crate::work::{Work, Written, PERCENT};
 use crate::{best_times, Job, Measure};
 
-const HEADER: usize = 32;
-const ENTRY: usize = 12;
+pub const HEADER: usize = 32;
+pub const ENTRY: usize = 12;
 const GROUP: usize = 16;
 
 /// How many items so many slots take at 87 percent.

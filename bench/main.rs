@@ -1,5 +1,6 @@
 //! Measures this library beside `HashMap`, and beside the original Rust crate where it is built with
-//! `--cfg original`. It prints one table, and two of the whole check. README.md says how it measures.
+//! `--cfg original`. It prints one table, and two of the whole check; or the line of an order of
+//! inserts alone. README.md says how it measures.
 
 use std::hash::RandomState;
 use std::io::Write;
@@ -207,6 +208,28 @@ fn run_all(items: usize, rounds: usize) {
     work.drop_answers_and_maps();
     run(insert_growing, rounds, work);
     run(from_iterator, rounds, work);
+    if items <= MOST_ORDERED {
+        run_order(rounds, work);
+    }
+}
+
+/// An order of inserts is found of tables of up to so many items.
+const MOST_ORDERED: usize = 1_000_000;
+
+/// The order of inserts of the table that `from_iterator` left.
+fn run_order(rounds: usize, work: &mut Work) {
+    let jobs = [Some(ours::insert_order as Job), None, None, None];
+    let order = Measure::new("insert order", jobs, Written::Nothing);
+    work.make_room_for_order();
+    run(order.checked(Work::check_order), rounds, work);
+}
+
+fn print_order(quick: bool) {
+    print_heading();
+    let (items, rounds) = if quick { (SMALL, 7) } else { (MOST_ORDERED, 9) };
+    let work = &mut Work::new(items);
+    ours::from_iterator(work);
+    run_order(rounds, work);
 }
 
 fn print_first_table(quick: bool) {
@@ -226,6 +249,9 @@ fn main() {
     let words: Vec<String> = std::env::args().skip(1).collect();
     let is_asked = |word: &str| words.iter().any(|given| given == word);
     let quick = is_asked("quick");
+    if is_asked("order") {
+        return print_order(quick);
+    }
     if !is_asked("check") {
         print_first_table(quick);
     }

@@ -5,6 +5,15 @@ use std::hint::black_box;
 use crate::library::{u64_u32, Status};
 use crate::work::{Work, PERCENT};
 
+unsafe extern "C" {
+    fn odht_u64_u32_insert_order(
+        bytes: *const u8,
+        bytes_len: usize,
+        out: *mut usize,
+        out_len: usize,
+    ) -> Status;
+}
+
 pub fn insert_presized(work: &mut Work) {
     let count = work.keys.len();
     u64_u32::init(&mut work.table, count, PERCENT).expect("the length is right");
@@ -55,4 +64,13 @@ pub fn insert_growing(work: &mut Work) {
 pub fn from_iterator(work: &mut Work) {
     let answer = u64_u32::build(&work.keys, &work.values, PERCENT, &mut work.table);
     assert_eq!(answer, (Status::OK, work.table.len()));
+}
+
+/// Lists the slots in an order of inserts that makes the table.
+pub fn insert_order(work: &mut Work) {
+    let (table, order) = (&work.table, &mut work.order);
+    let status = unsafe {
+        odht_u64_u32_insert_order(table.as_ptr(), table.len(), order.as_mut_ptr(), order.len())
+    };
+    assert_eq!(status, Status::OK);
 }

@@ -3,7 +3,8 @@
 use std::collections::HashMap;
 use std::hash::RandomState;
 
-use crate::library::u64_u32;
+use crate::check::{ENTRY, HEADER};
+use crate::library::{u64_u32, Status};
 use crate::maps::FxBuild;
 
 pub const PERCENT: u8 = 87;
@@ -65,6 +66,8 @@ pub struct Work {
     pub table: Vec<u8>,
     /// The bytes of a second table, for jobs that make one of the first.
     pub spare: Vec<u8>,
+    /// The slots in an order of inserts that makes the table.
+    pub order: Vec<usize>,
     pub answers: Answers,
     pub sip_map: HashMap<u64, u32, RandomState>,
     pub fx_map: HashMap<u64, u32, FxBuild>,
@@ -82,6 +85,7 @@ impl Work {
             queries: Vec::new(),
             table: vec![0; length],
             spare: Vec::new(),
+            order: Vec::new(),
             answers: Answers {
                 keys: vec![0; count],
                 values: vec![0; count],
@@ -115,6 +119,10 @@ impl Work {
     pub fn drop_maps(&mut self) {
         self.sip_map = HashMap::default();
         self.fx_map = HashMap::default();
+    }
+
+    pub fn make_room_for_order(&mut self) {
+        self.order = vec![0; self.keys.len()];
     }
 
     pub fn scrub(&mut self, written: Written) {
@@ -161,5 +169,24 @@ impl Work {
         let mut pairs = self.answers.keys.iter().zip(&self.answers.values);
         assert_eq!(sum(&self.keys), sum(&self.answers.keys));
         assert!(pairs.all(|(key, value)| value_of(*key) == *value));
+    }
+
+    /// Inserts of the pairs of these slots, in their order, make the very table.
+    pub fn check_order(&self) {
+        let pairs = self.order.iter().map(|slot| self.pair_in(*slot));
+        let (keys, values): (Vec<u64>, Vec<u32>) = pairs.unzip();
+        let mut again = vec![0; self.table.len()];
+        u64_u32::init(&mut again, keys.len(), PERCENT).expect("the length is right");
+        let answer = u64_u32::insert_all(&mut again, &keys, &values);
+        assert_eq!(answer, (Status::OK, keys.len()));
+        assert!(again == self.table);
+    }
+
+    fn pair_in(&self, slot: usize) -> (u64, u32) {
+        let entry = &self.table[HEADER + slot * ENTRY..][..ENTRY];
+        let (key, value) = entry.split_at(8);
+        let key = key.try_into().expect("a key has eight bytes");
+        let value = value.try_into().expect("a value has four");
+        (u64::from_le_bytes(key), u32::from_le_bytes(value))
     }
 }
