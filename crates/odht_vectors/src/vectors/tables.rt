@@ -56,6 +56,8 @@ fn table<C: Config>(words: &Words<'_>, call: &str, args: &[&str]) -> Result<Answ
                 HashTableOwned::from_raw_bytes(words.alloc, bytes.as_slice()),
             )
         }
+        "insert_order" if args.is_empty() => insert_order::<C>(words.alloc, bytes, false),
+        "insert_slots" if args.is_empty() => insert_order::<C>(words.alloc, bytes, true),
         "raw_insert" => raw::insert::<C>(words, bytes, args),
         _ => match HashTable::from_raw_bytes(OwnedBytes::new(bytes)) {
             Ok(view) => on_view::<C>(words, call, view, args),
@@ -182,6 +184,30 @@ fn made<C: Config>(alloc: Global, made: Result<HashTableOwned<C>, Error>) -> Res
         }
         Err(refused) => Answer::refusal(alloc, Some(refused)),
     }
+}
+
+// Whether inserts make the table, and then its filled slots, in an order in which they do or rising.
+fn insert_order<C: Config>(
+    alloc: Global,
+    bytes: Vec<u8>,
+    is_rising: bool,
+) -> Result<Answer, Fault> {
+    let table: HashTableOwned<C> = match HashTableOwned::from_raw_bytes(alloc, bytes.as_slice()) {
+        Ok(table) => table,
+        Err(refused) => return Answer::refusal(alloc, Some(refused)),
+    };
+    let mut order = vec![in alloc; 0; table.len()]?;
+    if !table.insert_order(order.as_mut_slice()) {
+        return Answer::text(alloc, &false);
+    }
+    if is_rising {
+        order.as_mut_slice().sort_unstable();
+    }
+    let mut text = true.to_string(alloc)?;
+    for slot in order.as_slice() {
+        add_word(&mut text, slot)?;
+    }
+    Ok(Answer::words(text))
 }
 
 // How many items were accepted, what stopped the list, and the bytes that it left.
