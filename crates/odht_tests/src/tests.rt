@@ -7,6 +7,7 @@ mod checks;
 mod frame;
 mod full_tables;
 mod header_bytes;
+mod insert_orders;
 mod list_properties;
 mod lossless;
 mod owned_tables;

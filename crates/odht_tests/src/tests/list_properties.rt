@@ -1,6 +1,7 @@
 //! Properties of tables of lists that look random, for keys and values of many lengths.
 use crate::tests::builds::check_three_builds;
 use crate::tests::checks::{same, same_bytes, same_len};
+use crate::tests::insert_orders::check_insert_order;
 use crate::tests::random::Random;
 use odht::HashTableOwned;
 use odht::bytes::ByteArray;
@@ -196,7 +197,7 @@ fn check_from_iterator_vs_manual_insertion<K: Short, V: Short>(
     Ok(())
 }
 
-// The six properties for keys and values of these lengths, each for 32 lists.
+// The seven properties for keys and values of these lengths, each for 32 lists.
 fn check_all<K: Short, V: Short>(rt: &impl Abort, alloc: Global) -> Result<(), Error> {
     for seed in 0..32 {
         let list: Vec<(K, V)> = random_list(rt, alloc, seed)?;
@@ -207,6 +208,7 @@ fn check_all<K: Short, V: Short>(rt: &impl Abort, alloc: Global) -> Result<(), E
         check_insert_with_duplicates(rt, alloc, list.as_slice())?;
         check_from_iterator_vs_manual_insertion(rt, alloc, list.as_slice())?;
         check_three_builds::<Plain<K, V>>(rt, alloc, list.as_slice())?;
+        check_insert_order(rt, alloc, &table_of(alloc, list.as_slice())?)?;
     }
     Ok(())
 }

@@ -1,0 +1,118 @@
+//! Orders of inserts of tables of lists that look random: one is found, it lists the filled slots, and its inserts make the
+//! table again. Single tables, and tables that no inserts make, are in vectors/insert_orders.txt.
+use crate::tests::checks::{same, same_bytes};
+use crate::tests::second_reading::Reading;
+use odht::bytes::{ByteArray, OwnedBytes};
+use odht::error::Error;
+use odht::{Config, HashTable, HashTableOwned};
+use std::alloc::{AllocError, Global};
+use std::process::Abort;
+
+// A table's bytes, whatever length its keys and values have. They are read as docs/FORMAT.md, "Layout", has them.
+#[derive(Clone, Copy)]
+struct Bytes<'a>(&'a [u8]);
+
+impl<'a> Bytes<'a> {
+    fn byte(&self, at: usize) -> u8 {
+        Reading { bytes: self.0 }.byte(at)
+    }
+
+    // The slot count of the header.
+    fn slots(&self) -> usize {
+        Reading { bytes: self.0 }.number(16, 8) as usize
+    }
+
+    // Where the control bytes begin: with the sixteen of the mirror they are the last.
+    fn controls(&self) -> usize {
+        self.0.len().wrapping_sub(16).wrapping_sub(self.slots())
+    }
+
+    // The slots whose control byte is that of a filled one, rising.
+    fn filled_slots(&self, alloc: Global) -> Result<Vec<usize>, AllocError> {
+        let mut filled = Vec::new(alloc);
+        for slot in 0..self.slots() {
+            if self.byte(self.controls().wrapping_add(slot)) < 128 {
+                filled.push(slot)?;
+            }
+        }
+        Ok(filled)
+    }
+
+    // The bytes of an empty table of as many slots and the same load factor.
+    fn emptied(&self, alloc: Global) -> Result<Vec<u8>, AllocError> {
+        let mut empty = vec![in alloc; 0; self.0.len()]?;
+        for (at, place) in empty.iter_mut().enumerate() {
+            *place = match at {
+                8..=15 => 0,
+                0..=31 => self.byte(at),
+                _ if at < self.controls() => 0,
+                _ => 255,
+            };
+        }
+        Ok(empty)
+    }
+
+    // The array that begins at a place.
+    fn array<A: ByteArray>(&self, rt: &impl Abort, at: usize) -> A {
+        let bytes = self.0;
+        assert!(rt; at <= bytes.len());
+        let (_, rest) = bytes.split_at(at);
+        assert!(rt; A::LEN <= rest.len());
+        A::from_slice(&rest[..A::LEN])
+    }
+
+    // The key and the value in the entry of a slot.
+    fn pair<C: Config>(&self, rt: &impl Abort, slot: usize) -> (C::Key, C::Value) {
+        let width = C::EncodedKey::LEN.wrapping_add(C::EncodedValue::LEN);
+        let at = slot.wrapping_mul(width).wrapping_add(32);
+        let key = C::decode_key(&self.array(rt, at));
+        let value = C::decode_value(&self.array(rt, at.wrapping_add(C::EncodedKey::LEN)));
+        (key, value)
+    }
+}
+
+// The bytes after inserts of the pairs of these slots, in this order, into an empty table of as many slots.
+fn made_again<C: Config>(
+    rt: &impl Abort,
+    alloc: Global,
+    bytes: Bytes<'_>,
+    order: &[usize],
+) -> Result<Vec<u8>, Error> {
+    let mut table: HashTable<C, OwnedBytes> = HashTable::from_raw_bytes(OwnedBytes::new(
+        bytes.emptied(alloc)?,
+    ))?;
+    for slot in order {
+        let (key, value) = bytes.pair::<C>(rt, *slot);
+        let _ = table.insert(&key, &value)?;
+    }
+    Ok(table.into_data().into_vec())
+}
+
+/// Demands that an order of inserts is found of the table, that it lists each filled slot once, and that inserts in this
+/// order leave its bytes.
+pub fn check_insert_order<C: Config>(
+    rt: &impl Abort,
+    alloc: Global,
+    table: &HashTableOwned<C>,
+) -> Result<(), Error> {
+    let mut order = vec![in alloc; 0; table.len()]?;
+    same(
+        rt,
+        "an order is found",
+        table.insert_order(order.as_mut_slice()),
+        true,
+    );
+    let bytes = Bytes(table.raw_bytes());
+    let mut rising = order.as_slice().to_vec(alloc)?;
+    rising.as_mut_slice().sort_unstable();
+    let filled = bytes.filled_slots(alloc)?;
+    same(
+        rt,
+        "slots of the order",
+        rising.as_slice(),
+        filled.as_slice(),
+    );
+    let again = made_again::<C>(rt, alloc, bytes, order.as_slice())?;
+    same_bytes(rt, "made again", again.as_slice(), bytes.0);
+    Ok(())
+}
