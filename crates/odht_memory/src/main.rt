@@ -54,6 +54,7 @@ fn run<W: Write>(alloc: Global, call: &str, output: &mut W) -> io::Result<()> {
         "allocate" => parts::allocation(alloc, output),
         "probe_order" => parts::order(alloc, output),
         "below_the_maximum" => quiet::below_the_maximum(alloc, output),
+        "insert_order" => quiet::insert_order(alloc, output),
         "view" => quiet::view(output),
         "numbers" => quiet::numbers(output),
         _ => Err(io::Error::from(ErrorKind::InvalidInput)),

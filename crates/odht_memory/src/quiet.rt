@@ -40,6 +40,26 @@ pub fn below_the_maximum<W: Write>(alloc: Global, output: &mut W) -> io::Result<
     crate::told::tell_table(&table, output)
 }
 
+/// An order of inserts, of a table in which the key 31 waits for 15. Making it is one request.
+pub fn insert_order<W: Write>(alloc: Global, output: &mut W) -> io::Result<()> {
+    let made = Table::with_capacity(alloc, 13, 87);
+    tell("with_capacity", &made, output)?;
+    let Ok(mut table) = made else {
+        return Ok(());
+    };
+    let (accepted, answer) = table.insert_all(&[(15, 115), (31, 131)]);
+    tell("insert_all", &answer, output)?;
+    let mut slots = [0; 16];
+    let Some(order) = slots.get_mut(..table.len()) else {
+        return Ok(());
+    };
+    let is_made = table.insert_order(order);
+    writeln!(
+        output,
+        "{accepted} accepted, made: {is_made}, by the slots {order:?}"
+    )
+}
+
 type View<'a> = HashTable<DirectU32ToU32, BorrowedMut<'a>>;
 
 /// A view, from the place that it is made in to its data.
