@@ -1,18 +1,16 @@
 -- Worked examples: what a call for an order of inserts answers, of two tables and of bytes that the whole check refuses.
---     fifteen_first            15 in slot 15 and behind it 31 in slot 0, which would stand in slot 15 if it came first
---     fifteen_bytes            its bytes
+--     fifteen_bytes            those of 15 in slot 15, and behind it 31 in slot 0, which would stand in slot 15 if it came first
 --     padded                   the same bytes, where the padding is not zero
 --     unmade_bytes             the keys 0 and 1 each behind the other, which no inserts make
 --     places                   an array of 48 places
-use Rattle.std.proofs.Common.{◌≡◌, ◌++◌, ℕ, List, [], ◌∷◌, refl, subst, lit≤, inl, replicate, Some, None}
+use Rattle.std.proofs.Common.{◌≡◌, ℕ, List, [], ◌∷◌, refl, subst, lit≤, inl, replicate}
 use Rattle.odht_base.specs.Bytes.{overwritten_at}
 use Rattle.odht_base.specs.Image.{image}
-use Rattle.odht_base.specs.Load.{factor_of}
 use Rattle.odht_base.specs.Made.{IsMade, IsInsertOrder}
 use Rattle.odht_base.specs.Table.{Table, count}
 use Rattle.odht_base.specs.Valid.{IsImage}
-use Rattle.odht_base.proofs.examples.Configs.{direct_config, pair32}
-use Rattle.odht_base.proofs.examples.InsertOrders.{fifteen_made, fifteen_order, slot_order_refused}
+use Rattle.odht_base.proofs.examples.Configs.{direct_config}
+use Rattle.odht_base.proofs.examples.InsertOrders.{fifteen_first, fifteen_made, fifteen_order, slot_order_refused}
 use Rattle.odht_base.proofs.examples.Unmade.{unmade, unmade_valid, unmade_refused}
 use Rattle.odht_base.proofs.lemmas.Placed.{IsPlaced-tests}
 use Rattle.odht_raw.specs.declared.error.Error.TheVariants.{TooShort, NonZeroPadding}
@@ -25,9 +23,6 @@ use Rattle.odht_c.proofs.examples.Tables.{direct_coding, direct_format, same_tab
 use Rattle.odht_c.proofs.lemmas.Opened.{never_refused}
 use Rattle.odht_c.proofs.lemmas.Ordered.{refused_order, lengths_order, done_order, unmade_order}
 use Rattle.odht_c.proofs.lemmas.Refused.{not_none}
-
-abbrev fifteen_first : Table
-fifteen_first = record { factor = factor_of 87; cells = Some (pair32 31 31) ∷ replicate 14 None ++ Some (pair32 15 15) ∷ [] }
 
 abbrev fifteen_bytes : List ℕ
 fifteen_bytes = image direct_config fifteen_first
