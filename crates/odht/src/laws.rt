@@ -21,13 +21,14 @@ pub fn valid_bytes_are_accepted<C: Config>()
         in (B : List ℕ) → IsValidBytes F B → IsAccepted F B }
 {}
 
-/// What a table that has the last values of the items has for a key is the value of the last item with this very key, and
-/// nothing where no item has it.
+/// What a table that has the last values of the items has for a key is the value of the last item with this very key,
+/// and nothing where no item has it.
 ///
 /// It does nothing, but looks at each item once.
 pub fn keys_have_last_values<C: Lossless>(items: &[(C::Key, C::Value)], key: &C::Key)
     ensures { let c = ⟦<C as Coded>⟧.coding
-        in (B : List ℕ) (h : HasLastValues c items.now B) → IsLastValue items.now key.now (value_for c h.table key.now) }
+        in (B : List ℕ) (h : HasLastValues c items.now B)
+        → IsLastValue items.now key.now (value_for c h.table key.now) }
 {
     for (k, v) in items {
         C::key_kept(k);

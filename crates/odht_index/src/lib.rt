@@ -40,8 +40,8 @@ impl Config for IndexConfig {
 
     type H = UnHashFn;
 
-    // Each of these four says what the function of its name answers, as a value that contracts can name. The key's bytes
-    // are the key itself; a number's are its four, lowest first.
+    // Each of these four says what the function of its name answers, as a value that contracts can name. The bytes of
+    // a path are the path itself; those of a number are its four, lowest first.
     ghost encode_key = { λ path. path };
 
     ghost encode_value = { to_le_bytes w32 };
@@ -81,8 +81,8 @@ impl Config for IndexConfig {
     ghost key_hashes = { lit≤ tt };
 }
 
-// Decoding undoes encoding, so a table is a map from the paths to the numbers themselves. Both laws are asked of a value
-// at hand. A path's bytes are the path; a number that is read is known to fit its four bytes.
+// Asks that decoding undoes encoding, at a path and at a number at hand: then a table is a map from the paths to the
+// numbers themselves. The bytes of a path are the path; a number that is read is known to fit its four bytes.
 impl Lossless for IndexConfig {
     fn key_kept(path: &[u8; 16]) {
         let _path = *path;
@@ -95,8 +95,9 @@ impl Lossless for IndexConfig {
 
 /// The bytes of an index of the pairs, to be stored. A path that comes again gets its later number.
 ///
-/// `Capacity` exactly where no slot count is enough for so many pairs, or its length passes `usize`; `Memory` where memory
-/// was refused. Then nothing is left of it. Each pair is hashed once, and the table never grows; its bytes are copied once.
+/// `Capacity` exactly where no slot count is enough for so many pairs, or its length passes `usize`; `Memory` where
+/// memory was refused. A refusal leaves nothing behind. Each pair is hashed once, the table never grows, and its bytes
+/// are copied once.
 pub fn build(alloc: Global, pairs: &[([u8; 16], u32)]) -> Result<Vec<u8>, Error>
     ensures filled { let c = ⟦<IndexConfig as Coded>⟧.coding
         in IfOk result (λ bytes. IsFreshFilled c 87 pairs.now bytes.items) }
@@ -106,11 +107,7 @@ pub fn build(alloc: Global, pairs: &[([u8; 16], u32)]) -> Result<Vec<u8>, Error>
         in (result ≡ Err Error.Capacity) ↔ IsTooLarge F (length pairs.now) (factor_of 87) }
     ensures memory { OnErr result ((result ≡ Err Error.Capacity) ⊎ (result ≡ Err Error.Memory)) }
 {
-    let mut table: HashTableOwned<IndexConfig> = HashTableOwned::with_capacity(
-        alloc,
-        pairs.len(),
-        87,
-    )?;
+    let mut table = HashTableOwned::<IndexConfig>::with_capacity(alloc, pairs.len(), 87)?;
     table.insert_all(pairs).1?;
     Ok(table.raw_bytes().to_vec(alloc)?)
 }
@@ -132,8 +129,8 @@ impl<'a> Model for Index<'a> {
 impl<'a> Index<'a> {
     /// Opens the bytes, which are looked at and not copied.
     ///
-    /// It answers the first refusal where there is one: of too few bytes, of the header, of the length, of the first ten
-    /// slots. Bytes of [`build`] are never refused. Nothing else is looked at.
+    /// It answers the first refusal where there is one: of too few bytes, of the header, of the length, of the first
+    /// ten slots; these alone are looked at. The bytes of a valid table, as [`build`] answers them, are never refused.
     #[inline]
     pub fn open(bytes: &'a [u8]) -> Result<Self, Error>
         ensures ok { IfOk result (λ index. index ≡ bytes.now) }
@@ -144,8 +141,8 @@ impl<'a> Index<'a> {
         Ok(Index { table })
     }
 
-    /// The number of a path, if it has one. On bytes that were opened and are no valid table it is at most a number that is
-    /// stored beside this very path.
+    /// The number of a path, if it has one. On bytes that were opened and are no valid table it is only a number that
+    /// is stored beside this very path.
     ///
     /// At most each group of sixteen control bytes is looked at once.
     #[inline]
@@ -159,10 +156,10 @@ impl<'a> Index<'a> {
     }
 }
 
-/// The law of both: the number of a path in an index that is built of the pairs and opened again is that of the last pair
-/// with this very path, and none where no pair has it.
+/// The law of both: the number of a path in an index that is built of the pairs and opened again is that of the last
+/// pair with this very path, and none where no pair has it.
 ///
-/// It is refused as [`build`] is.
+/// It is refused as [`build`] is, and costs what the three calls cost.
 pub fn built_and_looked_up(
     alloc: Global,
     pairs: &[([u8; 16], u32)],

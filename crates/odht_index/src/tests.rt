@@ -86,7 +86,7 @@ fn no_pairs(rt: HostRuntime) -> Result<(), Error> {
 #[test]
 fn a_cut_index_is_refused(rt: HostRuntime) -> Result<(), Error> {
     let bytes = built(rt.alloc(), &PAIRS)?;
-    let refused = match Index::open(&bytes[..383]) {
+    let refused = match Index::open(bytes.get(..383).unwrap_or(&[])) {
         Err(
             Error::WrongLength {
                 found,
