@@ -84,9 +84,7 @@ impl Config for IndexConfig {
 // Asks that decoding undoes encoding, at a path and at a number at hand: then a table is a map from the paths to the
 // numbers themselves. The bytes of a path are the path; a number that is read is known to fit its four bytes.
 impl Lossless for IndexConfig {
-    fn key_kept(path: &[u8; 16]) {
-        let _path = *path;
-    }
+    fn key_kept(_path: &[u8; 16]) {}
 
     fn value_kept(number: &u32) {
         let _number = *number;
