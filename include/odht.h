@@ -254,10 +254,10 @@ uint32_t odht_u64_u32_walk(const uint8_t *bytes, size_t bytes_len, uint64_t *key
  * BAD_LENGTHS: the check passes the bytes, and out_len is not the number of items.
  * With the last two out stays as it was.
  * It makes the whole check first, as odht_u64_u32_check does. Then it goes over the
- * items, in one pass more than the longest chain of slots of which each waits for
- * one behind it: a handful for tables of keys whose hashes vary. In a pass each item
- * that waits asks for the places before its own, by a binary search among those that
- * wait. It takes no memory.
+ * items, in at most one pass more than there are slots that wait for one behind
+ * them. In a pass each item that waits asks for the places before its own, by a
+ * binary search among those that wait; behind it what is left is sorted. It takes
+ * no memory.
  */
 uint32_t odht_u64_u32_insert_order(const uint8_t *bytes, size_t bytes_len, size_t *out,
                                    size_t out_len);

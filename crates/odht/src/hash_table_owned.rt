@@ -247,10 +247,10 @@ impl<C: Config> HashTableOwned<C> {
     }
 
     /// Inserts the items in their order, and stops at the first that is refused. Answers how many were accepted, and
-    /// `Memory` where there was a refusal: the table is then as the accepted ones left it, at its maximum, and the key of
-    /// the refused item is absent.
+    /// `Memory` where there was a refusal: the table is then as the accepted ones left it, at its maximum, and the key
+    /// of the refused item is absent.
     ///
-    /// A fresh table then has the items' last values; one for as many as there are has not grown.
+    /// A fresh table that accepted all has the items' last values; one for as many as there are has not grown.
     pub fn insert_all(&mut self, items: &[(C::Key, C::Value)]) -> (usize, Result<(), Error>)
         ensures bound { result.0 ≤ length items.now }
         ensures all { IsOk result.1 ↔ (result.0 ≡ length items.now) }

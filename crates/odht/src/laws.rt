@@ -1,11 +1,12 @@
-//! Laws of whole tables that no call carries by itself: a table of a `Lossless` configuration is a map of the keys to the
-//! values themselves, valid bytes are accepted, and an order of inserts makes its table again. Each function is a few calls
-//! at most, and its contract is the law.
+//! Laws of whole tables that no call carries by itself: a table of a `Lossless` configuration is a map of the keys to
+//! the values themselves, valid bytes are accepted, and an order of inserts makes its table again. Each function is
+//! a few calls at most, and its contract, kept by this very body, is the law.
 ghost use Rattle.std.specs.Prelude.{◌≡◌, ℕ, List, ◌≤◌, ◌↔◌, ◌⊎◌, length, IfOk, OnErr};
 ghost use Rattle.odht_base.specs.Load.{factor_of};
 ghost use Rattle.odht.specs.LastValues.{IsLastValue, HasLastValues};
-ghost use Rattle.odht.specs.Rebuilds.{IsMadeAgain};
-ghost use Rattle.odht_base.specs.Valid.{IsValidBytes};
+ghost use Rattle.odht.specs.Rebuilds.{IsNewSizeOf, AreInOrder};
+ghost use Rattle.odht_base.specs.Table.{Table};
+ghost use Rattle.odht_base.specs.Valid.{IsImage, IsValid, IsValidBytes};
 ghost use Rattle.odht_raw.specs.Coding.{value_for};
 ghost use Rattle.odht_raw.specs.Frame.{IsAccepted};
 ghost use Rattle.odht_raw.specs.Refusals.{IsTooLarge};
@@ -79,23 +80,28 @@ pub fn built_from_empty<C: Lossless>(
     Ok(last_value(&table, items, key))
 }
 
-/// A table made again. Its pairs, in an order that [`HashTableOwned::insert_order`] finds, are inserted in turn into a new
-/// table of its size, and leave its very bytes. The new table never grows.
+/// A table made again: its pairs, in an order that [`HashTableOwned::insert_order`] finds, are inserted in turn into
+/// a new table, and leave the bytes of this very table. So it is of each valid table `P` of which the items are the
+/// pairs in an insert order, and whose slot count and load factor are those of the new table.
 ///
-/// `Memory` where the memory was refused.
+/// `Capacity` exactly where no slot count is enough for `max_item_count`, or its length passes `usize`; `Memory` where
+/// the memory was refused.
 pub fn rebuilt<C: Config>(
     alloc: Global,
-    table: &HashTableOwned<C>,
     items: &[(C::Key, C::Value)],
     max_item_count: usize,
     max_load_factor_percent: u8,
 ) -> Result<HashTableOwned<C>, Error>
     requires low { 1 ≤ max_load_factor_percent }
     requires high { max_load_factor_percent ≤ 100 }
-    requires again { IsMadeAgain ⟦<C as Coded>⟧.coding items.now max_item_count max_load_factor_percent table.now }
-    ensures ok { IfOk result (λ t. t ≡ table.now) }
-    ensures capacity { result ≡ Err Error.Capacity
-        → IsTooLarge ⟦<C as Coded>⟧.coding.format max_item_count (factor_of max_load_factor_percent) }
+    ensures ok { let c = ⟦<C as Coded>⟧.coding
+        in (P : Table)
+        → IsValid c.format P
+        → AreInOrder c P items.now
+        → IsNewSizeOf P max_item_count max_load_factor_percent
+        → IfOk result (IsImage c.format P) }
+    ensures capacity { let F = ⟦<C as Coded>⟧.coding.format
+        in (result ≡ Err Error.Capacity) ↔ IsTooLarge F max_item_count (factor_of max_load_factor_percent) }
     ensures memory { OnErr result ((result ≡ Err Error.Capacity) ⊎ (result ≡ Err Error.Memory)) }
 {
     let mut rebuilt: HashTableOwned<C> = HashTableOwned::with_capacity(

@@ -92,9 +92,9 @@ pub fn rules_at_the_maximum_agree()
         → run (put_view F) P ps ≡ run (put_view_by_count F) P ps }
 {}
 
-/// The valid tables that inserts make, growths included, are exactly those with an insert order. The pairs in such an order,
-/// inserted into an empty table of as many slots, give the table: by the owned table or a view, and by either rule at the
-/// maximum.
+/// The valid tables that inserts make, growths included, are exactly those with an insert order. The pairs in such an
+/// order, inserted into an empty table of as many slots, give the table: by the owned table or a view, and by either
+/// rule at the maximum.
 pub fn insert_orders_make_tables()
     ensures made { (F : Format) (P : Table)
         → IsValid F P → (IsMade F P ↔ (order : List ℕ) × IsInsertOrder F P order) }

@@ -212,8 +212,8 @@ pub extern "C" fn odht_u64_u32_walk(
 /// The number of the first refusal of the whole check, 1 to 16, or `BAD_LENGTHS` where `out` has not as many places as
 /// there are items; then `out` stays.
 ///
-/// It takes no memory. It costs the whole check, and then one pass over the items more than the longest chain of slots
-/// of which each waits for one behind it.
+/// It takes no memory. It costs the whole check, and then at most one pass over the items more than there are slots
+/// that wait for one behind them; each pass ends by sorting what is left.
 #[unsafe(no_mangle)]
 pub extern "C" fn odht_u64_u32_insert_order(bytes: &[u8], out: &mut [usize]) -> u32
     ensures { OrderAnswers ⟦<U64ToU32 as Coded>⟧.coding bytes.now out.old result out.new }

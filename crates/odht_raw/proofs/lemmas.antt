@@ -55,14 +55,14 @@ pub mod KeyPasses
 pub mod KeyPlaces
 -- a look at the slots in turn
 pub mod SlotsSeen
+-- lists of different numbers that rise
+pub mod RisingLists
 -- slots that wait to be placed, as they are listed
 pub mod WaitingSlots
 -- what the whole check looks at beyond a view
 pub mod LateStages
 -- when a slot is ready, as the slots that wait tell it
 pub mod ReadyPlaces
--- lists of different numbers that rise
-pub mod RisingLists
 -- one pass through the slots that wait, in the search for an order
 pub mod PlacedFirst
 -- that search from its start to its end

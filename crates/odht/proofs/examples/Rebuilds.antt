@@ -1,5 +1,5 @@
--- Worked examples: items that make a table again.
-use Rattle.std.proofs.Common.{◌≡◌, ◌∙◌, ℕ, refl, sym, ap, subst, arith, List, [], ◌∷◌, Option, Some, None, option_map}
+-- Worked examples: items that make a table again, and items that do not.
+use Rattle.std.proofs.Common.{◌≡◌, ◌∙◌, ℕ, refl, ap, arith, List, [], ◌∷◌, Option, Some, None, option_map}
 use Rattle.std.specs.Prelude.{option_and_then}
 use Rattle.std.proofs.lemmas.List.Sorted.{IsPermutation-refl}
 use Rattle.std.proofs.lemmas.Option.{none-some}
@@ -12,8 +12,8 @@ use Rattle.odht_base.proofs.lemmas.Options.{some_same}
 use Rattle.odht_raw.proofs.examples.Apart.{some_unequal_lists}
 use Rattle.odht_raw.proofs.examples.Opened.{opened}
 use Rattle.odht.specs.Lists.{encoded_all}
-use Rattle.odht.specs.Rebuilds.{IsNewSizeOf, AreInOrder, IsMadeAgain}
-use Rattle.odht.proofs.examples.SmallTables.{number_coding, one_pair, bytes_of, one_pair_image, the_table}
+use Rattle.odht.specs.Rebuilds.{IsNewSizeOf, AreInOrder}
+use Rattle.odht.proofs.examples.SmallTables.{number_coding, one_pair}
 
 -- a new table for no item has sixteen slots
 pub new_size : IsNewSizeOf (one_pair 2) 0 87
@@ -45,20 +45,4 @@ unfolding opened
 others_refused = (
   λ h. some_unequal_lists (le_bytes 4 3) (le_bytes 4 2) refl (ap value_of_one (made_of (one_pair 2) ((1, 3) ∷ []) h)),
   λ h. none-some (le_bytes 4 2) (ap value_of_one (made_of (one_pair 2) [] h)),
-)
-
--- so the bytes with 1 to 2 are made again
-pub made_again : IsMadeAgain number_coding ((1, 2) ∷ []) 0 87 (bytes_of (one_pair 2))
-made_again = record { table = one_pair 2; image = one_pair_image.0; size = new_size; in_order = the_pair }
-
--- a table has these bytes alone
-of_bytes : (n : ℕ) (items : List (ℕ × ℕ)) → (h : IsMadeAgain number_coding items n 87 (bytes_of (one_pair 2))) → h.table ≡ one_pair 2
-of_bytes n items h = sym (the_table h.table (bytes_of (one_pair 2)) h.image) ∙ the_table (one_pair 2) (bytes_of (one_pair 2)) one_pair_image.0
-
--- by other items they are not, nor into a larger table
-pub again_refused : (IsMadeAgain number_coding ((1, 3) ∷ []) 0 87 (bytes_of (one_pair 2)) → ⊥)
-    × (IsMadeAgain number_coding ((1, 2) ∷ []) 14 87 (bytes_of (one_pair 2)) → ⊥)
-again_refused = (
-  λ h. others_refused.0 (subst (λ P. AreInOrder number_coding P ((1, 3) ∷ [])) (of_bytes 0 ((1, 3) ∷ []) h) h.in_order),
-  λ h. larger_refused (subst (λ P. IsNewSizeOf P 14 87) (of_bytes 14 ((1, 2) ∷ []) h) h.size),
 )

@@ -31,10 +31,6 @@ exponent s c =
       | inr large ↦ (p.0, large, p.1, p.2)
     ]
 
--- a slot count is no more than 2 ^ 63
-pub slots-le : (s : ℕ) → IsSlotCount s → s ≤ 2 ^ 63
-slots-le s c = let x = exponent s c in let m : 2 ^ x.0 ≤ 2 ^ 63 = pow_mono {i = x.0} {j = 63} (omega (arith, x.2)) in omega (arith, x.3)
-
 -- a power of two from 2 ^ 4 to 2 ^ 63 is a slot count
 pub IsSlotCount-pow : (s e : ℕ) → 4 ≤ e → e < 64 → s ≡ 2 ^ e → IsSlotCount s
 IsSlotCount-pow s e lo hi is = record {

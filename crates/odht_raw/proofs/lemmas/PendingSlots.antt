@@ -19,6 +19,7 @@ use Rattle.odht_base.proofs.lemmas.SoFar.{so_far_none}
 use Rattle.odht_raw.specs.Parts.{TableParts}
 use Rattle.odht_raw.specs.Waiting.{waiting, slot_of, placed_of, IsWaiting, IsPending, AreWholeParts}
 use Rattle.odht_raw.proofs.lemmas.PlacedFirst.{none_placed}
+use Rattle.odht_raw.proofs.lemmas.WaitingSlots.{slot_of-waiting}
 
 -- ---- the start
 module _ (P : Table) (small : slot_count P ≤ 2 ^ 63) where
@@ -36,14 +37,14 @@ module _ (P : Table) (small : slot_count P ≤ 2 ^ 63) where
       (omega (arith, is), omega (arith, is, filled-lt k low))
 
   -- and its slot is itself
-  same_slots : (xs : List ℕ) → ((k : ℕ) → k < length xs → get_or xs k 0 < 2 ^ 63) → map slot_of (map waiting xs) ≡ xs
-  same_slots [] low = refl
-  same_slots (x ∷ xs) low =
-      let here : slot_of (waiting x) ≡ x = omega (arith, low 0 (omega arith)) in
-      (λ i. here i ∷ same_slots xs (λ k l. low (suc k) (omega (arith, l))) i)
+  slots_of_waiting : (xs : List ℕ) → ((k : ℕ) → k < length xs → get_or xs k 0 < 2 ^ 63) → map slot_of (map waiting xs) ≡ xs
+  slots_of_waiting [] low = refl
+  slots_of_waiting (x ∷ xs) low =
+      (λ i. slot_of-waiting x (low 0 (omega arith)) i ∷ slots_of_waiting xs (λ k l. low (suc k) (omega (arith, l))) i)
 
-  slots_are : map slot_of (map waiting (filled P)) ≡ filled P
-  slots_are = same_slots (filled P) (λ k l. omega (arith, filled-lt k l, small))
+  -- so the slots of the list are the filled ones
+  all_slots : map slot_of (map waiting (filled P)) ≡ filled P
+  all_slots = slots_of_waiting (filled P) (λ k l. omega (arith, filled-lt k l, small))
 
   -- the filled slots rise
   filled_rise : AllPairs ◌<◌ (filled P)
@@ -54,8 +55,8 @@ module _ (P : Table) (small : slot_count P ≤ 2 ^ 63) where
   -- all of them are pending
   pub all_pending : (F : Format) → IsPending F P [] (map waiting (filled P))
   all_pending F = record {
-    listed = subst (λ xs. IsPermutation (filled P) xs) (sym slots_are) (IsPermutation-refl (filled P));
-    rising = subst (AllPairs ◌<◌) (sym slots_are) filled_rise;
+    listed = subst (λ xs. IsPermutation (filled P) xs) (sym all_slots) (IsPermutation-refl (filled P));
+    rising = subst (AllPairs ◌<◌) (sym all_slots) filled_rise;
     so_far = subst (IsSoFar F P) (sym (none_placed (map waiting (filled P)) (λ k d l. (all_wait k d l).0))) (so_far_none F P);
   }
 

@@ -17,7 +17,9 @@ use Rattle.odht_base.proofs.lemmas.Pigeons.{IsApart}
 use Rattle.odht_base.proofs.lemmas.ReadySlots.{stuck_if_none}
 use Rattle.odht_base.proofs.lemmas.SoFar.{so_far_push}
 use Rattle.odht_raw.specs.Waiting.{slot_of, placed_of, IsWaiting, AreRising, IsPending}
-use Rattle.odht_raw.proofs.lemmas.RisingLists.{apart_moved, rising_append, sorted_is}
+use Rattle.odht_raw.proofs.lemmas.ReadyPlaces.{placed_listed, pending_apart}
+use Rattle.odht_raw.proofs.lemmas.WaitingSlots.{SlotsRise, slots_rise}
+use Rattle.odht_raw.proofs.lemmas.RisingLists.{rising_append, sorted_is}
 
 -- ---- listed slots
 -- the slots of the list that wait, as they are listed
@@ -35,8 +37,8 @@ slot_of_waiting n high fits =
     ap slot_of e ∙ mod_low 1 63 (n - 2 ^ 63) (omega (arith, high, fits))
 
 -- an item that is written over by another with the same slot keeps the slots of the list
-pub same_slots : (ns : List ℕ) (at i : ℕ) → at < length ns → slot_of (get_or ns at 0) ≡ slot_of i → map slot_of (set ns at i) ≡ map slot_of ns
-same_slots ns at i l same = map-set slot_of ns at i ∙ ap (set (map slot_of ns) at) (sym same ∙ sym (get_or-map slot_of ns at 0 0 l)) ∙ set-get_or (map slot_of ns) at 0
+pub kept_slots : (ns : List ℕ) (at i : ℕ) → at < length ns → slot_of (get_or ns at 0) ≡ slot_of i → map slot_of (set ns at i) ≡ map slot_of ns
+kept_slots ns at i l same = map-set slot_of ns at i ∙ ap (set (map slot_of ns) at) (sym same ∙ sym (get_or-map slot_of ns at 0 0 l)) ∙ set-get_or (map slot_of ns) at 0
 
 -- of a list that waits none is placed
 pub none_placed : (ns : List ℕ) → All (λ n. 2 ^ 63 ≤ n) ns → placed_of ns ≡ []
@@ -62,22 +64,8 @@ placed_low ns k d l = ltb-true _ _ (filter_passes (λ n. nat_lt n (2 ^ 63)) ns k
 pub waiting_high : (ns : List ℕ) → All (λ n. 2 ^ 63 ≤ n) (waiting_of ns)
 waiting_high ns k d l = ltb-false _ _ (not-true _ (filter_passes (λ n. not (nat_lt n (2 ^ 63))) ns k d l))
 
--- each that is placed stands in the list
-placed_listed : (ns : List ℕ) (i : ℕ) → Contains (placed_of ns) i → Contains ns i
-placed_listed ns i h = All-contains (Contains ns) (placed_of ns) i (All-filter (λ n. nat_lt n (2 ^ 63)) (Contains ns) ns (All-contains_itself ns)) h
-
 -- ---- the order of the sorted list
--- the slots of a list rise as its items do
-abbrev pub SlotsRise : List ℕ → Type 0
-SlotsRise ns = AllPairs (λ a b. slot_of a < slot_of b) ns
-
--- where the list of its slots rises
-pub slots_rise : (ns : List ℕ) → AreRising ns → SlotsRise ns
-slots_rise ns rise i j d lt l =
-    let size = length-map ns slot_of in
-    omega (arith, rise i j 0 lt (omega (arith, l, size)), get_or-map slot_of ns i d 0 (omega (arith, lt, l)), get_or-map slot_of ns j d 0 l)
-
--- and the other way round
+-- a list whose slots rise as its items do rises
 pub are_rising : (ns : List ℕ) → SlotsRise ns → AreRising ns
 are_rising ns rise i j d lt l =
     let m : j < length ns = omega (arith, l, length-map ns slot_of) in
@@ -120,10 +108,6 @@ waiting_below s ns below k d l = (waiting_high ns k d l, All-filter (λ n. not (
 
 -- ---- filled slots of which some wait
 module _ (F : Format) (P : Table) (done ns : List ℕ) (pending : IsPending F P done ns) where
-  -- no slot is listed twice
-  all_apart : IsApart (done ++ map slot_of ns)
-  all_apart = apart_moved (filled P) (done ++ map slot_of ns) pending.listed (filled-apart P)
-
   -- each slot of the list holds a pair
   pub pending_holds : (k : ℕ) → k < length ns → (p : Pair) × HoldsPair P (slot_of (get_or ns k 0)) p
   pending_holds k l =
@@ -145,10 +129,10 @@ module _ (F : Format) (P : Table) (done ns : List ℕ) (pending : IsPending F P 
   not_taken at i l waits low is h = elim (Contains-append_cases done (placed_of ns) i h) [
     | inl taken ↦
         let here : length done + at < length (done ++ map slot_of ns) = omega (arith, l, length-append done (map slot_of ns), length-map ns slot_of) in
-        all_apart taken.0 (length done + at) i (omega (arith, taken.1)) here
+        pending_apart F P done ns pending taken.0 (length done + at) i (omega (arith, taken.1)) here
         (get_or_append_left done (map slot_of ns) i taken.0 taken.1 ∙ taken.2 ∙ sym is ∙ sym (get_or-map slot_of ns at 0 i l) ∙ sym (get_or-append-add done (map slot_of ns) at i))
     | inr placed ↦
-        let other = placed_listed ns i placed in
+        let other = (placed_listed ns i placed).0 in
         let same : slot_of (get_or ns other.0 i) ≡ i = ap slot_of other.2 ∙ slot_of_placed i low in
         let item : get_or ns at i ≡ get_or ns at 0 = get_or_default ns at i 0 l in
         let at_is : slot_of (get_or ns at i) ≡ i = ap slot_of item ∙ is in
@@ -165,7 +149,7 @@ module _ (F : Format) (P : Table) (done ns : List ℕ) (pending : IsPending F P 
   pub place_one : (at i : ℕ) → at < length ns → All (λ n. 2 ^ 63 ≤ n) (drop at ns) → i < 2 ^ 63 → slot_of (get_or ns at 0) ≡ i → IsReady F P (done ++ placed_of ns) i → IsPending F P done (set ns at i)
   place_one at i l wait low is ready =
       let waits = All-head (λ n. 2 ^ 63 ≤ n) (get_or ns at 0) (drop (at + 1) ns) (subst (All (λ n. 2 ^ 63 ≤ n)) (drop_more ns at 0 l) wait) in
-      let same = same_slots ns at i l (is ∙ sym (slot_of_placed i low)) in
+      let same = kept_slots ns at i l (is ∙ sym (slot_of_placed i low)) in
       let more = append_assoc done (placed_of ns) (i ∷ []) ∙ ap (λ ys. done ++ ys) (sym (placed_one ns at i l low wait)) in
       record {
         listed = subst (λ ms. IsPermutation (filled P) (done ++ ms)) (sym same) pending.listed;
@@ -284,7 +268,7 @@ module _ {s : ℕ} {old ns : List ℕ} {at placed : ℕ} (gone : IsGone s old ns
     pub gone_placed : IsGone s old (set ns at next) (at + 1) (placed + 1)
     gone_placed = record {
       waited = gone.waited;
-      same = same_slots ns at next l (next_is ∙ sym (slot_of_placed next next_low)) ∙ gone.same;
+      same = kept_slots ns at next l (next_is ∙ sym (slot_of_placed next next_low)) ∙ gone.same;
       rest = drop-set-lt (at + 1) ns at next (omega arith) ∙ rest_more;
       counted = omega (arith, gone.counted, length_push (placed_of ns) next, ap (λ ys. length ys) (placed_one ns at next l next_low rest_high));
       few = omega (arith, gone.few);

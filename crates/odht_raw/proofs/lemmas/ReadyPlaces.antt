@@ -27,7 +27,7 @@ apart_halves xs ys i apart h g =
 
 -- ---- a list of placed and waiting slots
 -- a slot that is placed in its turn is listed as itself
-placed_listed : (ns : List ℕ) (i : ℕ) → Contains (placed_of ns) i → Contains ns i × (i < 2 ^ 63)
+pub placed_listed : (ns : List ℕ) (i : ℕ) → Contains (placed_of ns) i → Contains ns i × (i < 2 ^ 63)
 placed_listed ns i h =
     let low = All-contains (λ n. nat_lt n (2 ^ 63) ≡ true) (placed_of ns) i (filter_passes (λ n. nat_lt n (2 ^ 63)) ns) h in
     (All-contains (Contains ns) (placed_of ns) i (All-filter (λ n. nat_lt n (2 ^ 63)) (Contains ns) ns (λ k d l. Contains-get_or ns k d l)) h, ltb-true i (2 ^ 63) low)
@@ -66,8 +66,9 @@ listed_once ns m n rising h g same = elim (cases_order h.0 g.0) [
         omega (arith, rising k l 0 before (omega (arith, high, length-map ns slot_of)), first, second)
 
 module _ (F : Format) (P : Table) (done ns : List ℕ) (h : IsPending F P done ns) where
-  apart : IsApart (done ++ map slot_of ns)
-  apart = apart_moved (filled P) (done ++ map slot_of ns) h.listed (filled-apart P)
+  -- no slot is listed twice, of those that are placed and the others
+  pub pending_apart : IsApart (done ++ map slot_of ns)
+  pending_apart = apart_moved (filled P) (done ++ map slot_of ns) h.listed (filled-apart P)
 
   -- a slot that waits is not placed
   pub not_placed_if_waiting : (i : ℕ) → i < 2 ^ 63 → Contains ns (waiting i) → Contains (done ++ placed_of ns) i → ⊥
@@ -75,7 +76,7 @@ module _ (F : Format) (P : Table) (done ns : List ℕ) (h : IsPending F P done n
     | inl old ↦
         let listed : Contains (map slot_of ns) i =
         (w.0, omega (arith, w.1, length-map ns slot_of), (get_or-map slot_of ns w.0 (waiting i) i w.1 ∙ ap slot_of w.2) ∙ omega (arith, low)) in
-        apart_halves done (map slot_of ns) i apart old listed
+        apart_halves done (map slot_of ns) i pending_apart old listed
     | inr new ↦
         let p = placed_listed ns i new in
         omega (arith, listed_once ns i (waiting i) h.rising p.0 w (omega (arith, low)))
@@ -123,11 +124,12 @@ module _ (F : Format) (P : Table) (done ns : List ℕ) (h : IsPending F P done n
       earlier_taken = λ q l. let d = passed_filled n walked q l in placed_if_not_waiting fit (slot q) d.0 d.1 (walked q l).1;
     }
 
-    -- where it meets one that waits, or nothing more, slot i is not
+    -- where it meets one that waits, slot i is not
     pub not_ready_if_waiting : (n : ℕ) → Walked n → (slot n ≡ i → ⊥) → slot n < 2 ^ 63 → Contains ns (waiting (slot n)) → IsReady F P (done ++ placed_of ns) i → ⊥
     not_ready_if_waiting n walked other low waits =
         not_ready F P (done ++ placed_of ns) i p holds n (λ q l. (walked q l).0) other (not_placed_if_waiting (slot n) low waits)
 
+    -- nor where it meets nothing more
     pub not_ready_if_nowhere : (n : ℕ) → slot_count P ≤ n → Walked n → IsReady F P (done ++ placed_of ns) i → ⊥
     not_ready_if_nowhere n past walked = never_ready F P (done ++ placed_of ns) i p holds (λ q l. (walked q (omega arith)).0)
 
@@ -145,6 +147,7 @@ module _ (F : Format) (f : IsFormat F) (P : Table) (es ctrl : List ℕ) (parts :
       ∙ ap (λ n. place_slot (F.hash p.key % n) n q) (slots_are F f P es ctrl parts s long)
 
   module _ (n : ℕ) (others : (q : ℕ) → q < n → seen_slot q ≡ i → ⊥) (passed : AreRising ns → (q : ℕ) → q < n → Contains ns (waiting (seen_slot q)) → ⊥) where
+    -- it walks as the one above
     walked : Walked F P done ns h parts.placed i p holds n
     walked q l = (λ e. others q l (seen_is q ∙ e), λ w. passed h.rising q l (subst (λ j. Contains ns (waiting j)) (sym (seen_is q)) w))
 

@@ -1,6 +1,6 @@
 -- Slots that wait to be placed, as they are listed: the list of all filled slots as it is made, and the place of one slot in a
 -- list that rises.
-use Rattle.std.proofs.Common.{◌≡◌, ◌<◌, ◌≤◌, ◌+◌, ◌^◌, ◌∙◌, ◌⊎◌, inl, inr, ℕ, zero, suc, Bool, true, false, true≢false, not, cond, sym, ap, ap₂, subst, refl, List, [], ◌∷◌, ◌++◌, Option, Some, None, map, filter, length, take, slice_index, ltb, arith, Contains, ◌==◌, Bor}
+use Rattle.std.proofs.Common.{◌≡◌, ◌<◌, ◌≤◌, ◌+◌, ◌^◌, ◌∙◌, ◌⊎◌, inl, inr, ℕ, zero, suc, Bool, true, false, true≢false, not, cond, sym, ap, ap₂, subst, refl, List, [], ◌∷◌, ◌++◌, Option, Some, None, map, filter, length, take, AllPairs, slice_index, ltb, arith, Contains, ◌==◌, Bor}
 use Rattle.std.specs.Prelude.{is_some, is_none}
 use Rattle.std.specs.Bool.{Decides}
 use Rattle.std.specs.List.{range_with_len}
@@ -145,19 +145,23 @@ module _ (ctrl : List ℕ) where
 
 -- ---- a list of slots that rises
 -- the slot of one that waits
-slot_of-waiting : (slot : ℕ) → slot < 2 ^ 63 → slot_of (waiting slot) ≡ slot
+pub slot_of-waiting : (slot : ℕ) → slot < 2 ^ 63 → slot_of (waiting slot) ≡ slot
 slot_of-waiting slot small = add-mod_left (2 ^ 63) slot ∙ mod-eq_of_lt small
 
--- of two in a list that rises, the former is the lower slot
-rises : (ns : List ℕ) → AreRising ns → (i j : ℕ) → i < j → j < length ns → slot_of (slice_index ns i) < slot_of (slice_index ns j)
-rises ns up i j before within =
-    let long : j < length (map slot_of ns) = omega (arith, length-map ns slot_of) in
-    omega (arith, up i j 0 before long, get_or-map slot_of ns i 0 0 (omega arith), get_or-map slot_of ns j 0 0 within)
+-- the slots of a list rise as its items do
+abbrev pub SlotsRise : List ℕ → Type 0
+SlotsRise ns = AllPairs (λ a b. slot_of a < slot_of b) ns
+
+-- where the list of its slots rises
+pub slots_rise : (ns : List ℕ) → AreRising ns → SlotsRise ns
+slots_rise ns rise i j d lt l =
+    let size = length-map ns slot_of in
+    omega (arith, rise i j 0 lt (omega (arith, l, size)), get_or-map slot_of ns i d 0 (omega (arith, lt, l)), get_or-map slot_of ns j d 0 l)
 
 -- so those below a slot come first
 pub parted_where_rising : (ns : List ℕ) (slot : ℕ) → AreRising ns → IsPartitionedBy (λ n. ltb (slot_of n) slot) ns
 parted_where_rising ns slot up = IsPartitionedBy-ltb slot_of ns slot (IsNonDecreasingBy-from_default slot_of ns 0 (λ i j le within. elim (cases_lt i j) [
-  | inl before ↦ omega (arith, rises ns up i j before within)
+  | inl before ↦ omega (arith, slots_rise ns up i j 0 before within)
   | inr same ↦ let e : i ≡ j = omega arith in omega (arith, ap (λ k. slot_of (slice_index ns k)) e)
 ]))
 
@@ -175,7 +179,7 @@ waits_at_point ns slot i small up point h = go (cases_lt h.0 i) (cases_lt i h.0)
 
     go : (h.0 < i) ⊎ (i ≤ h.0) → (i < h.0) ⊎ (h.0 ≤ i) → (i < length ns) × (slice_index ns i ≡ waiting slot)
     go (inl low) other = absurd (omega (arith, its, ltb-true _ _ (point.0 h.0 0 (omega arith) low)))
-    go (inr past) (inl before) = absurd (omega (arith, its, rises ns up i h.0 before h.1, ltb-false _ _ (point.1 i 0 (omega arith) (omega (arith, h.1)))))
+    go (inr past) (inl before) = absurd (omega (arith, its, slots_rise ns up i h.0 0 before h.1, ltb-false _ _ (point.1 i 0 (omega arith) (omega (arith, h.1)))))
     go (inr past) (inr after) = let same : h.0 ≡ i = omega arith in (omega (arith, h.1), subst (λ k. slice_index ns k ≡ waiting slot) same here)
 
 -- what `get` finds at i is the number y exactly where the list has y at i

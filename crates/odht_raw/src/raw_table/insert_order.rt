@@ -16,14 +16,14 @@ use crate::hash::HashFn;
 const WAITING: usize = 1 << 63;
 
 impl<'a, K: ByteArray, V: ByteArray, H: HashFn> RawTable<'a, K, V, H> {
-    /// Whether inserts can make the table, and an order of its filled slots in which they do: their pairs, inserted in this
-    /// order into an empty table of as many slots, leave this very table. Where no inserts make it, `out` holds numbers
-    /// that say nothing.
+    /// Whether inserts can make the table, and an order of its filled slots in which they do: their pairs, inserted in
+    /// this order into an empty table of as many slots, leave this very table. Where no inserts make it, `out` holds
+    /// numbers that say nothing. The parts are those of a valid table, and `out` has a place for each of its pairs.
     ///
-    /// The slots are gone through in their order, and each is placed as soon as all slots before it in the probe order of
-    /// its key are, until none waits, or none was placed. That takes one pass more than the longest chain of slots of
-    /// which each waits for one behind it. In a pass each waiting slot asks for the places before it, by a binary search
-    /// among those that wait. It takes no memory.
+    /// The slots are gone through in their order, and each is placed as soon as all slots before it in the probe order
+    /// of its key are, until none waits, or none was placed. That takes at most one pass more than there are slots that
+    /// wait for one behind them. In a pass each waiting slot asks for the places before it, by a binary search among
+    /// those that wait; behind it what is left is sorted. It takes no memory.
     pub fn insert_order(&self, out: &mut [usize]) -> bool
         requires whole { let F = format_of K.LEN V.LEN H.hash
             in (P : Table) × AreWholeParts F P self.now (length out.old) }
@@ -49,12 +49,14 @@ impl<'a, K: ByteArray, V: ByteArray, H: HashFn> RawTable<'a, K, V, H> {
         true
     }
 
-    // Goes once through the slots that wait, and places each that is ready by then. Those come first in the end, in their
-    // order, and behind them the others. Answers how many were placed.
+    // Goes once through the slots that wait, and places each that is ready by then. Those come first in the end, in
+    // their order, and behind them the others. Answers how many were placed.
     fn place_ready(&self, slots: &mut [usize]) -> usize
         requires waiting { All (IsWaiting self.now.entries.slots) slots.old }
         requires pending { let F = format_of K.LEN V.LEN H.hash
-            in (P : Table) × (done : List ℕ) × IsPartsOf F P self.now.entries.bytes self.now.control × IsPending F P done slots.old }
+            in (P : Table) × (done : List ℕ)
+            × IsPartsOf F P self.now.entries.bytes self.now.control
+            × IsPending F P done slots.old }
         ensures few { result ≤ length slots.new }
         ensures waiting { All (IsWaiting self.now.entries.slots) (drop result slots.new) }
         ensures pending { let F = format_of K.LEN V.LEN H.hash

@@ -1,10 +1,11 @@
-//! Orders of inserts of tables of lists that look random: one is found, it lists the filled slots, and its inserts make the
-//! table again. Single tables, and tables that no inserts make, are in vectors/insert_orders.txt.
+//! Orders of inserts of tables of lists that look random: one is found, it lists the filled slots, and its inserts make
+//! the table again. Single tables, and tables that no inserts make, are in vectors/insert_orders.txt.
 use crate::tests::checks::{same, same_bytes};
 use crate::tests::second_reading::Reading;
-use odht::bytes::{ByteArray, OwnedBytes};
+use odht::bytes::ByteArray;
 use odht::error::Error;
-use odht::{Config, HashTable, HashTableOwned};
+use odht::laws::rebuilt;
+use odht::{Config, HashTableOwned};
 use std::alloc::{AllocError, Global};
 use std::process::Abort;
 
@@ -38,20 +39,6 @@ impl<'a> Bytes<'a> {
         Ok(filled)
     }
 
-    // The bytes of an empty table of as many slots and the same load factor.
-    fn emptied(&self, alloc: Global) -> Result<Vec<u8>, AllocError> {
-        let mut empty = vec![in alloc; 0; self.0.len()]?;
-        for (at, place) in empty.iter_mut().enumerate() {
-            *place = match at {
-                8..=15 => 0,
-                0..=31 => self.byte(at),
-                _ if at < self.controls() => 0,
-                _ => 255,
-            };
-        }
-        Ok(empty)
-    }
-
     // The array that begins at a place.
     fn array<A: ByteArray>(&self, rt: &impl Abort, at: usize) -> A {
         let bytes = self.0;
@@ -71,29 +58,27 @@ impl<'a> Bytes<'a> {
     }
 }
 
-// The bytes after inserts of the pairs of these slots, in this order, into an empty table of as many slots.
-fn made_again<C: Config>(
+// The keys and values of these slots, in this order.
+fn items_of<C: Config>(
     rt: &impl Abort,
     alloc: Global,
     bytes: Bytes<'_>,
     order: &[usize],
-) -> Result<Vec<u8>, Error> {
-    let mut table: HashTable<C, OwnedBytes> = HashTable::from_raw_bytes(OwnedBytes::new(
-        bytes.emptied(alloc)?,
-    ))?;
+) -> Result<Vec<(C::Key, C::Value)>, AllocError> {
+    let mut items = Vec::new(alloc);
     for slot in order {
-        let (key, value) = bytes.pair::<C>(rt, *slot);
-        let _ = table.insert(&key, &value)?;
+        items.push(bytes.pair::<C>(rt, *slot))?;
     }
-    Ok(table.into_data().into_vec())
+    Ok(items)
 }
 
-/// Demands that an order of inserts is found of the table, that it lists each filled slot once, and that inserts in this
-/// order leave its bytes.
+/// Demands that an order of inserts is found of a table that was made for so many items at 87 percent, that it lists
+/// each filled slot once, and that inserts in this order into a new table for as many leave its bytes.
 pub fn check_insert_order<C: Config>(
     rt: &impl Abort,
     alloc: Global,
     table: &HashTableOwned<C>,
+    max_item_count: usize,
 ) -> Result<(), Error> {
     let mut order = vec![in alloc; 0; table.len()]?;
     same(
@@ -112,7 +97,8 @@ pub fn check_insert_order<C: Config>(
         rising.as_slice(),
         filled.as_slice(),
     );
-    let again = made_again::<C>(rt, alloc, bytes, order.as_slice())?;
-    same_bytes(rt, "made again", again.as_slice(), bytes.0);
+    let items = items_of::<C>(rt, alloc, bytes, order.as_slice())?;
+    let again: HashTableOwned<C> = rebuilt(alloc, items.as_slice(), max_item_count, 87)?;
+    same_bytes(rt, "made again", again.raw_bytes(), bytes.0);
     Ok(())
 }

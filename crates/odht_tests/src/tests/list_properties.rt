@@ -208,7 +208,7 @@ fn check_all<K: Short, V: Short>(rt: &impl Abort, alloc: Global) -> Result<(), E
         check_insert_with_duplicates(rt, alloc, list.as_slice())?;
         check_from_iterator_vs_manual_insertion(rt, alloc, list.as_slice())?;
         check_three_builds::<Plain<K, V>>(rt, alloc, list.as_slice())?;
-        check_insert_order(rt, alloc, &table_of(alloc, list.as_slice())?)?;
+        check_insert_order(rt, alloc, &table_of(alloc, list.as_slice())?, list.len())?;
     }
     Ok(())
 }

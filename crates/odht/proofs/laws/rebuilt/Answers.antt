@@ -3,15 +3,15 @@ use Rattle.std.proofs.lemmas.List.{take_all}
 use Rattle.odht_base.specs.Insert.{put_owned}
 use Rattle.odht_raw.specs.Coding.{coding_of}
 use Rattle.odht.specs.Lists.{encoded_all, IsFilled}
-use Rattle.odht.proofs.lemmas.Rebuilding.{rebuilt-same}
+use Rattle.odht.proofs.lemmas.Rebuilding.{rebuilt-IsImage}
 use Rattle.odht.proofs.laws.rebuilt.Goals as goal
 
 pub returns-clause-ok : goal.returns-clause-ok
-returns-clause-ok g c =
+returns-clause-ok g c P ok in_order size =
     let K = coding_of g.C.EncodedKey.ByteArray.LEN g.C.EncodedKey.ByteArray.bytes g.C.EncodedKey.ByteArray.of_bytes g.C.EncodedValue.ByteArray.LEN g.C.EncodedValue.ByteArray.bytes g.C.EncodedValue.ByteArray.of_bytes g.C.H.HashFn.hash g.C.Config.encode_key g.C.Config.encode_value g.C.Config.decode_key g.C.Config.decode_value in
     let items = c.args.items.now in
     let made = c.in_ok-rebuilt.ensures.ok in
     let all = c.insert_all.ensures.all.0 (subst IsOk (sym c.in_ok-insert_all.was) refl) in
     let taken : take c.insert_all.result.0 items ≡ items = take_all c.insert_all.result.0 items (omega (arith, all)) in
     let filled = subst (λ (xs : List (g.row.C-Key.Denot × g.row.C-Value.Denot)). IsFilled K.format (put_owned K.format) made.table (encoded_all K xs) c.insert_all.new.self) taken (c.insert_all.ensures.filled made.table made.image) in
-    rebuilt-same K items c.args.max_item_count c.args.max_load_factor_percent c.args.table.now c.requires.again made.table made.new c.insert_all.new.self filled
+    rebuilt-IsImage K items c.args.max_item_count c.args.max_load_factor_percent made.table made.new c.insert_all.new.self filled P ok in_order size

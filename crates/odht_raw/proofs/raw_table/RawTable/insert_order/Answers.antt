@@ -6,7 +6,7 @@ use Rattle.odht_base.specs.Made.{filled}
 use Rattle.odht_base.specs.Shown.{counts_as_free}
 use Rattle.odht_base.specs.Table.{Table, slot_count, is_free}
 use Rattle.odht_base.proofs.lemmas.MadeTables.{IsMade-IsInsertOrder}
-use Rattle.odht_base.proofs.lemmas.SlotCounts.{slots-le}
+use Rattle.odht_base.proofs.lemmas.SlotCounts.{few_slots}
 use Rattle.odht_raw.specs.Parts.{TableParts}
 use Rattle.odht_raw.specs.Waiting.{waiting, IsWaiting, IsPending, AreWholeParts}
 use Rattle.odht_raw.proofs.lemmas.Formats.{IsFormat-format_of}
@@ -37,7 +37,7 @@ module _ (g : Over) (c : After-list_filled g) where
     as_many = slots_are (format g) fits P _ _ whole.parts _ mirrored
 
     small : slot_count P ≤ 2 ^ 63
-    small = slots-le (slot_count P) whole.valid.placed.slots
+    small = few_slots (slot_count P) whole.valid.placed.slots
 
     list : c.list_filled.new.out ≡ map waiting (filled P)
     list = c.list_filled.ensures P (sym as_many ∙ sym slots)

@@ -5,7 +5,7 @@ use Rattle.odht_base.specs.Format.{Format, IsFormat, format_of}
 use Rattle.odht_base.specs.Load.{IsSlotCount}
 use Rattle.odht_base.specs.Probe.{place_slot}
 use Rattle.odht_base.specs.Shown.{slot_key}
-use Rattle.odht_base.proofs.lemmas.SlotCounts.{slots-le}
+use Rattle.odht_base.proofs.lemmas.SlotCounts.{few_slots}
 use Rattle.odht_raw.specs.Parts.{TableParts}
 use Rattle.odht_raw.specs.Waiting.{waiting}
 use Rattle.odht_raw.proofs.lemmas.Formats.{IsFormat-format_of}
@@ -61,7 +61,7 @@ returns-then-is_waiting g c P done p parts h holds =
             waiting_seen F (fits g at) P es ctrl parts (s g at) (mirrored g at) done ns h (small g at) c.args.slot p holds
             n v.others v.passed (λ e. c.loop-probe-test.true (slot_is g at ∙ e))
             (λ rising. subst (λ j. Contains ns (waiting j)) here ((c.is_waiting.ensures rising).0 w.if-is_waiting.true))
-            (omega (arith, here, c.index-in-loop-probe.ensures.below, v.mask, slots-le (s g at) (count g at))) r
+            (omega (arith, here, c.index-in-loop-probe.ensures.below, v.mask, few_slots (s g at) (count g at))) r
         | then-is_waiting-via-else-is_waiting+then-is_last w ↦
             let last = w.is_last.ensures.0 w.if-is_last.true in
             nowhere_seen F (fits g at) P es ctrl parts (s g at) (mirrored g at) done ns h (small g at) c.args.slot p holds
