@@ -3,7 +3,7 @@ use Rattle.std.proofs.Common.{◌≡◌, ◌<◌, ◌≤◌, ◌+◌, ◌-◌, �
 use Rattle.std.specs.Ordering.{nat_cmp}
 use Rattle.std.proofs.lemmas.Bool.{cases_order, not-true}
 use Rattle.std.proofs.lemmas.List.{append-nil, append_assoc, drop_at, drop_more, drop-drop, drop-set-lt, get_or-drop, get_or-map, get_or_append_left, get_or-append-add, get_or_default, length-append, length-map, length_push, map-append, map-set, nil_from_length, set-get_or, take_at}
-use Rattle.std.proofs.lemmas.List.Elements.{All-contains, All-contains_itself, All-drop, All-filter, All-from_get_or, All-head, All-set, All-tail, Contains-append_cases, Contains-append_right, filter_passes}
+use Rattle.std.proofs.lemmas.List.Elements.{All-drop, All-filter, All-from_get_or, All-head, All-set, All-tail, Contains-append_cases, Contains-append_right, filter_passes}
 use Rattle.std.proofs.lemmas.List.Kept.{AllPairs-filter}
 use Rattle.std.proofs.lemmas.List.Sorted.{Contains-permutation, IsPermutation-append_right, IsPermutation-filter_both, IsPermutation-map, IsPermutation-sym, IsPermutation-trans}
 use Rattle.std.proofs.lemmas.Nat.{mod_low}
@@ -12,8 +12,7 @@ use Rattle.odht_base.specs.Made.{filled}
 use Rattle.odht_base.specs.Ready.{IsReady, IsSoFar, IsStuck}
 use Rattle.odht_base.specs.Table.{Pair, Table}
 use Rattle.odht_base.specs.Valid.{HoldsPair}
-use Rattle.odht_base.proofs.lemmas.Filled.{filled-Contains, filled-apart}
-use Rattle.odht_base.proofs.lemmas.Pigeons.{IsApart}
+use Rattle.odht_base.proofs.lemmas.Filled.{filled-Contains}
 use Rattle.odht_base.proofs.lemmas.ReadySlots.{stuck_if_none}
 use Rattle.odht_base.proofs.lemmas.SoFar.{so_far_push}
 use Rattle.odht_raw.specs.Waiting.{slot_of, placed_of, IsWaiting, AreRising, IsPending}

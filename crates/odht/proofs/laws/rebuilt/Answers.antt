@@ -1,4 +1,4 @@
-use Rattle.std.proofs.Common.{◌≡◌, sym, subst, refl, take, length, List, IsOk, arith}
+use Rattle.std.proofs.Common.{◌≡◌, sym, subst, refl, take, List, IsOk, arith}
 use Rattle.std.proofs.lemmas.List.{take_all}
 use Rattle.odht_base.specs.Insert.{put_owned}
 use Rattle.odht_raw.specs.Coding.{coding_of}
