@@ -42,13 +42,16 @@ pub trait Group: Sized + Drop {
     fn any_empty(&self) -> bool
         ensures { result ≡ is_some (free self.now) };
 
-    /// The least index of a byte of 128 or more, whether or not matches were taken.
+    /// The least index of a byte of 128 or more, whether or not matches were dropped.
     fn first_empty(&self) -> Option<usize>
         ensures { result ≡ free self.now };
 
-    /// Takes the least match that is left; None once all were taken.
-    fn next_match(&mut self) -> Option<usize>
-        ensures next { result ≡ slice_get (matches self.old) 0 }
+    /// The least match that is left; None once all were dropped.
+    fn first_match(&self) -> Option<usize>
+        ensures { result ≡ slice_get (matches self.now) 0 };
+
+    /// Drops the least match that is left, if there is one.
+    fn drop_match(&mut self)
         ensures rest { matches self.new ≡ drop 1 (matches self.old) }
         ensures free { free self.new ≡ free self.old };
 

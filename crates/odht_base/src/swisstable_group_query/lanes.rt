@@ -61,7 +61,7 @@ impl GroupQuery {
         lowest_bit(self.empty_mask).is_some()
     }
 
-    /// The least index of a byte of 128 or more, whether or not matches were taken.
+    /// The least index of a byte of 128 or more, whether or not matches were dropped.
     #[inline]
     pub fn first_empty(&self) -> Option<usize>
         ensures { result ≡ self.now.free }
@@ -102,10 +102,13 @@ impl Group for GroupQuery {
     }
 
     #[inline]
-    fn next_match(&mut self) -> Option<usize> {
-        let index = lowest_bit(self.eq_mask)?;
+    fn first_match(&self) -> Option<usize> {
+        lowest_bit(self.eq_mask)
+    }
+
+    #[inline]
+    fn drop_match(&mut self) {
         self.eq_mask = without_lowest_bit(self.eq_mask);
-        Some(index)
     }
 
     ghost divides = { refl };
@@ -125,6 +128,8 @@ impl Iterator for GroupQuery {
         ensures goes { MakesProgress (λ _. ⊤) (item_count (λ q. q.matches)) self.old result self.new }
         ensures free { self.new.free ≡ self.old.free }
     {
-        self.next_match()
+        let index = self.first_match()?;
+        self.drop_match();
+        Some(index)
     }
 }

@@ -120,10 +120,11 @@ impl<'a, K: ByteArray, V: ByteArray, H: HashFn> RawTable<'a, K, V, H> {
             return false;
         }
         let mask = self.entries.len() - 1;
-        'matches: while let Some(index) = group.next_match() {
+        'matches: while let Some(index) = group.first_match() {
             if index < count && self.have_same_key((start + index) & mask, slot) {
                 return false;
             }
+            group.drop_match();
         }
         true
     }

@@ -150,11 +150,12 @@ fn look_at_piece<K: ByteArray, V: ByteArray, H: HashFn, Q: Group>(
 {
     let mask = entries.len() - 1;
     let mut group = Q::of(bytes, tag);
-    'matches: while let Some(index) = group.next_match() {
+    'matches: while let Some(index) = group.first_match() {
         let slot = (start + index) & mask;
         if entries.get(slot).key.equals(key) {
             return Some(Search::Found(slot));
         }
+        group.drop_match();
     }
     match group.first_empty() {
         Some(index) => Some(Search::Free((start + index) & mask)),

@@ -62,7 +62,7 @@ matches-preserved g c =
     let index = c.in-Some.index in
     let slots : c.len-mask.result ≡ c.args.self.now.entries.slots = c.len-mask.ensures ∙ ap (λ (t : TableParts). t.entries.slots) c.self.view_is in
     let masked : bit_and (c.args.start + index) (c.len-mask.result - 1) ≡ (c.args.start + index) % c.len-mask.result = ap (λ n. bit_and (c.args.start + index) (n - 1)) c.len-mask.ensures ∙ bit_and-slots (c.args.start + index) c.self.inside.entries.slots c.self.invariant.slots ∙ ap (λ n. (c.args.start + index) % n) (sym c.len-mask.ensures) in
-    taken-next _ _ _ _ index c.matches.invariant c.in-Some.ensures.next c.next_match.ensures.rest (λ low same. elim c.else-index-count.branch [
+    taken-next _ _ _ _ index c.matches.invariant c.in-Some.ensures c.drop_match.ensures.rest (λ low same. elim c.else-index-count.branch [
       | else-index-count-via-then-index-count+else-have_same_key w ↦
           true≢false (sym (w.have_same_key.ensures.1 (ap (slot_key F es) (masked ∙ ap (λ n. (c.args.start + index) % n) slots) ∙ same)) ∙ w.if-have_same_key.false)
       | else-index-count-via-else-index-count w ↦ omega (arith, low, w.if-index-count.false)
@@ -80,7 +80,7 @@ returns g c =
     let report = subst (λ h. IsReport (bytes_at ctrl c.args.start 16) h c.of-group.result.matches) tagged c.of-group.ensures.matches in
     let others : (x : ℕ) → Contains c.of-group.result.matches x → x < c.args.count → slot_key F es ((c.args.start + x) % s) ≡ k → ⊥ =
     subst (λ (t : TableParts). (x : ℕ) → Contains c.of-group.result.matches x → x < c.args.count → slot_key F t.entries.bytes ((c.args.start + x) % t.entries.slots) ≡ slot_key F t.entries.bytes c.args.slot → ⊥) (sym c.self.view_is)
-    (taken-all _ _ _ c.matches.invariant c.in_default.ensures.next) in
+    (taken-all _ _ _ c.matches.invariant c.in_default.ensures) in
     subst (Says F c.args.slot c.args.start c.args.count true) c.self.view_is (λ fitting.
     let mirror = IsMirrored-mirror_refusal ctrl fitting.mirror in
     let tags : (i : ℕ) → i < s → counts_as_free (slice_index ctrl i) ≡ false → slice_index ctrl i ≡ tag F (slot_key F es i) = λ i l. (AllFit-slots_refusal F es ctrl fitting.slots i (omega (arith, l, c.self.invariant.mirrored))).filled_tag in

@@ -13,7 +13,7 @@ use Rattle.odht_raw.proofs.raw_table.group_search.look_at_piece.Goals as goal
 pub overflow_add-slot : goal.overflow_add-slot
 overflow_add-slot g c =
     let few = few_slots c.args.entries.now.slots c.requires.slots in
-    let match = taken-first _ _ _ c.in-Some.index c.matches.invariant.taken c.in-Some.ensures.next in
+    let match = taken-first _ _ _ c.in-Some.index c.matches.invariant.taken c.in-Some.ensures in
     let low = (c.of-group.ensures.matches.filled c.in-Some.index match).0 in
     let n = c.requires.len in
     let l = c.requires.start in
@@ -25,7 +25,7 @@ returns-then-equals-clause-on_placed g c P p at =
     let k : List ℕ = g.K.ByteArray.bytes c.args.key.now in
     let f = IsFormat-format_of _ _ _ _ c.requires.lengths.key c.requires.lengths.value c.requires.lengths.hashes g.met.H.HashFn.fits in
     let report = subst (λ h. IsReport c.args.bytes.now h (g.Q.Group.matches c.of-group.result)) c.requires.tag c.of-group.ensures.matches in
-    let match = taken-first _ _ _ c.in-Some.index c.matches.invariant.taken c.in-Some.ensures.next in
+    let match = taken-first _ _ _ c.in-Some.index c.matches.invariant.taken c.in-Some.ensures in
     let masked = ap (λ n. bit_and (c.args.start + c.in-Some.index) (n - 1)) c.len-mask.ensures ∙ bit_and-slots (c.args.start + c.in-Some.index) c.args.entries.now.slots c.requires.slots in
     let same = ap (slot_key F c.args.entries.now.bytes) (sym masked) ∙ sym c.get.ensures.key_bytes ∙ c.equals.ensures.0 c.if-equals.true in
     let found = look_found F P c.args.entries.now k p c.args.start c.args.bytes.now f at _ report c.in-Some.index match same in
@@ -36,15 +36,15 @@ matches-preserved g c =
     let F : Format = format_of g.K.ByteArray.LEN g.V.ByteArray.LEN g.H.HashFn.hash in
     let masked = ap (λ n. bit_and (c.args.start + c.in-Some.index) (n - 1)) c.len-mask.ensures ∙ bit_and-slots (c.args.start + c.in-Some.index) c.args.entries.now.slots c.requires.slots in
     record {
-      same = c.next_match.ensures.free ∙ c.matches.invariant.same;
-      taken = taken-next _ _ _ _ c.in-Some.index c.matches.invariant.taken c.in-Some.ensures.next c.next_match.ensures.rest
+      same = c.drop_match.ensures.free ∙ c.matches.invariant.same;
+      taken = taken-next _ _ _ _ c.in-Some.index c.matches.invariant.taken c.in-Some.ensures c.drop_match.ensures.rest
           (λ e. true≢false (sym (c.equals.ensures.1 (c.get.ensures.key_bytes ∙ ap (slot_key F c.args.entries.now.bytes) masked ∙ e)) ∙ c.if-equals.false));
     }
 
 pub overflow_add-result : goal.overflow_add-result
 overflow_add-result g c =
     let few = few_slots c.args.entries.now.slots c.requires.slots in
-    let first = sym (c.in-Some-first_empty.ensures ∙ c.in_default.ensures.free ∙ c.matches.invariant.same ∙ c.of-group.ensures.free) in
+    let first = sym (c.in-Some-first_empty.ensures ∙ c.matches.invariant.same ∙ c.of-group.ensures.free) in
     let low = (position-Some counts_as_free c.args.bytes.now c.in-Some-first_empty.index 0 first).0 in
     let n = c.requires.len in
     let l = c.requires.start in
@@ -52,7 +52,7 @@ overflow_add-result g c =
 
 pub returns-in-Some-first_empty-clause-slot : goal.returns-in-Some-first_empty-clause-slot
 returns-in-Some-first_empty-clause-slot g c =
-    let first = sym (c.in-Some-first_empty.ensures ∙ c.in_default.ensures.free ∙ c.matches.invariant.same ∙ c.of-group.ensures.free) in
+    let first = sym (c.in-Some-first_empty.ensures ∙ c.matches.invariant.same ∙ c.of-group.ensures.free) in
     let q = position-Some counts_as_free c.args.bytes.now c.in-Some-first_empty.index 0 first in
     let masked = ap (λ n. bit_and (c.args.start + c.in-Some-first_empty.index) (n - 1)) c.len-mask.ensures ∙ bit_and-slots (c.args.start + c.in-Some-first_empty.index) c.args.entries.now.slots c.requires.slots in
     (c.in-Some-first_empty.index, omega (arith, q.0, c.requires.len), masked, q.1)
@@ -64,14 +64,14 @@ returns-in-Some-first_empty-clause-on_placed g c P p at =
     let k : List ℕ = g.K.ByteArray.bytes c.args.key.now in
     let f = IsFormat-format_of _ _ _ _ c.requires.lengths.key c.requires.lengths.value c.requires.lengths.hashes g.met.H.HashFn.fits in
     let report = subst (λ h. IsReport c.args.bytes.now h (g.Q.Group.matches c.of-group.result)) c.requires.tag c.of-group.ensures.matches in
-    let first = sym (c.in-Some-first_empty.ensures ∙ c.in_default.ensures.free ∙ c.matches.invariant.same ∙ c.of-group.ensures.free) in
+    let first = sym (c.in-Some-first_empty.ensures ∙ c.matches.invariant.same ∙ c.of-group.ensures.free) in
     let masked = ap (λ n. bit_and (c.args.start + c.in-Some-first_empty.index) (n - 1)) c.len-mask.ensures ∙ bit_and-slots (c.args.start + c.in-Some-first_empty.index) c.args.entries.now.slots c.requires.slots in
-    let free = look_free F P c.args.entries.now k p c.args.start c.args.bytes.now f at _ report (taken-all _ _ _ c.matches.invariant.taken c.in_default.ensures.next) c.in-Some-first_empty.index first in
+    let free = look_free F P c.args.entries.now k p c.args.start c.args.bytes.now f at _ report (taken-all _ _ _ c.matches.invariant.taken c.in_default.ensures) c.in-Some-first_empty.index first in
     (ap Free masked ∙ free.0, subst (EndsWithin F P k p) c.requires.len free.1)
 
 pub returns-clause-filled : goal.returns-clause-filled
 returns-clause-filled g c none i l =
-    let first = sym (c.in-None.ensures ∙ c.in_default.ensures.free ∙ c.matches.invariant.same ∙ c.of-group.ensures.free) in
+    let first = sym (c.in-None.ensures ∙ c.matches.invariant.same ∙ c.of-group.ensures.free) in
     position-None counts_as_free c.args.bytes.now 0 first i (omega (arith, l, c.requires.len))
 
 pub returns-clause-on_placed : goal.returns-clause-on_placed
@@ -80,5 +80,5 @@ returns-clause-on_placed g c P p at =
     let k : List ℕ = g.K.ByteArray.bytes c.args.key.now in
     let f = IsFormat-format_of _ _ _ _ c.requires.lengths.key c.requires.lengths.value c.requires.lengths.hashes g.met.H.HashFn.fits in
     let report = subst (λ h. IsReport c.args.bytes.now h (g.Q.Group.matches c.of-group.result)) c.requires.tag c.of-group.ensures.matches in
-    let none = sym (c.in-None.ensures ∙ c.in_default.ensures.free ∙ c.matches.invariant.same ∙ c.of-group.ensures.free) in
-    subst (λ n. Passed F P k (p + n)) c.requires.len (look_on F P c.args.entries.now k p c.args.start c.args.bytes.now f at _ report (taken-all _ _ _ c.matches.invariant.taken c.in_default.ensures.next) none)
+    let none = sym (c.in-None.ensures ∙ c.matches.invariant.same ∙ c.of-group.ensures.free) in
+    subst (λ n. Passed F P k (p + n)) c.requires.len (look_on F P c.args.entries.now k p c.args.start c.args.bytes.now f at _ report (taken-all _ _ _ c.matches.invariant.taken c.in_default.ensures) none)
