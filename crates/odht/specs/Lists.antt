@@ -1,9 +1,7 @@
 -- Lists of keys and values that are inserted in turn.
---     encoded_all c items  the items as pairs
 --     IsFilled F put P ps B  B are the bytes of the table after the inserts `put` of the pairs ps into P, which has their
 --                          last values over those of P; where all have room below its maximum, its size stays
 --     HasSizeOf P Q        Q has the slot count and the load factor of P
---     IsFramedRun c B items B'  inserts of the items in turn, which are accepted, may leave B' of the accepted bytes B
 --     IsRefusedAt c P items n    P is full for the key of item n
 --     IsStoppedAt c items n B    on the bytes B, accepted, an insert of item n may be refused
 --     IsFreshFilled c p items B  B are the bytes of the fresh table for as many items at p percent, after these are put into
@@ -17,10 +15,8 @@ use Rattle.odht_base.specs.Table.{Pair, Table, fresh, slot_count, count}
 use Rattle.odht_base.specs.Valid.{IsImage}
 use Rattle.odht_raw.specs.Coding.{Coding, encoded}
 use Rattle.odht_raw.specs.Frame.{IsFramed}
+pub use Rattle.odht_raw.specs.Runs.{encoded_all, IsFramedRun}
 use Rattle.odht_raw.specs.declared.error.Error.TheVariants.{Full}
-
-abbrev pub encoded_all : {K V : Type 0} → Coding K V → List (K × V) → List Pair
-encoded_all c items = map (λ item. encoded c item.0 item.1) items
 
 abbrev pub HasSizeOf : Table → Table → Type 0
 HasSizeOf P Q = (slot_count Q ≡ slot_count P) × (Q.factor ≡ P.factor)
@@ -31,11 +27,6 @@ pub record IsFilled (F : Format) (put : Table → Pair → Option Table) (P : Ta
   pub image : IsImage F table B
   pub maps : (k : List ℕ) → map_of table k ≡ overwritten (map_of P) (last ps) k
   pub stays : count P + length ps ≤ max_items (slot_count P) P.factor → HasSizeOf P table × (count table ≤ count P + length ps)
-
-pub data IsFramedRun {K V : Type 0} (c : Coding K V) (B : List ℕ) : List (K × V) → List ℕ → Type 0 where
-  start : IsFramedRun c B [] B
-  accepted : (items : List (K × V)) (k : K) (v : V) (o : Option V) (C D : List ℕ)
-      → IsFramedRun c B items C → IsFramed c C k v (Ok o) D → IsFramedRun c B (items ++ (k, v) ∷ []) D
 
 pub record IsRefusedAt {K V : Type 0} (c : Coding K V) (P : Table) (items : List (K × V)) (n : ℕ) : Type 0 where
   pub item : K × V

@@ -67,3 +67,7 @@ pub mod ReadyPlaces
 pub mod PlacedFirst
 -- that search from its start to its end
 pub mod PendingSlots
+-- items inserted in turn into parts
+pub mod PartRuns
+-- and what that leaves of whole bytes
+pub mod JoinedRuns

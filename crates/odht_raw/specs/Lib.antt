@@ -23,6 +23,8 @@ pub mod Frame
 pub mod SearchEnds
 -- what an insert into parts answers and leaves
 pub mod PartsInserts
+-- items that are inserted in turn
+pub mod Runs
 -- what is written of an error
 pub mod ErrorTexts
 -- what a walk over the slots gives

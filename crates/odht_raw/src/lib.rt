@@ -5,6 +5,7 @@ pub use odht_base::{bytes, hash, load, swisstable_group_query};
 
 pub mod config;
 pub mod error;
+pub mod items;
 pub mod memory_layout;
 pub mod raw_table;
 mod writes;

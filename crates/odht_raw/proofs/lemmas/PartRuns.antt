@@ -1,0 +1,93 @@
+-- Items inserted in turn into the parts of a table: one more item.
+use Rattle.std.proofs.Common.{◌≡◌, ◌<◌, ◌≤◌, ◌+◌, ◌-◌, ◌∙◌, ◌++◌, ℕ, Bool, true, false, not, cond, sym, ap, subst, refl, List, [], ◌∷◌, Option, Some, None, Result, Ok, Err, take, drop, length, slice_get, All, arith, length-drop, length-append, get_or, get_or-drop}
+use Rattle.std.proofs.lemmas.List.{take_more, map-append, length-map}
+use Rattle.std.proofs.lemmas.List.Elements.{All-append, All-cons, All-nil}
+use Rattle.std.proofs.lemmas.Option.{slice_get-get_or}
+use Rattle.std.specs.Prelude.{is_none, is_some, option_map, option_and_then, IfOk}
+use Rattle.std.specs.List.{slice_range}
+use Rattle.std.specs.Result.{result_map_both}
+use Rattle.odht_base.specs.Format.{Format}
+use Rattle.odht_base.specs.Insert.{place}
+use Rattle.odht_base.specs.Map.{map_of}
+use Rattle.odht_base.specs.Table.{Pair, Table, count}
+use Rattle.odht_base.specs.Valid.{IsPairOf, IsPartsOf}
+use Rattle.odht_base.proofs.lemmas.Options.{some_same}
+use Rattle.odht_base.proofs.lemmas.Places.{count-place}
+use Rattle.odht_base.proofs.lemmas.Runs.{run-push}
+use Rattle.odht_raw.specs.Coding.{Coding, encoded}
+use Rattle.odht_raw.specs.Frame.{PartsFrame, IsPartsFramed}
+use Rattle.odht_raw.specs.PartsInserts.{AnswersFormer, ArePartsPlaced}
+use Rattle.odht_raw.specs.Runs.{encoded_all, count_after, IsPartsRun, ArePartsOfRun}
+use Rattle.odht_raw.specs.declared.error.Error.{Error}
+
+-- a piece of a list, and the item behind it
+pub range_more : {X : Type 0} (xs : List X) (a n : ℕ) (x : X) → a ≤ n → n < length xs → slice_get xs n ≡ Some x → slice_range xs a (n + 1) ≡ slice_range xs a n ++ x ∷ []
+range_more xs a n x from low at =
+    let more : n + 1 - a ≡ n - a + 1 = omega arith in
+    let there : a + (n - a) ≡ n = omega arith in
+    let long : n - a < length (drop a xs) = omega (arith, length-drop a xs) in
+    let here : get_or (drop a xs) (n - a) x ≡ x = get_or-drop a xs (n - a) x ∙ ap (λ i. get_or xs i x) there ∙ some_same _ _ (sym (slice_get-get_or xs n x low) ∙ at) in
+    ap (λ m. take m (drop a xs)) more ∙ take_more (drop a xs) (n - a) x long ∙ ap (λ y. take (n - a) (drop a xs) ++ y ∷ []) here
+
+-- no items
+pub range_none : {X : Type 0} (xs : List X) (a : ℕ) → slice_range xs a a ≡ []
+range_none xs a = let none : a - a ≡ 0 = omega arith in ap (λ m. take m (drop a xs)) none
+
+-- one more item as a pair
+pub encoded_push : {K V : Type 0} (c : Coding K V) (items : List (K × V)) (k : K) (v : V) → encoded_all c (items ++ (k, v) ∷ []) ≡ encoded_all c items ++ encoded c k v ∷ []
+encoded_push {K = K} {V = V} c items k v = map-append (λ (t : K × V). encoded c t.0 t.1) items ((k, v) ∷ [])
+
+-- an answer adds an entry exactly where there was no former value
+count_after-former : {W : Type 0} (f : List ℕ → W) (n : ℕ) (o : Option (List ℕ)) (old : Option W) → old ≡ option_map f o → count_after n (Ok o) ≡ cond (is_none old) (n + 1) n
+count_after-former f n None None e = refl
+count_after-former f n None (Some w) e = cc
+count_after-former f n (Some v) None e = cc
+count_after-former f n (Some v) (Some w) e = refl
+
+-- an answer that is no value is none
+pub is_none-not : {W : Type 0} (o : Option W) (b : Bool) → is_some o ≡ not b → is_none o ≡ b
+is_none-not None true e = refl
+is_none-not None false e = cc
+is_none-not (Some w) true e = cc
+is_none-not (Some w) false e = refl
+
+-- one more item on any parts
+pub run_more : {K V : Type 0} (c : Coding K V) (es0 ctrl0 : List ℕ) (items : List (K × V)) (k : K) (v : V) (n : ℕ) (es ctrl es' ctrl' : List ℕ)
+    → IsPartsRun c es0 ctrl0 items n es ctrl → IsPairOf c.format (encoded c k v)
+    → {W : Type 0} (f : List ℕ → W) (r : Result (Option W) Error) (old : Option W) → r ≡ Ok old → IsPartsFramed c.format f es ctrl (encoded c k v) r es' ctrl'
+    → IsPartsRun c es0 ctrl0 (items ++ (k, v) ∷ []) (cond (is_none old) (n + 1) n) es' ctrl'
+run_more {K = K} {V = V} c es0 ctrl0 items k v n es ctrl es' ctrl' before fits {W = W} f r old ok framed = go framed.0 framed.1 framed.2
+  where
+    go : (a : Result (Option (List ℕ)) Error) → r ≡ result_map_both (option_map f) (λ e. e) a → PartsFrame c.format es ctrl (encoded c k v) a es' ctrl'
+        → IsPartsRun c es0 ctrl0 (items ++ (k, v) ∷ []) (cond (is_none old) (n + 1) n) es' ctrl'
+    go (Ok o) e frame =
+        let same : old ≡ option_map f o = (let both : Ok old ≡ Ok (option_map f o) = sym ok ∙ e in cc) in
+        subst (λ m. IsPartsRun c es0 ctrl0 (items ++ (k, v) ∷ []) m es' ctrl') (count_after-former f n o old same)
+        (IsPartsRun.accepted items k v n o es ctrl es' ctrl' before fits frame)
+    go (Err x) e frame = absurd (let both : Ok old ≡ Err x = sym ok ∙ e in cc)
+
+-- one more item on the parts of a placed table
+pub placed_more : (F : Format) (P : Table) (ps : List Pair) (n : ℕ) (es ctrl : List ℕ) (h : ArePartsOfRun F P ps n es ctrl) (p : Pair) (es' ctrl' : List ℕ)
+    → {W : Type 0} (f : List ℕ → W) (r : Result (Option W) Error) (old : Option W) → r ≡ Ok old → AnswersFormer F f h.table p r es' ctrl'
+    → ArePartsOfRun F P (ps ++ p ∷ []) (cond (is_none old) (n + 1) n) es' ctrl'
+placed_more F P ps n es ctrl h p es' ctrl' {W = W} f r old ok answers =
+    let told = subst (λ (a : Result (Option W) Error). IfOk a (λ o. (o ≡ option_map f (map_of h.table p.key)) × ArePartsPlaced F h.table p es' ctrl')) ok answers in
+    record {
+      table = told.1.0;
+      placed = run-push (place F) P ps p ∙ ap (option_and_then (λ R. place F R p)) h.placed ∙ told.1.1;
+      parts = told.1.2;
+      counted = go (map_of h.table p.key) old told.0 (count-place F h.table told.1.0 p h.parts.placed told.1.1);
+    }
+  where
+    go : {m : ℕ} (o : Option (List ℕ)) (w : Option W) → w ≡ option_map f o → m ≡ cond (is_none o) (count h.table + 1) (count h.table) → m ≡ count P + cond (is_none w) (n + 1) n
+    go None None e more = omega (arith, more, h.counted)
+    go None (Some w) e more = cc
+    go (Some v) None e more = cc
+    go (Some v) (Some w) e same = omega (arith, same, h.counted)
+
+-- the pairs of accepted items are of the format
+pub run_fits : {K V : Type 0} (c : Coding K V) (es ctrl : List ℕ) (items : List (K × V)) (n : ℕ) (es' ctrl' : List ℕ) → IsPartsRun c es ctrl items n es' ctrl' → All (IsPairOf c.format) (encoded_all c items)
+run_fits c es ctrl items n es' ctrl' (IsPartsRun.start) = All-nil (IsPairOf c.format)
+run_fits c es ctrl items n es' ctrl' (IsPartsRun.accepted before k v m o es1 ctrl1 es2 ctrl2 run fits frame) =
+    subst (All (IsPairOf c.format)) (sym (encoded_push c before k v)) (All-append (IsPairOf c.format) (encoded_all c before) (encoded c k v ∷ []) (run_fits c es ctrl before m es1 ctrl1 run)
+    (All-cons (IsPairOf c.format) (encoded c k v) [] fits (All-nil (IsPairOf c.format))))

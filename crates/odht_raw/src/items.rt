@@ -1,0 +1,79 @@
+//! Lists of keys and values, in whatever form they lie in memory.
+ghost use Rattle.std.specs.Prelude.{◌≡◌, ◌<◌, ℕ, List, Some, length, slice_get};
+ghost use Rattle.std.specs.List.{zip};
+
+use std::marker::Model;
+
+/// A list of keys and their values, of which each is read in place.
+pub trait Items<K, V>: Drop {
+    ghost items: { Self → List (K × V) };
+
+    /// How many there are.
+    fn count(&self) -> usize
+        ensures { result ≡ length (items self.now) };
+
+    /// The key and the value at an index.
+    fn at(&self, index: usize) -> (&K, &V)
+        requires { index < length (items self.now) }
+        ensures { slice_get (items self.now) index ≡ Some (result.0.now, result.1.now) };
+}
+
+impl<K, V> Items<K, V> for &[(K, V)] {
+    ghost items = { λ s. s.now };
+
+    #[inline(always)]
+    fn count(&self) -> usize {
+        self.len()
+    }
+
+    #[inline(always)]
+    fn at(&self, index: usize) -> (&K, &V) {
+        let items = *self;
+        let (key, value) = &items[index];
+        (key, value)
+    }
+}
+
+/// The keys of one slice and the values of another, at each index.
+#[derive(Drop)]
+pub struct Zipped<'k, 'v, K, V> {
+    keys: &'k [K],
+    values: &'v [V],
+}
+
+impl<'k, 'v, K, V> Model for Zipped<'k, 'v, K, V> {
+    ghost use Rattle.std.specs.Prelude.{◌≡◌, List, length};
+    ghost use Rattle.std.specs.List.{zip};
+
+    ghost Value = { List (K × V) };
+
+    ghost view = { λ z. zip z.keys.now z.values.now };
+
+    ghost invariant = { λ z. length z.values.now ≡ length z.keys.now };
+}
+
+impl<'k, 'v, K, V> Zipped<'k, 'v, K, V> {
+    /// The key and the value at each index of two slices that are equally long.
+    #[inline(always)]
+    pub fn new(keys: &'k [K], values: &'v [V]) -> Self
+        requires { length values.now ≡ length keys.now }
+        ensures { result ≡ zip keys.now values.now }
+    {
+        Zipped { keys, values }
+    }
+}
+
+impl<'k, 'v, K, V> Items<K, V> for Zipped<'k, 'v, K, V> {
+    ghost items = { λ z. z };
+
+    #[inline(always)]
+    fn count(&self) -> usize {
+        self.keys.len()
+    }
+
+    #[inline(always)]
+    fn at(&self, index: usize) -> (&K, &V) {
+        let (keys, values) = (self.keys, self.values);
+        (&keys[index], &values[index])
+    }
+}

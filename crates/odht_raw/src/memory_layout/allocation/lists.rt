@@ -1,0 +1,149 @@
+//! Lists of items that are inserted into the bytes of a table: the header is read once, and the item count written once.
+ghost use Rattle.std.specs.Prelude.{◌≡◌, ◌+◌, ◌≤◌, ℕ, length};
+ghost use Rattle.std.specs.List.{slice_range};
+ghost use Rattle.odht_base.specs.Table.{Table};
+ghost use Rattle.odht_base.specs.Valid.{IsImage, IsPartsOf};
+ghost use Rattle.odht_raw.specs.Frame.{IsAccepted};
+ghost use Rattle.odht_raw.specs.PartLengths.{ArePartLengths};
+ghost use Rattle.odht_raw.specs.Runs.{encoded_all, IsFramedRun, IsPartsRun, ArePartsOfRun, IsPlacedBelow};
+
+use super::Allocation;
+use crate::bytes::{ByteArray, ByteStoreMut, write_slice};
+use crate::config::{Coded, Config};
+use crate::items::Items;
+use crate::load::max_item_count_for;
+use crate::memory_layout::header::ITEM_COUNT_AT;
+use crate::memory_layout::{EntryMetadata, HEADER_SIZE, Header};
+use crate::raw_table::RawTableMut;
+
+impl<C: Config, M: ByteStoreMut> Allocation<C, M> {
+    /// Inserts the items from index `from` on in their order, as many as the table has room for below its maximum, and
+    /// answers the index of the first that was not inserted. It stops early only where an item finds no slot, which no
+    /// valid table has.
+    ///
+    /// The header is read once and the item count written once. At most each group is looked at once for an item.
+    #[inline(always)]
+    pub fn insert_below_maximum<I: Items<C::Key, C::Value>>(
+        &mut self,
+        items: &I,
+        from: usize,
+    ) -> usize
+        requires { from ≤ length (I.items items.now) }
+        ensures from { from ≤ result }
+        ensures bound { result ≤ length (I.items items.now) }
+        ensures placed { let c = ⟦<C as Coded>⟧.coding
+            in (P : Table)
+            → IsImage c.format P (M.bytes self.old)
+            → IsPlacedBelow c.format P (encoded_all c (slice_range (I.items items.now) from result)) (M.bytes self.new) }
+        ensures framed { let c = ⟦<C as Coded>⟧.coding
+            in IsFramedRun c (M.bytes self.old) (slice_range (I.items items.now) from result) (M.bytes self.new) }
+        ensures place { self.new ≡ M.holding self.old (M.bytes self.new) }
+        ensures accepted { IsAccepted ⟦<C as Coded>⟧.coding.format (M.bytes self.new) }
+    {
+        let store = &mut self.store;
+        insert_into_store::<C, M, I>(store, items, from)
+    }
+}
+
+// `insert_below_maximum` on a store that holds the bytes of a table.
+#[inline(always)]
+fn insert_into_store<C: Config, M: ByteStoreMut, I: Items<C::Key, C::Value>>(
+    store: &mut M,
+    items: &I,
+    from: usize,
+) -> usize
+    requires accepted { IsAccepted ⟦<C as Coded>⟧.coding.format (M.bytes store.old) }
+    requires from { from ≤ length (I.items items.now) }
+    ensures from { from ≤ result }
+    ensures bound { result ≤ length (I.items items.now) }
+    ensures placed { let c = ⟦<C as Coded>⟧.coding
+        in (P : Table)
+        → IsImage c.format P (M.bytes store.old)
+        → IsPlacedBelow c.format P (encoded_all c (slice_range (I.items items.now) from result)) (M.bytes store.new) }
+    ensures framed { let c = ⟦<C as Coded>⟧.coding
+        in IsFramedRun c (M.bytes store.old) (slice_range (I.items items.now) from result) (M.bytes store.new) }
+    ensures place { store.new ≡ M.holding store.old (M.bytes store.new) }
+    ensures accepted { IsAccepted ⟦<C as Coded>⟧.coding.format (M.bytes store.new) }
+    ensures len { length (M.bytes store.new) ≡ length (M.bytes store.old) }
+{
+    insert_into_bytes::<C, I>(store.bytes_mut(), items, from)
+}
+
+// The same on the bytes themselves.
+#[inline(always)]
+fn insert_into_bytes<C: Config, I: Items<C::Key, C::Value>>(
+    bytes: &mut [u8],
+    items: &I,
+    from: usize,
+) -> usize
+    requires accepted { IsAccepted ⟦<C as Coded>⟧.coding.format bytes.old }
+    requires from { from ≤ length (I.items items.now) }
+    ensures from { from ≤ result }
+    ensures bound { result ≤ length (I.items items.now) }
+    ensures placed { let c = ⟦<C as Coded>⟧.coding
+        in (P : Table)
+        → IsImage c.format P bytes.old
+        → IsPlacedBelow c.format P (encoded_all c (slice_range (I.items items.now) from result)) bytes.new }
+    ensures framed { let c = ⟦<C as Coded>⟧.coding
+        in IsFramedRun c bytes.old (slice_range (I.items items.now) from result) bytes.new }
+    ensures accepted { IsAccepted ⟦<C as Coded>⟧.coding.format bytes.new }
+    ensures len { length bytes.new ≡ length bytes.old }
+{
+    let header = Header::of(bytes);
+    let count = header.item_count();
+    let slots = header.slot_count();
+    let max = max_item_count_for(slots, header.max_load_factor());
+    let room = max.saturating_sub(count).min(items.count() - from);
+    let (front, parts) = bytes.split_at_mut(HEADER_SIZE);
+    let (entries, control) = parts.split_at_mut(
+        slots * (C::EncodedKey::LEN + C::EncodedValue::LEN),
+    );
+    let (end, added) = insert_into_parts::<C, I>(control, entries, items, from, from + room);
+    write_slice(front, ITEM_COUNT_AT, &((count + added) as u64).to_le_bytes());
+    end
+}
+
+// Inserts the items from `from` up to `to` in turn into the parts of a table, up to the first that finds no slot. Answers the
+// index behind the last that was inserted, and how many of them had new keys.
+#[inline(always)]
+fn insert_into_parts<C: Config, I: Items<C::Key, C::Value>>(
+    control: &mut [EntryMetadata],
+    entries: &mut [u8],
+    items: &I,
+    from: usize,
+    to: usize,
+) -> (usize, usize)
+    requires parts { ArePartLengths C.H.MIN_LEN C.EncodedKey.LEN C.EncodedValue.LEN (length entries.old) (length control.old) }
+    requires order { from ≤ to }
+    requires within { to ≤ length (I.items items.now) }
+    ensures bound { result.0 ≤ to }
+    ensures few { from + result.1 ≤ result.0 }
+    ensures run { let c = ⟦<C as Coded>⟧.coding
+        in let inserted = slice_range (I.items items.now) from result.0
+        in IsPartsRun c entries.old control.old inserted result.1 entries.new control.new }
+    ensures placed { let c = ⟦<C as Coded>⟧.coding
+        in let pairs = encoded_all c (slice_range (I.items items.now) from result.0)
+        in (P : Table)
+        → IsPartsOf c.format P entries.old control.old
+        → ArePartsOfRun c.format P pairs result.1 entries.new control.new }
+{
+    let mut table: RawTableMut<'_, '_, C::EncodedKey, C::EncodedValue, C::H> = RawTableMut::new(
+        control, entries,
+    );
+    let mut added = 0;
+    for index in from..to {
+        let (key, value) = items.at(index);
+        let key = C::encode_key(key);
+        let value = C::encode_value(value);
+        // Each has as many bytes as its type says.
+        let _ = key.as_slice();
+        let _ = value.as_slice();
+        let Ok(former) = table.insert(key, value) else {
+            return (index, added);
+        };
+        if former.is_none() {
+            added += 1;
+        }
+    }
+    (to, added)
+}
