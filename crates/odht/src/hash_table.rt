@@ -1,5 +1,6 @@
 //! The table over bytes of any kind.
 ghost use Rattle.std.specs.Prelude.{◌≡◌, ℕ, ◌/◌, ◌≤◌, ◌↔◌, length, take, option_map, IfOk, IfSome, IsOk, IsSome, IsNone, IsTrue, OnErr};
+ghost use Rattle.std.specs.List.{slice_range};
 ghost use Rattle.std.specs.Result.{result_err};
 ghost use Rattle.odht_base.specs.Load.{factor_of, slots_for};
 ghost use Rattle.odht_base.specs.Image.{image_len};
@@ -13,6 +14,7 @@ ghost use Rattle.odht_raw.specs.Coding.{value_for, HasStored};
 ghost use Rattle.odht.specs.Lists.{encoded_all, IsFilled, IsFramedRun, IsRefusedAt, IsStoppedAt};
 ghost use Rattle.odht.specs.Inserts.{IsFresh, IsInserted};
 ghost use Rattle.odht_raw.specs.Frame.{IsAccepted, IsFramed};
+ghost use Rattle.odht_raw.specs.Runs.{IsPlacedBelow};
 ghost use Rattle.odht_raw.specs.Walks.{decoded_all};
 ghost use Rattle.odht_raw.specs.Refusals.{IsTooLarge, new_refusal, opening_refusal, view_refusal};
 
@@ -20,6 +22,7 @@ use crate::bytes::{ByteArray, ByteStore, ByteStoreMut};
 use crate::config::{Coded, Config};
 use crate::error::Error;
 use crate::hash::HashFn;
+use crate::items::Items;
 use crate::iter::Iter;
 use crate::load::{Factor, max_item_count_for};
 use crate::memory_layout::{self, Allocation};
@@ -333,6 +336,29 @@ impl<C: Config, D: ByteStoreMut> HashTable<C, D> {
         }
     }
 
+    /// Inserts the items from index `from` on in their order, as many as there is room for below the maximum, and answers
+    /// the index of the first that was not inserted.
+    #[inline(always)]
+    pub(crate) fn insert_below_maximum<I: Items<C::Key, C::Value>>(
+        &mut self,
+        items: &I,
+        from: usize,
+    ) -> usize
+        requires { from ≤ length (I.items items.now) }
+        ensures from { from ≤ result }
+        ensures bound { result ≤ length (I.items items.now) }
+        ensures placed { let c = ⟦<C as Coded>⟧.coding
+            in (P : Table)
+            → IsImage c.format P (D.bytes self.old)
+            → IsPlacedBelow c.format P (encoded_all c (slice_range (I.items items.now) from result)) (D.bytes self.new) }
+        ensures framed { let c = ⟦<C as Coded>⟧.coding
+            in IsFramedRun c (D.bytes self.old) (slice_range (I.items items.now) from result) (D.bytes self.new) }
+        ensures place { self.new ≡ D.holding self.old (D.bytes self.new) }
+        ensures accepted { IsAccepted ⟦<C as Coded>⟧.coding.format (D.bytes self.new) }
+    {
+        self.allocation.insert_below_maximum(items, from)
+    }
+
     /// Inserts the items in their order, and stops at the first that is refused. Answers how many were accepted, and `Full`
     /// where there was a refusal: the table is then as the accepted ones left it, on valid bytes at its maximum, and the
     /// key of the refused item is absent. On any bytes each accepted item changes no more than `insert` may, and the item
@@ -356,14 +382,46 @@ impl<C: Config, D: ByteStoreMut> HashTable<C, D> {
             in OnErr result.1 (IsStoppedAt c items.now result.0 (D.bytes self.new)) }
         ensures only_full { OnErr result.1 (result.1 ≡ Err Error.Full) }
     {
-        // Header and length fit, in a table of no items too.
-        let _ = self.raw_bytes();
-        for accepted in 0..items.len() {
-            let (key, value) = &items[accepted];
+        self.insert_items(&items)
+    }
+
+    /// `insert_all` of items in any form, such as the keys and the values of two slices ([`Zipped`](crate::items::Zipped)).
+    #[inline(always)]
+    pub fn insert_items<I: Items<C::Key, C::Value>>(
+        &mut self,
+        items: &I,
+    ) -> (usize, Result<(), Error>)
+        ensures bound { result.0 ≤ length (I.items items.now) }
+        ensures all { IsOk result.1 ↔ (result.0 ≡ length (I.items items.now)) }
+        ensures filled { let c = ⟦<C as Coded>⟧.coding
+            in let accepted = encoded_all c (take result.0 (I.items items.now))
+            in (P : Table)
+            → IsImage c.format P (D.bytes self.old)
+            → IsFilled c.format (put_view c.format) P accepted (D.bytes self.new) }
+        ensures framed { let c = ⟦<C as Coded>⟧.coding
+            in IsFramedRun c (D.bytes self.old) (take result.0 (I.items items.now)) (D.bytes self.new) }
+        ensures place { self.new ≡ D.holding self.old (D.bytes self.new) }
+        ensures accepted { IsAccepted ⟦<C as Coded>⟧.coding.format (D.bytes self.new) }
+        ensures at_maximum { let c = ⟦<C as Coded>⟧.coding
+            in (P : Table)
+            → IsImage c.format P (D.bytes self.new)
+            → OnErr result.1 (IsRefusedAt c P (I.items items.now) result.0) }
+        ensures stopped { let c = ⟦<C as Coded>⟧.coding
+            in OnErr result.1 (IsStoppedAt c (I.items items.now) result.0 (D.bytes self.new)) }
+        ensures only_full { OnErr result.1 (result.1 ≡ Err Error.Full) }
+    {
+        let mut accepted = 0;
+        'rounds: loop {
+            accepted = self.insert_below_maximum(items, accepted);
+            if accepted >= items.count() {
+                return (accepted, Ok(()));
+            }
+            // At the maximum a key that is there is given its value.
+            let (key, value) = items.at(accepted);
             if let Err(refused) = self.insert(key, value) {
                 return (accepted, Err(refused));
             }
+            accepted += 1;
         }
-        (items.len(), Ok(()))
     }
 }

@@ -21,6 +21,7 @@ use crate::config::{Coded, Config};
 use crate::error::Error;
 use crate::hash::HashFn;
 use crate::hash_table::HashTable;
+use crate::items::Items;
 use crate::iter::Iter;
 use crate::load::{Factor, slots_needed};
 use crate::memory_layout::{self, HEADER_SIZE};
@@ -272,13 +273,49 @@ impl<C: Config> HashTableOwned<C> {
             → OnErr result.1 (IsRefusedAt c P items.now result.0) }
         ensures memory { OnErr result.1 (result.1 ≡ Err Error.Memory) }
     {
-        for accepted in 0..items.len() {
-            let (key, value) = &items[accepted];
+        self.insert_items(&items)
+    }
+
+    /// `insert_all` of items in any form, such as the keys and the values of two slices ([`Zipped`](crate::items::Zipped)).
+    #[inline(always)]
+    pub fn insert_items<I: Items<C::Key, C::Value>>(
+        &mut self,
+        items: &I,
+    ) -> (usize, Result<(), Error>)
+        ensures bound { result.0 ≤ length (I.items items.now) }
+        ensures all { IsOk result.1 ↔ (result.0 ≡ length (I.items items.now)) }
+        ensures filled { let c = ⟦<C as Coded>⟧.coding
+            in let accepted = encoded_all c (take result.0 (I.items items.now))
+            in (P : Table)
+            → IsImage c.format P self.old
+            → IsFilled c.format (put_owned c.format) P accepted self.new }
+        ensures fresh { let c = ⟦<C as Coded>⟧.coding
+            in (p : ℕ)
+            → IsFresh c.format (length (I.items items.now)) p self.old
+            → OnOk result.1 (IsFreshFilled c p (I.items items.now) self.new) }
+        ensures last_values { let c = ⟦<C as Coded>⟧.coding
+            in (n p : ℕ)
+            → IsFresh c.format n p self.old
+            → OnOk result.1 (HasLastValues c (I.items items.now) self.new) }
+        ensures at_maximum { let c = ⟦<C as Coded>⟧.coding
+            in (P : Table)
+            → IsImage c.format P self.new
+            → OnErr result.1 (IsRefusedAt c P (I.items items.now) result.0) }
+        ensures memory { OnErr result.1 (result.1 ≡ Err Error.Memory) }
+    {
+        let mut accepted = 0;
+        'rounds: loop {
+            accepted = self.table.insert_below_maximum(items, accepted);
+            if accepted >= items.count() {
+                return (accepted, Ok(()));
+            }
+            // At the maximum a key that is there is given its value, and for another the table grows.
+            let (key, value) = items.at(accepted);
             if let Err(refused) = self.insert(key, value) {
                 return (accepted, Err(refused));
             }
+            accepted += 1;
         }
-        (items.len(), Ok(()))
     }
 
     // `insert` of an absent key at the maximum: into the grown table.

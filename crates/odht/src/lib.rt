@@ -7,7 +7,7 @@ pub use iter::Iter;
 pub use odht_base::hash::{FxHashFn, HashFn, UnHashFn};
 pub use odht_base::{bytes, hash, load, swisstable_group_query};
 pub use odht_raw::config::{Config, Lossless};
-pub use odht_raw::{config, error, memory_layout, raw_table};
+pub use odht_raw::{config, error, items, memory_layout, raw_table};
 
 pub mod configs;
 mod hash_table;

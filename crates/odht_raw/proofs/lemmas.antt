@@ -71,3 +71,5 @@ pub mod PendingSlots
 pub mod PartRuns
 -- and what that leaves of whole bytes
 pub mod JoinedRuns
+-- the bytes of a table cut into its parts, and joined again
+pub mod ListWrites

@@ -6,9 +6,9 @@
 --                          and of which n add an entry, may leave es' and ctrl'
 --     ArePartsOfRun F P ps n es' ctrl'  these are the parts of the placed table P after the pairs ps are placed in turn, of
 --                          which n are of new keys
---     IsPlacedBelow F P ps B  B are the bytes of the table P after the pairs ps are placed in turn, for all of which it has
---                          room below its maximum
-use Rattle.std.specs.Prelude.{◌≡◌, ℕ, ◌+◌, ◌≤◌, List, [], ◌∷◌, ◌++◌, length, map, Option, Some, None, Result, Ok}
+--     IsPlacedBelow F P ps B  B are the bytes of the table P after the pairs ps, which are of F, are placed in turn; it has
+--                          room for all of them below its maximum
+use Rattle.std.specs.Prelude.{◌≡◌, ℕ, ◌+◌, ◌≤◌, List, [], ◌∷◌, ◌++◌, length, map, All, Option, Some, None, Result, Ok}
 use Rattle.odht_base.specs.Format.{Format}
 use Rattle.odht_base.specs.Insert.{place_all}
 use Rattle.odht_base.specs.Load.{max_items}
@@ -44,6 +44,7 @@ pub record ArePartsOfRun (F : Format) (P : Table) (ps : List Pair) (n : ℕ) (es
   pub counted : count table ≡ count P + n
 
 pub record IsPlacedBelow (F : Format) (P : Table) (ps : List Pair) (B : List ℕ) : Type 0 where
+  pub fits : All (IsPairOf F) ps
   pub room : count P + length ps ≤ max_items (slot_count P) P.factor
   pub table : Table
   pub placed : place_all F P ps ≡ Some table

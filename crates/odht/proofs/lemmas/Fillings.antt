@@ -1,21 +1,25 @@
 -- Inserts in turn: one more pair.
-use Rattle.std.proofs.Common.{◌≡◌, ◌<◌, ◌≤◌, ◌+◌, ◌∙◌, ◌++◌, ℕ, Bool, true, false, cond, sym, ap, refl, List, [], ◌∷◌, Option, Some, None, Result, Ok, Err, subst, take, length, bytes_eq, get_or, arith, length-append}
+use Rattle.std.proofs.Common.{◌≡◌, ◌<◌, ◌≤◌, ◌+◌, ◌∙◌, ◌++◌, ℕ, Bool, true, false, cond, sym, ap, refl, List, [], ◌∷◌, Option, Some, None, Result, Ok, Err, subst, take, length, bytes_eq, get_or, arith, length-append, append_assoc, append-nil}
 use Rattle.std.proofs.lemmas.List.{take_all, take_more, map-append, length-map}
 use Rattle.std.proofs.lemmas.Option.{slice_get-get_or}
 use Rattle.std.specs.Prelude.{option_and_then}
 use Rattle.std.specs.Option.{option_or}
+use Rattle.std.specs.List.{slice_range}
 use Rattle.odht_base.specs.Format.{Format}
-use Rattle.odht_base.specs.Insert.{place, put_owned, IsFullFor}
+use Rattle.odht_base.specs.Insert.{place, run, put_owned, IsFullFor}
 use Rattle.odht_base.specs.Load.{max_items, factor_of}
 use Rattle.odht_base.specs.Map.{map_of, last, overwritten}
 use Rattle.odht_base.specs.Table.{Pair, Table, count, slot_count, fresh}
 use Rattle.odht_base.specs.Valid.{IsImage, IsValid}
-use Rattle.odht_base.proofs.lemmas.FreshRuns.{PlacesBelow}
+use Rattle.odht_base.proofs.lemmas.FreshRuns.{PlacesBelow, run-place_all}
+use Rattle.odht_base.proofs.lemmas.Grown.{slot_count-place_all}
 use Rattle.odht_base.proofs.lemmas.Places.{slot_count-place, factor-place, count-place_le}
 use Rattle.odht_base.proofs.lemmas.Rooms.{fresh-slots, slot_count-empty, count-empty, max_items-holds}
-use Rattle.odht_base.proofs.lemmas.Runs.{IsInsert, run-push, last-append, last-cons}
+use Rattle.odht_base.proofs.lemmas.Runs.{IsInsert, run-append, run-push, last-append, last-cons, map_of-run, factor-run, count-run}
 use Rattle.odht_raw.specs.Coding.{Coding, encoded}
 use Rattle.odht_raw.specs.Frame.{IsFramed}
+use Rattle.odht_raw.specs.Runs.{IsPlacedBelow}
+use Rattle.odht_raw.proofs.lemmas.PartRuns.{take-range}
 use Rattle.odht_raw.specs.declared.error.Error.{Error}
 use Rattle.odht_raw.specs.declared.error.Error.TheVariants.{Full}
 use Rattle.odht.specs.Lists.{encoded_all, HasSizeOf, IsFilled, IsFramedRun, IsFreshFilled, IsRefusedAt, IsStoppedAt}
@@ -54,6 +58,48 @@ module _ (F : Format) (put : Table → Pair → Option Table) (is : IsInsert F (
       go : (k : List ℕ) (b : Bool) → bytes_eq k p.key ≡ b → cond b (Some p.value) (map_of h.table k) ≡ overwritten (map_of P) (last (ps ++ p ∷ [])) k
       go k true t = sym (ap (λ o. option_or o (map_of P k)) (latest k true t))
       go k false t = h.maps k ∙ sym (ap (λ o. option_or o (map_of P k)) (latest k false t))
+
+  -- pairs placed below the maximum give their keys these values
+  pub filled_placed : (ps qs : List Pair) (B C : List ℕ) (h : IsFilled F put P ps B) → IsPlacedBelow F h.table qs C → IsFilled F put P (ps ++ qs) C
+  filled_placed ps qs B C h more = record {
+    table = more.table;
+    runs = run-append put P ps qs ∙ ap (option_and_then (λ R. run put R qs)) h.runs ∙ runs;
+    image = more.image;
+    maps = λ k. map_of-run F (IsValid F) put is h.table more.table qs ok more.fits runs k ∙ over k (last qs k) refl;
+    stays = stays;
+  }
+    where
+      ok : IsValid F h.table
+      ok = h.image.valid
+
+      runs : run put h.table qs ≡ Some more.table
+      runs = run-place_all F put places h.table qs ok more.fits more.room ∙ more.placed
+
+      -- the last value of a key, by whether it is among the later pairs
+      over : (k : List ℕ) (o : Option (List ℕ)) → last qs k ≡ o → option_or (last qs k) (map_of h.table k) ≡ overwritten (map_of P) (last (ps ++ qs)) k
+      over k (Some v) e = ap (λ l. option_or l (map_of h.table k)) e ∙ sym (ap (λ l. option_or l (map_of P k)) (last-append ps qs k ∙ ap (λ l. option_or l (last ps k)) e))
+      over k None e = ap (λ l. option_or l (map_of h.table k)) e ∙ h.maps k ∙ sym (ap (λ l. option_or l (map_of P k)) (last-append ps qs k ∙ ap (λ l. option_or l (last ps k)) e))
+
+      stays : count P + length (ps ++ qs) ≤ max_items (slot_count P) P.factor → HasSizeOf P more.table × (count more.table ≤ count P + length (ps ++ qs))
+      stays room =
+          let long = length-append ps qs in
+          let so_far = h.stays (omega (arith, room, long)) in
+          let few = count-run F (IsValid F) put is h.table more.table qs ok more.fits runs in
+          (
+            (slot_count-place_all F h.table more.table qs ok.placed more.fits more.placed ∙ so_far.0.0, factor-run F (IsValid F) put is h.table more.table qs ok more.fits runs ∙ so_far.0.1),
+            omega (arith, few, so_far.1, long),
+          )
+
+-- inserts in turn, and then others
+pub framed_append : {K V : Type 0} (c : Coding K V) (B C : List ℕ) (xs : List (K × V)) → IsFramedRun c B xs C → (ys : List (K × V)) (D : List ℕ) → IsFramedRun c C ys D → IsFramedRun c B (xs ++ ys) D
+framed_append {K = K} {V = V} c B C xs before ys D (IsFramedRun.start) = subst (λ (zs : List (K × V)). IsFramedRun c B zs C) (sym (append-nil xs)) before
+framed_append {K = K} {V = V} c B C xs before ys D (IsFramedRun.accepted items k v o E G run frame) =
+    subst (λ (zs : List (K × V)). IsFramedRun c B zs D) (append_assoc xs items ((k, v) ∷ []))
+    (IsFramedRun.accepted (xs ++ items) k v o E D (framed_append c B C xs before items E run) frame)
+
+-- the first items of a list and a piece behind them as pairs
+pub encoded_all-range : {K V : Type 0} (c : Coding K V) (items : List (K × V)) (a b : ℕ) → a ≤ b → encoded_all c (take a items) ++ encoded_all c (slice_range items a b) ≡ encoded_all c (take b items)
+encoded_all-range {K = K} {V = V} c items a b within = sym (map-append (λ (t : K × V). encoded c t.0 t.1) (take a items) (slice_range items a b)) ∙ ap (encoded_all c) (take-range items a b within)
 
 -- the first n + 1 items are the first n, and item n
 pub encoded_all-more : {K V : Type 0} (c : Coding K V) (items : List (K × V)) (n : ℕ) (item : K × V) → n < length items → get_or items n item ≡ item

@@ -22,7 +22,7 @@ overwritten_at-to_end B at d end =
     ap (λ t. take at B ++ d ++ t) nothing ∙ append-nil (take at B ++ d)
 
 -- a write of what stands there changes nothing
-overwritten_at-same : (B : List ℕ) (at : ℕ) (d : List ℕ) → bytes_at B at (length d) ≡ d → overwritten_at B at d ≡ B
+pub overwritten_at-same : (B : List ℕ) (at : ℕ) (d : List ℕ) → bytes_at B at (length d) ≡ d → overwritten_at B at d ≡ B
 overwritten_at-same B at d e =
     append_assoc (take at B) d (drop (at + length d) B)
     ∙ ap (λ t. take at B ++ (t ++ drop (at + length d) B)) (sym e) ∙ sym (split_bytes_at B at (length d))

@@ -1,6 +1,7 @@
 -- Items inserted in turn into the parts of a table: one more item.
-use Rattle.std.proofs.Common.{◌≡◌, ◌<◌, ◌≤◌, ◌+◌, ◌-◌, ◌∙◌, ◌++◌, ℕ, Bool, true, false, not, cond, sym, ap, subst, refl, List, [], ◌∷◌, Option, Some, None, Result, Ok, Err, take, drop, length, slice_get, All, arith, length-drop, length-append, get_or, get_or-drop}
-use Rattle.std.proofs.lemmas.List.{take_more, map-append, length-map}
+use Rattle.std.proofs.Common.{◌≡◌, ◌<◌, ◌≤◌, ◌+◌, ◌-◌, ◌∙◌, ◌++◌, ℕ, Bool, true, false, not, cond, sym, ap, subst, refl, List, [], ◌∷◌, Option, Some, None, Result, Ok, Err, take, drop, length, slice_get, All, arith, length-drop, length-take, min, get_or, get_or-drop}
+use Rattle.std.proofs.Math.Seq.{take-add}
+use Rattle.std.proofs.lemmas.List.{take_more, map-append}
 use Rattle.std.proofs.lemmas.List.Elements.{All-append, All-cons, All-nil}
 use Rattle.std.proofs.lemmas.Option.{slice_get-get_or}
 use Rattle.std.specs.Prelude.{is_none, is_some, option_map, option_and_then, IfOk}
@@ -20,14 +21,26 @@ use Rattle.odht_raw.specs.PartsInserts.{AnswersFormer, ArePartsPlaced}
 use Rattle.odht_raw.specs.Runs.{encoded_all, count_after, IsPartsRun, ArePartsOfRun}
 use Rattle.odht_raw.specs.declared.error.Error.{Error}
 
+-- an item that is read
+pub read_item : {X : Type 0} (xs : List X) (n : ℕ) (x : X) → n < length xs → slice_get xs n ≡ Some x → get_or xs n x ≡ x
+read_item xs n x low at = some_same _ _ (sym (slice_get-get_or xs n x low) ∙ at)
+
+-- the first items, and a piece behind them
+pub take-range : {X : Type 0} (xs : List X) (a b : ℕ) → a ≤ b → take a xs ++ slice_range xs a b ≡ take b xs
+take-range xs a b within = let sum : a + (b - a) ≡ b = omega arith in sym (take-add a (b - a) xs) ∙ ap (λ n. take n xs) sum
+
 -- a piece of a list, and the item behind it
 pub range_more : {X : Type 0} (xs : List X) (a n : ℕ) (x : X) → a ≤ n → n < length xs → slice_get xs n ≡ Some x → slice_range xs a (n + 1) ≡ slice_range xs a n ++ x ∷ []
 range_more xs a n x from low at =
     let more : n + 1 - a ≡ n - a + 1 = omega arith in
     let there : a + (n - a) ≡ n = omega arith in
     let long : n - a < length (drop a xs) = omega (arith, length-drop a xs) in
-    let here : get_or (drop a xs) (n - a) x ≡ x = get_or-drop a xs (n - a) x ∙ ap (λ i. get_or xs i x) there ∙ some_same _ _ (sym (slice_get-get_or xs n x low) ∙ at) in
+    let here : get_or (drop a xs) (n - a) x ≡ x = get_or-drop a xs (n - a) x ∙ ap (λ i. get_or xs i x) there ∙ read_item xs n x low at in
     ap (λ m. take m (drop a xs)) more ∙ take_more (drop a xs) (n - a) x long ∙ ap (λ y. take (n - a) (drop a xs) ++ y ∷ []) here
+
+-- how long a piece is
+pub length-range : {X : Type 0} (xs : List X) (a b : ℕ) → length (slice_range xs a b) ≡ min (b - a) (length xs - a)
+length-range xs a b = length-take (b - a) (drop a xs) ∙ ap (min (b - a)) (length-drop a xs)
 
 -- no items
 pub range_none : {X : Type 0} (xs : List X) (a : ℕ) → slice_range xs a a ≡ []

@@ -62,6 +62,6 @@ impl<C: Config, M: ByteStore> Allocation<C, M> {
 
 // What a slice of bytes holds, for the proof: it does nothing.
 #[inline(always)]
-fn hold_bytes(bytes: &[u8])
+pub(crate) fn hold_bytes(bytes: &[u8])
     ensures { All (λ byte. byte < 256) bytes.now }
 {}

@@ -12,8 +12,9 @@ use crate::bytes::{ByteArray, ByteStoreMut, write_slice};
 use crate::config::{Coded, Config};
 use crate::items::Items;
 use crate::load::max_item_count_for;
+use crate::memory_layout::check::hold_bytes;
 use crate::memory_layout::header::ITEM_COUNT_AT;
-use crate::memory_layout::{EntryMetadata, HEADER_SIZE, Header};
+use crate::memory_layout::{EntryMetadata, HEADER_SIZE, Header, entry_at};
 use crate::raw_table::RawTableMut;
 
 impl<C: Config, M: ByteStoreMut> Allocation<C, M> {
@@ -89,17 +90,20 @@ fn insert_into_bytes<C: Config, I: Items<C::Key, C::Value>>(
     ensures accepted { IsAccepted ⟦<C as Coded>⟧.coding.format bytes.new }
     ensures len { length bytes.new ≡ length bytes.old }
 {
+    hold_bytes(bytes);
     let header = Header::of(bytes);
     let count = header.item_count();
     let slots = header.slot_count();
     let max = max_item_count_for(slots, header.max_load_factor());
     let room = max.saturating_sub(count).min(items.count() - from);
-    let (front, parts) = bytes.split_at_mut(HEADER_SIZE);
-    let (entries, control) = parts.split_at_mut(
-        slots * (C::EncodedKey::LEN + C::EncodedValue::LEN),
-    );
+    let (table, control) = bytes.split_at_mut(entry_at::<C>(slots));
+    let (front, entries) = table.split_at_mut(HEADER_SIZE);
     let (end, added) = insert_into_parts::<C, I>(control, entries, items, from, from + room);
-    write_slice(front, ITEM_COUNT_AT, &((count + added) as u64).to_le_bytes());
+    write_slice(
+        front,
+        ITEM_COUNT_AT,
+        &((count + added) as u64).to_le_bytes(),
+    );
     end
 }
 

@@ -1,0 +1,23 @@
+use Rattle.std.proofs.Common.{◌≡◌, ◌-◌, ◌≤◌, take, length}
+use Rattle.odht_base.specs.Insert.{put_view}
+use Rattle.odht_base.specs.Table.{Table}
+use Rattle.odht_base.specs.Valid.{IsImage}
+use Rattle.odht_raw.specs.Frame.{IsAccepted}
+use Rattle.odht_raw.specs.Coding.{coding_of}
+use Rattle.odht.specs.Lists.{encoded_all, IsFilled, IsFramedRun}
+use Rattle.odht.proofs.hash_table.HashTable.insert_items.Given as goal
+
+abbrev pub invariant-rounds : goal.invariant-rounds
+invariant-rounds g l =
+    let c = coding_of g.C.EncodedKey.ByteArray.LEN g.C.EncodedKey.ByteArray.bytes g.C.EncodedKey.ByteArray.of_bytes g.C.EncodedValue.ByteArray.LEN g.C.EncodedValue.ByteArray.bytes g.C.EncodedValue.ByteArray.of_bytes g.C.H.HashFn.hash g.C.Config.encode_key g.C.Config.encode_value g.C.Config.decode_key g.C.Config.decode_value in
+    let B = g.D.ByteStore.bytes l.self in
+    let items = g.I.Items.items l.items in
+    record {
+      within : l.accepted ≤ length items;
+      filled : (P : Table) → IsImage c.format P (g.D.ByteStore.bytes l.fn.self) → IsFilled c.format (put_view c.format) P (encoded_all c (take l.accepted items)) B;
+      framed : IsFramedRun c (g.D.ByteStore.bytes l.fn.self) (take l.accepted items) B;
+      place : l.self ≡ g.D.ByteStoreMut.holding l.fn.self B;
+    }
+
+abbrev pub decreases-rounds : goal.decreases-rounds
+decreases-rounds g l = length (g.I.Items.items l.items) - l.accepted

@@ -1,0 +1,121 @@
+use Rattle.std.proofs.Common.{◌≡◌, ◌<◌, ◌≤◌, ◌+◌, ◌-◌, ◌*◌, ◌∙◌, ℕ, List, length, sym, ap, subst, arith}
+use Rattle.std.specs.List.{slice_range}
+use Rattle.odht_base.specs.Bytes.{overwritten_at}
+use Rattle.odht_base.specs.Format.{Format, format_of, entry_len}
+use Rattle.odht_base.specs.Load.{max_items, IsSlotCount}
+use Rattle.odht_base.specs.Shown.{stated_slots, stated_count, stated_factor}
+use Rattle.odht_base.specs.Table.{slot_count, count}
+use Rattle.odht_base.specs.Writes.{with_count}
+use Rattle.odht_base.proofs.lemmas.Fits.{IsSized-IsPlaced}
+use Rattle.odht_base.proofs.lemmas.Image.{stated_count-image, stated_slots-image, stated_factor-image}
+use Rattle.odht_base.specs.Numbers.{le_bytes}
+use Rattle.odht_raw.specs.Coding.{Coding, coding_of}
+use Rattle.odht_raw.specs.Frame.{stated_maximum}
+use Rattle.odht_raw.proofs.lemmas.Accepted.{accepted_opening, accepted_len, accepted_slots}
+use Rattle.odht_raw.proofs.lemmas.HeaderWrites.{le_bytes-w64}
+use Rattle.odht_raw.proofs.lemmas.ListWrites.{IsCut, cut_accepted, cut-image, list_framed, list_accepted, list_length, list_placed}
+use Rattle.odht_raw.proofs.lemmas.PartRuns.{length-range}
+use Rattle.odht_raw.proofs.memory_layout.allocation.lists.insert_into_bytes.Given.{Over}
+use Rattle.odht_raw.proofs.memory_layout.allocation.lists.insert_into_bytes.Goals as goal
+use Rattle.odht_raw.proofs.memory_layout.allocation.lists.insert_into_bytes.Goals.{After-split_at_mut-front, After-write_slice}
+
+abbrev format : Over → Format
+format g = format_of g.C.EncodedKey.ByteArray.LEN g.C.EncodedValue.ByteArray.LEN g.C.H.HashFn.hash
+
+pub of-header-requires : goal.of-header-requires
+of-header-requires g c = (accepted_opening (format g) c.args.bytes.now c.requires.accepted).long
+
+pub entry_at-requires-after_bounds : goal.entry_at-requires-after_bounds
+entry_at-requires-after_bounds g c κs within =
+    let slots : c.slot_count-slots.result ≡ stated_slots c.args.bytes.now = c.slot_count-slots.ensures ∙ ap stated_slots c.of-header.ensures in
+    rw slots (omega (arith, accepted_len (format g) c.args.bytes.now c.requires.accepted))
+
+pub split_at_mut-table-requires : goal.split_at_mut-table-requires
+split_at_mut-table-requires g c =
+    let slots : c.slot_count-slots.result ≡ stated_slots c.args.bytes.now = c.slot_count-slots.ensures ∙ ap stated_slots c.of-header.ensures in
+    rw (c.entry_at.ensures, slots) (omega (arith, accepted_len (format g) c.args.bytes.now c.requires.accepted))
+
+-- header, entries and control bytes are those of the bytes
+cut : (g : Over) (c : After-split_at_mut-front g) → IsCut (format g) c.args.bytes.now c.split_at_mut-front.result.0.now c.split_at_mut-front.result.1.now c.split_at_mut-table.result.1.now
+cut g c =
+    let slots : c.slot_count-slots.result ≡ stated_slots c.args.bytes.now = c.slot_count-slots.ensures ∙ ap stated_slots c.of-header.ensures in
+    cut_accepted (format g) c.args.bytes.now c.requires.accepted c.entry_at.result (c.entry_at.ensures ∙ ap (λ s. 32 + s * entry_len (format g)) slots) _ _ _ _
+    c.split_at_mut-table.ensures.front c.split_at_mut-table.ensures.back c.split_at_mut-front.ensures.front c.split_at_mut-front.ensures.back
+
+pub insert_into_parts-end-requires-clause-parts : goal.insert_into_parts-end-requires-clause-parts
+insert_into_parts-end-requires-clause-parts g c κs within =
+    let cut = cut g (goal.at.insert_into_parts-end-requires-clause-parts g c).After-split_at_mut-front in
+    let slots : length c.split_at_mut-table.result.1.now - 16 ≡ stated_slots c.args.bytes.now = omega (arith, cut.mirrored, cut.slots) in
+    record {
+      pair = record { hashes = g.met.C.Config.key_hashes; key = g.met.C.Config.key_fits; value = g.met.C.Config.value_fits };
+      slots = subst IsSlotCount (sym slots) (accepted_slots (format g) c.args.bytes.now c.requires.accepted);
+      entries = cut.long ∙ ap (λ s. s * entry_len (format g)) (cut.slots ∙ sym slots);
+    }
+
+-- the coding of the configuration
+abbrev coding : (g : Over) → Coding g.row.C-Key.Denot g.row.C-Value.Denot
+coding g =
+    let key = g.C.EncodedKey.ByteArray in
+    let value = g.C.EncodedValue.ByteArray in
+    coding_of key.LEN key.bytes key.of_bytes value.LEN value.bytes value.of_bytes g.C.H.HashFn.hash
+    g.C.Config.encode_key g.C.Config.encode_value g.C.Config.decode_key g.C.Config.decode_value
+
+-- the items that were inserted
+abbrev inserted : (g : Over) (c : After-write_slice g) → List (g.row.C-Key.Denot × g.row.C-Value.Denot)
+inserted g c = slice_range (g.I.Items.items c.args.items.now) c.args.from c.insert_into_parts-end.result.0
+
+-- what the header states
+stated : (g : Over) (c : After-write_slice g) → (c.item_count-count.result ≡ stated_count c.args.bytes.now) × (c.max_item_count_for-max.result ≡ stated_maximum c.args.bytes.now)
+stated g c = (
+  c.item_count-count.ensures ∙ ap stated_count c.of-header.ensures,
+  c.max_item_count_for-max.ensures.value
+      ∙ (λ i. max_items ((c.slot_count-slots.ensures ∙ ap stated_slots c.of-header.ensures) i) ((c.max_load_factor.ensures ∙ ap stated_factor c.of-header.ensures) i)),
+)
+
+-- the header that was written
+written : (g : Over) (c : After-write_slice g) → c.write_slice.new.all ≡ with_count c.split_at_mut-front.result.0.now (stated_count c.args.bytes.now + c.insert_into_parts-end.result.1)
+written g c =
+    c.write_slice.ensures
+    ∙ ap (overwritten_at c.split_at_mut-front.result.0.now 8) (c.to_le_bytes.ensures ∙ le_bytes-w64 _ ∙ ap (λ m. le_bytes 8 (m + c.insert_into_parts-end.result.1)) (stated g c).0)
+
+-- there is room for each of them
+room : (g : Over) (c : After-write_slice g) → (x : ℕ) → x < length (inserted g c) → stated_count c.args.bytes.now + x < stated_maximum c.args.bytes.now
+room g c x l =
+    let told = stated g c in
+    let long = length-range (g.I.Items.items c.args.items.now) c.args.from c.insert_into_parts-end.result.0 in
+    omega (arith, l, long, told.0, told.1, c.insert_into_parts-end.ensures.bound, c.min-room.ensures, c.saturating_sub.ensures)
+
+pub returns-clause-framed : goal.returns-clause-framed
+returns-clause-framed g c =
+    let w = (goal.at.returns-clause-framed g c).After-write_slice in
+    list_framed (coding g) c.args.bytes.now _ _ _ (cut g (goal.at.returns-clause-framed g c).After-split_at_mut-front) (inserted g w) c.insert_into_parts-end.result.1 _ _ _
+    (written g w) c.insert_into_parts-end.ensures.run (room g w) (omega (arith, (stated g w).1)) c.hold_bytes.ensures
+
+pub returns-clause-accepted : goal.returns-clause-accepted
+returns-clause-accepted g c =
+    let w = (goal.at.returns-clause-accepted g c).After-write_slice in
+    list_accepted (coding g) c.args.bytes.now _ _ _ (cut g (goal.at.returns-clause-accepted g c).After-split_at_mut-front) (inserted g w) c.insert_into_parts-end.result.1 _ _ _
+    (written g w) c.insert_into_parts-end.ensures.run (room g w) (omega (arith, (stated g w).1))
+
+pub returns-clause-len : goal.returns-clause-len
+returns-clause-len g c =
+    let w = (goal.at.returns-clause-len g c).After-write_slice in
+    list_length (coding g) c.args.bytes.now _ _ _ (cut g (goal.at.returns-clause-len g c).After-split_at_mut-front) (inserted g w) c.insert_into_parts-end.result.1 _ _ _
+    (written g w) c.insert_into_parts-end.ensures.run (room g w) (omega (arith, (stated g w).1))
+
+pub returns-clause-placed : goal.returns-clause-placed
+returns-clause-placed g c P is =
+    let w = (goal.at.returns-clause-placed g c).After-write_slice in
+    let K = coding g in
+    let cut = cut g (goal.at.returns-clause-placed g c).After-split_at_mut-front in
+    let told = stated g w in
+    let long = length-range (g.I.Items.items c.args.items.now) c.args.from c.insert_into_parts-end.result.0 in
+    let sized = IsSized-IsPlaced K.format P is.valid.placed in
+    let count_is : stated_count c.args.bytes.now ≡ count P = ap stated_count is.bytes ∙ stated_count-image K.format P sized in
+    let most_is : stated_maximum c.args.bytes.now ≡ max_items (slot_count P) P.factor =
+    ap stated_maximum is.bytes ∙ (λ i. max_items (stated_slots-image K.format P sized i) (stated_factor-image K.format P is.valid.factor_high i)) in
+    let few : count P + length (inserted g w) ≤ max_items (slot_count P) P.factor =
+    omega (arith, long, told.0, told.1, count_is, most_is, is.valid.room, c.insert_into_parts-end.ensures.bound, c.min-room.ensures, c.saturating_sub.ensures) in
+    list_placed K c.args.bytes.now _ _ _ cut (inserted g w) c.insert_into_parts-end.result.1 _ _ _
+    (written g w) c.insert_into_parts-end.ensures.run (room g w) (omega (arith, told.1)) P is few
+    (c.insert_into_parts-end.ensures.placed P (cut-image K.format c.args.bytes.now _ _ _ cut P is).1)
