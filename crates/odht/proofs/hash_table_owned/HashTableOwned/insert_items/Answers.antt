@@ -1,16 +1,18 @@
-use Rattle.std.proofs.Common.{◌∙◌, sym, subst, take, List, arith}
-use Rattle.std.proofs.Math.Nat.{le_antisymm}
+use Rattle.std.proofs.Common.{◌<◌, ◌∙◌, sym, subst, take, length, List, arith}
+use Rattle.std.specs.List.{slice_range}
 use Rattle.odht_base.specs.Insert.{put_owned}
-use Rattle.odht_base.specs.Table.{Pair}
+use Rattle.odht_base.specs.Table.{Pair, Table}
 use Rattle.odht_base.specs.Valid.{IsImage}
 use Rattle.odht_base.proofs.lemmas.FreshRuns.{put_owned-PlacesBelow}
 use Rattle.odht_base.proofs.lemmas.Puts.{put_owned-IsInsert}
 use Rattle.odht_raw.specs.Coding.{Coding, coding_of}
+use Rattle.odht_raw.proofs.lemmas.PartRuns.{read_item}
 use Rattle.odht.specs.Lists.{encoded_all, IsFilled}
-use Rattle.odht.proofs.lemmas.Fillings.{filled_none, filled_more, filled_all, fresh_filled, encoded_all-more, refused_at}
+use Rattle.odht.proofs.lemmas.Fillings.{filled_none, filled_more, filled_placed, filled_all, fresh_filled, encoded_all-more, encoded_all-range, refused_at}
 use Rattle.odht.proofs.lemmas.Kept.{filled-HasLastValues}
-use Rattle.odht.proofs.hash_table_owned.HashTableOwned.insert_all.Given.{Over}
-use Rattle.odht.proofs.hash_table_owned.HashTableOwned.insert_all.Goals as goal
+use Rattle.odht.proofs.hash_table_owned.HashTableOwned.insert_items.Given.{Over}
+use Rattle.odht.proofs.hash_table_owned.HashTableOwned.insert_items.Goals as goal
+use Rattle.odht.proofs.hash_table_owned.HashTableOwned.insert_items.Goals.{After-insert_below_maximum-accepted}
 
 -- the coding of the configuration
 abbrev coding : (g : Over) → Coding g.row.C-Key.Denot g.row.C-Value.Denot
@@ -20,48 +22,80 @@ coding g =
     coding_of key.LEN key.bytes key.of_bytes value.LEN value.bytes value.of_bytes g.C.H.HashFn.hash
     g.C.Config.encode_key g.C.Config.encode_value g.C.Config.decode_key g.C.Config.decode_value
 
-pub loop-accepted-init : goal.loop-accepted-init
-loop-accepted-init g c P is = filled_none (coding g).format (put_owned (coding g).format) P _ is
+pub rounds-init : goal.rounds-init
+rounds-init g c = record {
+  within = omega arith;
+  filled = λ P is. filled_none (coding g).format (put_owned (coding g).format) P _ is;
+}
 
-pub loop-accepted-preserved : goal.loop-accepted-preserved
-loop-accepted-preserved g c P is =
+-- the table after the items below the maximum
+filled_here : (g : Over) (c : After-insert_below_maximum-accepted g) (P : Table) → IsImage (coding g).format P c.args.self.now
+    → IsFilled (coding g).format (put_owned (coding g).format) P (encoded_all (coding g) (take c.insert_below_maximum-accepted.result (g.I.Items.items c.args.items.now))) c.insert_below_maximum-accepted.new.self
+filled_here g c P is =
     let K = coding g in
-    let n = c.loop-accepted.accepted in
-    let items = c.args.items.now in
-    let h = c.loop-accepted.invariant P is in
-    let put = c.in_default.ensures.ok h.table h.image in
-    subst (λ (ps : List Pair). IsFilled K.format (put_owned K.format) P ps c.insert.new.self) (sym (encoded_all-more K items n c.index-items-accepted.result (omega (arith, c.loop-accepted-test.true)) (sym c.index-items-accepted.is)))
-    (filled_more K.format (put_owned K.format) (put_owned-IsInsert K.format) (put_owned-PlacesBelow K.format) P (encoded_all K (take n items)) _ c.loop-accepted.self c.insert.new.self h put.table put.inserted put.image)
+    let put = put_owned K.format in
+    let items = g.I.Items.items c.args.items.now in
+    let a = c.rounds.accepted in
+    let b = c.insert_below_maximum-accepted.result in
+    let now = c.insert_below_maximum-accepted.new.self in
+    let told = c.insert_below_maximum-accepted.ensures in
+    let h = c.rounds.invariant.filled P is in
+    let image : IsImage K.format h.table c.self.inside.table = record { valid = h.image.valid; bytes = c.self.view_is ∙ h.image.bytes } in
+    subst (λ (ps : List Pair). IsFilled K.format put P ps now) (encoded_all-range K items a b told.from)
+    (filled_placed K.format put (put_owned-IsInsert K.format) (put_owned-PlacesBelow K.format) P (encoded_all K (take a items)) (encoded_all K (slice_range items a b)) _ now h (told.placed h.table image))
+
+pub returns-then-accepted-count-clause-filled : goal.returns-then-accepted-count-clause-filled
+returns-then-accepted-count-clause-filled g c P is =
+    filled_here g (goal.at.returns-then-accepted-count-clause-filled g c).After-insert_below_maximum-accepted P is
+
+pub returns-then-accepted-count-clause-fresh : goal.returns-then-accepted-count-clause-fresh
+returns-then-accepted-count-clause-fresh g c p made =
+    let K = coding g in
+    let items = g.I.Items.items c.args.items.now in
+    let here = (goal.at.returns-then-accepted-count-clause-fresh g c).After-insert_below_maximum-accepted in
+    fresh_filled K p items c.insert_below_maximum-accepted.new.self made.table made.new
+    (filled_all K (put_owned K.format) made.table items c.insert_below_maximum-accepted.result c.insert_below_maximum-accepted.new.self (omega (arith, c.if-accepted-count.true, c.count.ensures)) (filled_here g here made.table made.image))
+
+pub returns-then-accepted-count-clause-last_values :
+    goal.returns-then-accepted-count-clause-last_values
+returns-then-accepted-count-clause-last_values g c n p made =
+    let K = coding g in
+    let items = g.I.Items.items c.args.items.now in
+    let here = (goal.at.returns-then-accepted-count-clause-last_values g c).After-insert_below_maximum-accepted in
+    filled-HasLastValues K (put_owned K.format) n p made.table items c.insert_below_maximum-accepted.new.self made.new
+    (filled_all K (put_owned K.format) made.table items c.insert_below_maximum-accepted.result c.insert_below_maximum-accepted.new.self (omega (arith, c.if-accepted-count.true, c.count.ensures)) (filled_here g here made.table made.image))
 
 pub returns-in-Err-clause-filled : goal.returns-in-Err-clause-filled
 returns-in-Err-clause-filled g c P is =
     let K = coding g in
-    let filled = IsFilled K.format (put_owned K.format) P (encoded_all K (take c.loop-accepted.accepted c.args.items.now)) in
-    subst filled (sym c.in-Err.ensures.refused) (c.loop-accepted.invariant P is)
+    let filled = IsFilled K.format (put_owned K.format) P (encoded_all K (take c.insert_below_maximum-accepted.result (g.I.Items.items c.args.items.now))) in
+    subst filled (sym c.in-Err.ensures.refused) (filled_here g (goal.at.returns-in-Err-clause-filled g c).After-insert_below_maximum-accepted P is)
 
 pub returns-in-Err-clause-at_maximum : goal.returns-in-Err-clause-at_maximum
 returns-in-Err-clause-at_maximum g c P is =
-    let before : IsImage (coding g).format P c.loop-accepted.self =
+    let items = g.I.Items.items c.args.items.now in
+    let n = c.insert_below_maximum-accepted.result in
+    let item : g.row.C-Key.Denot × g.row.C-Value.Denot = (c.at.result.0.now, c.at.result.1.now) in
+    let low : n < length items = omega (arith, c.if-accepted-count.false, c.count.ensures) in
+    let before : IsImage (coding g).format P c.insert_below_maximum-accepted.new.self =
     record { valid = is.valid; bytes = sym c.in-Err.ensures.refused ∙ is.bytes } in
-    refused_at (coding g) P c.args.items.now c.loop-accepted.accepted c.index-items-accepted.result c.loop-accepted-test.true
-    (sym c.index-items-accepted.is) (c.in-Err.ensures.at_maximum P before)
+    refused_at (coding g) P items n item low (read_item items n item low c.at.ensures) (c.in-Err.ensures.at_maximum P before)
 
-pub returns-clause-filled : goal.returns-clause-filled
-returns-clause-filled g c P is =
+pub rounds-preserved : goal.rounds-preserved
+rounds-preserved g c =
     let K = coding g in
-    subst (λ n. IsFilled K.format (put_owned K.format) P (encoded_all K (take n c.args.items.now)) c.loop-accepted.self)
-    (le_antisymm c.loop-accepted.auto.accepted-end c.loop-accepted-test.false) (c.loop-accepted.invariant P is)
-
-pub returns-clause-fresh : goal.returns-clause-fresh
-returns-clause-fresh g c p made =
-    let K = coding g in
-    let items = c.args.items.now in
-    fresh_filled K p items c.loop-accepted.self made.table made.new
-    (filled_all K (put_owned K.format) made.table items c.loop-accepted.accepted c.loop-accepted.self c.loop-accepted-test.false (c.loop-accepted.invariant made.table made.image))
-
-pub returns-clause-last_values : goal.returns-clause-last_values
-returns-clause-last_values g c n p made =
-    let K = coding g in
-    let items = c.args.items.now in
-    filled-HasLastValues K (put_owned K.format) n p made.table items c.loop-accepted.self made.new
-    (filled_all K (put_owned K.format) made.table items c.loop-accepted.accepted c.loop-accepted.self c.loop-accepted-test.false (c.loop-accepted.invariant made.table made.image))
+    let put = put_owned K.format in
+    let items = g.I.Items.items c.args.items.now in
+    let n = c.insert_below_maximum-accepted.result in
+    let item : g.row.C-Key.Denot × g.row.C-Value.Denot = (c.at.result.0.now, c.at.result.1.now) in
+    let low : n < length items = omega (arith, c.if-accepted-count.false, c.count.ensures) in
+    let at = read_item items n item low c.at.ensures in
+    let here = (goal.at.rounds-preserved g c).After-insert_below_maximum-accepted in
+    record {
+      within = omega (arith, low);
+      filled = λ P is. (
+          let h = filled_here g here P is in
+          let done = c.in_default.ensures.ok h.table h.image in
+          subst (λ (ps : List Pair). IsFilled K.format put P ps c.insert.new.self) (sym (encoded_all-more K items n item low at))
+          (filled_more K.format put (put_owned-IsInsert K.format) (put_owned-PlacesBelow K.format) P (encoded_all K (take n items)) _ _ c.insert.new.self h done.table done.inserted done.image));
+    }

@@ -1,12 +1,19 @@
-use Rattle.std.proofs.Common.{take}
+use Rattle.std.proofs.Common.{◌-◌, ◌≤◌, take, length}
 use Rattle.odht_base.specs.Insert.{put_owned}
 use Rattle.odht_base.specs.Table.{Table}
 use Rattle.odht_base.specs.Valid.{IsImage}
 use Rattle.odht_raw.specs.Coding.{coding_of}
 use Rattle.odht.specs.Lists.{encoded_all, IsFilled}
-use Rattle.odht.proofs.hash_table_owned.HashTableOwned.insert_all.Given as goal
+use Rattle.odht.proofs.hash_table_owned.HashTableOwned.insert_items.Given as goal
 
-abbrev pub invariant-loop-accepted : goal.invariant-loop-accepted
-invariant-loop-accepted g l =
+abbrev pub invariant-rounds : goal.invariant-rounds
+invariant-rounds g l =
     let c = coding_of g.C.EncodedKey.ByteArray.LEN g.C.EncodedKey.ByteArray.bytes g.C.EncodedKey.ByteArray.of_bytes g.C.EncodedValue.ByteArray.LEN g.C.EncodedValue.ByteArray.bytes g.C.EncodedValue.ByteArray.of_bytes g.C.H.HashFn.hash g.C.Config.encode_key g.C.Config.encode_value g.C.Config.decode_key g.C.Config.decode_value in
-    (P : Table) → IsImage c.format P l.initial.self → IsFilled c.format (put_owned c.format) P (encoded_all c (take l.accepted l.items)) l.self
+    let items = g.I.Items.items l.items in
+    record {
+      within : l.accepted ≤ length items;
+      filled : (P : Table) → IsImage c.format P l.fn.self → IsFilled c.format (put_owned c.format) P (encoded_all c (take l.accepted items)) l.self;
+    }
+
+abbrev pub decreases-rounds : goal.decreases-rounds
+decreases-rounds g l = length (g.I.Items.items l.items) - l.accepted
