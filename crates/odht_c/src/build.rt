@@ -1,17 +1,26 @@
-//! Tables that are built in memory of their own, and then copied into bytes of the caller.
-ghost use Rattle.std.specs.Prelude.{◌≡◌, ◌≤◌, ◌⊎◌, length};
+//! Tables that are built of pairs: in bytes of the caller, or in memory of their own and then copied there.
+ghost use Rattle.std.specs.Prelude.{◌≡◌, ◌≤◌, ◌⊎◌, Some, length, All};
+ghost use Rattle.std.specs.List.{zip};
+ghost use Rattle.odht_base.specs.Image.{image_len};
+ghost use Rattle.odht_base.specs.Load.{factor_of, slots_for};
+ghost use Rattle.odht_base.specs.Valid.{IsPairOf};
+ghost use Rattle.odht_raw.specs.Runs.{encoded_all};
+ghost use Rattle.odht.specs.Lists.{IsFreshFilled};
 ghost use Rattle.odht_c.specs.Statuses.{done, too_small};
 ghost use Rattle.odht_c.specs.Builds.{IsHandedOut, BuildAnswers, BuildGrowingAnswers};
 
-use crate::status::{OK, TOO_SMALL, status_of};
-use odht::HashTableOwned;
+use crate::status::{CAPACITY, OK, TOO_SMALL, status_of};
+use crate::write::make;
+use odht::bytes::{BorrowedMut, ByteArray};
 use odht::config::{Coded, Config};
+use odht::items::Zipped;
+use odht::load::Factor;
+use odht::{HashTable, HashTableOwned, memory_layout};
 use std::alloc::Global;
 
-/// The table of the pairs, made for as many as there are.
+/// The table of the pairs, made for as many as there are: it is built where the caller wants it. No memory is asked for.
 #[inline]
-pub(crate) fn collected<C: Config<Key: Copy, Value: Copy>>(
-    alloc: Global,
+pub(crate) fn collected<C: Config>(
     keys: &[C::Key],
     values: &[C::Value],
     max_load_factor_percent: u8,
@@ -24,11 +33,56 @@ pub(crate) fn collected<C: Config<Key: Copy, Value: Copy>>(
     ensures { BuildAnswers ⟦<C as Coded>⟧.coding keys.now values.now max_load_factor_percent
         out.old len.old result out.new len.new }
 {
-    let pairs = keys.iter().copied().zip(values.iter().copied());
-    match HashTableOwned::<C>::from_iterator(alloc, pairs, max_load_factor_percent) {
-        Ok(table) => hand_out(table.raw_bytes(), out, len),
-        Err(refused) => status_of(&refused),
+    let factor = Factor::from_percent(max_load_factor_percent);
+    let Some((slot_count, needed)) = memory_layout::layout_for::<C>(keys.len(), factor) else {
+        return CAPACITY;
+    };
+    hold_pairs::<C>(keys, values);
+    *len = needed;
+    if out.len() < needed {
+        return TOO_SMALL;
     }
+    fill_new::<C>(&mut out[..needed], slot_count, max_load_factor_percent, keys, values);
+    OK
+}
+
+// What the keys and values are as bytes, for the proof: it changes nothing.
+#[inline(always)]
+fn hold_pairs<C: Config>(keys: &[C::Key], values: &[C::Value])
+    requires { length values.now ≡ length keys.now }
+    ensures { let c = ⟦<C as Coded>⟧.coding in All (IsPairOf c.format) (encoded_all c (zip keys.now values.now)) }
+{
+    for index in 0..keys.len() {
+        let key = C::encode_key(&keys[index]);
+        let value = C::encode_value(&values[index]);
+        let _ = key.as_slice();
+        let _ = value.as_slice();
+    }
+}
+
+// Makes the table for the pairs in the bytes, whatever stood there, and inserts them in turn: there is room for each.
+#[inline(always)]
+fn fill_new<C: Config>(
+    bytes: &mut [u8],
+    slot_count: usize,
+    max_load_factor_percent: u8,
+    keys: &[C::Key],
+    values: &[C::Value],
+)
+    requires lengths { length values.now ≡ length keys.now }
+    requires low { 1 ≤ max_load_factor_percent }
+    requires high { max_load_factor_percent ≤ 100 }
+    requires slots { slots_for (length keys.now) (factor_of max_load_factor_percent) ≡ Some slot_count }
+    requires len { length bytes.old ≡ image_len ⟦<C as Coded>⟧.coding.format slot_count }
+    requires pairs { let c = ⟦<C as Coded>⟧.coding in All (IsPairOf c.format) (encoded_all c (zip keys.now values.now)) }
+    ensures { IsFreshFilled ⟦<C as Coded>⟧.coding max_load_factor_percent (zip keys.now values.now) bytes.new }
+{
+    let mut place = BorrowedMut::new(bytes);
+    let factor = Factor::from_percent(max_load_factor_percent);
+    make::<C, BorrowedMut<'_>>(&mut place, slot_count, factor);
+    let mut table = HashTable::<C, &mut BorrowedMut<'_>>::from_raw_bytes_unchecked(&mut place);
+    let _ = table.insert_items(&Zipped::new(keys, values));
+    let _place = table.into_data();
 }
 
 /// The table of the pairs, which starts with sixteen slots at 87 percent and grows.
@@ -47,10 +101,8 @@ pub(crate) fn grown<C: Config>(
         Ok(table) => table,
         Err(refused) => return status_of(&refused),
     };
-    for index in 0..keys.len() {
-        if let Err(refused) = table.insert(&keys[index], &values[index]) {
-            return status_of(&refused);
-        }
+    if let (_, Err(refused)) = table.insert_items(&Zipped::new(keys, values)) {
+        return status_of(&refused);
     }
     hand_out(table.raw_bytes(), out, len)
 }

@@ -10,6 +10,7 @@ use crate::read::view;
 use crate::status::{BAD_PERCENT, CAPACITY, INIT_LENGTH, OK, REPLACED, status_of};
 use odht::bytes::ByteStoreMut;
 use odht::config::{Coded, Config};
+use odht::items::Zipped;
 use odht::load::Factor;
 use odht::{HashTable, memory_layout};
 
@@ -57,8 +58,8 @@ pub(crate) fn init<C: Config, M: ByteStoreMut>(
     OK
 }
 
-// Makes the empty table of `slot_count` slots in the place, whatever stood there. One pass over the bytes.
-fn make<C: Config, M: ByteStoreMut>(place: &mut M, slot_count: usize, max_load_factor: Factor)
+/// Makes the empty table of `slot_count` slots in the place, whatever stood there. One pass over the bytes.
+pub(crate) fn make<C: Config, M: ByteStoreMut>(place: &mut M, slot_count: usize, max_load_factor: Factor)
     requires slots { IsSlotCount slot_count }
     requires len { length (M.bytes place.old) ≡ image_len ⟦<C as Coded>⟧.coding.format slot_count }
     ensures bytes { let F = ⟦<C as Coded>⟧.coding.format
@@ -113,15 +114,12 @@ pub(crate) fn insert_all<C: Config, M: ByteStoreMut>(
     if let Err(refused) = view::<C>(place.bytes()) {
         return status_of(&refused);
     }
-    for index in 0..keys.len() {
-        let mut table = HashTable::<C, &mut M>::from_raw_bytes_unchecked(place);
-        let answer = table.insert(&keys[index], &values[index]);
-        let _place = table.into_data();
-        if let Err(refused) = answer {
-            *accepted = index;
-            return status_of(&refused);
-        }
+    let mut table = HashTable::<C, &mut M>::from_raw_bytes_unchecked(place);
+    let (count, answer) = table.insert_items(&Zipped::new(keys, values));
+    let _place = table.into_data();
+    *accepted = count;
+    match answer {
+        Ok(()) => OK,
+        Err(refused) => status_of(&refused),
     }
-    *accepted = keys.len();
-    OK
 }

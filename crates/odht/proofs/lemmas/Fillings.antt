@@ -84,8 +84,7 @@ module _ (F : Format) (put : Table → Pair → Option Table) (is : IsInsert F (
       stays room =
           let long = length-append ps qs in
           let so_far = h.stays (omega (arith, room, long)) in
-          let few = count-run F (IsValid F) put is h.table more.table qs ok more.fits runs in
-          (
+          let few = count-run F (IsValid F) put is h.table more.table qs ok more.fits runs in (
             (slot_count-place_all F h.table more.table qs ok.placed more.fits more.placed ∙ so_far.0.0, factor-run F (IsValid F) put is h.table more.table qs ok more.fits runs ∙ so_far.0.1),
             omega (arith, few, so_far.1, long),
           )
