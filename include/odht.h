@@ -41,9 +41,8 @@
  * answers FULL only at that maximum, or where each slot counts as filled, by its
  * control byte or its copy in the mirror. docs/FORMAT.md has the frame.
  *
- * Memory is asked for by odht_u64_u32_build and odht_u64_u32_build_growing
- * alone, by malloc, and given back before they return. It goes through the
- * kit's small C library, so programs are linked with both:
+ * Memory is asked for by odht_u64_u32_build_growing alone, by malloc, and given
+ * back before it returns. It goes through the kit's small C library, so programs are linked with both:
  * libodht_c.a, then liblibc_c.a.
  */
 #ifndef ODHT_H
@@ -263,11 +262,10 @@ uint32_t odht_u64_u32_insert_order(const uint8_t *bytes, size_t bytes_len, size_
                                    size_t out_len);
 
 /*
- * Makes a table for exactly these pairs and inserts them one after the other;
- * they are copied into memory first, and the table is copied out at the end.
- * Of equal keys the last value counts.
+ * Makes a table for exactly these pairs in out and inserts them one after the
+ * other. Of equal keys the last value counts. It takes no memory.
  * OK: the table is the first *len bytes of out. TOO_SMALL: out_len is below
- * *len, the length in bytes that the table has. MEMORY. CAPACITY. BAD_PERCENT.
+ * *len, the length in bytes that the table has. CAPACITY. BAD_PERCENT.
  * BAD_LENGTHS: keys_len is not values_len. *len is written with OK and
  * TOO_SMALL alone, out with OK alone.
  */
@@ -280,8 +278,8 @@ uint32_t odht_u64_u32_build(const uint64_t *keys, size_t keys_len, const uint32_
  * inserts them one after the other into a table that has 16 slots at 87 percent
  * at first and doubles them for a new key whenever it is full. The order of the
  * slots can differ from that of odht_u64_u32_build.
- * OK, TOO_SMALL, MEMORY and BAD_LENGTHS as there; CAPACITY is never answered,
- * since a growth past any table is refused as MEMORY.
+ * OK, TOO_SMALL and BAD_LENGTHS as there. MEMORY: the memory for the growing
+ * table was refused, or no table is large enough. It is copied to out at the end.
  */
 uint32_t odht_u64_u32_build_growing(const uint64_t *keys, size_t keys_len, const uint32_t *values,
                                     size_t values_len, uint8_t *out, size_t out_len, size_t *len);

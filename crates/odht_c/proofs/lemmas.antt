@@ -16,3 +16,5 @@ pub mod Walked
 pub mod Inserted
 -- what the call for an order of inserts answers
 pub mod Ordered
+-- a new table for as many pairs as there are
+pub mod NewBuilds

@@ -1,4 +1,4 @@
--- What the calls answer that build a table in memory of its own and copy it into bytes of the caller.
+-- What the calls answer that build a table of pairs for the caller: in its bytes, or in memory of its own and copied there.
 -- The status is s; `out` and `len` stand in the places before the call, and out' and len' after it.
 --     IsHandedOut IsTable out s out' len'   bytes that are a table, as `IsTable` tells, were copied to the front of
 --                          `out` and the rest of it stays, or they are longer than it and all of it stays; len' is
@@ -37,7 +37,7 @@ pub record BuildAnswers {K V : Type 0} (c : Coding K V) (keys : List K) (values 
   pub percent : length values ≡ length keys → (IsPercent p → ⊥) → (s ≡ bad_percent) × (out' ≡ out) × (len' ≡ len)
   pub built : IsHandedOut (IsFreshFilled c p (zip keys values)) out s out' len'
   pub refused : length values ≡ length keys → IsPercent p → (s ≡ done → ⊥) → (s ≡ too_small → ⊥)
-      → ((s ≡ status_of Memory) ⊎ (s ≡ status_of Capacity)) × (out' ≡ out) × (len' ≡ len)
+      → (s ≡ status_of Capacity) × (out' ≡ out) × (len' ≡ len)
   pub capacity : s ≡ status_of Capacity → IsTooLarge c.format (length keys) (factor_of p)
 
 pub record BuildGrowingAnswers {K V : Type 0} (c : Coding K V) (keys : List K) (values : List V)

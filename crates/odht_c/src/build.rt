@@ -11,7 +11,7 @@ ghost use Rattle.odht_c.specs.Builds.{IsHandedOut, BuildAnswers, BuildGrowingAns
 
 use crate::status::{CAPACITY, OK, TOO_SMALL, status_of};
 use crate::write::make;
-use odht::bytes::{BorrowedMut, ByteArray};
+use odht::bytes::{BorrowedMut, ByteArray, ByteStoreMut};
 use odht::config::{Coded, Config};
 use odht::items::Zipped;
 use odht::load::Factor;
@@ -42,7 +42,13 @@ pub(crate) fn collected<C: Config>(
     if out.len() < needed {
         return TOO_SMALL;
     }
-    fill_new::<C>(&mut out[..needed], slot_count, max_load_factor_percent, keys, values);
+    fill_new::<C>(
+        &mut out[..needed],
+        slot_count,
+        max_load_factor_percent,
+        keys,
+        values,
+    );
     OK
 }
 
@@ -74,13 +80,43 @@ fn fill_new<C: Config>(
     requires high { max_load_factor_percent ≤ 100 }
     requires slots { slots_for (length keys.now) (factor_of max_load_factor_percent) ≡ Some slot_count }
     requires len { length bytes.old ≡ image_len ⟦<C as Coded>⟧.coding.format slot_count }
-    requires pairs { let c = ⟦<C as Coded>⟧.coding in All (IsPairOf c.format) (encoded_all c (zip keys.now values.now)) }
+    requires pairs { let c = ⟦<C as Coded>⟧.coding
+        in All (IsPairOf c.format) (encoded_all c (zip keys.now values.now)) }
     ensures { IsFreshFilled ⟦<C as Coded>⟧.coding max_load_factor_percent (zip keys.now values.now) bytes.new }
 {
     let mut place = BorrowedMut::new(bytes);
+    fill_place::<C, BorrowedMut<'_>>(
+        &mut place,
+        slot_count,
+        max_load_factor_percent,
+        keys,
+        values,
+    )
+}
+
+// The same in a place of bytes.
+#[inline(always)]
+fn fill_place<C: Config, M: ByteStoreMut>(
+    place: &mut M,
+    slot_count: usize,
+    max_load_factor_percent: u8,
+    keys: &[C::Key],
+    values: &[C::Value],
+)
+    requires lengths { length values.now ≡ length keys.now }
+    requires low { 1 ≤ max_load_factor_percent }
+    requires high { max_load_factor_percent ≤ 100 }
+    requires slots { slots_for (length keys.now) (factor_of max_load_factor_percent) ≡ Some slot_count }
+    requires len { length (M.bytes place.old) ≡ image_len ⟦<C as Coded>⟧.coding.format slot_count }
+    requires pairs { let c = ⟦<C as Coded>⟧.coding
+        in All (IsPairOf c.format) (encoded_all c (zip keys.now values.now)) }
+    ensures filled { let items = zip keys.now values.now
+        in IsFreshFilled ⟦<C as Coded>⟧.coding max_load_factor_percent items (M.bytes place.new) }
+    ensures place { place.new ≡ M.holding place.old (M.bytes place.new) }
+{
     let factor = Factor::from_percent(max_load_factor_percent);
-    make::<C, BorrowedMut<'_>>(&mut place, slot_count, factor);
-    let mut table = HashTable::<C, &mut BorrowedMut<'_>>::from_raw_bytes_unchecked(&mut place);
+    make::<C, M>(place, slot_count, factor);
+    let mut table = HashTable::<C, &mut M>::from_raw_bytes_unchecked(place);
     let _ = table.insert_items(&Zipped::new(keys, values));
     let _place = table.into_data();
 }

@@ -23,25 +23,7 @@ fn same_status(rt: &impl Abort, what: &str, found: u32, expected: u32) {
     assert_eq!(rt; found, expected, "{what}");
 }
 
-// Builds at 95 percent, once more where memory was refused, and then nothing was written.
-fn build(
-    rt: &impl Abort,
-    alloc: Global,
-    keys: &[u64],
-    values: &[u32],
-    out: &mut [u8],
-    len: &mut usize,
-) -> u32 {
-    let first = odht_u64_u32_build(alloc, keys, values, 95, out, len);
-    if first != MEMORY {
-        return first;
-    }
-    same(rt, "length after a refusal", *len, 0);
-    assert!(rt; out.iter().all(|byte| *byte == 7), "bytes after a refusal");
-    odht_u64_u32_build(alloc, keys, values, 95, out, len)
-}
-
-// The same, growing.
+// Builds a table that grows, once more where memory was refused, and then nothing was written.
 fn build_growing(
     rt: &impl Abort,
     alloc: Global,
@@ -80,14 +62,7 @@ fn check_table(rt: &impl Abort, table: &[u8], items: u32) {
 #[test]
 fn three_pairs_in_256_bytes(rt: HostRuntime) {
     let (mut out, mut len) = ([7; 256], 0);
-    let status = build(
-        &rt,
-        rt.alloc(),
-        &[0, 1, 2],
-        &[0, 10, 20],
-        &mut out,
-        &mut len,
-    );
+    let status = odht_u64_u32_build(&[0, 1, 2], &[0, 10, 20], 95, &mut out, &mut len);
     same_status(&rt, "build", status, OK);
     same(&rt, "length", len, 256);
     check_table(&rt, &out, 3);
@@ -114,13 +89,6 @@ fn forty_pairs() -> ([u64; 40], [u32; 40]) {
 }
 
 #[test]
-fn one_try_to_build(rt: HostRuntime) {
-    let (mut out, mut len) = ([7; 256], 0);
-    let status = odht_u64_u32_build(rt.alloc(), &[0], &[0], 95, &mut out, &mut len);
-    same_status(&rt, "build", status, OK);
-}
-
-#[test]
 fn one_try_to_build_growing(rt: HostRuntime) {
     let (keys, values) = forty_pairs();
     let (mut out, mut len) = ([7; 880], 0);
@@ -131,7 +99,7 @@ fn one_try_to_build_growing(rt: HostRuntime) {
 #[test]
 fn too_few_bytes_tell_the_length(rt: HostRuntime) {
     let (mut out, mut len) = ([7; 255], 0);
-    let status = build(&rt, rt.alloc(), &[1], &[10], &mut out, &mut len);
+    let status = odht_u64_u32_build(&[1], &[10], 95, &mut out, &mut len);
     same_status(&rt, "build", status, TOO_SMALL);
     same(&rt, "length", len, 256);
     let (mut out, mut len) = ([7; 255], 0);
@@ -143,12 +111,12 @@ fn too_few_bytes_tell_the_length(rt: HostRuntime) {
 #[test]
 fn refused_arguments(rt: HostRuntime) {
     let (mut out, mut len) = ([7; 300], 0);
-    let status = build(&rt, rt.alloc(), &[1, 2], &[10], &mut out, &mut len);
+    let status = odht_u64_u32_build(&[1, 2], &[10], 95, &mut out, &mut len);
     same_status(&rt, "build", status, BAD_LENGTHS);
     let status = build_growing(&rt, rt.alloc(), &[1, 2], &[10], &mut out, &mut len);
     same_status(&rt, "build_growing", status, BAD_LENGTHS);
     for percent in [0, 101] {
-        let status = odht_u64_u32_build(rt.alloc(), &[1], &[10], percent, &mut out, &mut len);
+        let status = odht_u64_u32_build(&[1], &[10], percent, &mut out, &mut len);
         same_status(&rt, "build", status, BAD_PERCENT);
     }
     same(&rt, "length", len, 0);

@@ -221,16 +221,14 @@ pub extern "C" fn odht_u64_u32_insert_order(bytes: &[u8], out: &mut [usize]) -> 
     order::insert_order::<U64ToU32>(bytes, out)
 }
 
-/// Builds the table of the pairs, the key and the value at each index, in memory of its own, copies it to the front of
-/// `out`, and tells its length in `len`: status 0. It is made for as many pairs as there are, so it never grows; a
-/// later pair gives an earlier key its value. `TOO_SMALL` where `out` is shorter than the table: then only `len` is
-/// written. `BAD_LENGTHS` where there are more of the keys or of the values, `BAD_PERCENT` where the load factor is
-/// not from 1 to 100 percent, `MEMORY` where memory was refused, `CAPACITY` only where no slot count is enough or the
-/// length passes `usize`; then nothing is written. Behind the table `out` stays. The pairs are copied first; then one
-/// insert a pair, and one copy of the table.
+/// Builds the table of the pairs, the key and the value at each index, at the front of `out`, and tells its length in
+/// `len`: status 0. It is made for as many pairs as there are, so it never grows; a later pair gives an earlier key its
+/// value. `TOO_SMALL` where `out` is shorter than the table: then only `len` is written. `BAD_LENGTHS` where there are
+/// more of the keys or of the values, `BAD_PERCENT` where the load factor is not from 1 to 100 percent, `CAPACITY` only
+/// where no slot count is enough or the length passes `usize`; then nothing is written. Behind the table `out` stays.
+/// No memory is asked for. One pass over the bytes, then one insert a pair.
 #[unsafe(no_mangle)]
 pub extern "C" fn odht_u64_u32_build(
-    alloc: Global,
     keys: &[u64],
     values: &[u32],
     max_load_factor_percent: u8,
@@ -246,7 +244,7 @@ pub extern "C" fn odht_u64_u32_build(
     if max_load_factor_percent < 1 || max_load_factor_percent > 100 {
         return BAD_PERCENT;
     }
-    build::collected::<U64ToU32>(alloc, keys, values, max_load_factor_percent, out, len)
+    build::collected::<U64ToU32>(keys, values, max_load_factor_percent, out, len)
 }
 
 /// Builds the table of the pairs, the key and the value at each index, in memory of its own, copies it to the front of

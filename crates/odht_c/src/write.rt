@@ -59,7 +59,11 @@ pub(crate) fn init<C: Config, M: ByteStoreMut>(
 }
 
 /// Makes the empty table of `slot_count` slots in the place, whatever stood there. One pass over the bytes.
-pub(crate) fn make<C: Config, M: ByteStoreMut>(place: &mut M, slot_count: usize, max_load_factor: Factor)
+pub(crate) fn make<C: Config, M: ByteStoreMut>(
+    place: &mut M,
+    slot_count: usize,
+    max_load_factor: Factor,
+)
     requires slots { IsSlotCount slot_count }
     requires len { length (M.bytes place.old) ≡ image_len ⟦<C as Coded>⟧.coding.format slot_count }
     ensures bytes { let F = ⟦<C as Coded>⟧.coding.format

@@ -1,5 +1,5 @@
--- Worked examples: what the calls answer that build a table of one pair in memory of their own.
-use Rattle.std.proofs.Common.{◌∙◌, inl, inr, ℕ, refl, sym, ap, lit≤, lit<, length, List, [], ◌∷◌, replicate}
+-- Worked examples: what the calls answer that build a table of one pair.
+use Rattle.std.proofs.Common.{◌∙◌, ℕ, refl, sym, ap, lit≤, lit<, length, List, [], ◌∷◌, replicate}
 use Rattle.odht_raw.proofs.examples.Opened.{opened}
 use Rattle.odht_c.specs.Builds.{BuildAnswers, BuildGrowingAnswers}
 use Rattle.odht_c.proofs.lemmas.HandedOut.{IsHandedOut-none}
@@ -32,16 +32,6 @@ percent_build = record {
   built = IsHandedOut-none _ _ _ _ _ (unequal 34 0 refl) (unequal 34 36 refl);
   refused = λ long ok undone roomy. absurd (zero_percent_refused ok);
   capacity = λ is. absurd (unequal 34 20 refl is);
-}
-
--- no memory
-pub memory_build : BuildAnswers direct_coding (5 ∷ []) (7 ∷ []) 7 nines 4 19 nines 4
-memory_build = record {
-  lengths = λ other. absurd (other refl);
-  percent = λ long other. absurd (other seven);
-  built = IsHandedOut-none _ _ _ _ _ (unequal 19 0 refl) (unequal 19 36 refl);
-  refused = λ long ok undone roomy. (inl refl, refl, refl);
-  capacity = λ is. absurd (unequal 19 20 refl is);
 }
 
 -- a table, which fills the bytes
@@ -121,19 +111,20 @@ build_other_length_refused h =
 
 -- no other status is answered
 pub build_other_status_refused : BuildAnswers direct_coding (5 ∷ []) (7 ∷ []) 7 nines 4 7 nines 4 → ⊥
-build_other_status_refused h = elim (h.refused refl seven (unequal 7 0 refl) (unequal 7 36 refl)).0 [
-  | inl is ↦ unequal 7 19 refl is
-  | inr is ↦ unequal 7 20 refl is
-]
+build_other_status_refused h = unequal 7 20 refl (h.refused refl seven (unequal 7 0 refl) (unequal 7 36 refl)).0
 
--- without memory the bytes stay
-pub build_memory_bytes_refused : BuildAnswers direct_coding (5 ∷ []) (7 ∷ []) 7 [] 4 19 (7 ∷ []) 4 → ⊥
-build_memory_bytes_refused h =
-    unequal_lists (7 ∷ []) [] refl (h.refused refl seven (unequal 19 0 refl) (unequal 19 36 refl)).1
+-- want of memory neither
+pub build_memory_refused : BuildAnswers direct_coding (5 ∷ []) (7 ∷ []) 7 nines 4 19 nines 4 → ⊥
+build_memory_refused h = unequal 19 20 refl (h.refused refl seven (unequal 19 0 refl) (unequal 19 36 refl)).0
+
+-- without a slot count the bytes stay
+pub build_capacity_bytes_refused : BuildAnswers direct_coding (5 ∷ []) (7 ∷ []) 7 [] 4 20 (7 ∷ []) 4 → ⊥
+build_capacity_bytes_refused h =
+    unequal_lists (7 ∷ []) [] refl (h.refused refl seven (unequal 20 0 refl) (unequal 20 36 refl)).1
 
 -- and the number
-pub build_memory_number_refused : BuildAnswers direct_coding (5 ∷ []) (7 ∷ []) 7 nines 4 19 nines 0 → ⊥
-build_memory_number_refused h = unequal 0 4 refl (h.refused refl seven (unequal 19 0 refl) (unequal 19 36 refl)).2
+pub build_capacity_number_refused : BuildAnswers direct_coding (5 ∷ []) (7 ∷ []) 7 nines 4 20 nines 0 → ⊥
+build_capacity_number_refused h = unequal 0 4 refl (h.refused refl seven (unequal 20 0 refl) (unequal 20 36 refl)).2
 
 -- one pair is not told as too many
 pub build_capacity_refused : BuildAnswers direct_coding (5 ∷ []) (7 ∷ []) 7 nines 4 20 nines 4 → ⊥
