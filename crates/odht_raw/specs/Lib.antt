@@ -23,6 +23,10 @@ pub mod Frame
 pub mod SearchEnds
 -- what an insert into parts answers and leaves
 pub mod PartsInserts
+-- the first slot that counts as free in a probe order
+pub mod FreeSlots
+-- what placing a new key into parts answers and leaves
+pub mod PartsPlacings
 -- what is written of an error
 pub mod ErrorTexts
 -- what a walk over the slots gives
