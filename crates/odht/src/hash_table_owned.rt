@@ -354,8 +354,8 @@ fn write_table<C: Config>(
     insert_walk::<C::EncodedKey, C::EncodedValue, C::H>(control, entries, walk);
 }
 
-// Places the items of a walk in turn into the parts of a table: keys that are apart and new to it. The slices then hold what
-// the placing left.
+// Places the items of a walk in turn into the parts of a table; their keys are apart and new to it. The slices then hold
+// what that left.
 fn insert_walk<K: ByteArray, V: ByteArray, H: HashFn>(
     control: &mut [u8],
     entries: &mut [u8],

@@ -8,10 +8,10 @@ use super::{EntryMetadata, ProbeSeq, is_empty_or_deleted, tag_of};
 use crate::swisstable_group_query::{Group, REFERENCE_GROUP_SIZE};
 
 /// The first slot of the probe order of a hash that counts as free, by its control byte or its mirror; none where each
-/// slot counts as filled. No tag is looked for, and no key is compared.
+/// slot counts as filled. No match of a tag is asked for, and no key is compared.
 ///
-/// The home slot's own byte is looked at first: a byte that was just written is read at once, a group with such a byte is
-/// not. Then at most each group is looked at once. All this holds of every group search.
+/// The home slot's own byte is looked at first: a load of sixteen bytes waits for one that was just written, that of the
+/// byte alone does not. Then at most each group is looked at once. All this holds of every group search.
 #[inline]
 pub(super) fn first_free<Q: Group>(control: &[EntryMetadata], hash: u32) -> Option<usize>
     requires { IsSlotCount (length control.now - 16) }
@@ -52,7 +52,7 @@ fn first_free_by_groups<Q: Group>(
     }
 }
 
-// The first of sixteen control bytes that counts as free, looked for in pieces of the group search's size. Any tag will do.
+// The first of sixteen control bytes that counts as free, looked for in pieces of the group search's size. Any tag does.
 #[inline]
 fn first_free_of_group<Q: Group>(bytes: &[EntryMetadata], tag: u8) -> Option<usize>
     requires len { length bytes.now ≡ 16 }

@@ -34,7 +34,8 @@ pub struct RawTableMut<'c, 'e, K: ByteArray, V: ByteArray, H: HashFn> {
 }
 
 impl<'c, 'e, K: ByteArray, V: ByteArray, H: HashFn> RawTableMut<'c, 'e, K, V, H> {
-    ghost use Rattle.odht_raw.specs.LentParts.{mut_control, mut_entries, control_loan, entries_loan, IsLentInsert, IsLentPlacing};
+    ghost use Rattle.odht_raw.specs.LentParts.{mut_control, mut_entries, control_loan, entries_loan};
+    ghost use Rattle.odht_raw.specs.LentParts.{IsLentInsert, IsLentPlacing};
 
     /// The table of these parts, of which nothing is looked at or written.
     #[inline]
@@ -66,13 +67,13 @@ impl<'c, 'e, K: ByteArray, V: ByteArray, H: HashFn> RawTableMut<'c, 'e, K, V, H>
         insert_parts::<K, V, H>(self.control, self.entries, key, value)
     }
 
-    /// Writes the pair into the first free slot of its key's probe order. No key is compared, so it is for a key that the
-    /// table does not have.
+    /// Writes the pair into the first free slot of its key's probe order. No key is compared, so it is for a key that
+    /// the table does not have.
     ///
-    /// On the parts of a table whose keys are all reached, and none of which is this key, it leaves those of the table with
-    /// the pair placed, and answers `Full`, with nothing changed, exactly where each slot is filled. On any parts the entry
-    /// is written with its tag into the first slot of the order that counted as free, and nothing else; `Full` comes only
-    /// where each slot counts as filled. At most each group is looked at once.
+    /// On the parts of a table whose keys are all reached, and none of which is this key, it leaves those of the table
+    /// with the pair placed, and answers `Full`, with nothing changed, exactly where each slot is filled. On any parts
+    /// the entry is written with its tag into the first slot of the order that counted as free, and nothing else;
+    /// `Full` comes only where each slot counts as filled. At most each group is looked at once.
     #[inline(always)]
     pub fn place(&mut self, key: K, value: V) -> Result<(), Error>
         ensures { IsLentPlacing self.old key value result self.new }
