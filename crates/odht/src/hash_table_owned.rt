@@ -1,14 +1,15 @@
 //! The table that owns its bytes, and grows.
-ghost use Rattle.std.specs.Prelude.{◌≡◌, ℕ, List, ◌++◌, ◌+◌, ◌-◌, ◌*◌, ◌≤◌, ◌↔◌, ◌⊎◌, Some, length, map, replicate, take, option_map, IfOk, IsOk, IsSome, IsTrue, IsErrOf, OnErr, OnOk};
+ghost use Rattle.std.specs.Prelude.{◌≡◌, ℕ, List, ◌++◌, ◌+◌, ◌-◌, ◌*◌, ◌≤◌, ◌↔◌, ◌⊎◌, All, Some, length, map, replicate, take, option_map, IfOk, IsOk, IsSome, IsTrue, IsErrOf, OnErr, OnOk};
 ghost use Rattle.odht_base.specs.Load.{IsSlotCount, factor_of, slots_for};
 ghost use Rattle.odht_base.specs.Table.{Table, walk, count, empty};
-ghost use Rattle.odht_base.specs.Map.{map_of};
+ghost use Rattle.odht_base.specs.Map.{map_of, KeysApart};
 ghost use Rattle.odht_base.specs.Search.{groups_read};
 ghost use Rattle.odht_base.specs.Format.{format_of};
 ghost use Rattle.odht_base.specs.Image.{header_bytes, image_len, parts};
 ghost use Rattle.odht_base.specs.Insert.{grown, place_all, put_owned, IsFullFor};
 ghost use Rattle.odht_base.specs.Valid.{IsImage, IsPartsOf, IsValidBytes};
 ghost use Rattle.odht_raw.specs.Coding.{value_for};
+ghost use Rattle.odht_raw.specs.PartsPlacings.{IsNewTo};
 ghost use Rattle.odht.specs.Lists.{encoded_all, IsFilled, IsFreshFilled, IsRefusedAt};
 ghost use Rattle.odht.specs.Inserts.{IsFresh, IsInserted};
 ghost use Rattle.odht.specs.LastValues.{HasLastValues};
@@ -362,7 +363,8 @@ impl<C: Config> HashTableOwned<C> {
     }
 }
 
-// Writes the table of so many slots with the items of the walk into zeros, of which as many are counted as are stated.
+// Writes the table of so many slots with the items of the walk, whose keys are apart, into zeros, of which as many are
+// counted as are stated.
 fn write_table<C: Config>(
     bytes: &mut [u8],
     slot_count: usize,
@@ -378,6 +380,7 @@ fn write_table<C: Config>(
         in let pairs = map (λ x. record { key = C.EncodedKey.bytes x.1.key; value = C.EncodedValue.bytes x.1.value })
         walk.entry
         in (Q : Table)
+        → KeysApart pairs
         → place_all F (empty slot_count f) pairs ≡ Some Q
         → bytes.new ≡ header_bytes F slot_count item_count f ++ parts F Q.cells }
 {
@@ -388,7 +391,8 @@ fn write_table<C: Config>(
     insert_walk::<C::EncodedKey, C::EncodedValue, C::H>(control, entries, walk);
 }
 
-// Inserts the items of a walk in turn into the parts of a table. The slices then hold what the inserts left.
+// Places the items of a walk in turn into the parts of a table; their keys are apart and new to it. The slices then hold
+// what that left.
 fn insert_walk<K: ByteArray, V: ByteArray, H: HashFn>(
     control: &mut [u8],
     entries: &mut [u8],
@@ -400,16 +404,18 @@ fn insert_walk<K: ByteArray, V: ByteArray, H: HashFn>(
     requires key { K.LEN ≤ 255 }
     requires value { V.LEN ≤ 255 }
     ensures { let F = format_of K.LEN V.LEN H.hash
+        in let pairs = map (λ x. record { key = K.bytes x.1.key; value = V.bytes x.1.value }) walk.entry
         in (P Q : Table)
         → IsPartsOf F P entries.old control.old
-        → place_all F P
-        (map (λ x. record { key = K.bytes x.1.key; value = V.bytes x.1.value }) walk.entry) ≡ Some Q
+        → KeysApart pairs
+        → All (IsNewTo P) pairs
+        → place_all F P pairs ≡ Some Q
         → IsPartsOf F Q entries.new control.new }
 {
     let mut table: RawTableMut<'_, '_, K, V, H> = RawTableMut::new(control, entries);
     for (_, entry) in walk {
         // There is room for each item.
-        let _ = table.insert(entry.key, entry.value);
+        let _ = table.place(entry.key, entry.value);
     }
 }
 

@@ -167,12 +167,12 @@ pub fn numbers<W: Write>(output: &mut W) -> io::Result<()> {
 fn tell_group<Q: Group, W: Write>(group: &[u8], output: &mut W) -> io::Result<()>
     requires { length group.now ≡ Q.SIZE }
 {
-    let mut query = Q::of(group, 3);
+    let query = Q::of(group, 3);
     writeln!(
         output,
         "free: {} at {:?}, first match {:?}",
         query.any_empty(),
         query.first_empty(),
-        query.next_match()
+        query.first_match()
     )
 }

@@ -23,6 +23,10 @@ pub mod Placings
 pub mod Checked
 -- what an insert through lent parts may not do
 pub mod LentInserts
+-- what placing a key through lent parts may not do
+pub mod LentPlacings
+-- the first free slot, and a pair that is written there
+pub mod FreePlacings
 -- inserts into any parts
 pub mod PartsFrames
 -- how large a new table is, and which keys bytes hold

@@ -9,18 +9,22 @@
 --     pair_of t k v        the key k and the value v, in bytes
 --     IsLentInsert t k v r t'  an insert of k and v through t answers r and leaves t': what an insert into parts does, and
 --                          both slices are lent as they were
-use Rattle.std.specs.Prelude.{◌≡◌, ℕ, ◌-◌, List, length, Option, Result, Err, OnErr}
+--     IsLentPlacing t k v r t'  placing k and v through t answers r and leaves t': what placing a new key into parts does, and
+--                          both slices are lent as they were
+use Rattle.std.specs.Prelude.{◌≡◌, ℕ, ◌-◌, ◌↔◌, List, length, None, Option, Result, Err, OnOk, OnErr}
 use Rattle.std.specs.Borrow.{GName}
 use Rattle.std.specs.declared.cmp.PartialEq.{Ghosts as PartialEqOf}
 use Rattle.std.specs.declared.fmt.Debug.{Ghosts as DebugOf}
 use Rattle.odht_base.specs.declared.bytes.arrays.ByteArray.{Ghosts as ByteArrayOf}
 use Rattle.odht_base.specs.declared.hash.HashFn.{Ghosts as HashFnOf}
 use Rattle.odht_base.specs.Format.{Format, format_of}
+use Rattle.odht_base.specs.Insert.{place}
 use Rattle.odht_base.specs.Table.{Pair, Table}
-use Rattle.odht_base.specs.Valid.{IsPartsOf}
+use Rattle.odht_base.specs.Valid.{IsPartsOf, IsFullWithout}
 use Rattle.odht_raw.specs.Frame.{IsPartsFramed}
 use Rattle.odht_raw.specs.Parts.{TableParts}
-use Rattle.odht_raw.specs.PartsInserts.{AnswersFormer, IsFullUnplaced, IsFullNoRoom}
+use Rattle.odht_raw.specs.PartsInserts.{AnswersFormer, ArePartsPlaced, IsFullUnplaced, IsFullNoRoom}
+use Rattle.odht_raw.specs.PartsPlacings.{IsNewTo, PlacingFrame}
 use Rattle.odht_raw.specs.declared.error.Error.{Error}
 use Rattle.odht_raw.specs.declared.error.Error.TheVariants.{Full}
 use Rattle.odht_raw.specs.declared.raw_table.table_mut.RawTableMut.{RawTableMut}
@@ -62,6 +66,23 @@ module _ {K V H : Type 0} {key : ByteArrayOf K} {key_eq : PartialEqOf K} {key_de
     pub no_room : (P : Table) → IsParts P t → IsFullNoRoom P (pair_of t k v) r
     pub frame : IsPartsFramed (table_format t) value.of_bytes (mut_entries t) (mut_control t) (pair_of t k v) r
         (mut_entries t') (mut_control t')
+    pub only_full : OnErr r (r ≡ Err Full)
+    pub refused_control : OnErr r (mut_control t' ≡ mut_control t)
+    pub refused_entries : OnErr r (mut_entries t' ≡ mut_entries t)
+    pub control_loan : control_loan t' ≡ control_loan t
+    pub entries_loan : entries_loan t' ≡ entries_loan t
+
+  pub record IsLentPlacing
+      (t : RawTableMut K V H key key_eq key_debug value value_eq value_debug hash hash_eq)
+      (k : K) (v : V) (r : Result (Unit {0}) Error)
+      (t' : RawTableMut K V H key key_eq key_debug value value_eq value_debug hash hash_eq) : Type 0 where
+    pub ok : (P : Table) → IsParts P t → IsNewTo P (pair_of t k v)
+        → OnOk r (ArePartsPlaced (table_format t) P (pair_of t k v) (mut_entries t') (mut_control t'))
+    pub full : (P : Table) → IsParts P t → IsNewTo P (pair_of t k v)
+        → ((r ≡ Err Full) ↔ (place (table_format t) P (pair_of t k v) ≡ None))
+    pub no_room : (P : Table) → IsParts P t → IsNewTo P (pair_of t k v)
+        → ((r ≡ Err Full) ↔ IsFullWithout P (pair_of t k v).key)
+    pub frame : PlacingFrame (table_format t) (mut_entries t) (mut_control t) (pair_of t k v) r (mut_entries t') (mut_control t')
     pub only_full : OnErr r (r ≡ Err Full)
     pub refused_control : OnErr r (mut_control t' ≡ mut_control t)
     pub refused_entries : OnErr r (mut_entries t' ≡ mut_entries t)

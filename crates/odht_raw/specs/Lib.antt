@@ -25,6 +25,10 @@ pub mod SearchEnds
 pub mod PartsInserts
 -- items that are inserted in turn
 pub mod Runs
+-- the first slot that counts as free in a probe order
+pub mod FreeSlots
+-- what placing a new key into parts answers and leaves
+pub mod PartsPlacings
 -- what is written of an error
 pub mod ErrorTexts
 -- what a walk over the slots gives

@@ -23,6 +23,7 @@ use std::marker::{Model, PhantomData};
 mod check;
 mod dump;
 mod entries;
+mod free_search;
 mod group_search;
 mod insert_order;
 mod outcome;

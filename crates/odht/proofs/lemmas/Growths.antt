@@ -1,26 +1,34 @@
 -- A growth: the pairs of a table, placed in slot order in the grown slots.
-use Rattle.std.proofs.Common.{◌≡◌, ◌<◌, ◌∙◌, ◌*◌, ◌^◌, ◌++◌, ℕ, sym, ap, List, Some, Result, Ok, Err, IfOk, OnErr, arith, inl}
+use Rattle.std.proofs.Common.{◌≡◌, ◌<◌, ◌∙◌, ◌*◌, ◌^◌, ◌++◌, ℕ, Bool, true, false, cond, bytes_eq, sym, ap, refl, List, [], ◌∷◌, Some, None, Result, Ok, Err, OnOk, OnErr, All, arith, inl}
+use Rattle.std.proofs.lemmas.List.Elements.{All-head, All-tail}
+use Rattle.std.proofs.lemmas.Option.{none-some}
 use Rattle.std.specs.Prelude.{option_and_then, max}
 use Rattle.odht_base.specs.Format.{Format}
 use Rattle.odht_base.specs.Image.{header_bytes, image, parts}
 use Rattle.odht_base.specs.Load.{IsLeastSlots}
-use Rattle.odht_base.specs.Insert.{grown, grown_slots, place, place_all, put_owned, put_view, IsFullFor}
-use Rattle.odht_base.specs.Map.{map_of}
+use Rattle.odht_base.specs.Insert.{grown, grown_slots, place, place_all, put_owned, put_view, run, IsFullFor}
+use Rattle.odht_base.specs.Map.{map_of, value_in, KeysApart}
 use Rattle.odht_base.specs.Table.{Pair, Table, slot_count, count, empty, walk}
-use Rattle.odht_base.specs.Valid.{IsImage, IsValid}
+use Rattle.odht_base.specs.Valid.{IsImage, IsPartsOf, IsValid}
 use Rattle.odht_base.proofs.lemmas.Apart.{walk-IsPairOf}
-use Rattle.odht_base.proofs.lemmas.Grown.{room_above, grown-IsGrown, place_all-fits, slot_count-place_all}
+use Rattle.odht_base.proofs.lemmas.Grown.{AreNew, new-head, new-tail, room_above, grown-IsGrown, place_all-fits, slot_count-place_all}
+use Rattle.odht_base.proofs.lemmas.Keys.{same_bytes}
 use Rattle.odht_base.proofs.lemmas.Least.{slots_for-IsLeastSlots}
+use Rattle.odht_base.proofs.lemmas.Options.{and_then_some, some_same}
+use Rattle.odht_base.proofs.lemmas.Pairs.{value_in-cons}
+use Rattle.odht_base.proofs.lemmas.Places.{map_of-place}
 use Rattle.odht_base.proofs.lemmas.Puts.{put_view-takes, put_owned-full}
 use Rattle.odht_base.proofs.lemmas.Rooms.{slot_count-empty, count-empty, empty-IsPlaced, max_items-lt}
 use Rattle.odht_base.proofs.lemmas.SlotCounts.{few_slots, slots_pos}
+use Rattle.odht_raw.specs.PartsInserts.{ArePartsPlaced}
+use Rattle.odht_raw.specs.PartsPlacings.{IsNewTo}
 use Rattle.odht_raw.specs.declared.error.Error.{Error}
 use Rattle.odht_raw.specs.declared.error.Error.TheVariants.{Full}
 
--- an answer that is not refused is what an accepted one is
-pub accepted_is : {T : Type 0} {X : T → Type 0} (r : Result T Error) → OnErr r (r ≡ Err Full) → (r ≡ Err Full → ⊥) → IfOk r X → (t : T) × X t
-accepted_is (Ok t) only never x = (t, x)
-accepted_is (Err e) only never x = absurd (never only)
+-- what holds of an accepted answer holds where it is not refused
+pub accepted_holds : {T : Type 0} (X : Type 0) (r : Result T Error) → OnErr r (r ≡ Err Full) → (r ≡ Err Full → ⊥) → OnOk r X → X
+accepted_holds X (Ok t) only never x = x
+accepted_holds X (Err e) only never x = absurd (never only)
 
 -- the items of a valid table are fewer than 2 ^ 63
 pub count_small : (F : Format) (P : Table) → IsValid F P → count P < 2 ^ 63
@@ -28,6 +36,46 @@ count_small F P ok =
     let slots = few_slots (slot_count P) ok.placed.slots in
     let below = max_items-lt (slot_count P) P.factor (slots_pos (slot_count P) ok.placed.slots) ok.factor_high in
     omega (arith, ok.room, below, slots)
+
+-- ---- the walk that is placed
+-- pairs each of which is new have no key of the table
+pub all_new : (P : Table) (ps : List Pair) → All (IsNewTo P) ps → AreNew P ps
+all_new P [] new k v e = absurd (none-some v e)
+all_new P (p ∷ ps) new k v e = go (bytes_eq k p.key) refl (all_new P ps (All-tail (IsNewTo P) p ps new) k v)
+  where
+    go : (b : Bool) → bytes_eq k p.key ≡ b → (value_in ps k ≡ Some v → map_of P k ≡ None) → map_of P k ≡ None
+    go true t rest = ap (map_of P) (same_bytes k p.key t) ∙ All-head (IsNewTo P) p ps new
+    go false t rest = rest (sym (ap (λ b. cond b (Some p.value) (value_in ps k)) t) ∙ sym (value_in-cons p ps k) ∙ e)
+
+-- the pairs that are left lead from the parts of some table to Q, and their keys are apart and new to it
+pub record LeadsTo (F : Format) (Q : Table) (ps : List Pair) (es ctrl : List ℕ) : Type 0 where
+  pub table : Table
+  pub parts : IsPartsOf F table es ctrl
+  pub apart : KeysApart ps
+  pub new : AreNew table ps
+  pub placed : place_all F table ps ≡ Some Q
+
+module _ (F : Format) (Q : Table) (p : Pair) (ps : List Pair) (es ctrl : List ℕ) (at : LeadsTo F Q (p ∷ ps) es ctrl) where
+  next : (R : Table) × (place F at.table p ≡ Some R) × (place_all F R ps ≡ Some Q)
+  next = and_then_some (λ R. run (place F) R ps) (place F at.table p) Q at.placed
+
+  -- the next pair is new
+  pub leads_new : IsNewTo at.table p
+  leads_new = new-head at.table p ps at.new
+
+  -- it has a place
+  pub leads_fits : place F at.table p ≡ None → ⊥
+  leads_fits none = none-some next.0 (sym none ∙ next.1)
+
+  -- and once it is placed, those behind it lead on
+  pub leads_on : (es' ctrl' : List ℕ) → ArePartsPlaced F at.table p es' ctrl' → LeadsTo F Q ps es' ctrl'
+  leads_on es' ctrl' put = record {
+    table = put.0;
+    parts = put.2;
+    apart = at.apart.1;
+    new = new-tail at.table put.0 p ps at.apart at.new (map_of-place F at.table put.0 p at.parts.placed put.1);
+    placed = ap (λ R. place_all F R ps) (some_same put.0 next.0 (sym put.1 ∙ next.1)) ∙ next.2;
+  }
 
 -- ---- the growth
 module _ (F : Format) (P : Table) (ok : IsValid F P) (s : ℕ) (enough : grown_slots P ≡ Some s) where

@@ -53,19 +53,19 @@ group-free ctrl s b i len few l h free =
           inr (rw is (omega arith, subst (λ c. IsTrue (counts_as_free c)) (byte ∙ ap (slice_index ctrl) behind) free))
     ]
 
--- and where none is free each slot of the group counts as filled
-pub group-filled : (ctrl : List ℕ) (s b i : ℕ) → length ctrl ≡ s + 16 → 16 ≤ s → b < s → i < 16 → HasNoFree (bytes_at ctrl b 16) 16 → CountsAsFilled ctrl ((b + i) % s)
-group-filled ctrl s b i len few l h none =
+-- and one that is not free is that of a slot that counts as filled
+pub group-filled : (ctrl : List ℕ) (s b i : ℕ) → length ctrl ≡ s + 16 → 16 ≤ s → b < s → i < 16 → counts_as_free (slice_index (bytes_at ctrl b 16) i) ≡ false → CountsAsFilled ctrl ((b + i) % s)
+group-filled ctrl s b i len few l h filled =
     let byte = index-bytes_at ctrl b 16 i h in
     elim (cases_lt (b + i) s) [
-      | inl inside ↦ inl (rw (mod-eq_of_lt {n = b + i} {m = s} inside) (subst (λ c. counts_as_free c ≡ false) byte (none i h)))
+      | inl inside ↦ inl (rw (mod-eq_of_lt {n = b + i} {m = s} inside) (subst (λ c. counts_as_free c ≡ false) byte filled))
       | inr past ↦
           let x : ℕ = b + i - s in
           let turn : x + s ≡ b + i = omega arith in
           let low : x < s = omega arith in
           let is : (b + i) % s ≡ x = ap (λ y. y % s) (sym turn) ∙ add-mod_right x s ∙ mod-eq_of_lt {n = x} {m = s} low in
           let behind : b + i ≡ length ctrl - 16 + x = omega arith in
-          inr (rw is (omega arith, subst (λ c. counts_as_free c ≡ false) (byte ∙ ap (slice_index ctrl) behind) (none i h)))
+          inr (rw is (omega arith, subst (λ c. counts_as_free c ≡ false) (byte ∙ ap (slice_index ctrl) behind) filled))
     ]
 
 -- the slots of the places before p of the order from b on count as filled
@@ -82,7 +82,7 @@ filled-more ctrl bs b s start p len few aligned is read none before q l = elim (
       let at : p + i ≡ q = omega arith in
       let low : start < s = omega (arith, is, place_slot-lt b s p (omega arith)) in
       let stands : (start + i) % s ≡ place_slot b s q = ap (λ x. (x + i) % s) is ∙ place_slot-step b s p i (omega arith) ∙ ap (place_slot b s) at in
-      subst (CountsAsFilled ctrl) stands (group-filled ctrl s start i len few low (omega arith) (subst (λ x. HasNoFree x 16) read none))
+      subst (CountsAsFilled ctrl) stands (group-filled ctrl s start i len few low (omega arith) (subst (λ x. counts_as_free (slice_index x i) ≡ false) read (none i (omega arith))))
 ]
 
 -- so does each slot after the last group

@@ -6,8 +6,10 @@ ghost use Rattle.odht_base.specs.Table.{Pair, Table};
 ghost use Rattle.odht_base.specs.Valid.{IsPartsOf};
 ghost use Rattle.odht_raw.specs.PartLengths.{ArePartLengths};
 ghost use Rattle.odht_raw.specs.PartsInserts.{IsPlacing, IsChange};
+ghost use Rattle.odht_raw.specs.PartsPlacings.{IsNewTo, IsNewPlacing, IsAddition};
 
-use super::writes::insert_at;
+use super::free_search::first_free;
+use super::writes::{insert_at, write_entry};
 use super::{Entries, EntryMetadata, RawTable, Scan, search_hashed, tag_of};
 use crate::bytes::ByteArray;
 use crate::error::Error;
@@ -32,7 +34,8 @@ pub struct RawTableMut<'c, 'e, K: ByteArray, V: ByteArray, H: HashFn> {
 }
 
 impl<'c, 'e, K: ByteArray, V: ByteArray, H: HashFn> RawTableMut<'c, 'e, K, V, H> {
-    ghost use Rattle.odht_raw.specs.LentParts.{mut_control, mut_entries, control_loan, entries_loan, IsLentInsert};
+    ghost use Rattle.odht_raw.specs.LentParts.{mut_control, mut_entries, control_loan, entries_loan};
+    ghost use Rattle.odht_raw.specs.LentParts.{IsLentInsert, IsLentPlacing};
 
     /// The table of these parts, of which nothing is looked at or written.
     #[inline]
@@ -63,6 +66,20 @@ impl<'c, 'e, K: ByteArray, V: ByteArray, H: HashFn> RawTableMut<'c, 'e, K, V, H>
     {
         insert_parts::<K, V, H>(self.control, self.entries, key, value)
     }
+
+    /// Writes the pair into the first free slot of its key's probe order. No key is compared, so it is for a key that
+    /// the table does not have.
+    ///
+    /// On the parts of a table whose keys are all reached, and none of which is this key, it leaves those of the table
+    /// with the pair placed, and answers `Full`, with nothing changed, exactly where each slot is filled. On any parts
+    /// the entry is written with its tag into the first slot of the order that counted as free, and nothing else;
+    /// `Full` comes only where each slot counts as filled. At most each group is looked at once.
+    #[inline(always)]
+    pub fn place(&mut self, key: K, value: V) -> Result<(), Error>
+        ensures { IsLentPlacing self.old key value result self.new }
+    {
+        place_parts::<K, V, H>(self.control, self.entries, key, value)
+    }
 }
 
 // `insert` on the slices themselves, since no scan of a slice that `self` lends can stand while `self` is written.
@@ -87,6 +104,31 @@ fn insert_parts<K: ByteArray, V: ByteArray, H: HashFn>(
     let mut scan = Scan::new(control, slots);
     let end = search_hashed::<K, V, H, GroupQuery>(&mut scan, &shown, &key, hash);
     insert_at::<K, V, H>(control, entries, key, value, tag_of(hash), end)
+}
+
+// `place` on the slices themselves.
+#[inline(always)]
+fn place_parts<K: ByteArray, V: ByteArray, H: HashFn>(
+    control: &mut [EntryMetadata],
+    entries: &mut [u8],
+    key: K,
+    value: V,
+) -> Result<(), Error>
+    requires { ArePartLengths H.MIN_LEN K.LEN V.LEN (length entries.old) (length control.old) }
+    ensures placed { let p : Pair = record { key = K.bytes key; value = V.bytes value }
+        in (P : Table)
+        → IsPartsOf (format_of K.LEN V.LEN H.hash) P entries.old control.old
+        → IsNewTo P p
+        → IsNewPlacing (format_of K.LEN V.LEN H.hash) P p result entries.new control.new }
+    ensures any { let p : Pair = record { key = K.bytes key; value = V.bytes value }
+        in IsAddition (format_of K.LEN V.LEN H.hash) entries.old control.old p result entries.new control.new }
+{
+    let hash = H::hash(key.as_slice());
+    let Some(slot) = first_free::<GroupQuery>(control, hash) else {
+        return Err(Error::Full);
+    };
+    write_entry::<K, V, H>(control, entries, &key, &value, tag_of(hash), slot);
+    Ok(())
 }
 
 impl<'c, 'e, K: ByteArray, V: ByteArray, H: HashFn> fmt::Debug for RawTableMut<'c, 'e, K, V, H> {

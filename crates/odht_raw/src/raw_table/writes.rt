@@ -1,8 +1,11 @@
 //! The writes of an insert on the parts of a table.
-ghost use Rattle.std.specs.Prelude.{◌≡◌, ◌-◌, length};
-ghost use Rattle.odht_base.specs.Format.{format_of, tag as key_tag};
+ghost use Rattle.std.specs.Prelude.{◌≡◌, ◌-◌, ◌*◌, ◌<◌, ◌++◌, length};
+ghost use Rattle.odht_base.specs.Bytes.{overwritten_at};
+ghost use Rattle.odht_base.specs.Format.{format_of, entry_len, tag as key_tag};
+ghost use Rattle.odht_base.specs.Numbers.{IsBytes};
 ghost use Rattle.odht_base.specs.Table.{Pair, Table};
 ghost use Rattle.odht_base.specs.Valid.{IsPartsOf};
+ghost use Rattle.odht_base.specs.Writes.{tagged};
 ghost use Rattle.odht_raw.specs.Answers.{answer};
 ghost use Rattle.odht_raw.specs.PartLengths.{ArePartLengths};
 ghost use Rattle.odht_raw.specs.Parts.{EntryBytes};
@@ -49,12 +52,35 @@ pub(crate) fn insert_at<K: ByteArray, V: ByteArray, H: HashFn>(
             Ok(Some(old))
         }
         Search::Free(slot) => {
-            let mut place = BorrowedMut::new(entries);
-            write_pair(&mut place, slot * (K::LEN + V::LEN), &key, &value);
-            let mut tags = BorrowedMut::new(control);
-            write_tag(&mut tags, 0, slots, slot, tag);
+            write_entry::<K, V, H>(control, entries, &key, &value, tag, slot);
             Ok(None)
         }
         Search::Neither => Err(Error::Full),
     }
+}
+
+/// Writes the pair into a slot, and its tag into the slot's control byte, and for a slot below 16 into the mirror.
+#[inline(always)]
+pub(crate) fn write_entry<K: ByteArray, V: ByteArray, H: HashFn>(
+    control: &mut [EntryMetadata],
+    entries: &mut [u8],
+    key: &K,
+    value: &V,
+    tag: u8,
+    slot: usize,
+)
+    requires lengths { ArePartLengths H.MIN_LEN K.LEN V.LEN (length entries.old) (length control.old) }
+    requires slot { slot < length control.old - 16 }
+    requires tag { tag ≡ key_tag (format_of K.LEN V.LEN H.hash) (K.bytes key.now) }
+    ensures entries { let at = slot * entry_len (format_of K.LEN V.LEN H.hash)
+        in entries.new ≡ overwritten_at entries.old at (K.bytes key.now ++ V.bytes value.now) }
+    ensures control { control.new ≡ tagged control.old slot (key_tag (format_of K.LEN V.LEN H.hash) (K.bytes key.now)) }
+    ensures key { IsBytes K.LEN (K.bytes key.now) }
+    ensures value { IsBytes V.LEN (V.bytes value.now) }
+{
+    let slots = control.len() - REFERENCE_GROUP_SIZE;
+    let mut place = BorrowedMut::new(entries);
+    write_pair(&mut place, slot * (K::LEN + V::LEN), key, value);
+    let mut tags = BorrowedMut::new(control);
+    write_tag(&mut tags, 0, slots, slot, tag);
 }

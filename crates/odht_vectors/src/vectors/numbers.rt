@@ -152,8 +152,9 @@ fn group_of<Q: Group>(alloc: Global, bytes: &[u8], tag: u8) -> Result<Answer, Fa
     let mut query = Q::of(bytes, tag);
     let mut text = String::new(alloc);
     for _ in 0..bytes.len() {
-        if let Some(index) = query.next_match() {
+        if let Some(index) = query.first_match() {
             add_word(&mut text, &index)?;
+            query.drop_match();
         }
     }
     add_word(&mut text, &"free")?;

@@ -1,14 +1,22 @@
-use Rattle.std.proofs.Common.{rules, List, ◌∷◌, map, ◌∙◌, ◌≡◌, sym, ap, subst, Some}
-use Rattle.std.proofs.lemmas.Option.{none-some}
+use Rattle.std.proofs.Common.{rules, refl, List, ◌∷◌, All, map, ◌∙◌, ◌≡◌, sym, ap, subst, Some}
 use Rattle.odht_base.specs.Format.{Format, format_of}
-use Rattle.odht_base.specs.Insert.{place, place_all, run}
-use Rattle.odht_base.specs.Table.{Table}
+use Rattle.odht_base.specs.Insert.{place_all}
+use Rattle.odht_base.specs.Map.{KeysApart}
 use Rattle.odht_base.specs.Valid.{IsPartsOf}
-use Rattle.odht_base.proofs.lemmas.Options.{and_then_some, some_same}
+use Rattle.odht_base.proofs.lemmas.Options.{some_same}
+use Rattle.odht_raw.specs.PartsInserts.{ArePartsPlaced}
+use Rattle.odht_raw.specs.PartsPlacings.{IsNewTo}
 use Rattle.odht_raw.specs.Walks.{Item}
 use Rattle.odht_raw.proofs.lemmas.Walks.{stored}
-use Rattle.odht.proofs.lemmas.Growths.{accepted_is}
+use Rattle.odht.proofs.lemmas.Growths.{accepted_holds, all_new, LeadsTo, leads_new, leads_fits, leads_on}
 use Rattle.odht.proofs.hash_table_owned.insert_walk.Goals as goal
+
+pub loop-entry-init : goal.loop-entry-init
+loop-entry-init g c = record {
+  control_loan = refl;
+  entries_loan = refl;
+  placed = λ P Q parts apart new all. record { table = P; parts = parts; apart = apart; new = all_new P _ new; placed = all };
+}
 
 pub loop-entry-preserved : goal.loop-entry-preserved
 loop-entry-preserved g c =
@@ -16,24 +24,28 @@ loop-entry-preserved g c =
     let pair = stored g.K.ByteArray.bytes g.V.ByteArray.bytes in
     let here : Item g.row.K.Denot g.row.V.Denot = (c.in-Some.field-0-0, c.in-Some.entry) in
     let left : List (Item g.row.K.Denot g.row.V.Denot) = c.next.new.self in
-    let told = c.insert.ensures in
+    let told = c.place.ensures in
+    let es = c.loop-entry.table.entries.now in
+    let ctrl = c.loop-entry.table.control.now in
     record {
       control_loan = told.control_loan ∙ c.loop-entry.invariant.control_loan;
       entries_loan = told.entries_loan ∙ c.loop-entry.invariant.entries_loan;
-      placed = λ P Q parts all. (
-          let h = c.loop-entry.invariant.placed P Q parts all in
-          let next : place_all F h.0 (pair here ∷ map pair left) ≡ Some Q = ap (λ xs. place_all F h.0 (map pair xs)) (sym c.in-Some.ensures.steps) ∙ h.1 in
-          let t = and_then_some (λ (R : Table). run (place F) R (map pair left)) (place F h.0 (pair here)) Q next in
-          let put = (accepted_is c.insert.result told.only_full (λ full. none-some t.0 (sym ((told.full h.0 h.2).0 full) ∙ t.1)) (told.ok h.0 h.2)).1.1 in
-          (put.0, ap (λ R. place_all F R (map pair left)) (some_same put.0 t.0 (sym put.1 ∙ t.1)) ∙ t.2, put.2));
+      placed = λ P Q parts apart new all. (
+          let at : LeadsTo F Q (pair here ∷ map pair left) es ctrl = subst (λ xs. LeadsTo F Q (map pair xs) es ctrl) c.in-Some.ensures.steps (c.loop-entry.invariant.placed P Q parts apart new all) in
+          let fresh = leads_new F Q (pair here) (map pair left) es ctrl at in
+          let fits = leads_fits F Q (pair here) (map pair left) es ctrl at in
+          let put = accepted_holds (ArePartsPlaced F at.table (pair here) c.place.new.self.entries.now c.place.new.self.control.now) c.place.result told.only_full
+          (λ full. fits ((told.full at.table at.parts fresh).0 full)) (told.ok at.table at.parts fresh) in
+          leads_on F Q (pair here) (map pair left) es ctrl at _ _ put);
     }
 
 pub returns : goal.returns
-returns g c P Q parts all =
+returns g c P Q parts apart new all =
     let F : Format = format_of g.K.ByteArray.LEN g.V.ByteArray.LEN g.H.HashFn.hash in
     let pair = stored g.K.ByteArray.bytes g.V.ByteArray.bytes in
     let begun : IsPartsOf F P c.new-table.result.entries.now c.new-table.result.control.now = rw (c.new-table.ensures.entries, c.new-table.ensures.control) parts in
-    let h = c.loop-entry.invariant.placed P Q begun (ap (λ xs. place_all F P (map pair xs)) c.into_iter-entry-iterator.ensures.into_iter_gives ∙ all) in
-    let end : Some h.0 ≡ Some Q = ap (λ xs. place_all F h.0 (map pair xs)) (sym c.in-None.ensures.steps.0) ∙ h.1 in
-    let left : IsPartsOf F Q c.loop-entry.table.entries.now c.loop-entry.table.control.now = subst (λ R. IsPartsOf F R c.loop-entry.table.entries.now c.loop-entry.table.control.now) (some_same h.0 Q end) h.2 in
+    let same = c.into_iter-entry-iterator.ensures.into_iter_gives in
+    let h = c.loop-entry.invariant.placed P Q begun (subst (λ xs. KeysApart (map pair xs)) (sym same) apart) (subst (λ xs. All (IsNewTo P) (map pair xs)) (sym same) new) (ap (λ xs. place_all F P (map pair xs)) same ∙ all) in
+    let end : Some h.table ≡ Some Q = ap (λ xs. place_all F h.table (map pair xs)) (sym c.in-None.ensures.steps.0) ∙ h.placed in
+    let left : IsPartsOf F Q c.loop-entry.table.entries.now c.loop-entry.table.control.now = subst (λ R. IsPartsOf F R c.loop-entry.table.entries.now c.loop-entry.table.control.now) (some_same h.table Q end) h.parts in
     search rules

@@ -1,9 +1,12 @@
-use Rattle.std.proofs.Common.{◌≡◌, Some, map}
+use Rattle.std.proofs.Common.{◌≡◌, Some, All, map}
 use Rattle.odht_base.specs.Format.{format_of}
 use Rattle.odht_base.specs.Insert.{place_all}
+use Rattle.odht_base.specs.Map.{KeysApart}
 use Rattle.odht_base.specs.Table.{Table}
 use Rattle.odht_base.specs.Valid.{IsPartsOf}
+use Rattle.odht_raw.specs.PartsPlacings.{IsNewTo}
 use Rattle.odht_raw.proofs.lemmas.Walks.{stored}
+use Rattle.odht.proofs.lemmas.Growths.{LeadsTo}
 use Rattle.odht.proofs.hash_table_owned.insert_walk.Given as goal
 
 -- the slices are lent to the table, and the items that are left lead from its parts to where all lead
@@ -14,6 +17,7 @@ invariant-loop-entry g l =
     record {
       control_loan : l.table.control.ghost_name ≡ l.initial.table.control.ghost_name;
       entries_loan : l.table.entries.ghost_name ≡ l.initial.table.entries.ghost_name;
-      placed : (P Q : Table) → IsPartsOf F P l.initial.table.entries.now l.initial.table.control.now → place_all F P (pairs l.initial.entry-iterator) ≡ Some Q
-          → (R : Table) × (place_all F R (pairs l.entry-iterator) ≡ Some Q) × IsPartsOf F R l.table.entries.now l.table.control.now;
+      placed : (P Q : Table) → IsPartsOf F P l.initial.table.entries.now l.initial.table.control.now → KeysApart (pairs l.initial.entry-iterator) → All (IsNewTo P) (pairs l.initial.entry-iterator)
+          → place_all F P (pairs l.initial.entry-iterator) ≡ Some Q
+          → LeadsTo F Q (pairs l.entry-iterator) l.table.entries.now l.table.control.now;
     }

@@ -4,11 +4,11 @@ use Rattle.odht_base.specs.Format.{Format, format_of, entry_len}
 use Rattle.odht_base.specs.Table.{empty}
 use Rattle.odht_base.specs.Valid.{IsPartsOf}
 use Rattle.odht_base.proofs.lemmas.Image.{entries-empty, controls-empty}
-use Rattle.odht_base.proofs.lemmas.Rooms.{empty-IsPlaced}
+use Rattle.odht_base.proofs.lemmas.Rooms.{map_of-empty, empty-IsPlaced}
 use Rattle.odht.proofs.hash_table_owned.write_table.Goals as goal
 
 pub returns : goal.returns
-returns g c Q placed =
+returns g c Q apart placed =
     let F : Format = format_of g.C.EncodedKey.ByteArray.LEN g.C.EncodedValue.ByteArray.LEN g.C.H.HashFn.hash in
     let s = c.args.slot_count in
     let f = c.args.max_load_factor.0 in
@@ -26,5 +26,5 @@ returns g c Q placed =
       entries_are = zeros ∙ sym (entries-empty F s);
       controls_are = ones ∙ sym (controls-empty F s c.requires.slots.least);
     } in
-    let left = c.insert_walk.ensures (empty s f) Q begun placed in
+    let left = c.insert_walk.ensures (empty s f) Q begun apart (λ i d l. map_of-empty s f _) placed in
     append_assoc c.write_header.new.header c.insert_walk.new.entries c.insert_walk.new.control ∙ (λ i. c.write_header.ensures i ++ (left.entries_are i ++ left.controls_are i))

@@ -5,9 +5,11 @@ use Rattle.odht_base.specs.Format.{Format, format_of}
 use Rattle.odht_base.specs.Image.{header_bytes, parts}
 use Rattle.odht_base.specs.Insert.{grown, grown_slots, place_all}
 use Rattle.odht_base.specs.Load.{slots_for}
+use Rattle.odht_base.specs.Map.{KeysApart}
 use Rattle.odht_base.specs.Shown.{shown_cells, stated_count, stated_factor}
 use Rattle.odht_base.specs.Table.{Table, walk, count, empty}
 use Rattle.odht_base.specs.Valid.{IsImage}
+use Rattle.odht_base.proofs.lemmas.Apart.{walk-KeysApart}
 use Rattle.odht_base.proofs.lemmas.Fits.{IsSized-IsPlaced}
 use Rattle.odht_raw.specs.Frame.{IsAccepted}
 use Rattle.odht_raw.proofs.lemmas.Accepted.{IsAccepted-image}
@@ -59,10 +61,11 @@ written g c P is =
     (record { control = c.data_slices-entries.result.0.now; entries = c.data_slices-entries.result.1 }) is.valid.placed split.len shown in
     let q = grown_placed F P is.valid s enough in
     let placed : place_all F (empty s c.max_load_factor-factor.result.0) (map (stored key.bytes value.bytes) c.new-walk.result) ≡ Some q.0 = (λ i. place_all F (empty s (factor i)) (pairs i)) ∙ q.1 in
+    let apart : KeysApart (map (stored key.bytes value.bytes) c.new-walk.result) = subst KeysApart (sym pairs) (walk-KeysApart F P is.valid.placed) in
     let long : length c.write_table.new.bytes ≡ c.in_ok-bytes.bytes.len = omega (arith, c.write_table.auto.bytes, c.as_mut_slice.ensures.len) in
     let all : c.new.result ≡ c.write_table.new.bytes = c.new.ensures ∙ take_at c.write_table.new.bytes _ c.in_ok-bytes.bytes.len long in
     let bytes : c.new.result ≡ header_bytes F s (count P) P.factor ++ parts F q.0.cells =
-    all ∙ c.write_table.ensures q.0 placed ∙ (λ i. header_bytes F s (items i) (factor i) ++ parts F q.0.cells) in
+    all ∙ c.write_table.ensures q.0 apart placed ∙ (λ i. header_bytes F s (items i) (factor i) ++ parts F q.0.cells) in
     let is_grown = grown_image F P is.valid s enough q.0 q.1 c.new.result bytes in
     (q.0, is_grown.0, is_grown.1)
 

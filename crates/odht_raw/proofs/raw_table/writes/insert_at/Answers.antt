@@ -1,4 +1,4 @@
-use Rattle.std.proofs.Common.{rules, arith, ℕ, List, ◌≡◌, ◌≤◌, ◌<◌, ◌+◌, ◌*◌, zero-add, ◌-◌, length, subst, ◌∙◌, sym, ap, Some, None, Ok, Err, refl}
+use Rattle.std.proofs.Common.{rules, arith, ℕ, List, ◌≡◌, ◌≤◌, ◌<◌, ◌+◌, ◌*◌, ◌-◌, length, subst, ◌∙◌, sym, ap, Some, None, Ok, Err, refl}
 use Rattle.std.specs.Prelude.{option_map}
 use Rattle.std.proofs.lemmas.Option.{none-some}
 use Rattle.odht_base.specs.Format.{Format, format_of, entry_len}
@@ -57,24 +57,10 @@ write_at-requires g c =
     rw (c.LEN.ensures, c.LEN-in-Found.ensures, c.LEN-in-Found-2.ensures)
     (omega (arith, within F es ctrl c.in-Found.slot c.requires.lengths.entries low, ap length c.new-place.ensures.bytes, ap length c.as_slice.ensures.value, c.as_slice.ensures.bytes.len))
 
-pub overflow_mul-slot-in-Free : goal.overflow_mul-slot-in-Free
-overflow_mul-slot-in-Free g c =
+pub write_entry-requires-clause-slot : goal.write_entry-requires-clause-slot
+write_entry-requires-clause-slot g c κs within =
     let F : Format = format_of g.K.ByteArray.LEN g.V.ByteArray.LEN g.H.HashFn.hash in
-    let es = c.args.entries.now in
-    let ctrl = c.args.control.now in
-    let low = free_low F es ctrl (g.K.ByteArray.bytes c.args.key) c.args.end c.in-Free.slot c.in-Free.is c.requires.end in
-    rw (c.LEN-in-Free.ensures, c.LEN-in-Free-2.ensures) (omega (arith, within F es ctrl c.in-Free.slot c.requires.lengths.entries low))
-
-pub write_pair-requires : goal.write_pair-requires
-write_pair-requires g c =
-    let F : Format = format_of g.K.ByteArray.LEN g.V.ByteArray.LEN g.H.HashFn.hash in
-    let es = c.args.entries.now in
-    let ctrl = c.args.control.now in
-    let low = free_low F es ctrl (g.K.ByteArray.bytes c.args.key) c.args.end c.in-Free.slot c.in-Free.is c.requires.end in
-    let fits : c.in-Free.slot * (c.LEN-in-Free.result + c.LEN-in-Free-2.result) + (g.K.ByteArray.LEN + g.V.ByteArray.LEN) ≤ length c.new-place-in-Free.result.0.now =
-    rw (c.LEN-in-Free.ensures, c.LEN-in-Free-2.ensures)
-    (omega (arith, within F es ctrl c.in-Free.slot c.requires.lengths.entries low, ap length c.new-place-in-Free.ensures.bytes)) in
-    λ k. search (rules, fits)
+    free_low F c.args.entries.now c.args.control.now (g.K.ByteArray.bytes c.args.key) c.args.end c.in-Free.slot c.in-Free.is c.requires.end
 
 pub returns-in-Found-clause-placed : goal.returns-in-Found-clause-placed
 returns-in-Found-clause-placed g c P h e =
@@ -98,9 +84,9 @@ returns-in-Free-clause-placed g c P h e =
     let F : Format = format_of g.K.ByteArray.LEN g.V.ByteArray.LEN g.H.HashFn.hash in
     let p : Pair = record { key = g.K.ByteArray.bytes c.args.key; value = g.V.ByteArray.bytes c.args.value } in
     let at = answer-Free F P p.key h.placed c.in-Free.slot (sym c.in-Free.is ∙ e) in
-    let fits : IsPairOf F p = record { key = c.write_pair.ensures.key; value = c.write_pair.ensures.value } in
-    let parts : IsPartsOf F (written P c.in-Free.slot p) c.write_pair.new.store.0.now c.write_tag.new.store.0.now =
-    rw (c.write_tag.ensures.bytes, zero-add c.in-Free.slot, c.new-tags.ensures.bytes, c.requires.tag, c.write_pair.ensures.bytes, c.new-place-in-Free.ensures.bytes, c.LEN-in-Free.ensures, c.LEN-in-Free-2.ensures) (free_parts F P _ _ h p.key c.in-Free.slot p refl fits at) in
+    let fits : IsPairOf F p = record { key = c.write_entry.ensures.key; value = c.write_entry.ensures.value } in
+    let parts : IsPartsOf F (written P c.in-Free.slot p) c.write_entry.new.entries c.write_entry.new.control =
+    rw (c.write_entry.ensures.control, c.write_entry.ensures.entries) (free_parts F P _ _ h p.key c.in-Free.slot p refl fits at) in
     let some = at.places p refl in
     let former = sym (ap (option_map g.V.ByteArray.of_bytes) at.value) in
     record {
@@ -145,8 +131,8 @@ returns-in-Free-clause-any g c =
     let slot = c.in-Free.slot in
     let shown : EntryBytes = record { slots = length ctrl - 16; bytes = es } in
     let told = subst (IsEnd F shown ctrl p.key) c.in-Free.is c.requires.end in
-    let framed : PartsFrame F es ctrl p (Ok None) c.write_pair.new.store.0.now c.write_tag.new.store.0.now =
-    rw (c.write_tag.ensures.bytes, zero-add c.in-Free.slot, c.new-tags.ensures.bytes, c.requires.tag, c.write_pair.ensures.bytes, c.new-place-in-Free.ensures.bytes, c.LEN-in-Free.ensures, c.LEN-in-Free-2.ensures) (PartsFrame.added slot told.0 told.1) in
+    let framed : PartsFrame F es ctrl p (Ok None) c.write_entry.new.entries c.write_entry.new.control =
+    rw (c.write_entry.ensures.control, c.write_entry.ensures.entries) (PartsFrame.added slot told.0 told.1) in
     record { frame = (Ok None, refl, search (rules, framed)); only_full = tt; refused_control = tt; refused_entries = tt }
 
 pub returns-in-Neither-clause-any : goal.returns-in-Neither-clause-any

@@ -1,0 +1,39 @@
+-- What placing a pair p into the parts of a table answers, r, and leaves: the entries es' and the control bytes ctrl'. It
+-- goes into the first free slot, and no key is compared.
+--     IsNewTo P p                      the table P has no value for the key of p
+--     IsNewPlacing F P p r es' ctrl'   of the parts of P, to which p is new: an Ok leaves the parts of P with p placed, and
+--                                      Full comes exactly where p has no place, which is where each slot is filled
+--     PlacingFrame F es ctrl p r es' ctrl'  of any parts es and ctrl: p was written with its tag into the first slot of its
+--                                      key's probe order that counts as free, or each slot counts as filled
+--     IsAddition F es ctrl p r es' ctrl'  this frame, Full as the only refusal, and nothing changed by it
+use Rattle.std.specs.Prelude.{◌≡◌, ℕ, ◌-◌, ◌*◌, ◌↔◌, List, ◌++◌, length, None, Result, Ok, Err, OnOk, OnErr}
+use Rattle.odht_base.specs.Bytes.{overwritten_at}
+use Rattle.odht_base.specs.Format.{Format, entry_len, tag}
+use Rattle.odht_base.specs.Insert.{place}
+use Rattle.odht_base.specs.Map.{map_of}
+use Rattle.odht_base.specs.Table.{Pair, Table}
+use Rattle.odht_base.specs.Valid.{IsFullWithout}
+use Rattle.odht_base.specs.Writes.{tagged}
+use Rattle.odht_raw.specs.Frame.{HasNoFreeSlot}
+use Rattle.odht_raw.specs.FreeSlots.{IsFirstFree}
+use Rattle.odht_raw.specs.PartsInserts.{ArePartsPlaced}
+use Rattle.odht_raw.specs.declared.error.Error.{Error}
+use Rattle.odht_raw.specs.declared.error.Error.TheVariants.{Full}
+
+abbrev pub IsNewTo : Table → Pair → Type 0
+IsNewTo P p = map_of P p.key ≡ None
+
+pub record IsNewPlacing (F : Format) (P : Table) (p : Pair) (r : Result (Unit {0}) Error) (es' ctrl' : List ℕ) : Type 0 where
+  pub ok : OnOk r (ArePartsPlaced F P p es' ctrl')
+  pub full : (r ≡ Err Full) ↔ (place F P p ≡ None)
+  pub no_room : (r ≡ Err Full) ↔ IsFullWithout P p.key
+
+pub data PlacingFrame (F : Format) (es ctrl : List ℕ) (p : Pair) : Result (Unit {0}) Error → List ℕ → List ℕ → Type 0 where
+  no_slot : HasNoFreeSlot ctrl (length ctrl - 16) → PlacingFrame F es ctrl p (Err Full) es ctrl
+  added : (i : ℕ) → IsFirstFree ctrl (F.hash p.key) (length ctrl - 16) i → PlacingFrame F es ctrl p (Ok tt) (overwritten_at es (i * entry_len F) (p.key ++ p.value)) (tagged ctrl i (tag F p.key))
+
+pub record IsAddition (F : Format) (es ctrl : List ℕ) (p : Pair) (r : Result (Unit {0}) Error) (es' ctrl' : List ℕ) : Type 0 where
+  pub frame : PlacingFrame F es ctrl p r es' ctrl'
+  pub only_full : OnErr r (r ≡ Err Full)
+  pub refused_control : OnErr r (ctrl' ≡ ctrl)
+  pub refused_entries : OnErr r (es' ≡ es)

@@ -1,0 +1,70 @@
+//! The search for the first slot of a probe order that counts as free.
+ghost use Rattle.std.specs.Prelude.{◌≡◌, ◌+◌, ◌-◌, ◌<◌, length, MatchOption};
+ghost use Rattle.odht_base.specs.Load.{IsSlotCount};
+ghost use Rattle.odht_raw.specs.Frame.{HasNoFree, HasNoFreeSlot};
+ghost use Rattle.odht_raw.specs.FreeSlots.{IsFirstFree, IsFirstFreeByte};
+
+use super::{EntryMetadata, ProbeSeq, is_empty_or_deleted, tag_of};
+use crate::swisstable_group_query::{Group, REFERENCE_GROUP_SIZE};
+
+/// The first slot of the probe order of a hash that counts as free, by its control byte or its mirror; none where each
+/// slot counts as filled. No match of a tag is asked for, and no key is compared.
+///
+/// The home slot's own byte is looked at first: a load of sixteen bytes waits for one that was just written, that of the
+/// byte alone does not. Then at most each group is looked at once. All this holds of every group search.
+#[inline]
+pub(super) fn first_free<Q: Group>(control: &[EntryMetadata], hash: u32) -> Option<usize>
+    requires { IsSlotCount (length control.now - 16) }
+    ensures { let slots = length control.now - 16
+        in MatchOption result (HasNoFreeSlot control.now slots) (IsFirstFree control.now hash slots) }
+{
+    let mask = control.len() - REFERENCE_GROUP_SIZE - 1;
+    let home = hash as usize & mask;
+    if is_empty_or_deleted(control[home]) {
+        return Some(home);
+    }
+    first_free_by_groups::<Q>(control, hash, mask)
+}
+
+// `first_free` group by group, where the slot count less one is a mask.
+#[inline]
+fn first_free_by_groups<Q: Group>(
+    control: &[EntryMetadata],
+    hash: u32,
+    mask: usize,
+) -> Option<usize>
+    requires slots { IsSlotCount (mask + 1) }
+    requires control { length control.now ≡ mask + 1 + 16 }
+    ensures { MatchOption result (HasNoFreeSlot control.now (mask + 1)) (IsFirstFree control.now hash (mask + 1)) }
+{
+    let tag = tag_of(hash);
+    let mut probe = ProbeSeq::<REFERENCE_GROUP_SIZE>::new(hash as usize, mask);
+    'groups: loop {
+        let start = probe.index();
+        let bytes = &control[start..start + REFERENCE_GROUP_SIZE];
+        if let Some(index) = first_free_of_group::<Q>(bytes, tag) {
+            return Some((start + index) & mask);
+        }
+        if probe.is_last() {
+            return None;
+        }
+        probe.advance(mask);
+    }
+}
+
+// The first of sixteen control bytes that counts as free, looked for in pieces of the group search's size. Any tag does.
+#[inline]
+fn first_free_of_group<Q: Group>(bytes: &[EntryMetadata], tag: u8) -> Option<usize>
+    requires len { length bytes.now ≡ 16 }
+    requires small { tag < 128 }
+    ensures { MatchOption result (HasNoFree bytes.now 16) (IsFirstFreeByte bytes.now) }
+{
+    for piece in 0..REFERENCE_GROUP_SIZE / Q::SIZE {
+        let at = piece * Q::SIZE;
+        let group = Q::of(&bytes[at..at + Q::SIZE], tag);
+        if let Some(index) = group.first_empty() {
+            return Some(at + index);
+        }
+    }
+    None
+}
