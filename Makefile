@@ -4,7 +4,7 @@
 # make examples: both examples, compared with what they must print
 # make bench: the tables of speeds; QUICK=1 for a short run, ODHT_RUST=folder for the Rust crate beside it, CHECK=1 for
 # the tables of the whole check alone, WORST=1 for the largest forged table too, about an hour, ORDER=1 for the line of
-# an order of inserts alone
+# an order of inserts alone, MARKDOWN=1 for Markdown
 SCRIPT ?= crates/odht_table/stdin
 # lowest first
 LIBRARIES = odht_base odht_raw odht
@@ -13,6 +13,7 @@ QUICK ?=
 CHECK ?=
 WORST ?=
 ORDER ?=
+MARKDOWN ?=
 ODHT_RUST ?=
 .PHONY: run build test memory examples bench FORCE
 run:
@@ -58,7 +59,8 @@ bench: $(LIBRARY) $(if $(ODHT_RUST),original)
 	@mkdir -p build
 	@$(BENCH) -o build/bench
 	@$(BENCH) --cfg moved -o build/bench_moved
-	@build/bench $(if $(QUICK),quick) $(if $(CHECK),check) $(if $(WORST),worst) $(if $(ORDER),order)
+	@$(if $(MARKDOWN),sh bench/machine.sh)
+	@build/bench $(if $(QUICK),quick) $(if $(CHECK),check) $(if $(WORST),worst) $(if $(ORDER),order) $(if $(MARKDOWN),markdown)
 
 # the Rust crate, from a checkout or from a flat folder with names as src--lib.rs.txt
 .PHONY: original
