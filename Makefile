@@ -4,7 +4,7 @@
 # make examples: both examples, compared with what they must print
 # make bench: the tables of speeds; QUICK=1 for a short run, ODHT_RUST=folder for the Rust crate beside it, CHECK=1 for
 # the tables of the whole check alone, WORST=1 for the largest forged table too, about an hour, ORDER=1 for the line of
-# an order of inserts alone
+# an order of inserts alone, MARKDOWN=1 for Markdown
 SCRIPT ?= crates/odht_table/stdin
 # lowest first
 LIBRARIES = odht_base odht_raw odht
@@ -13,6 +13,7 @@ QUICK ?=
 CHECK ?=
 WORST ?=
 ORDER ?=
+MARKDOWN ?=
 ODHT_RUST ?=
 .PHONY: run build test memory examples bench FORCE
 run:
@@ -48,15 +49,18 @@ examples: $(LIBRARY)
 	@cmp build/c.odht build/rust.odht
 	@echo 'examples: C and Rust print what they must, and store the same bytes'
 
-# both tables are built for the same level of processor
-BENCH_RUST = rustc -C opt-level=3 -C target-cpu=x86-64-v2
+# both tables are built for the same level of processor; as one unit, so that what moves the code stands before all of it
+BENCH_RUST = rustc -C opt-level=3 -C codegen-units=1 -C target-cpu=x86-64-v2
 ORIGINAL = $(if $(ODHT_RUST),build/original/libodht.rlib)
 LINK_ORIGINAL = $(if $(ODHT_RUST),--cfg original -L dependency=build/original --extern odht=$(ORIGINAL))
+BENCH = $(BENCH_RUST) --edition 2021 -D warnings --check-cfg 'cfg(original)' --check-cfg 'cfg(moved)' $(LINK_ORIGINAL) bench/main.rs $(LINK_RUST)
 
 bench: $(LIBRARY) $(if $(ODHT_RUST),original)
 	@mkdir -p build
-	@$(BENCH_RUST) --edition 2021 -D warnings --check-cfg 'cfg(original)' $(LINK_ORIGINAL) bench/main.rs $(LINK_RUST) -o build/bench
-	@build/bench $(if $(QUICK),quick) $(if $(CHECK),check) $(if $(WORST),worst) $(if $(ORDER),order)
+	@$(BENCH) -o build/bench
+	@$(BENCH) --cfg moved -o build/bench_moved
+	@$(if $(MARKDOWN),sh bench/machine.sh)
+	@build/bench $(if $(QUICK),quick) $(if $(CHECK),check) $(if $(WORST),worst) $(if $(ORDER),order) $(if $(MARKDOWN),markdown)
 
 # the Rust crate, from a checkout or from a flat folder with names as src--lib.rs.txt
 .PHONY: original

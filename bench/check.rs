@@ -1,13 +1,13 @@
 //! What the whole check costs: of tables that are as full as they may be, beside other ways to go over them, and of
 //! forged ones.
 
-use std::io::Write;
 use std::time::Instant;
 
 use crate::library::u64_u32;
+use crate::measure::{best, times, Job};
 use crate::ours;
-use crate::work::{Work, Written, PERCENT};
-use crate::{best_times, Job, Measure};
+use crate::table::{Column, Table};
+use crate::work::{Work, PERCENT};
 
 pub const HEADER: usize = 32;
 pub const ENTRY: usize = 12;
@@ -23,25 +23,28 @@ fn table_len(slots: usize) -> usize {
 }
 
 /// One row: a table of random keys that is as full as it may be.
-fn run_full(slots: usize, rounds: usize) {
+fn run_full(slots: usize, rounds: usize, table: &Table) {
     let work = &mut Work::new(max_items(slots));
     assert_eq!(work.table.len(), table_len(slots));
-    work.drop_maps();
     work.spare = vec![0; work.table.len()];
-    ours::insert_presized(work);
+    ours::insert_all(work);
     work.ask_for_keys();
-    let jobs: [Job; 4] = [ours::check, ours::look_up, ours::walk, ours::rebuild];
-    let measure = Measure::new("check", jobs.map(Some), Written::Nothing);
-    let times = best_times(&measure, rounds, work).map(|time| time.expect("each column has a job"));
-    let [check, look_up, walk, rebuild] = times.map(|time| time / slots as f64);
-    let speed = work.table.len() as f64 / times[0];
-    let ratio = check / look_up;
-    println!("{slots:>9} {check:>9.2} {speed:>9.2} {look_up:>9.2} {ratio:>9.2} {walk:>9.2} {rebuild:>9.2}");
-    let _ = std::io::stdout().flush();
+    let jobs: [Job<u64>; 4] = [ours::check, ours::get_all, ours::walk, ours::rebuild];
+    let best: Vec<f64> = times(&jobs, rounds, 0, work)
+        .iter()
+        .map(|times| best(times))
+        .collect();
+    let each = |column: usize| best[column] / slots as f64;
+    let (speed, ratio) = (work.table.len() as f64 / best[0], best[0] / best[1]);
+    let numbers = [each(0), speed, each(1), ratio, each(2), each(3)];
+    let mut row = vec![slots.to_string()];
+    row.extend(numbers.map(|number| format!("{number:.2}")));
+    table.print(&row);
 }
 
-/// A valid table that costs the check most, of those at 87 percent: it is full, and all its keys have one home and one tag. The lower half of a
-/// product depends on the lower halves of its factors alone, so all multiples of 2^32 have the hash 0.
+/// A valid table that costs the check most, of those at 87 percent: it is full, and all its keys
+/// have one home and one tag. The lower half of a product depends on the lower halves of its
+/// factors alone, so all multiples of 2^32 have the hash 0.
 fn forged_table(slots: usize) -> Vec<u8> {
     let items = max_items(slots);
     let mut bytes = vec![0; table_len(slots)];
@@ -76,15 +79,18 @@ fn compare_with_inserts(slots: usize) {
     assert!(bytes == forged_table(slots));
 }
 
-fn run_forged(slots: usize) {
+fn run_forged(slots: usize, table: &Table) {
     let bytes = forged_table(slots);
     let items = max_items(slots) as f64;
     let start = Instant::now();
     assert_eq!(u64_u32::check(&bytes), Ok(()));
     let seconds = start.elapsed().as_secs_f64();
     let compare = 1e9 * seconds / (items * (items - 1.0) / 2.0);
-    println!("{slots:>9} {seconds:>12.4} {compare:>12.3}");
-    let _ = std::io::stdout().flush();
+    table.print(&[
+        slots.to_string(),
+        format!("{seconds:.4}"),
+        format!("{compare:.3}"),
+    ]);
 }
 
 /// Each number of slots, with a number of rounds.
@@ -97,15 +103,19 @@ const FULL: [(usize, usize); 5] = [
 ];
 const QUICK_FULL: [(usize, usize); 2] = [(1 << 10, 7), (1 << 17, 7)];
 
-pub fn print_full_tables(quick: bool) {
+pub fn print_full_tables(quick: bool, markdown: bool) {
     let rows: &[(usize, usize)] = if quick { &QUICK_FULL } else { &FULL };
     println!("\nthe whole check of tables that are full at 87 percent: nanoseconds for each slot,");
     println!(
-        "the best of several rounds; GB/s: of table bytes; ratio: check to lookups of each key\n"
+        "the best of several rounds; GB/s: of table bytes; ratio: check to lookups of each key"
     );
-    println!("    slots     check      GB/s   lookups     ratio      walk   rebuild");
+    let heads = [
+        "slots", "check", "GB/s", "lookups", "ratio", "walk", "rebuild",
+    ];
+    let columns = heads.map(|head| Column::Number(head, 9));
+    let table = Table::begin(columns.into(), markdown);
     for (slots, rounds) in rows {
-        run_full(*slots, *rounds);
+        run_full(*slots, *rounds, &table);
     }
 }
 
@@ -114,18 +124,20 @@ const QUICK_FORGED: [usize; 2] = [1 << 12, 1 << 14];
 /// Takes about an hour.
 const WORST: usize = 1 << 20;
 
-pub fn print_forged_tables(quick: bool, worst: bool) {
+pub fn print_forged_tables(quick: bool, worst: bool, markdown: bool) {
     let rows: &[usize] = if quick { &QUICK_FORGED } else { &FORGED };
     println!(
         "\nthe whole check of forged tables, full at 87 percent, whose keys all have one hash:"
     );
-    println!("one run in seconds; nanoseconds for each compare of two keys\n");
-    println!("    slots      seconds      compare");
+    println!("one run in seconds; nanoseconds for each compare of two keys");
+    let columns = [("slots", 9), ("seconds", 12), ("compare", 12)];
+    let columns = columns.map(|(head, width)| Column::Number(head, width));
+    let table = Table::begin(columns.into(), markdown);
     compare_with_inserts(rows[0]);
     for slots in rows {
-        run_forged(*slots);
+        run_forged(*slots, &table);
     }
     if worst {
-        run_forged(WORST);
+        run_forged(WORST, &table);
     }
 }

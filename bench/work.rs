@@ -3,49 +3,48 @@
 use std::collections::HashMap;
 use std::hash::RandomState;
 
-use crate::check::{ENTRY, HEADER};
-use crate::library::{u64_u32, Status};
-use crate::maps::FxBuild;
+use crate::keys::{value_of, Key, Random};
+use crate::maps::Map;
+use crate::ours::Calls;
 
 pub const PERCENT: u8 = 87;
 
-/// What stands in an array before a checked run, so that answers of another run do not count.
+/// What stands in a number or byte before a checked run, so that answers of another run do not
+/// count.
 const SCRUB: u8 = 0xa5;
-
-/// splitmix64. Each step has another state and gives another number, so no number comes twice.
-struct Random(u64);
-
-impl Random {
-    fn next(&mut self) -> u64 {
-        self.0 = self.0.wrapping_add(0x9e37_79b9_7f4a_7c15);
-        let mixed = (self.0 ^ (self.0 >> 30)).wrapping_mul(0xbf58_476d_1ce4_e5b9);
-        let mixed = (mixed ^ (mixed >> 27)).wrapping_mul(0x94d0_49bb_1331_11eb);
-        mixed ^ (mixed >> 31)
-    }
-
-    fn numbers(&mut self, count: usize) -> Vec<u64> {
-        (0..count).map(|_| self.next()).collect()
-    }
-
-    fn shuffle(&mut self, numbers: &mut [u64]) {
-        for last in (1..numbers.len()).rev() {
-            let other = self.next() % (last as u64 + 1);
-            numbers.swap(last, other as usize);
-        }
-    }
-}
-
-/// The value of each key, so that every answer can be checked by itself.
-fn value_of(key: u64) -> u32 {
-    (key >> 32) as u32 ^ key as u32
-}
 
 /// What lookups and walks write.
 #[derive(Clone, Default, PartialEq)]
-pub struct Answers {
-    pub keys: Vec<u64>,
+pub struct Answers<K> {
+    pub keys: Vec<K>,
     pub values: Vec<u32>,
     pub found: Vec<u8>,
+}
+
+impl<K: Copy> Answers<K> {
+    /// The answer to each query, as `get_all` writes them.
+    #[inline(always)]
+    pub fn write_each(&mut self, queries: &[K], mut get: impl FnMut(&K) -> Option<u32>) {
+        let places = self.values.iter_mut().zip(&mut self.found);
+        for (key, (value, found)) in queries.iter().zip(places) {
+            match get(key) {
+                Some(there) => {
+                    *value = there;
+                    *found = 1;
+                }
+                None => *found = 0,
+            }
+        }
+    }
+
+    /// The pairs of a walk.
+    #[inline(always)]
+    pub fn write_pairs(&mut self, pairs: impl Iterator<Item = (K, u32)>) {
+        let places = self.keys.iter_mut().zip(&mut self.values);
+        for ((key, value), pair) in places.zip(pairs) {
+            (*key, *value) = pair;
+        }
+    }
 }
 
 /// Which of the places a measure's jobs write.
@@ -56,44 +55,51 @@ pub enum Written {
     Nothing,
 }
 
-pub struct Work {
+pub struct Work<K: Key> {
     random: Random,
-    pub keys: Vec<u64>,
+    pub keys: Vec<K>,
     pub values: Vec<u32>,
     /// The keys that are looked up.
-    pub queries: Vec<u64>,
+    pub queries: Vec<K>,
     /// The bytes of the table: inserts write them, lookups, walks and opens read them.
     pub table: Vec<u8>,
     /// The bytes of a second table, for jobs that make one of the first.
     pub spare: Vec<u8>,
     /// The slots in an order of inserts that makes the table.
     pub order: Vec<usize>,
-    pub answers: Answers,
-    pub sip_map: HashMap<u64, u32, RandomState>,
-    pub fx_map: HashMap<u64, u32, FxBuild>,
+    pub answers: Answers<K>,
+    pub own_map: Map<K, RandomState>,
+    pub table_map: Map<K, K::TableHash>,
 }
 
-impl Work {
-    pub fn new(count: usize) -> Work {
-        let mut random = Random(7);
-        let keys = random.numbers(count);
-        let length = u64_u32::bytes_needed(count, PERCENT).expect("the table fits");
+impl<K: Calls> Work<K> {
+    /// The places are written once, so that no timed job is the first to touch them.
+    pub fn new(count: usize) -> Work<K> {
+        let mut random = Random::from_fixed_seed();
+        let keys: Vec<K> = random.keys(count);
         Work {
             random,
-            values: keys.iter().map(|key| value_of(*key)).collect(),
+            values: keys.iter().map(value_of).collect(),
             keys,
             queries: Vec::new(),
-            table: vec![0; length],
+            table: vec![SCRUB; K::bytes_needed(count)],
             spare: Vec::new(),
             order: Vec::new(),
             answers: Answers {
-                keys: vec![0; count],
-                values: vec![0; count],
-                found: vec![0; count],
+                keys: vec![K::SCRUB; count],
+                values: vec![SCRUB.into(); count],
+                found: vec![SCRUB; count],
             },
-            sip_map: HashMap::with_capacity_and_hasher(count, RandomState::new()),
-            fx_map: HashMap::with_capacity_and_hasher(count, FxBuild),
+            own_map: HashMap::default(),
+            table_map: HashMap::default(),
         }
+    }
+}
+
+impl<K: Key> Work<K> {
+    pub fn make_maps(&mut self) {
+        self.own_map.reserve(self.keys.len());
+        self.table_map.reserve(self.keys.len());
     }
 
     /// The next lookups are of all keys, in another order.
@@ -104,7 +110,7 @@ impl Work {
 
     /// The next lookups are of as many keys that are not there.
     pub fn ask_for_absent_keys(&mut self) {
-        self.queries = self.random.numbers(self.keys.len());
+        self.queries = self.random.keys(self.keys.len());
     }
 
     pub fn drop_queries(&mut self) {
@@ -113,23 +119,19 @@ impl Work {
 
     pub fn drop_answers_and_maps(&mut self) {
         self.answers = Answers::default();
-        self.drop_maps();
-    }
-
-    pub fn drop_maps(&mut self) {
-        self.sip_map = HashMap::default();
-        self.fx_map = HashMap::default();
+        self.own_map = HashMap::default();
+        self.table_map = HashMap::default();
     }
 
     pub fn make_room_for_order(&mut self) {
-        self.order = vec![0; self.keys.len()];
+        self.order = vec![usize::MAX; self.keys.len()];
     }
 
     pub fn scrub(&mut self, written: Written) {
         match written {
             Written::Table => self.table.fill(SCRUB),
             Written::Answers => {
-                self.answers.keys.fill(SCRUB.into());
+                self.answers.keys.fill(K::SCRUB);
                 self.answers.values.fill(SCRUB.into());
                 self.answers.found.fill(SCRUB);
             }
@@ -138,7 +140,7 @@ impl Work {
     }
 
     /// A copy of what was written, to compare another contender's with.
-    pub fn copy(&self, written: Written) -> (Vec<u8>, Answers) {
+    pub fn copy(&self, written: Written) -> (Vec<u8>, Answers<K>) {
         match written {
             Written::Table => (self.table.clone(), Answers::default()),
             Written::Answers => (Vec::new(), self.answers.clone()),
@@ -146,47 +148,26 @@ impl Work {
         }
     }
 
-    pub fn check_nothing(&self) {}
-
     pub fn check_hits(&self) {
         let mut values = self.queries.iter().zip(&self.answers.values);
         assert!(self.answers.found.iter().all(|found| *found == 1));
-        assert!(values.all(|(key, value)| value_of(*key) == *value));
+        assert!(values.all(|(key, value)| value_of(key) == *value));
     }
 
     pub fn check_misses(&self) {
+        let mut values = self.answers.values.iter();
         assert!(self.answers.found.iter().all(|found| *found == 0));
-        assert!(self
-            .answers
-            .values
-            .iter()
-            .all(|value| *value == SCRUB.into()));
+        assert!(values.all(|value| *value == SCRUB.into()));
     }
 
     /// The walked keys are those of the table, as far as their sum tells, with their values.
     pub fn check_walk(&self) {
-        let sum = |keys: &[u64]| keys.iter().fold(0, |sum: u64, key| sum.wrapping_add(*key));
+        let sum = |keys: &[K]| {
+            keys.iter()
+                .fold(0, |sum: u64, key| sum.wrapping_add(key.number()))
+        };
         let mut pairs = self.answers.keys.iter().zip(&self.answers.values);
         assert_eq!(sum(&self.keys), sum(&self.answers.keys));
-        assert!(pairs.all(|(key, value)| value_of(*key) == *value));
-    }
-
-    /// Inserts of the pairs of these slots, in their order, make the very table.
-    pub fn check_order(&self) {
-        let pairs = self.order.iter().map(|slot| self.pair_in(*slot));
-        let (keys, values): (Vec<u64>, Vec<u32>) = pairs.unzip();
-        let mut again = vec![0; self.table.len()];
-        u64_u32::init(&mut again, keys.len(), PERCENT).expect("the length is right");
-        let answer = u64_u32::insert_all(&mut again, &keys, &values);
-        assert_eq!(answer, (Status::OK, keys.len()));
-        assert!(again == self.table);
-    }
-
-    fn pair_in(&self, slot: usize) -> (u64, u32) {
-        let entry = &self.table[HEADER + slot * ENTRY..][..ENTRY];
-        let (key, value) = entry.split_at(8);
-        let key = key.try_into().expect("a key has eight bytes");
-        let value = value.try_into().expect("a value has four");
-        (u64::from_le_bytes(key), u32::from_le_bytes(value))
+        assert!(pairs.all(|(key, value)| value_of(key) == *value));
     }
 }

@@ -1,0 +1,95 @@
+//! Prints what the runs have told: a row for each line at each placement.
+
+use crate::keys::Key;
+use crate::measure::{best, median};
+use crate::runs::{ask, Placed, Size, Told, PLACEMENTS};
+use crate::table::{Column, Table};
+
+fn columns<K: Key>() -> Vec<Column> {
+    let [own, table] = K::MAPS;
+    let mut columns = vec![
+        Column::Word("items", 5),
+        Column::Word("measure", 23),
+        Column::Word("code", 9),
+        Column::Number("odht", 8),
+        Column::Number("median", 8),
+    ];
+    if cfg!(original) {
+        columns.extend([
+            Column::Number("original", 8),
+            Column::Number("median", 8),
+            Column::Number("ratio", 6),
+            Column::Number("its range", 12),
+        ]);
+    }
+    columns.extend([Column::Number(own, 8), Column::Number(table, 15)]);
+    columns
+}
+
+/// A number, or that there is none.
+fn shown(of: fn(&[f64]) -> f64, times: &[f64]) -> String {
+    if times.is_empty() {
+        return "-".to_string();
+    }
+    format!("{:.2}", of(times))
+}
+
+fn range(ratios: &[f64]) -> String {
+    if ratios.is_empty() {
+        return "-".to_string();
+    }
+    let most = ratios.iter().copied().fold(0.0, f64::max);
+    format!("{:.2} to {most:.2}", best(ratios))
+}
+
+fn fields(placed: &Placed) -> Vec<String> {
+    let (ours, original) = (placed.ours.concat(), placed.original.concat());
+    let mut fields = vec![shown(best, &ours), shown(median, &ours)];
+    if cfg!(original) {
+        let ratios = placed.ratios();
+        fields.extend([shown(best, &original), shown(median, &original)]);
+        fields.extend([shown(median, &ratios), range(&ratios)]);
+    }
+    fields.extend(placed.maps.iter().map(|times| shown(best, times)));
+    fields
+}
+
+/// Two rows for each line, one for each placement.
+fn print_rows(size: &Size, told: &Told, table: &Table) {
+    for line in &told.lines {
+        for (placed, name) in line.placed.iter().zip(PLACEMENTS).take(size.placements) {
+            let mut row = vec![format!("10^{}", size.power_of_ten)];
+            row.extend([line.name.clone(), name.to_string()]);
+            row.extend(fields(placed));
+            table.print(&row);
+        }
+    }
+}
+
+/// Where the code begins that each run tells of.
+fn print_places(places: &[Vec<usize>; PLACEMENTS.len()]) {
+    let more = if cfg!(original) {
+        ", and then the original's lookups"
+    } else {
+        ""
+    };
+    println!("\nwhere in a line of 64 bytes get_all begins{more}:");
+    for (places, name) in places.iter().zip(PLACEMENTS) {
+        let places: Vec<String> = places.iter().map(usize::to_string).collect();
+        println!("{name} at {}", places.join(" and "));
+    }
+}
+
+/// Runs all sizes, and prints the table.
+pub fn print<K: Key>(what: &str, sizes: &[Size], markdown: bool) {
+    let table = Table::begin(columns::<K>(), markdown);
+    let mut places = [Vec::new(), Vec::new()];
+    for size in sizes {
+        let told = ask(what, size);
+        print_rows(size, &told, &table);
+        if size.placements > 1 {
+            places = told.places;
+        }
+    }
+    print_places(&places);
+}
