@@ -47,6 +47,8 @@ pub mod ProbeSteps
 pub mod GroupLooks
 -- a search by groups
 pub mod GroupSearches
+-- the first look of a search
+pub mod FirstLooks
 -- a look at the mirror
 pub mod MirrorChecks
 -- the slots before a key's own, in its probe order

@@ -1,0 +1,77 @@
+-- The first look of a search: what it tells of where the search ends.
+use Rattle.std.proofs.Common.{◌≡◌, ◌∙◌, ◌+◌, ◌*◌, ◌%◌, ◌<◌, ℕ, sym, ap, arith, refl, List, [], ◌∷◌, length, slice_get, Some, None, Contains}
+use Rattle.std.proofs.Math.Nat.{mod-lt, mod-eq_of_lt}
+use Rattle.std.proofs.lemmas.List.Quantifiers.{position-Some}
+use Rattle.std.proofs.lemmas.Option.{none-some}
+use Rattle.odht_base.specs.Format.{Format, IsFormat, home, tag}
+use Rattle.odht_base.specs.Groups.{equal, first_free, IsReport}
+use Rattle.odht_base.specs.Load.{IsSlotCount}
+use Rattle.odht_base.specs.Probe.{place_slot}
+use Rattle.odht_base.specs.Shown.{counts_as_free, slot_key}
+use Rattle.odht_base.specs.Table.{Table}
+use Rattle.odht_base.specs.Valid.{IsPartsOf}
+use Rattle.odht_base.proofs.lemmas.ByteRanges.{length-bytes_at}
+use Rattle.odht_base.proofs.lemmas.MarkedPlaces.{report_from_equal}
+use Rattle.odht_base.proofs.lemmas.Orders.{place_slot-group}
+use Rattle.odht_raw.specs.Answers.{answer}
+use Rattle.odht_raw.specs.FirstLooks.{home_group}
+use Rattle.odht_raw.specs.Frame.{CountsAsFree}
+use Rattle.odht_raw.specs.Parts.{TableParts}
+use Rattle.odht_raw.specs.Searches.{StandsAt}
+use Rattle.odht_raw.specs.declared.raw_table.outcome.Search.TheVariants.{Found, Free}
+use Rattle.odht_raw.proofs.lemmas.GroupLooks.{look_found, look_free}
+use Rattle.odht_raw.proofs.lemmas.GroupSearches.{group-free, stands-group}
+
+-- the first of a list is in it, and an empty list has none
+first_in : (xs : List ℕ) (x : ℕ) → Some x ≡ slice_get xs 0 → Contains xs x
+first_in [] x e = absurd (none-some x (sym e))
+first_in (y ∷ xs) x e = (0, omega arith, (let same : y ≡ x = cc in same))
+
+none_in : (xs : List ℕ) (x : ℕ) → None ≡ slice_get xs 0 → Contains xs x → ⊥
+none_in [] x e c = omega (arith, c.1)
+none_in (y ∷ xs) x e c = none-some y e
+
+module _ (F : Format) (T : TableParts) (k : List ℕ) (slots : IsSlotCount T.entries.slots) (mirrored : length T.control ≡ T.entries.slots + 16) (small : tag F k < 128) where
+  abbrev home_slot : ℕ
+  home_slot = home F k T.entries.slots
+
+  -- the home is a slot
+  pub home-lt : home_slot < T.entries.slots
+  home-lt = let n = slots.least in mod-lt (F.hash k) {m = T.entries.slots} (omega arith)
+
+  -- the group has sixteen bytes
+  pub length-home_group : length (home_group F T k) ≡ 16
+  length-home_group = let n = home-lt in length-bytes_at T.control home_slot 16 (omega arith)
+
+  report : IsReport (home_group F T k) (tag F k) (equal (home_group F T k) (tag F k))
+  report = report_from_equal (home_group F T k) (tag F k) _ small refl
+
+  -- a match stands in the group
+  pub match-lt : (i : ℕ) → Some i ≡ slice_get (equal (home_group F T k) (tag F k)) 0 → i < 16
+  match-lt i e = omega (arith, (report.filled i (first_in _ i e)).0, length-home_group)
+
+  -- so does a free byte, whose slot counts as free
+  pub free-lt : (i : ℕ) → Some i ≡ first_free (home_group F T k) → i < 16
+  free-lt i e = omega (arith, (position-Some counts_as_free (home_group F T k) i 0 (sym e)).0, length-home_group)
+
+  pub free-slot : (i : ℕ) → Some i ≡ first_free (home_group F T k) → CountsAsFree T.control ((home_slot + i) % T.entries.slots)
+  free-slot i e = group-free T.control T.entries.slots home_slot i mirrored slots.least home-lt (free-lt i e) (position-Some counts_as_free (home_group F T k) i 0 (sym e)).1
+
+  module _ (P : Table) (f : IsFormat F) (h : IsPartsOf F P T.entries.bytes T.control) where
+    -- the search begins at the group
+    stands-home : StandsAt F P T.entries k 0 home_slot (home_group F T k)
+    stands-home =
+        let n = slots.least in
+        let sum : home_slot + 8 * 0 * (0 + 1) + 0 ≡ home_slot = omega arith in
+        let first : place_slot home_slot T.entries.slots 0 ≡ home_slot = place_slot-group home_slot T.entries.slots 0 0 (omega arith) ∙ ap (λ x. x % T.entries.slots) sum ∙ mod-eq_of_lt {n = home_slot} {m = T.entries.slots} home-lt in
+        stands-group F P T.entries T.control k f h mirrored 0 home_slot (omega arith) (omega arith) (sym first) (λ q l. absurd (omega arith))
+
+    -- a first match with the key ends it
+    pub first_look-found : (i : ℕ) → Some i ≡ slice_get (equal (home_group F T k) (tag F k)) 0 → slot_key F T.entries.bytes ((home_slot + i) % T.entries.slots) ≡ k
+        → Found ((home_slot + i) % T.entries.slots) ≡ answer F P.cells k
+    first_look-found i e same = (look_found F P T.entries k 0 home_slot (home_group F T k) f stands-home _ report i (first_in _ i e) same).0
+
+    -- and a free byte where there is no match
+    pub first_look-free : (i : ℕ) → None ≡ slice_get (equal (home_group F T k) (tag F k)) 0 → Some i ≡ first_free (home_group F T k)
+        → Free ((home_slot + i) % T.entries.slots) ≡ answer F P.cells k
+    first_look-free i none e = (look_free F P T.entries k 0 home_slot (home_group F T k) f stands-home _ report (λ j c. absurd (none_in _ j none c)) i (sym e)).0
