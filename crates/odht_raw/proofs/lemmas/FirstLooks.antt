@@ -1,11 +1,13 @@
 -- The first look of a search: what it tells of where the search ends.
-use Rattle.std.proofs.Common.{◌≡◌, ◌∙◌, ◌+◌, ◌*◌, ◌%◌, ◌<◌, ℕ, sym, ap, arith, refl, List, [], ◌∷◌, length, slice_get, Some, None, Contains}
+use Rattle.std.proofs.Common.{◌≡◌, ◌∙◌, ◌+◌, ◌*◌, ◌%◌, ◌<◌, ℕ, sym, ap, arith, refl, List, [], ◌∷◌, length, slice_get, Option, Some, None, Contains, true, true≢false}
+use Rattle.std.specs.Prelude.{is_some}
 use Rattle.std.proofs.Math.Nat.{mod-lt, mod-eq_of_lt}
 use Rattle.std.proofs.lemmas.List.Quantifiers.{position-Some}
 use Rattle.std.proofs.lemmas.Option.{none-some}
 use Rattle.odht_base.specs.Format.{Format, IsFormat, home, tag}
 use Rattle.odht_base.specs.Groups.{equal, first_free, IsReport}
 use Rattle.odht_base.specs.Load.{IsSlotCount}
+use Rattle.odht_base.specs.Map.{map_of}
 use Rattle.odht_base.specs.Probe.{place_slot}
 use Rattle.odht_base.specs.Shown.{counts_as_free, slot_key}
 use Rattle.odht_base.specs.Table.{Table}
@@ -18,9 +20,10 @@ use Rattle.odht_raw.specs.FirstLooks.{home_group}
 use Rattle.odht_raw.specs.Frame.{CountsAsFree}
 use Rattle.odht_raw.specs.Parts.{TableParts}
 use Rattle.odht_raw.specs.Searches.{StandsAt}
-use Rattle.odht_raw.specs.declared.raw_table.outcome.Search.TheVariants.{Found, Free}
+use Rattle.odht_raw.specs.declared.raw_table.outcome.Search.TheVariants.{Found}
 use Rattle.odht_raw.proofs.lemmas.GroupLooks.{look_found, look_free}
-use Rattle.odht_raw.proofs.lemmas.GroupSearches.{group-free, stands-group}
+use Rattle.odht_raw.proofs.lemmas.GroupSearches.{stands-group}
+use Rattle.odht_raw.proofs.lemmas.Lookups.{answer-Free}
 
 -- the first of a list is in it, and an empty list has none
 first_in : (xs : List ℕ) (x : ℕ) → Some x ≡ slice_get xs 0 → Contains xs x
@@ -50,13 +53,6 @@ module _ (F : Format) (T : TableParts) (k : List ℕ) (slots : IsSlotCount T.ent
   pub match-lt : (i : ℕ) → Some i ≡ slice_get (equal (home_group F T k) (tag F k)) 0 → i < 16
   match-lt i e = omega (arith, (report.filled i (first_in _ i e)).0, length-home_group)
 
-  -- so does a free byte, whose slot counts as free
-  pub free-lt : (i : ℕ) → Some i ≡ first_free (home_group F T k) → i < 16
-  free-lt i e = omega (arith, (position-Some counts_as_free (home_group F T k) i 0 (sym e)).0, length-home_group)
-
-  pub free-slot : (i : ℕ) → Some i ≡ first_free (home_group F T k) → CountsAsFree T.control ((home_slot + i) % T.entries.slots)
-  free-slot i e = group-free T.control T.entries.slots home_slot i mirrored slots.least home-lt (free-lt i e) (position-Some counts_as_free (home_group F T k) i 0 (sym e)).1
-
   module _ (P : Table) (f : IsFormat F) (h : IsPartsOf F P T.entries.bytes T.control) where
     -- the search begins at the group
     stands-home : StandsAt F P T.entries k 0 home_slot (home_group F T k)
@@ -71,7 +67,10 @@ module _ (F : Format) (T : TableParts) (k : List ℕ) (slots : IsSlotCount T.ent
         → Found ((home_slot + i) % T.entries.slots) ≡ answer F P.cells k
     first_look-found i e same = (look_found F P T.entries k 0 home_slot (home_group F T k) f stands-home _ report i (first_in _ i e) same).0
 
-    -- and a free byte where there is no match
-    pub first_look-free : (i : ℕ) → None ≡ slice_get (equal (home_group F T k) (tag F k)) 0 → Some i ≡ first_free (home_group F T k)
-        → Free ((home_slot + i) % T.entries.slots) ≡ answer F P.cells k
-    first_look-free i none e = (look_free F P T.entries k 0 home_slot (home_group F T k) f stands-home _ report (λ j c. absurd (none_in _ j none c)) i (sym e)).0
+    -- and a free byte where there is no match: then the key is absent
+    pub first_look-absent : None ≡ slice_get (equal (home_group F T k) (tag F k)) 0 → is_some (first_free (home_group F T k)) ≡ true → map_of P k ≡ None
+    first_look-absent none free = go (first_free (home_group F T k)) refl free
+      where
+        go : (o : Option ℕ) → first_free (home_group F T k) ≡ o → is_some o ≡ true → map_of P k ≡ None
+        go None e some = absurd (true≢false (sym some))
+        go (Some i) e some = (answer-Free F P k h.placed _ (look_free F P T.entries k 0 home_slot (home_group F T k) f stands-home _ report (λ j c. absurd (none_in _ j none c)) i e).0).value

@@ -5,9 +5,8 @@ ghost use Rattle.odht_base.specs.Format.{format_of};
 ghost use Rattle.odht_base.specs.Map.{map_of};
 ghost use Rattle.odht_base.specs.Table.{Table};
 ghost use Rattle.odht_base.specs.Valid.{IsPartsOf};
-ghost use Rattle.odht_raw.specs.Answers.{answer};
 ghost use Rattle.odht_raw.specs.FirstLooks.{first_look_of};
-ghost use Rattle.odht_raw.specs.SearchEnds.{IsBesideKey, IsEnd};
+ghost use Rattle.odht_raw.specs.SearchEnds.{IsBesideKey};
 
 use super::{RawTable, Scan, Search, search_hashed, tag_of};
 use crate::bytes::ByteArray;
@@ -61,52 +60,40 @@ impl<'a, K: ByteArray, V: ByteArray, H: HashFn> RawTable<'a, K, V, H> {
         ensures on_any { IfSome result
             (IsBesideKey (format_of K.LEN V.LEN H.hash) V.of_bytes self.now.entries (K.bytes key.now)) }
     {
-        match self.end_from(look, key) {
-            Search::Found(slot) => Some(self.entries.get(slot).value),
-            Search::Free(_) => None,
-            Search::Neither => None,
-        }
-    }
-
-    // Where the search for the key ends. The first match alone decides, or a free byte where there is no match.
-    #[inline(always)]
-    fn end_from(&self, look: &FirstLook, key: &K) -> Search
-        requires { look.now ≡ first_look_of (format_of K.LEN V.LEN H.hash) self.now (K.bytes key.now) }
-        ensures on_placed { (P : Table)
-            → IsPartsOf (format_of K.LEN V.LEN H.hash) P self.now.entries.bytes self.now.control
-            → result ≡ answer (format_of K.LEN V.LEN H.hash) P.cells (K.bytes key.now) }
-        ensures slot { let F = format_of K.LEN V.LEN H.hash
-            in IsEnd F self.now.entries self.now.control (K.bytes key.now) result }
-    {
         let mask = self.entries.len() - 1;
         let home = look.hash as usize & mask;
         match look.group.first_match() {
             Some(index) => {
                 let slot = (home + index) & mask;
-                if self.entries.get(slot).key.equals(key) {
-                    return Search::Found(slot);
+                let entry = self.entries.get(slot);
+                if entry.key.equals(key) {
+                    return Some(entry.value);
                 }
             }
             None => {
-                if let Some(index) = look.group.first_empty() {
-                    return Search::Free((home + index) & mask);
+                if look.group.any_empty() {
+                    return None;
                 }
             }
         }
-        self.search_far(key, look.hash)
+        self.find_far(key, look.hash)
     }
 
-    // The search from its beginning, where its first look does not tell its end.
+    // `find` from the first group on, where the first look does not tell the end.
     #[inline(never)]
-    fn search_far(&self, key: &K, hash: u32) -> Search
+    fn find_far(&self, key: &K, hash: u32) -> Option<V>
         requires { hash ≡ H.hash (K.bytes key.now) }
         ensures on_placed { (P : Table)
             → IsPartsOf (format_of K.LEN V.LEN H.hash) P self.now.entries.bytes self.now.control
-            → result ≡ answer (format_of K.LEN V.LEN H.hash) P.cells (K.bytes key.now) }
-        ensures slot { let F = format_of K.LEN V.LEN H.hash
-            in IsEnd F self.now.entries self.now.control (K.bytes key.now) result }
+            → result ≡ option_map V.of_bytes (map_of P (K.bytes key.now)) }
+        ensures on_any { IfSome result
+            (IsBesideKey (format_of K.LEN V.LEN H.hash) V.of_bytes self.now.entries (K.bytes key.now)) }
     {
         let mut scan = Scan::new(self.control, self.entries.len());
-        search_hashed::<K, V, H, GroupQuery>(&mut scan, &self.entries, key, hash)
+        match search_hashed::<K, V, H, GroupQuery>(&mut scan, &self.entries, key, hash) {
+            Search::Found(slot) => Some(self.entries.get(slot).value),
+            Search::Free(_) => None,
+            Search::Neither => None,
+        }
     }
 }
