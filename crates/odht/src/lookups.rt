@@ -26,12 +26,12 @@ pub fn look_at<C: Config>(
 #[inline(always)]
 pub fn find_at<C: Config>(
     raw: &RawTable<'_, C::EncodedKey, C::EncodedValue, C::H>,
-    look: &FirstLook,
+    look: FirstLook,
     keys: &[C::Key],
     index: usize,
 ) -> Option<C::Value>
     requires index { index < length keys.now }
-    requires look { IsLookAt ⟦<C as Coded>⟧.coding raw.now keys.now index look.now }
+    requires look { IsLookAt ⟦<C as Coded>⟧.coding raw.now keys.now index look }
     ensures { (k : C.Key) → slice_get keys.now index ≡ Some k → IsLookup ⟦<C as Coded>⟧.coding raw.now k result }
 {
     let key = C::encode_key(&keys[index]);
@@ -54,7 +54,7 @@ pub(crate) fn get_all<C: Config>(
     let from = get_batches::<C>(raw, keys, values);
     for index in from..keys.len() {
         let look = look_at::<C>(raw, keys, index);
-        get_one::<C>(raw, &look, keys, index, values);
+        get_one::<C>(raw, look, keys, index, values);
     }
 }
 
@@ -97,28 +97,28 @@ fn get_eight<C: Config>(
     let sixth = look_at::<C>(raw, keys, from + 5);
     let seventh = look_at::<C>(raw, keys, from + 6);
     let eighth = look_at::<C>(raw, keys, from + 7);
-    get_one::<C>(raw, &first, keys, from, values);
-    get_one::<C>(raw, &second, keys, from + 1, values);
-    get_one::<C>(raw, &third, keys, from + 2, values);
-    get_one::<C>(raw, &fourth, keys, from + 3, values);
-    get_one::<C>(raw, &fifth, keys, from + 4, values);
-    get_one::<C>(raw, &sixth, keys, from + 5, values);
-    get_one::<C>(raw, &seventh, keys, from + 6, values);
-    get_one::<C>(raw, &eighth, keys, from + 7, values);
+    get_one::<C>(raw, first, keys, from, values);
+    get_one::<C>(raw, second, keys, from + 1, values);
+    get_one::<C>(raw, third, keys, from + 2, values);
+    get_one::<C>(raw, fourth, keys, from + 3, values);
+    get_one::<C>(raw, fifth, keys, from + 4, values);
+    get_one::<C>(raw, sixth, keys, from + 5, values);
+    get_one::<C>(raw, seventh, keys, from + 6, values);
+    get_one::<C>(raw, eighth, keys, from + 7, values);
 }
 
 // Writes the value of the key at an index, whose first look was taken.
 #[inline(always)]
 fn get_one<C: Config>(
     raw: &RawTable<'_, C::EncodedKey, C::EncodedValue, C::H>,
-    look: &FirstLook,
+    look: FirstLook,
     keys: &[C::Key],
     index: usize,
     values: &mut [Option<C::Value>],
 )
     requires index { index < length keys.now }
     requires values { length values.old ≡ length keys.now }
-    requires look { IsLookAt ⟦<C as Coded>⟧.coding raw.now keys.now index look.now }
+    requires look { IsLookAt ⟦<C as Coded>⟧.coding raw.now keys.now index look }
     ensures { AreLookups ⟦<C as Coded>⟧.coding raw.now keys.now values.old index
         → AreLookups ⟦<C as Coded>⟧.coding raw.now keys.now values.new (index + 1) }
 {

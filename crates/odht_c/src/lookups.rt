@@ -22,7 +22,7 @@ pub(crate) fn look_up_all<C: Config>(
     let from = look_up_batches::<C>(raw, keys, values, found);
     for index in from..keys.len() {
         let look = look_at::<C>(raw, keys, index);
-        look_up_one::<C>(raw, &look, keys, index, values, found);
+        look_up_one::<C>(raw, look, keys, index, values, found);
     }
 }
 
@@ -71,21 +71,21 @@ fn look_up_eight<C: Config>(
     let sixth = look_at::<C>(raw, keys, from + 5);
     let seventh = look_at::<C>(raw, keys, from + 6);
     let eighth = look_at::<C>(raw, keys, from + 7);
-    look_up_one::<C>(raw, &first, keys, from, values, found);
-    look_up_one::<C>(raw, &second, keys, from + 1, values, found);
-    look_up_one::<C>(raw, &third, keys, from + 2, values, found);
-    look_up_one::<C>(raw, &fourth, keys, from + 3, values, found);
-    look_up_one::<C>(raw, &fifth, keys, from + 4, values, found);
-    look_up_one::<C>(raw, &sixth, keys, from + 5, values, found);
-    look_up_one::<C>(raw, &seventh, keys, from + 6, values, found);
-    look_up_one::<C>(raw, &eighth, keys, from + 7, values, found);
+    look_up_one::<C>(raw, first, keys, from, values, found);
+    look_up_one::<C>(raw, second, keys, from + 1, values, found);
+    look_up_one::<C>(raw, third, keys, from + 2, values, found);
+    look_up_one::<C>(raw, fourth, keys, from + 3, values, found);
+    look_up_one::<C>(raw, fifth, keys, from + 4, values, found);
+    look_up_one::<C>(raw, sixth, keys, from + 5, values, found);
+    look_up_one::<C>(raw, seventh, keys, from + 6, values, found);
+    look_up_one::<C>(raw, eighth, keys, from + 7, values, found);
 }
 
 // Looks up the key at an index, whose first look was taken.
 #[inline(always)]
 fn look_up_one<C: Config>(
     raw: &RawTable<'_, C::EncodedKey, C::EncodedValue, C::H>,
-    look: &FirstLook,
+    look: FirstLook,
     keys: &[C::Key],
     index: usize,
     values: &mut [C::Value],
@@ -94,7 +94,7 @@ fn look_up_one<C: Config>(
     requires index { index < length keys.now }
     requires values { length values.old ≡ length keys.now }
     requires found { length found.old ≡ length keys.now }
-    requires look { IsLookAt ⟦<C as Coded>⟧.coding raw.now keys.now index look.now }
+    requires look { IsLookAt ⟦<C as Coded>⟧.coding raw.now keys.now index look }
     ensures { let c = ⟦<C as Coded>⟧.coding
         in (first : List C.Value)
         → AreGot c raw.now keys.now first values.old found.old index

@@ -1,5 +1,6 @@
 -- Lookups of many keys, one after the other.
-use Rattle.std.proofs.Common.{◌≡◌, ◌<◌, ◌∙◌, ◌+◌, ◌⊎◌, inl, inr, ℕ, zero, suc, sym, ap, subst, refl, arith, List, [], ◌∷◌, Option, Some, IfSome, length, map, set, slice_get}
+use Rattle.std.proofs.Common.{◌≡◌, ◌<◌, ◌∙◌, ◌+◌, ◌⊎◌, inl, inr, ℕ, zero, suc, sym, ap, subst, refl, arith, List, [], ◌∷◌, Option, Some, None, IfSome, length, map, set, slice_get}
+use Rattle.std.specs.Prelude.{option_map}
 use Rattle.std.proofs.Math.Nat.{eq-or-lt_of_le}
 use Rattle.std.proofs.lemmas.Option.{slice_get_within}
 use Rattle.odht_base.proofs.lemmas.Options.{some_same}
@@ -81,3 +82,8 @@ eight_steps R n a b c d e f g h i first second third fourth fifth sixth seventh 
     let six : R g (n + 6) = subst (R g) (let at : n + 5 + 1 ≡ n + 6 = omega arith in at) (sixth five) in
     let seven : R h (n + 7) = subst (R h) (let at : n + 6 + 1 ≡ n + 7 = omega arith in at) (seventh six) in
     subst (R i) (let at : n + 7 + 1 ≡ n + 8 = omega arith in at) (eighth seven)
+
+-- two functions in turn
+pub option_map-twice : {X Y Z : Type 0} (f : X → Y) (h : Y → Z) (o : Option X) → option_map h (option_map f o) ≡ option_map (λ x. h (f x)) o
+option_map-twice f h None = refl
+option_map-twice f h (Some x) = refl

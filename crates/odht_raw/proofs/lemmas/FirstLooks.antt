@@ -25,15 +25,6 @@ use Rattle.odht_raw.proofs.lemmas.GroupLooks.{look_found, look_free}
 use Rattle.odht_raw.proofs.lemmas.GroupSearches.{stands-group}
 use Rattle.odht_raw.proofs.lemmas.Lookups.{answer-Free}
 
--- the first of a list is in it, and an empty list has none
-first_in : (xs : List ℕ) (x : ℕ) → Some x ≡ slice_get xs 0 → Contains xs x
-first_in [] x e = absurd (none-some x (sym e))
-first_in (y ∷ xs) x e = (0, omega arith, (let same : y ≡ x = cc in same))
-
-none_in : (xs : List ℕ) (x : ℕ) → None ≡ slice_get xs 0 → Contains xs x → ⊥
-none_in [] x e c = omega (arith, c.1)
-none_in (y ∷ xs) x e c = none-some y e
-
 module _ (F : Format) (T : TableParts) (k : List ℕ) (slots : IsSlotCount T.entries.slots) (mirrored : length T.control ≡ T.entries.slots + 16) (small : tag F k < 128) where
   abbrev home_slot : ℕ
   home_slot = home F k T.entries.slots
@@ -49,9 +40,12 @@ module _ (F : Format) (T : TableParts) (k : List ℕ) (slots : IsSlotCount T.ent
   report : IsReport (home_group F T k) (tag F k) (equal (home_group F T k) (tag F k))
   report = report_from_equal (home_group F T k) (tag F k) _ small refl
 
+  abbrev pub matches : List ℕ
+  matches = equal (home_group F T k) (tag F k)
+
   -- a match stands in the group
-  pub match-lt : (i : ℕ) → Some i ≡ slice_get (equal (home_group F T k) (tag F k)) 0 → i < 16
-  match-lt i e = omega (arith, (report.filled i (first_in _ i e)).0, length-home_group)
+  pub match-lt : (i : ℕ) → Contains matches i → i < 16
+  match-lt i c = omega (arith, (report.filled i c).0, length-home_group)
 
   module _ (P : Table) (f : IsFormat F) (h : IsPartsOf F P T.entries.bytes T.control) where
     -- the search begins at the group
@@ -62,15 +56,14 @@ module _ (F : Format) (T : TableParts) (k : List ℕ) (slots : IsSlotCount T.ent
         let first : place_slot home_slot T.entries.slots 0 ≡ home_slot = place_slot-group home_slot T.entries.slots 0 0 (omega arith) ∙ ap (λ x. x % T.entries.slots) sum ∙ mod-eq_of_lt {n = home_slot} {m = T.entries.slots} home-lt in
         stands-group F P T.entries T.control k f h mirrored 0 home_slot (omega arith) (omega arith) (sym first) (λ q l. absurd (omega arith))
 
-    -- a first match with the key ends it
-    pub first_look-found : (i : ℕ) → Some i ≡ slice_get (equal (home_group F T k) (tag F k)) 0 → slot_key F T.entries.bytes ((home_slot + i) % T.entries.slots) ≡ k
-        → Found ((home_slot + i) % T.entries.slots) ≡ answer F P.cells k
-    first_look-found i e same = (look_found F P T.entries k 0 home_slot (home_group F T k) f stands-home _ report i (first_in _ i e) same).0
+    -- a match whose entry has the key ends it
+    pub first_look-found : (i : ℕ) → Contains matches i → slot_key F T.entries.bytes ((home_slot + i) % T.entries.slots) ≡ k → Found ((home_slot + i) % T.entries.slots) ≡ answer F P.cells k
+    first_look-found i c same = (look_found F P T.entries k 0 home_slot (home_group F T k) f stands-home _ report i c same).0
 
-    -- and a free byte where there is no match: then the key is absent
-    pub first_look-absent : None ≡ slice_get (equal (home_group F T k) (tag F k)) 0 → is_some (first_free (home_group F T k)) ≡ true → map_of P k ≡ None
-    first_look-absent none free = go (first_free (home_group F T k)) refl free
+    -- and a free byte where no match has it: then the key is absent
+    pub first_look-absent : ((i : ℕ) → Contains matches i → slot_key F T.entries.bytes ((home_slot + i) % T.entries.slots) ≡ k → ⊥) → is_some (first_free (home_group F T k)) ≡ true → map_of P k ≡ None
+    first_look-absent others free = go (first_free (home_group F T k)) refl free
       where
         go : (o : Option ℕ) → first_free (home_group F T k) ≡ o → is_some o ≡ true → map_of P k ≡ None
         go None e some = absurd (true≢false (sym some))
-        go (Some i) e some = (answer-Free F P k h.placed _ (look_free F P T.entries k 0 home_slot (home_group F T k) f stands-home _ report (λ j c. absurd (none_in _ j none c)) i e).0).value
+        go (Some i) e some = (answer-Free F P k h.placed _ (look_free F P T.entries k 0 home_slot (home_group F T k) f stands-home _ report others i e).0).value

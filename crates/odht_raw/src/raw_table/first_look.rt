@@ -5,8 +5,9 @@ ghost use Rattle.odht_base.specs.Format.{format_of};
 ghost use Rattle.odht_base.specs.Map.{map_of};
 ghost use Rattle.odht_base.specs.Table.{Table};
 ghost use Rattle.odht_base.specs.Valid.{IsPartsOf};
+ghost use Rattle.odht_raw.specs.Answers.{answer};
 ghost use Rattle.odht_raw.specs.FirstLooks.{first_look_of};
-ghost use Rattle.odht_raw.specs.SearchEnds.{IsBesideKey};
+ghost use Rattle.odht_raw.specs.SearchEnds.{IsBesideKey, IsEnd};
 
 use super::{RawTable, Scan, Search, search_hashed, tag_of};
 use crate::bytes::ByteArray;
@@ -49,11 +50,11 @@ impl<'a, K: ByteArray, V: ByteArray, H: HashFn> RawTable<'a, K, V, H> {
 
     /// `find` of a key whose first look was taken.
     ///
-    /// It compares one key at most where the look tells the end, and else goes through the groups from the first on, so that
-    /// one is looked at twice.
+    /// The matches of the look are compared in turn. Where none holds the key and the group has no free byte, the search goes
+    /// through the groups from the first on, so that one is looked at twice.
     #[inline(always)]
-    pub fn find_from(&self, look: &FirstLook, key: &K) -> Option<V>
-        requires { look.now ≡ first_look_of (format_of K.LEN V.LEN H.hash) self.now (K.bytes key.now) }
+    pub fn find_from(&self, look: FirstLook, key: &K) -> Option<V>
+        requires { look ≡ first_look_of (format_of K.LEN V.LEN H.hash) self.now (K.bytes key.now) }
         ensures on_placed { (P : Table)
             → IsPartsOf (format_of K.LEN V.LEN H.hash) P self.now.entries.bytes self.now.control
             → result ≡ option_map V.of_bytes (map_of P (K.bytes key.now)) }
@@ -62,38 +63,35 @@ impl<'a, K: ByteArray, V: ByteArray, H: HashFn> RawTable<'a, K, V, H> {
     {
         let mask = self.entries.len() - 1;
         let home = look.hash as usize & mask;
-        match look.group.first_match() {
-            Some(index) => {
-                let slot = (home + index) & mask;
-                let entry = self.entries.get(slot);
-                if entry.key.equals(key) {
-                    return Some(entry.value);
-                }
+        let FirstLook { hash, mut group } = look;
+        'matches: while let Some(index) = group.first_match() {
+            let entry = self.entries.get((home + index) & mask);
+            if entry.key.equals(key) {
+                return Some(entry.value);
             }
-            None => {
-                if look.group.any_empty() {
-                    return None;
-                }
-            }
+            group.drop_match();
         }
-        self.find_far(key, look.hash)
-    }
-
-    // `find` from the first group on, where the first look does not tell the end.
-    #[inline(never)]
-    fn find_far(&self, key: &K, hash: u32) -> Option<V>
-        requires { hash ≡ H.hash (K.bytes key.now) }
-        ensures on_placed { (P : Table)
-            → IsPartsOf (format_of K.LEN V.LEN H.hash) P self.now.entries.bytes self.now.control
-            → result ≡ option_map V.of_bytes (map_of P (K.bytes key.now)) }
-        ensures on_any { IfSome result
-            (IsBesideKey (format_of K.LEN V.LEN H.hash) V.of_bytes self.now.entries (K.bytes key.now)) }
-    {
-        let mut scan = Scan::new(self.control, self.entries.len());
-        match search_hashed::<K, V, H, GroupQuery>(&mut scan, &self.entries, key, hash) {
+        if group.any_empty() {
+            return None;
+        }
+        match self.search_far(key, hash) {
             Search::Found(slot) => Some(self.entries.get(slot).value),
             Search::Free(_) => None,
             Search::Neither => None,
         }
+    }
+
+    // The search from its first group on, where its first look does not tell its end.
+    #[inline(never)]
+    fn search_far(&self, key: &K, hash: u32) -> Search
+        requires { hash ≡ H.hash (K.bytes key.now) }
+        ensures on_placed { (P : Table)
+            → IsPartsOf (format_of K.LEN V.LEN H.hash) P self.now.entries.bytes self.now.control
+            → result ≡ answer (format_of K.LEN V.LEN H.hash) P.cells (K.bytes key.now) }
+        ensures slot { let F = format_of K.LEN V.LEN H.hash
+            in IsEnd F self.now.entries self.now.control (K.bytes key.now) result }
+    {
+        let mut scan = Scan::new(self.control, self.entries.len());
+        search_hashed::<K, V, H, GroupQuery>(&mut scan, &self.entries, key, hash)
     }
 }
