@@ -11,3 +11,5 @@ pub mod Fillings
 pub mod Kept
 -- inserts in an insert order make a table again
 pub mod Rebuilding
+-- lookups of many keys
+pub mod Lookups

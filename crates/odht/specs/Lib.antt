@@ -7,3 +7,5 @@ pub mod Lists
 pub mod LastValues
 -- making a table again by inserts
 pub mod Rebuilds
+-- lookups of many keys
+pub mod Lookups

@@ -1,5 +1,5 @@
 //! The table over bytes of any kind.
-ghost use Rattle.std.specs.Prelude.{◌≡◌, ℕ, ◌/◌, ◌≤◌, ◌↔◌, length, take, option_map, IfOk, IfSome, IsOk, IsSome, IsNone, IsTrue, OnErr};
+ghost use Rattle.std.specs.Prelude.{◌≡◌, ℕ, ◌/◌, ◌≤◌, ◌↔◌, length, map, take, option_map, IfOk, IfSome, IsOk, IsSome, IsNone, IsTrue, OnErr};
 ghost use Rattle.std.specs.List.{slice_range};
 ghost use Rattle.std.specs.Result.{result_err};
 ghost use Rattle.odht_base.specs.Load.{factor_of, slots_for};
@@ -13,6 +13,7 @@ ghost use Rattle.odht_base.specs.Valid.{IsImage, IsPartsOf, IsValidBytes};
 ghost use Rattle.odht_raw.specs.Coding.{value_for, HasStored};
 ghost use Rattle.odht.specs.Lists.{encoded_all, IsFilled, IsFramedRun, IsRefusedAt, IsStoppedAt};
 ghost use Rattle.odht.specs.Inserts.{IsFresh, IsInserted};
+ghost use Rattle.odht.specs.Lookups.{HaveStored};
 ghost use Rattle.odht_raw.specs.Frame.{IsAccepted, IsFramed};
 ghost use Rattle.odht_raw.specs.Runs.{IsPlacedBelow};
 ghost use Rattle.odht_raw.specs.Walks.{decoded_all};
@@ -25,6 +26,7 @@ use crate::hash::HashFn;
 use crate::items::Items;
 use crate::iter::Iter;
 use crate::load::{Factor, max_item_count_for};
+use crate::lookups;
 use crate::memory_layout::{self, Allocation};
 use crate::raw_table::{RawIter, RawTable, Scan, Search, search_hashed, tag_of};
 use crate::swisstable_group_query::GroupQuery;
@@ -117,6 +119,22 @@ impl<C: Config, D: ByteStore> HashTable<C, D> {
             Some(value) => Some(C::decode_value(&value)),
             None => None,
         }
+    }
+
+    /// `get` of many keys: the value of each key is written to its index. The loads of eight keys overlap, so that many
+    /// lookups in a large table are faster than one `get` after the other.
+    ///
+    /// Each key is encoded twice, and hashed once. The group at its home is looked at twice where the first match there is
+    /// another key, or the group has no free byte.
+    #[inline]
+    pub fn get_all(&self, keys: &[C::Key], values: &mut [Option<C::Value>])
+        requires { length values.old ≡ length keys.now }
+        ensures on_valid { (P : Table)
+            → IsImage ⟦<C as Coded>⟧.coding.format P (D.bytes self.now)
+            → values.new ≡ map (value_for ⟦<C as Coded>⟧.coding P) keys.now }
+        ensures on_any { HaveStored ⟦<C as Coded>⟧.coding (D.bytes self.now) keys.now values.new }
+    {
+        lookups::get_all::<C>(&self.as_raw(), keys, values);
     }
 
     /// `get`, and how many groups of control bytes were looked at: on valid bytes those up to the first slot of the key's

@@ -31,6 +31,7 @@ use std::alloc::Global;
 use std::marker::Model;
 
 mod dump;
+mod get_all;
 mod insert_order;
 
 /// A table in memory of its own, which grows as it fills. Its bytes are always valid, and a contract speaks of it as of

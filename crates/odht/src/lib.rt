@@ -14,3 +14,4 @@ mod hash_table;
 mod hash_table_owned;
 mod iter;
 pub mod laws;
+pub mod lookups;

@@ -3,6 +3,8 @@
 pub mod Statuses
 -- the calls that read a table
 pub mod Reads
+-- lookups of many keys
+pub mod Lookups
 -- the call that looks for an order of inserts
 pub mod Orders
 -- the calls that make a table in bytes, and those that write to one

@@ -5,6 +5,7 @@ mod b16_u32;
 mod build;
 #[cfg(test)]
 mod check_tests;
+mod lookups;
 mod order;
 #[cfg(test)]
 mod order_tests;

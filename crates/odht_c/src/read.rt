@@ -5,6 +5,7 @@ ghost use Rattle.odht_raw.specs.Refusals.{opening_refusal, view_refusal, check_r
 ghost use Rattle.odht_c.specs.Statuses.{status_or_ok};
 ghost use Rattle.odht_c.specs.Reads.{GetAnswers, GetAllAnswers, LenAnswers, WalkAnswers};
 
+use crate::lookups::look_up_all;
 use crate::status::{ABSENT, OK, TOO_SMALL, status_of};
 use odht::bytes::Borrowed;
 use odht::config::{Coded, Config};
@@ -80,17 +81,7 @@ pub(crate) fn get_all<C: Config>(
         Ok(table) => table,
         Err(refused) => return status_of(&refused),
     };
-    let raw = table.as_raw();
-    for index in 0..keys.len() {
-        let key = C::encode_key(&keys[index]);
-        match raw.find(&key) {
-            Some(value) => {
-                values[index] = C::decode_value(&value);
-                found[index] = 1;
-            }
-            None => found[index] = 0,
-        }
-    }
+    look_up_all::<C>(&table.as_raw(), keys, values, found);
     OK
 }
 

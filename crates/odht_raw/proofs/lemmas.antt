@@ -49,6 +49,8 @@ pub mod GroupLooks
 pub mod GroupSearches
 -- a search for the first free slot
 pub mod FreeSearches
+-- the first look of a search
+pub mod FirstLooks
 -- a look at the mirror
 pub mod MirrorChecks
 -- the slots before a key's own, in its probe order

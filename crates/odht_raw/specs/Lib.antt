@@ -11,6 +11,8 @@ pub mod Answers
 pub mod ProbeSeqs
 -- a search at a place of the probe order
 pub mod Searches
+-- the first look of a search
+pub mod FirstLooks
 -- how large a new table is
 pub mod Layouts
 -- which bytes are refused as a table, and why

@@ -23,6 +23,7 @@ use std::marker::{Model, PhantomData};
 mod check;
 mod dump;
 mod entries;
+mod first_look;
 mod free_search;
 mod group_search;
 mod insert_order;
@@ -35,6 +36,7 @@ mod walk;
 mod writes;
 
 pub use entries::{Entries, Entry};
+pub use first_look::FirstLook;
 pub use group_search::{search, search_hashed};
 pub use outcome::Search;
 pub use plain::{plain_find, plain_insert};

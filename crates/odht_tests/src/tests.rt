@@ -9,6 +9,7 @@ mod full_tables;
 mod header_bytes;
 mod insert_orders;
 mod list_properties;
+mod lookups;
 mod lossless;
 mod owned_tables;
 mod probe_sequences;

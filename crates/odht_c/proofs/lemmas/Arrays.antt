@@ -1,6 +1,5 @@
 -- Arrays that are written from the front, element by element.
-use Rattle.std.specs.List.{slice_get}
-use Rattle.std.proofs.Common.{zero, Some, ◌≡◌, ◌<◌, ◌∙◌, ◌+◌, ◌++◌, sym, ap, refl, arith, ℕ, suc, List, [], ◌∷◌, drop, set, length, map}
+use Rattle.std.proofs.Common.{◌≡◌, ◌<◌, ◌∙◌, ◌+◌, ◌++◌, sym, ap, refl, arith, ℕ, suc, List, [], ◌∷◌, drop, set, length, map}
 use Rattle.std.proofs.lemmas.List.{length-map, map-append}
 
 -- one element more
@@ -21,17 +20,3 @@ set-next_of f ys old now y w n l e =
     ∙ set-next (map f ys) old (f y) (omega (arith, l, long))
     ∙ ap (λ m. (map f ys ++ f y ∷ []) ++ drop m old) next
     ∙ ap (λ xs. xs ++ drop (w + 1) old) (sym (map-append f ys (y ∷ [])))
-
--- what is written can be read
-pub slice_get-set_same : {X : Type 0} (xs : List X) (i : ℕ) (a : X) → i < length xs → slice_get (set xs i a) i ≡ Some a
-slice_get-set_same [] i a h = absurd (omega (arith, h))
-slice_get-set_same (x ∷ xs) zero a h = refl
-slice_get-set_same (x ∷ xs) (suc i) a h = slice_get-set_same xs i a (omega (arith, h))
-
--- and nothing else changes
-pub slice_get-set_other : {X : Type 0} (xs : List X) (i j : ℕ) (a : X) → (j ≡ i → ⊥) → slice_get (set xs i a) j ≡ slice_get xs j
-slice_get-set_other [] i j a h = refl
-slice_get-set_other (x ∷ xs) zero zero a h = absurd (h refl)
-slice_get-set_other (x ∷ xs) zero (suc j) a h = refl
-slice_get-set_other (x ∷ xs) (suc i) zero a h = refl
-slice_get-set_other (x ∷ xs) (suc i) (suc j) a h = slice_get-set_other xs i j a (λ e. h (ap suc e))

@@ -1,40 +1,26 @@
 -- Lookups of many keys, one after the other.
---     IsGotBy R key old f new   one key has an answer of which R tells
---     AreGot R ks old vs fs n   so have the first n keys
 --     Wrote o vs fs n vs' fs'   the answer o was written at n: to the values where there is one, and to what was found
-use Rattle.std.proofs.Common.{◌≡◌, ◌<◌, ◌∙◌, ◌+◌, ◌⊎◌, inl, inr, ℕ, sym, ap, subst, refl, arith, List, Option, Some, None, IfSome, length, set, slice_get}
-use Rattle.std.specs.Prelude.{option_map}
+use Rattle.std.proofs.Common.{◌≡◌, ◌<◌, ◌∙◌, ◌+◌, ◌⊎◌, inl, inr, ℕ, sym, ap, subst, arith, List, Option, Some, None, IfSome, length, set, slice_get}
 use Rattle.std.proofs.Math.Nat.{eq-or-lt_of_le}
 use Rattle.odht_base.specs.Format.{Format}
-use Rattle.odht_base.specs.Shown.{Stores, entries_of, stated_slots, slot_key, slot_value}
+use Rattle.odht_base.specs.Shown.{Stores, entries_of, stated_slots}
+use Rattle.odht_raw.specs.Coding.{Coding}
+use Rattle.odht_raw.specs.Parts.{EntryBytes, TableParts}
+use Rattle.odht_raw.specs.SearchEnds.{IsBesideKey}
+use Rattle.odht.specs.Lookups.{IsLookup}
+use Rattle.odht.proofs.lemmas.Lookups.{slice_get-set_same, slice_get-set_other, stored_beside}
+use Rattle.odht_c.specs.Lookups.{AreGot}
 use Rattle.odht_c.specs.Reads.{IsGotAt}
-use Rattle.odht_c.proofs.lemmas.Arrays.{slice_get-set_same, slice_get-set_other}
-
-abbrev pub IsGotBy : {K V : Type 0} → (K → Option V → Type 0) → K → Option V → Option ℕ → Option V → Type 0
-IsGotBy {V = V} R key old f new = (o : Option V) × IsGotAt o old f new × R key o
-
-abbrev pub AreGot : {K V : Type 0} → (K → Option V → Type 0) → List K → List V → List V → List ℕ → ℕ → Type 0
-AreGot {K = K} R ks old vs fs n = (i : ℕ) (key : K) → i < n → slice_get ks i ≡ Some key → IsGotBy R key (slice_get old i) (slice_get fs i) (slice_get vs i)
 
 abbrev pub Wrote : {V : Type 0} → Option V → List V → List ℕ → ℕ → List V → List ℕ → Type 0
 Wrote None vs fs n vs' fs' = (vs' ≡ vs) × (fs' ≡ set fs n 0)
 Wrote (Some v) vs fs n vs' fs' = (vs' ≡ set vs n v) × (fs' ≡ set fs n 1)
 
--- two functions in turn
-pub option_map-twice : {X Y Z : Type 0} (f : X → Y) (h : Y → Z) (o : Option X) → option_map h (option_map f o) ≡ option_map (λ x. h (f x)) o
-option_map-twice f h None = refl
-option_map-twice f h (Some x) = refl
-
--- what is found in the entries of bytes, decoded, is stored in them
-pub stored_answer : {EV V : Type 0} (of_bytes : List ℕ → EV) (decode : EV → V) (F : Format) (B k k' es : List ℕ) (s : ℕ) (o : Option EV) → es ≡ entries_of F B → s ≡ stated_slots B → k' ≡ k
-    → IfSome o (λ v. (i : ℕ) × (i < s) × (slot_key F es i ≡ k') × (v ≡ of_bytes (slot_value F es i)))
-    → IfSome (option_map decode o) (λ v. (b : List ℕ) × (v ≡ decode (of_bytes b)) × Stores F B k b)
-stored_answer of_bytes decode F B k k' es s None ee es' ek h = tt
-stored_answer of_bytes decode F B k k' es s (Some v) ee ss ek h = (
-  slot_value F (entries_of F B) h.0,
-  ap decode (h.3 ∙ ap (λ e. of_bytes (slot_value F e h.0)) ee),
-  (h.0, subst (λ n. h.0 < n) ss h.1, ap (λ e. slot_key F e h.0) (sym ee) ∙ h.2 ∙ ek, refl),
-)
+-- what is found beside a key in the entries of bytes is stored in them
+pub stored_answer : {V : Type 0} (F : Format) (f : List ℕ → V) (B k : List ℕ) (E : EntryBytes) (o : Option V) → E.bytes ≡ entries_of F B → E.slots ≡ stated_slots B
+    → IfSome o (IsBesideKey F f E k) → IfSome o (λ v. (b : List ℕ) × (v ≡ f b) × Stores F B k b)
+stored_answer F f B k E None es s h = tt
+stored_answer F f B k E (Some v) es s h = stored_beside F f B k E v es s h
 
 -- no other value changes
 pub other_values : {V : Type 0} (o : Option V) (vs vs' : List V) (fs fs' : List ℕ) (n i : ℕ) → Wrote o vs fs n vs' fs' → (i ≡ n → ⊥) → slice_get vs' i ≡ slice_get vs i
@@ -53,24 +39,23 @@ this_got None vs vs' fs fs' n old w lv lf e = (ap (λ xs. slice_get xs n) w.1 �
 this_got (Some v) vs vs' fs fs' n old w lv lf e = (ap (λ xs. slice_get xs n) w.1 ∙ slice_get-set_same fs n 1 lf, ap (λ xs. slice_get xs n) w.0 ∙ slice_get-set_same vs n v lv)
 
 -- with the n-th key too
-pub got-next : {K V : Type 0} (R : K → Option V → Type 0) (ks : List K) (k : K) (o : Option V) (old vs vs' : List V) (fs fs' : List ℕ) (n : ℕ)
-    → slice_get ks n ≡ Some k → n < length vs → n < length fs → slice_get vs n ≡ slice_get old n → Wrote o vs fs n vs' fs' → R k o
-    → AreGot R ks old vs fs n → AreGot R ks old vs' fs' (n + 1)
-got-next R ks k o old vs vs' fs fs' n at lv lf same w told got i key l is = go (eq-or-lt_of_le (omega (arith, l)))
-  where
-    earlier : i < n → IsGotBy R key (slice_get old i) (slice_get fs' i) (slice_get vs' i)
-    earlier h =
-        let d : i ≡ n → ⊥ = λ e. omega (arith, e, h) in
-        subst (λ x. IsGotBy R key (slice_get old i) (slice_get fs' i) x) (sym (other_values o vs vs' fs fs' n i w d))
-        (subst (λ x. IsGotBy R key (slice_get old i) x (slice_get vs i)) (sym (other_found o vs vs' fs fs' n i w d)) (got i key h is))
-
-    here : i ≡ n → IsGotBy R key (slice_get old i) (slice_get fs' i) (slice_get vs' i)
-    here e =
-        let both : Some k ≡ Some key = sym at ∙ ap (slice_get ks) (sym e) ∙ is in
-        let one : k ≡ key = cc in
-        subst (λ j. IsGotBy R key (slice_get old j) (slice_get fs' j) (slice_get vs' j)) (sym e)
-        (subst (λ x. IsGotBy R x (slice_get old n) (slice_get fs' n) (slice_get vs' n)) one (o, this_got o vs vs' fs fs' n (slice_get old n) w lv lf same, told))
-
-    go : (i ≡ n) ⊎ (i < n) → IsGotBy R key (slice_get old i) (slice_get fs' i) (slice_get vs' i)
-    go (inl e) = here e
-    go (inr h) = earlier h
+module _ {K V : Type 0} (c : Coding K V) (T : TableParts) (ks : List K) (old vs vs' : List V) (fs fs' : List ℕ) (n : ℕ) (o : Option V) where
+  pub got-next : n < length vs → n < length fs → Wrote o vs fs n vs' fs' → ((k : K) → slice_get ks n ≡ Some k → IsLookup c T k o)
+      → AreGot c T ks old vs fs n → AreGot c T ks old vs' fs' (n + 1)
+  got-next lv lf w this before = record {
+    got = λ i k l at. told i k at (eq-or-lt_of_le (omega (arith, l)));
+    rest = λ i l. other_values o vs vs' fs fs' n i w (λ e. omega (arith, e, l)) ∙ before.rest i (omega (arith, l));
+  }
+    where
+      told : (i : ℕ) (k : K) → slice_get ks i ≡ Some k → (i ≡ n) ⊎ (i < n) → (x : Option V) × IsGotAt x (slice_get old i) (slice_get fs' i) (slice_get vs' i) × IsLookup c T k x
+      told i k at (inl e) =
+          let here : IsGotAt o (slice_get old n) (slice_get fs' n) (slice_get vs' n) = this_got o vs vs' fs fs' n (slice_get old n) w lv lf (before.rest n (omega arith)) in
+          (o, subst (λ j. IsGotAt o (slice_get old j) (slice_get fs' j) (slice_get vs' j)) (sym e) here, this k (ap (slice_get ks) (sym e) ∙ at))
+      told i k at (inr h) =
+          let was = before.got i k h at in
+          let d : i ≡ n → ⊥ = λ e. omega (arith, e, h) in (
+            was.0,
+            subst (λ x. IsGotAt was.0 (slice_get old i) (slice_get fs' i) x) (sym (other_values o vs vs' fs fs' n i w d))
+                (subst (λ x. IsGotAt was.0 (slice_get old i) x (slice_get vs i)) (sym (other_found o vs vs' fs fs' n i w d)) was.1),
+            was.2,
+          )

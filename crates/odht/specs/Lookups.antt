@@ -1,0 +1,28 @@
+-- Lookups of many keys among the parts T of a table, each of them a first look and what ends it.
+--     IsLookAt c T ks i l     l is the first look of the search for key i of ks
+--     IsLookup c T k o        o is what the lookup of the key k answers: in a placed table the value for k, and in any parts
+--                             only one that stands beside this very key
+--     AreLookups c T ks os n  the first n of os are what the lookups of the first n of ks answer
+--     HaveStored c B ks os    each value of os is stored in the bytes B beside the key of ks at its index
+use Rattle.std.specs.Prelude.{◌≡◌, ◌<◌, ℕ, List, Option, Some, IfSome, slice_get}
+use Rattle.odht_base.specs.Table.{Table}
+use Rattle.odht_base.specs.Valid.{IsPartsOf}
+use Rattle.odht_raw.specs.Coding.{Coding, value_for, HasStored}
+use Rattle.odht_raw.specs.FirstLooks.{FirstLookOf, first_look_of}
+use Rattle.odht_raw.specs.Parts.{TableParts}
+use Rattle.odht_raw.specs.SearchEnds.{IsBesideKey}
+
+abbrev pub IsLookAt : {K V : Type 0} → Coding K V → TableParts → List K → ℕ → FirstLookOf → Type 0
+IsLookAt {K = K} c T ks i l = (k : K) → slice_get ks i ≡ Some k → l ≡ first_look_of c.format T (c.key_bytes k)
+
+pub record IsLookup {K V : Type 0} (c : Coding K V) (T : TableParts) (k : K) (o : Option V) : Type 0 where
+  pub on_placed : (P : Table) → IsPartsOf c.format P T.entries.bytes T.control → o ≡ value_for c P k
+  pub on_any : IfSome o (IsBesideKey c.format c.value_of T.entries (c.key_bytes k))
+
+abbrev pub AreLookups : {K V : Type 0} → Coding K V → TableParts → List K → List (Option V) → ℕ → Type 0
+AreLookups {K = K} {V = V} c T ks os n =
+    (i : ℕ) (k : K) → i < n → slice_get ks i ≡ Some k → (o : Option V) × (slice_get os i ≡ Some o) × IsLookup c T k o
+
+abbrev pub HaveStored : {K V : Type 0} → Coding K V → List ℕ → List K → List (Option V) → Type 0
+HaveStored {K = K} {V = V} c B ks os =
+    (i : ℕ) (k : K) (v : V) → slice_get ks i ≡ Some k → slice_get os i ≡ Some (Some v) → HasStored c B k v

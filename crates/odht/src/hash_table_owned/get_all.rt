@@ -1,0 +1,22 @@
+//! Lookups of many keys in a table that grows.
+ghost use Rattle.std.specs.Prelude.{◌≡◌, length, map};
+ghost use Rattle.odht_base.specs.Table.{Table};
+ghost use Rattle.odht_base.specs.Valid.{IsImage};
+ghost use Rattle.odht_raw.specs.Coding.{value_for};
+
+use super::HashTableOwned;
+use crate::config::{Coded, Config};
+
+impl<C: Config> HashTableOwned<C> {
+    /// `get` of many keys: the value of each key is written to its index. The loads of eight keys overlap, so that many
+    /// lookups in a large table are faster than one `get` after the other. It costs what that of [`HashTable`] does.
+    #[inline]
+    pub fn get_all(&self, keys: &[C::Key], values: &mut [Option<C::Value>])
+        requires { length values.old ≡ length keys.now }
+        ensures { (P : Table)
+            → IsImage ⟦<C as Coded>⟧.coding.format P self.now
+            → values.new ≡ map (value_for ⟦<C as Coded>⟧.coding P) keys.now }
+    {
+        self.table.get_all(keys, values);
+    }
+}

@@ -1,0 +1,126 @@
+//! Lookups of many keys. The first looks of eight are taken before the first search is ended, so that the control bytes of
+//! all are on their way from memory at once.
+ghost use Rattle.std.specs.Prelude.{◌≡◌, ◌+◌, ◌≤◌, ◌<◌, length, slice_get, Some};
+ghost use Rattle.odht.specs.Lookups.{IsLookAt, IsLookup, AreLookups};
+
+use crate::config::{Coded, Config};
+use crate::raw_table::{FirstLook, RawTable};
+
+/// How many first looks are taken at once.
+pub const BATCH: usize = 8;
+
+/// The first look of the search for the key at an index, which [`find_at`] goes on with.
+#[inline(always)]
+pub fn look_at<C: Config>(
+    raw: &RawTable<'_, C::EncodedKey, C::EncodedValue, C::H>,
+    keys: &[C::Key],
+    index: usize,
+) -> FirstLook
+    requires { index < length keys.now }
+    ensures { IsLookAt ⟦<C as Coded>⟧.coding raw.now keys.now index result }
+{
+    raw.first_look(&C::encode_key(&keys[index]))
+}
+
+/// The value of the key at an index, whose first look was taken. The key is encoded once more.
+#[inline(always)]
+pub fn find_at<C: Config>(
+    raw: &RawTable<'_, C::EncodedKey, C::EncodedValue, C::H>,
+    look: FirstLook,
+    keys: &[C::Key],
+    index: usize,
+) -> Option<C::Value>
+    requires index { index < length keys.now }
+    requires look { IsLookAt ⟦<C as Coded>⟧.coding raw.now keys.now index look }
+    ensures { (k : C.Key) → slice_get keys.now index ≡ Some k → IsLookup ⟦<C as Coded>⟧.coding raw.now k result }
+{
+    let key = C::encode_key(&keys[index]);
+    match raw.find_from(look, &key) {
+        Some(value) => Some(C::decode_value(&value)),
+        None => None,
+    }
+}
+
+/// Writes the value of each key to its index, eight lookups at a time and then the rest.
+#[inline]
+pub(crate) fn get_all<C: Config>(
+    raw: &RawTable<'_, C::EncodedKey, C::EncodedValue, C::H>,
+    keys: &[C::Key],
+    values: &mut [Option<C::Value>],
+)
+    requires { length values.old ≡ length keys.now }
+    ensures { AreLookups ⟦<C as Coded>⟧.coding raw.now keys.now values.new (length keys.now) }
+{
+    let from = get_batches::<C>(raw, keys, values);
+    for index in from..keys.len() {
+        let look = look_at::<C>(raw, keys, index);
+        get_one::<C>(raw, look, keys, index, values);
+    }
+}
+
+// Writes the values of as many keys as fill batches, and answers how many these are.
+#[inline(always)]
+fn get_batches<C: Config>(
+    raw: &RawTable<'_, C::EncodedKey, C::EncodedValue, C::H>,
+    keys: &[C::Key],
+    values: &mut [Option<C::Value>],
+) -> usize
+    requires { length values.old ≡ length keys.now }
+    ensures within { result ≤ length keys.now }
+    ensures answers { AreLookups ⟦<C as Coded>⟧.coding raw.now keys.now values.new result }
+{
+    let batches = keys.len() / BATCH;
+    for batch in 0..batches {
+        get_eight::<C>(raw, keys, batch * BATCH, values);
+    }
+    batches * BATCH
+}
+
+// Writes the values of the eight keys from an index on. Written out, the looks stay in registers.
+#[inline(always)]
+fn get_eight<C: Config>(
+    raw: &RawTable<'_, C::EncodedKey, C::EncodedValue, C::H>,
+    keys: &[C::Key],
+    from: usize,
+    values: &mut [Option<C::Value>],
+)
+    requires within { from + 8 ≤ length keys.now }
+    requires values { length values.old ≡ length keys.now }
+    ensures { AreLookups ⟦<C as Coded>⟧.coding raw.now keys.now values.old from
+        → AreLookups ⟦<C as Coded>⟧.coding raw.now keys.now values.new (from + 8) }
+{
+    let first = look_at::<C>(raw, keys, from);
+    let second = look_at::<C>(raw, keys, from + 1);
+    let third = look_at::<C>(raw, keys, from + 2);
+    let fourth = look_at::<C>(raw, keys, from + 3);
+    let fifth = look_at::<C>(raw, keys, from + 4);
+    let sixth = look_at::<C>(raw, keys, from + 5);
+    let seventh = look_at::<C>(raw, keys, from + 6);
+    let eighth = look_at::<C>(raw, keys, from + 7);
+    get_one::<C>(raw, first, keys, from, values);
+    get_one::<C>(raw, second, keys, from + 1, values);
+    get_one::<C>(raw, third, keys, from + 2, values);
+    get_one::<C>(raw, fourth, keys, from + 3, values);
+    get_one::<C>(raw, fifth, keys, from + 4, values);
+    get_one::<C>(raw, sixth, keys, from + 5, values);
+    get_one::<C>(raw, seventh, keys, from + 6, values);
+    get_one::<C>(raw, eighth, keys, from + 7, values);
+}
+
+// Writes the value of the key at an index, whose first look was taken.
+#[inline(always)]
+fn get_one<C: Config>(
+    raw: &RawTable<'_, C::EncodedKey, C::EncodedValue, C::H>,
+    look: FirstLook,
+    keys: &[C::Key],
+    index: usize,
+    values: &mut [Option<C::Value>],
+)
+    requires index { index < length keys.now }
+    requires values { length values.old ≡ length keys.now }
+    requires look { IsLookAt ⟦<C as Coded>⟧.coding raw.now keys.now index look }
+    ensures { AreLookups ⟦<C as Coded>⟧.coding raw.now keys.now values.old index
+        → AreLookups ⟦<C as Coded>⟧.coding raw.now keys.now values.new (index + 1) }
+{
+    values[index] = find_at::<C>(raw, look, keys, index);
+}

@@ -1,0 +1,125 @@
+use Rattle.std.proofs.Common.{◌≡◌, ◌∙◌, ◌+◌, ◌-◌, ◌%◌, ◌<◌, ℕ, List, bit_and, slice_get, length, sym, ap, subst, arith, Some, Contains, true≢false}
+use Rattle.odht_base.specs.Format.{Format, IsFormat, format_of, home, tag}
+use Rattle.odht_base.specs.Groups.{equal, first_free}
+use Rattle.odht_base.specs.Load.{IsSlotCount}
+use Rattle.odht_base.specs.Shown.{slot_key, slot_value}
+use Rattle.std.specs.Prelude.{option_map, is_some}
+use Rattle.odht_base.proofs.lemmas.SlotCounts.{bit_and-slots, few_slots}
+use Rattle.odht_raw.specs.FirstLooks.{FirstLookOf, first_look_of, home_group}
+use Rattle.odht_raw.specs.Parts.{TableParts}
+use Rattle.odht_base.specs.Valid.{IsPartsOf}
+use Rattle.odht_raw.proofs.lemmas.GroupLooks.{taken-first, taken-next, taken-all}
+use Rattle.odht_raw.proofs.lemmas.Inserts.{found_value}
+use Rattle.odht_raw.proofs.lemmas.Lookups.{answer-Found, answer-Free, answer-Neither}
+use Rattle.odht_raw.proofs.lemmas.Formats.{IsFormat-format_of}
+use Rattle.odht_raw.proofs.lemmas.FirstLooks.{matches, home-lt, match-lt, first_look-found, first_look-absent}
+use Rattle.odht_raw.proofs.raw_table.RawTable.find_from.Given.{Over}
+use Rattle.odht_raw.proofs.raw_table.RawTable.find_from.Goals.{After-first_match}
+use Rattle.odht_raw.proofs.raw_table.RawTable.find_from.Goals as goal
+
+abbrev format : Over → Format
+format g = format_of g.K.ByteArray.LEN g.V.ByteArray.LEN g.H.HashFn.hash
+
+-- what the look tells of the table and the key
+module _ (g : Over) (c : After-first_match g) where
+  abbrev T : TableParts
+  T = c.args.self.now
+
+  abbrev k : List ℕ
+  k = g.K.ByteArray.bytes c.args.key.now
+
+  count : IsSlotCount T.entries.slots
+  count = subst (λ (t : TableParts). IsSlotCount t.entries.slots) c.self.view_is c.self.invariant.slots
+
+  mirrored : length T.control ≡ T.entries.slots + 16
+  mirrored = subst (λ (t : TableParts). length t.control ≡ t.entries.slots + 16) c.self.view_is c.self.invariant.mirrored
+
+  fits : IsFormat (format g)
+  fits =
+      let v = c.self.invariant in
+      IsFormat-format_of _ _ _ _ v.fitting.key_short v.fitting.value_short v.hashes g.met.H.HashFn.fits
+
+  seen : record { hash = c.look.inside.hash; matches = c.look.inside.group.matches; free = c.look.inside.group.free } ≡ first_look_of (format g) T k
+  seen = c.look.view_is ∙ c.requires
+
+  hash : c.look.inside.hash ≡ (format g).hash k
+  hash = ap (λ (l : FirstLookOf). l.hash) seen
+
+  small : tag (format g) k < 128
+  small = omega (arith, hash)
+
+  slots : c.len-mask.result ≡ T.entries.slots
+  slots = c.len-mask.ensures ∙ ap (λ (t : TableParts). t.entries.slots) c.self.view_is
+
+  at_home : bit_and c.look.inside.hash (c.len-mask.result - 1) ≡ home (format g) k T.entries.slots
+  at_home = ap (λ n. bit_and c.look.inside.hash (n - 1)) slots ∙ bit_and-slots c.look.inside.hash T.entries.slots count ∙ ap (λ x. x % T.entries.slots) hash
+
+  -- the slot of a place of the group
+  masked : (i : ℕ) → bit_and (bit_and c.look.inside.hash (c.len-mask.result - 1) + i) (c.len-mask.result - 1) ≡ (home (format g) k T.entries.slots + i) % T.entries.slots
+  masked i = ap (λ n. bit_and (n + i) (c.len-mask.result - 1)) at_home ∙ ap (λ n. bit_and (home (format g) k T.entries.slots + i) (n - 1)) slots ∙ bit_and-slots (home (format g) k T.entries.slots + i) T.entries.slots count
+
+  listed : c.look.inside.group.matches ≡ matches (format g) T k count mirrored small
+  listed = ap (λ (l : FirstLookOf). l.matches) seen
+
+  free : c.look.inside.group.free ≡ first_free (home_group (format g) T k)
+  free = ap (λ (l : FirstLookOf). l.free) seen
+
+  -- the match that comes next
+  next : (i : ℕ) → Some i ≡ slice_get c.matches.group.matches 0 → Contains (matches (format g) T k count mirrored small) i
+  next i e = subst (λ xs. Contains xs i) listed (taken-first _ _ _ i c.matches.invariant.taken e)
+
+pub overflow_add-home : goal.overflow_add-home
+overflow_add-home g c =
+    let at = (goal.at.overflow_add-home g c).After-first_match in
+    let few = few_slots c.args.self.now.entries.slots (count g at) in
+    let low = home-lt (format g) (T g at) (k g at) (count g at) (mirrored g at) (small g at) in
+    let index = match-lt (format g) (T g at) (k g at) (count g at) (mirrored g at) (small g at) c.in-Some.index (next g at c.in-Some.index (sym c.in-Some.is ∙ c.first_match.ensures)) in
+    omega (arith, at_home g at, few, low, index)
+
+pub returns-then-equals-clause-on_placed : goal.returns-then-equals-clause-on_placed
+returns-then-equals-clause-on_placed g c P h =
+    let at = (goal.at.returns-then-equals-clause-on_placed g c).After-first_match in
+    let F = format g in
+    let i : ℕ = c.in-Some.index in
+    let slot : ℕ = bit_and (bit_and c.look.inside.hash (c.len-mask.result - 1) + i) (c.len-mask.result - 1) in
+    let key = c.get-entry.ensures.key_bytes ∙ ap (λ (t : TableParts). slot_key F t.entries.bytes slot) c.self.view_is ∙ ap (slot_key F c.args.self.now.entries.bytes) (masked g at i) in
+    let found = first_look-found F (T g at) (k g at) (count g at) (mirrored g at) (small g at) P (fits g at) h i (next g at i (sym c.in-Some.is ∙ c.first_match.ensures)) (sym key ∙ c.equals.ensures.0 c.if-equals.true) in
+    let there = answer-Found F P (k g at) h.placed _ found in
+    let value = c.get-entry.ensures.value ∙ ap (λ (t : TableParts). g.V.ByteArray.of_bytes (slot_value F t.entries.bytes slot)) c.self.view_is
+    ∙ ap (λ n. g.V.ByteArray.of_bytes (slot_value F c.args.self.now.entries.bytes n)) (masked g at i) ∙ ap g.V.ByteArray.of_bytes (found_value F P _ _ h (k g at) _ there) in
+    ap Some value ∙ sym (ap (option_map g.V.ByteArray.of_bytes) there.value)
+
+pub matches-preserved : goal.matches-preserved
+matches-preserved g c =
+    let at = (goal.at.matches-preserved g c).After-first_match in
+    let F = format g in
+    let i : ℕ = c.in-Some.index in
+    let slot : ℕ = bit_and (bit_and c.look.inside.hash (c.len-mask.result - 1) + i) (c.len-mask.result - 1) in
+    let key = c.get-entry.ensures.key_bytes ∙ ap (λ (t : TableParts). slot_key F t.entries.bytes slot) c.self.view_is ∙ ap (slot_key F c.args.self.now.entries.bytes) (masked g at i) in
+    record {
+      same = c.drop_match.ensures.free ∙ c.matches.invariant.same;
+      taken = taken-next _ _ _ _ i c.matches.invariant.taken (sym c.in-Some.is ∙ c.first_match.ensures) c.drop_match.ensures.rest
+          (λ e. true≢false (sym (c.equals.ensures.1 (key ∙ e)) ∙ c.if-equals.false));
+    }
+
+pub returns-then-any_empty-clause-on_placed : goal.returns-then-any_empty-clause-on_placed
+returns-then-any_empty-clause-on_placed g c P h =
+    let at = (goal.at.returns-then-any_empty-clause-on_placed g c).After-first_match in
+    let taken = taken-all _ _ _ c.matches.invariant.taken (sym c.in_default.is ∙ c.first_match.ensures) in
+    let others = λ (i : ℕ) (m : Contains (matches (format g) (T g at) (k g at) (count g at) (mirrored g at) (small g at)) i). taken i (subst (λ xs. Contains xs i) (sym (listed g at)) m) in
+    let some = ap is_some (sym (free g at)) ∙ ap is_some (sym c.matches.invariant.same) ∙ sym c.any_empty.ensures ∙ c.if-any_empty.true in
+    sym (ap (option_map g.V.ByteArray.of_bytes) (first_look-absent (format g) (T g at) (k g at) (count g at) (mirrored g at) (small g at) P (fits g at) h others some))
+
+pub returns-in-Found-clause-on_placed : goal.returns-in-Found-clause-on_placed
+returns-in-Found-clause-on_placed g c P h =
+    let F = format g in
+    let k : List ℕ = g.K.ByteArray.bytes c.args.key.now in
+    let parts = subst (λ (t : TableParts). IsPartsOf F P t.entries.bytes t.control) (sym c.self.view_is) h in
+    let at = answer-Found F P k h.placed c.in-Found.slot (c.in-Found.ensures.on_placed P h) in
+    ap Some (c.get.ensures.value ∙ ap g.V.ByteArray.of_bytes (found_value F P _ _ parts k c.in-Found.slot at)) ∙ sym (ap (option_map g.V.ByteArray.of_bytes) at.value)
+
+pub returns-in-Free-clause-on_placed : goal.returns-in-Free-clause-on_placed
+returns-in-Free-clause-on_placed g c P h = sym (ap (option_map g.V.ByteArray.of_bytes) (answer-Free (format g) P _ h.placed _ (c.in-Free.ensures.on_placed P h)).value)
+
+pub returns-in-Neither-clause-on_placed : goal.returns-in-Neither-clause-on_placed
+returns-in-Neither-clause-on_placed g c P h = sym (ap (option_map g.V.ByteArray.of_bytes) (answer-Neither (format g) P _ h.placed (c.in-Neither.ensures.on_placed P h)).value)

@@ -1,0 +1,97 @@
+//! The first look of a search. Who looks up many keys takes the first looks of some before the first search is ended, so
+//! that what is read of memory for one need not wait for another.
+ghost use Rattle.std.specs.Prelude.{◌≡◌, option_map, IfSome};
+ghost use Rattle.odht_base.specs.Format.{format_of};
+ghost use Rattle.odht_base.specs.Map.{map_of};
+ghost use Rattle.odht_base.specs.Table.{Table};
+ghost use Rattle.odht_base.specs.Valid.{IsPartsOf};
+ghost use Rattle.odht_raw.specs.Answers.{answer};
+ghost use Rattle.odht_raw.specs.FirstLooks.{first_look_of};
+ghost use Rattle.odht_raw.specs.SearchEnds.{IsBesideKey, IsEnd};
+
+use super::{RawTable, Scan, Search, search_hashed, tag_of};
+use crate::bytes::ByteArray;
+use crate::hash::HashFn;
+use crate::swisstable_group_query::{Group, GroupQuery, REFERENCE_GROUP_SIZE, lanes};
+use std::marker::Model;
+
+/// The hash of a key, and what the group of control bytes at its home shows: the matches of its tag, and the first byte that
+/// counts as free. It is of the table and the key that it was taken of.
+#[derive(Drop)]
+pub struct FirstLook {
+    hash: u32,
+    group: lanes::GroupQuery,
+}
+
+impl Model for FirstLook {
+    ghost use Rattle.odht_raw.specs.FirstLooks.{FirstLookOf};
+
+    ghost Value = { FirstLookOf };
+
+    ghost view = { λ l. record { hash = l.hash; matches = l.group.matches; free = l.group.free } };
+}
+
+impl<'a, K: ByteArray, V: ByteArray, H: HashFn> RawTable<'a, K, V, H> {
+    /// The first look of the search for a key, which [`RawTable::find_from`] goes on with. It hashes the key and reads one
+    /// group of control bytes, and no entry.
+    #[inline(always)]
+    pub fn first_look(&self, key: &K) -> FirstLook
+        ensures { result ≡ first_look_of (format_of K.LEN V.LEN H.hash) self.now (K.bytes key.now) }
+    {
+        let mask = self.entries.len() - 1;
+        let hash = H::hash(key.as_slice());
+        let home = hash as usize & mask;
+        let bytes = &self.control[home..home + REFERENCE_GROUP_SIZE];
+        FirstLook {
+            hash,
+            group: lanes::GroupQuery::of(bytes, tag_of(hash)),
+        }
+    }
+
+    /// `find` of a key whose first look was taken.
+    ///
+    /// The matches of the look are compared in turn. Where none holds the key and the group has no free byte, the search goes
+    /// through the groups from the first on, so that one is looked at twice.
+    #[inline(always)]
+    pub fn find_from(&self, look: FirstLook, key: &K) -> Option<V>
+        requires { look ≡ first_look_of (format_of K.LEN V.LEN H.hash) self.now (K.bytes key.now) }
+        ensures on_placed { (P : Table)
+            → IsPartsOf (format_of K.LEN V.LEN H.hash) P self.now.entries.bytes self.now.control
+            → result ≡ option_map V.of_bytes (map_of P (K.bytes key.now)) }
+        ensures on_any { IfSome result
+            (IsBesideKey (format_of K.LEN V.LEN H.hash) V.of_bytes self.now.entries (K.bytes key.now)) }
+    {
+        let mask = self.entries.len() - 1;
+        let home = look.hash as usize & mask;
+        let FirstLook { hash, mut group } = look;
+        'matches: while let Some(index) = group.first_match() {
+            let entry = self.entries.get((home + index) & mask);
+            if entry.key.equals(key) {
+                return Some(entry.value);
+            }
+            group.drop_match();
+        }
+        if group.any_empty() {
+            return None;
+        }
+        match self.search_far(key, hash) {
+            Search::Found(slot) => Some(self.entries.get(slot).value),
+            Search::Free(_) => None,
+            Search::Neither => None,
+        }
+    }
+
+    // The search from its first group on, where its first look does not tell its end.
+    #[inline(never)]
+    fn search_far(&self, key: &K, hash: u32) -> Search
+        requires { hash ≡ H.hash (K.bytes key.now) }
+        ensures on_placed { (P : Table)
+            → IsPartsOf (format_of K.LEN V.LEN H.hash) P self.now.entries.bytes self.now.control
+            → result ≡ answer (format_of K.LEN V.LEN H.hash) P.cells (K.bytes key.now) }
+        ensures slot { let F = format_of K.LEN V.LEN H.hash
+            in IsEnd F self.now.entries self.now.control (K.bytes key.now) result }
+    {
+        let mut scan = Scan::new(self.control, self.entries.len());
+        search_hashed::<K, V, H, GroupQuery>(&mut scan, &self.entries, key, hash)
+    }
+}
