@@ -13,4 +13,7 @@ mod status;
 #[cfg(test)]
 mod tests;
 mod u64_u32;
+mod view;
+#[cfg(test)]
+mod view_tests;
 mod write;
