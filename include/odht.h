@@ -22,8 +22,9 @@
  * - Nobody writes a table's bytes while a call reads them, and nobody reads
  *   them while a call writes them. The library keeps nothing between calls, so
  *   any number of threads may read one table.
- * - Every call answers a status, an enum odht_status. The places behind the
- *   pointers to results are written only where the comment says so.
+ * - Every call answers a status, an enum odht_status, but odht_*_view_len. The
+ *   places behind the pointers to results are written only where the comment says
+ *   so.
  * - Where arrays of different lengths are given that should be equally long,
  *   the answer is ODHT_BAD_LENGTHS, and nothing else is looked at.
  *
@@ -140,6 +141,46 @@ static inline const char *odht_status_name(uint32_t status)
     }
 }
 
+/* ---- Opened tables ----
+ *
+ * Each other call on the bytes of a table looks at their header and their
+ * length first. A caller with many lookups can open the bytes once, keep the
+ * view, and look up in it: odht_*_view_get, odht_*_view_get_all and
+ * odht_*_view_len look at no header and refuse no bytes.
+ *
+ * A view is the pointer and the length of the bytes, and no secret. It copies
+ * nothing, and there is nothing to close; it may be copied, and any number of
+ * threads may look up in it, as in the bytes. A variable begins as
+ *
+ *     odht_view view = ODHT_NO_VIEW;
+ *
+ * What a caller has to uphold for a view that it passes to a lookup, since the
+ * library does not find it out:
+ *
+ * - odht_*_open_view of the same kind of table has filled it, and answered
+ *   ODHT_OK. (A view may be filled by hand too, with bytes that odht_*_open or
+ *   odht_*_check has answered ODHT_OK of.)
+ * - The bytes are still where they were.
+ * - Their header and their length have not changed since but by calls of this
+ *   library for the same kind of table. These keep a view good: it finds what
+ *   odht_*_insert and odht_*_insert_all have inserted into its bytes since. So a
+ *   file that others can write is no place for the bytes of a view.
+ *
+ * Otherwise the lookup may read anywhere and answer anything, or the program may
+ * stop, as with any wrong pointer in C. Everything else about the bytes is as
+ * told above: also where slots are damaged, no lookup reads beyond them.
+ *
+ * odht_*_open_view writes the view that it is given, and does not look at it. That
+ * view must be one, though: ODHT_NO_VIEW, or one whose bytes are still there.
+ */
+typedef struct odht_view {
+    const uint8_t *bytes;
+    size_t len;
+} odht_view;
+
+/* A view of no bytes: in no table, so not to be looked up in. */
+#define ODHT_NO_VIEW { (const uint8_t *)"", 0 }
+
 /* ---- Keys of 64 bits, values of 32 bits, FxHashFn ---- */
 
 /*
@@ -165,7 +206,7 @@ uint32_t odht_u64_u32_init(uint8_t *bytes, size_t bytes_len, size_t max_item_cou
  * Asks whether bytes can be used as a table: looks at the header, the length
  * and the first ten slots, so it takes equally long for every table. Opening
  * is a question and not a duty: each call below looks at the header and the
- * length itself.
+ * length itself, but for the lookups in a view.
  * OK: calls can be made on them; slots from the eleventh on were not looked at.
  * A refusal, 1 to 9.
  */
@@ -242,6 +283,34 @@ uint32_t odht_u64_u32_len(const uint8_t *bytes, size_t bytes_len, size_t *count)
  */
 uint32_t odht_u64_u32_walk(const uint8_t *bytes, size_t bytes_len, uint64_t *keys, size_t keys_len,
                            uint32_t *values, size_t values_len, size_t *count);
+
+/*
+ * Opens bytes as odht_u64_u32_open does, to look up in them often: "Opened tables"
+ * above tells what to uphold of a view.
+ * OK: *view is the view of the bytes. A refusal, 1 to 9. *view is written with OK
+ * alone.
+ */
+uint32_t odht_u64_u32_open_view(const uint8_t *bytes, size_t bytes_len, odht_view *view);
+
+/*
+ * Looks a key up in an opened table.
+ * OK: the key is there, and *value is its value. ABSENT: it is not there.
+ * *value is written with OK alone.
+ */
+uint32_t odht_u64_u32_view_get(const odht_view *view, uint64_t key, uint32_t *value);
+
+/*
+ * Looks keys_len keys up in an opened table.
+ * OK: for each i, found[i] is 1 and values[i] is the value of keys[i], or found[i]
+ * is 0 and values[i] is as it was. BAD_LENGTHS: the three lengths are not equal,
+ * and both arrays stay.
+ */
+uint32_t odht_u64_u32_view_get_all(const odht_view *view, const uint64_t *keys, size_t keys_len,
+                                   uint32_t *values, size_t values_len, uint8_t *found,
+                                   size_t found_len);
+
+/* The number of items of an opened table, as the header states it: the answer itself. */
+size_t odht_u64_u32_view_len(const odht_view *view);
 
 /*
  * Asks whether inserts can make the table, and in which order. Its pairs, inserted
@@ -330,6 +399,21 @@ uint32_t odht_b16_u32_len(const uint8_t *bytes, size_t bytes_len, size_t *count)
    more. BAD_LENGTHS, or a refusal, 1 to 7: the arrays and *count stay. */
 uint32_t odht_b16_u32_walk(const uint8_t *bytes, size_t bytes_len, uint8_t (*keys)[16],
                            size_t keys_len, uint32_t *values, size_t values_len, size_t *count);
+
+/* OK: *view is the view of the bytes. A refusal, 1 to 9: it stays. */
+uint32_t odht_b16_u32_open_view(const uint8_t *bytes, size_t bytes_len, odht_view *view);
+
+/* OK: *value is the value. ABSENT: it stays. */
+uint32_t odht_b16_u32_view_get(const odht_view *view, const uint8_t key[16], uint32_t *value);
+
+/* OK: found[i] is 1 and values[i] the value, or found[i] is 0 and values[i] as it was.
+   BAD_LENGTHS: both arrays stay. */
+uint32_t odht_b16_u32_view_get_all(const odht_view *view, const uint8_t (*keys)[16],
+                                   size_t keys_len, uint32_t *values, size_t values_len,
+                                   uint8_t *found, size_t found_len);
+
+/* The number of items. */
+size_t odht_b16_u32_view_len(const odht_view *view);
 
 /* OK: out holds the slots that hold a pair, in an order of inserts. UNMADE: no inserts make the
    table, and the numbers in out say nothing. BAD_LENGTHS, or a refusal, 1 to 16: out stays. */

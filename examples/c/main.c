@@ -18,6 +18,7 @@
 #include "odht.h"
 #include "orders.h"
 #include "say.h"
+#include "views.h"
 
 enum { PAIRS = 40, PERCENT = 87, LENGTH = 880, KEY_LENGTH = 16 };
 
@@ -258,6 +259,7 @@ static void byte_keys(void)
     insert_bytes(bytes, sizeof bytes, keys, values);
     look_up_bytes(bytes, sizeof bytes, keys);
     walk_bytes(bytes, sizeof bytes);
+    insert_behind_view(bytes, sizeof bytes, keys[5]);
     say("insert_all 6 to 600 until 9 to 900",
         odht_b16_u32_insert_all(bytes, sizeof bytes, keys + 5, 4, values + 5, 4, &accepted));
     printf(", %zu accepted\n", accepted);
@@ -346,6 +348,7 @@ int main(int count, char **arguments)
     const uint8_t *bytes = map(arguments[1], &length);
     printf("stored %d bytes, there are %zu bytes\n", LENGTH, length);
     look_up(bytes, length);
+    look_up_in_view(bytes, length);
     walk(bytes, length);
     build(bytes);
     fill_to_the_maximum();

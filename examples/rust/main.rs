@@ -111,6 +111,27 @@ fn look_up(bytes: &[u8]) {
     say_found("get_all 1 41 40 0", answer, &found, &values);
 }
 
+fn say_view_value(key: u64, found: Option<u32>) {
+    print!("view_");
+    say_value(key, Ok(found));
+}
+
+/// Opens the table once, and looks keys up in the view.
+fn look_up_in_view(bytes: &[u8]) {
+    let opened = u64_u32::View::open(bytes);
+    say("open_view", opened);
+    let view = opened.expect("the table opens");
+    let cut = u64_u32::View::open(&bytes[..LENGTH - 1]);
+    say("open_view without the last byte", cut);
+    for key in [7, 41] {
+        say_view_value(key, view.get(key));
+    }
+    let (mut values, mut found) = ([5; 3], [0; 3]);
+    let answer = view.get_all(&[41, 7, 40], &mut values, &mut found);
+    say_found("view_get_all 41 7 40", answer, &found, &values);
+    println!("view_len: {} items", view.len());
+}
+
 fn walk(bytes: &[u8]) {
     let (mut keys, mut values) = ([0; PAIRS], [0; PAIRS]);
     say_number("len", u64_u32::len(bytes), "items");
@@ -218,6 +239,17 @@ fn walk_bytes(bytes: &[u8]) {
     );
 }
 
+/// A view borrows the bytes, so an insert needs another view behind it.
+fn insert_between_views(bytes: &mut [u8], key: &[u8; 16]) {
+    let opened = b16_u32::View::open(bytes);
+    say("open_view", opened);
+    say_view_value(6, opened.expect("the table opens").get(key));
+    say_former("insert 6 to 600", b16_u32::insert(bytes, key, 600));
+    let view = b16_u32::View::open(bytes).expect("the table opens");
+    say_view_value(6, view.get(key));
+    println!("view_len: {} items", view.len());
+}
+
 fn byte_keys() {
     let (keys, values) = byte_pairs(9);
     let mut bytes = [0; 384];
@@ -241,6 +273,7 @@ fn byte_keys() {
     let answer = b16_u32::get_all(&bytes, &together, &mut looked_up, &mut found);
     say_found("get_all 1 9 5", answer, &found, &looked_up);
     walk_bytes(&bytes);
+    insert_between_views(&mut bytes, &keys[5]);
     let answer = b16_u32::insert_all(&mut bytes, &keys[5..], &values[5..]);
     say_accepted("insert_all 6 to 600 until 9 to 900", answer);
     say("open as keys of 64 bits", u64_u32::open(&bytes));
@@ -348,6 +381,7 @@ fn main() -> std::io::Result<()> {
         bytes.len()
     );
     look_up(&bytes);
+    look_up_in_view(&bytes);
     walk(&bytes);
     build(&bytes);
     fill_to_the_maximum();

@@ -3,7 +3,8 @@
 //!
 //! A table is a slice of bytes. The wrapper is safe because the library never reads or writes
 //! beyond the slices that it is given, whatever they hold; because the pointer of a Rust slice is
-//! never null; and because no slice that is borrowed for writing overlaps another one.
+//! never null; because no slice that is borrowed for writing overlaps another one; and because a
+//! view borrows the bytes that it has opened, so that nobody writes them while it is there.
 
 use std::fmt;
 
@@ -74,10 +75,19 @@ impl fmt::Display for Status {
 pub mod declared {
     use super::Status;
 
+    /// The pointer and the length of bytes that were opened.
+    #[repr(C)]
+    #[derive(Clone, Copy)]
+    pub struct View {
+        pub bytes: *const u8,
+        pub len: usize,
+    }
+
     macro_rules! declare {
         ($key:ty, $passed_key:ty, $bytes_needed:ident, $init:ident, $open:ident, $check:ident,
          $insert:ident, $insert_all:ident, $get:ident, $get_all:ident, $len:ident,
-         $walk:ident, $insert_order:ident) => {
+         $walk:ident, $insert_order:ident, $open_view:ident, $view_get:ident,
+         $view_get_all:ident, $view_len:ident) => {
             unsafe extern "C" {
                 pub fn $bytes_needed(max_item_count: usize, percent: u8, len: *mut usize)
                     -> Status;
@@ -137,39 +147,35 @@ pub mod declared {
                     out: *mut usize,
                     out_len: usize,
                 ) -> Status;
+                pub fn $open_view(bytes: *const u8, bytes_len: usize, view: *mut View) -> Status;
+                pub fn $view_get(view: *const View, key: $passed_key, value: *mut u32) -> Status;
+                pub fn $view_get_all(
+                    view: *const View,
+                    keys: *const $key,
+                    keys_len: usize,
+                    values: *mut u32,
+                    values_len: usize,
+                    found: *mut u8,
+                    found_len: usize,
+                ) -> Status;
+                pub fn $view_len(view: *const View) -> usize;
             }
         };
     }
-    declare!(
-        u64,
-        u64,
-        odht_u64_u32_bytes_needed,
-        odht_u64_u32_init,
-        odht_u64_u32_open,
-        odht_u64_u32_check,
-        odht_u64_u32_insert,
-        odht_u64_u32_insert_all,
-        odht_u64_u32_get,
-        odht_u64_u32_get_all,
-        odht_u64_u32_len,
-        odht_u64_u32_walk,
-        odht_u64_u32_insert_order
-    );
-    declare!(
-        [u8; 16],
-        *const [u8; 16],
-        odht_b16_u32_bytes_needed,
-        odht_b16_u32_init,
-        odht_b16_u32_open,
-        odht_b16_u32_check,
-        odht_b16_u32_insert,
-        odht_b16_u32_insert_all,
-        odht_b16_u32_get,
-        odht_b16_u32_get_all,
-        odht_b16_u32_len,
-        odht_b16_u32_walk,
-        odht_b16_u32_insert_order
-    );
+    declare! {
+        u64, u64, odht_u64_u32_bytes_needed, odht_u64_u32_init, odht_u64_u32_open,
+        odht_u64_u32_check, odht_u64_u32_insert, odht_u64_u32_insert_all, odht_u64_u32_get,
+        odht_u64_u32_get_all, odht_u64_u32_len, odht_u64_u32_walk, odht_u64_u32_insert_order,
+        odht_u64_u32_open_view, odht_u64_u32_view_get, odht_u64_u32_view_get_all,
+        odht_u64_u32_view_len
+    }
+    declare! {
+        [u8; 16], *const [u8; 16], odht_b16_u32_bytes_needed, odht_b16_u32_init, odht_b16_u32_open,
+        odht_b16_u32_check, odht_b16_u32_insert, odht_b16_u32_insert_all, odht_b16_u32_get,
+        odht_b16_u32_get_all, odht_b16_u32_len, odht_b16_u32_walk, odht_b16_u32_insert_order,
+        odht_b16_u32_open_view, odht_b16_u32_view_get, odht_b16_u32_view_get_all,
+        odht_b16_u32_view_len
+    }
     unsafe extern "C" {
         pub fn odht_u64_u32_build(
             keys: *const u64,
@@ -199,9 +205,12 @@ macro_rules! safe_calls {
     ($(#[$comment:meta])* $module:ident, $argument:ident: $argument_type:ty => $passed:expr,
      $key:ty, $bytes_needed:ident, $init:ident, $open:ident, $check:ident, $insert:ident,
      $insert_all:ident, $get:ident, $get_all:ident, $len:ident, $walk:ident,
-     $insert_order:ident, { $($more:item)* }) => {
+     $insert_order:ident, $open_view:ident, $view_get:ident, $view_get_all:ident,
+     $view_len:ident, { $($more:item)* }) => {
         $(#[$comment])*
         pub mod $module {
+            use std::marker::PhantomData;
+
             use super::{declared, Status};
 
             /// The length in bytes of a table.
@@ -297,6 +306,46 @@ macro_rules! safe_calls {
                 if status == Status::UNMADE { Ok(false) } else { status.with(true) }
             }
 
+            /// Bytes that were opened once: lookups look at no header.
+            #[derive(Clone, Copy)]
+            pub struct View<'a> {
+                view: declared::View,
+                bytes: PhantomData<&'a [u8]>,
+            }
+
+            impl<'a> View<'a> {
+                /// Opens the bytes as `open` does.
+                pub fn open(bytes: &'a [u8]) -> Result<View<'a>, Status> {
+                    let mut view = declared::View { bytes: [].as_ptr(), len: 0 };
+                    let status = unsafe {
+                        declared::$open_view(bytes.as_ptr(), bytes.len(), &mut view)
+                    };
+                    status.with(View { view, bytes: PhantomData })
+                }
+
+                /// The value of a key where it is there.
+                pub fn get(&self, $argument: $argument_type) -> Option<u32> {
+                    let mut value = 0;
+                    let status = unsafe { declared::$view_get(&self.view, $passed, &mut value) };
+                    (status == Status::OK).then_some(value)
+                }
+
+                /// As `get_all` of bytes.
+                pub fn get_all(&self, keys: &[$key], values: &mut [u32], found: &mut [u8])
+                    -> Result<(), Status> {
+                    let status = unsafe {
+                        declared::$view_get_all(&self.view, keys.as_ptr(), keys.len(),
+                            values.as_mut_ptr(), values.len(), found.as_mut_ptr(), found.len())
+                    };
+                    status.with(())
+                }
+
+                /// The number of items.
+                pub fn len(&self) -> usize {
+                    unsafe { declared::$view_len(&self.view) }
+                }
+            }
+
             $($more)*
         }
     };
@@ -307,7 +356,8 @@ safe_calls! {
     u64_u32, key: u64 => key,
     u64, odht_u64_u32_bytes_needed, odht_u64_u32_init, odht_u64_u32_open, odht_u64_u32_check,
     odht_u64_u32_insert, odht_u64_u32_insert_all, odht_u64_u32_get, odht_u64_u32_get_all,
-    odht_u64_u32_len, odht_u64_u32_walk, odht_u64_u32_insert_order, {
+    odht_u64_u32_len, odht_u64_u32_walk, odht_u64_u32_insert_order, odht_u64_u32_open_view,
+    odht_u64_u32_view_get, odht_u64_u32_view_get_all, odht_u64_u32_view_len, {
         /// Makes a table for exactly these pairs in the first bytes of `out`; the answer is the
         /// status, and the table's length where it is `OK` or `TOO_SMALL`.
         pub fn build(keys: &[u64], values: &[u32], percent: u8, out: &mut [u8])
@@ -337,5 +387,7 @@ safe_calls! {
     b16_u32, key: &[u8; 16] => key,
     [u8; 16], odht_b16_u32_bytes_needed, odht_b16_u32_init, odht_b16_u32_open,
     odht_b16_u32_check, odht_b16_u32_insert, odht_b16_u32_insert_all, odht_b16_u32_get,
-    odht_b16_u32_get_all, odht_b16_u32_len, odht_b16_u32_walk, odht_b16_u32_insert_order, {}
+    odht_b16_u32_get_all, odht_b16_u32_len, odht_b16_u32_walk, odht_b16_u32_insert_order,
+    odht_b16_u32_open_view, odht_b16_u32_view_get, odht_b16_u32_view_get_all,
+    odht_b16_u32_view_len, {}
 }

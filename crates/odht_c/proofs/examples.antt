@@ -7,6 +7,8 @@ pub mod Tables
 pub mod Gets
 -- what lookups of many keys answer
 pub mod GetAlls
+-- what is answered of opened tables
+pub mod Views
 -- the item count, and walks
 pub mod Walks
 -- orders of inserts

@@ -4,6 +4,8 @@ pub mod Opened
 pub mod Arrays
 -- lookups of many keys
 pub mod Got
+-- refusals are not done
+pub mod Statuses
 -- the status of a refusal
 pub mod Refused
 -- iterators that are called until they end

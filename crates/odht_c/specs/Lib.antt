@@ -5,6 +5,8 @@ pub mod Statuses
 pub mod Reads
 -- lookups of many keys
 pub mod Lookups
+-- the calls that open a table and read an opened one
+pub mod Views
 -- the call that looks for an order of inserts
 pub mod Orders
 -- the calls that make a table in bytes, and those that write to one

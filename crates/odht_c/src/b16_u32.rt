@@ -5,13 +5,16 @@
 ghost use Rattle.std.specs.Prelude.{◌≡◌};
 ghost use Rattle.std.specs.Int.{w32, to_le_bytes, from_le_bytes};
 ghost use Rattle.std.proofs.Common.{lit≤};
+ghost use Rattle.odht_raw.specs.Frame.{IsAccepted};
 ghost use Rattle.odht_raw.specs.Refusals.{view_refusal, check_refusal};
 ghost use Rattle.odht_c.specs.Statuses.{status_or_ok};
 ghost use Rattle.odht_c.specs.Reads.{GetAnswers, GetAllAnswers, LenAnswers, WalkAnswers};
+ghost use Rattle.odht_c.specs.Views.{OpenViewAnswers, ViewGetAnswers, ViewGetAllAnswers, ViewLenAnswers};
 ghost use Rattle.odht_c.specs.Orders.{OrderAnswers};
 ghost use Rattle.odht_c.specs.Writes.{BytesNeededAnswers, InitAnswers, InsertAnswers, InsertAllAnswers};
 
 use crate::status::BAD_LENGTHS;
+use crate::view::{self, View};
 use crate::{order, read, write};
 use odht::bytes::BorrowedMut;
 use odht::config::{Coded, Config};
@@ -208,6 +211,56 @@ pub extern "C" fn odht_b16_u32_walk(
         return BAD_LENGTHS;
     }
     read::walk::<Bytes16ToU32>(bytes, keys, values, item_count)
+}
+
+/// Opens the bytes as `open` does: status 0, and `view` is a view of them. A refusal of the header, the length or the
+/// first ten slots; then `view` stays.
+#[unsafe(no_mangle)]
+pub extern "C" fn odht_b16_u32_open_view<'a>(bytes: &'a [u8], view: &mut View<'a>) -> u32
+    ensures { OpenViewAnswers ⟦<Bytes16ToU32 as Coded>⟧.coding.format
+        bytes.entry view.old.bytes result view.new.bytes }
+{
+    view::open::<Bytes16ToU32>(bytes, view)
+}
+
+/// The value of a key of an opened table, written to `value`: status 0. `ABSENT` where there is none; then `value` stays.
+/// No header is looked at: the caller upholds that the view's bytes are accepted, as `open_view` leaves them.
+#[unsafe(no_mangle)]
+pub extern "C" fn odht_b16_u32_view_get(view: &View<'_>, key: &[u8; 16], value: &mut u32) -> u32
+    requires accepted { IsAccepted ⟦<Bytes16ToU32 as Coded>⟧.coding.format view.now.bytes.now }
+    ensures { ViewGetAnswers ⟦<Bytes16ToU32 as Coded>⟧.coding view.now.bytes.now key.now value.old result value.new }
+{
+    view::get(&view::table::<Bytes16ToU32>(view), key, value)
+}
+
+/// The values of many keys of an opened table: status 0, and at each index `found` is 1 and the value is written, or
+/// `found` is 0 and the value stays. `BAD_LENGTHS` where the arrays are not equally long; then nothing is written.
+/// No header is looked at: the caller upholds that the view's bytes are accepted, as `open_view` leaves them.
+#[unsafe(no_mangle)]
+pub extern "C" fn odht_b16_u32_view_get_all(
+    view: &View<'_>,
+    keys: &[[u8; 16]],
+    values: &mut [u32],
+    found: &mut [u8],
+) -> u32
+    requires accepted { IsAccepted ⟦<Bytes16ToU32 as Coded>⟧.coding.format view.now.bytes.now }
+    ensures { ViewGetAllAnswers ⟦<Bytes16ToU32 as Coded>⟧.coding view.now.bytes.now keys.now
+        values.old found.old result values.new found.new }
+{
+    if values.len() != keys.len() || found.len() != keys.len() {
+        return BAD_LENGTHS;
+    }
+    view::get_all(&view::table::<Bytes16ToU32>(view), keys, values, found)
+}
+
+/// How many items the header of an opened table states: of valid bytes, how many there are. Nothing else is looked at:
+/// the caller upholds that the view's bytes are accepted, as `open_view` leaves them.
+#[unsafe(no_mangle)]
+pub extern "C" fn odht_b16_u32_view_len(view: &View<'_>) -> usize
+    requires accepted { IsAccepted ⟦<Bytes16ToU32 as Coded>⟧.coding.format view.now.bytes.now }
+    ensures { ViewLenAnswers ⟦<Bytes16ToU32 as Coded>⟧.coding view.now.bytes.now result }
+{
+    view::table::<Bytes16ToU32>(view).len()
 }
 
 /// The filled slots in an order in which inserts make the table, written to `out`, which has a place for each item:

@@ -14,4 +14,7 @@ mod status;
 #[cfg(test)]
 mod tests;
 mod u64_u32;
+mod view;
+#[cfg(test)]
+mod view_tests;
 mod write;

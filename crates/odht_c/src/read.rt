@@ -6,7 +6,8 @@ ghost use Rattle.odht_c.specs.Statuses.{status_or_ok};
 ghost use Rattle.odht_c.specs.Reads.{GetAnswers, GetAllAnswers, LenAnswers, WalkAnswers};
 
 use crate::lookups::look_up_all;
-use crate::status::{ABSENT, OK, TOO_SMALL, status_of};
+use crate::status::{OK, TOO_SMALL, status_of};
+use crate::view;
 use odht::bytes::Borrowed;
 use odht::config::{Coded, Config};
 use odht::error::Error;
@@ -55,13 +56,7 @@ pub(crate) fn get<C: Config>(bytes: &[u8], key: &C::Key, value: &mut C::Value) -
         Ok(table) => table,
         Err(refused) => return status_of(&refused),
     };
-    match table.get(key) {
-        Some(found) => {
-            *value = found;
-            OK
-        }
-        None => ABSENT,
-    }
+    view::get(&table, key, value)
 }
 
 /// The values of many keys: `found` is 1 at a key that has one, which is written to `values` there, and else 0.

@@ -107,7 +107,7 @@ pub fn read_u64(bytes: &[u8], at: usize) -> u64
     requires { at + 8 ≤ length bytes.now }
     ensures { result ≡ num (bytes_at bytes.now at 8) }
 {
-    let Some(chunk) = bytes[at..].first_chunk::<8>() else {
+    let Some(chunk) = bytes[at..at + 8].first_chunk::<8>() else {
         unreachable!()
     };
     u64::from_le_bytes(*chunk)
