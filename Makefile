@@ -49,18 +49,20 @@ examples: $(LIBRARY)
 	@cmp build/c.odht build/rust.odht
 	@echo 'examples: C and Rust print what they must, and store the same bytes'
 
-# both tables are built for the same level of processor; as one unit, so that what moves the code stands before all of it
+# both tables are built for the same level of processor; as one unit, so that what moves the code stands before all
 BENCH_RUST = rustc -C opt-level=3 -C codegen-units=1 -C target-cpu=x86-64-v2
 ORIGINAL = $(if $(ODHT_RUST),build/original/libodht.rlib)
 LINK_ORIGINAL = $(if $(ODHT_RUST),--cfg original -L dependency=build/original --extern odht=$(ORIGINAL))
-BENCH = $(BENCH_RUST) --edition 2021 -D warnings --check-cfg 'cfg(original)' --check-cfg 'cfg(moved)' $(LINK_ORIGINAL) bench/main.rs $(LINK_RUST)
+BENCH = $(BENCH_RUST) --edition 2021 -D warnings --check-cfg 'cfg(original, moved)' \
+  $(LINK_ORIGINAL) bench/main.rs $(LINK_RUST)
 
 bench: $(LIBRARY) $(if $(ODHT_RUST),original)
 	@mkdir -p build
 	@$(BENCH) -o build/bench
 	@$(BENCH) --cfg moved -o build/bench_moved
 	@$(if $(MARKDOWN),sh bench/machine.sh)
-	@build/bench $(if $(QUICK),quick) $(if $(CHECK),check) $(if $(WORST),worst) $(if $(ORDER),order) $(if $(MARKDOWN),markdown)
+	@build/bench $(if $(QUICK),quick) $(if $(CHECK),check) $(if $(WORST),worst) $(if $(ORDER),order) \
+	  $(if $(MARKDOWN),markdown)
 
 # the Rust crate, from a checkout or from a flat folder with names as src--lib.rs.txt
 .PHONY: original

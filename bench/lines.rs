@@ -18,7 +18,7 @@ fn columns<K: Key>() -> Vec<Column> {
         columns.extend([
             Column::Number("original", 8),
             Column::Number("median", 8),
-            Column::Number("ratio", 6),
+            Column::Bold("ratio", 6),
             Column::Number("its range", 12),
         ]);
     }
@@ -68,16 +68,17 @@ fn print_rows(size: &Size, told: &Told, table: &Table) {
 
 /// Where the code begins that each run tells of.
 fn print_places(places: &[Vec<usize>; PLACEMENTS.len()]) {
-    let more = if cfg!(original) {
-        ", and then the original's lookups"
+    let original = if cfg!(original) {
+        ", and the original's lookups"
     } else {
         ""
     };
-    println!("\nwhere in a line of 64 bytes get_all begins{more}:");
-    for (places, name) in places.iter().zip(PLACEMENTS) {
-        let places: Vec<String> = places.iter().map(usize::to_string).collect();
-        println!("{name} at {}", places.join(" and "));
-    }
+    let places = places.iter().zip(PLACEMENTS).map(|(places, name)| {
+        let places = places.iter().map(usize::to_string);
+        format!("{name} {}", places.collect::<Vec<_>>().join(" and "))
+    });
+    let places = places.collect::<Vec<_>>().join(", ");
+    println!("\nwhere in a line of 64 bytes get_all begins{original}: {places}");
 }
 
 /// Runs all sizes, and prints the table.

@@ -23,6 +23,7 @@ mod table;
 mod work;
 
 use runs::Size;
+use table::print_heading;
 
 /// Powers of ten with their rounds in each run. Of the largest tables the first placement is
 /// measured alone, since memory and not code makes their times.
@@ -49,9 +50,9 @@ fn print_first_tables(quick: bool, markdown: bool) {
     let numbers = if quick { &QUICK[..] } else { &SIZES[..] };
     let bytes = if quick { &QUICK[..] } else { &SIZES[..3] };
     print_words();
-    println!("\nkeys of 64 bits, FxHashFn");
+    print_heading("Keys of 64 bits, FxHashFn", markdown);
     lines::print::<u64>("u64", numbers, markdown);
-    println!("\nkeys of 16 bytes, UnHashFn");
+    print_heading("Keys of 16 bytes, UnHashFn", markdown);
     lines::print::<[u8; 16]>("b16", bytes, markdown);
 }
 
@@ -73,6 +74,9 @@ fn main() {
     }
     if !is_asked("check") {
         print_first_tables(quick, markdown);
+    }
+    if markdown {
+        print_heading("The whole check", markdown);
     }
     check::print_full_tables(quick, markdown);
     check::print_forged_tables(quick, is_asked("worst"), markdown);
