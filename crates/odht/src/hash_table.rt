@@ -124,8 +124,8 @@ impl<C: Config, D: ByteStore> HashTable<C, D> {
     /// `get` of many keys: the value of each key is written to its index. The loads of eight keys overlap, so that many
     /// lookups in a large table are faster than one `get` after the other.
     ///
-    /// Each key is encoded twice, and hashed once. The group at its home is looked at twice where the first match there is
-    /// another key, or the group has no free byte.
+    /// Each key is encoded twice, and hashed once. At most each group of control bytes is looked at once, but that at the
+    /// key's home twice where it has neither the key nor a free byte.
     #[inline]
     pub fn get_all(&self, keys: &[C::Key], values: &mut [Option<C::Value>])
         requires { length values.old ≡ length keys.now }

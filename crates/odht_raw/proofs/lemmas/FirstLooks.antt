@@ -1,15 +1,13 @@
 -- The first look of a search: what it tells of where the search ends.
-use Rattle.std.proofs.Common.{◌≡◌, ◌∙◌, ◌+◌, ◌*◌, ◌%◌, ◌<◌, ℕ, sym, ap, arith, refl, List, [], ◌∷◌, length, slice_get, Option, Some, None, Contains, true, true≢false}
+use Rattle.std.proofs.Common.{◌≡◌, ◌∙◌, ◌+◌, ◌*◌, ◌%◌, ◌<◌, ℕ, sym, ap, arith, refl, List, length, Option, Some, None, Contains, true, true≢false}
 use Rattle.std.specs.Prelude.{is_some}
 use Rattle.std.proofs.Math.Nat.{mod-lt, mod-eq_of_lt}
-use Rattle.std.proofs.lemmas.List.Quantifiers.{position-Some}
-use Rattle.std.proofs.lemmas.Option.{none-some}
 use Rattle.odht_base.specs.Format.{Format, IsFormat, home, tag}
 use Rattle.odht_base.specs.Groups.{equal, first_free, IsReport}
 use Rattle.odht_base.specs.Load.{IsSlotCount}
 use Rattle.odht_base.specs.Map.{map_of}
 use Rattle.odht_base.specs.Probe.{place_slot}
-use Rattle.odht_base.specs.Shown.{counts_as_free, slot_key}
+use Rattle.odht_base.specs.Shown.{slot_key}
 use Rattle.odht_base.specs.Table.{Table}
 use Rattle.odht_base.specs.Valid.{IsPartsOf}
 use Rattle.odht_base.proofs.lemmas.ByteRanges.{length-bytes_at}
@@ -17,7 +15,6 @@ use Rattle.odht_base.proofs.lemmas.MarkedPlaces.{report_from_equal}
 use Rattle.odht_base.proofs.lemmas.Orders.{place_slot-group}
 use Rattle.odht_raw.specs.Answers.{answer}
 use Rattle.odht_raw.specs.FirstLooks.{home_group}
-use Rattle.odht_raw.specs.Frame.{CountsAsFree}
 use Rattle.odht_raw.specs.Parts.{TableParts}
 use Rattle.odht_raw.specs.Searches.{StandsAt}
 use Rattle.odht_raw.specs.declared.raw_table.outcome.Search.TheVariants.{Found}

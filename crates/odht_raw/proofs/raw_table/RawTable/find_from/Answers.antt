@@ -1,6 +1,6 @@
 use Rattle.std.proofs.Common.{◌≡◌, ◌∙◌, ◌+◌, ◌-◌, ◌%◌, ◌<◌, ℕ, List, bit_and, slice_get, length, sym, ap, subst, arith, Some, Contains, true≢false}
 use Rattle.odht_base.specs.Format.{Format, IsFormat, format_of, home, tag}
-use Rattle.odht_base.specs.Groups.{equal, first_free}
+use Rattle.odht_base.specs.Groups.{first_free}
 use Rattle.odht_base.specs.Load.{IsSlotCount}
 use Rattle.odht_base.specs.Shown.{slot_key, slot_value}
 use Rattle.std.specs.Prelude.{option_map, is_some}
