@@ -77,3 +77,7 @@ pub mod PartRuns
 pub mod JoinedRuns
 -- the bytes of a table cut into its parts, and joined again
 pub mod ListWrites
+-- where a search is expected to end
+pub mod Expected
+-- runs of items in turn
+pub mod RunsInTurn

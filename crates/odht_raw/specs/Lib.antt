@@ -41,3 +41,5 @@ pub mod Dumps
 pub mod LentParts
 -- the slots that wait while an order of inserts is looked for
 pub mod Waiting
+-- where a search is expected to end
+pub mod Expected

@@ -20,6 +20,7 @@ use crate::hash::HashFn;
 use crate::swisstable_group_query::GroupQuery;
 use std::marker::{Model, PhantomData};
 
+mod ahead;
 mod check;
 mod dump;
 mod entries;
@@ -35,6 +36,7 @@ mod table_mut;
 mod walk;
 mod writes;
 
+pub(crate) use ahead::{expected_slot, insert_expected};
 pub use entries::{Entries, Entry};
 pub use first_look::FirstLook;
 pub use group_search::{search, search_hashed};

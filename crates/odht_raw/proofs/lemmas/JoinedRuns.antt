@@ -1,11 +1,11 @@
 -- A header, entries and control bytes joined, and what they are once items were inserted in turn into the parts.
 --     joined H n es ctrl   the bytes of the header H with the item count n, the entries es and the control bytes ctrl
-use Rattle.std.proofs.Common.{◌≡◌, ◌<◌, ◌≤◌, ◌+◌, ◌-◌, ◌*◌, ◌^◌, ◌∙◌, ◌++◌, ℕ, sym, ap, subst, refl, List, [], ◌∷◌, Option, Some, None, Result, Ok, Err, take, drop, set, length, All, Bool, true, false, cond, ltb, arith, lit≤, length-drop, append_assoc, length-append, take_at, drop_at, length-set}
+use Rattle.std.proofs.Common.{◌≡◌, ◌<◌, ◌≤◌, ◌+◌, ◌-◌, ◌*◌, ◌^◌, ◌∙◌, ◌++◌, ℕ, sym, ap, subst, refl, List, [], ◌∷◌, Option, Some, None, Result, Ok, take, drop, set, length, All, Bool, true, false, cond, ltb, arith, lit≤, length-drop, append_assoc, length-append, take_at, drop_at, length-set}
 use Rattle.std.specs.Prelude.{option_map}
 use Rattle.std.proofs.lemmas.List.{take-append-le, drop-append-le}
 use Rattle.odht_base.specs.Bytes.{bytes_at, overwritten_at}
-use Rattle.odht_base.specs.Format.{Format, IsFormat, entry_len, tag}
-use Rattle.odht_base.specs.Image.{header_bytes, entries, controls, image, image_len}
+use Rattle.odht_base.specs.Format.{Format, entry_len, tag}
+use Rattle.odht_base.specs.Image.{header_bytes, image}
 use Rattle.odht_base.specs.Load.{max_items}
 use Rattle.odht_base.specs.Numbers.{num, le_bytes}
 use Rattle.odht_base.specs.Shown.{stated_slots, stated_count, stated_factor, entries_of, controls_of, slot_key, slot_value}
@@ -20,10 +20,9 @@ use Rattle.odht_base.proofs.lemmas.PartsOf.{slot_within}
 use Rattle.odht_base.proofs.lemmas.Runs.{count-run, factor-run}
 use Rattle.odht_base.proofs.lemmas.Writes.{with_count-append, with_value-append, with_pair-append}
 use Rattle.odht_raw.specs.Coding.{Coding, encoded}
-use Rattle.odht_raw.specs.Frame.{IsAccepted, stated_maximum, InsertFrame, IsFramed, PartsFrame, HasNoFreeSlot, CountsAsFree}
+use Rattle.odht_raw.specs.Frame.{IsAccepted, stated_maximum, InsertFrame, PartsFrame, HasNoFreeSlot, CountsAsFree}
 use Rattle.odht_raw.specs.Runs.{IsFramedRun, IsPartsRun, ArePartsOfRun, IsPlacedBelow, count_after}
 use Rattle.odht_raw.specs.declared.error.Error.{Error}
-use Rattle.odht_raw.specs.declared.error.Error.TheVariants.{Full}
 use Rattle.odht_raw.proofs.lemmas.NewTables.{bytes_at-overwritten_at, overwritten_at-same}
 use Rattle.odht_raw.proofs.lemmas.Accepted.{opening_refusal-same}
 
@@ -120,7 +119,7 @@ count_after-le n None = omega arith
 count_after-le n (Some v) = omega arith
 
 -- to a larger count as to a smaller
-count_after-add : (m n : ℕ) (o : Option (List ℕ)) → count_after (m + n) (Ok o) ≡ m + count_after n (Ok o)
+pub count_after-add : (m n : ℕ) (o : Option (List ℕ)) → count_after (m + n) (Ok o) ≡ m + count_after n (Ok o)
 count_after-add m n None = omega arith
 count_after-add m n (Some v) = refl
 

@@ -8,6 +8,7 @@ ghost use Rattle.odht_raw.specs.PartLengths.{ArePartLengths};
 ghost use Rattle.odht_raw.specs.Runs.{encoded_all, IsFramedRun, IsPartsRun, ArePartsOfRun, IsPlacedBelow};
 
 use super::Allocation;
+use super::batches::insert_by_size;
 use crate::bytes::{ByteArray, ByteStoreMut, write_slice};
 use crate::config::{Coded, Config};
 use crate::items::Items;
@@ -98,7 +99,7 @@ fn insert_into_bytes<C: Config, I: Items<C::Key, C::Value>>(
     let room = max.saturating_sub(count).min(items.count() - from);
     let (table, control) = bytes.split_at_mut(entry_at::<C>(slots));
     let (front, entries) = table.split_at_mut(HEADER_SIZE);
-    let (end, added) = insert_into_parts::<C, I>(control, entries, items, from, from + room);
+    let (end, added) = insert_by_size::<C, I>(control, entries, items, from, from + room);
     write_slice(
         front,
         ITEM_COUNT_AT,
@@ -110,7 +111,7 @@ fn insert_into_bytes<C: Config, I: Items<C::Key, C::Value>>(
 // Inserts the items from `from` up to `to` in turn into the parts of a table, up to the first that finds no slot. Answers the
 // index behind the last that was inserted, and how many of them had new keys.
 #[inline(always)]
-fn insert_into_parts<C: Config, I: Items<C::Key, C::Value>>(
+pub(super) fn insert_into_parts<C: Config, I: Items<C::Key, C::Value>>(
     control: &mut [EntryMetadata],
     entries: &mut [u8],
     items: &I,

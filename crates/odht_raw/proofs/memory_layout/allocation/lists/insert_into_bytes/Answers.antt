@@ -42,9 +42,9 @@ cut g c =
     cut_accepted (format g) c.args.bytes.now c.requires.accepted c.entry_at.result (c.entry_at.ensures ∙ ap (λ s. 32 + s * entry_len (format g)) slots) _ _ _ _
     c.split_at_mut-table.ensures.front c.split_at_mut-table.ensures.back c.split_at_mut-front.ensures.front c.split_at_mut-front.ensures.back
 
-pub insert_into_parts-end-requires-clause-parts : goal.insert_into_parts-end-requires-clause-parts
-insert_into_parts-end-requires-clause-parts g c κs within =
-    let cut = cut g (goal.at.insert_into_parts-end-requires-clause-parts g c).After-split_at_mut-front in
+pub insert_by_size-end-requires-clause-parts : goal.insert_by_size-end-requires-clause-parts
+insert_by_size-end-requires-clause-parts g c κs within =
+    let cut = cut g (goal.at.insert_by_size-end-requires-clause-parts g c).After-split_at_mut-front in
     let slots : length c.split_at_mut-table.result.1.now - 16 ≡ stated_slots c.args.bytes.now = omega (arith, cut.mirrored, cut.slots) in
     record {
       pair = record { hashes = g.met.C.Config.key_hashes; key = g.met.C.Config.key_fits; value = g.met.C.Config.value_fits };
@@ -62,7 +62,7 @@ coding g =
 
 -- the items that were inserted
 abbrev inserted : (g : Over) (c : After-write_slice g) → List (g.row.C-Key.Denot × g.row.C-Value.Denot)
-inserted g c = slice_range (g.I.Items.items c.args.items.now) c.args.from c.insert_into_parts-end.result.0
+inserted g c = slice_range (g.I.Items.items c.args.items.now) c.args.from c.insert_by_size-end.result.0
 
 -- what the header states
 stated : (g : Over) (c : After-write_slice g) → (c.item_count-count.result ≡ stated_count c.args.bytes.now) × (c.max_item_count_for-max.result ≡ stated_maximum c.args.bytes.now)
@@ -73,35 +73,35 @@ stated g c = (
 )
 
 -- the header that was written
-written : (g : Over) (c : After-write_slice g) → c.write_slice.new.all ≡ with_count c.split_at_mut-front.result.0.now (stated_count c.args.bytes.now + c.insert_into_parts-end.result.1)
+written : (g : Over) (c : After-write_slice g) → c.write_slice.new.all ≡ with_count c.split_at_mut-front.result.0.now (stated_count c.args.bytes.now + c.insert_by_size-end.result.1)
 written g c =
     c.write_slice.ensures
-    ∙ ap (overwritten_at c.split_at_mut-front.result.0.now 8) (c.to_le_bytes.ensures ∙ le_bytes-w64 _ ∙ ap (λ m. le_bytes 8 (m + c.insert_into_parts-end.result.1)) (stated g c).0)
+    ∙ ap (overwritten_at c.split_at_mut-front.result.0.now 8) (c.to_le_bytes.ensures ∙ le_bytes-w64 _ ∙ ap (λ m. le_bytes 8 (m + c.insert_by_size-end.result.1)) (stated g c).0)
 
 -- there is room for each of them
 room : (g : Over) (c : After-write_slice g) → (x : ℕ) → x < length (inserted g c) → stated_count c.args.bytes.now + x < stated_maximum c.args.bytes.now
 room g c x l =
     let told = stated g c in
-    let long = length-range (g.I.Items.items c.args.items.now) c.args.from c.insert_into_parts-end.result.0 in
-    omega (arith, l, long, told.0, told.1, c.insert_into_parts-end.ensures.bound, c.min-room.ensures, c.saturating_sub.ensures)
+    let long = length-range (g.I.Items.items c.args.items.now) c.args.from c.insert_by_size-end.result.0 in
+    omega (arith, l, long, told.0, told.1, c.insert_by_size-end.ensures.bound, c.min-room.ensures, c.saturating_sub.ensures)
 
 pub returns-clause-framed : goal.returns-clause-framed
 returns-clause-framed g c =
     let w = (goal.at.returns-clause-framed g c).After-write_slice in
-    list_framed (coding g) c.args.bytes.now _ _ _ (cut g (goal.at.returns-clause-framed g c).After-split_at_mut-front) (inserted g w) c.insert_into_parts-end.result.1 _ _ _
-    (written g w) c.insert_into_parts-end.ensures.run (room g w) (omega (arith, (stated g w).1)) c.hold_bytes.ensures
+    list_framed (coding g) c.args.bytes.now _ _ _ (cut g (goal.at.returns-clause-framed g c).After-split_at_mut-front) (inserted g w) c.insert_by_size-end.result.1 _ _ _
+    (written g w) c.insert_by_size-end.ensures.run (room g w) (omega (arith, (stated g w).1)) c.hold_bytes.ensures
 
 pub returns-clause-accepted : goal.returns-clause-accepted
 returns-clause-accepted g c =
     let w = (goal.at.returns-clause-accepted g c).After-write_slice in
-    list_accepted (coding g) c.args.bytes.now _ _ _ (cut g (goal.at.returns-clause-accepted g c).After-split_at_mut-front) (inserted g w) c.insert_into_parts-end.result.1 _ _ _
-    (written g w) c.insert_into_parts-end.ensures.run (room g w) (omega (arith, (stated g w).1))
+    list_accepted (coding g) c.args.bytes.now _ _ _ (cut g (goal.at.returns-clause-accepted g c).After-split_at_mut-front) (inserted g w) c.insert_by_size-end.result.1 _ _ _
+    (written g w) c.insert_by_size-end.ensures.run (room g w) (omega (arith, (stated g w).1))
 
 pub returns-clause-len : goal.returns-clause-len
 returns-clause-len g c =
     let w = (goal.at.returns-clause-len g c).After-write_slice in
-    list_length (coding g) c.args.bytes.now _ _ _ (cut g (goal.at.returns-clause-len g c).After-split_at_mut-front) (inserted g w) c.insert_into_parts-end.result.1 _ _ _
-    (written g w) c.insert_into_parts-end.ensures.run (room g w) (omega (arith, (stated g w).1))
+    list_length (coding g) c.args.bytes.now _ _ _ (cut g (goal.at.returns-clause-len g c).After-split_at_mut-front) (inserted g w) c.insert_by_size-end.result.1 _ _ _
+    (written g w) c.insert_by_size-end.ensures.run (room g w) (omega (arith, (stated g w).1))
 
 pub returns-clause-placed : goal.returns-clause-placed
 returns-clause-placed g c P is =
@@ -109,13 +109,13 @@ returns-clause-placed g c P is =
     let K = coding g in
     let cut = cut g (goal.at.returns-clause-placed g c).After-split_at_mut-front in
     let told = stated g w in
-    let long = length-range (g.I.Items.items c.args.items.now) c.args.from c.insert_into_parts-end.result.0 in
+    let long = length-range (g.I.Items.items c.args.items.now) c.args.from c.insert_by_size-end.result.0 in
     let sized = IsSized-IsPlaced K.format P is.valid.placed in
     let count_is : stated_count c.args.bytes.now ≡ count P = ap stated_count is.bytes ∙ stated_count-image K.format P sized in
     let most_is : stated_maximum c.args.bytes.now ≡ max_items (slot_count P) P.factor =
     ap stated_maximum is.bytes ∙ (λ i. max_items (stated_slots-image K.format P sized i) (stated_factor-image K.format P is.valid.factor_high i)) in
     let few : count P + length (inserted g w) ≤ max_items (slot_count P) P.factor =
-    omega (arith, long, told.0, told.1, count_is, most_is, is.valid.room, c.insert_into_parts-end.ensures.bound, c.min-room.ensures, c.saturating_sub.ensures) in
-    list_placed K c.args.bytes.now _ _ _ cut (inserted g w) c.insert_into_parts-end.result.1 _ _ _
-    (written g w) c.insert_into_parts-end.ensures.run (room g w) (omega (arith, told.1)) P is few
-    (c.insert_into_parts-end.ensures.placed P (cut-image K.format c.args.bytes.now _ _ _ cut P is).1)
+    omega (arith, long, told.0, told.1, count_is, most_is, is.valid.room, c.insert_by_size-end.ensures.bound, c.min-room.ensures, c.saturating_sub.ensures) in
+    list_placed K c.args.bytes.now _ _ _ cut (inserted g w) c.insert_by_size-end.result.1 _ _ _
+    (written g w) c.insert_by_size-end.ensures.run (room g w) (omega (arith, told.1)) P is few
+    (c.insert_by_size-end.ensures.placed P (cut-image K.format c.args.bytes.now _ _ _ cut P is).1)

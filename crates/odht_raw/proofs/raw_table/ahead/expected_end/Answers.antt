@@ -1,0 +1,13 @@
+use Rattle.std.proofs.Common.{◌∙◌, sym}
+use Rattle.odht_base.specs.Format.{Format, format_of}
+use Rattle.odht_raw.proofs.lemmas.Expected.{ends_here}
+use Rattle.odht_raw.proofs.lemmas.Formats.{IsFormat-format_of}
+use Rattle.odht_raw.proofs.raw_table.ahead.expected_end.Goals as goal
+
+pub returns-then-is_empty_or_deleted-clause-placed :
+    goal.returns-then-is_empty_or_deleted-clause-placed
+returns-then-is_empty_or_deleted-clause-placed g c P h ends =
+    let F : Format = format_of g.K.ByteArray.LEN g.V.ByteArray.LEN g.H.HashFn.hash in
+    let f = IsFormat-format_of _ _ _ _ c.requires.lengths.pair.key c.requires.lengths.pair.value c.requires.lengths.pair.hashes g.met.H.HashFn.fits in
+    ends_here F P c.args.entries.now c.args.control.now (g.K.ByteArray.bytes c.args.key.now) f h c.requires.lengths.slots c.args.slot c.if-slot-control.true
+    (sym c.is_empty_or_deleted.ensures ∙ c.if-is_empty_or_deleted.true) ends

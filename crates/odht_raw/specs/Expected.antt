@@ -1,0 +1,28 @@
+-- Where a search for a key is expected to end, as it was looked up before other keys were inserted.
+--     IsExpected F P k i       where i is a slot of the placed table P, the search for k ends at it, and it is free
+--     EndsIfFree F P k i       where i is a slot of P that is free, the search for k ends at it
+--     IsAhead F ctrl k a       a is the hash of k, and the slot where the search for k is expected to end in each placed table
+--                              with the control bytes ctrl
+--     AreAhead c ctrl items from as  each of the numbers as is that of the item at its index behind `from`
+use Rattle.std.specs.Prelude.{◌≡◌, ℕ, ◌+◌, ◌<◌, List, slice_get, Some, IsTrue}
+use Rattle.odht_base.specs.Format.{Format}
+use Rattle.odht_base.specs.Table.{Table, slot_count, is_free}
+use Rattle.odht_base.specs.Valid.{IsPartsOf}
+use Rattle.odht_raw.specs.Answers.{answer}
+use Rattle.odht_raw.specs.Coding.{Coding, encoded}
+use Rattle.odht_raw.specs.declared.raw_table.outcome.Search.TheVariants.{Free}
+
+abbrev pub IsExpected : Format → Table → List ℕ → ℕ → Type 0
+IsExpected F P k i = i < slot_count P → Free i ≡ answer F P.cells k
+
+abbrev pub EndsIfFree : Format → Table → List ℕ → ℕ → Type 0
+EndsIfFree F P k i = i < slot_count P → IsTrue (is_free P.cells i) → Free i ≡ answer F P.cells k
+
+pub record IsAhead (F : Format) (ctrl k : List ℕ) (a : ℕ × ℕ) : Type 0 where
+  pub hash : a.0 ≡ F.hash k
+  pub expected : (P : Table) (es : List ℕ) → IsPartsOf F P es ctrl → IsExpected F P k a.1
+
+abbrev pub AreAhead : {K V : Type 0} → Coding K V → List ℕ → List (K × V) → ℕ → List (ℕ × ℕ) → Type 0
+AreAhead {K = K} {V = V} c ctrl items from ahead =
+    (i : ℕ) (k : K) (v : V) (a : ℕ × ℕ) → slice_get items (from + i) ≡ Some (k, v) → slice_get ahead i ≡ Some a
+    → IsAhead c.format ctrl (encoded c k v).key a

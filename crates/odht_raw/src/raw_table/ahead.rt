@@ -1,0 +1,119 @@
+//! Inserts of several keys whose slots are looked up ahead, so that the waits for their control bytes overlap.
+ghost use Rattle.std.specs.Prelude.{◌≡◌, ◌-◌, length};
+ghost use Rattle.odht_base.specs.Load.{IsSlotCount};
+ghost use Rattle.odht_base.specs.Format.{format_of};
+ghost use Rattle.odht_base.specs.Table.{Pair, Table};
+ghost use Rattle.odht_base.specs.Valid.{IsPartsOf};
+ghost use Rattle.odht_raw.specs.Answers.{answer};
+ghost use Rattle.odht_raw.specs.Expected.{EndsIfFree, IsAhead};
+ghost use Rattle.odht_raw.specs.PartLengths.{ArePairLengths, ArePartLengths};
+ghost use Rattle.odht_raw.specs.Parts.{EntryBytes};
+ghost use Rattle.odht_raw.specs.PartsInserts.{IsPlacing, IsChange};
+ghost use Rattle.odht_raw.specs.SearchEnds.{IsEnd};
+
+use super::writes::insert_at;
+use super::{Entries, EntryMetadata, Scan, Search, is_empty_or_deleted, search_hashed, tag_of};
+use crate::bytes::ByteArray;
+use crate::error::Error;
+use crate::hash::HashFn;
+use crate::swisstable_group_query::{Group, GroupQuery, REFERENCE_GROUP_SIZE};
+
+/// The hash of a key, and the slot where a pair with the key goes, as far as the first group search at its home slot tells
+/// it; the slot count where a key may have to be compared, or where none of these bytes counts as free.
+///
+/// No entry is looked at, so the calls for several keys need not wait for one another.
+#[inline(always)]
+pub(crate) fn expected_slot<K: ByteArray, V: ByteArray, H: HashFn, Q: Group>(
+    control: &[EntryMetadata],
+    key: &K,
+) -> (u32, usize)
+    requires slots { IsSlotCount (length control.now - 16) }
+    requires lengths { ArePairLengths H.MIN_LEN K.LEN V.LEN }
+    ensures { IsAhead (format_of K.LEN V.LEN H.hash) control.now (K.bytes key.now) result }
+{
+    let slots = control.len() - REFERENCE_GROUP_SIZE;
+    let mask = slots - 1;
+    let hash = H::hash(key.as_slice());
+    let home = hash as usize & mask;
+    let group = Q::of(&control[home..home + Q::SIZE], tag_of(hash));
+    if group.first_match().is_some() {
+        return (hash, slots);
+    }
+    match group.first_empty() {
+        Some(index) => (hash, (home + index) & mask),
+        None => (hash, slots),
+    }
+}
+
+/// `RawTableMut::insert` of a key with this hash, for which the search was expected to end at this slot. Where the slot
+/// still counts as free the pair is written there; else the whole search is made.
+#[inline(always)]
+pub(crate) fn insert_expected<K: ByteArray, V: ByteArray, H: HashFn>(
+    control: &mut [EntryMetadata],
+    entries: &mut [u8],
+    key: K,
+    value: V,
+    hash: u32,
+    slot: usize,
+) -> Result<Option<V>, Error>
+    requires lengths { ArePartLengths H.MIN_LEN K.LEN V.LEN (length entries.old) (length control.old) }
+    requires hash { hash ≡ H.hash (K.bytes key) }
+    ensures placed { let p : Pair = record { key = K.bytes key; value = V.bytes value }
+        in (P : Table)
+        → IsPartsOf (format_of K.LEN V.LEN H.hash) P entries.old control.old
+        → EndsIfFree (format_of K.LEN V.LEN H.hash) P p.key slot
+        → IsPlacing (format_of K.LEN V.LEN H.hash) V.of_bytes P p result entries.new control.new }
+    ensures any { let p : Pair = record { key = K.bytes key; value = V.bytes value }
+        in IsChange (format_of K.LEN V.LEN H.hash) V.of_bytes entries.old control.old p result entries.new control.new }
+{
+    let end = expected_end::<K, V, H>(control, entries, &key, hash, slot);
+    insert_at::<K, V, H>(control, entries, key, value, tag_of(hash), end)
+}
+
+// Where the search for the key ends, which was expected to be this slot.
+#[inline(always)]
+fn expected_end<K: ByteArray, V: ByteArray, H: HashFn>(
+    control: &[EntryMetadata],
+    entries: &[u8],
+    key: &K,
+    hash: u32,
+    slot: usize,
+) -> Search
+    requires lengths { ArePartLengths H.MIN_LEN K.LEN V.LEN (length entries.now) (length control.now) }
+    requires hash { hash ≡ H.hash (K.bytes key.now) }
+    ensures placed { (P : Table)
+        → IsPartsOf (format_of K.LEN V.LEN H.hash) P entries.now control.now
+        → EndsIfFree (format_of K.LEN V.LEN H.hash) P (K.bytes key.now) slot
+        → result ≡ answer (format_of K.LEN V.LEN H.hash) P.cells (K.bytes key.now) }
+    ensures any { let shown : EntryBytes = record { slots = length control.now - 16; bytes = entries.now }
+        in IsEnd (format_of K.LEN V.LEN H.hash) shown control.now (K.bytes key.now) result }
+{
+    if slot < control.len() - REFERENCE_GROUP_SIZE {
+        if is_empty_or_deleted(control[slot]) {
+            return Search::Free(slot);
+        }
+    }
+    whole_search::<K, V, H>(control, entries, key, hash)
+}
+
+// The whole search, which few inserts need.
+#[inline(never)]
+fn whole_search<K: ByteArray, V: ByteArray, H: HashFn>(
+    control: &[EntryMetadata],
+    entries: &[u8],
+    key: &K,
+    hash: u32,
+) -> Search
+    requires lengths { ArePartLengths H.MIN_LEN K.LEN V.LEN (length entries.now) (length control.now) }
+    requires hash { hash ≡ H.hash (K.bytes key.now) }
+    ensures placed { (P : Table)
+        → IsPartsOf (format_of K.LEN V.LEN H.hash) P entries.now control.now
+        → result ≡ answer (format_of K.LEN V.LEN H.hash) P.cells (K.bytes key.now) }
+    ensures any { let shown : EntryBytes = record { slots = length control.now - 16; bytes = entries.now }
+        in IsEnd (format_of K.LEN V.LEN H.hash) shown control.now (K.bytes key.now) result }
+{
+    let slots = control.len() - REFERENCE_GROUP_SIZE;
+    let shown: Entries<'_, K, V> = Entries::new(entries, slots);
+    let mut scan = Scan::new(control, slots);
+    search_hashed::<K, V, H, GroupQuery>(&mut scan, &shown, key, hash)
+}
