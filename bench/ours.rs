@@ -24,6 +24,12 @@ pub trait Calls: Key {
         found: &mut [u8],
     ) -> Result<(), Status>;
     fn walk(bytes: &[u8], keys: &mut [Self], values: &mut [u32]) -> Result<usize, Status>;
+
+    /// Opened bytes.
+    type View<'a>;
+
+    fn open_view(bytes: &[u8]) -> Result<Self::View<'_>, Status>;
+    fn view_get(view: &Self::View<'_>, key: &Self) -> Option<u32>;
 }
 
 /// `$key => $passed` says how a single key is handed over.
@@ -68,6 +74,16 @@ macro_rules! calls {
             fn walk(bytes: &[u8], keys: &mut [$type], values: &mut [u32]) -> Result<usize, Status> {
                 $calls::walk(bytes, keys, values)
             }
+
+            type View<'a> = $calls::View<'a>;
+
+            fn open_view(bytes: &[u8]) -> Result<$calls::View<'_>, Status> {
+                $calls::View::open(bytes)
+            }
+
+            fn view_get(view: &$calls::View<'_>, $key: &$type) -> Option<u32> {
+                view.get($passed)
+            }
         }
     };
 }
@@ -105,6 +121,12 @@ pub fn get<K: Calls>(work: &mut Work<K>) {
     work.answers.write_each(&work.queries, |key| {
         K::get(table, key).expect("the table is valid")
     });
+}
+
+/// One call for each key of a table that was opened once.
+pub fn view_get<K: Calls>(work: &mut Work<K>) {
+    let view = K::open_view(&work.table).expect("the table is valid");
+    work.answers.write_each(&work.queries, |key| K::view_get(&view, key));
 }
 
 pub fn walk<K: Calls>(work: &mut Work<K>) {

@@ -43,8 +43,8 @@
  * control byte or its copy in the mirror. docs/FORMAT.md has the frame.
  *
  * Memory is asked for by odht_u64_u32_build_growing alone, by malloc, and given
- * back before it returns. It goes through the kit's small C library, so programs are linked with both:
- * libodht_c.a, then liblibc_c.a.
+ * back before it returns. It goes through the kit's small C library, so programs
+ * are linked with both: libodht_c.a, then liblibc_c.a.
  */
 #ifndef ODHT_H
 #define ODHT_H

@@ -6,14 +6,14 @@
 --     IsStoppedAt c items n B    on the bytes B, accepted, an insert of item n may be refused
 --     IsFreshFilled c p items B  B are the bytes of the fresh table for as many items at p percent, after these are put into
 --                          it by the owned table; it has not grown
-use Rattle.std.specs.Prelude.{◌≡◌, ℕ, ◌+◌, ◌≤◌, List, [], ◌∷◌, ◌++◌, length, map, Option, Some, Ok, Err, slice_get}
+use Rattle.std.specs.Prelude.{◌≡◌, ℕ, ◌+◌, ◌≤◌, List, length, Option, Some, Err, slice_get}
 use Rattle.odht_base.specs.Format.{Format}
 use Rattle.odht_base.specs.Insert.{run, put_owned, IsFullFor}
 use Rattle.odht_base.specs.Load.{max_items}
 use Rattle.odht_base.specs.Map.{map_of, last, overwritten}
 use Rattle.odht_base.specs.Table.{Pair, Table, fresh, slot_count, count}
 use Rattle.odht_base.specs.Valid.{IsImage}
-use Rattle.odht_raw.specs.Coding.{Coding, encoded}
+use Rattle.odht_raw.specs.Coding.{Coding}
 use Rattle.odht_raw.specs.Frame.{IsFramed}
 pub use Rattle.odht_raw.specs.Runs.{encoded_all, IsFramedRun}
 use Rattle.odht_raw.specs.declared.error.Error.TheVariants.{Full}

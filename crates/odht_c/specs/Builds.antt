@@ -9,7 +9,7 @@
 --     BuildAnswers c keys values p out len s out' len'   a table made at p percent for as many pairs as there are
 --     BuildGrowingAnswers c keys values out len s out' len'   a table that grows
 -- Where the arrays are not equally long, or p is no load factor in percent, nothing is written.
-use Rattle.std.specs.Prelude.{◌≡◌, ◌≤◌, ◌<◌, ◌⊎◌, ℕ, List, length, take, drop, Some}
+use Rattle.std.specs.Prelude.{◌≡◌, ◌≤◌, ◌<◌, ℕ, List, length, take, drop, Some}
 use Rattle.std.specs.List.{zip}
 use Rattle.odht_base.specs.Insert.{put_owned}
 use Rattle.odht_base.specs.Load.{factor_of}

@@ -1,13 +1,11 @@
 -- A new table for as many pairs as are put into it: none is refused, and both inserts leave the same.
 use Rattle.std.proofs.Common.{◌≡◌, ◌<◌, ◌≤◌, ◌+◌, ◌∙◌, ◌↔◌, ℕ, sym, ap, subst, refl, List, Some, Result, Ok, Err, OnErr, IsOk, true≢false, take, length, All, arith, length-take}
 use Rattle.std.specs.Prelude.{option_map}
-use Rattle.std.specs.Result.{is_ok}
 use Rattle.std.proofs.lemmas.List.{length-map, take_all}
-use Rattle.odht_base.specs.Format.{Format}
 use Rattle.odht_base.specs.Image.{image, image_len}
-use Rattle.odht_base.specs.Insert.{put_owned, put_view, run}
+use Rattle.odht_base.specs.Insert.{put_owned, put_view}
 use Rattle.odht_base.specs.Load.{factor_of, slots_for, max_items}
-use Rattle.odht_base.specs.Table.{Pair, Table, slot_count, count, empty, fresh}
+use Rattle.odht_base.specs.Table.{Table, slot_count, count, empty, fresh}
 use Rattle.odht_base.specs.Valid.{IsImage, IsPairOf, IsValid}
 use Rattle.odht_base.proofs.lemmas.Fits.{IsSized-IsPlaced}
 use Rattle.odht_base.proofs.lemmas.FreshRuns.{put_owned-PlacesBelow, put_view-PlacesBelow, run-place_all, run-fits}

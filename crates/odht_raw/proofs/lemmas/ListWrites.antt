@@ -1,21 +1,20 @@
 -- The bytes of a table cut into header, entries and control bytes, and what they are once a list was inserted.
 --     IsCut F B H es ctrl  the accepted bytes B are the header H, the entries es and the control bytes ctrl
-use Rattle.std.proofs.Common.{◌≡◌, ◌<◌, ◌≤◌, ◌+◌, ◌-◌, ◌*◌, ◌^◌, ◌∙◌, ◌++◌, ℕ, sym, ap, ap₂, subst, List, take, drop, length, min, All, arith, lit≤, refl, append_assoc, length-append, length-take, length-drop, take_at, drop_at, take-append-drop}
+use Rattle.std.proofs.Common.{◌≡◌, ◌<◌, ◌≤◌, ◌+◌, ◌*◌, ◌^◌, ◌∙◌, ◌++◌, ℕ, sym, ap, ap₂, subst, List, take, drop, length, All, arith, lit≤, refl, append_assoc, length-append, length-take, length-drop, take_at, drop_at, take-append-drop}
 use Rattle.std.proofs.lemmas.List.{length-map, take-take}
 use Rattle.std.proofs.lemmas.List.Elements.{All-take}
-use Rattle.std.specs.List.{slice_range}
 use Rattle.odht_base.specs.Bytes.{bytes_at}
 use Rattle.odht_base.specs.Format.{Format, entry_len}
 use Rattle.odht_base.specs.Image.{header_bytes, entries, controls, image}
 use Rattle.odht_base.specs.Load.{max_items}
 use Rattle.odht_base.specs.Numbers.{num}
 use Rattle.odht_base.specs.Shown.{stated_slots, stated_count, stated_factor}
-use Rattle.odht_base.specs.Table.{Pair, Table, slot_count, count}
+use Rattle.odht_base.specs.Table.{Table, slot_count, count}
 use Rattle.odht_base.specs.Valid.{IsImage, IsPartsOf}
 use Rattle.odht_base.specs.Writes.{with_count}
 use Rattle.odht_base.proofs.lemmas.ByteRanges.{bytes_at-take_front}
 use Rattle.odht_base.proofs.lemmas.Fits.{IsSized-IsPlaced}
-use Rattle.odht_base.proofs.lemmas.Image.{stated_count-image, stated_slots-image, stated_factor-image}
+use Rattle.odht_base.proofs.lemmas.Image.{stated_count-image, stated_slots-image}
 use Rattle.odht_base.proofs.lemmas.Parts.{length-header_bytes, length-entries}
 use Rattle.odht_raw.specs.Coding.{Coding, encoded}
 use Rattle.odht_raw.specs.Frame.{IsAccepted, stated_maximum}

@@ -11,7 +11,7 @@ use Rattle.odht_base.specs.Format.{Format}
 use Rattle.odht_base.specs.Insert.{place}
 use Rattle.odht_base.specs.Map.{map_of}
 use Rattle.odht_base.specs.Table.{Pair, Table, count}
-use Rattle.odht_base.specs.Valid.{IsPairOf, IsPartsOf}
+use Rattle.odht_base.specs.Valid.{IsPairOf}
 use Rattle.odht_base.proofs.lemmas.Options.{some_same}
 use Rattle.odht_base.proofs.lemmas.Places.{count-place}
 use Rattle.odht_base.proofs.lemmas.Runs.{run-push}

@@ -14,7 +14,7 @@ use crate::raw_table::RawTable;
 ///
 /// The rules and their order are those of docs/FORMAT.md, "What is refused, and in which order". It takes no memory. Where
 /// hashes vary it is linear in the bytes; at worst, where all keys of `s` slots have one hash, it looks at about `s*s/32`
-/// groups and makes `s*s/2` compares, so who takes bytes of strangers bounds their length.
+/// groups and makes `s*s/2` compares, for 2^20 slots in over an hour, so who takes bytes of strangers bounds their length.
 pub fn check_all<C: Config>(bytes: &[u8]) -> Result<(), Error>
     ensures first { result ≡ checked (check_refusal ⟦<C as Coded>⟧.coding.format bytes.now) }
     ensures valid { IsOk result ↔ IsValidBytes ⟦<C as Coded>⟧.coding.format bytes.now }

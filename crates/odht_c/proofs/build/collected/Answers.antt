@@ -1,10 +1,9 @@
 use Rattle.std.proofs.Common.{◌≡◌, ◌∙◌, refl, sym, ap, length, arith, Some}
 use Rattle.std.specs.List.{zip}
 use Rattle.std.proofs.lemmas.Slice.Zip.{length-zip}
-use Rattle.std.proofs.lemmas.List.{length-replicate}
 use Rattle.odht_base.specs.Image.{image_len}
 use Rattle.odht_base.specs.Load.{factor_of, slots_for}
-use Rattle.odht_base.specs.Table.{Table, empty, fresh, slot_count}
+use Rattle.odht_base.specs.Table.{empty}
 use Rattle.odht_base.proofs.lemmas.Rooms.{slot_count-empty}
 use Rattle.odht_raw.specs.Coding.{Coding, coding_of}
 use Rattle.odht_c.proofs.lemmas.NewBuilds.{fresh_empty, new_exists}

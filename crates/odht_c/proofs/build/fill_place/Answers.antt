@@ -3,7 +3,7 @@ use Rattle.std.specs.List.{zip}
 use Rattle.std.proofs.lemmas.Slice.Zip.{length-zip}
 use Rattle.odht_base.specs.Image.{image}
 use Rattle.odht_base.specs.Insert.{put_view}
-use Rattle.odht_base.specs.Load.{IsSlotCount, IsLeastSlots, factor_of, slots_for}
+use Rattle.odht_base.specs.Load.{factor_of, slots_for}
 use Rattle.odht_base.specs.Table.{Table, empty, fresh}
 use Rattle.odht_base.specs.Valid.{IsImage}
 use Rattle.odht_base.specs.Writes.{with_count}

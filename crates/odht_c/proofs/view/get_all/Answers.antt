@@ -1,4 +1,4 @@
-use Rattle.std.proofs.Common.{◌≡◌, refl, subst, slice_get, IfSome}
+use Rattle.std.proofs.Common.{refl, subst, slice_get, IfSome}
 use Rattle.std.proofs.lemmas.Option.{slice_get_within}
 use Rattle.odht_raw.specs.Coding.{coding_of, HasStored}
 use Rattle.odht_c.specs.Reads.{IsGotAt}

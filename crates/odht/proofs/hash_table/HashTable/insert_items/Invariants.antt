@@ -2,7 +2,6 @@ use Rattle.std.proofs.Common.{◌≡◌, ◌-◌, ◌≤◌, take, length}
 use Rattle.odht_base.specs.Insert.{put_view}
 use Rattle.odht_base.specs.Table.{Table}
 use Rattle.odht_base.specs.Valid.{IsImage}
-use Rattle.odht_raw.specs.Frame.{IsAccepted}
 use Rattle.odht_raw.specs.Coding.{coding_of}
 use Rattle.odht.specs.Lists.{encoded_all, IsFilled, IsFramedRun}
 use Rattle.odht.proofs.hash_table.HashTable.insert_items.Given as goal

@@ -1,4 +1,4 @@
-use Rattle.std.proofs.Common.{sym, ap, ◌∙◌, ◌≡◌, length, arith}
+use Rattle.std.proofs.Common.{ap, ◌≡◌, length, arith}
 use Rattle.std.specs.List.{zip}
 use Rattle.std.proofs.lemmas.Slice.Zip.{length-zip}
 use Rattle.odht_raw.proofs.items.ZippedItems.count.Goals as goal

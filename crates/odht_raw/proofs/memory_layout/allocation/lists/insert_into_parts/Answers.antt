@@ -1,8 +1,8 @@
-use Rattle.std.proofs.Common.{◌≡◌, ◌+◌, ◌<◌, ◌∙◌, ℕ, List, [], sym, ap, subst, refl, cond, arith, length}
+use Rattle.std.proofs.Common.{◌≡◌, ◌+◌, ◌<◌, ◌∙◌, List, sym, ap, subst, refl, cond, arith, length}
 use Rattle.std.specs.Prelude.{is_none}
 use Rattle.std.specs.List.{slice_range}
-use Rattle.odht_base.specs.Table.{Pair, Table}
-use Rattle.odht_base.specs.Valid.{IsPairOf, IsPartsOf}
+use Rattle.odht_base.specs.Table.{Pair}
+use Rattle.odht_base.specs.Valid.{IsPairOf}
 use Rattle.odht_raw.specs.Coding.{Coding, coding_of, encoded}
 use Rattle.odht_raw.specs.Frame.{IsPartsFramed}
 use Rattle.odht_raw.specs.PartsInserts.{AnswersFormer}
