@@ -11,7 +11,7 @@ use Rattle.odht_raw.proofs.examples.Apart.{unequal, unequal_lists}
 use Rattle.odht_raw.proofs.examples.Opened.{opened}
 use Rattle.odht_c.specs.Reads.{IsGot, IsGotAt}
 use Rattle.odht_c.specs.Views.{OpenViewAnswers, ViewGetAnswers, ViewGetAllAnswers, ViewLenAnswers}
-use Rattle.odht_c.proofs.examples.Tables.{direct_coding, one_item, one_bytes, no_bytes, miscounted, one_image, accepted_bytes, same_table, not_stored}
+use Rattle.odht_c.proofs.examples.Tables.{direct_coding, one_item, one_bytes, no_bytes, miscounted, one_image, same_table, not_stored}
 
 abbrev at640 : List ℕ → Bor (List ℕ)
 at640 B = record { ref_ptr = (640, length B); now = B }

@@ -1,5 +1,5 @@
 -- What is inserted into accepted bytes leaves them accepted, so a view of them can go on being looked up in.
-use Rattle.std.proofs.Common.{◌≡◌, ◌∙◌, ◌+◌, ◌*◌, ◌≤◌, ◌<◌, ◌++◌, ◌==◌, ℕ, Bool, true, false, true≢false, List, [], ◌∷◌, sym, refl, subst, arith, length, length-append, eqb-true, eq-eqb, Option, Result, Ok, All}
+use Rattle.std.proofs.Common.{◌≡◌, ◌∙◌, ◌+◌, ◌*◌, ◌≤◌, ◌++◌, ◌==◌, ℕ, Bool, true, false, true≢false, List, [], ◌∷◌, sym, refl, subst, arith, length, length-append, eqb-true, eq-eqb, Option, Result, Ok, All}
 use Rattle.std.specs.Prelude.{take}
 use Rattle.std.specs.List.{zip}
 use Rattle.std.proofs.Math.ListN.{get_or-append}
