@@ -161,14 +161,14 @@ static inline const char *odht_status_name(uint32_t status)
  *   ODHT_OK. (A view may be filled by hand too, with bytes that odht_*_open or
  *   odht_*_check has answered ODHT_OK of.)
  * - The bytes are still where they were.
- * - Their header and their length have not changed since but by calls of this
- *   library for the same kind of table. These keep a view good: it finds what
- *   odht_*_insert and odht_*_insert_all have inserted into its bytes since. So a
- *   file that others can write is no place for the bytes of a view.
+ * - Nothing has written their header since but odht_*_insert, odht_*_insert_all
+ *   and odht_*_init of the same kind of table, on exactly these bytes. These calls
+ *   keep a view good, whatever they answer, and it finds what they have inserted.
+ *   A build into these bytes does not, nor does another program that writes a
+ *   mapped file. (Slots that something else has written make answers as told above.)
  *
- * Otherwise the lookup may read anywhere and answer anything, or the program may
- * stop, as with any wrong pointer in C. Everything else about the bytes is as
- * told above: also where slots are damaged, no lookup reads beyond them.
+ * Otherwise a lookup may read anywhere and answer anything, or the program may
+ * stop, as with any wrong pointer in C.
  *
  * odht_*_open_view writes the view that it is given, and does not look at it. That
  * view must be one, though: ODHT_NO_VIEW, or one whose bytes are still there.

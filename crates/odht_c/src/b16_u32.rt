@@ -123,6 +123,7 @@ pub extern "C" fn odht_b16_u32_check(bytes: &[u8]) -> u32
 
 /// Gives the key this value: status 0 where the key was new, `REPLACED` where it had a value, which is written to
 /// `former`. `FULL` at the maximum where the key is absent, or a refusal of the header or length; then nothing changes.
+/// A view of the bytes stays good.
 #[unsafe(no_mangle)]
 pub extern "C" fn odht_b16_u32_insert(
     bytes: &mut [u8],
@@ -130,8 +131,10 @@ pub extern "C" fn odht_b16_u32_insert(
     value: u32,
     former: &mut u32,
 ) -> u32
-    ensures { InsertAnswers ⟦<Bytes16ToU32 as Coded>⟧.coding bytes.old key.now value
+    ensures answers { InsertAnswers ⟦<Bytes16ToU32 as Coded>⟧.coding bytes.old key.now value
         former.old result bytes.new former.new }
+    ensures accepted { let F = ⟦<Bytes16ToU32 as Coded>⟧.coding.format
+        in IsAccepted F bytes.old → IsAccepted F bytes.new }
 {
     let mut place = BorrowedMut::new(bytes);
     write::insert::<Bytes16ToU32, BorrowedMut<'_>>(&mut place, key, &value, former)
@@ -139,7 +142,7 @@ pub extern "C" fn odht_b16_u32_insert(
 
 /// Inserts pairs, the key and the value at each index, in their order: status 0, or `FULL` at the first that is
 /// refused, and how many were accepted in `accepted`. `BAD_LENGTHS` where there are more of the ones than of the
-/// others, or a refusal of the header or length; then nothing changes.
+/// others, or a refusal of the header or length; then nothing changes. A view of the bytes stays good.
 #[unsafe(no_mangle)]
 pub extern "C" fn odht_b16_u32_insert_all(
     bytes: &mut [u8],
@@ -147,8 +150,10 @@ pub extern "C" fn odht_b16_u32_insert_all(
     values: &[u32],
     accepted: &mut usize,
 ) -> u32
-    ensures { InsertAllAnswers ⟦<Bytes16ToU32 as Coded>⟧.coding bytes.old keys.now values.now
+    ensures answers { InsertAllAnswers ⟦<Bytes16ToU32 as Coded>⟧.coding bytes.old keys.now values.now
         accepted.old result bytes.new accepted.new }
+    ensures accepted { let F = ⟦<Bytes16ToU32 as Coded>⟧.coding.format
+        in IsAccepted F bytes.old → IsAccepted F bytes.new }
 {
     if values.len() != keys.len() {
         return BAD_LENGTHS;

@@ -64,6 +64,22 @@ fn a_view_finds_the_keys_of_its_table(rt: HostRuntime) {
 }
 
 #[test]
+fn a_view_finds_what_was_inserted_behind_it(rt: HostRuntime) {
+    let (mut bytes, mut former, mut value) = (number_table(&rt), 0, 0);
+    let mut view = View { bytes: &[] };
+    let status = odht_u64_u32_open_view(&bytes, &mut view);
+    assert_eq!(rt; status, OK, "open_view");
+    let status = odht_u64_u32_insert(&mut bytes, 4, 40, &mut former);
+    same_status(&rt, "insert", status, OK);
+    // The same view, which C has kept.
+    let view = View { bytes: &bytes };
+    let status = odht_u64_u32_view_get(&view, 4, &mut value);
+    same_status(&rt, "get 4", status, OK);
+    same(&rt, "value of 4", value as usize, 40);
+    same(&rt, "items", odht_u64_u32_view_len(&view), 3);
+}
+
+#[test]
 fn a_view_finds_many_keys_at_once(rt: HostRuntime) {
     let bytes = number_table(&rt);
     let mut view = View { bytes: &[] };
