@@ -8,6 +8,7 @@ mod frame;
 mod full_tables;
 mod header_bytes;
 mod insert_orders;
+mod large_lists;
 mod list_properties;
 mod lookups;
 mod lossless;
