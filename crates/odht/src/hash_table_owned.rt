@@ -33,6 +33,7 @@ use std::marker::Model;
 mod dump;
 mod get_all;
 mod insert_order;
+mod lists;
 
 /// A table in memory of its own, which grows as it fills. Its bytes are always valid, and a contract speaks of it as of
 /// these bytes.
@@ -246,77 +247,6 @@ impl<C: Config> HashTableOwned<C> {
             Ok(old) => Ok(old),
             Err(Error::Full) => self.insert_grown(key, value),
             Err(refused) => Err(refused),
-        }
-    }
-
-    /// Inserts the items in their order, and stops at the first that is refused. Answers how many were accepted, and
-    /// `Memory` where there was a refusal: the table is then as the accepted ones left it, at its maximum, and the key
-    /// of the refused item is absent.
-    ///
-    /// A fresh table that accepted all has the items' last values; one for as many as there are has not grown.
-    pub fn insert_all(&mut self, items: &[(C::Key, C::Value)]) -> (usize, Result<(), Error>)
-        ensures bound { result.0 ≤ length items.now }
-        ensures all { IsOk result.1 ↔ (result.0 ≡ length items.now) }
-        ensures filled { let c = ⟦<C as Coded>⟧.coding
-            in (P : Table)
-            → IsImage c.format P self.old
-            → IsFilled c.format (put_owned c.format) P (encoded_all c (take result.0 items.now)) self.new }
-        ensures fresh { let c = ⟦<C as Coded>⟧.coding
-            in (p : ℕ)
-            → IsFresh c.format (length items.now) p self.old
-            → OnOk result.1 (IsFreshFilled c p items.now self.new) }
-        ensures last_values { let c = ⟦<C as Coded>⟧.coding
-            in (n p : ℕ)
-            → IsFresh c.format n p self.old
-            → OnOk result.1 (HasLastValues c items.now self.new) }
-        ensures at_maximum { let c = ⟦<C as Coded>⟧.coding
-            in (P : Table)
-            → IsImage c.format P self.new
-            → OnErr result.1 (IsRefusedAt c P items.now result.0) }
-        ensures memory { OnErr result.1 (result.1 ≡ Err Error.Memory) }
-    {
-        self.insert_items(&items)
-    }
-
-    /// `insert_all` of items in any form, such as the keys and the values of two slices ([`Zipped`](crate::items::Zipped)).
-    #[inline(always)]
-    pub fn insert_items<I: Items<C::Key, C::Value>>(
-        &mut self,
-        items: &I,
-    ) -> (usize, Result<(), Error>)
-        ensures bound { result.0 ≤ length (I.items items.now) }
-        ensures all { IsOk result.1 ↔ (result.0 ≡ length (I.items items.now)) }
-        ensures filled { let c = ⟦<C as Coded>⟧.coding
-            in let accepted = encoded_all c (take result.0 (I.items items.now))
-            in (P : Table)
-            → IsImage c.format P self.old
-            → IsFilled c.format (put_owned c.format) P accepted self.new }
-        ensures fresh { let c = ⟦<C as Coded>⟧.coding
-            in (p : ℕ)
-            → IsFresh c.format (length (I.items items.now)) p self.old
-            → OnOk result.1 (IsFreshFilled c p (I.items items.now) self.new) }
-        ensures last_values { let c = ⟦<C as Coded>⟧.coding
-            in (n p : ℕ)
-            → IsFresh c.format n p self.old
-            → OnOk result.1 (HasLastValues c (I.items items.now) self.new) }
-        ensures at_maximum { let c = ⟦<C as Coded>⟧.coding
-            in (P : Table)
-            → IsImage c.format P self.new
-            → OnErr result.1 (IsRefusedAt c P (I.items items.now) result.0) }
-        ensures memory { OnErr result.1 (result.1 ≡ Err Error.Memory) }
-    {
-        let mut accepted = 0;
-        'rounds: loop {
-            accepted = self.table.insert_below_maximum(items, accepted);
-            if accepted >= items.count() {
-                return (accepted, Ok(()));
-            }
-            // At the maximum a key that is there is given its value, and for another the table grows.
-            let (key, value) = items.at(accepted);
-            if let Err(refused) = self.insert(key, value) {
-                return (accepted, Err(refused));
-            }
-            accepted += 1;
         }
     }
 

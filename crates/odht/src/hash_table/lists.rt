@@ -1,0 +1,106 @@
+//! Lists of inserts into the table over bytes of any kind.
+ghost use Rattle.std.specs.Prelude.{◌≡◌, ◌≤◌, ◌↔◌, length, take, IsOk, OnErr};
+ghost use Rattle.std.specs.List.{slice_range};
+ghost use Rattle.odht_base.specs.Table.{Table};
+ghost use Rattle.odht_base.specs.Insert.{put_view};
+ghost use Rattle.odht_base.specs.Valid.{IsImage};
+ghost use Rattle.odht.specs.Lists.{encoded_all, IsFilled, IsFramedRun, IsRefusedAt, IsStoppedAt};
+ghost use Rattle.odht_raw.specs.Frame.{IsAccepted};
+ghost use Rattle.odht_raw.specs.Runs.{IsPlacedBelow};
+
+use super::HashTable;
+use crate::bytes::ByteStoreMut;
+use crate::config::{Coded, Config};
+use crate::error::Error;
+use crate::items::Items;
+
+impl<C: Config, D: ByteStoreMut> HashTable<C, D> {
+    /// Inserts the items from index `from` on in their order, as many as there is room for below the maximum, and answers
+    /// the index of the first that was not inserted.
+    #[inline(always)]
+    pub(crate) fn insert_below_maximum<I: Items<C::Key, C::Value>>(
+        &mut self,
+        items: &I,
+        from: usize,
+    ) -> usize
+        requires { from ≤ length (I.items items.now) }
+        ensures from { from ≤ result }
+        ensures bound { result ≤ length (I.items items.now) }
+        ensures placed { let c = ⟦<C as Coded>⟧.coding
+            in (P : Table)
+            → IsImage c.format P (D.bytes self.old)
+            → IsPlacedBelow c.format P (encoded_all c (slice_range (I.items items.now) from result)) (D.bytes self.new) }
+        ensures framed { let c = ⟦<C as Coded>⟧.coding
+            in IsFramedRun c (D.bytes self.old) (slice_range (I.items items.now) from result) (D.bytes self.new) }
+        ensures place { self.new ≡ D.holding self.old (D.bytes self.new) }
+        ensures accepted { IsAccepted ⟦<C as Coded>⟧.coding.format (D.bytes self.new) }
+    {
+        self.allocation.insert_below_maximum(items, from)
+    }
+
+    /// Inserts the items in their order, and stops at the first that is refused. Answers how many were accepted, and `Full`
+    /// where there was a refusal: the table is then as the accepted ones left it, on valid bytes at its maximum, and the
+    /// key of the refused item is absent. On any bytes each accepted item changes no more than `insert` may, and the item
+    /// that is refused is one that `insert` may refuse.
+    pub fn insert_all(&mut self, items: &[(C::Key, C::Value)]) -> (usize, Result<(), Error>)
+        ensures bound { result.0 ≤ length items.now }
+        ensures all { IsOk result.1 ↔ (result.0 ≡ length items.now) }
+        ensures filled { let c = ⟦<C as Coded>⟧.coding
+            in (P : Table)
+            → IsImage c.format P (D.bytes self.old)
+            → IsFilled c.format (put_view c.format) P (encoded_all c (take result.0 items.now)) (D.bytes self.new) }
+        ensures framed { let c = ⟦<C as Coded>⟧.coding
+            in IsFramedRun c (D.bytes self.old) (take result.0 items.now) (D.bytes self.new) }
+        ensures place { self.new ≡ D.holding self.old (D.bytes self.new) }
+        ensures accepted { IsAccepted ⟦<C as Coded>⟧.coding.format (D.bytes self.new) }
+        ensures at_maximum { let c = ⟦<C as Coded>⟧.coding
+            in (P : Table)
+            → IsImage c.format P (D.bytes self.new)
+            → OnErr result.1 (IsRefusedAt c P items.now result.0) }
+        ensures stopped { let c = ⟦<C as Coded>⟧.coding
+            in OnErr result.1 (IsStoppedAt c items.now result.0 (D.bytes self.new)) }
+        ensures only_full { OnErr result.1 (result.1 ≡ Err Error.Full) }
+    {
+        self.insert_items(&items)
+    }
+
+    /// `insert_all` of items in any form, such as the keys and the values of two slices ([`Zipped`](crate::items::Zipped)).
+    #[inline(always)]
+    pub fn insert_items<I: Items<C::Key, C::Value>>(
+        &mut self,
+        items: &I,
+    ) -> (usize, Result<(), Error>)
+        ensures bound { result.0 ≤ length (I.items items.now) }
+        ensures all { IsOk result.1 ↔ (result.0 ≡ length (I.items items.now)) }
+        ensures filled { let c = ⟦<C as Coded>⟧.coding
+            in let accepted = encoded_all c (take result.0 (I.items items.now))
+            in (P : Table)
+            → IsImage c.format P (D.bytes self.old)
+            → IsFilled c.format (put_view c.format) P accepted (D.bytes self.new) }
+        ensures framed { let c = ⟦<C as Coded>⟧.coding
+            in IsFramedRun c (D.bytes self.old) (take result.0 (I.items items.now)) (D.bytes self.new) }
+        ensures place { self.new ≡ D.holding self.old (D.bytes self.new) }
+        ensures accepted { IsAccepted ⟦<C as Coded>⟧.coding.format (D.bytes self.new) }
+        ensures at_maximum { let c = ⟦<C as Coded>⟧.coding
+            in (P : Table)
+            → IsImage c.format P (D.bytes self.new)
+            → OnErr result.1 (IsRefusedAt c P (I.items items.now) result.0) }
+        ensures stopped { let c = ⟦<C as Coded>⟧.coding
+            in OnErr result.1 (IsStoppedAt c (I.items items.now) result.0 (D.bytes self.new)) }
+        ensures only_full { OnErr result.1 (result.1 ≡ Err Error.Full) }
+    {
+        let mut accepted = 0;
+        'rounds: loop {
+            accepted = self.insert_below_maximum(items, accepted);
+            if accepted >= items.count() {
+                return (accepted, Ok(()));
+            }
+            // At the maximum a key that is there is given its value.
+            let (key, value) = items.at(accepted);
+            if let Err(refused) = self.insert(key, value) {
+                return (accepted, Err(refused));
+            }
+            accepted += 1;
+        }
+    }
+}
