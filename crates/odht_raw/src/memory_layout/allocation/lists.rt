@@ -23,7 +23,8 @@ impl<C: Config, M: ByteStoreMut> Allocation<C, M> {
     /// answers the index of the first that was not inserted. It stops early only where an item finds no slot, which no
     /// valid table has.
     ///
-    /// The header is read once and the item count written once. At most each group is looked at once for an item.
+    /// The header is read once and the item count written once. At most each group is looked at once for an item; that at
+    /// the home slot once more in tables of 2^20 slots and above, whose groups are looked at ahead, for eight keys at once.
     #[inline(always)]
     pub fn insert_below_maximum<I: Items<C::Key, C::Value>>(
         &mut self,
