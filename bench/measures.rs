@@ -48,7 +48,7 @@ fn hits<K: Contest>() -> Measure<K> {
     Measure::new(Written::Answers)
         .way("hits, get_all", ours::get_all)
         .way("hits, get from C", ours::get)
-        .way("hits, view_get from C", ours::view_get)
+        .way("hits, view_get", ours::view_get)
         .beside(original_job!(get), map_jobs!(get))
         .checked(Work::check_hits)
 }
@@ -57,7 +57,7 @@ fn misses<K: Contest>() -> Measure<K> {
     Measure::new(Written::Answers)
         .way("misses, get_all", ours::get_all)
         .way("misses, get from C", ours::get)
-        .way("misses, view_get from C", ours::view_get)
+        .way("misses, view_get", ours::view_get)
         .beside(original_job!(get), map_jobs!(get))
         .checked(Work::check_misses)
 }
