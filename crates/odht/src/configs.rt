@@ -1,6 +1,6 @@
-//! Ready configurations: numbers of 32 bits under both hashes, and bytes as they are.
+//! Ready configurations: integers, keys that are hashes already, and bytes as they are.
 //!
-//! docs/FORMAT.md says how a key is hashed and where it stands.
+//! docs/FORMAT.md says how a key is hashed and where its probe order begins.
 ghost use Rattle.std.specs.Prelude.{◌≤◌};
 ghost use Rattle.std.specs.Int.{w32, to_le_bytes, from_le_bytes};
 ghost use Rattle.std.proofs.Common.{lit≤, zero-le};
@@ -9,6 +9,14 @@ use crate::bytes::ByteArray;
 use crate::config::{Config, Lossless};
 use crate::hash::{FxHashFn, UnHashFn};
 use std::marker::PhantomData;
+
+pub use hashed::{
+    Bytes16Set, Bytes16ToU32, Bytes16ToU64, Bytes20ToU64, Bytes32Set, Bytes32ToU64, HashBytes, Hashes,
+};
+pub use numbers::{Numbers, Stored, U64ToU32, U64ToU64};
+
+mod hashed;
+mod numbers;
 
 /// From u32 to u32, both lowest byte first.
 pub struct U32ToU32;

@@ -11,6 +11,8 @@ pub mod GetAlls
 pub mod Views
 -- the item count, and walks
 pub mod Walks
+-- the numbers of a header
+pub mod Sizes
 -- orders of inserts
 pub mod Orders
 -- new tables in bytes

@@ -8,6 +8,8 @@ pub mod Got
 pub mod Statuses
 -- the status of a refusal
 pub mod Refused
+-- what a header states
+pub mod Sizes
 -- iterators that are called until they end
 pub mod Drained
 -- tables that are handed out

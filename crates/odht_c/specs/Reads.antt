@@ -8,16 +8,20 @@
 --     GetAnswers c B k old s new              the value of the key k
 --     GetAllAnswers c B keys vs fs s vs' fs'  the values of keys, and which of them were found
 --     LenAnswers c B old s new                how many items the header states
+--     SizesAnswers F B n m p s n' m' p'       how many slots the header states, how many items these take, and the load
+--                                             factor in percent
 --     WalkAnswers c B ks vs n s ks' vs' n'    the keys and the values in slot order, and how many
 -- Bytes whose header or length is refused change no place, and neither do arrays that are not equally long. A clause
 -- `on_valid` speaks of the bytes of a valid table, and `on_any` of all that a view of the header and length accepts.
 use Rattle.std.specs.Prelude.{◌≡◌, ◌≤◌, ◌<◌, ℕ, min, Option, Some, None, IfSome}
 use Rattle.std.specs.Prelude.{List, ◌++◌, length, map, take, drop, slice_get}
-use Rattle.odht_base.specs.Table.{Table, count, walk}
-use Rattle.odht_base.specs.Shown.{stated_count, seen}
+use Rattle.odht_base.specs.Format.{Format}
+use Rattle.odht_base.specs.Load.{max_items, percent_of}
+use Rattle.odht_base.specs.Table.{Table, slot_count, count, walk}
+use Rattle.odht_base.specs.Shown.{stated_count, stated_slots, stated_factor, seen}
 use Rattle.odht_base.specs.Valid.{IsImage}
 use Rattle.odht_raw.specs.Coding.{Coding, value_for, HasStored}
-use Rattle.odht_raw.specs.Frame.{IsAccepted}
+use Rattle.odht_raw.specs.Frame.{IsAccepted, stated_maximum}
 use Rattle.odht_raw.specs.Refusals.{opening_refusal}
 use Rattle.odht_raw.specs.Walks.{decoded_all}
 use Rattle.odht_raw.specs.declared.error.Error.{Error}
@@ -62,6 +66,15 @@ pub record LenAnswers {K V : Type 0} (c : Coding K V) (B : List ℕ) (old s new 
   pub refused : (e : Error) → opening_refusal c.format B ≡ Some e → new ≡ old
   pub stated : IsAccepted c.format B → new ≡ stated_count B
   pub on_valid : (P : Table) → IsImage c.format P B → new ≡ count P
+
+pub record SizesAnswers (F : Format) (B : List ℕ) (slots maximum percent s slots' maximum' percent' : ℕ) : Type 0 where
+  pub status : s ≡ status_or_ok (opening_refusal F B)
+  pub refused : (e : Error) → opening_refusal F B ≡ Some e
+      → (slots' ≡ slots) × (maximum' ≡ maximum) × (percent' ≡ percent)
+  pub stated : IsAccepted F B
+      → (slots' ≡ stated_slots B) × (maximum' ≡ stated_maximum B) × (percent' ≡ percent_of (stated_factor B))
+  pub on_valid : (P : Table) → IsImage F P B
+      → (slots' ≡ slot_count P) × (maximum' ≡ max_items (slot_count P) P.factor) × (percent' ≡ percent_of P.factor)
 
 pub record WalkAnswers {K V : Type 0} (c : Coding K V) (B : List ℕ) (ks : List K) (vs : List V) (n s : ℕ)
     (ks' : List K) (vs' : List V) (n' : ℕ) : Type 0 where

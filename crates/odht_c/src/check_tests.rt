@@ -1,9 +1,9 @@
 //! The whole check of two tables that were worked out by hand from docs/FORMAT.md, whole and with changes that opening
 //! does not see.
 
-use crate::b16_u32::{odht_b16_u32_check, odht_b16_u32_open};
+use crate::shapes::b16_u32::{odht_b16_u32_check, odht_b16_u32_open};
+use crate::shapes::u64_u32::{odht_u64_u32_check, odht_u64_u32_open};
 use crate::status::OK;
-use crate::u64_u32::{odht_u64_u32_check, odht_u64_u32_open};
 use std::process::Abort;
 
 // Writes the byte of each change in its place.

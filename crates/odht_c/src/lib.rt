@@ -1,7 +1,6 @@
 //! The table for programs in C, and in any language that calls C.
 #![tactic(auto)]
 
-mod b16_u32;
 mod build;
 #[cfg(test)]
 mod check_tests;
@@ -10,10 +9,13 @@ mod order;
 #[cfg(test)]
 mod order_tests;
 mod read;
+#[cfg(test)]
+mod shape_tests;
+mod shapes;
 mod status;
 #[cfg(test)]
 mod tests;
-mod u64_u32;
+mod version;
 mod view;
 #[cfg(test)]
 mod view_tests;

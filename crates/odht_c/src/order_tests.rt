@@ -1,10 +1,10 @@
 //! The call for an order of inserts: of tables whose only order is known, of one that no inserts make, and refused.
 
-use crate::b16_u32::{
+use crate::shapes::b16_u32::{
     odht_b16_u32_check, odht_b16_u32_init, odht_b16_u32_insert, odht_b16_u32_insert_order,
 };
+use crate::shapes::u64_u32::{odht_u64_u32_init, odht_u64_u32_insert, odht_u64_u32_insert_order};
 use crate::status::{BAD_LENGTHS, OK, UNMADE};
-use crate::u64_u32::{odht_u64_u32_init, odht_u64_u32_insert, odht_u64_u32_insert_order};
 use std::process::Abort;
 
 // A number that no call has written.

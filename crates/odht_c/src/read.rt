@@ -3,7 +3,7 @@ ghost use Rattle.std.specs.Prelude.{◌≡◌, length, IfOk};
 ghost use Rattle.std.specs.Result.{result_err};
 ghost use Rattle.odht_raw.specs.Refusals.{opening_refusal, view_refusal, check_refusal};
 ghost use Rattle.odht_c.specs.Statuses.{status_or_ok};
-ghost use Rattle.odht_c.specs.Reads.{GetAnswers, GetAllAnswers, LenAnswers, WalkAnswers};
+ghost use Rattle.odht_c.specs.Reads.{GetAnswers, GetAllAnswers, LenAnswers, SizesAnswers, WalkAnswers};
 
 use crate::lookups::look_up_all;
 use crate::status::{OK, TOO_SMALL, status_of};
@@ -11,6 +11,8 @@ use crate::view;
 use odht::bytes::Borrowed;
 use odht::config::{Coded, Config};
 use odht::error::Error;
+use odht::load::max_item_count_for;
+use odht::memory_layout::Header;
 use odht::{HashTable, memory_layout};
 
 /// The table in bytes whose header and length fit, of which no slot is looked at.
@@ -91,6 +93,28 @@ pub(crate) fn len<C: Config>(bytes: &[u8], item_count: &mut usize) -> u32
         }
         Err(refused) => status_of(&refused),
     }
+}
+
+/// How many slots the header states, how many items these take, and the load factor in percent.
+pub(crate) fn sizes<C: Config>(
+    bytes: &[u8],
+    slot_count: &mut usize,
+    max_item_count: &mut usize,
+    max_load_factor_percent: &mut u8,
+) -> u32
+    ensures { SizesAnswers ⟦<C as Coded>⟧.coding.format bytes.now
+        slot_count.old max_item_count.old max_load_factor_percent.old result
+        slot_count.new max_item_count.new max_load_factor_percent.new }
+{
+    if let Err(refused) = view::<C>(bytes) {
+        return status_of(&refused);
+    }
+    let header = Header::of(bytes);
+    let factor = header.max_load_factor();
+    *slot_count = header.slot_count();
+    *max_item_count = max_item_count_for(header.slot_count(), factor);
+    *max_load_factor_percent = factor.to_percent() as u8;
+    OK
 }
 
 /// The keys and values in slot order, as many as the arrays take.

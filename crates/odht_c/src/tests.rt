@@ -2,11 +2,11 @@
 //! call may then be that memory was refused, and the second may not. The tests of one try fail where a request is
 //! refused, and so count the requests.
 
-use crate::status::{BAD_LENGTHS, BAD_PERCENT, OK, TOO_SMALL};
-use crate::u64_u32::{
+use crate::shapes::u64_u32::{
     odht_u64_u32_build, odht_u64_u32_build_growing, odht_u64_u32_get, odht_u64_u32_len,
     odht_u64_u32_open,
 };
+use crate::status::{BAD_LENGTHS, BAD_PERCENT, OK, TOO_SMALL};
 use std::alloc::Global;
 use std::process::Abort;
 

@@ -1,14 +1,14 @@
 //! Opened tables: what a view finds, and that a refused opening leaves the view.
 
-use crate::b16_u32::{
+use crate::shapes::b16_u32::{
     odht_b16_u32_init, odht_b16_u32_insert, odht_b16_u32_open_view, odht_b16_u32_view_get,
     odht_b16_u32_view_get_all, odht_b16_u32_view_len,
 };
-use crate::status::{ABSENT, BAD_LENGTHS, OK};
-use crate::u64_u32::{
+use crate::shapes::u64_u32::{
     odht_u64_u32_init, odht_u64_u32_insert, odht_u64_u32_open_view, odht_u64_u32_view_get,
     odht_u64_u32_view_get_all, odht_u64_u32_view_len,
 };
+use crate::status::{ABSENT, BAD_LENGTHS, OK};
 use crate::view::View;
 use std::process::Abort;
 

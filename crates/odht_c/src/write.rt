@@ -4,6 +4,7 @@ ghost use Rattle.odht_base.specs.Image.{image, image_len};
 ghost use Rattle.odht_base.specs.Load.{IsSlotCount};
 ghost use Rattle.odht_base.specs.Table.{empty};
 ghost use Rattle.odht_base.specs.Writes.{with_count};
+ghost use Rattle.odht_raw.specs.Frame.{IsAccepted};
 ghost use Rattle.odht_c.specs.Writes.{BytesNeededAnswers, InitAnswers, InsertAnswers, InsertAllAnswers};
 
 use crate::read::view;
@@ -84,6 +85,8 @@ pub(crate) fn insert<C: Config, M: ByteStoreMut>(
 ) -> u32
     ensures answer { InsertAnswers ⟦<C as Coded>⟧.coding (M.bytes place.old) key.now value.now
         former.old result (M.bytes place.new) former.new }
+    ensures accepted { let F = ⟦<C as Coded>⟧.coding.format
+        in IsAccepted F (M.bytes place.old) → IsAccepted F (M.bytes place.new) }
     ensures place { place.new ≡ M.holding place.old (M.bytes place.new) }
 {
     if let Err(refused) = view::<C>(place.bytes()) {
@@ -113,6 +116,8 @@ pub(crate) fn insert_all<C: Config, M: ByteStoreMut>(
     requires { length values.now ≡ length keys.now }
     ensures answer { InsertAllAnswers ⟦<C as Coded>⟧.coding (M.bytes place.old) keys.now values.now
         accepted.old result (M.bytes place.new) accepted.new }
+    ensures accepted { let F = ⟦<C as Coded>⟧.coding.format
+        in IsAccepted F (M.bytes place.old) → IsAccepted F (M.bytes place.new) }
     ensures place { place.new ≡ M.holding place.old (M.bytes place.new) }
 {
     if let Err(refused) = view::<C>(place.bytes()) {

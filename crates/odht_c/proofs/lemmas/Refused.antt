@@ -3,7 +3,7 @@ use Rattle.std.proofs.Common.{◌≡◌, ◌∙◌, ℕ, List, sym, ap, refl, le
 use Rattle.odht_raw.specs.Coding.{Coding}
 use Rattle.odht_raw.specs.Refusals.{opening_refusal}
 use Rattle.odht_raw.specs.declared.error.Error.{Error}
-use Rattle.odht_c.specs.Reads.{GetAnswers, GetAllAnswers, LenAnswers, WalkAnswers}
+use Rattle.odht_c.specs.Reads.{GetAnswers, GetAllAnswers, LenAnswers, SizesAnswers, WalkAnswers}
 use Rattle.odht_c.specs.Statuses.{AreAsLong, status_of, status_or_ok}
 use Rattle.odht_c.specs.Writes.{InsertAnswers, InsertAllAnswers}
 use Rattle.odht_c.proofs.lemmas.Opened.{never_refused}
@@ -38,6 +38,14 @@ module _ {K V : Type 0} (c : Coding K V) (B : List ℕ) (a : Error) (s : ℕ) (i
   refused_len old = record {
     status = status ∙ ap status_or_ok is;
     refused = λ e other. refl;
+    stated = λ none. not_none _ a (sym is) none;
+    on_valid = λ P image. never_refused c.format P B a image (sym is);
+  }
+
+  pub refused_sizes : (n m p : ℕ) → SizesAnswers c.format B n m p s n m p
+  refused_sizes n m p = record {
+    status = status ∙ ap status_or_ok is;
+    refused = λ e other. (refl, refl, refl);
     stated = λ none. not_none _ a (sym is) none;
     on_valid = λ P image. never_refused c.format P B a image (sym is);
   }

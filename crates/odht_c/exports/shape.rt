@@ -1,13 +1,13 @@
-//! Tables from `u64` to `u32`, both with their lowest byte first, hashed by `FxHashFn`.
+//! @TITLE@
 //!
 //! The statuses in the texts have the names of include/odht.h, and the bytes and rules are those of docs/FORMAT.md.
+//!
+//! Written by exports/generate.sh from exports/shape.rt: edit that one.
 ghost use Rattle.std.specs.Prelude.{◌≡◌};
-ghost use Rattle.std.specs.Int.{w32, w64, to_le_bytes, from_le_bytes};
-ghost use Rattle.std.proofs.Common.{lit≤};
 ghost use Rattle.odht_raw.specs.Frame.{IsAccepted};
 ghost use Rattle.odht_raw.specs.Refusals.{view_refusal, check_refusal};
 ghost use Rattle.odht_c.specs.Statuses.{status_or_ok};
-ghost use Rattle.odht_c.specs.Reads.{GetAnswers, GetAllAnswers, LenAnswers, WalkAnswers};
+ghost use Rattle.odht_c.specs.Reads.{GetAnswers, GetAllAnswers, LenAnswers, SizesAnswers, WalkAnswers};
 ghost use Rattle.odht_c.specs.Views.{OpenViewAnswers, ViewGetAnswers, ViewGetAllAnswers, ViewLenAnswers};
 ghost use Rattle.odht_c.specs.Orders.{OrderAnswers};
 ghost use Rattle.odht_c.specs.Writes.{BytesNeededAnswers, InitAnswers, InsertAnswers, InsertAllAnswers};
@@ -17,252 +17,219 @@ use crate::status::{BAD_LENGTHS, BAD_PERCENT};
 use crate::view::{self, View};
 use crate::{build, order, read, write};
 use odht::bytes::BorrowedMut;
-use odht::config::{Coded, Config};
-use odht::hash::FxHashFn;
+use odht::config::Coded;
+use odht::configs::@CONFIG@ as Shape;
 use std::alloc::Global;
-
-/// From `u64` to `u32`.
-pub struct U64ToU32;
-
-impl Config for U64ToU32 {
-    type Key = u64;
-
-    type Value = u32;
-
-    type EncodedKey = [u8; 8];
-
-    type EncodedValue = [u8; 4];
-
-    type H = FxHashFn;
-
-    ghost encode_key = { to_le_bytes w64 };
-
-    ghost encode_value = { to_le_bytes w32 };
-
-    ghost decode_key = { from_le_bytes w64 };
-
-    ghost decode_value = { from_le_bytes w32 };
-
-    #[inline]
-    fn encode_key(k: &u64) -> [u8; 8] {
-        k.to_le_bytes()
-    }
-
-    #[inline]
-    fn encode_value(v: &u32) -> [u8; 4] {
-        v.to_le_bytes()
-    }
-
-    #[inline]
-    fn decode_key(k: &[u8; 8]) -> u64 {
-        u64::from_le_bytes(*k)
-    }
-
-    #[inline]
-    fn decode_value(v: &[u8; 4]) -> u32 {
-        u32::from_le_bytes(*v)
-    }
-
-    ghost key_fits = { lit≤ tt };
-
-    ghost value_fits = { lit≤ tt };
-
-    ghost key_hashes = { lit≤ tt };
-}
 
 /// How many bytes a new table for so many items has, written to `len`: status 0. `BAD_PERCENT` where the load factor
 /// is not from 1 to 100 percent, `CAPACITY` where no slot count is enough or the length passes `usize`; then `len`
 /// stays.
 #[unsafe(no_mangle)]
-pub extern "C" fn odht_u64_u32_bytes_needed(
+pub extern "C" fn odht_@NAME@_bytes_needed(
     max_item_count: usize,
     max_load_factor_percent: u8,
     len: &mut usize,
 ) -> u32
-    ensures { BytesNeededAnswers ⟦<U64ToU32 as Coded>⟧.coding max_item_count max_load_factor_percent
+    ensures { BytesNeededAnswers ⟦<Shape as Coded>⟧.coding max_item_count max_load_factor_percent
         len.old result len.new }
 {
-    write::bytes_needed::<U64ToU32>(max_item_count, max_load_factor_percent, len)
+    write::bytes_needed::<Shape>(max_item_count, max_load_factor_percent, len)
 }
 
 /// Makes an empty table for so many items in the bytes, whatever stood there: status 0. `BAD_PERCENT`, `CAPACITY`, or
 /// `INIT_LENGTH` where the bytes are not as many as it needs; then they stay. One pass over the bytes.
 #[unsafe(no_mangle)]
-pub extern "C" fn odht_u64_u32_init(
+pub extern "C" fn odht_@NAME@_init(
     bytes: &mut [u8],
     max_item_count: usize,
     max_load_factor_percent: u8,
 ) -> u32
-    ensures { InitAnswers ⟦<U64ToU32 as Coded>⟧.coding max_item_count max_load_factor_percent
+    ensures { InitAnswers ⟦<Shape as Coded>⟧.coding max_item_count max_load_factor_percent
         bytes.old result bytes.new }
 {
     let mut place = BorrowedMut::new(bytes);
-    write::init::<U64ToU32, BorrowedMut<'_>>(&mut place, max_item_count, max_load_factor_percent)
+    write::init::<Shape, BorrowedMut<'_>>(&mut place, max_item_count, max_load_factor_percent)
 }
 
 /// 0 where a view accepts the bytes, or the number of the first refusal: of too few bytes, of the header, of the
 /// length, of the first ten slots.
 #[unsafe(no_mangle)]
-pub extern "C" fn odht_u64_u32_open(bytes: &[u8]) -> u32
-    ensures { result ≡ status_or_ok (view_refusal ⟦<U64ToU32 as Coded>⟧.coding.format bytes.now) }
+pub extern "C" fn odht_@NAME@_open(bytes: &[u8]) -> u32
+    ensures { result ≡ status_or_ok (view_refusal ⟦<Shape as Coded>⟧.coding.format bytes.now) }
 {
-    read::open::<U64ToU32>(bytes)
+    read::open::<Shape>(bytes)
 }
 
 /// 0 exactly where the bytes are valid, or the number of the first refusal of the whole check, 1 to 16. One pass over
 /// the slots, and for each filled one the control bytes of its key's probe order up to it.
 #[unsafe(no_mangle)]
-pub extern "C" fn odht_u64_u32_check(bytes: &[u8]) -> u32
-    ensures { result ≡ status_or_ok (check_refusal ⟦<U64ToU32 as Coded>⟧.coding.format bytes.now) }
+pub extern "C" fn odht_@NAME@_check(bytes: &[u8]) -> u32
+    ensures { result ≡ status_or_ok (check_refusal ⟦<Shape as Coded>⟧.coding.format bytes.now) }
 {
-    read::check::<U64ToU32>(bytes)
+    read::check::<Shape>(bytes)
 }
 
 /// Gives the key this value: status 0 where the key was new, `REPLACED` where it had a value, which is written to
 /// `former`. `FULL` at the maximum where the key is absent, or a refusal of the header or length; then nothing changes.
 /// A view of the bytes stays good.
 #[unsafe(no_mangle)]
-pub extern "C" fn odht_u64_u32_insert(
+pub extern "C" fn odht_@NAME@_insert(
     bytes: &mut [u8],
-    key: u64,
-    value: u32,
-    former: &mut u32,
+    key: @KEY_ARGUMENT@,
+    value: @VALUE@, // pairs
+    former: &mut @VALUE@,
 ) -> u32
-    ensures answers { InsertAnswers ⟦<U64ToU32 as Coded>⟧.coding bytes.old key value
+    ensures answers { InsertAnswers ⟦<Shape as Coded>⟧.coding bytes.old @KEY_NOW@ @VALUE_NOW@
         former.old result bytes.new former.new }
-    ensures accepted { let F = ⟦<U64ToU32 as Coded>⟧.coding.format
+    ensures accepted { let F = ⟦<Shape as Coded>⟧.coding.format
         in IsAccepted F bytes.old → IsAccepted F bytes.new }
 {
     let mut place = BorrowedMut::new(bytes);
-    write::insert::<U64ToU32, BorrowedMut<'_>>(&mut place, &key, &value, former)
+    write::insert::<Shape, BorrowedMut<'_>>(&mut place, @KEY_REFERENCE@, @VALUE_REFERENCE@, former)
 }
 
 /// Inserts pairs, the key and the value at each index, in their order: status 0, or `FULL` at the first that is
 /// refused, and how many were accepted in `accepted`. `BAD_LENGTHS` where there are more of the ones than of the
 /// others, or a refusal of the header or length; then nothing changes. A view of the bytes stays good.
 #[unsafe(no_mangle)]
-pub extern "C" fn odht_u64_u32_insert_all(
+pub extern "C" fn odht_@NAME@_insert_all(
     bytes: &mut [u8],
-    keys: &[u64],
-    values: &[u32],
+    keys: &[@KEY@],
+    values: &[@VALUE@],
     accepted: &mut usize,
 ) -> u32
-    ensures answers { InsertAllAnswers ⟦<U64ToU32 as Coded>⟧.coding bytes.old keys.now values.now
+    ensures answers { InsertAllAnswers ⟦<Shape as Coded>⟧.coding bytes.old keys.now values.now
         accepted.old result bytes.new accepted.new }
-    ensures accepted { let F = ⟦<U64ToU32 as Coded>⟧.coding.format
+    ensures accepted { let F = ⟦<Shape as Coded>⟧.coding.format
         in IsAccepted F bytes.old → IsAccepted F bytes.new }
 {
     if values.len() != keys.len() {
         return BAD_LENGTHS;
     }
     let mut place = BorrowedMut::new(bytes);
-    write::insert_all::<U64ToU32, BorrowedMut<'_>>(&mut place, keys, values, accepted)
+    write::insert_all::<Shape, BorrowedMut<'_>>(&mut place, keys, values, accepted)
 }
 
 /// The value of a key, written to `value`: status 0. `ABSENT` where there is none, or a refusal of the header or
 /// length; then `value` stays.
 #[unsafe(no_mangle)]
-pub extern "C" fn odht_u64_u32_get(bytes: &[u8], key: u64, value: &mut u32) -> u32
-    ensures { GetAnswers ⟦<U64ToU32 as Coded>⟧.coding bytes.now key value.old result value.new }
+pub extern "C" fn odht_@NAME@_get(bytes: &[u8], key: @KEY_ARGUMENT@, value: &mut @VALUE@) -> u32
+    ensures { GetAnswers ⟦<Shape as Coded>⟧.coding bytes.now @KEY_NOW@ value.old result value.new }
 {
-    read::get::<U64ToU32>(bytes, &key, value)
+    read::get::<Shape>(bytes, @KEY_REFERENCE@, value)
 }
 
 /// The values of many keys: status 0, and at each index `found` is 1 and the value is written, or `found` is 0 and the
 /// value stays. `BAD_LENGTHS` where the arrays are not equally long, or a refusal of the header or length; then
 /// nothing is written.
 #[unsafe(no_mangle)]
-pub extern "C" fn odht_u64_u32_get_all(
+pub extern "C" fn odht_@NAME@_get_all(
     bytes: &[u8],
-    keys: &[u64],
-    values: &mut [u32],
+    keys: &[@KEY@],
+    values: &mut [@VALUE@],
     found: &mut [u8],
 ) -> u32
-    ensures { GetAllAnswers ⟦<U64ToU32 as Coded>⟧.coding bytes.now keys.now
+    ensures { GetAllAnswers ⟦<Shape as Coded>⟧.coding bytes.now keys.now
         values.old found.old result values.new found.new }
 {
     if values.len() != keys.len() || found.len() != keys.len() {
         return BAD_LENGTHS;
     }
-    read::get_all::<U64ToU32>(bytes, keys, values, found)
+    read::get_all::<Shape>(bytes, keys, values, found)
 }
 
 /// How many items the header states, written to `item_count`: status 0. Or a refusal of the header or length; then
 /// `item_count` stays.
 #[unsafe(no_mangle)]
-pub extern "C" fn odht_u64_u32_len(bytes: &[u8], item_count: &mut usize) -> u32
-    ensures { LenAnswers ⟦<U64ToU32 as Coded>⟧.coding bytes.now item_count.old result item_count.new }
+pub extern "C" fn odht_@NAME@_len(bytes: &[u8], item_count: &mut usize) -> u32
+    ensures { LenAnswers ⟦<Shape as Coded>⟧.coding bytes.now item_count.old result item_count.new }
 {
-    read::len::<U64ToU32>(bytes, item_count)
+    read::len::<Shape>(bytes, item_count)
+}
+
+/// How many slots the header states, how many items these take at most, and the load factor in percent, rounded down:
+/// status 0. Or a refusal of the header or length; then nothing is written.
+#[unsafe(no_mangle)]
+pub extern "C" fn odht_@NAME@_sizes(
+    bytes: &[u8],
+    slot_count: &mut usize,
+    max_item_count: &mut usize,
+    max_load_factor_percent: &mut u8,
+) -> u32
+    ensures { SizesAnswers ⟦<Shape as Coded>⟧.coding.format bytes.now
+        slot_count.old max_item_count.old max_load_factor_percent.old result
+        slot_count.new max_item_count.new max_load_factor_percent.new }
+{
+    read::sizes::<Shape>(bytes, slot_count, max_item_count, max_load_factor_percent)
 }
 
 /// The keys and values in slot order, from the first on as many as the arrays take, and in `item_count` how many:
 /// status 0, or `TOO_SMALL` where there are more. `BAD_LENGTHS` where the arrays are not equally long, or a refusal of
 /// the header or length; then nothing is written.
 #[unsafe(no_mangle)]
-pub extern "C" fn odht_u64_u32_walk(
+pub extern "C" fn odht_@NAME@_walk(
     bytes: &[u8],
-    keys: &mut [u64],
-    values: &mut [u32],
+    keys: &mut [@KEY@],
+    values: &mut [@VALUE@],
     item_count: &mut usize,
 ) -> u32
-    ensures { WalkAnswers ⟦<U64ToU32 as Coded>⟧.coding bytes.now
+    ensures { WalkAnswers ⟦<Shape as Coded>⟧.coding bytes.now
         keys.old values.old item_count.old result keys.new values.new item_count.new }
 {
     if values.len() != keys.len() {
         return BAD_LENGTHS;
     }
-    read::walk::<U64ToU32>(bytes, keys, values, item_count)
+    read::walk::<Shape>(bytes, keys, values, item_count)
 }
 
 /// Opens the bytes as `open` does: status 0, and `view` is a view of them. A refusal of the header, the length or the
 /// first ten slots; then `view` stays.
 #[unsafe(no_mangle)]
-pub extern "C" fn odht_u64_u32_open_view<'a>(bytes: &'a [u8], view: &mut View<'a>) -> u32
-    ensures { OpenViewAnswers ⟦<U64ToU32 as Coded>⟧.coding.format
+pub extern "C" fn odht_@NAME@_open_view<'a>(bytes: &'a [u8], view: &mut View<'a>) -> u32
+    ensures { OpenViewAnswers ⟦<Shape as Coded>⟧.coding.format
         bytes.entry view.old.bytes result view.new.bytes }
 {
-    view::open::<U64ToU32>(bytes, view)
+    view::open::<Shape>(bytes, view)
 }
 
 /// The value of a key of an opened table, written to `value`: status 0. `ABSENT` where there is none; then `value` stays.
 /// No header is looked at: the caller upholds that the view's bytes are accepted, as `open_view` leaves them.
 #[unsafe(no_mangle)]
-pub extern "C" fn odht_u64_u32_view_get(view: &View<'_>, key: u64, value: &mut u32) -> u32
-    requires accepted { IsAccepted ⟦<U64ToU32 as Coded>⟧.coding.format view.now.bytes.now }
-    ensures { ViewGetAnswers ⟦<U64ToU32 as Coded>⟧.coding view.now.bytes.now key value.old result value.new }
+pub extern "C" fn odht_@NAME@_view_get(view: &View<'_>, key: @KEY_ARGUMENT@, value: &mut @VALUE@) -> u32
+    requires accepted { IsAccepted ⟦<Shape as Coded>⟧.coding.format view.now.bytes.now }
+    ensures { ViewGetAnswers ⟦<Shape as Coded>⟧.coding view.now.bytes.now @KEY_NOW@ value.old result value.new }
 {
-    view::get(&view::table::<U64ToU32>(view), &key, value)
+    view::get(&view::table::<Shape>(view), @KEY_REFERENCE@, value)
 }
 
 /// The values of many keys of an opened table: status 0, and at each index `found` is 1 and the value is written, or
 /// `found` is 0 and the value stays. `BAD_LENGTHS` where the arrays are not equally long; then nothing is written.
 /// No header is looked at: the caller upholds that the view's bytes are accepted, as `open_view` leaves them.
 #[unsafe(no_mangle)]
-pub extern "C" fn odht_u64_u32_view_get_all(
+pub extern "C" fn odht_@NAME@_view_get_all(
     view: &View<'_>,
-    keys: &[u64],
-    values: &mut [u32],
+    keys: &[@KEY@],
+    values: &mut [@VALUE@],
     found: &mut [u8],
 ) -> u32
-    requires accepted { IsAccepted ⟦<U64ToU32 as Coded>⟧.coding.format view.now.bytes.now }
-    ensures { ViewGetAllAnswers ⟦<U64ToU32 as Coded>⟧.coding view.now.bytes.now keys.now
+    requires accepted { IsAccepted ⟦<Shape as Coded>⟧.coding.format view.now.bytes.now }
+    ensures { ViewGetAllAnswers ⟦<Shape as Coded>⟧.coding view.now.bytes.now keys.now
         values.old found.old result values.new found.new }
 {
     if values.len() != keys.len() || found.len() != keys.len() {
         return BAD_LENGTHS;
     }
-    view::get_all(&view::table::<U64ToU32>(view), keys, values, found)
+    view::get_all(&view::table::<Shape>(view), keys, values, found)
 }
 
 /// How many items the header of an opened table states: of valid bytes, how many there are. Nothing else is looked at:
 /// the caller upholds that the view's bytes are accepted, as `open_view` leaves them.
 #[unsafe(no_mangle)]
-pub extern "C" fn odht_u64_u32_view_len(view: &View<'_>) -> usize
-    requires accepted { IsAccepted ⟦<U64ToU32 as Coded>⟧.coding.format view.now.bytes.now }
-    ensures { ViewLenAnswers ⟦<U64ToU32 as Coded>⟧.coding view.now.bytes.now result }
+pub extern "C" fn odht_@NAME@_view_len(view: &View<'_>) -> usize
+    requires accepted { IsAccepted ⟦<Shape as Coded>⟧.coding.format view.now.bytes.now }
+    ensures { ViewLenAnswers ⟦<Shape as Coded>⟧.coding view.now.bytes.now result }
 {
-    view::table::<U64ToU32>(view).len()
+    view::table::<Shape>(view).len()
 }
 
 /// The filled slots in an order in which inserts make the table, written to `out`, which has a place for each item:
@@ -274,10 +241,10 @@ pub extern "C" fn odht_u64_u32_view_len(view: &View<'_>) -> usize
 /// It takes no memory. It costs the whole check, and then at most one pass over the items more than there are slots
 /// that wait for one behind them; each pass ends by sorting what is left.
 #[unsafe(no_mangle)]
-pub extern "C" fn odht_u64_u32_insert_order(bytes: &[u8], out: &mut [usize]) -> u32
-    ensures { OrderAnswers ⟦<U64ToU32 as Coded>⟧.coding bytes.now out.old result out.new }
+pub extern "C" fn odht_@NAME@_insert_order(bytes: &[u8], out: &mut [usize]) -> u32
+    ensures { OrderAnswers ⟦<Shape as Coded>⟧.coding bytes.now out.old result out.new }
 {
-    order::insert_order::<U64ToU32>(bytes, out)
+    order::insert_order::<Shape>(bytes, out)
 }
 
 /// Builds the table of the pairs, the key and the value at each index, at the front of `out`, and tells its length in
@@ -287,14 +254,14 @@ pub extern "C" fn odht_u64_u32_insert_order(bytes: &[u8], out: &mut [usize]) -> 
 /// where no slot count is enough or the length passes `usize`; then nothing is written. Behind the table `out` stays.
 /// No memory is asked for. One pass over the bytes, then one insert a pair.
 #[unsafe(no_mangle)]
-pub extern "C" fn odht_u64_u32_build(
-    keys: &[u64],
-    values: &[u32],
+pub extern "C" fn odht_@NAME@_build(
+    keys: &[@KEY@],
+    values: &[@VALUE@],
     max_load_factor_percent: u8,
     out: &mut [u8],
     len: &mut usize,
 ) -> u32
-    ensures { BuildAnswers ⟦<U64ToU32 as Coded>⟧.coding keys.now values.now max_load_factor_percent
+    ensures { BuildAnswers ⟦<Shape as Coded>⟧.coding keys.now values.now max_load_factor_percent
         out.old len.old result out.new len.new }
 {
     if values.len() != keys.len() {
@@ -303,7 +270,7 @@ pub extern "C" fn odht_u64_u32_build(
     if max_load_factor_percent < 1 || max_load_factor_percent > 100 {
         return BAD_PERCENT;
     }
-    build::collected::<U64ToU32>(keys, values, max_load_factor_percent, out, len)
+    build::collected::<Shape>(keys, values, max_load_factor_percent, out, len)
 }
 
 /// Builds the table of the pairs, the key and the value at each index, in memory of its own, copies it to the front of
@@ -313,18 +280,18 @@ pub extern "C" fn odht_u64_u32_build(
 /// memory was refused; then nothing is written. Behind the table `out` stays. One insert a pair, the growths, and one
 /// copy of the table.
 #[unsafe(no_mangle)]
-pub extern "C" fn odht_u64_u32_build_growing(
+pub extern "C" fn odht_@NAME@_build_growing(
     alloc: Global,
-    keys: &[u64],
-    values: &[u32],
+    keys: &[@KEY@],
+    values: &[@VALUE@],
     out: &mut [u8],
     len: &mut usize,
 ) -> u32
-    ensures { BuildGrowingAnswers ⟦<U64ToU32 as Coded>⟧.coding keys.now values.now
+    ensures { BuildGrowingAnswers ⟦<Shape as Coded>⟧.coding keys.now values.now
         out.old len.old result out.new len.new }
 {
     if values.len() != keys.len() {
         return BAD_LENGTHS;
     }
-    build::grown::<U64ToU32>(alloc, keys, values, out, len)
+    build::grown::<Shape>(alloc, keys, values, out, len)
 }

@@ -1,0 +1,28 @@
+-- What a table's header states, of bytes that are accepted.
+use Rattle.std.proofs.Common.{◌≡◌, ◌∙◌, ℕ, List, sym, ap, refl, None}
+use Rattle.odht_base.specs.Format.{Format}
+use Rattle.odht_base.specs.Load.{max_items, percent_of}
+use Rattle.odht_base.specs.Shown.{stated_slots, stated_factor}
+use Rattle.odht_base.specs.Table.{Table, slot_count}
+use Rattle.odht_base.specs.Valid.{IsImage}
+use Rattle.odht_base.proofs.lemmas.Fits.{IsSized-IsPlaced}
+use Rattle.odht_base.proofs.lemmas.Image.{stated_slots-image, stated_factor-image}
+use Rattle.odht_raw.specs.Frame.{IsAccepted, stated_maximum}
+use Rattle.odht_c.specs.Reads.{SizesAnswers}
+use Rattle.odht_c.specs.Statuses.{status_or_ok, done}
+use Rattle.odht_c.proofs.lemmas.Refused.{not_none}
+
+-- its numbers are the answer
+pub opened_sizes : (F : Format) (B : List ℕ) (n m p : ℕ) → IsAccepted F B → SizesAnswers F B n m p done (stated_slots B) (stated_maximum B) (percent_of (stated_factor B))
+opened_sizes F B n m p none = record {
+  status = ap status_or_ok (sym none);
+  refused = λ e is. not_none _ e is none;
+  stated = λ is. (refl, refl, refl);
+  on_valid = on_valid;
+}
+  where
+    on_valid : (P : Table) → IsImage F P B → (stated_slots B ≡ slot_count P) × (stated_maximum B ≡ max_items (slot_count P) P.factor) × (percent_of (stated_factor B) ≡ percent_of P.factor)
+    on_valid P image =
+        let slots : stated_slots B ≡ slot_count P = ap stated_slots image.bytes ∙ stated_slots-image F P (IsSized-IsPlaced F P image.valid.placed) in
+        let factor : stated_factor B ≡ P.factor = ap stated_factor image.bytes ∙ stated_factor-image F P image.valid.factor_high in
+        (slots, λ i. max_items (slots i) (factor i), ap percent_of factor)
