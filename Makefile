@@ -2,7 +2,8 @@
 # make test: the gate: each request for memory refused in turn (make memory), then rt ci
 # make build: the program with its proofs, as a file
 # make lib: build/libodht.a and build/libodht.so, each with all that it needs but the C library
-# make install, make uninstall: these, the header and what pkg-config and CMake read, below PREFIX and, before it, DESTDIR
+# make install, make uninstall: these, the header and what pkg-config and CMake read, below PREFIX, and below DESTDIR
+# before it
 # make header: include/odht.h, of its parts
 # make examples: all examples, compiled against an installed copy and compared with what they must print
 # make bench: the tables of speeds; QUICK=1 for a short run, ODHT_RUST=folder for the Rust crate beside it, CHECK=1 for

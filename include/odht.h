@@ -388,37 +388,6 @@ ODHT_CALL uint32_t odht_u64_u32_check(const uint8_t *bytes, size_t bytes_len)
 ODHT_CALL uint32_t odht_u64_u32_len(const uint8_t *bytes, size_t bytes_len, size_t *count)
     ODHT_INLINE(u64_u32_len);
 
-/* OK: *value is the value. ABSENT, or a refusal, 1 to 7: *value stays. */
-ODHT_CALL uint32_t odht_u64_u32_get(
-    const uint8_t *bytes, size_t bytes_len, uint64_t key, uint32_t *value)
-    ODHT_INLINE(u64_u32_get);
-
-/* OK: found[i] is 1 and values[i] the value, or found[i] is 0 and values[i] as it was.
-   BAD_LENGTHS, or a refusal, 1 to 7: both arrays stay. */
-ODHT_CALL uint32_t odht_u64_u32_get_all(
-    const uint8_t *bytes, size_t bytes_len, const uint64_t *keys, size_t keys_len,
-    uint32_t *values, size_t values_len, uint8_t *found, size_t found_len)
-    ODHT_INLINE(u64_u32_get_all);
-
-/* OK: the key was new. REPLACED: *former is the former value. FULL, or a refusal, 1 to 7: nothing
-   changes. */
-ODHT_CALL uint32_t odht_u64_u32_insert(
-    uint8_t *bytes, size_t bytes_len, uint64_t key, uint32_t value, uint32_t *former)
-    ODHT_INLINE(u64_u32_insert);
-
-/* OK or FULL: *accepted pairs are inserted. BAD_LENGTHS, or a refusal, 1 to 7: nothing changes. */
-ODHT_CALL uint32_t odht_u64_u32_insert_all(
-    uint8_t *bytes, size_t bytes_len, const uint64_t *keys, size_t keys_len,
-    const uint32_t *values, size_t values_len, size_t *accepted)
-    ODHT_INLINE(u64_u32_insert_all);
-
-/* OK: *count pairs, in the order of the slots. TOO_SMALL: the arrays are full, and there are
-   more. BAD_LENGTHS, or a refusal, 1 to 7: the arrays and *count stay. */
-ODHT_CALL uint32_t odht_u64_u32_walk(
-    const uint8_t *bytes, size_t bytes_len, uint64_t *keys, size_t keys_len, uint32_t *values,
-    size_t values_len, size_t *count)
-    ODHT_INLINE(u64_u32_walk);
-
 /* OK: the slots that hold a pair, in an order of inserts. UNMADE: no inserts make the table, and
    the numbers in slots say nothing. BAD_LENGTHS, or a refusal, 1 to 16: slots stay. */
 ODHT_CALL uint32_t odht_u64_u32_insert_order(
@@ -428,18 +397,6 @@ ODHT_CALL uint32_t odht_u64_u32_insert_order(
 /* OK: *view is the view of the bytes. A refusal, 1 to 9: it stays. */
 ODHT_CALL uint32_t odht_u64_u32_open_view(const uint8_t *bytes, size_t bytes_len, odht_view *view)
     ODHT_INLINE(u64_u32_open_view);
-
-/* OK: *value is the value. ABSENT: it stays. */
-ODHT_CALL uint32_t odht_u64_u32_view_get(
-    const odht_view *view, uint64_t key, uint32_t *value)
-    ODHT_INLINE(u64_u32_view_get);
-
-/* OK: found[i] is 1 and values[i] the value, or found[i] is 0 and values[i] as it was.
-   BAD_LENGTHS: both arrays stay. */
-ODHT_CALL uint32_t odht_u64_u32_view_get_all(
-    const odht_view *view, const uint64_t *keys, size_t keys_len, uint32_t *values,
-    size_t values_len, uint8_t *found, size_t found_len)
-    ODHT_INLINE(u64_u32_view_get_all);
 
 /* The number of items that the header states. */
 ODHT_CALL size_t odht_u64_u32_view_len(const odht_view *view)
@@ -458,36 +415,11 @@ uint32_t odht_symbol_u64_u32_check(const uint8_t *bytes, size_t bytes_len)
     ODHT_SYMBOL(u64_u32_check);
 uint32_t odht_symbol_u64_u32_len(const uint8_t *bytes, size_t bytes_len, size_t *count)
     ODHT_SYMBOL(u64_u32_len);
-uint32_t odht_symbol_u64_u32_get(
-    const uint8_t *bytes, size_t bytes_len, uint64_t key, uint32_t *value)
-    ODHT_SYMBOL(u64_u32_get);
-uint32_t odht_symbol_u64_u32_get_all(
-    const uint8_t *bytes, size_t bytes_len, const uint64_t *keys, size_t keys_len,
-    uint32_t *values, size_t values_len, uint8_t *found, size_t found_len)
-    ODHT_SYMBOL(u64_u32_get_all);
-uint32_t odht_symbol_u64_u32_insert(
-    uint8_t *bytes, size_t bytes_len, uint64_t key, uint32_t value, uint32_t *former)
-    ODHT_SYMBOL(u64_u32_insert);
-uint32_t odht_symbol_u64_u32_insert_all(
-    uint8_t *bytes, size_t bytes_len, const uint64_t *keys, size_t keys_len,
-    const uint32_t *values, size_t values_len, size_t *accepted)
-    ODHT_SYMBOL(u64_u32_insert_all);
-uint32_t odht_symbol_u64_u32_walk(
-    const uint8_t *bytes, size_t bytes_len, uint64_t *keys, size_t keys_len, uint32_t *values,
-    size_t values_len, size_t *count)
-    ODHT_SYMBOL(u64_u32_walk);
 uint32_t odht_symbol_u64_u32_insert_order(
     const uint8_t *bytes, size_t bytes_len, size_t *slots, size_t slots_len)
     ODHT_SYMBOL(u64_u32_insert_order);
 uint32_t odht_symbol_u64_u32_open_view(const uint8_t *bytes, size_t bytes_len, odht_view *view)
     ODHT_SYMBOL(u64_u32_open_view);
-uint32_t odht_symbol_u64_u32_view_get(
-    const odht_view *view, uint64_t key, uint32_t *value)
-    ODHT_SYMBOL(u64_u32_view_get);
-uint32_t odht_symbol_u64_u32_view_get_all(
-    const odht_view *view, const uint64_t *keys, size_t keys_len, uint32_t *values,
-    size_t values_len, uint8_t *found, size_t found_len)
-    ODHT_SYMBOL(u64_u32_view_get_all);
 size_t odht_symbol_u64_u32_view_len(const odht_view *view)
     ODHT_SYMBOL(u64_u32_view_len);
 
@@ -521,6 +453,102 @@ static inline uint32_t odht_u64_u32_len(const uint8_t *bytes, size_t bytes_len, 
     return odht_symbol_u64_u32_len(
         odht_read_uint8_t(bytes, bytes_len), bytes_len, count ? count : &unwanted);
 }
+
+static inline uint32_t odht_u64_u32_insert_order(
+    const uint8_t *bytes, size_t bytes_len, size_t *slots, size_t slots_len)
+{
+    return odht_symbol_u64_u32_insert_order(
+        odht_read_uint8_t(bytes, bytes_len), bytes_len, odht_write_size_t(slots, slots_len),
+        slots_len);
+}
+
+static inline uint32_t odht_u64_u32_open_view(
+    const uint8_t *bytes, size_t bytes_len, odht_view *view)
+{
+    odht_view opened = ODHT_NO_VIEW;
+    uint32_t status = odht_symbol_u64_u32_open_view(
+        odht_read_uint8_t(bytes, bytes_len), bytes_len, &opened);
+    if (status == ODHT_OK)
+        *view = opened;
+    return status;
+}
+
+static inline size_t odht_u64_u32_view_len(const odht_view *view)
+{
+    return odht_symbol_u64_u32_view_len(view);
+}
+#endif
+
+/* OK: *value is the value. ABSENT, or a refusal, 1 to 7: *value stays. */
+ODHT_CALL uint32_t odht_u64_u32_get(
+    const uint8_t *bytes, size_t bytes_len, uint64_t key, uint32_t *value)
+    ODHT_INLINE(u64_u32_get);
+
+/* OK: found[i] is 1 and values[i] the value, or found[i] is 0 and values[i] as it was.
+   BAD_LENGTHS, or a refusal, 1 to 7: both arrays stay. */
+ODHT_CALL uint32_t odht_u64_u32_get_all(
+    const uint8_t *bytes, size_t bytes_len, const uint64_t *keys, size_t keys_len,
+    uint32_t *values, size_t values_len, uint8_t *found, size_t found_len)
+    ODHT_INLINE(u64_u32_get_all);
+
+/* OK: the key was new. REPLACED: *former is the former value. FULL, or a refusal, 1 to 7: nothing
+   changes. */
+ODHT_CALL uint32_t odht_u64_u32_insert(
+    uint8_t *bytes, size_t bytes_len, uint64_t key, uint32_t value, uint32_t *former)
+    ODHT_INLINE(u64_u32_insert);
+
+/* OK or FULL: *accepted pairs are inserted. BAD_LENGTHS, or a refusal, 1 to 7: nothing changes. */
+ODHT_CALL uint32_t odht_u64_u32_insert_all(
+    uint8_t *bytes, size_t bytes_len, const uint64_t *keys, size_t keys_len,
+    const uint32_t *values, size_t values_len, size_t *accepted)
+    ODHT_INLINE(u64_u32_insert_all);
+
+/* OK: *count pairs, in the order of the slots. TOO_SMALL: the arrays are full, and there are
+   more. BAD_LENGTHS, or a refusal, 1 to 7: the arrays and *count stay. */
+ODHT_CALL uint32_t odht_u64_u32_walk(
+    const uint8_t *bytes, size_t bytes_len, uint64_t *keys, size_t keys_len, uint32_t *values,
+    size_t values_len, size_t *count)
+    ODHT_INLINE(u64_u32_walk);
+
+/* OK: *value is the value. ABSENT: it stays. */
+ODHT_CALL uint32_t odht_u64_u32_view_get(
+    const odht_view *view, uint64_t key, uint32_t *value)
+    ODHT_INLINE(u64_u32_view_get);
+
+/* OK: found[i] is 1 and values[i] the value, or found[i] is 0 and values[i] as it was.
+   BAD_LENGTHS: both arrays stay. */
+ODHT_CALL uint32_t odht_u64_u32_view_get_all(
+    const odht_view *view, const uint64_t *keys, size_t keys_len, uint32_t *values,
+    size_t values_len, uint8_t *found, size_t found_len)
+    ODHT_INLINE(u64_u32_view_get_all);
+
+#if ODHT_TAKES_NULL
+/* The symbols of the library, then the functions around them. */
+uint32_t odht_symbol_u64_u32_get(
+    const uint8_t *bytes, size_t bytes_len, uint64_t key, uint32_t *value)
+    ODHT_SYMBOL(u64_u32_get);
+uint32_t odht_symbol_u64_u32_get_all(
+    const uint8_t *bytes, size_t bytes_len, const uint64_t *keys, size_t keys_len,
+    uint32_t *values, size_t values_len, uint8_t *found, size_t found_len)
+    ODHT_SYMBOL(u64_u32_get_all);
+uint32_t odht_symbol_u64_u32_insert(
+    uint8_t *bytes, size_t bytes_len, uint64_t key, uint32_t value, uint32_t *former)
+    ODHT_SYMBOL(u64_u32_insert);
+uint32_t odht_symbol_u64_u32_insert_all(
+    uint8_t *bytes, size_t bytes_len, const uint64_t *keys, size_t keys_len,
+    const uint32_t *values, size_t values_len, size_t *accepted)
+    ODHT_SYMBOL(u64_u32_insert_all);
+uint32_t odht_symbol_u64_u32_walk(
+    const uint8_t *bytes, size_t bytes_len, uint64_t *keys, size_t keys_len, uint32_t *values,
+    size_t values_len, size_t *count)
+    ODHT_SYMBOL(u64_u32_walk);
+uint32_t odht_symbol_u64_u32_view_get(
+    const odht_view *view, uint64_t key, uint32_t *value)
+    ODHT_SYMBOL(u64_u32_view_get);
+uint32_t odht_symbol_u64_u32_view_get_all(
+    const odht_view *view, const uint64_t *keys, size_t keys_len, uint32_t *values,
+    size_t values_len, uint8_t *found, size_t found_len)
+    ODHT_SYMBOL(u64_u32_view_get_all);
 
 static inline uint32_t odht_u64_u32_get(
     const uint8_t *bytes, size_t bytes_len, uint64_t key, uint32_t *value)
@@ -569,25 +597,6 @@ static inline uint32_t odht_u64_u32_walk(
         keys_len, odht_write_uint32_t(values, values_len), values_len, count ? count : &unwanted);
 }
 
-static inline uint32_t odht_u64_u32_insert_order(
-    const uint8_t *bytes, size_t bytes_len, size_t *slots, size_t slots_len)
-{
-    return odht_symbol_u64_u32_insert_order(
-        odht_read_uint8_t(bytes, bytes_len), bytes_len, odht_write_size_t(slots, slots_len),
-        slots_len);
-}
-
-static inline uint32_t odht_u64_u32_open_view(
-    const uint8_t *bytes, size_t bytes_len, odht_view *view)
-{
-    odht_view opened = ODHT_NO_VIEW;
-    uint32_t status = odht_symbol_u64_u32_open_view(
-        odht_read_uint8_t(bytes, bytes_len), bytes_len, &opened);
-    if (status == ODHT_OK)
-        *view = opened;
-    return status;
-}
-
 static inline uint32_t odht_u64_u32_view_get(
     const odht_view *view, uint64_t key, uint32_t *value)
 {
@@ -603,11 +612,6 @@ static inline uint32_t odht_u64_u32_view_get_all(
         view, odht_read_uint64_t(keys, keys_len), keys_len,
         odht_write_uint32_t(values, values_len), values_len, odht_write_uint8_t(found, found_len),
         found_len);
-}
-
-static inline size_t odht_u64_u32_view_len(const odht_view *view)
-{
-    return odht_symbol_u64_u32_view_len(view);
 }
 #endif
 
@@ -679,37 +683,6 @@ ODHT_CALL uint32_t odht_b16_u32_check(const uint8_t *bytes, size_t bytes_len)
 ODHT_CALL uint32_t odht_b16_u32_len(const uint8_t *bytes, size_t bytes_len, size_t *count)
     ODHT_INLINE(b16_u32_len);
 
-/* OK: *value is the value. ABSENT, or a refusal, 1 to 7: *value stays. */
-ODHT_CALL uint32_t odht_b16_u32_get(
-    const uint8_t *bytes, size_t bytes_len, const uint8_t key[16], uint32_t *value)
-    ODHT_INLINE(b16_u32_get);
-
-/* OK: found[i] is 1 and values[i] the value, or found[i] is 0 and values[i] as it was.
-   BAD_LENGTHS, or a refusal, 1 to 7: both arrays stay. */
-ODHT_CALL uint32_t odht_b16_u32_get_all(
-    const uint8_t *bytes, size_t bytes_len, const uint8_t *keys, size_t keys_len,
-    uint32_t *values, size_t values_len, uint8_t *found, size_t found_len)
-    ODHT_INLINE(b16_u32_get_all);
-
-/* OK: the key was new. REPLACED: *former is the former value. FULL, or a refusal, 1 to 7: nothing
-   changes. */
-ODHT_CALL uint32_t odht_b16_u32_insert(
-    uint8_t *bytes, size_t bytes_len, const uint8_t key[16], uint32_t value, uint32_t *former)
-    ODHT_INLINE(b16_u32_insert);
-
-/* OK or FULL: *accepted pairs are inserted. BAD_LENGTHS, or a refusal, 1 to 7: nothing changes. */
-ODHT_CALL uint32_t odht_b16_u32_insert_all(
-    uint8_t *bytes, size_t bytes_len, const uint8_t *keys, size_t keys_len,
-    const uint32_t *values, size_t values_len, size_t *accepted)
-    ODHT_INLINE(b16_u32_insert_all);
-
-/* OK: *count pairs, in the order of the slots. TOO_SMALL: the arrays are full, and there are
-   more. BAD_LENGTHS, or a refusal, 1 to 7: the arrays and *count stay. */
-ODHT_CALL uint32_t odht_b16_u32_walk(
-    const uint8_t *bytes, size_t bytes_len, uint8_t *keys, size_t keys_len, uint32_t *values,
-    size_t values_len, size_t *count)
-    ODHT_INLINE(b16_u32_walk);
-
 /* OK: the slots that hold a pair, in an order of inserts. UNMADE: no inserts make the table, and
    the numbers in slots say nothing. BAD_LENGTHS, or a refusal, 1 to 16: slots stay. */
 ODHT_CALL uint32_t odht_b16_u32_insert_order(
@@ -719,18 +692,6 @@ ODHT_CALL uint32_t odht_b16_u32_insert_order(
 /* OK: *view is the view of the bytes. A refusal, 1 to 9: it stays. */
 ODHT_CALL uint32_t odht_b16_u32_open_view(const uint8_t *bytes, size_t bytes_len, odht_view *view)
     ODHT_INLINE(b16_u32_open_view);
-
-/* OK: *value is the value. ABSENT: it stays. */
-ODHT_CALL uint32_t odht_b16_u32_view_get(
-    const odht_view *view, const uint8_t key[16], uint32_t *value)
-    ODHT_INLINE(b16_u32_view_get);
-
-/* OK: found[i] is 1 and values[i] the value, or found[i] is 0 and values[i] as it was.
-   BAD_LENGTHS: both arrays stay. */
-ODHT_CALL uint32_t odht_b16_u32_view_get_all(
-    const odht_view *view, const uint8_t *keys, size_t keys_len, uint32_t *values,
-    size_t values_len, uint8_t *found, size_t found_len)
-    ODHT_INLINE(b16_u32_view_get_all);
 
 /* The number of items that the header states. */
 ODHT_CALL size_t odht_b16_u32_view_len(const odht_view *view)
@@ -749,36 +710,11 @@ uint32_t odht_symbol_b16_u32_check(const uint8_t *bytes, size_t bytes_len)
     ODHT_SYMBOL(b16_u32_check);
 uint32_t odht_symbol_b16_u32_len(const uint8_t *bytes, size_t bytes_len, size_t *count)
     ODHT_SYMBOL(b16_u32_len);
-uint32_t odht_symbol_b16_u32_get(
-    const uint8_t *bytes, size_t bytes_len, const uint8_t key[16], uint32_t *value)
-    ODHT_SYMBOL(b16_u32_get);
-uint32_t odht_symbol_b16_u32_get_all(
-    const uint8_t *bytes, size_t bytes_len, const uint8_t *keys, size_t keys_len,
-    uint32_t *values, size_t values_len, uint8_t *found, size_t found_len)
-    ODHT_SYMBOL(b16_u32_get_all);
-uint32_t odht_symbol_b16_u32_insert(
-    uint8_t *bytes, size_t bytes_len, const uint8_t key[16], uint32_t value, uint32_t *former)
-    ODHT_SYMBOL(b16_u32_insert);
-uint32_t odht_symbol_b16_u32_insert_all(
-    uint8_t *bytes, size_t bytes_len, const uint8_t *keys, size_t keys_len,
-    const uint32_t *values, size_t values_len, size_t *accepted)
-    ODHT_SYMBOL(b16_u32_insert_all);
-uint32_t odht_symbol_b16_u32_walk(
-    const uint8_t *bytes, size_t bytes_len, uint8_t *keys, size_t keys_len, uint32_t *values,
-    size_t values_len, size_t *count)
-    ODHT_SYMBOL(b16_u32_walk);
 uint32_t odht_symbol_b16_u32_insert_order(
     const uint8_t *bytes, size_t bytes_len, size_t *slots, size_t slots_len)
     ODHT_SYMBOL(b16_u32_insert_order);
 uint32_t odht_symbol_b16_u32_open_view(const uint8_t *bytes, size_t bytes_len, odht_view *view)
     ODHT_SYMBOL(b16_u32_open_view);
-uint32_t odht_symbol_b16_u32_view_get(
-    const odht_view *view, const uint8_t key[16], uint32_t *value)
-    ODHT_SYMBOL(b16_u32_view_get);
-uint32_t odht_symbol_b16_u32_view_get_all(
-    const odht_view *view, const uint8_t *keys, size_t keys_len, uint32_t *values,
-    size_t values_len, uint8_t *found, size_t found_len)
-    ODHT_SYMBOL(b16_u32_view_get_all);
 size_t odht_symbol_b16_u32_view_len(const odht_view *view)
     ODHT_SYMBOL(b16_u32_view_len);
 
@@ -812,6 +748,102 @@ static inline uint32_t odht_b16_u32_len(const uint8_t *bytes, size_t bytes_len, 
     return odht_symbol_b16_u32_len(
         odht_read_uint8_t(bytes, bytes_len), bytes_len, count ? count : &unwanted);
 }
+
+static inline uint32_t odht_b16_u32_insert_order(
+    const uint8_t *bytes, size_t bytes_len, size_t *slots, size_t slots_len)
+{
+    return odht_symbol_b16_u32_insert_order(
+        odht_read_uint8_t(bytes, bytes_len), bytes_len, odht_write_size_t(slots, slots_len),
+        slots_len);
+}
+
+static inline uint32_t odht_b16_u32_open_view(
+    const uint8_t *bytes, size_t bytes_len, odht_view *view)
+{
+    odht_view opened = ODHT_NO_VIEW;
+    uint32_t status = odht_symbol_b16_u32_open_view(
+        odht_read_uint8_t(bytes, bytes_len), bytes_len, &opened);
+    if (status == ODHT_OK)
+        *view = opened;
+    return status;
+}
+
+static inline size_t odht_b16_u32_view_len(const odht_view *view)
+{
+    return odht_symbol_b16_u32_view_len(view);
+}
+#endif
+
+/* OK: *value is the value. ABSENT, or a refusal, 1 to 7: *value stays. */
+ODHT_CALL uint32_t odht_b16_u32_get(
+    const uint8_t *bytes, size_t bytes_len, const uint8_t key[16], uint32_t *value)
+    ODHT_INLINE(b16_u32_get);
+
+/* OK: found[i] is 1 and values[i] the value, or found[i] is 0 and values[i] as it was.
+   BAD_LENGTHS, or a refusal, 1 to 7: both arrays stay. */
+ODHT_CALL uint32_t odht_b16_u32_get_all(
+    const uint8_t *bytes, size_t bytes_len, const uint8_t *keys, size_t keys_len,
+    uint32_t *values, size_t values_len, uint8_t *found, size_t found_len)
+    ODHT_INLINE(b16_u32_get_all);
+
+/* OK: the key was new. REPLACED: *former is the former value. FULL, or a refusal, 1 to 7: nothing
+   changes. */
+ODHT_CALL uint32_t odht_b16_u32_insert(
+    uint8_t *bytes, size_t bytes_len, const uint8_t key[16], uint32_t value, uint32_t *former)
+    ODHT_INLINE(b16_u32_insert);
+
+/* OK or FULL: *accepted pairs are inserted. BAD_LENGTHS, or a refusal, 1 to 7: nothing changes. */
+ODHT_CALL uint32_t odht_b16_u32_insert_all(
+    uint8_t *bytes, size_t bytes_len, const uint8_t *keys, size_t keys_len,
+    const uint32_t *values, size_t values_len, size_t *accepted)
+    ODHT_INLINE(b16_u32_insert_all);
+
+/* OK: *count pairs, in the order of the slots. TOO_SMALL: the arrays are full, and there are
+   more. BAD_LENGTHS, or a refusal, 1 to 7: the arrays and *count stay. */
+ODHT_CALL uint32_t odht_b16_u32_walk(
+    const uint8_t *bytes, size_t bytes_len, uint8_t *keys, size_t keys_len, uint32_t *values,
+    size_t values_len, size_t *count)
+    ODHT_INLINE(b16_u32_walk);
+
+/* OK: *value is the value. ABSENT: it stays. */
+ODHT_CALL uint32_t odht_b16_u32_view_get(
+    const odht_view *view, const uint8_t key[16], uint32_t *value)
+    ODHT_INLINE(b16_u32_view_get);
+
+/* OK: found[i] is 1 and values[i] the value, or found[i] is 0 and values[i] as it was.
+   BAD_LENGTHS: both arrays stay. */
+ODHT_CALL uint32_t odht_b16_u32_view_get_all(
+    const odht_view *view, const uint8_t *keys, size_t keys_len, uint32_t *values,
+    size_t values_len, uint8_t *found, size_t found_len)
+    ODHT_INLINE(b16_u32_view_get_all);
+
+#if ODHT_TAKES_NULL
+/* The symbols of the library, then the functions around them. */
+uint32_t odht_symbol_b16_u32_get(
+    const uint8_t *bytes, size_t bytes_len, const uint8_t key[16], uint32_t *value)
+    ODHT_SYMBOL(b16_u32_get);
+uint32_t odht_symbol_b16_u32_get_all(
+    const uint8_t *bytes, size_t bytes_len, const uint8_t *keys, size_t keys_len,
+    uint32_t *values, size_t values_len, uint8_t *found, size_t found_len)
+    ODHT_SYMBOL(b16_u32_get_all);
+uint32_t odht_symbol_b16_u32_insert(
+    uint8_t *bytes, size_t bytes_len, const uint8_t key[16], uint32_t value, uint32_t *former)
+    ODHT_SYMBOL(b16_u32_insert);
+uint32_t odht_symbol_b16_u32_insert_all(
+    uint8_t *bytes, size_t bytes_len, const uint8_t *keys, size_t keys_len,
+    const uint32_t *values, size_t values_len, size_t *accepted)
+    ODHT_SYMBOL(b16_u32_insert_all);
+uint32_t odht_symbol_b16_u32_walk(
+    const uint8_t *bytes, size_t bytes_len, uint8_t *keys, size_t keys_len, uint32_t *values,
+    size_t values_len, size_t *count)
+    ODHT_SYMBOL(b16_u32_walk);
+uint32_t odht_symbol_b16_u32_view_get(
+    const odht_view *view, const uint8_t key[16], uint32_t *value)
+    ODHT_SYMBOL(b16_u32_view_get);
+uint32_t odht_symbol_b16_u32_view_get_all(
+    const odht_view *view, const uint8_t *keys, size_t keys_len, uint32_t *values,
+    size_t values_len, uint8_t *found, size_t found_len)
+    ODHT_SYMBOL(b16_u32_view_get_all);
 
 static inline uint32_t odht_b16_u32_get(
     const uint8_t *bytes, size_t bytes_len, const uint8_t key[16], uint32_t *value)
@@ -860,25 +892,6 @@ static inline uint32_t odht_b16_u32_walk(
         keys_len, odht_write_uint32_t(values, values_len), values_len, count ? count : &unwanted);
 }
 
-static inline uint32_t odht_b16_u32_insert_order(
-    const uint8_t *bytes, size_t bytes_len, size_t *slots, size_t slots_len)
-{
-    return odht_symbol_b16_u32_insert_order(
-        odht_read_uint8_t(bytes, bytes_len), bytes_len, odht_write_size_t(slots, slots_len),
-        slots_len);
-}
-
-static inline uint32_t odht_b16_u32_open_view(
-    const uint8_t *bytes, size_t bytes_len, odht_view *view)
-{
-    odht_view opened = ODHT_NO_VIEW;
-    uint32_t status = odht_symbol_b16_u32_open_view(
-        odht_read_uint8_t(bytes, bytes_len), bytes_len, &opened);
-    if (status == ODHT_OK)
-        *view = opened;
-    return status;
-}
-
 static inline uint32_t odht_b16_u32_view_get(
     const odht_view *view, const uint8_t key[16], uint32_t *value)
 {
@@ -894,11 +907,6 @@ static inline uint32_t odht_b16_u32_view_get_all(
         view, odht_read_uint8_t(keys, keys_len), keys_len,
         odht_write_uint32_t(values, values_len), values_len, odht_write_uint8_t(found, found_len),
         found_len);
-}
-
-static inline size_t odht_b16_u32_view_len(const odht_view *view)
-{
-    return odht_symbol_b16_u32_view_len(view);
 }
 #endif
 

@@ -43,7 +43,7 @@ INSTALLED = $(DESTDIR)$(INCLUDEDIR)/odht.h $(INTO)/libodht.a $(INTO)/$(SHARED) $
   $(INTO)/pkgconfig/odht.pc $(INTO)/cmake/odht/odht-config.cmake $(INTO)/cmake/odht/odht-config-version.cmake
 
 # what is made is installed as it is, so that it can be made as one user and installed as another
-install: $(if $(wildcard build/libodht.a build/$(SHARED)),,lib)
+install: $(if $(and $(wildcard build/libodht.a),$(wildcard build/$(SHARED))),,lib)
 	@mkdir -p '$(DESTDIR)$(INCLUDEDIR)' '$(INTO)/pkgconfig' '$(INTO)/cmake/odht'
 	@install -m 644 include/odht.h '$(DESTDIR)$(INCLUDEDIR)/odht.h'
 	@install -m 644 build/libodht.a '$(INTO)/libodht.a'

@@ -5,8 +5,8 @@ here=$(cd "$(dirname "$0")" && pwd)
 version=$(cat "$here/../../../packaging/VERSION")
 
 # NAME|WORDS|ONE KEY AS A PARAMETER|ITEM OF AN ARRAY OF KEYS|VALUE|PARTS
-shapes='u64_u32|keys of 64 bits, values of 32 bits, FxHashFn|uint64_t key|uint64_t|uint32_t|shape build
-b16_u32|keys of 16 bytes, values of 32 bits, UnHashFn|const uint8_t key[16]|uint8_t|uint32_t|shape'
+shapes='u64_u32|keys of 64 bits, values of 32 bits, FxHashFn|uint64_t key|uint64_t|uint32_t|table map build
+b16_u32|keys of 16 bytes, values of 32 bits, UnHashFn|const uint8_t key[16]|uint8_t|uint32_t|table map'
 
 # The symbols of the calls that a part declares, under names of their own.
 symbols() {
@@ -14,7 +14,7 @@ symbols() {
         sed 's/^ODHT_CALL //; s/ odht_@S@_/ odht_symbol_@S@_/; s/ODHT_INLINE(/ODHT_SYMBOL(/'
 }
 
-# A part of the header, for one shape.
+# A part of the header, for one shape: table, its calls without pairs; map, those with pairs; build, the builds of a map.
 part() {
     symbols "$here/header_$1.h" > "$scratch"
     sed -e "/@SYMBOLS@/{" -e "r $scratch" -e "d" -e "}" "$here/header_$1.h" |
