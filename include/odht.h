@@ -227,7 +227,11 @@ typedef struct odht_view {
 } odht_view;
 
 /* A view of no bytes: in no table, so not to be looked up in. */
+#ifdef __cplusplus
+#define ODHT_NO_VIEW { reinterpret_cast<const uint8_t *>(""), 0 }
+#else
 #define ODHT_NO_VIEW { (const uint8_t *)"", 0 }
+#endif
 
 /* ---- The calls ----
  *
@@ -909,6 +913,10 @@ static inline uint32_t odht_b16_u32_view_get_all(
         found_len);
 }
 #endif
+
+#undef ODHT_CALL
+#undef ODHT_INLINE
+#undef ODHT_SYMBOL
 
 #ifdef __cplusplus
 }

@@ -226,5 +226,9 @@ typedef struct odht_view {
 } odht_view;
 
 /* A view of no bytes: in no table, so not to be looked up in. */
+#ifdef __cplusplus
+#define ODHT_NO_VIEW { reinterpret_cast<const uint8_t *>(""), 0 }
+#else
 #define ODHT_NO_VIEW { (const uint8_t *)"", 0 }
+#endif
 

@@ -1,3 +1,7 @@
+#undef ODHT_CALL
+#undef ODHT_INLINE
+#undef ODHT_SYMBOL
+
 #ifdef __cplusplus
 }
 #endif
