@@ -1,7 +1,11 @@
 # make run: the program on its first script, or on SCRIPT=file, in a build without proofs
 # make test: the gate: each request for memory refused in turn (make memory), then rt ci
 # make build: the program with its proofs, as a file
-# make examples: both examples, compared with what they must print
+# make lib: build/libodht.a and build/libodht.so, each with all that it needs but the C library
+# make install, make uninstall: these, the header and what pkg-config and CMake read, below PREFIX, and below DESTDIR
+# before it
+# make header: include/odht.h, of its parts
+# make examples: all examples, compiled against an installed copy and compared with what they must print
 # make bench: the tables of speeds; QUICK=1 for a short run, ODHT_RUST=folder for the Rust crate beside it, CHECK=1 for
 # the tables of the whole check alone, WORST=1 for the largest forged table too, about an hour, ORDER=1 for the line of
 # an order of inserts alone, MARKDOWN=1 for Markdown
@@ -15,7 +19,7 @@ WORST ?=
 ORDER ?=
 MARKDOWN ?=
 ODHT_RUST ?=
-.PHONY: run build test memory examples bench FORCE
+.PHONY: run build test memory lib header header_is_made install uninstall examples bench FORCE
 run:
 	@cd crates/odht_table && rt try < $(abspath $(SCRIPT))
 
@@ -34,20 +38,12 @@ memory:
 crates/odht_c/out/libodht_c.a: FORCE
 	@for crate in $(LIBRARIES) odht_c; do (cd crates/$$crate && rt lib >&2) || exit 1; done
 
-# the kit's folder is asked for only where something is linked
-KIT = $(dir $(shell rt doc))
-LINK_RUST = -L native=$(dir $(LIBRARY)) -l static=odht_c -L native=$(KIT)c -l static=libc_c
+include packaging/library.mk
 
-examples: $(LIBRARY)
-	@mkdir -p build
-	@gcc -std=c11 -O2 -Wall -Wextra -Werror -Iinclude examples/c/*.c $(LIBRARY) $(KIT)c/liblibc_c.a -o build/example_c
-	@rustc --edition 2021 -O -D warnings examples/rust/main.rs $(LINK_RUST) -o build/example_rust
-	@build/example_c build/c.odht > build/c.txt
-	@build/example_rust build/rust.odht > build/rust.txt
-	@diff examples/expected build/c.txt
-	@diff examples/expected build/rust.txt
-	@cmp build/c.odht build/rust.odht
-	@echo 'examples: C and Rust print what they must, and store the same bytes'
+LINK_RUST = -L native=build -l static=odht
+
+examples: lib
+	@MAKE='$(MAKE)' sh examples/run.sh
 
 # both tables are built for the same level of processor; as one unit, so that what moves the code stands before all
 BENCH_RUST = rustc -C opt-level=3 -C codegen-units=1 -C target-cpu=x86-64-v2
@@ -56,7 +52,7 @@ LINK_ORIGINAL = $(if $(ODHT_RUST),--cfg original -L dependency=build/original --
 BENCH = $(BENCH_RUST) --edition 2021 -D warnings --check-cfg 'cfg(original, moved)' \
   $(LINK_ORIGINAL) bench/main.rs $(LINK_RUST)
 
-bench: $(LIBRARY) $(if $(ODHT_RUST),original)
+bench: build/libodht.a $(if $(ODHT_RUST),original)
 	@mkdir -p build
 	@$(BENCH) -o build/bench
 	@$(BENCH) --cfg moved -o build/bench_moved

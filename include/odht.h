@@ -1,22 +1,25 @@
 /*
  * odht.h: hash tables that are used in the very bytes in which they are stored.
  *
- * docs/FORMAT.md has the bytes and all rules. Two kinds of table are here:
+ * Made by crates/odht_c/exports/generate.sh from header_*.h beside it: edit those.
  *
- *   odht_u64_u32_*   keys are numbers of 64 bits, the hash function is FxHashFn
- *   odht_b16_u32_*   keys are 16 bytes that are a hash already (their last four
- *                    bytes should vary), the hash function is UnHashFn
+ * docs/FORMAT.md has the bytes and all rules. These kinds of table are here:
  *
- * Values are numbers of 32 bits in both. A table is a slice of bytes that the
- * caller owns: a file's contents, a mapping, a part of either, or memory made
+ *   odht_u64_u32_*   keys of 64 bits, values of 32 bits, FxHashFn
+ *   odht_b16_u32_*   keys of 16 bytes, values of 32 bits, UnHashFn
+ *
+ * FxHashFn hashes numbers. UnHashFn is for keys that are hashes already: their
+ * last four bytes are the hash, and should vary. A table is a slice of bytes that
+ * the caller owns: a file's contents, a mapping, a part of either, or memory made
  * for it. It may begin at any address. There is nothing to close or to free.
  *
  * Rules for callers:
  *
- * - No pointer may be NULL, also where the length beside it is 0.
  * - A pointer and the length behind it are a slice that the caller may read,
  *   and may write where the pointer is not to const. Lengths of arrays are
- *   in items (keys, values, flags), lengths of bytes are in bytes.
+ *   in items (keys, values, flags), lengths of bytes are in bytes. An array of
+ *   keys of N bytes is these bytes one key after the other, and its length
+ *   counts the keys.
  * - A slice or place that a call writes overlaps no other of that call. Slices
  *   that are only read may overlap.
  * - Nobody writes a table's bytes while a call reads them, and nobody reads
@@ -24,14 +27,18 @@
  *   any number of threads may read one table.
  * - Every call answers a status, an enum odht_status, but odht_*_view_len. The
  *   places behind the pointers to results are written only where the comment says
- *   so.
+ *   so. Compilers warn where an answer is not looked at.
  * - Where arrays of different lengths are given that should be equally long,
  *   the answer is ODHT_BAD_LENGTHS, and nothing else is looked at.
- *
  * - size_t has 64 bits. Arrays of numbers and single places are aligned as C
  *   demands; a table's bytes alone may begin at any address.
+ * - NULL is taken where ODHT_TAKES_NULL is 1, that is by GCC and Clang: for a
+ *   slice of length 0, and for the place of a single number that the caller does
+ *   not want (former, value, accepted, count, len), which is then not told. A key
+ *   and a view are never NULL. Where ODHT_TAKES_NULL is 0 no pointer is NULL, also
+ *   where the length beside it is 0.
  *
- * What is said of answers holds for valid bytes: those that these calls have
+ * What holds of answers holds for valid bytes: those that these calls have
  * made, and all others that odht_*_check passes. It looks at every byte.
  * odht_*_open does not find out whether bytes are valid, since it looks at ten
  * slots. On other bytes that pass refusals 1 to 7 no call reads or writes
@@ -42,9 +49,8 @@
  * answers FULL only at that maximum, or where each slot counts as filled, by its
  * control byte or its copy in the mirror. docs/FORMAT.md has the frame.
  *
- * Memory is asked for by odht_u64_u32_build_growing alone, by malloc, and given
- * back before it returns. It goes through the kit's small C library, so programs
- * are linked with both: libodht_c.a, then liblibc_c.a.
+ * Memory is asked for by odht_*_build_growing alone, by malloc, and given back
+ * before it returns. libodht.a and libodht.so need the C library and nothing else.
  */
 #ifndef ODHT_H
 #define ODHT_H
@@ -52,52 +58,93 @@
 #include <stddef.h>
 #include <stdint.h>
 
-#ifdef __cplusplus
-static_assert(sizeof(size_t) == 8, "the library is built for 64 bits");
+#if SIZE_MAX != 0xffffffffffffffff
+#error "odht is built for 64 bits"
+#endif
+
+/* The version of this header. */
+#define ODHT_VERSION_MAJOR 0
+#define ODHT_VERSION_MINOR 4
+#define ODHT_VERSION_PATCH 0
+#define ODHT_VERSION_STRING "0.4.0"
+
+/* As one number, to compare: that of 1.2.3 is 10203. */
+#define ODHT_VERSION \
+    (ODHT_VERSION_MAJOR * 10000 + ODHT_VERSION_MINOR * 100 + ODHT_VERSION_PATCH)
+
+/* Before a function whose answer has to be looked at. */
+#if defined(__cplusplus) && __cplusplus >= 201703L
+#define ODHT_NODISCARD [[nodiscard]]
+#elif defined(__STDC_VERSION__) && __STDC_VERSION__ >= 202311L
+#define ODHT_NODISCARD [[nodiscard]]
+#elif defined(__GNUC__)
+#define ODHT_NODISCARD __attribute__((warn_unused_result))
 #else
-_Static_assert(sizeof(size_t) == 8, "the library is built for 64 bits");
+#define ODHT_NODISCARD
+#endif
+
+/*
+ * How the calls below are declared. GCC and Clang make a small function of each,
+ * which puts a place of its own where a pointer may be NULL, and then calls the
+ * symbol of the library; both have the same name in C, so the function has
+ * another one in the object file. Other compilers get the symbols themselves, and
+ * so do tools that read headers and define ODHT_PLAIN before.
+ */
+#if defined(__GNUC__) && defined(__ELF__) && !defined(ODHT_PLAIN)
+#define ODHT_TAKES_NULL 1
+#define ODHT_CALL ODHT_NODISCARD static inline
+#define ODHT_INLINE(name) __asm__("odht_inline_" #name)
+#define ODHT_SYMBOL(name) __asm__("odht_" #name)
+#else
+#define ODHT_TAKES_NULL 0
+#define ODHT_CALL ODHT_NODISCARD extern
+#define ODHT_INLINE(name)
 #endif
 
 #ifdef __cplusplus
 extern "C" {
 #endif
 
+/* What a call answers. Beside each number: Error::Name is the name of the library's error in
+   Rattle, and then when it comes. docs/FORMAT.md has the same table. */
 enum odht_status {
-    ODHT_OK = 0,
+    ODHT_OK = 0,                          /* it is done */
 
     /* Bytes that are not a table of this kind. A call looks in this order, 1 to
        7, and answers the first that applies; nothing is changed then. After
        these odht_*_open looks at slots 0 to 9 in turn, and the first bad one
        gives 8 or 9. So does odht_*_check, and goes on as told below. */
-    ODHT_TOO_SHORT = 1,                   /* fewer than 32 bytes */
-    ODHT_WRONG_TAG = 2,                   /* the first four bytes are not ODHT */
-    ODHT_WRONG_VERSION = 3,               /* not version 2 of the format */
-    ODHT_WRONG_SIZE = 4,                  /* other lengths of keys, values or header */
-    ODHT_SLOT_COUNT_NOT_POWER_OF_TWO = 5,
-    ODHT_SLOT_COUNT_TOO_SMALL = 6,        /* fewer than 16 slots */
-    ODHT_WRONG_LENGTH = 7,                /* not as many bytes as the slots need */
-    ODHT_NON_ZERO_EMPTY = 8,              /* a free slot's entry is not zero (open, check) */
-    ODHT_CONTROL_MISMATCH = 9,            /* a control byte is not its key's tag (open, check) */
+    ODHT_TOO_SHORT = 1,                   /* Error::TooShort: fewer than 32 bytes */
+    ODHT_WRONG_TAG = 2,                   /* Error::WrongTag: the first four bytes are not ODHT */
+    ODHT_WRONG_VERSION = 3,               /* Error::WrongVersion: not version 2 of the format */
+    ODHT_WRONG_SIZE = 4,                  /* Error::WrongSizeOf: other lengths of keys, values or header */
+    ODHT_SLOT_COUNT_NOT_POWER_OF_TWO = 5, /* Error::SlotCountNotPowerOfTwo */
+    ODHT_SLOT_COUNT_TOO_SMALL = 6,        /* Error::SlotCountTooSmall: fewer than 16 slots */
+    ODHT_WRONG_LENGTH = 7,                /* Error::WrongLength: not as many bytes as the slots need */
+    ODHT_NON_ZERO_EMPTY = 8,              /* Error::NonZeroEmpty: a free slot's entry is not zero */
+    ODHT_CONTROL_MISMATCH = 9,            /* Error::ControlMismatch: a control byte is not its key's tag */
 
     /* Refusals of the whole check alone: of odht_*_check, and of odht_*_insert_order,
        which makes it first. After 1 to 9 as above it looks at the load
        factor and the padding, then at all slots in turn, where the first bad one
        gives 8, 12 or 9, and then for 13 to 16. */
-    ODHT_LOAD_FACTOR_TOO_SMALL = 10,      /* below 1 percent */
-    ODHT_NON_ZERO_PADDING = 11,           /* bytes 30 and 31 are not zero */
-    ODHT_BAD_FREE_CONTROL = 12,           /* a free slot's control byte is not 255 */
-    ODHT_MIRROR_MISMATCH = 13,            /* the last 16 bytes do not repeat the first control bytes */
-    ODHT_WRONG_ITEM_COUNT = 14,           /* not as many items as the header states */
-    ODHT_TOO_MANY_ITEMS = 15,             /* more items than the load factor allows */
-    ODHT_UNREACHABLE = 16,                /* a key behind a free slot of its probe order, or there a second time */
+    ODHT_LOAD_FACTOR_TOO_SMALL = 10,      /* Error::LoadFactorTooSmall: below 1 percent */
+    ODHT_NON_ZERO_PADDING = 11,           /* Error::NonZeroPadding: bytes 30 and 31 are not zero */
+    ODHT_BAD_FREE_CONTROL = 12,           /* Error::BadFreeControl: a free slot's control byte is not 255 */
+    ODHT_MIRROR_MISMATCH = 13,            /* Error::MirrorMismatch: the last 16 bytes do not repeat the first
+                                             control bytes */
+    ODHT_WRONG_ITEM_COUNT = 14,           /* Error::WrongItemCount: not as many items as the header states */
+    ODHT_TOO_MANY_ITEMS = 15,             /* Error::TooManyItems: more than the load factor allows */
+    ODHT_UNREACHABLE = 16,                /* Error::Unreachable: a key behind a free slot of its probe order,
+                                             or there a second time */
 
     /* Refusals of making and filling tables. */
-    ODHT_INIT_LENGTH = 17,                /* not the length that was asked for */
-    ODHT_FULL = 18,                       /* as many items as the table takes */
-    ODHT_MEMORY = 19,                     /* malloc has refused */
-    ODHT_CAPACITY = 20,                   /* more items than any table takes */
+    ODHT_INIT_LENGTH = 17,                /* Error::InitLength: not the length that was asked for */
+    ODHT_FULL = 18,                       /* Error::Full: as many items as the table takes */
+    ODHT_MEMORY = 19,                     /* Error::Memory: malloc has refused */
+    ODHT_CAPACITY = 20,                   /* Error::Capacity: more items than any table takes */
 
-    /* Answers that say something else. */
+    /* Answers that are no error of the library. */
     ODHT_ABSENT = 32,                     /* the key is not in the table */
     ODHT_REPLACED = 33,                   /* the key was there with a value */
     ODHT_BAD_PERCENT = 34,                /* 0 percent, or more than 100 */
@@ -170,8 +217,9 @@ static inline const char *odht_status_name(uint32_t status)
  * Otherwise a lookup may read anywhere and answer anything, or the program may
  * stop, as with any wrong pointer in C.
  *
- * odht_*_open_view writes the view that it is given, and does not look at it. That
- * view must be one, though: ODHT_NO_VIEW, or one whose bytes are still there.
+ * odht_*_open_view writes the view that it is given, and does not look at it. Where
+ * ODHT_TAKES_NULL is 0 that view must be one, though: ODHT_NO_VIEW, or one whose
+ * bytes are still there.
  */
 typedef struct odht_view {
     const uint8_t *bytes;
@@ -179,246 +227,696 @@ typedef struct odht_view {
 } odht_view;
 
 /* A view of no bytes: in no table, so not to be looked up in. */
+#ifdef __cplusplus
+#define ODHT_NO_VIEW { reinterpret_cast<const uint8_t *>(""), 0 }
+#else
 #define ODHT_NO_VIEW { (const uint8_t *)"", 0 }
+#endif
 
-/* ---- Keys of 64 bits, values of 32 bits, FxHashFn ---- */
-
-/*
- * How many bytes a table for max_item_count items has that is filled to at most
- * max_load_factor_percent (1 to 100) of its slots.
- * OK: *len is the length in bytes. BAD_PERCENT. CAPACITY: no slot count is
- * enough, or the length does not fit size_t.
- * *len is written with OK alone.
- */
-uint32_t odht_u64_u32_bytes_needed(size_t max_item_count, uint8_t max_load_factor_percent,
-                                   size_t *len);
-
-/*
- * Makes an empty table in bytes, whatever they hold. There must be exactly as
- * many as odht_u64_u32_bytes_needed answers for the same count and percentage.
- * OK: the bytes are the empty table. BAD_PERCENT. CAPACITY. INIT_LENGTH: there
- * are more or fewer bytes. With all but OK the bytes stay as they were.
- */
-uint32_t odht_u64_u32_init(uint8_t *bytes, size_t bytes_len, size_t max_item_count,
-                           uint8_t max_load_factor_percent);
-
-/*
- * Asks whether bytes can be used as a table: looks at the header, the length
- * and the first ten slots, so it takes equally long for every table. Opening
- * is a question and not a duty: each call below looks at the header and the
- * length itself, but for the lookups in a view.
- * OK: calls can be made on them; slots from the eleventh on were not looked at.
- * A refusal, 1 to 9.
- */
-uint32_t odht_u64_u32_open(const uint8_t *bytes, size_t bytes_len);
-
-/*
- * Asks whether bytes are valid, to the last one: those of a table that the
- * format allows. Then all that is said of answers here holds for them.
- * OK: they are valid. A refusal, 1 to 16: the first in the order that is told
- * above; which slot it is about is not told.
- * It goes over the slots in their order, and looks for each filled slot at the control
- * bytes of its key's probe order up to it, sixteen at a time; a key is compared
- * only where an earlier place has its tag. It takes no memory. For a table of
- * keys whose hashes vary this takes from a fifth to two and a half times as long
- * as looking up each key once.
- * Where many keys have one hash, by chance or since somebody has forged them, it
- * is far longer: up to one compare for each two keys, so it grows as the square
- * of the number of slots. bench/README.md has times. A caller that takes bytes
- * from strangers should bound their length.
- */
-uint32_t odht_u64_u32_check(const uint8_t *bytes, size_t bytes_len);
-
-/*
- * Inserts a key with its value, or gives a key that is there another value.
- * OK: the key was new. REPLACED: the key was there, and *former is its former
- * value. FULL: the key is new, and the table holds as many items as it takes.
- * A refusal, 1 to 7. With FULL and the refusals nothing changes. *former is
- * written with REPLACED alone.
- */
-uint32_t odht_u64_u32_insert(uint8_t *bytes, size_t bytes_len, uint64_t key, uint32_t value,
-                             uint32_t *former);
-
-/*
- * Inserts keys[i] with values[i], for each i from 0 on, as odht_u64_u32_insert
- * does, and stops at the first that is refused.
- * OK: all are inserted, and *accepted is keys_len. FULL: *accepted of them are
- * inserted, and the next one was refused: its key is new. BAD_LENGTHS: keys_len
- * is not values_len. A refusal, 1 to 7. With the last two nothing changes, and
- * *accepted stays as it was.
- */
-uint32_t odht_u64_u32_insert_all(uint8_t *bytes, size_t bytes_len, const uint64_t *keys,
-                                 size_t keys_len, const uint32_t *values, size_t values_len,
-                                 size_t *accepted);
-
-/*
- * Looks a key up.
- * OK: the key is there, and *value is its value. ABSENT: it is not there. A
- * refusal, 1 to 7. *value is written with OK alone.
- */
-uint32_t odht_u64_u32_get(const uint8_t *bytes, size_t bytes_len, uint64_t key, uint32_t *value);
-
-/*
- * Looks keys_len keys up; the header and the length are looked at once.
- * OK: for each i, either found[i] is 1 and values[i] is the value of keys[i],
- * or found[i] is 0 and values[i] is as it was. BAD_LENGTHS: the three lengths
- * are not equal. A refusal, 1 to 7. With the last two both arrays stay.
- */
-uint32_t odht_u64_u32_get_all(const uint8_t *bytes, size_t bytes_len, const uint64_t *keys,
-                              size_t keys_len, uint32_t *values, size_t values_len,
-                              uint8_t *found, size_t found_len);
-
-/*
- * The number of items, as the header states it.
- * OK: it is *count. A refusal, 1 to 7. *count is written with OK alone.
- */
-uint32_t odht_u64_u32_len(const uint8_t *bytes, size_t bytes_len, size_t *count);
-
-/*
- * Writes each pair of the table into two arrays, in the order of the slots.
- * OK: these are *count pairs, and the rest of the arrays is as it was.
- * TOO_SMALL: the arrays are full, and there are more pairs; *count is keys_len.
- * BAD_LENGTHS: keys_len is not values_len. A refusal, 1 to 7. With the last two
- * the arrays and *count stay as they were.
- */
-uint32_t odht_u64_u32_walk(const uint8_t *bytes, size_t bytes_len, uint64_t *keys, size_t keys_len,
-                           uint32_t *values, size_t values_len, size_t *count);
-
-/*
- * Opens bytes as odht_u64_u32_open does, to look up in them often: "Opened tables"
- * above tells what to uphold of a view.
- * OK: *view is the view of the bytes. A refusal, 1 to 9. *view is written with OK
- * alone.
- */
-uint32_t odht_u64_u32_open_view(const uint8_t *bytes, size_t bytes_len, odht_view *view);
-
-/*
- * Looks a key up in an opened table.
- * OK: the key is there, and *value is its value. ABSENT: it is not there.
- * *value is written with OK alone.
- */
-uint32_t odht_u64_u32_view_get(const odht_view *view, uint64_t key, uint32_t *value);
-
-/*
- * Looks keys_len keys up in an opened table.
- * OK: for each i, found[i] is 1 and values[i] is the value of keys[i], or found[i]
- * is 0 and values[i] is as it was. BAD_LENGTHS: the three lengths are not equal,
- * and both arrays stay.
- */
-uint32_t odht_u64_u32_view_get_all(const odht_view *view, const uint64_t *keys, size_t keys_len,
-                                   uint32_t *values, size_t values_len, uint8_t *found,
-                                   size_t found_len);
-
-/* The number of items of an opened table, as the header states it: the answer itself. */
-size_t odht_u64_u32_view_len(const odht_view *view);
-
-/*
- * Asks whether inserts can make the table, and in which order. Its pairs, inserted
- * in that order into an empty table of as many slots and the same load factor,
- * leave these very bytes. Not every valid table has been made by inserts.
- * OK: out holds the slots that hold a pair, each once, in such an order. Slots
- * count from 0. UNMADE: no list of inserts makes the table, growths included, and
- * out holds numbers that say nothing. A refusal of the whole check, 1 to 16.
- * BAD_LENGTHS: the check passes the bytes, and out_len is not the number of items.
- * With the last two out stays as it was.
- * It makes the whole check first, as odht_u64_u32_check does. Then it goes over the
- * items, in at most one pass more than there are slots that wait for one behind
- * them. In a pass each item that waits asks for the places before its own, by a
- * binary search among those that wait; behind it what is left is sorted. It takes
- * no memory.
- */
-uint32_t odht_u64_u32_insert_order(const uint8_t *bytes, size_t bytes_len, size_t *out,
-                                   size_t out_len);
-
-/*
- * Makes a table for exactly these pairs in out and inserts them one after the
- * other. Of equal keys the last value counts. It takes no memory.
- * OK: the table is the first *len bytes of out. TOO_SMALL: out_len is below
- * *len, the length in bytes that the table has. CAPACITY. BAD_PERCENT.
- * BAD_LENGTHS: keys_len is not values_len. *len is written with OK and
- * TOO_SMALL alone, out with OK alone.
- */
-uint32_t odht_u64_u32_build(const uint64_t *keys, size_t keys_len, const uint32_t *values,
-                            size_t values_len, uint8_t max_load_factor_percent, uint8_t *out,
-                            size_t out_len, size_t *len);
-
-/*
- * Builds the table as one does who does not know the number of pairs before:
- * inserts them one after the other into a table that has 16 slots at 87 percent
- * at first and doubles them for a new key whenever it is full. The order of the
- * slots can differ from that of odht_u64_u32_build.
- * OK, TOO_SMALL and BAD_LENGTHS as there. MEMORY: the memory for the growing
- * table was refused, or no table is large enough. It is copied to out at the end.
- */
-uint32_t odht_u64_u32_build_growing(const uint64_t *keys, size_t keys_len, const uint32_t *values,
-                                    size_t values_len, uint8_t *out, size_t out_len, size_t *len);
-
-/* ---- Keys of 16 bytes, values of 32 bits, UnHashFn ----
+/* ---- The calls ----
  *
- * Each call does what the call of the same name above does. An array of keys
- * is an array of arrays of 16 bytes, and its length counts the keys.
+ * S stands for a kind of table, KEY and VALUE for its keys and values. Each result
+ * is written with the answers that are named beside it, and else stays as it was.
+ *
+ * odht_S_bytes_needed(max_item_count, percent, *len)
+ *     How many bytes a table for max_item_count items has that is filled to at most
+ *     percent (1 to 100) of its slots.
+ *     OK: *len is the length in bytes. BAD_PERCENT. CAPACITY: no slot count is
+ *     enough, or the length does not fit size_t.
+ *
+ * odht_S_init(bytes, bytes_len, max_item_count, percent)
+ *     Makes an empty table in bytes, whatever they hold. There must be exactly as
+ *     many as odht_S_bytes_needed answers for the same count and percentage.
+ *     OK: the bytes are the empty table. BAD_PERCENT. CAPACITY. INIT_LENGTH: there
+ *     are more or fewer bytes. With all but OK the bytes stay as they were.
+ *
+ * odht_S_open(bytes, bytes_len)
+ *     Asks whether bytes can be used as a table: looks at the header, the length
+ *     and the first ten slots, so it takes equally long for every table. Opening
+ *     is a question and not a duty: each call below looks at the header and the
+ *     length itself, but for the lookups in a view.
+ *     OK: calls can be made on them; slots from the eleventh on were not looked at.
+ *     A refusal, 1 to 9.
+ *
+ * odht_S_check(bytes, bytes_len)
+ *     Asks whether bytes are valid, to the last one: those of a table that the
+ *     format allows. Then all that is said of answers here holds for them.
+ *     OK: they are valid. A refusal, 1 to 16: the first in the order that is told
+ *     above; which slot it is about is not told.
+ *     It goes over the slots in their order, and looks for each filled slot at the
+ *     control bytes of its key's probe order up to it, sixteen at a time; a key is
+ *     compared only where an earlier place has its tag. It takes no memory. For a
+ *     table of keys whose hashes vary this takes from a fifth to two and a half
+ *     times as long as looking up each key once.
+ *     Where many keys have one hash, by chance or since somebody has forged them, it
+ *     is far longer: up to one compare for each two keys, so it grows as the square
+ *     of the number of slots. bench/README.md has times. A caller that takes bytes
+ *     from strangers should bound their length.
+ *
+ * odht_S_len(bytes, bytes_len, *count)
+ *     OK: *count is the number of items, as the header states it. That is a claim of
+ *     the bytes: before odht_S_check has passed them, allocate nothing by it. No
+ *     table holds more items than bytes. A refusal, 1 to 7.
+ *
+ * odht_S_get(bytes, bytes_len, key, *value)
+ *     OK: the key is there, and *value is its value. ABSENT: it is not there.
+ *     A refusal, 1 to 7.
+ *
+ * odht_S_get_all(bytes, bytes_len, keys, keys_len, values, values_len, found, found_len)
+ *     Looks keys_len keys up; the header and the length are looked at once.
+ *     OK: for each i, either found[i] is 1 and values[i] is the value of keys[i],
+ *     or found[i] is 0 and values[i] is as it was. BAD_LENGTHS: the three lengths
+ *     are not equal. A refusal, 1 to 7.
+ *
+ * odht_S_insert(bytes, bytes_len, key, value, *former)
+ *     Inserts a key with its value, or gives a key that is there another value.
+ *     OK: the key was new. REPLACED: the key was there, and *former is its former
+ *     value. FULL: the key is new, and the table holds as many items as it takes.
+ *     A refusal, 1 to 7. With FULL and the refusals nothing changes.
+ *
+ * odht_S_insert_all(bytes, bytes_len, keys, keys_len, values, values_len, *accepted)
+ *     Inserts keys[i] with values[i], for each i from 0 on, as odht_S_insert does,
+ *     and stops at the first that is refused.
+ *     OK: all are inserted, and *accepted is keys_len. FULL: *accepted of them are
+ *     inserted, and the next one was refused: its key is new. BAD_LENGTHS: keys_len
+ *     is not values_len. A refusal, 1 to 7. With the last two nothing changes.
+ *
+ * odht_S_walk(bytes, bytes_len, keys, keys_len, values, values_len, *count)
+ *     Writes each pair of the table into two arrays, in the order of the slots.
+ *     OK: these are *count pairs, and the rest of the arrays is as it was.
+ *     TOO_SMALL: the arrays are full, and there are more pairs; *count is keys_len.
+ *     BAD_LENGTHS: keys_len is not values_len. A refusal, 1 to 7.
+ *
+ * odht_S_insert_order(bytes, bytes_len, slots, slots_len)
+ *     Asks whether inserts can make the table, and in which order. Its pairs,
+ *     inserted in that order into an empty table of as many slots and the same load
+ *     factor, leave these very bytes. Not every valid table has been made by inserts.
+ *     OK: slots holds the slots that hold a pair, each once, in such an order. Slots
+ *     count from 0. UNMADE: no list of inserts makes the table, growths included, and
+ *     slots holds numbers that say nothing. A refusal of the whole check, 1 to 16.
+ *     BAD_LENGTHS: the check passes the bytes, and slots_len is not the number of
+ *     items.
+ *     It makes the whole check first, as odht_S_check does. Then it goes over the
+ *     items, in at most one pass more than there are slots that wait for one behind
+ *     them. In a pass each item that waits asks for the places before its own, by a
+ *     binary search among those that wait; behind it what is left is sorted. It takes
+ *     no memory.
+ *
+ * odht_S_build(keys, keys_len, values, values_len, percent, out, out_len, *len)
+ *     Makes a table for exactly these pairs in out and inserts them one after the
+ *     other. Of equal keys the last value counts. It takes no memory.
+ *     OK: the table is the first *len bytes of out. TOO_SMALL: out_len is below
+ *     *len, the length in bytes that the table has. CAPACITY. BAD_PERCENT.
+ *     BAD_LENGTHS: keys_len is not values_len. out is written with OK alone.
+ *
+ * odht_S_build_growing(keys, keys_len, values, values_len, out, out_len, *len)
+ *     Builds the table as one does who does not know the number of pairs before:
+ *     inserts them one after the other into a table that has 16 slots at 87 percent
+ *     at first and doubles them for a new key whenever it is full. The order of the
+ *     slots can differ from that of odht_S_build.
+ *     OK, TOO_SMALL and BAD_LENGTHS as there. MEMORY: the memory for the growing
+ *     table was refused, or no table is large enough. It is copied to out at the end.
+ *
+ * odht_S_open_view(bytes, bytes_len, *view)
+ *     Opens bytes as odht_S_open does, to look up in them often: "Opened tables"
+ *     tells what to uphold of a view.
+ *     OK: *view is the view of the bytes. A refusal, 1 to 9.
+ *
+ * odht_S_view_get(view, key, *value)
+ * odht_S_view_get_all(view, keys, keys_len, values, values_len, found, found_len)
+ * odht_S_view_len(view)
+ *     As odht_S_get, odht_S_get_all and odht_S_len, in an opened table and with no
+ *     refusals of bytes. The last answers the number itself.
  */
 
-/* OK: *len is the length in bytes. BAD_PERCENT. CAPACITY. */
-uint32_t odht_b16_u32_bytes_needed(size_t max_item_count, uint8_t max_load_factor_percent,
-                                   size_t *len);
+#if ODHT_TAKES_NULL
+/* What a call gets for a slice of length 0, whose pointer may be NULL: it is not looked into. */
+#define ODHT_SLICES(type) \
+    static inline const type *odht_read_##type(const type *items, size_t len) \
+    { \
+        static const type none = 0; \
+        return len == 0 ? &none : items; \
+    } \
+    static inline type *odht_write_##type(type *items, size_t len) \
+    { \
+        static type none = 0; \
+        return len == 0 ? &none : items; \
+    }
+ODHT_SLICES(uint8_t)
+ODHT_SLICES(uint32_t)
+ODHT_SLICES(uint64_t)
+ODHT_SLICES(size_t)
+#undef ODHT_SLICES
+#endif
 
-/* OK. BAD_PERCENT, CAPACITY, INIT_LENGTH: the bytes stay as they were. */
-uint32_t odht_b16_u32_init(uint8_t *bytes, size_t bytes_len, size_t max_item_count,
-                           uint8_t max_load_factor_percent);
+/* ---- odht_u64_u32_*: keys of 64 bits, values of 32 bits, FxHashFn ---- */
 
-/* OK, or a refusal, 1 to 9. */
-uint32_t odht_b16_u32_open(const uint8_t *bytes, size_t bytes_len);
+/* OK: *len is the length in bytes of a table for so many items. BAD_PERCENT. CAPACITY. */
+ODHT_CALL uint32_t odht_u64_u32_bytes_needed(size_t max_item_count, uint8_t percent, size_t *len)
+    ODHT_INLINE(u64_u32_bytes_needed);
 
-/* OK: the bytes are valid. Or a refusal, 1 to 16. */
-uint32_t odht_b16_u32_check(const uint8_t *bytes, size_t bytes_len);
+/* OK: the bytes are an empty table. BAD_PERCENT, CAPACITY, INIT_LENGTH: they stay. */
+ODHT_CALL uint32_t odht_u64_u32_init(
+    uint8_t *bytes, size_t bytes_len, size_t max_item_count, uint8_t percent)
+    ODHT_INLINE(u64_u32_init);
 
-/* OK. REPLACED: *former is the former value. FULL, or a refusal, 1 to 7: nothing changes. */
-uint32_t odht_b16_u32_insert(uint8_t *bytes, size_t bytes_len, const uint8_t key[16],
-                             uint32_t value, uint32_t *former);
+/* OK: calls can be made on the bytes. A refusal, 1 to 9. Takes equally long for every table. */
+ODHT_CALL uint32_t odht_u64_u32_open(const uint8_t *bytes, size_t bytes_len)
+    ODHT_INLINE(u64_u32_open);
 
-/* OK or FULL: *accepted pairs are inserted. BAD_LENGTHS, or a refusal, 1 to 7: nothing changes. */
-uint32_t odht_b16_u32_insert_all(uint8_t *bytes, size_t bytes_len, const uint8_t (*keys)[16],
-                                 size_t keys_len, const uint32_t *values, size_t values_len,
-                                 size_t *accepted);
+/* OK: the bytes are valid to the last one. A refusal, 1 to 16. Goes over all slots. */
+ODHT_CALL uint32_t odht_u64_u32_check(const uint8_t *bytes, size_t bytes_len)
+    ODHT_INLINE(u64_u32_check);
+
+/* OK: *count is the number of items that the header states. A refusal, 1 to 7: it stays. */
+ODHT_CALL uint32_t odht_u64_u32_len(const uint8_t *bytes, size_t bytes_len, size_t *count)
+    ODHT_INLINE(u64_u32_len);
+
+/* OK: the slots that hold a pair, in an order of inserts. UNMADE: no inserts make the table, and
+   the numbers in slots say nothing. BAD_LENGTHS, or a refusal, 1 to 16: slots stay. */
+ODHT_CALL uint32_t odht_u64_u32_insert_order(
+    const uint8_t *bytes, size_t bytes_len, size_t *slots, size_t slots_len)
+    ODHT_INLINE(u64_u32_insert_order);
+
+/* OK: *view is the view of the bytes. A refusal, 1 to 9: it stays. */
+ODHT_CALL uint32_t odht_u64_u32_open_view(const uint8_t *bytes, size_t bytes_len, odht_view *view)
+    ODHT_INLINE(u64_u32_open_view);
+
+/* The number of items that the header states. */
+ODHT_CALL size_t odht_u64_u32_view_len(const odht_view *view)
+    ODHT_INLINE(u64_u32_view_len);
+
+#if ODHT_TAKES_NULL
+/* The symbols of the library, then the functions around them. */
+uint32_t odht_symbol_u64_u32_bytes_needed(size_t max_item_count, uint8_t percent, size_t *len)
+    ODHT_SYMBOL(u64_u32_bytes_needed);
+uint32_t odht_symbol_u64_u32_init(
+    uint8_t *bytes, size_t bytes_len, size_t max_item_count, uint8_t percent)
+    ODHT_SYMBOL(u64_u32_init);
+uint32_t odht_symbol_u64_u32_open(const uint8_t *bytes, size_t bytes_len)
+    ODHT_SYMBOL(u64_u32_open);
+uint32_t odht_symbol_u64_u32_check(const uint8_t *bytes, size_t bytes_len)
+    ODHT_SYMBOL(u64_u32_check);
+uint32_t odht_symbol_u64_u32_len(const uint8_t *bytes, size_t bytes_len, size_t *count)
+    ODHT_SYMBOL(u64_u32_len);
+uint32_t odht_symbol_u64_u32_insert_order(
+    const uint8_t *bytes, size_t bytes_len, size_t *slots, size_t slots_len)
+    ODHT_SYMBOL(u64_u32_insert_order);
+uint32_t odht_symbol_u64_u32_open_view(const uint8_t *bytes, size_t bytes_len, odht_view *view)
+    ODHT_SYMBOL(u64_u32_open_view);
+size_t odht_symbol_u64_u32_view_len(const odht_view *view)
+    ODHT_SYMBOL(u64_u32_view_len);
+
+static inline uint32_t odht_u64_u32_bytes_needed(
+    size_t max_item_count, uint8_t percent, size_t *len)
+{
+    size_t unwanted = 0;
+    return odht_symbol_u64_u32_bytes_needed(max_item_count, percent, len ? len : &unwanted);
+}
+
+static inline uint32_t odht_u64_u32_init(
+    uint8_t *bytes, size_t bytes_len, size_t max_item_count, uint8_t percent)
+{
+    return odht_symbol_u64_u32_init(
+        odht_write_uint8_t(bytes, bytes_len), bytes_len, max_item_count, percent);
+}
+
+static inline uint32_t odht_u64_u32_open(const uint8_t *bytes, size_t bytes_len)
+{
+    return odht_symbol_u64_u32_open(odht_read_uint8_t(bytes, bytes_len), bytes_len);
+}
+
+static inline uint32_t odht_u64_u32_check(const uint8_t *bytes, size_t bytes_len)
+{
+    return odht_symbol_u64_u32_check(odht_read_uint8_t(bytes, bytes_len), bytes_len);
+}
+
+static inline uint32_t odht_u64_u32_len(const uint8_t *bytes, size_t bytes_len, size_t *count)
+{
+    size_t unwanted = 0;
+    return odht_symbol_u64_u32_len(
+        odht_read_uint8_t(bytes, bytes_len), bytes_len, count ? count : &unwanted);
+}
+
+static inline uint32_t odht_u64_u32_insert_order(
+    const uint8_t *bytes, size_t bytes_len, size_t *slots, size_t slots_len)
+{
+    return odht_symbol_u64_u32_insert_order(
+        odht_read_uint8_t(bytes, bytes_len), bytes_len, odht_write_size_t(slots, slots_len),
+        slots_len);
+}
+
+static inline uint32_t odht_u64_u32_open_view(
+    const uint8_t *bytes, size_t bytes_len, odht_view *view)
+{
+    odht_view opened = ODHT_NO_VIEW;
+    uint32_t status = odht_symbol_u64_u32_open_view(
+        odht_read_uint8_t(bytes, bytes_len), bytes_len, &opened);
+    if (status == ODHT_OK)
+        *view = opened;
+    return status;
+}
+
+static inline size_t odht_u64_u32_view_len(const odht_view *view)
+{
+    return odht_symbol_u64_u32_view_len(view);
+}
+#endif
 
 /* OK: *value is the value. ABSENT, or a refusal, 1 to 7: *value stays. */
-uint32_t odht_b16_u32_get(const uint8_t *bytes, size_t bytes_len, const uint8_t key[16],
-                          uint32_t *value);
+ODHT_CALL uint32_t odht_u64_u32_get(
+    const uint8_t *bytes, size_t bytes_len, uint64_t key, uint32_t *value)
+    ODHT_INLINE(u64_u32_get);
 
 /* OK: found[i] is 1 and values[i] the value, or found[i] is 0 and values[i] as it was.
    BAD_LENGTHS, or a refusal, 1 to 7: both arrays stay. */
-uint32_t odht_b16_u32_get_all(const uint8_t *bytes, size_t bytes_len, const uint8_t (*keys)[16],
-                              size_t keys_len, uint32_t *values, size_t values_len,
-                              uint8_t *found, size_t found_len);
+ODHT_CALL uint32_t odht_u64_u32_get_all(
+    const uint8_t *bytes, size_t bytes_len, const uint64_t *keys, size_t keys_len,
+    uint32_t *values, size_t values_len, uint8_t *found, size_t found_len)
+    ODHT_INLINE(u64_u32_get_all);
 
-/* OK: *count is the number of items. A refusal, 1 to 7: it stays. */
-uint32_t odht_b16_u32_len(const uint8_t *bytes, size_t bytes_len, size_t *count);
+/* OK: the key was new. REPLACED: *former is the former value. FULL, or a refusal, 1 to 7: nothing
+   changes. */
+ODHT_CALL uint32_t odht_u64_u32_insert(
+    uint8_t *bytes, size_t bytes_len, uint64_t key, uint32_t value, uint32_t *former)
+    ODHT_INLINE(u64_u32_insert);
+
+/* OK or FULL: *accepted pairs are inserted. BAD_LENGTHS, or a refusal, 1 to 7: nothing changes. */
+ODHT_CALL uint32_t odht_u64_u32_insert_all(
+    uint8_t *bytes, size_t bytes_len, const uint64_t *keys, size_t keys_len,
+    const uint32_t *values, size_t values_len, size_t *accepted)
+    ODHT_INLINE(u64_u32_insert_all);
 
 /* OK: *count pairs, in the order of the slots. TOO_SMALL: the arrays are full, and there are
    more. BAD_LENGTHS, or a refusal, 1 to 7: the arrays and *count stay. */
-uint32_t odht_b16_u32_walk(const uint8_t *bytes, size_t bytes_len, uint8_t (*keys)[16],
-                           size_t keys_len, uint32_t *values, size_t values_len, size_t *count);
-
-/* OK: *view is the view of the bytes. A refusal, 1 to 9: it stays. */
-uint32_t odht_b16_u32_open_view(const uint8_t *bytes, size_t bytes_len, odht_view *view);
+ODHT_CALL uint32_t odht_u64_u32_walk(
+    const uint8_t *bytes, size_t bytes_len, uint64_t *keys, size_t keys_len, uint32_t *values,
+    size_t values_len, size_t *count)
+    ODHT_INLINE(u64_u32_walk);
 
 /* OK: *value is the value. ABSENT: it stays. */
-uint32_t odht_b16_u32_view_get(const odht_view *view, const uint8_t key[16], uint32_t *value);
+ODHT_CALL uint32_t odht_u64_u32_view_get(
+    const odht_view *view, uint64_t key, uint32_t *value)
+    ODHT_INLINE(u64_u32_view_get);
 
 /* OK: found[i] is 1 and values[i] the value, or found[i] is 0 and values[i] as it was.
    BAD_LENGTHS: both arrays stay. */
-uint32_t odht_b16_u32_view_get_all(const odht_view *view, const uint8_t (*keys)[16],
-                                   size_t keys_len, uint32_t *values, size_t values_len,
-                                   uint8_t *found, size_t found_len);
+ODHT_CALL uint32_t odht_u64_u32_view_get_all(
+    const odht_view *view, const uint64_t *keys, size_t keys_len, uint32_t *values,
+    size_t values_len, uint8_t *found, size_t found_len)
+    ODHT_INLINE(u64_u32_view_get_all);
 
-/* The number of items. */
-size_t odht_b16_u32_view_len(const odht_view *view);
+#if ODHT_TAKES_NULL
+/* The symbols of the library, then the functions around them. */
+uint32_t odht_symbol_u64_u32_get(
+    const uint8_t *bytes, size_t bytes_len, uint64_t key, uint32_t *value)
+    ODHT_SYMBOL(u64_u32_get);
+uint32_t odht_symbol_u64_u32_get_all(
+    const uint8_t *bytes, size_t bytes_len, const uint64_t *keys, size_t keys_len,
+    uint32_t *values, size_t values_len, uint8_t *found, size_t found_len)
+    ODHT_SYMBOL(u64_u32_get_all);
+uint32_t odht_symbol_u64_u32_insert(
+    uint8_t *bytes, size_t bytes_len, uint64_t key, uint32_t value, uint32_t *former)
+    ODHT_SYMBOL(u64_u32_insert);
+uint32_t odht_symbol_u64_u32_insert_all(
+    uint8_t *bytes, size_t bytes_len, const uint64_t *keys, size_t keys_len,
+    const uint32_t *values, size_t values_len, size_t *accepted)
+    ODHT_SYMBOL(u64_u32_insert_all);
+uint32_t odht_symbol_u64_u32_walk(
+    const uint8_t *bytes, size_t bytes_len, uint64_t *keys, size_t keys_len, uint32_t *values,
+    size_t values_len, size_t *count)
+    ODHT_SYMBOL(u64_u32_walk);
+uint32_t odht_symbol_u64_u32_view_get(
+    const odht_view *view, uint64_t key, uint32_t *value)
+    ODHT_SYMBOL(u64_u32_view_get);
+uint32_t odht_symbol_u64_u32_view_get_all(
+    const odht_view *view, const uint64_t *keys, size_t keys_len, uint32_t *values,
+    size_t values_len, uint8_t *found, size_t found_len)
+    ODHT_SYMBOL(u64_u32_view_get_all);
 
-/* OK: out holds the slots that hold a pair, in an order of inserts. UNMADE: no inserts make the
-   table, and the numbers in out say nothing. BAD_LENGTHS, or a refusal, 1 to 16: out stays. */
-uint32_t odht_b16_u32_insert_order(const uint8_t *bytes, size_t bytes_len, size_t *out,
-                                   size_t out_len);
+static inline uint32_t odht_u64_u32_get(
+    const uint8_t *bytes, size_t bytes_len, uint64_t key, uint32_t *value)
+{
+    uint32_t unwanted = 0;
+    return odht_symbol_u64_u32_get(
+        odht_read_uint8_t(bytes, bytes_len), bytes_len, key, value ? value : &unwanted);
+}
+
+static inline uint32_t odht_u64_u32_get_all(
+    const uint8_t *bytes, size_t bytes_len, const uint64_t *keys, size_t keys_len,
+    uint32_t *values, size_t values_len, uint8_t *found, size_t found_len)
+{
+    return odht_symbol_u64_u32_get_all(
+        odht_read_uint8_t(bytes, bytes_len), bytes_len, odht_read_uint64_t(keys, keys_len),
+        keys_len, odht_write_uint32_t(values, values_len), values_len,
+        odht_write_uint8_t(found, found_len), found_len);
+}
+
+static inline uint32_t odht_u64_u32_insert(
+    uint8_t *bytes, size_t bytes_len, uint64_t key, uint32_t value, uint32_t *former)
+{
+    uint32_t unwanted = 0;
+    return odht_symbol_u64_u32_insert(
+        odht_write_uint8_t(bytes, bytes_len), bytes_len, key, value, former ? former : &unwanted);
+}
+
+static inline uint32_t odht_u64_u32_insert_all(
+    uint8_t *bytes, size_t bytes_len, const uint64_t *keys, size_t keys_len,
+    const uint32_t *values, size_t values_len, size_t *accepted)
+{
+    size_t unwanted = 0;
+    return odht_symbol_u64_u32_insert_all(
+        odht_write_uint8_t(bytes, bytes_len), bytes_len, odht_read_uint64_t(keys, keys_len),
+        keys_len, odht_read_uint32_t(values, values_len), values_len,
+        accepted ? accepted : &unwanted);
+}
+
+static inline uint32_t odht_u64_u32_walk(
+    const uint8_t *bytes, size_t bytes_len, uint64_t *keys, size_t keys_len, uint32_t *values,
+    size_t values_len, size_t *count)
+{
+    size_t unwanted = 0;
+    return odht_symbol_u64_u32_walk(
+        odht_read_uint8_t(bytes, bytes_len), bytes_len, odht_write_uint64_t(keys, keys_len),
+        keys_len, odht_write_uint32_t(values, values_len), values_len, count ? count : &unwanted);
+}
+
+static inline uint32_t odht_u64_u32_view_get(
+    const odht_view *view, uint64_t key, uint32_t *value)
+{
+    uint32_t unwanted = 0;
+    return odht_symbol_u64_u32_view_get(view, key, value ? value : &unwanted);
+}
+
+static inline uint32_t odht_u64_u32_view_get_all(
+    const odht_view *view, const uint64_t *keys, size_t keys_len, uint32_t *values,
+    size_t values_len, uint8_t *found, size_t found_len)
+{
+    return odht_symbol_u64_u32_view_get_all(
+        view, odht_read_uint64_t(keys, keys_len), keys_len,
+        odht_write_uint32_t(values, values_len), values_len, odht_write_uint8_t(found, found_len),
+        found_len);
+}
+#endif
+
+/* OK: the table is the first *len bytes of out. TOO_SMALL: out_len is below *len, the length that
+   it has. CAPACITY, BAD_PERCENT, BAD_LENGTHS: *len stays. With all but OK out stays. */
+ODHT_CALL uint32_t odht_u64_u32_build(
+    const uint64_t *keys, size_t keys_len, const uint32_t *values, size_t values_len,
+    uint8_t percent, uint8_t *out, size_t out_len, size_t *len)
+    ODHT_INLINE(u64_u32_build);
+
+/* OK, TOO_SMALL and BAD_LENGTHS as there. MEMORY: out and *len stay. */
+ODHT_CALL uint32_t odht_u64_u32_build_growing(
+    const uint64_t *keys, size_t keys_len, const uint32_t *values, size_t values_len,
+    uint8_t *out, size_t out_len, size_t *len)
+    ODHT_INLINE(u64_u32_build_growing);
+
+#if ODHT_TAKES_NULL
+/* The symbols of the library, then the functions around them. */
+uint32_t odht_symbol_u64_u32_build(
+    const uint64_t *keys, size_t keys_len, const uint32_t *values, size_t values_len,
+    uint8_t percent, uint8_t *out, size_t out_len, size_t *len)
+    ODHT_SYMBOL(u64_u32_build);
+uint32_t odht_symbol_u64_u32_build_growing(
+    const uint64_t *keys, size_t keys_len, const uint32_t *values, size_t values_len,
+    uint8_t *out, size_t out_len, size_t *len)
+    ODHT_SYMBOL(u64_u32_build_growing);
+
+static inline uint32_t odht_u64_u32_build(
+    const uint64_t *keys, size_t keys_len, const uint32_t *values, size_t values_len,
+    uint8_t percent, uint8_t *out, size_t out_len, size_t *len)
+{
+    size_t unwanted = 0;
+    return odht_symbol_u64_u32_build(
+        odht_read_uint64_t(keys, keys_len), keys_len, odht_read_uint32_t(values, values_len),
+        values_len, percent, odht_write_uint8_t(out, out_len), out_len, len ? len : &unwanted);
+}
+
+static inline uint32_t odht_u64_u32_build_growing(
+    const uint64_t *keys, size_t keys_len, const uint32_t *values, size_t values_len,
+    uint8_t *out, size_t out_len, size_t *len)
+{
+    size_t unwanted = 0;
+    return odht_symbol_u64_u32_build_growing(
+        odht_read_uint64_t(keys, keys_len), keys_len, odht_read_uint32_t(values, values_len),
+        values_len, odht_write_uint8_t(out, out_len), out_len, len ? len : &unwanted);
+}
+#endif
+
+/* ---- odht_b16_u32_*: keys of 16 bytes, values of 32 bits, UnHashFn ---- */
+
+/* OK: *len is the length in bytes of a table for so many items. BAD_PERCENT. CAPACITY. */
+ODHT_CALL uint32_t odht_b16_u32_bytes_needed(size_t max_item_count, uint8_t percent, size_t *len)
+    ODHT_INLINE(b16_u32_bytes_needed);
+
+/* OK: the bytes are an empty table. BAD_PERCENT, CAPACITY, INIT_LENGTH: they stay. */
+ODHT_CALL uint32_t odht_b16_u32_init(
+    uint8_t *bytes, size_t bytes_len, size_t max_item_count, uint8_t percent)
+    ODHT_INLINE(b16_u32_init);
+
+/* OK: calls can be made on the bytes. A refusal, 1 to 9. Takes equally long for every table. */
+ODHT_CALL uint32_t odht_b16_u32_open(const uint8_t *bytes, size_t bytes_len)
+    ODHT_INLINE(b16_u32_open);
+
+/* OK: the bytes are valid to the last one. A refusal, 1 to 16. Goes over all slots. */
+ODHT_CALL uint32_t odht_b16_u32_check(const uint8_t *bytes, size_t bytes_len)
+    ODHT_INLINE(b16_u32_check);
+
+/* OK: *count is the number of items that the header states. A refusal, 1 to 7: it stays. */
+ODHT_CALL uint32_t odht_b16_u32_len(const uint8_t *bytes, size_t bytes_len, size_t *count)
+    ODHT_INLINE(b16_u32_len);
+
+/* OK: the slots that hold a pair, in an order of inserts. UNMADE: no inserts make the table, and
+   the numbers in slots say nothing. BAD_LENGTHS, or a refusal, 1 to 16: slots stay. */
+ODHT_CALL uint32_t odht_b16_u32_insert_order(
+    const uint8_t *bytes, size_t bytes_len, size_t *slots, size_t slots_len)
+    ODHT_INLINE(b16_u32_insert_order);
+
+/* OK: *view is the view of the bytes. A refusal, 1 to 9: it stays. */
+ODHT_CALL uint32_t odht_b16_u32_open_view(const uint8_t *bytes, size_t bytes_len, odht_view *view)
+    ODHT_INLINE(b16_u32_open_view);
+
+/* The number of items that the header states. */
+ODHT_CALL size_t odht_b16_u32_view_len(const odht_view *view)
+    ODHT_INLINE(b16_u32_view_len);
+
+#if ODHT_TAKES_NULL
+/* The symbols of the library, then the functions around them. */
+uint32_t odht_symbol_b16_u32_bytes_needed(size_t max_item_count, uint8_t percent, size_t *len)
+    ODHT_SYMBOL(b16_u32_bytes_needed);
+uint32_t odht_symbol_b16_u32_init(
+    uint8_t *bytes, size_t bytes_len, size_t max_item_count, uint8_t percent)
+    ODHT_SYMBOL(b16_u32_init);
+uint32_t odht_symbol_b16_u32_open(const uint8_t *bytes, size_t bytes_len)
+    ODHT_SYMBOL(b16_u32_open);
+uint32_t odht_symbol_b16_u32_check(const uint8_t *bytes, size_t bytes_len)
+    ODHT_SYMBOL(b16_u32_check);
+uint32_t odht_symbol_b16_u32_len(const uint8_t *bytes, size_t bytes_len, size_t *count)
+    ODHT_SYMBOL(b16_u32_len);
+uint32_t odht_symbol_b16_u32_insert_order(
+    const uint8_t *bytes, size_t bytes_len, size_t *slots, size_t slots_len)
+    ODHT_SYMBOL(b16_u32_insert_order);
+uint32_t odht_symbol_b16_u32_open_view(const uint8_t *bytes, size_t bytes_len, odht_view *view)
+    ODHT_SYMBOL(b16_u32_open_view);
+size_t odht_symbol_b16_u32_view_len(const odht_view *view)
+    ODHT_SYMBOL(b16_u32_view_len);
+
+static inline uint32_t odht_b16_u32_bytes_needed(
+    size_t max_item_count, uint8_t percent, size_t *len)
+{
+    size_t unwanted = 0;
+    return odht_symbol_b16_u32_bytes_needed(max_item_count, percent, len ? len : &unwanted);
+}
+
+static inline uint32_t odht_b16_u32_init(
+    uint8_t *bytes, size_t bytes_len, size_t max_item_count, uint8_t percent)
+{
+    return odht_symbol_b16_u32_init(
+        odht_write_uint8_t(bytes, bytes_len), bytes_len, max_item_count, percent);
+}
+
+static inline uint32_t odht_b16_u32_open(const uint8_t *bytes, size_t bytes_len)
+{
+    return odht_symbol_b16_u32_open(odht_read_uint8_t(bytes, bytes_len), bytes_len);
+}
+
+static inline uint32_t odht_b16_u32_check(const uint8_t *bytes, size_t bytes_len)
+{
+    return odht_symbol_b16_u32_check(odht_read_uint8_t(bytes, bytes_len), bytes_len);
+}
+
+static inline uint32_t odht_b16_u32_len(const uint8_t *bytes, size_t bytes_len, size_t *count)
+{
+    size_t unwanted = 0;
+    return odht_symbol_b16_u32_len(
+        odht_read_uint8_t(bytes, bytes_len), bytes_len, count ? count : &unwanted);
+}
+
+static inline uint32_t odht_b16_u32_insert_order(
+    const uint8_t *bytes, size_t bytes_len, size_t *slots, size_t slots_len)
+{
+    return odht_symbol_b16_u32_insert_order(
+        odht_read_uint8_t(bytes, bytes_len), bytes_len, odht_write_size_t(slots, slots_len),
+        slots_len);
+}
+
+static inline uint32_t odht_b16_u32_open_view(
+    const uint8_t *bytes, size_t bytes_len, odht_view *view)
+{
+    odht_view opened = ODHT_NO_VIEW;
+    uint32_t status = odht_symbol_b16_u32_open_view(
+        odht_read_uint8_t(bytes, bytes_len), bytes_len, &opened);
+    if (status == ODHT_OK)
+        *view = opened;
+    return status;
+}
+
+static inline size_t odht_b16_u32_view_len(const odht_view *view)
+{
+    return odht_symbol_b16_u32_view_len(view);
+}
+#endif
+
+/* OK: *value is the value. ABSENT, or a refusal, 1 to 7: *value stays. */
+ODHT_CALL uint32_t odht_b16_u32_get(
+    const uint8_t *bytes, size_t bytes_len, const uint8_t key[16], uint32_t *value)
+    ODHT_INLINE(b16_u32_get);
+
+/* OK: found[i] is 1 and values[i] the value, or found[i] is 0 and values[i] as it was.
+   BAD_LENGTHS, or a refusal, 1 to 7: both arrays stay. */
+ODHT_CALL uint32_t odht_b16_u32_get_all(
+    const uint8_t *bytes, size_t bytes_len, const uint8_t *keys, size_t keys_len,
+    uint32_t *values, size_t values_len, uint8_t *found, size_t found_len)
+    ODHT_INLINE(b16_u32_get_all);
+
+/* OK: the key was new. REPLACED: *former is the former value. FULL, or a refusal, 1 to 7: nothing
+   changes. */
+ODHT_CALL uint32_t odht_b16_u32_insert(
+    uint8_t *bytes, size_t bytes_len, const uint8_t key[16], uint32_t value, uint32_t *former)
+    ODHT_INLINE(b16_u32_insert);
+
+/* OK or FULL: *accepted pairs are inserted. BAD_LENGTHS, or a refusal, 1 to 7: nothing changes. */
+ODHT_CALL uint32_t odht_b16_u32_insert_all(
+    uint8_t *bytes, size_t bytes_len, const uint8_t *keys, size_t keys_len,
+    const uint32_t *values, size_t values_len, size_t *accepted)
+    ODHT_INLINE(b16_u32_insert_all);
+
+/* OK: *count pairs, in the order of the slots. TOO_SMALL: the arrays are full, and there are
+   more. BAD_LENGTHS, or a refusal, 1 to 7: the arrays and *count stay. */
+ODHT_CALL uint32_t odht_b16_u32_walk(
+    const uint8_t *bytes, size_t bytes_len, uint8_t *keys, size_t keys_len, uint32_t *values,
+    size_t values_len, size_t *count)
+    ODHT_INLINE(b16_u32_walk);
+
+/* OK: *value is the value. ABSENT: it stays. */
+ODHT_CALL uint32_t odht_b16_u32_view_get(
+    const odht_view *view, const uint8_t key[16], uint32_t *value)
+    ODHT_INLINE(b16_u32_view_get);
+
+/* OK: found[i] is 1 and values[i] the value, or found[i] is 0 and values[i] as it was.
+   BAD_LENGTHS: both arrays stay. */
+ODHT_CALL uint32_t odht_b16_u32_view_get_all(
+    const odht_view *view, const uint8_t *keys, size_t keys_len, uint32_t *values,
+    size_t values_len, uint8_t *found, size_t found_len)
+    ODHT_INLINE(b16_u32_view_get_all);
+
+#if ODHT_TAKES_NULL
+/* The symbols of the library, then the functions around them. */
+uint32_t odht_symbol_b16_u32_get(
+    const uint8_t *bytes, size_t bytes_len, const uint8_t key[16], uint32_t *value)
+    ODHT_SYMBOL(b16_u32_get);
+uint32_t odht_symbol_b16_u32_get_all(
+    const uint8_t *bytes, size_t bytes_len, const uint8_t *keys, size_t keys_len,
+    uint32_t *values, size_t values_len, uint8_t *found, size_t found_len)
+    ODHT_SYMBOL(b16_u32_get_all);
+uint32_t odht_symbol_b16_u32_insert(
+    uint8_t *bytes, size_t bytes_len, const uint8_t key[16], uint32_t value, uint32_t *former)
+    ODHT_SYMBOL(b16_u32_insert);
+uint32_t odht_symbol_b16_u32_insert_all(
+    uint8_t *bytes, size_t bytes_len, const uint8_t *keys, size_t keys_len,
+    const uint32_t *values, size_t values_len, size_t *accepted)
+    ODHT_SYMBOL(b16_u32_insert_all);
+uint32_t odht_symbol_b16_u32_walk(
+    const uint8_t *bytes, size_t bytes_len, uint8_t *keys, size_t keys_len, uint32_t *values,
+    size_t values_len, size_t *count)
+    ODHT_SYMBOL(b16_u32_walk);
+uint32_t odht_symbol_b16_u32_view_get(
+    const odht_view *view, const uint8_t key[16], uint32_t *value)
+    ODHT_SYMBOL(b16_u32_view_get);
+uint32_t odht_symbol_b16_u32_view_get_all(
+    const odht_view *view, const uint8_t *keys, size_t keys_len, uint32_t *values,
+    size_t values_len, uint8_t *found, size_t found_len)
+    ODHT_SYMBOL(b16_u32_view_get_all);
+
+static inline uint32_t odht_b16_u32_get(
+    const uint8_t *bytes, size_t bytes_len, const uint8_t key[16], uint32_t *value)
+{
+    uint32_t unwanted = 0;
+    return odht_symbol_b16_u32_get(
+        odht_read_uint8_t(bytes, bytes_len), bytes_len, key, value ? value : &unwanted);
+}
+
+static inline uint32_t odht_b16_u32_get_all(
+    const uint8_t *bytes, size_t bytes_len, const uint8_t *keys, size_t keys_len,
+    uint32_t *values, size_t values_len, uint8_t *found, size_t found_len)
+{
+    return odht_symbol_b16_u32_get_all(
+        odht_read_uint8_t(bytes, bytes_len), bytes_len, odht_read_uint8_t(keys, keys_len),
+        keys_len, odht_write_uint32_t(values, values_len), values_len,
+        odht_write_uint8_t(found, found_len), found_len);
+}
+
+static inline uint32_t odht_b16_u32_insert(
+    uint8_t *bytes, size_t bytes_len, const uint8_t key[16], uint32_t value, uint32_t *former)
+{
+    uint32_t unwanted = 0;
+    return odht_symbol_b16_u32_insert(
+        odht_write_uint8_t(bytes, bytes_len), bytes_len, key, value, former ? former : &unwanted);
+}
+
+static inline uint32_t odht_b16_u32_insert_all(
+    uint8_t *bytes, size_t bytes_len, const uint8_t *keys, size_t keys_len,
+    const uint32_t *values, size_t values_len, size_t *accepted)
+{
+    size_t unwanted = 0;
+    return odht_symbol_b16_u32_insert_all(
+        odht_write_uint8_t(bytes, bytes_len), bytes_len, odht_read_uint8_t(keys, keys_len),
+        keys_len, odht_read_uint32_t(values, values_len), values_len,
+        accepted ? accepted : &unwanted);
+}
+
+static inline uint32_t odht_b16_u32_walk(
+    const uint8_t *bytes, size_t bytes_len, uint8_t *keys, size_t keys_len, uint32_t *values,
+    size_t values_len, size_t *count)
+{
+    size_t unwanted = 0;
+    return odht_symbol_b16_u32_walk(
+        odht_read_uint8_t(bytes, bytes_len), bytes_len, odht_write_uint8_t(keys, keys_len),
+        keys_len, odht_write_uint32_t(values, values_len), values_len, count ? count : &unwanted);
+}
+
+static inline uint32_t odht_b16_u32_view_get(
+    const odht_view *view, const uint8_t key[16], uint32_t *value)
+{
+    uint32_t unwanted = 0;
+    return odht_symbol_b16_u32_view_get(view, key, value ? value : &unwanted);
+}
+
+static inline uint32_t odht_b16_u32_view_get_all(
+    const odht_view *view, const uint8_t *keys, size_t keys_len, uint32_t *values,
+    size_t values_len, uint8_t *found, size_t found_len)
+{
+    return odht_symbol_b16_u32_view_get_all(
+        view, odht_read_uint8_t(keys, keys_len), keys_len,
+        odht_write_uint32_t(values, values_len), values_len, odht_write_uint8_t(found, found_len),
+        found_len);
+}
+#endif
+
+#undef ODHT_CALL
+#undef ODHT_INLINE
+#undef ODHT_SYMBOL
 
 #ifdef __cplusplus
 }

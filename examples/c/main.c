@@ -83,7 +83,7 @@ static const uint8_t *map(const char *path, size_t *length)
     if (bytes == MAP_FAILED)
         fail(path);
     close(file);
-    return bytes;
+    return (const uint8_t *)bytes;
 }
 
 static void look_up(const uint8_t *bytes, size_t length)
@@ -180,53 +180,52 @@ static void fill_to_the_maximum(void)
 /* ---- Keys of 16 bytes ---- */
 
 /* The pairs are 1 to 100, 2 to 200, and so on; each of a key's bytes is its number. */
-static void fill_byte_pairs(uint8_t (*keys)[KEY_LENGTH], uint32_t *values, size_t count)
+static void fill_byte_pairs(uint8_t *keys, uint32_t *values, size_t count)
 {
     for (size_t index = 0; index < count; index++) {
-        memset(keys[index], (int)(index + 1), KEY_LENGTH);
+        memset(keys + index * KEY_LENGTH, (int)(index + 1), KEY_LENGTH);
         values[index] = (uint32_t)(100 * (index + 1));
     }
 }
 
-static void insert_bytes(uint8_t *bytes, size_t length, const uint8_t (*keys)[KEY_LENGTH],
+static void insert_bytes(uint8_t *bytes, size_t length, const uint8_t *keys,
                          const uint32_t *values)
 {
     uint32_t former = 0;
     size_t accepted = 0;
 
     say_line("init", odht_b16_u32_init(bytes, length, 5, 50));
-    uint32_t status = odht_b16_u32_insert(bytes, length, keys[0], 100, &former);
+    uint32_t status = odht_b16_u32_insert(bytes, length, keys, 100, &former);
     say_former("insert 1 to 100", status, former);
-    status = odht_b16_u32_insert(bytes, length, keys[0], 150, &former);
+    status = odht_b16_u32_insert(bytes, length, keys, 150, &former);
     say_former("insert 1 to 150", status, former);
     say("insert_all 2 to 200 until 5 to 500",
-        odht_b16_u32_insert_all(bytes, length, keys + 1, 4, values + 1, 4, &accepted));
+        odht_b16_u32_insert_all(bytes, length, keys + KEY_LENGTH, 4, values + 1, 4, &accepted));
     printf(", %zu accepted\n", accepted);
 }
 
-static void look_up_bytes(const uint8_t *bytes, size_t length, const uint8_t (*keys)[KEY_LENGTH])
+static void look_up_bytes(const uint8_t *bytes, size_t length, const uint8_t *keys)
 {
-    uint8_t together[3][KEY_LENGTH];
+    uint8_t together[3 * KEY_LENGTH];
     uint32_t values[] = {5, 5, 5};
     uint32_t value = 0;
     uint8_t found[3];
 
-    uint32_t status = odht_b16_u32_get(bytes, length, keys[2], &value);
+    uint32_t status = odht_b16_u32_get(bytes, length, keys + 2 * KEY_LENGTH, &value);
     say_value(3, status, value);
-    status = odht_b16_u32_get(bytes, length, keys[8], &value);
+    status = odht_b16_u32_get(bytes, length, keys + 8 * KEY_LENGTH, &value);
     say_value(9, status, value);
-    memcpy(together[0], keys[0], KEY_LENGTH);
-    memcpy(together[1], keys[8], KEY_LENGTH);
-    memcpy(together[2], keys[4], KEY_LENGTH);
+    memcpy(together, keys, KEY_LENGTH);
+    memcpy(together + KEY_LENGTH, keys + 8 * KEY_LENGTH, KEY_LENGTH);
+    memcpy(together + 2 * KEY_LENGTH, keys + 4 * KEY_LENGTH, KEY_LENGTH);
     say("get_all 1 9 5",
-        odht_b16_u32_get_all(bytes, length, (const uint8_t(*)[KEY_LENGTH])together, 3, values, 3,
-                             found, 3));
+        odht_b16_u32_get_all(bytes, length, together, 3, values, 3, found, 3));
     say_found(3, found, values);
 }
 
 static void walk_bytes(const uint8_t *bytes, size_t length)
 {
-    uint8_t keys[5][KEY_LENGTH];
+    uint8_t keys[5 * KEY_LENGTH];
     uint32_t values[5];
     uint32_t key_sum = 0;
     uint32_t value_sum = 0;
@@ -236,7 +235,7 @@ static void walk_bytes(const uint8_t *bytes, size_t length)
     printf(", %zu items\n", count);
     say("walk", odht_b16_u32_walk(bytes, length, keys, 5, values, 5, &count));
     for (size_t index = 0; index < count; index++) {
-        key_sum += keys[index][0];
+        key_sum += keys[index * KEY_LENGTH];
         value_sum += values[index];
     }
     printf(", %zu pairs, the keys add up to %" PRIu32 ", the values to %" PRIu32 "\n", count,
@@ -245,23 +244,23 @@ static void walk_bytes(const uint8_t *bytes, size_t length)
 
 static void byte_keys(void)
 {
-    uint8_t filled[9][KEY_LENGTH];
-    const uint8_t (*keys)[KEY_LENGTH] = (const uint8_t(*)[KEY_LENGTH])filled;
+    uint8_t keys[9 * KEY_LENGTH];
     uint32_t values[9];
     uint8_t bytes[384];
     size_t length = 0;
     size_t accepted = 0;
 
-    fill_byte_pairs(filled, values, 9);
+    fill_byte_pairs(keys, values, 9);
     printf("\nkeys of 16 bytes, a table for 5 items at 50 percent\n");
     say("bytes_needed", odht_b16_u32_bytes_needed(5, 50, &length));
     printf(", %zu bytes\n", length);
     insert_bytes(bytes, sizeof bytes, keys, values);
     look_up_bytes(bytes, sizeof bytes, keys);
     walk_bytes(bytes, sizeof bytes);
-    insert_behind_view(bytes, sizeof bytes, keys[5]);
+    insert_behind_view(bytes, sizeof bytes, keys + 5 * KEY_LENGTH);
     say("insert_all 6 to 600 until 9 to 900",
-        odht_b16_u32_insert_all(bytes, sizeof bytes, keys + 5, 4, values + 5, 4, &accepted));
+        odht_b16_u32_insert_all(bytes, sizeof bytes, keys + 5 * KEY_LENGTH, 4, values + 5, 4,
+                                &accepted));
     printf(", %zu accepted\n", accepted);
     say_line("open as keys of 64 bits", odht_u64_u32_open(bytes, sizeof bytes));
     say_line("check", odht_b16_u32_check(bytes, sizeof bytes));

@@ -13,10 +13,9 @@ static void insert_again(const char *what, const uint64_t *keys, const uint32_t 
                          const uint8_t *bytes)
 {
     uint8_t again[256];
-    size_t accepted = 0;
 
-    odht_u64_u32_init(again, sizeof again, 13, 87);
-    odht_u64_u32_insert_all(again, sizeof again, keys, 3, values, 3, &accepted);
+    must_be_ok(odht_u64_u32_init(again, sizeof again, 13, 87));
+    must_be_ok(odht_u64_u32_insert_all(again, sizeof again, keys, 3, values, 3, NULL));
     printf("%s: %s bytes\n", what, memcmp(again, bytes, sizeof again) == 0 ? "same" : "other");
 }
 
@@ -43,7 +42,7 @@ void order_of_inserts(void)
     say("insert_all 3 19 35",
         odht_u64_u32_insert_all(bytes, sizeof bytes, collide, 3, values, 3, &count));
     printf(", %zu accepted\n", count);
-    odht_u64_u32_walk(bytes, sizeof bytes, keys, 3, values, 3, &count);
+    must_be_ok(odht_u64_u32_walk(bytes, sizeof bytes, keys, 3, values, 3, NULL));
     insert_again("inserts in slot order", keys, values, bytes);
     say("insert_order", odht_u64_u32_insert_order(bytes, sizeof bytes, slots, 3));
     say_slots(3, slots);
@@ -62,14 +61,14 @@ void unmade_table(void)
 {
     uint8_t bytes[1392];
     size_t slots[48];
-    uint32_t former = 0;
 
     printf("\na valid table that no inserts make\n");
     say_line("init", odht_b16_u32_init(bytes, sizeof bytes, 48, 87));
     for (uint8_t number = 0; number < 64; number++) {
-        uint8_t key[16] = {[12] = number};
+        uint8_t key[16] = {0};
+        key[12] = number;
         if (number < 33 || number > 48)
-            odht_b16_u32_insert(bytes, sizeof bytes, key, number, &former);
+            must_be_ok(odht_b16_u32_insert(bytes, sizeof bytes, key, number, NULL));
     }
     say_line("insert_order", odht_b16_u32_insert_order(bytes, sizeof bytes, slots, 48));
     bytes[44] = 1;

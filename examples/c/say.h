@@ -6,6 +6,7 @@
 #include <stddef.h>
 #include <stdint.h>
 #include <stdio.h>
+#include <stdlib.h>
 
 #include "odht.h"
 
@@ -19,6 +20,15 @@ static inline void say_line(const char *what, uint32_t status)
 {
     say(what, status);
     printf("\n");
+}
+
+/* Stops the program where a call that cannot be refused is. */
+static inline void must_be_ok(uint32_t status)
+{
+    if (status != ODHT_OK) {
+        say_line("unexpected", status);
+        exit(EXIT_FAILURE);
+    }
 }
 
 /* Prints what a lookup has answered. */

@@ -1,0 +1,97 @@
+/* ---- odht_@S@_*: @WORDS@ ---- */
+
+/* OK: *len is the length in bytes of a table for so many items. BAD_PERCENT. CAPACITY. */
+ODHT_CALL uint32_t odht_@S@_bytes_needed(size_t max_item_count, uint8_t percent, size_t *len)
+    ODHT_INLINE(@S@_bytes_needed);
+
+/* OK: the bytes are an empty table. BAD_PERCENT, CAPACITY, INIT_LENGTH: they stay. */
+ODHT_CALL uint32_t odht_@S@_init(
+    uint8_t *bytes, size_t bytes_len, size_t max_item_count, uint8_t percent)
+    ODHT_INLINE(@S@_init);
+
+/* OK: calls can be made on the bytes. A refusal, 1 to 9. Takes equally long for every table. */
+ODHT_CALL uint32_t odht_@S@_open(const uint8_t *bytes, size_t bytes_len)
+    ODHT_INLINE(@S@_open);
+
+/* OK: the bytes are valid to the last one. A refusal, 1 to 16. Goes over all slots. */
+ODHT_CALL uint32_t odht_@S@_check(const uint8_t *bytes, size_t bytes_len)
+    ODHT_INLINE(@S@_check);
+
+/* OK: *count is the number of items that the header states. A refusal, 1 to 7: it stays. */
+ODHT_CALL uint32_t odht_@S@_len(const uint8_t *bytes, size_t bytes_len, size_t *count)
+    ODHT_INLINE(@S@_len);
+
+/* OK: the slots that hold a pair, in an order of inserts. UNMADE: no inserts make the table, and
+   the numbers in slots say nothing. BAD_LENGTHS, or a refusal, 1 to 16: slots stay. */
+ODHT_CALL uint32_t odht_@S@_insert_order(
+    const uint8_t *bytes, size_t bytes_len, size_t *slots, size_t slots_len)
+    ODHT_INLINE(@S@_insert_order);
+
+/* OK: *view is the view of the bytes. A refusal, 1 to 9: it stays. */
+ODHT_CALL uint32_t odht_@S@_open_view(const uint8_t *bytes, size_t bytes_len, odht_view *view)
+    ODHT_INLINE(@S@_open_view);
+
+/* The number of items that the header states. */
+ODHT_CALL size_t odht_@S@_view_len(const odht_view *view)
+    ODHT_INLINE(@S@_view_len);
+
+#if ODHT_TAKES_NULL
+/* The symbols of the library, then the functions around them. */
+@SYMBOLS@
+
+static inline uint32_t odht_@S@_bytes_needed(
+    size_t max_item_count, uint8_t percent, size_t *len)
+{
+    size_t unwanted = 0;
+    return odht_symbol_@S@_bytes_needed(max_item_count, percent, len ? len : &unwanted);
+}
+
+static inline uint32_t odht_@S@_init(
+    uint8_t *bytes, size_t bytes_len, size_t max_item_count, uint8_t percent)
+{
+    return odht_symbol_@S@_init(
+        odht_write_uint8_t(bytes, bytes_len), bytes_len, max_item_count, percent);
+}
+
+static inline uint32_t odht_@S@_open(const uint8_t *bytes, size_t bytes_len)
+{
+    return odht_symbol_@S@_open(odht_read_uint8_t(bytes, bytes_len), bytes_len);
+}
+
+static inline uint32_t odht_@S@_check(const uint8_t *bytes, size_t bytes_len)
+{
+    return odht_symbol_@S@_check(odht_read_uint8_t(bytes, bytes_len), bytes_len);
+}
+
+static inline uint32_t odht_@S@_len(const uint8_t *bytes, size_t bytes_len, size_t *count)
+{
+    size_t unwanted = 0;
+    return odht_symbol_@S@_len(
+        odht_read_uint8_t(bytes, bytes_len), bytes_len, count ? count : &unwanted);
+}
+
+static inline uint32_t odht_@S@_insert_order(
+    const uint8_t *bytes, size_t bytes_len, size_t *slots, size_t slots_len)
+{
+    return odht_symbol_@S@_insert_order(
+        odht_read_uint8_t(bytes, bytes_len), bytes_len, odht_write_size_t(slots, slots_len),
+        slots_len);
+}
+
+static inline uint32_t odht_@S@_open_view(
+    const uint8_t *bytes, size_t bytes_len, odht_view *view)
+{
+    odht_view opened = ODHT_NO_VIEW;
+    uint32_t status = odht_symbol_@S@_open_view(
+        odht_read_uint8_t(bytes, bytes_len), bytes_len, &opened);
+    if (status == ODHT_OK)
+        *view = opened;
+    return status;
+}
+
+static inline size_t odht_@S@_view_len(const odht_view *view)
+{
+    return odht_symbol_@S@_view_len(view);
+}
+#endif
+

@@ -1,0 +1,76 @@
+/* Calls each function with NULL wherever it is taken, and compares the answers with what they must be. */
+#include <stdint.h>
+#include <stdio.h>
+#include <stdlib.h>
+
+#include "odht.h"
+#include "expect.h"
+
+#if !ODHT_TAKES_NULL
+#error "this compiler has no NULL for slices of length 0"
+#endif
+
+static const uint64_t numbers[] = {1, 2};
+static const uint8_t hashes[] = "the first key 16the other key 16";
+
+#define TEST null_u64_u32
+#define CALL(name) odht_u64_u32_##name
+#define KEY numbers[0]
+#define OTHER_KEY numbers[1]
+#define KEYS numbers
+#define VALUE uint32_t
+#define LENGTH 256
+#include "null_calls.h"
+#undef TEST
+#undef CALL
+#undef KEY
+#undef OTHER_KEY
+#undef KEYS
+#undef VALUE
+#undef LENGTH
+
+#define TEST null_b16_u32
+#define CALL(name) odht_b16_u32_##name
+#define KEY hashes
+#define OTHER_KEY (hashes + 16)
+#define KEYS hashes
+#define VALUE uint32_t
+#define LENGTH 384
+#include "null_calls.h"
+
+/* A table of no pairs has 16 slots, so 256 bytes. */
+static void null_builds(void)
+{
+    uint8_t out[256];
+    size_t length = 0;
+
+    EXPECT(odht_u64_u32_build(NULL, 0, NULL, 0, 87, NULL, 0, NULL), ODHT_TOO_SMALL);
+    EXPECT(odht_u64_u32_build(NULL, 0, NULL, 0, 87, NULL, 0, &length), ODHT_TOO_SMALL);
+    EXPECT(length, 256);
+    EXPECT(odht_u64_u32_build(NULL, 0, NULL, 0, 0, NULL, 0, NULL), ODHT_BAD_PERCENT);
+    EXPECT(odht_u64_u32_build(NULL, 0, NULL, 0, 87, out, 256, NULL), ODHT_OK);
+    EXPECT(odht_u64_u32_check(out, 256), ODHT_OK);
+    EXPECT(odht_u64_u32_build_growing(NULL, 0, NULL, 0, NULL, 0, &length), ODHT_TOO_SMALL);
+    EXPECT(length, 256);
+    EXPECT(odht_u64_u32_build_growing(numbers, 1, NULL, 0, NULL, 0, NULL), ODHT_BAD_LENGTHS);
+    EXPECT(odht_u64_u32_build_growing(NULL, 0, NULL, 0, out, 256, NULL), ODHT_OK);
+    EXPECT(odht_u64_u32_check(out, 256), ODHT_OK);
+}
+
+/* A pointer to a function is one to the function that takes NULL. */
+static void null_through_pointer(void)
+{
+    uint32_t (*open)(const uint8_t *, size_t) = odht_u64_u32_open;
+
+    EXPECT(open(NULL, 0), ODHT_TOO_SHORT);
+}
+
+int main(void)
+{
+    null_u64_u32();
+    null_b16_u32();
+    null_builds();
+    null_through_pointer();
+    printf("%u answers are as they must be\n", compared);
+    return EXIT_SUCCESS;
+}

@@ -1,0 +1,131 @@
+#!/bin/sh
+# Installs the library in a new folder, and there, outside of the repository, compiles and runs the examples as a user
+# of the library does. One line a program. What this machine does not have is left out, and the line does not name it.
+set -eu
+top=$(cd "$(dirname "$0")/.." && pwd)
+room=$(mktemp -d)
+trap 'rm -rf "$room"' EXIT
+cd "$room"
+"${MAKE:-make}" -s -C "$top" install PREFIX="$room/usr" > /dev/null
+cp -R "$top/examples/." .
+export PKG_CONFIG_PATH="$room/usr/lib/pkgconfig"
+warnings='-Wall -Wextra -Wpedantic -Werror'
+
+has() {
+    command -v "$1" > /dev/null 2>&1
+}
+
+fail() {
+    echo "examples: $1" >&2
+    exit 1
+}
+
+# The flags of a way to link.
+link_flags() {
+    case $1 in
+    shared)
+        if has pkg-config; then pkg-config --cflags --libs odht; else echo "-Iusr/include -Lusr/lib -lodht"; fi
+        echo "-Wl,-rpath,$room/usr/lib" ;;
+    static) echo "-Iusr/include usr/lib/libodht.a" ;;
+    sanitized) echo "-Iusr/include usr/lib/libodht.a -g -fsanitize=address,undefined -fno-sanitize-recover=all" ;;
+    esac
+}
+
+sources() {
+    case $1 in
+    example) echo "c/main.c c/orders.c c/views.c" ;;
+    *) echo "c/$1.c" ;;
+    esac
+}
+
+# Runs a command that is one of the programs, and compares what it prints and stores.
+run() {
+    program=$1
+    shift
+    case $program in
+    example)
+        "$@" stored.odht > printed || fail "$*: status $?"
+        diff expected printed >&2 || fail "$*: this is not what examples/expected has"
+        if [ ! -f first.odht ]; then cp stored.odht first.odht; fi
+        cmp first.odht stored.odht || fail "$*: it stores other bytes than the first program" ;;
+    *) "$@" > printed || fail "$*: status $?" ;;
+    esac
+}
+
+# Whether this compiler makes programs with sanitizers that run here.
+sanitizes() {
+    echo 'int main(void) { return 0; }' > empty.c
+    "$@" -fsanitize=address,undefined empty.c -o empty 2> /dev/null && ./empty 2> /dev/null
+}
+
+# A program in C, by a compiler with its flags, in each way to link.
+try() {
+    program=$1
+    language=$2
+    shift 2
+    ways='shared static'
+    if sanitizes "$@"; then ways="$ways sanitized"; fi
+    for way in $ways; do
+        # shellcheck disable=SC2046,SC2086
+        "$@" -O1 $warnings $(sources "$program") -x none $(link_flags "$way") -o "$program.$way" ||
+            fail "$program: $1 does not compile it"
+        run "$program" "./$program.$way"
+    done
+    if has valgrind; then
+        ways="$ways valgrind"
+        run "$program" valgrind -q --error-exitcode=9 --leak-check=full "./$program.static"
+    fi
+    echo "$program: well in $language by $1 ($(echo $ways | sed 's/ /, /g'))"
+}
+
+# The header alone, in each version of a language that the compiler knows.
+header() {
+    compiler=$1
+    language=$2
+    shift 2
+    clean=''
+    echo '#include <odht.h>' > header.c
+    for version in "$@"; do
+        if "$compiler" -std="$version" -x "$language" -fsyntax-only /dev/null 2> /dev/null; then
+            # shellcheck disable=SC2086
+            "$compiler" -std="$version" -x "$language" -fsyntax-only $warnings -Iusr/include header.c ||
+                fail "odht.h: not clean in $version"
+            clean="$clean $version"
+        fi
+    done
+    echo "odht.h: no warnings by $compiler in$clean"
+}
+
+try_cmake() {
+    cmake -S cmake -B made -DCMAKE_PREFIX_PATH="$room/usr" > printed 2>&1 || { cat printed >&2; fail "cmake"; }
+    cmake --build made > printed 2>&1 || { cat printed >&2; fail "cmake --build"; }
+    run example made/example
+    run null made/null
+    echo "example, null: well by cmake"
+}
+
+try_rust() {
+    rustc --edition 2021 -O -D warnings rust/main.rs -L native=usr/lib -l static=odht -o example.rust
+    run example ./example.rust
+    echo "example: well in Rust, prints and stores the same"
+}
+
+sh "$top/crates/odht_c/exports/statuses.sh"
+if has cc; then
+    for program in example null forged; do try "$program" C cc -std=c11; done
+    header cc c c99 c11 c17 c2x
+fi
+if has c++; then
+    for program in example null forged; do try "$program" C++ c++ -std=c++17 -x c++; done
+    header c++ c++ c++11 c++14 c++17 c++20
+fi
+if has clang; then
+    try null C clang -std=c11
+    header clang c c99 c11 c17 c2x
+fi
+if has clang++; then
+    try null C++ clang++ -std=c++17 -x c++
+    header clang++ c++ c++11 c++14 c++17 c++20
+fi
+if has cc && has cmake; then try_cmake; fi
+if has rustc; then try_rust; fi

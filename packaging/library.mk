@@ -1,0 +1,60 @@
+# The library as it is handed out, and where it is installed. Included by the Makefile at the top.
+VERSION := $(shell cat packaging/VERSION)
+MAJOR = $(firstword $(subst ., ,$(VERSION)))
+SONAME = libodht.so.$(MAJOR)
+SHARED = libodht.so.$(VERSION)
+
+PREFIX ?= /usr/local
+LIBDIR ?= $(PREFIX)/lib
+INCLUDEDIR ?= $(PREFIX)/include
+DESTDIR ?=
+
+# the kit's folder is asked for only where something is linked
+KIT = $(dir $(shell rt doc))
+
+lib: header_is_made build/libodht.a build/$(SHARED)
+
+build/libodht.a: $(LIBRARY) packaging/merge.sh
+	@mkdir -p build
+	@sh packaging/merge.sh $@ $(LIBRARY) $(KIT)c/liblibc_c.a
+
+# linked with the C library alone, all names found and no code to be changed where it is loaded: else it is refused
+build/$(SHARED): build/libodht.a packaging/odht.map
+	@$(CC) -shared -nodefaultlibs -Wl,-soname,$(SONAME) -Wl,--version-script=packaging/odht.map \
+	  -Wl,-z,defs -Wl,-z,text -Wl,-z,relro -Wl,-z,noexecstack \
+	  -Wl,--whole-archive $< -Wl,--no-whole-archive -lc -o $@
+	@ln -sf $(SHARED) build/$(SONAME)
+	@ln -sf $(SONAME) build/libodht.so
+
+header:
+	@sh crates/odht_c/exports/generate.sh > include/odht.h
+
+header_is_made:
+	@sh crates/odht_c/exports/generate.sh | cmp - include/odht.h || { echo 'run make header' >&2; exit 1; }
+
+# below ${prefix} where they are, so that the installed folder can be moved
+below_prefix = $(patsubst $(PREFIX)/%,$${prefix}/%,$(1))
+FILL = sed -e 's|@PREFIX@|$(PREFIX)|; s|@LIBDIR@|$(call below_prefix,$(LIBDIR))|' \
+  -e 's|@INCLUDEDIR@|$(call below_prefix,$(INCLUDEDIR))|; s|@VERSION@|$(VERSION)|; s|@MAJOR@|$(MAJOR)|' \
+  -e "s|@SONAME@|$(SONAME)|; s|@HEADERS_FROM_LIBRARIES@|$$(realpath -m --relative-to='$(LIBDIR)' '$(INCLUDEDIR)')|"
+
+INTO = $(DESTDIR)$(LIBDIR)
+INSTALLED = $(DESTDIR)$(INCLUDEDIR)/odht.h $(INTO)/libodht.a $(INTO)/$(SHARED) $(INTO)/$(SONAME) $(INTO)/libodht.so \
+  $(INTO)/pkgconfig/odht.pc $(INTO)/cmake/odht/odht-config.cmake $(INTO)/cmake/odht/odht-config-version.cmake
+
+# what is made is installed as it is, so that it can be made as one user and installed as another
+install: $(if $(and $(wildcard build/libodht.a),$(wildcard build/$(SHARED))),,lib)
+	@mkdir -p '$(DESTDIR)$(INCLUDEDIR)' '$(INTO)/pkgconfig' '$(INTO)/cmake/odht'
+	@install -m 644 include/odht.h '$(DESTDIR)$(INCLUDEDIR)/odht.h'
+	@install -m 644 build/libodht.a '$(INTO)/libodht.a'
+	@install -m 755 build/$(SHARED) '$(INTO)/$(SHARED)'
+	@ln -sf $(SHARED) '$(INTO)/$(SONAME)'
+	@ln -sf $(SONAME) '$(INTO)/libodht.so'
+	@$(FILL) packaging/odht.pc.in > '$(INTO)/pkgconfig/odht.pc'
+	@for file in odht-config odht-config-version; do \
+	  $(FILL) packaging/$$file.cmake.in > "$(INTO)/cmake/odht/$$file.cmake" || exit 1; \
+	done
+
+uninstall:
+	@rm -f $(foreach file,$(INSTALLED),'$(file)')
+	@if [ -d '$(INTO)/cmake/odht' ]; then rmdir '$(INTO)/cmake/odht'; fi
