@@ -1,15 +1,23 @@
 /*
  * odht.h: hash tables that are used in the very bytes in which they are stored.
  *
- * Made by crates/odht_c/exports/generate.sh from header_*.h beside it: edit those.
+ * Made by crates/odht_c/exports/generate.sh of header_*.h beside it: edit those.
  *
- * docs/FORMAT.md has the bytes and all rules. These kinds of table are here:
+ * docs/FORMAT.md has the bytes and all rules. These shapes of tables are here:
  *
- *   odht_u64_u32_*   keys of 64 bits, values of 32 bits, FxHashFn
- *   odht_b16_u32_*   keys of 16 bytes, values of 32 bits, UnHashFn
+ *   odht_u32_u32_*  from 32-bit numbers to 32-bit numbers, FxHashFn
+ *   odht_u64_u32_*  from 64-bit numbers to 32-bit numbers, FxHashFn
+ *   odht_u64_u64_*  from 64-bit numbers to 64-bit numbers, FxHashFn
+ *   odht_b16_u32_*  from hashes of 16 bytes to 32-bit numbers, UnHashFn
+ *   odht_b16_u64_*  from hashes of 16 bytes to 64-bit numbers, UnHashFn
+ *   odht_b20_u64_*  from hashes of 20 bytes to 64-bit numbers, UnHashFn
+ *   odht_b32_u64_*  from hashes of 32 bytes to 64-bit numbers, UnHashFn
+ *   odht_b16_*      of hashes of 16 bytes, a set, UnHashFn
+ *   odht_b32_*      of hashes of 32 bytes, a set, UnHashFn
  *
  * FxHashFn hashes numbers. UnHashFn is for keys that are hashes already: their
- * last four bytes are the hash, and should vary. A table is a slice of bytes that
+ * last four bytes are taken as the hash, and should vary. Numbers are stored with
+ * their lowest byte first. A table is a slice of bytes that
  * the caller owns: a file's contents, a mapping, a part of either, or memory made
  * for it. It may begin at any address. There is nothing to close or to free.
  *
@@ -25,7 +33,8 @@
  * - Nobody writes a table's bytes while a call reads them, and nobody reads
  *   them while a call writes them. The library keeps nothing between calls, so
  *   any number of threads may read one table.
- * - Every call answers a status, an enum odht_status, but odht_*_view_len. The
+ * - Every call answers a status, an enum odht_status, but odht_*_view_len and
+ *   odht_version. The
  *   places behind the pointers to results are written only where the comment says
  *   so. Compilers warn where an answer is not looked at.
  * - Where arrays of different lengths are given that should be equally long,
@@ -278,6 +287,11 @@ typedef struct odht_view {
  *     the bytes: before odht_S_check has passed them, allocate nothing by it. No
  *     table holds more items than bytes. A refusal, 1 to 7.
  *
+ * odht_S_sizes(bytes, bytes_len, *slots, *max_item_count, *percent)
+ *     OK: how many slots the header states, how many items these take at the most, and
+ *     the load factor in percent. It is rounded down, so it may be one below that which
+ *     the table was made with. A refusal, 1 to 7.
+ *
  * odht_S_get(bytes, bytes_len, key, *value)
  *     OK: the key is there, and *value is its value. ABSENT: it is not there.
  *     A refusal, 1 to 7.
@@ -301,11 +315,25 @@ typedef struct odht_view {
  *     inserted, and the next one was refused: its key is new. BAD_LENGTHS: keys_len
  *     is not values_len. A refusal, 1 to 7. With the last two nothing changes.
  *
- * odht_S_walk(bytes, bytes_len, keys, keys_len, values, values_len, *count)
- *     Writes each pair of the table into two arrays, in the order of the slots.
- *     OK: these are *count pairs, and the rest of the arrays is as it was.
- *     TOO_SMALL: the arrays are full, and there are more pairs; *count is keys_len.
- *     BAD_LENGTHS: keys_len is not values_len. A refusal, 1 to 7.
+ * odht_S_walk(bytes, bytes_len, *cursor, keys, keys_len, values, values_len, *count)
+ *     Writes pairs into the front of two arrays, in the order of the slots: those at
+ *     slot *cursor and behind it. *cursor is 0 at first, and then the slot to go on at,
+ *     so arrays of any size do:
+ *
+ *         do {
+ *             status = odht_S_walk(bytes, len, &cursor, keys, 64, values, 64, &count);
+ *             if (status != ODHT_OK && status != ODHT_TOO_SMALL)
+ *                 break;
+ *             use the first count pairs
+ *         } while (status == ODHT_TOO_SMALL);
+ *
+ *     OK: these *count pairs are the last ones. TOO_SMALL: the arrays are full, and
+ *     there are more. With both the rest of the arrays is as it was. BAD_LENGTHS:
+ *     keys_len is not values_len. A refusal, 1 to 7. With the last two the arrays,
+ *     *cursor and *count stay.
+ *     A walk gives what is there, whatever count the header states: on any bytes that
+ *     pass refusals 1 to 7 at most one pair for each slot, and bytes_len is more than
+ *     the length of a pair for each of these.
  *
  * odht_S_insert_order(bytes, bytes_len, slots, slots_len)
  *     Asks whether inserts can make the table, and in which order. Its pairs,
@@ -321,6 +349,20 @@ typedef struct odht_view {
  *     them. In a pass each item that waits asks for the places before its own, by a
  *     binary search among those that wait; behind it what is left is sorted. It takes
  *     no memory.
+ *
+ * odht_S_grow(bytes, bytes_len, out, out_len, *len)
+ *     Writes the table that this one grows into to out: with the slots for twice as
+ *     many items, and for one at least, and the same load factor. So a caller goes on
+ *     whose insert was answered FULL: it grows the table into larger memory and
+ *     inserts there. The bytes are those that a table has which grows by itself.
+ *     OK: the first *len bytes of out are the grown table, and the rest of out stays.
+ *     TOO_SMALL: out_len is below *len, the length in bytes that it has, and out
+ *     stays; so with out_len 0 a caller asks how much memory it needs. A refusal, 1
+ *     to 7. LOAD_FACTOR_TOO_SMALL: the header states less than 1 percent, as no valid
+ *     table does. CAPACITY: no slot count is enough, or the length does not fit
+ *     size_t.
+ *     It looks at each slot once and hashes each key once; no keys are compared. It
+ *     takes no memory. bytes and out must not overlap.
  *
  * odht_S_build(keys, keys_len, values, values_len, percent, out, out_len, *len)
  *     Makes a table for exactly these pairs in out and inserts them one after the
@@ -347,6 +389,9 @@ typedef struct odht_view {
  * odht_S_view_len(view)
  *     As odht_S_get, odht_S_get_all and odht_S_len, in an opened table and with no
  *     refusals of bytes. The last answers the number itself.
+ *
+ * Sets have no values. In place of get and get_all they have contains and
+ * contains_all, also in a view, and where the others take or give values they do not.
  */
 
 #if ODHT_TAKES_NULL
@@ -369,7 +414,339 @@ ODHT_SLICES(size_t)
 #undef ODHT_SLICES
 #endif
 
-/* ---- odht_u64_u32_*: keys of 64 bits, values of 32 bits, FxHashFn ---- */
+/* ODHT_VERSION as the linked library has it: another one than this header's is no version of it. */
+ODHT_NODISCARD extern uint32_t odht_version(void);
+
+/* ---- odht_u32_u32_*: from 32-bit numbers to 32-bit numbers, FxHashFn ---- */
+
+/* OK: *len is the length in bytes of a table for so many items. BAD_PERCENT. CAPACITY. */
+ODHT_CALL uint32_t odht_u32_u32_bytes_needed(size_t max_item_count, uint8_t percent, size_t *len)
+    ODHT_INLINE(u32_u32_bytes_needed);
+
+/* OK: the bytes are an empty table. BAD_PERCENT, CAPACITY, INIT_LENGTH: they stay. */
+ODHT_CALL uint32_t odht_u32_u32_init(
+    uint8_t *bytes, size_t bytes_len, size_t max_item_count, uint8_t percent)
+    ODHT_INLINE(u32_u32_init);
+
+/* OK: calls can be made on the bytes. A refusal, 1 to 9. Takes equally long for every table. */
+ODHT_CALL uint32_t odht_u32_u32_open(const uint8_t *bytes, size_t bytes_len)
+    ODHT_INLINE(u32_u32_open);
+
+/* OK: the bytes are valid to the last one. A refusal, 1 to 16. Goes over all slots. */
+ODHT_CALL uint32_t odht_u32_u32_check(const uint8_t *bytes, size_t bytes_len)
+    ODHT_INLINE(u32_u32_check);
+
+/* OK: *count is the number of items that the header states. A refusal, 1 to 7: it stays. */
+ODHT_CALL uint32_t odht_u32_u32_len(const uint8_t *bytes, size_t bytes_len, size_t *count)
+    ODHT_INLINE(u32_u32_len);
+
+/* OK: the numbers of the header: how many slots, how many items these take at most, and the load
+   factor in percent, rounded down. A refusal, 1 to 7: they stay. */
+ODHT_CALL uint32_t odht_u32_u32_sizes(
+    const uint8_t *bytes, size_t bytes_len, size_t *slots, size_t *max_item_count, uint8_t *percent)
+    ODHT_INLINE(u32_u32_sizes);
+
+/* OK: the slots that hold a pair, in an order of inserts. UNMADE: no inserts make the table, and
+   the numbers in slots say nothing. BAD_LENGTHS, or a refusal, 1 to 16: slots stay. */
+ODHT_CALL uint32_t odht_u32_u32_insert_order(
+    const uint8_t *bytes, size_t bytes_len, size_t *slots, size_t slots_len)
+    ODHT_INLINE(u32_u32_insert_order);
+
+/* OK: the first *len bytes of out are the grown table. TOO_SMALL: out_len is below *len, and out
+   stays. A refusal, 1 to 7, LOAD_FACTOR_TOO_SMALL, CAPACITY: *len stays too. */
+ODHT_CALL uint32_t odht_u32_u32_grow(
+    const uint8_t *bytes, size_t bytes_len, uint8_t *out, size_t out_len, size_t *len)
+    ODHT_INLINE(u32_u32_grow);
+
+/* OK: *view is the view of the bytes. A refusal, 1 to 9: it stays. */
+ODHT_CALL uint32_t odht_u32_u32_open_view(const uint8_t *bytes, size_t bytes_len, odht_view *view)
+    ODHT_INLINE(u32_u32_open_view);
+
+/* The number of items that the header states. */
+ODHT_CALL size_t odht_u32_u32_view_len(const odht_view *view)
+    ODHT_INLINE(u32_u32_view_len);
+
+#if ODHT_TAKES_NULL
+/* The symbols of the library, then the functions around them. */
+uint32_t odht_symbol_u32_u32_bytes_needed(size_t max_item_count, uint8_t percent, size_t *len)
+    ODHT_SYMBOL(u32_u32_bytes_needed);
+uint32_t odht_symbol_u32_u32_init(
+    uint8_t *bytes, size_t bytes_len, size_t max_item_count, uint8_t percent)
+    ODHT_SYMBOL(u32_u32_init);
+uint32_t odht_symbol_u32_u32_open(const uint8_t *bytes, size_t bytes_len)
+    ODHT_SYMBOL(u32_u32_open);
+uint32_t odht_symbol_u32_u32_check(const uint8_t *bytes, size_t bytes_len)
+    ODHT_SYMBOL(u32_u32_check);
+uint32_t odht_symbol_u32_u32_len(const uint8_t *bytes, size_t bytes_len, size_t *count)
+    ODHT_SYMBOL(u32_u32_len);
+uint32_t odht_symbol_u32_u32_sizes(
+    const uint8_t *bytes, size_t bytes_len, size_t *slots, size_t *max_item_count, uint8_t *percent)
+    ODHT_SYMBOL(u32_u32_sizes);
+uint32_t odht_symbol_u32_u32_insert_order(
+    const uint8_t *bytes, size_t bytes_len, size_t *slots, size_t slots_len)
+    ODHT_SYMBOL(u32_u32_insert_order);
+uint32_t odht_symbol_u32_u32_grow(
+    const uint8_t *bytes, size_t bytes_len, uint8_t *out, size_t out_len, size_t *len)
+    ODHT_SYMBOL(u32_u32_grow);
+uint32_t odht_symbol_u32_u32_open_view(const uint8_t *bytes, size_t bytes_len, odht_view *view)
+    ODHT_SYMBOL(u32_u32_open_view);
+size_t odht_symbol_u32_u32_view_len(const odht_view *view)
+    ODHT_SYMBOL(u32_u32_view_len);
+
+static inline uint32_t odht_u32_u32_bytes_needed(
+    size_t max_item_count, uint8_t percent, size_t *len)
+{
+    size_t unwanted = 0;
+    return odht_symbol_u32_u32_bytes_needed(max_item_count, percent, len ? len : &unwanted);
+}
+
+static inline uint32_t odht_u32_u32_init(
+    uint8_t *bytes, size_t bytes_len, size_t max_item_count, uint8_t percent)
+{
+    return odht_symbol_u32_u32_init(
+        odht_write_uint8_t(bytes, bytes_len), bytes_len, max_item_count, percent);
+}
+
+static inline uint32_t odht_u32_u32_open(const uint8_t *bytes, size_t bytes_len)
+{
+    return odht_symbol_u32_u32_open(odht_read_uint8_t(bytes, bytes_len), bytes_len);
+}
+
+static inline uint32_t odht_u32_u32_check(const uint8_t *bytes, size_t bytes_len)
+{
+    return odht_symbol_u32_u32_check(odht_read_uint8_t(bytes, bytes_len), bytes_len);
+}
+
+static inline uint32_t odht_u32_u32_len(const uint8_t *bytes, size_t bytes_len, size_t *count)
+{
+    size_t unwanted = 0;
+    return odht_symbol_u32_u32_len(
+        odht_read_uint8_t(bytes, bytes_len), bytes_len, count ? count : &unwanted);
+}
+
+static inline uint32_t odht_u32_u32_sizes(
+    const uint8_t *bytes, size_t bytes_len, size_t *slots, size_t *max_item_count, uint8_t *percent)
+{
+    size_t unwanted[2] = { 0, 0 };
+    uint8_t unwanted_percent = 0;
+    return odht_symbol_u32_u32_sizes(
+        odht_read_uint8_t(bytes, bytes_len), bytes_len, slots ? slots : &unwanted[0],
+        max_item_count ? max_item_count : &unwanted[1], percent ? percent : &unwanted_percent);
+}
+
+static inline uint32_t odht_u32_u32_insert_order(
+    const uint8_t *bytes, size_t bytes_len, size_t *slots, size_t slots_len)
+{
+    return odht_symbol_u32_u32_insert_order(
+        odht_read_uint8_t(bytes, bytes_len), bytes_len, odht_write_size_t(slots, slots_len),
+        slots_len);
+}
+
+static inline uint32_t odht_u32_u32_grow(
+    const uint8_t *bytes, size_t bytes_len, uint8_t *out, size_t out_len, size_t *len)
+{
+    size_t unwanted = 0;
+    return odht_symbol_u32_u32_grow(
+        odht_read_uint8_t(bytes, bytes_len), bytes_len, odht_write_uint8_t(out, out_len), out_len,
+        len ? len : &unwanted);
+}
+
+static inline uint32_t odht_u32_u32_open_view(
+    const uint8_t *bytes, size_t bytes_len, odht_view *view)
+{
+    odht_view opened = ODHT_NO_VIEW;
+    uint32_t status = odht_symbol_u32_u32_open_view(
+        odht_read_uint8_t(bytes, bytes_len), bytes_len, &opened);
+    if (status == ODHT_OK)
+        *view = opened;
+    return status;
+}
+
+static inline size_t odht_u32_u32_view_len(const odht_view *view)
+{
+    return odht_symbol_u32_u32_view_len(view);
+}
+#endif
+
+/* OK: *value is the value. ABSENT, or a refusal, 1 to 7: *value stays. */
+ODHT_CALL uint32_t odht_u32_u32_get(
+    const uint8_t *bytes, size_t bytes_len, uint32_t key, uint32_t *value)
+    ODHT_INLINE(u32_u32_get);
+
+/* OK: found[i] is 1 and values[i] the value, or found[i] is 0 and values[i] as it was.
+   BAD_LENGTHS, or a refusal, 1 to 7: both arrays stay. */
+ODHT_CALL uint32_t odht_u32_u32_get_all(
+    const uint8_t *bytes, size_t bytes_len, const uint32_t *keys, size_t keys_len,
+    uint32_t *values, size_t values_len, uint8_t *found, size_t found_len)
+    ODHT_INLINE(u32_u32_get_all);
+
+/* OK: the key was new. REPLACED: *former is the former value. FULL, or a refusal, 1 to 7: nothing
+   changes. */
+ODHT_CALL uint32_t odht_u32_u32_insert(
+    uint8_t *bytes, size_t bytes_len, uint32_t key, uint32_t value, uint32_t *former)
+    ODHT_INLINE(u32_u32_insert);
+
+/* OK or FULL: *accepted pairs are inserted. BAD_LENGTHS, or a refusal, 1 to 7: nothing changes. */
+ODHT_CALL uint32_t odht_u32_u32_insert_all(
+    uint8_t *bytes, size_t bytes_len, const uint32_t *keys, size_t keys_len,
+    const uint32_t *values, size_t values_len, size_t *accepted)
+    ODHT_INLINE(u32_u32_insert_all);
+
+/* OK: the last *count pairs, from slot *cursor on. TOO_SMALL: the arrays are full, there are more,
+   and *cursor is where to go on. BAD_LENGTHS, or a refusal, 1 to 7: nothing is written. */
+ODHT_CALL uint32_t odht_u32_u32_walk(
+    const uint8_t *bytes, size_t bytes_len, size_t *cursor, uint32_t *keys, size_t keys_len,
+    uint32_t *values, size_t values_len, size_t *count)
+    ODHT_INLINE(u32_u32_walk);
+
+/* OK: *value is the value. ABSENT: it stays. */
+ODHT_CALL uint32_t odht_u32_u32_view_get(
+    const odht_view *view, uint32_t key, uint32_t *value)
+    ODHT_INLINE(u32_u32_view_get);
+
+/* OK: found[i] is 1 and values[i] the value, or found[i] is 0 and values[i] as it was.
+   BAD_LENGTHS: both arrays stay. */
+ODHT_CALL uint32_t odht_u32_u32_view_get_all(
+    const odht_view *view, const uint32_t *keys, size_t keys_len, uint32_t *values,
+    size_t values_len, uint8_t *found, size_t found_len)
+    ODHT_INLINE(u32_u32_view_get_all);
+
+/* OK: the table is the first *len bytes of out. TOO_SMALL: out_len is below *len, the length that
+   it has. CAPACITY, BAD_PERCENT, BAD_LENGTHS: *len stays. With all but OK out stays. */
+ODHT_CALL uint32_t odht_u32_u32_build(
+    const uint32_t *keys, size_t keys_len, const uint32_t *values, size_t values_len,
+    uint8_t percent, uint8_t *out, size_t out_len, size_t *len)
+    ODHT_INLINE(u32_u32_build);
+
+/* OK, TOO_SMALL and BAD_LENGTHS as there. MEMORY: out and *len stay. */
+ODHT_CALL uint32_t odht_u32_u32_build_growing(
+    const uint32_t *keys, size_t keys_len, const uint32_t *values, size_t values_len,
+    uint8_t *out, size_t out_len, size_t *len)
+    ODHT_INLINE(u32_u32_build_growing);
+
+#if ODHT_TAKES_NULL
+/* The symbols of the library, then the functions around them. */
+uint32_t odht_symbol_u32_u32_get(
+    const uint8_t *bytes, size_t bytes_len, uint32_t key, uint32_t *value)
+    ODHT_SYMBOL(u32_u32_get);
+uint32_t odht_symbol_u32_u32_get_all(
+    const uint8_t *bytes, size_t bytes_len, const uint32_t *keys, size_t keys_len,
+    uint32_t *values, size_t values_len, uint8_t *found, size_t found_len)
+    ODHT_SYMBOL(u32_u32_get_all);
+uint32_t odht_symbol_u32_u32_insert(
+    uint8_t *bytes, size_t bytes_len, uint32_t key, uint32_t value, uint32_t *former)
+    ODHT_SYMBOL(u32_u32_insert);
+uint32_t odht_symbol_u32_u32_insert_all(
+    uint8_t *bytes, size_t bytes_len, const uint32_t *keys, size_t keys_len,
+    const uint32_t *values, size_t values_len, size_t *accepted)
+    ODHT_SYMBOL(u32_u32_insert_all);
+uint32_t odht_symbol_u32_u32_walk(
+    const uint8_t *bytes, size_t bytes_len, size_t *cursor, uint32_t *keys, size_t keys_len,
+    uint32_t *values, size_t values_len, size_t *count)
+    ODHT_SYMBOL(u32_u32_walk);
+uint32_t odht_symbol_u32_u32_view_get(
+    const odht_view *view, uint32_t key, uint32_t *value)
+    ODHT_SYMBOL(u32_u32_view_get);
+uint32_t odht_symbol_u32_u32_view_get_all(
+    const odht_view *view, const uint32_t *keys, size_t keys_len, uint32_t *values,
+    size_t values_len, uint8_t *found, size_t found_len)
+    ODHT_SYMBOL(u32_u32_view_get_all);
+uint32_t odht_symbol_u32_u32_build(
+    const uint32_t *keys, size_t keys_len, const uint32_t *values, size_t values_len,
+    uint8_t percent, uint8_t *out, size_t out_len, size_t *len)
+    ODHT_SYMBOL(u32_u32_build);
+uint32_t odht_symbol_u32_u32_build_growing(
+    const uint32_t *keys, size_t keys_len, const uint32_t *values, size_t values_len,
+    uint8_t *out, size_t out_len, size_t *len)
+    ODHT_SYMBOL(u32_u32_build_growing);
+
+static inline uint32_t odht_u32_u32_get(
+    const uint8_t *bytes, size_t bytes_len, uint32_t key, uint32_t *value)
+{
+    uint32_t unwanted = 0;
+    return odht_symbol_u32_u32_get(
+        odht_read_uint8_t(bytes, bytes_len), bytes_len, key, value ? value : &unwanted);
+}
+
+static inline uint32_t odht_u32_u32_get_all(
+    const uint8_t *bytes, size_t bytes_len, const uint32_t *keys, size_t keys_len,
+    uint32_t *values, size_t values_len, uint8_t *found, size_t found_len)
+{
+    return odht_symbol_u32_u32_get_all(
+        odht_read_uint8_t(bytes, bytes_len), bytes_len, odht_read_uint32_t(keys, keys_len),
+        keys_len, odht_write_uint32_t(values, values_len), values_len,
+        odht_write_uint8_t(found, found_len), found_len);
+}
+
+static inline uint32_t odht_u32_u32_insert(
+    uint8_t *bytes, size_t bytes_len, uint32_t key, uint32_t value, uint32_t *former)
+{
+    uint32_t unwanted = 0;
+    return odht_symbol_u32_u32_insert(
+        odht_write_uint8_t(bytes, bytes_len), bytes_len, key, value, former ? former : &unwanted);
+}
+
+static inline uint32_t odht_u32_u32_insert_all(
+    uint8_t *bytes, size_t bytes_len, const uint32_t *keys, size_t keys_len,
+    const uint32_t *values, size_t values_len, size_t *accepted)
+{
+    size_t unwanted = 0;
+    return odht_symbol_u32_u32_insert_all(
+        odht_write_uint8_t(bytes, bytes_len), bytes_len, odht_read_uint32_t(keys, keys_len),
+        keys_len, odht_read_uint32_t(values, values_len), values_len,
+        accepted ? accepted : &unwanted);
+}
+
+static inline uint32_t odht_u32_u32_walk(
+    const uint8_t *bytes, size_t bytes_len, size_t *cursor, uint32_t *keys, size_t keys_len,
+    uint32_t *values, size_t values_len, size_t *count)
+{
+    size_t unwanted = 0;
+    return odht_symbol_u32_u32_walk(
+        odht_read_uint8_t(bytes, bytes_len), bytes_len, cursor,
+        odht_write_uint32_t(keys, keys_len), keys_len, odht_write_uint32_t(values, values_len),
+        values_len, count ? count : &unwanted);
+}
+
+static inline uint32_t odht_u32_u32_view_get(
+    const odht_view *view, uint32_t key, uint32_t *value)
+{
+    uint32_t unwanted = 0;
+    return odht_symbol_u32_u32_view_get(view, key, value ? value : &unwanted);
+}
+
+static inline uint32_t odht_u32_u32_view_get_all(
+    const odht_view *view, const uint32_t *keys, size_t keys_len, uint32_t *values,
+    size_t values_len, uint8_t *found, size_t found_len)
+{
+    return odht_symbol_u32_u32_view_get_all(
+        view, odht_read_uint32_t(keys, keys_len), keys_len,
+        odht_write_uint32_t(values, values_len), values_len, odht_write_uint8_t(found, found_len),
+        found_len);
+}
+
+static inline uint32_t odht_u32_u32_build(
+    const uint32_t *keys, size_t keys_len, const uint32_t *values, size_t values_len,
+    uint8_t percent, uint8_t *out, size_t out_len, size_t *len)
+{
+    size_t unwanted = 0;
+    return odht_symbol_u32_u32_build(
+        odht_read_uint32_t(keys, keys_len), keys_len, odht_read_uint32_t(values, values_len),
+        values_len, percent, odht_write_uint8_t(out, out_len), out_len, len ? len : &unwanted);
+}
+
+static inline uint32_t odht_u32_u32_build_growing(
+    const uint32_t *keys, size_t keys_len, const uint32_t *values, size_t values_len,
+    uint8_t *out, size_t out_len, size_t *len)
+{
+    size_t unwanted = 0;
+    return odht_symbol_u32_u32_build_growing(
+        odht_read_uint32_t(keys, keys_len), keys_len, odht_read_uint32_t(values, values_len),
+        values_len, odht_write_uint8_t(out, out_len), out_len, len ? len : &unwanted);
+}
+#endif
+
+/* ---- odht_u64_u32_*: from 64-bit numbers to 32-bit numbers, FxHashFn ---- */
 
 /* OK: *len is the length in bytes of a table for so many items. BAD_PERCENT. CAPACITY. */
 ODHT_CALL uint32_t odht_u64_u32_bytes_needed(size_t max_item_count, uint8_t percent, size_t *len)
@@ -392,11 +769,23 @@ ODHT_CALL uint32_t odht_u64_u32_check(const uint8_t *bytes, size_t bytes_len)
 ODHT_CALL uint32_t odht_u64_u32_len(const uint8_t *bytes, size_t bytes_len, size_t *count)
     ODHT_INLINE(u64_u32_len);
 
+/* OK: the numbers of the header: how many slots, how many items these take at most, and the load
+   factor in percent, rounded down. A refusal, 1 to 7: they stay. */
+ODHT_CALL uint32_t odht_u64_u32_sizes(
+    const uint8_t *bytes, size_t bytes_len, size_t *slots, size_t *max_item_count, uint8_t *percent)
+    ODHT_INLINE(u64_u32_sizes);
+
 /* OK: the slots that hold a pair, in an order of inserts. UNMADE: no inserts make the table, and
    the numbers in slots say nothing. BAD_LENGTHS, or a refusal, 1 to 16: slots stay. */
 ODHT_CALL uint32_t odht_u64_u32_insert_order(
     const uint8_t *bytes, size_t bytes_len, size_t *slots, size_t slots_len)
     ODHT_INLINE(u64_u32_insert_order);
+
+/* OK: the first *len bytes of out are the grown table. TOO_SMALL: out_len is below *len, and out
+   stays. A refusal, 1 to 7, LOAD_FACTOR_TOO_SMALL, CAPACITY: *len stays too. */
+ODHT_CALL uint32_t odht_u64_u32_grow(
+    const uint8_t *bytes, size_t bytes_len, uint8_t *out, size_t out_len, size_t *len)
+    ODHT_INLINE(u64_u32_grow);
 
 /* OK: *view is the view of the bytes. A refusal, 1 to 9: it stays. */
 ODHT_CALL uint32_t odht_u64_u32_open_view(const uint8_t *bytes, size_t bytes_len, odht_view *view)
@@ -419,9 +808,15 @@ uint32_t odht_symbol_u64_u32_check(const uint8_t *bytes, size_t bytes_len)
     ODHT_SYMBOL(u64_u32_check);
 uint32_t odht_symbol_u64_u32_len(const uint8_t *bytes, size_t bytes_len, size_t *count)
     ODHT_SYMBOL(u64_u32_len);
+uint32_t odht_symbol_u64_u32_sizes(
+    const uint8_t *bytes, size_t bytes_len, size_t *slots, size_t *max_item_count, uint8_t *percent)
+    ODHT_SYMBOL(u64_u32_sizes);
 uint32_t odht_symbol_u64_u32_insert_order(
     const uint8_t *bytes, size_t bytes_len, size_t *slots, size_t slots_len)
     ODHT_SYMBOL(u64_u32_insert_order);
+uint32_t odht_symbol_u64_u32_grow(
+    const uint8_t *bytes, size_t bytes_len, uint8_t *out, size_t out_len, size_t *len)
+    ODHT_SYMBOL(u64_u32_grow);
 uint32_t odht_symbol_u64_u32_open_view(const uint8_t *bytes, size_t bytes_len, odht_view *view)
     ODHT_SYMBOL(u64_u32_open_view);
 size_t odht_symbol_u64_u32_view_len(const odht_view *view)
@@ -458,12 +853,31 @@ static inline uint32_t odht_u64_u32_len(const uint8_t *bytes, size_t bytes_len, 
         odht_read_uint8_t(bytes, bytes_len), bytes_len, count ? count : &unwanted);
 }
 
+static inline uint32_t odht_u64_u32_sizes(
+    const uint8_t *bytes, size_t bytes_len, size_t *slots, size_t *max_item_count, uint8_t *percent)
+{
+    size_t unwanted[2] = { 0, 0 };
+    uint8_t unwanted_percent = 0;
+    return odht_symbol_u64_u32_sizes(
+        odht_read_uint8_t(bytes, bytes_len), bytes_len, slots ? slots : &unwanted[0],
+        max_item_count ? max_item_count : &unwanted[1], percent ? percent : &unwanted_percent);
+}
+
 static inline uint32_t odht_u64_u32_insert_order(
     const uint8_t *bytes, size_t bytes_len, size_t *slots, size_t slots_len)
 {
     return odht_symbol_u64_u32_insert_order(
         odht_read_uint8_t(bytes, bytes_len), bytes_len, odht_write_size_t(slots, slots_len),
         slots_len);
+}
+
+static inline uint32_t odht_u64_u32_grow(
+    const uint8_t *bytes, size_t bytes_len, uint8_t *out, size_t out_len, size_t *len)
+{
+    size_t unwanted = 0;
+    return odht_symbol_u64_u32_grow(
+        odht_read_uint8_t(bytes, bytes_len), bytes_len, odht_write_uint8_t(out, out_len), out_len,
+        len ? len : &unwanted);
 }
 
 static inline uint32_t odht_u64_u32_open_view(
@@ -507,11 +921,11 @@ ODHT_CALL uint32_t odht_u64_u32_insert_all(
     const uint32_t *values, size_t values_len, size_t *accepted)
     ODHT_INLINE(u64_u32_insert_all);
 
-/* OK: *count pairs, in the order of the slots. TOO_SMALL: the arrays are full, and there are
-   more. BAD_LENGTHS, or a refusal, 1 to 7: the arrays and *count stay. */
+/* OK: the last *count pairs, from slot *cursor on. TOO_SMALL: the arrays are full, there are more,
+   and *cursor is where to go on. BAD_LENGTHS, or a refusal, 1 to 7: nothing is written. */
 ODHT_CALL uint32_t odht_u64_u32_walk(
-    const uint8_t *bytes, size_t bytes_len, uint64_t *keys, size_t keys_len, uint32_t *values,
-    size_t values_len, size_t *count)
+    const uint8_t *bytes, size_t bytes_len, size_t *cursor, uint64_t *keys, size_t keys_len,
+    uint32_t *values, size_t values_len, size_t *count)
     ODHT_INLINE(u64_u32_walk);
 
 /* OK: *value is the value. ABSENT: it stays. */
@@ -525,6 +939,19 @@ ODHT_CALL uint32_t odht_u64_u32_view_get_all(
     const odht_view *view, const uint64_t *keys, size_t keys_len, uint32_t *values,
     size_t values_len, uint8_t *found, size_t found_len)
     ODHT_INLINE(u64_u32_view_get_all);
+
+/* OK: the table is the first *len bytes of out. TOO_SMALL: out_len is below *len, the length that
+   it has. CAPACITY, BAD_PERCENT, BAD_LENGTHS: *len stays. With all but OK out stays. */
+ODHT_CALL uint32_t odht_u64_u32_build(
+    const uint64_t *keys, size_t keys_len, const uint32_t *values, size_t values_len,
+    uint8_t percent, uint8_t *out, size_t out_len, size_t *len)
+    ODHT_INLINE(u64_u32_build);
+
+/* OK, TOO_SMALL and BAD_LENGTHS as there. MEMORY: out and *len stay. */
+ODHT_CALL uint32_t odht_u64_u32_build_growing(
+    const uint64_t *keys, size_t keys_len, const uint32_t *values, size_t values_len,
+    uint8_t *out, size_t out_len, size_t *len)
+    ODHT_INLINE(u64_u32_build_growing);
 
 #if ODHT_TAKES_NULL
 /* The symbols of the library, then the functions around them. */
@@ -543,8 +970,8 @@ uint32_t odht_symbol_u64_u32_insert_all(
     const uint32_t *values, size_t values_len, size_t *accepted)
     ODHT_SYMBOL(u64_u32_insert_all);
 uint32_t odht_symbol_u64_u32_walk(
-    const uint8_t *bytes, size_t bytes_len, uint64_t *keys, size_t keys_len, uint32_t *values,
-    size_t values_len, size_t *count)
+    const uint8_t *bytes, size_t bytes_len, size_t *cursor, uint64_t *keys, size_t keys_len,
+    uint32_t *values, size_t values_len, size_t *count)
     ODHT_SYMBOL(u64_u32_walk);
 uint32_t odht_symbol_u64_u32_view_get(
     const odht_view *view, uint64_t key, uint32_t *value)
@@ -553,6 +980,14 @@ uint32_t odht_symbol_u64_u32_view_get_all(
     const odht_view *view, const uint64_t *keys, size_t keys_len, uint32_t *values,
     size_t values_len, uint8_t *found, size_t found_len)
     ODHT_SYMBOL(u64_u32_view_get_all);
+uint32_t odht_symbol_u64_u32_build(
+    const uint64_t *keys, size_t keys_len, const uint32_t *values, size_t values_len,
+    uint8_t percent, uint8_t *out, size_t out_len, size_t *len)
+    ODHT_SYMBOL(u64_u32_build);
+uint32_t odht_symbol_u64_u32_build_growing(
+    const uint64_t *keys, size_t keys_len, const uint32_t *values, size_t values_len,
+    uint8_t *out, size_t out_len, size_t *len)
+    ODHT_SYMBOL(u64_u32_build_growing);
 
 static inline uint32_t odht_u64_u32_get(
     const uint8_t *bytes, size_t bytes_len, uint64_t key, uint32_t *value)
@@ -592,13 +1027,14 @@ static inline uint32_t odht_u64_u32_insert_all(
 }
 
 static inline uint32_t odht_u64_u32_walk(
-    const uint8_t *bytes, size_t bytes_len, uint64_t *keys, size_t keys_len, uint32_t *values,
-    size_t values_len, size_t *count)
+    const uint8_t *bytes, size_t bytes_len, size_t *cursor, uint64_t *keys, size_t keys_len,
+    uint32_t *values, size_t values_len, size_t *count)
 {
     size_t unwanted = 0;
     return odht_symbol_u64_u32_walk(
-        odht_read_uint8_t(bytes, bytes_len), bytes_len, odht_write_uint64_t(keys, keys_len),
-        keys_len, odht_write_uint32_t(values, values_len), values_len, count ? count : &unwanted);
+        odht_read_uint8_t(bytes, bytes_len), bytes_len, cursor,
+        odht_write_uint64_t(keys, keys_len), keys_len, odht_write_uint32_t(values, values_len),
+        values_len, count ? count : &unwanted);
 }
 
 static inline uint32_t odht_u64_u32_view_get(
@@ -617,31 +1053,6 @@ static inline uint32_t odht_u64_u32_view_get_all(
         odht_write_uint32_t(values, values_len), values_len, odht_write_uint8_t(found, found_len),
         found_len);
 }
-#endif
-
-/* OK: the table is the first *len bytes of out. TOO_SMALL: out_len is below *len, the length that
-   it has. CAPACITY, BAD_PERCENT, BAD_LENGTHS: *len stays. With all but OK out stays. */
-ODHT_CALL uint32_t odht_u64_u32_build(
-    const uint64_t *keys, size_t keys_len, const uint32_t *values, size_t values_len,
-    uint8_t percent, uint8_t *out, size_t out_len, size_t *len)
-    ODHT_INLINE(u64_u32_build);
-
-/* OK, TOO_SMALL and BAD_LENGTHS as there. MEMORY: out and *len stay. */
-ODHT_CALL uint32_t odht_u64_u32_build_growing(
-    const uint64_t *keys, size_t keys_len, const uint32_t *values, size_t values_len,
-    uint8_t *out, size_t out_len, size_t *len)
-    ODHT_INLINE(u64_u32_build_growing);
-
-#if ODHT_TAKES_NULL
-/* The symbols of the library, then the functions around them. */
-uint32_t odht_symbol_u64_u32_build(
-    const uint64_t *keys, size_t keys_len, const uint32_t *values, size_t values_len,
-    uint8_t percent, uint8_t *out, size_t out_len, size_t *len)
-    ODHT_SYMBOL(u64_u32_build);
-uint32_t odht_symbol_u64_u32_build_growing(
-    const uint64_t *keys, size_t keys_len, const uint32_t *values, size_t values_len,
-    uint8_t *out, size_t out_len, size_t *len)
-    ODHT_SYMBOL(u64_u32_build_growing);
 
 static inline uint32_t odht_u64_u32_build(
     const uint64_t *keys, size_t keys_len, const uint32_t *values, size_t values_len,
@@ -664,7 +1075,336 @@ static inline uint32_t odht_u64_u32_build_growing(
 }
 #endif
 
-/* ---- odht_b16_u32_*: keys of 16 bytes, values of 32 bits, UnHashFn ---- */
+/* ---- odht_u64_u64_*: from 64-bit numbers to 64-bit numbers, FxHashFn ---- */
+
+/* OK: *len is the length in bytes of a table for so many items. BAD_PERCENT. CAPACITY. */
+ODHT_CALL uint32_t odht_u64_u64_bytes_needed(size_t max_item_count, uint8_t percent, size_t *len)
+    ODHT_INLINE(u64_u64_bytes_needed);
+
+/* OK: the bytes are an empty table. BAD_PERCENT, CAPACITY, INIT_LENGTH: they stay. */
+ODHT_CALL uint32_t odht_u64_u64_init(
+    uint8_t *bytes, size_t bytes_len, size_t max_item_count, uint8_t percent)
+    ODHT_INLINE(u64_u64_init);
+
+/* OK: calls can be made on the bytes. A refusal, 1 to 9. Takes equally long for every table. */
+ODHT_CALL uint32_t odht_u64_u64_open(const uint8_t *bytes, size_t bytes_len)
+    ODHT_INLINE(u64_u64_open);
+
+/* OK: the bytes are valid to the last one. A refusal, 1 to 16. Goes over all slots. */
+ODHT_CALL uint32_t odht_u64_u64_check(const uint8_t *bytes, size_t bytes_len)
+    ODHT_INLINE(u64_u64_check);
+
+/* OK: *count is the number of items that the header states. A refusal, 1 to 7: it stays. */
+ODHT_CALL uint32_t odht_u64_u64_len(const uint8_t *bytes, size_t bytes_len, size_t *count)
+    ODHT_INLINE(u64_u64_len);
+
+/* OK: the numbers of the header: how many slots, how many items these take at most, and the load
+   factor in percent, rounded down. A refusal, 1 to 7: they stay. */
+ODHT_CALL uint32_t odht_u64_u64_sizes(
+    const uint8_t *bytes, size_t bytes_len, size_t *slots, size_t *max_item_count, uint8_t *percent)
+    ODHT_INLINE(u64_u64_sizes);
+
+/* OK: the slots that hold a pair, in an order of inserts. UNMADE: no inserts make the table, and
+   the numbers in slots say nothing. BAD_LENGTHS, or a refusal, 1 to 16: slots stay. */
+ODHT_CALL uint32_t odht_u64_u64_insert_order(
+    const uint8_t *bytes, size_t bytes_len, size_t *slots, size_t slots_len)
+    ODHT_INLINE(u64_u64_insert_order);
+
+/* OK: the first *len bytes of out are the grown table. TOO_SMALL: out_len is below *len, and out
+   stays. A refusal, 1 to 7, LOAD_FACTOR_TOO_SMALL, CAPACITY: *len stays too. */
+ODHT_CALL uint32_t odht_u64_u64_grow(
+    const uint8_t *bytes, size_t bytes_len, uint8_t *out, size_t out_len, size_t *len)
+    ODHT_INLINE(u64_u64_grow);
+
+/* OK: *view is the view of the bytes. A refusal, 1 to 9: it stays. */
+ODHT_CALL uint32_t odht_u64_u64_open_view(const uint8_t *bytes, size_t bytes_len, odht_view *view)
+    ODHT_INLINE(u64_u64_open_view);
+
+/* The number of items that the header states. */
+ODHT_CALL size_t odht_u64_u64_view_len(const odht_view *view)
+    ODHT_INLINE(u64_u64_view_len);
+
+#if ODHT_TAKES_NULL
+/* The symbols of the library, then the functions around them. */
+uint32_t odht_symbol_u64_u64_bytes_needed(size_t max_item_count, uint8_t percent, size_t *len)
+    ODHT_SYMBOL(u64_u64_bytes_needed);
+uint32_t odht_symbol_u64_u64_init(
+    uint8_t *bytes, size_t bytes_len, size_t max_item_count, uint8_t percent)
+    ODHT_SYMBOL(u64_u64_init);
+uint32_t odht_symbol_u64_u64_open(const uint8_t *bytes, size_t bytes_len)
+    ODHT_SYMBOL(u64_u64_open);
+uint32_t odht_symbol_u64_u64_check(const uint8_t *bytes, size_t bytes_len)
+    ODHT_SYMBOL(u64_u64_check);
+uint32_t odht_symbol_u64_u64_len(const uint8_t *bytes, size_t bytes_len, size_t *count)
+    ODHT_SYMBOL(u64_u64_len);
+uint32_t odht_symbol_u64_u64_sizes(
+    const uint8_t *bytes, size_t bytes_len, size_t *slots, size_t *max_item_count, uint8_t *percent)
+    ODHT_SYMBOL(u64_u64_sizes);
+uint32_t odht_symbol_u64_u64_insert_order(
+    const uint8_t *bytes, size_t bytes_len, size_t *slots, size_t slots_len)
+    ODHT_SYMBOL(u64_u64_insert_order);
+uint32_t odht_symbol_u64_u64_grow(
+    const uint8_t *bytes, size_t bytes_len, uint8_t *out, size_t out_len, size_t *len)
+    ODHT_SYMBOL(u64_u64_grow);
+uint32_t odht_symbol_u64_u64_open_view(const uint8_t *bytes, size_t bytes_len, odht_view *view)
+    ODHT_SYMBOL(u64_u64_open_view);
+size_t odht_symbol_u64_u64_view_len(const odht_view *view)
+    ODHT_SYMBOL(u64_u64_view_len);
+
+static inline uint32_t odht_u64_u64_bytes_needed(
+    size_t max_item_count, uint8_t percent, size_t *len)
+{
+    size_t unwanted = 0;
+    return odht_symbol_u64_u64_bytes_needed(max_item_count, percent, len ? len : &unwanted);
+}
+
+static inline uint32_t odht_u64_u64_init(
+    uint8_t *bytes, size_t bytes_len, size_t max_item_count, uint8_t percent)
+{
+    return odht_symbol_u64_u64_init(
+        odht_write_uint8_t(bytes, bytes_len), bytes_len, max_item_count, percent);
+}
+
+static inline uint32_t odht_u64_u64_open(const uint8_t *bytes, size_t bytes_len)
+{
+    return odht_symbol_u64_u64_open(odht_read_uint8_t(bytes, bytes_len), bytes_len);
+}
+
+static inline uint32_t odht_u64_u64_check(const uint8_t *bytes, size_t bytes_len)
+{
+    return odht_symbol_u64_u64_check(odht_read_uint8_t(bytes, bytes_len), bytes_len);
+}
+
+static inline uint32_t odht_u64_u64_len(const uint8_t *bytes, size_t bytes_len, size_t *count)
+{
+    size_t unwanted = 0;
+    return odht_symbol_u64_u64_len(
+        odht_read_uint8_t(bytes, bytes_len), bytes_len, count ? count : &unwanted);
+}
+
+static inline uint32_t odht_u64_u64_sizes(
+    const uint8_t *bytes, size_t bytes_len, size_t *slots, size_t *max_item_count, uint8_t *percent)
+{
+    size_t unwanted[2] = { 0, 0 };
+    uint8_t unwanted_percent = 0;
+    return odht_symbol_u64_u64_sizes(
+        odht_read_uint8_t(bytes, bytes_len), bytes_len, slots ? slots : &unwanted[0],
+        max_item_count ? max_item_count : &unwanted[1], percent ? percent : &unwanted_percent);
+}
+
+static inline uint32_t odht_u64_u64_insert_order(
+    const uint8_t *bytes, size_t bytes_len, size_t *slots, size_t slots_len)
+{
+    return odht_symbol_u64_u64_insert_order(
+        odht_read_uint8_t(bytes, bytes_len), bytes_len, odht_write_size_t(slots, slots_len),
+        slots_len);
+}
+
+static inline uint32_t odht_u64_u64_grow(
+    const uint8_t *bytes, size_t bytes_len, uint8_t *out, size_t out_len, size_t *len)
+{
+    size_t unwanted = 0;
+    return odht_symbol_u64_u64_grow(
+        odht_read_uint8_t(bytes, bytes_len), bytes_len, odht_write_uint8_t(out, out_len), out_len,
+        len ? len : &unwanted);
+}
+
+static inline uint32_t odht_u64_u64_open_view(
+    const uint8_t *bytes, size_t bytes_len, odht_view *view)
+{
+    odht_view opened = ODHT_NO_VIEW;
+    uint32_t status = odht_symbol_u64_u64_open_view(
+        odht_read_uint8_t(bytes, bytes_len), bytes_len, &opened);
+    if (status == ODHT_OK)
+        *view = opened;
+    return status;
+}
+
+static inline size_t odht_u64_u64_view_len(const odht_view *view)
+{
+    return odht_symbol_u64_u64_view_len(view);
+}
+#endif
+
+/* OK: *value is the value. ABSENT, or a refusal, 1 to 7: *value stays. */
+ODHT_CALL uint32_t odht_u64_u64_get(
+    const uint8_t *bytes, size_t bytes_len, uint64_t key, uint64_t *value)
+    ODHT_INLINE(u64_u64_get);
+
+/* OK: found[i] is 1 and values[i] the value, or found[i] is 0 and values[i] as it was.
+   BAD_LENGTHS, or a refusal, 1 to 7: both arrays stay. */
+ODHT_CALL uint32_t odht_u64_u64_get_all(
+    const uint8_t *bytes, size_t bytes_len, const uint64_t *keys, size_t keys_len,
+    uint64_t *values, size_t values_len, uint8_t *found, size_t found_len)
+    ODHT_INLINE(u64_u64_get_all);
+
+/* OK: the key was new. REPLACED: *former is the former value. FULL, or a refusal, 1 to 7: nothing
+   changes. */
+ODHT_CALL uint32_t odht_u64_u64_insert(
+    uint8_t *bytes, size_t bytes_len, uint64_t key, uint64_t value, uint64_t *former)
+    ODHT_INLINE(u64_u64_insert);
+
+/* OK or FULL: *accepted pairs are inserted. BAD_LENGTHS, or a refusal, 1 to 7: nothing changes. */
+ODHT_CALL uint32_t odht_u64_u64_insert_all(
+    uint8_t *bytes, size_t bytes_len, const uint64_t *keys, size_t keys_len,
+    const uint64_t *values, size_t values_len, size_t *accepted)
+    ODHT_INLINE(u64_u64_insert_all);
+
+/* OK: the last *count pairs, from slot *cursor on. TOO_SMALL: the arrays are full, there are more,
+   and *cursor is where to go on. BAD_LENGTHS, or a refusal, 1 to 7: nothing is written. */
+ODHT_CALL uint32_t odht_u64_u64_walk(
+    const uint8_t *bytes, size_t bytes_len, size_t *cursor, uint64_t *keys, size_t keys_len,
+    uint64_t *values, size_t values_len, size_t *count)
+    ODHT_INLINE(u64_u64_walk);
+
+/* OK: *value is the value. ABSENT: it stays. */
+ODHT_CALL uint32_t odht_u64_u64_view_get(
+    const odht_view *view, uint64_t key, uint64_t *value)
+    ODHT_INLINE(u64_u64_view_get);
+
+/* OK: found[i] is 1 and values[i] the value, or found[i] is 0 and values[i] as it was.
+   BAD_LENGTHS: both arrays stay. */
+ODHT_CALL uint32_t odht_u64_u64_view_get_all(
+    const odht_view *view, const uint64_t *keys, size_t keys_len, uint64_t *values,
+    size_t values_len, uint8_t *found, size_t found_len)
+    ODHT_INLINE(u64_u64_view_get_all);
+
+/* OK: the table is the first *len bytes of out. TOO_SMALL: out_len is below *len, the length that
+   it has. CAPACITY, BAD_PERCENT, BAD_LENGTHS: *len stays. With all but OK out stays. */
+ODHT_CALL uint32_t odht_u64_u64_build(
+    const uint64_t *keys, size_t keys_len, const uint64_t *values, size_t values_len,
+    uint8_t percent, uint8_t *out, size_t out_len, size_t *len)
+    ODHT_INLINE(u64_u64_build);
+
+/* OK, TOO_SMALL and BAD_LENGTHS as there. MEMORY: out and *len stay. */
+ODHT_CALL uint32_t odht_u64_u64_build_growing(
+    const uint64_t *keys, size_t keys_len, const uint64_t *values, size_t values_len,
+    uint8_t *out, size_t out_len, size_t *len)
+    ODHT_INLINE(u64_u64_build_growing);
+
+#if ODHT_TAKES_NULL
+/* The symbols of the library, then the functions around them. */
+uint32_t odht_symbol_u64_u64_get(
+    const uint8_t *bytes, size_t bytes_len, uint64_t key, uint64_t *value)
+    ODHT_SYMBOL(u64_u64_get);
+uint32_t odht_symbol_u64_u64_get_all(
+    const uint8_t *bytes, size_t bytes_len, const uint64_t *keys, size_t keys_len,
+    uint64_t *values, size_t values_len, uint8_t *found, size_t found_len)
+    ODHT_SYMBOL(u64_u64_get_all);
+uint32_t odht_symbol_u64_u64_insert(
+    uint8_t *bytes, size_t bytes_len, uint64_t key, uint64_t value, uint64_t *former)
+    ODHT_SYMBOL(u64_u64_insert);
+uint32_t odht_symbol_u64_u64_insert_all(
+    uint8_t *bytes, size_t bytes_len, const uint64_t *keys, size_t keys_len,
+    const uint64_t *values, size_t values_len, size_t *accepted)
+    ODHT_SYMBOL(u64_u64_insert_all);
+uint32_t odht_symbol_u64_u64_walk(
+    const uint8_t *bytes, size_t bytes_len, size_t *cursor, uint64_t *keys, size_t keys_len,
+    uint64_t *values, size_t values_len, size_t *count)
+    ODHT_SYMBOL(u64_u64_walk);
+uint32_t odht_symbol_u64_u64_view_get(
+    const odht_view *view, uint64_t key, uint64_t *value)
+    ODHT_SYMBOL(u64_u64_view_get);
+uint32_t odht_symbol_u64_u64_view_get_all(
+    const odht_view *view, const uint64_t *keys, size_t keys_len, uint64_t *values,
+    size_t values_len, uint8_t *found, size_t found_len)
+    ODHT_SYMBOL(u64_u64_view_get_all);
+uint32_t odht_symbol_u64_u64_build(
+    const uint64_t *keys, size_t keys_len, const uint64_t *values, size_t values_len,
+    uint8_t percent, uint8_t *out, size_t out_len, size_t *len)
+    ODHT_SYMBOL(u64_u64_build);
+uint32_t odht_symbol_u64_u64_build_growing(
+    const uint64_t *keys, size_t keys_len, const uint64_t *values, size_t values_len,
+    uint8_t *out, size_t out_len, size_t *len)
+    ODHT_SYMBOL(u64_u64_build_growing);
+
+static inline uint32_t odht_u64_u64_get(
+    const uint8_t *bytes, size_t bytes_len, uint64_t key, uint64_t *value)
+{
+    uint64_t unwanted = 0;
+    return odht_symbol_u64_u64_get(
+        odht_read_uint8_t(bytes, bytes_len), bytes_len, key, value ? value : &unwanted);
+}
+
+static inline uint32_t odht_u64_u64_get_all(
+    const uint8_t *bytes, size_t bytes_len, const uint64_t *keys, size_t keys_len,
+    uint64_t *values, size_t values_len, uint8_t *found, size_t found_len)
+{
+    return odht_symbol_u64_u64_get_all(
+        odht_read_uint8_t(bytes, bytes_len), bytes_len, odht_read_uint64_t(keys, keys_len),
+        keys_len, odht_write_uint64_t(values, values_len), values_len,
+        odht_write_uint8_t(found, found_len), found_len);
+}
+
+static inline uint32_t odht_u64_u64_insert(
+    uint8_t *bytes, size_t bytes_len, uint64_t key, uint64_t value, uint64_t *former)
+{
+    uint64_t unwanted = 0;
+    return odht_symbol_u64_u64_insert(
+        odht_write_uint8_t(bytes, bytes_len), bytes_len, key, value, former ? former : &unwanted);
+}
+
+static inline uint32_t odht_u64_u64_insert_all(
+    uint8_t *bytes, size_t bytes_len, const uint64_t *keys, size_t keys_len,
+    const uint64_t *values, size_t values_len, size_t *accepted)
+{
+    size_t unwanted = 0;
+    return odht_symbol_u64_u64_insert_all(
+        odht_write_uint8_t(bytes, bytes_len), bytes_len, odht_read_uint64_t(keys, keys_len),
+        keys_len, odht_read_uint64_t(values, values_len), values_len,
+        accepted ? accepted : &unwanted);
+}
+
+static inline uint32_t odht_u64_u64_walk(
+    const uint8_t *bytes, size_t bytes_len, size_t *cursor, uint64_t *keys, size_t keys_len,
+    uint64_t *values, size_t values_len, size_t *count)
+{
+    size_t unwanted = 0;
+    return odht_symbol_u64_u64_walk(
+        odht_read_uint8_t(bytes, bytes_len), bytes_len, cursor,
+        odht_write_uint64_t(keys, keys_len), keys_len, odht_write_uint64_t(values, values_len),
+        values_len, count ? count : &unwanted);
+}
+
+static inline uint32_t odht_u64_u64_view_get(
+    const odht_view *view, uint64_t key, uint64_t *value)
+{
+    uint64_t unwanted = 0;
+    return odht_symbol_u64_u64_view_get(view, key, value ? value : &unwanted);
+}
+
+static inline uint32_t odht_u64_u64_view_get_all(
+    const odht_view *view, const uint64_t *keys, size_t keys_len, uint64_t *values,
+    size_t values_len, uint8_t *found, size_t found_len)
+{
+    return odht_symbol_u64_u64_view_get_all(
+        view, odht_read_uint64_t(keys, keys_len), keys_len,
+        odht_write_uint64_t(values, values_len), values_len, odht_write_uint8_t(found, found_len),
+        found_len);
+}
+
+static inline uint32_t odht_u64_u64_build(
+    const uint64_t *keys, size_t keys_len, const uint64_t *values, size_t values_len,
+    uint8_t percent, uint8_t *out, size_t out_len, size_t *len)
+{
+    size_t unwanted = 0;
+    return odht_symbol_u64_u64_build(
+        odht_read_uint64_t(keys, keys_len), keys_len, odht_read_uint64_t(values, values_len),
+        values_len, percent, odht_write_uint8_t(out, out_len), out_len, len ? len : &unwanted);
+}
+
+static inline uint32_t odht_u64_u64_build_growing(
+    const uint64_t *keys, size_t keys_len, const uint64_t *values, size_t values_len,
+    uint8_t *out, size_t out_len, size_t *len)
+{
+    size_t unwanted = 0;
+    return odht_symbol_u64_u64_build_growing(
+        odht_read_uint64_t(keys, keys_len), keys_len, odht_read_uint64_t(values, values_len),
+        values_len, odht_write_uint8_t(out, out_len), out_len, len ? len : &unwanted);
+}
+#endif
+
+/* ---- odht_b16_u32_*: from hashes of 16 bytes to 32-bit numbers, UnHashFn ---- */
 
 /* OK: *len is the length in bytes of a table for so many items. BAD_PERCENT. CAPACITY. */
 ODHT_CALL uint32_t odht_b16_u32_bytes_needed(size_t max_item_count, uint8_t percent, size_t *len)
@@ -687,11 +1427,23 @@ ODHT_CALL uint32_t odht_b16_u32_check(const uint8_t *bytes, size_t bytes_len)
 ODHT_CALL uint32_t odht_b16_u32_len(const uint8_t *bytes, size_t bytes_len, size_t *count)
     ODHT_INLINE(b16_u32_len);
 
+/* OK: the numbers of the header: how many slots, how many items these take at most, and the load
+   factor in percent, rounded down. A refusal, 1 to 7: they stay. */
+ODHT_CALL uint32_t odht_b16_u32_sizes(
+    const uint8_t *bytes, size_t bytes_len, size_t *slots, size_t *max_item_count, uint8_t *percent)
+    ODHT_INLINE(b16_u32_sizes);
+
 /* OK: the slots that hold a pair, in an order of inserts. UNMADE: no inserts make the table, and
    the numbers in slots say nothing. BAD_LENGTHS, or a refusal, 1 to 16: slots stay. */
 ODHT_CALL uint32_t odht_b16_u32_insert_order(
     const uint8_t *bytes, size_t bytes_len, size_t *slots, size_t slots_len)
     ODHT_INLINE(b16_u32_insert_order);
+
+/* OK: the first *len bytes of out are the grown table. TOO_SMALL: out_len is below *len, and out
+   stays. A refusal, 1 to 7, LOAD_FACTOR_TOO_SMALL, CAPACITY: *len stays too. */
+ODHT_CALL uint32_t odht_b16_u32_grow(
+    const uint8_t *bytes, size_t bytes_len, uint8_t *out, size_t out_len, size_t *len)
+    ODHT_INLINE(b16_u32_grow);
 
 /* OK: *view is the view of the bytes. A refusal, 1 to 9: it stays. */
 ODHT_CALL uint32_t odht_b16_u32_open_view(const uint8_t *bytes, size_t bytes_len, odht_view *view)
@@ -714,9 +1466,15 @@ uint32_t odht_symbol_b16_u32_check(const uint8_t *bytes, size_t bytes_len)
     ODHT_SYMBOL(b16_u32_check);
 uint32_t odht_symbol_b16_u32_len(const uint8_t *bytes, size_t bytes_len, size_t *count)
     ODHT_SYMBOL(b16_u32_len);
+uint32_t odht_symbol_b16_u32_sizes(
+    const uint8_t *bytes, size_t bytes_len, size_t *slots, size_t *max_item_count, uint8_t *percent)
+    ODHT_SYMBOL(b16_u32_sizes);
 uint32_t odht_symbol_b16_u32_insert_order(
     const uint8_t *bytes, size_t bytes_len, size_t *slots, size_t slots_len)
     ODHT_SYMBOL(b16_u32_insert_order);
+uint32_t odht_symbol_b16_u32_grow(
+    const uint8_t *bytes, size_t bytes_len, uint8_t *out, size_t out_len, size_t *len)
+    ODHT_SYMBOL(b16_u32_grow);
 uint32_t odht_symbol_b16_u32_open_view(const uint8_t *bytes, size_t bytes_len, odht_view *view)
     ODHT_SYMBOL(b16_u32_open_view);
 size_t odht_symbol_b16_u32_view_len(const odht_view *view)
@@ -753,12 +1511,31 @@ static inline uint32_t odht_b16_u32_len(const uint8_t *bytes, size_t bytes_len, 
         odht_read_uint8_t(bytes, bytes_len), bytes_len, count ? count : &unwanted);
 }
 
+static inline uint32_t odht_b16_u32_sizes(
+    const uint8_t *bytes, size_t bytes_len, size_t *slots, size_t *max_item_count, uint8_t *percent)
+{
+    size_t unwanted[2] = { 0, 0 };
+    uint8_t unwanted_percent = 0;
+    return odht_symbol_b16_u32_sizes(
+        odht_read_uint8_t(bytes, bytes_len), bytes_len, slots ? slots : &unwanted[0],
+        max_item_count ? max_item_count : &unwanted[1], percent ? percent : &unwanted_percent);
+}
+
 static inline uint32_t odht_b16_u32_insert_order(
     const uint8_t *bytes, size_t bytes_len, size_t *slots, size_t slots_len)
 {
     return odht_symbol_b16_u32_insert_order(
         odht_read_uint8_t(bytes, bytes_len), bytes_len, odht_write_size_t(slots, slots_len),
         slots_len);
+}
+
+static inline uint32_t odht_b16_u32_grow(
+    const uint8_t *bytes, size_t bytes_len, uint8_t *out, size_t out_len, size_t *len)
+{
+    size_t unwanted = 0;
+    return odht_symbol_b16_u32_grow(
+        odht_read_uint8_t(bytes, bytes_len), bytes_len, odht_write_uint8_t(out, out_len), out_len,
+        len ? len : &unwanted);
 }
 
 static inline uint32_t odht_b16_u32_open_view(
@@ -802,11 +1579,11 @@ ODHT_CALL uint32_t odht_b16_u32_insert_all(
     const uint32_t *values, size_t values_len, size_t *accepted)
     ODHT_INLINE(b16_u32_insert_all);
 
-/* OK: *count pairs, in the order of the slots. TOO_SMALL: the arrays are full, and there are
-   more. BAD_LENGTHS, or a refusal, 1 to 7: the arrays and *count stay. */
+/* OK: the last *count pairs, from slot *cursor on. TOO_SMALL: the arrays are full, there are more,
+   and *cursor is where to go on. BAD_LENGTHS, or a refusal, 1 to 7: nothing is written. */
 ODHT_CALL uint32_t odht_b16_u32_walk(
-    const uint8_t *bytes, size_t bytes_len, uint8_t *keys, size_t keys_len, uint32_t *values,
-    size_t values_len, size_t *count)
+    const uint8_t *bytes, size_t bytes_len, size_t *cursor, uint8_t *keys, size_t keys_len,
+    uint32_t *values, size_t values_len, size_t *count)
     ODHT_INLINE(b16_u32_walk);
 
 /* OK: *value is the value. ABSENT: it stays. */
@@ -820,6 +1597,19 @@ ODHT_CALL uint32_t odht_b16_u32_view_get_all(
     const odht_view *view, const uint8_t *keys, size_t keys_len, uint32_t *values,
     size_t values_len, uint8_t *found, size_t found_len)
     ODHT_INLINE(b16_u32_view_get_all);
+
+/* OK: the table is the first *len bytes of out. TOO_SMALL: out_len is below *len, the length that
+   it has. CAPACITY, BAD_PERCENT, BAD_LENGTHS: *len stays. With all but OK out stays. */
+ODHT_CALL uint32_t odht_b16_u32_build(
+    const uint8_t *keys, size_t keys_len, const uint32_t *values, size_t values_len,
+    uint8_t percent, uint8_t *out, size_t out_len, size_t *len)
+    ODHT_INLINE(b16_u32_build);
+
+/* OK, TOO_SMALL and BAD_LENGTHS as there. MEMORY: out and *len stay. */
+ODHT_CALL uint32_t odht_b16_u32_build_growing(
+    const uint8_t *keys, size_t keys_len, const uint32_t *values, size_t values_len,
+    uint8_t *out, size_t out_len, size_t *len)
+    ODHT_INLINE(b16_u32_build_growing);
 
 #if ODHT_TAKES_NULL
 /* The symbols of the library, then the functions around them. */
@@ -838,8 +1628,8 @@ uint32_t odht_symbol_b16_u32_insert_all(
     const uint32_t *values, size_t values_len, size_t *accepted)
     ODHT_SYMBOL(b16_u32_insert_all);
 uint32_t odht_symbol_b16_u32_walk(
-    const uint8_t *bytes, size_t bytes_len, uint8_t *keys, size_t keys_len, uint32_t *values,
-    size_t values_len, size_t *count)
+    const uint8_t *bytes, size_t bytes_len, size_t *cursor, uint8_t *keys, size_t keys_len,
+    uint32_t *values, size_t values_len, size_t *count)
     ODHT_SYMBOL(b16_u32_walk);
 uint32_t odht_symbol_b16_u32_view_get(
     const odht_view *view, const uint8_t key[16], uint32_t *value)
@@ -848,6 +1638,14 @@ uint32_t odht_symbol_b16_u32_view_get_all(
     const odht_view *view, const uint8_t *keys, size_t keys_len, uint32_t *values,
     size_t values_len, uint8_t *found, size_t found_len)
     ODHT_SYMBOL(b16_u32_view_get_all);
+uint32_t odht_symbol_b16_u32_build(
+    const uint8_t *keys, size_t keys_len, const uint32_t *values, size_t values_len,
+    uint8_t percent, uint8_t *out, size_t out_len, size_t *len)
+    ODHT_SYMBOL(b16_u32_build);
+uint32_t odht_symbol_b16_u32_build_growing(
+    const uint8_t *keys, size_t keys_len, const uint32_t *values, size_t values_len,
+    uint8_t *out, size_t out_len, size_t *len)
+    ODHT_SYMBOL(b16_u32_build_growing);
 
 static inline uint32_t odht_b16_u32_get(
     const uint8_t *bytes, size_t bytes_len, const uint8_t key[16], uint32_t *value)
@@ -887,13 +1685,14 @@ static inline uint32_t odht_b16_u32_insert_all(
 }
 
 static inline uint32_t odht_b16_u32_walk(
-    const uint8_t *bytes, size_t bytes_len, uint8_t *keys, size_t keys_len, uint32_t *values,
-    size_t values_len, size_t *count)
+    const uint8_t *bytes, size_t bytes_len, size_t *cursor, uint8_t *keys, size_t keys_len,
+    uint32_t *values, size_t values_len, size_t *count)
 {
     size_t unwanted = 0;
     return odht_symbol_b16_u32_walk(
-        odht_read_uint8_t(bytes, bytes_len), bytes_len, odht_write_uint8_t(keys, keys_len),
-        keys_len, odht_write_uint32_t(values, values_len), values_len, count ? count : &unwanted);
+        odht_read_uint8_t(bytes, bytes_len), bytes_len, cursor,
+        odht_write_uint8_t(keys, keys_len), keys_len, odht_write_uint32_t(values, values_len),
+        values_len, count ? count : &unwanted);
 }
 
 static inline uint32_t odht_b16_u32_view_get(
@@ -911,6 +1710,1639 @@ static inline uint32_t odht_b16_u32_view_get_all(
         view, odht_read_uint8_t(keys, keys_len), keys_len,
         odht_write_uint32_t(values, values_len), values_len, odht_write_uint8_t(found, found_len),
         found_len);
+}
+
+static inline uint32_t odht_b16_u32_build(
+    const uint8_t *keys, size_t keys_len, const uint32_t *values, size_t values_len,
+    uint8_t percent, uint8_t *out, size_t out_len, size_t *len)
+{
+    size_t unwanted = 0;
+    return odht_symbol_b16_u32_build(
+        odht_read_uint8_t(keys, keys_len), keys_len, odht_read_uint32_t(values, values_len),
+        values_len, percent, odht_write_uint8_t(out, out_len), out_len, len ? len : &unwanted);
+}
+
+static inline uint32_t odht_b16_u32_build_growing(
+    const uint8_t *keys, size_t keys_len, const uint32_t *values, size_t values_len,
+    uint8_t *out, size_t out_len, size_t *len)
+{
+    size_t unwanted = 0;
+    return odht_symbol_b16_u32_build_growing(
+        odht_read_uint8_t(keys, keys_len), keys_len, odht_read_uint32_t(values, values_len),
+        values_len, odht_write_uint8_t(out, out_len), out_len, len ? len : &unwanted);
+}
+#endif
+
+/* ---- odht_b16_u64_*: from hashes of 16 bytes to 64-bit numbers, UnHashFn ---- */
+
+/* OK: *len is the length in bytes of a table for so many items. BAD_PERCENT. CAPACITY. */
+ODHT_CALL uint32_t odht_b16_u64_bytes_needed(size_t max_item_count, uint8_t percent, size_t *len)
+    ODHT_INLINE(b16_u64_bytes_needed);
+
+/* OK: the bytes are an empty table. BAD_PERCENT, CAPACITY, INIT_LENGTH: they stay. */
+ODHT_CALL uint32_t odht_b16_u64_init(
+    uint8_t *bytes, size_t bytes_len, size_t max_item_count, uint8_t percent)
+    ODHT_INLINE(b16_u64_init);
+
+/* OK: calls can be made on the bytes. A refusal, 1 to 9. Takes equally long for every table. */
+ODHT_CALL uint32_t odht_b16_u64_open(const uint8_t *bytes, size_t bytes_len)
+    ODHT_INLINE(b16_u64_open);
+
+/* OK: the bytes are valid to the last one. A refusal, 1 to 16. Goes over all slots. */
+ODHT_CALL uint32_t odht_b16_u64_check(const uint8_t *bytes, size_t bytes_len)
+    ODHT_INLINE(b16_u64_check);
+
+/* OK: *count is the number of items that the header states. A refusal, 1 to 7: it stays. */
+ODHT_CALL uint32_t odht_b16_u64_len(const uint8_t *bytes, size_t bytes_len, size_t *count)
+    ODHT_INLINE(b16_u64_len);
+
+/* OK: the numbers of the header: how many slots, how many items these take at most, and the load
+   factor in percent, rounded down. A refusal, 1 to 7: they stay. */
+ODHT_CALL uint32_t odht_b16_u64_sizes(
+    const uint8_t *bytes, size_t bytes_len, size_t *slots, size_t *max_item_count, uint8_t *percent)
+    ODHT_INLINE(b16_u64_sizes);
+
+/* OK: the slots that hold a pair, in an order of inserts. UNMADE: no inserts make the table, and
+   the numbers in slots say nothing. BAD_LENGTHS, or a refusal, 1 to 16: slots stay. */
+ODHT_CALL uint32_t odht_b16_u64_insert_order(
+    const uint8_t *bytes, size_t bytes_len, size_t *slots, size_t slots_len)
+    ODHT_INLINE(b16_u64_insert_order);
+
+/* OK: the first *len bytes of out are the grown table. TOO_SMALL: out_len is below *len, and out
+   stays. A refusal, 1 to 7, LOAD_FACTOR_TOO_SMALL, CAPACITY: *len stays too. */
+ODHT_CALL uint32_t odht_b16_u64_grow(
+    const uint8_t *bytes, size_t bytes_len, uint8_t *out, size_t out_len, size_t *len)
+    ODHT_INLINE(b16_u64_grow);
+
+/* OK: *view is the view of the bytes. A refusal, 1 to 9: it stays. */
+ODHT_CALL uint32_t odht_b16_u64_open_view(const uint8_t *bytes, size_t bytes_len, odht_view *view)
+    ODHT_INLINE(b16_u64_open_view);
+
+/* The number of items that the header states. */
+ODHT_CALL size_t odht_b16_u64_view_len(const odht_view *view)
+    ODHT_INLINE(b16_u64_view_len);
+
+#if ODHT_TAKES_NULL
+/* The symbols of the library, then the functions around them. */
+uint32_t odht_symbol_b16_u64_bytes_needed(size_t max_item_count, uint8_t percent, size_t *len)
+    ODHT_SYMBOL(b16_u64_bytes_needed);
+uint32_t odht_symbol_b16_u64_init(
+    uint8_t *bytes, size_t bytes_len, size_t max_item_count, uint8_t percent)
+    ODHT_SYMBOL(b16_u64_init);
+uint32_t odht_symbol_b16_u64_open(const uint8_t *bytes, size_t bytes_len)
+    ODHT_SYMBOL(b16_u64_open);
+uint32_t odht_symbol_b16_u64_check(const uint8_t *bytes, size_t bytes_len)
+    ODHT_SYMBOL(b16_u64_check);
+uint32_t odht_symbol_b16_u64_len(const uint8_t *bytes, size_t bytes_len, size_t *count)
+    ODHT_SYMBOL(b16_u64_len);
+uint32_t odht_symbol_b16_u64_sizes(
+    const uint8_t *bytes, size_t bytes_len, size_t *slots, size_t *max_item_count, uint8_t *percent)
+    ODHT_SYMBOL(b16_u64_sizes);
+uint32_t odht_symbol_b16_u64_insert_order(
+    const uint8_t *bytes, size_t bytes_len, size_t *slots, size_t slots_len)
+    ODHT_SYMBOL(b16_u64_insert_order);
+uint32_t odht_symbol_b16_u64_grow(
+    const uint8_t *bytes, size_t bytes_len, uint8_t *out, size_t out_len, size_t *len)
+    ODHT_SYMBOL(b16_u64_grow);
+uint32_t odht_symbol_b16_u64_open_view(const uint8_t *bytes, size_t bytes_len, odht_view *view)
+    ODHT_SYMBOL(b16_u64_open_view);
+size_t odht_symbol_b16_u64_view_len(const odht_view *view)
+    ODHT_SYMBOL(b16_u64_view_len);
+
+static inline uint32_t odht_b16_u64_bytes_needed(
+    size_t max_item_count, uint8_t percent, size_t *len)
+{
+    size_t unwanted = 0;
+    return odht_symbol_b16_u64_bytes_needed(max_item_count, percent, len ? len : &unwanted);
+}
+
+static inline uint32_t odht_b16_u64_init(
+    uint8_t *bytes, size_t bytes_len, size_t max_item_count, uint8_t percent)
+{
+    return odht_symbol_b16_u64_init(
+        odht_write_uint8_t(bytes, bytes_len), bytes_len, max_item_count, percent);
+}
+
+static inline uint32_t odht_b16_u64_open(const uint8_t *bytes, size_t bytes_len)
+{
+    return odht_symbol_b16_u64_open(odht_read_uint8_t(bytes, bytes_len), bytes_len);
+}
+
+static inline uint32_t odht_b16_u64_check(const uint8_t *bytes, size_t bytes_len)
+{
+    return odht_symbol_b16_u64_check(odht_read_uint8_t(bytes, bytes_len), bytes_len);
+}
+
+static inline uint32_t odht_b16_u64_len(const uint8_t *bytes, size_t bytes_len, size_t *count)
+{
+    size_t unwanted = 0;
+    return odht_symbol_b16_u64_len(
+        odht_read_uint8_t(bytes, bytes_len), bytes_len, count ? count : &unwanted);
+}
+
+static inline uint32_t odht_b16_u64_sizes(
+    const uint8_t *bytes, size_t bytes_len, size_t *slots, size_t *max_item_count, uint8_t *percent)
+{
+    size_t unwanted[2] = { 0, 0 };
+    uint8_t unwanted_percent = 0;
+    return odht_symbol_b16_u64_sizes(
+        odht_read_uint8_t(bytes, bytes_len), bytes_len, slots ? slots : &unwanted[0],
+        max_item_count ? max_item_count : &unwanted[1], percent ? percent : &unwanted_percent);
+}
+
+static inline uint32_t odht_b16_u64_insert_order(
+    const uint8_t *bytes, size_t bytes_len, size_t *slots, size_t slots_len)
+{
+    return odht_symbol_b16_u64_insert_order(
+        odht_read_uint8_t(bytes, bytes_len), bytes_len, odht_write_size_t(slots, slots_len),
+        slots_len);
+}
+
+static inline uint32_t odht_b16_u64_grow(
+    const uint8_t *bytes, size_t bytes_len, uint8_t *out, size_t out_len, size_t *len)
+{
+    size_t unwanted = 0;
+    return odht_symbol_b16_u64_grow(
+        odht_read_uint8_t(bytes, bytes_len), bytes_len, odht_write_uint8_t(out, out_len), out_len,
+        len ? len : &unwanted);
+}
+
+static inline uint32_t odht_b16_u64_open_view(
+    const uint8_t *bytes, size_t bytes_len, odht_view *view)
+{
+    odht_view opened = ODHT_NO_VIEW;
+    uint32_t status = odht_symbol_b16_u64_open_view(
+        odht_read_uint8_t(bytes, bytes_len), bytes_len, &opened);
+    if (status == ODHT_OK)
+        *view = opened;
+    return status;
+}
+
+static inline size_t odht_b16_u64_view_len(const odht_view *view)
+{
+    return odht_symbol_b16_u64_view_len(view);
+}
+#endif
+
+/* OK: *value is the value. ABSENT, or a refusal, 1 to 7: *value stays. */
+ODHT_CALL uint32_t odht_b16_u64_get(
+    const uint8_t *bytes, size_t bytes_len, const uint8_t key[16], uint64_t *value)
+    ODHT_INLINE(b16_u64_get);
+
+/* OK: found[i] is 1 and values[i] the value, or found[i] is 0 and values[i] as it was.
+   BAD_LENGTHS, or a refusal, 1 to 7: both arrays stay. */
+ODHT_CALL uint32_t odht_b16_u64_get_all(
+    const uint8_t *bytes, size_t bytes_len, const uint8_t *keys, size_t keys_len,
+    uint64_t *values, size_t values_len, uint8_t *found, size_t found_len)
+    ODHT_INLINE(b16_u64_get_all);
+
+/* OK: the key was new. REPLACED: *former is the former value. FULL, or a refusal, 1 to 7: nothing
+   changes. */
+ODHT_CALL uint32_t odht_b16_u64_insert(
+    uint8_t *bytes, size_t bytes_len, const uint8_t key[16], uint64_t value, uint64_t *former)
+    ODHT_INLINE(b16_u64_insert);
+
+/* OK or FULL: *accepted pairs are inserted. BAD_LENGTHS, or a refusal, 1 to 7: nothing changes. */
+ODHT_CALL uint32_t odht_b16_u64_insert_all(
+    uint8_t *bytes, size_t bytes_len, const uint8_t *keys, size_t keys_len,
+    const uint64_t *values, size_t values_len, size_t *accepted)
+    ODHT_INLINE(b16_u64_insert_all);
+
+/* OK: the last *count pairs, from slot *cursor on. TOO_SMALL: the arrays are full, there are more,
+   and *cursor is where to go on. BAD_LENGTHS, or a refusal, 1 to 7: nothing is written. */
+ODHT_CALL uint32_t odht_b16_u64_walk(
+    const uint8_t *bytes, size_t bytes_len, size_t *cursor, uint8_t *keys, size_t keys_len,
+    uint64_t *values, size_t values_len, size_t *count)
+    ODHT_INLINE(b16_u64_walk);
+
+/* OK: *value is the value. ABSENT: it stays. */
+ODHT_CALL uint32_t odht_b16_u64_view_get(
+    const odht_view *view, const uint8_t key[16], uint64_t *value)
+    ODHT_INLINE(b16_u64_view_get);
+
+/* OK: found[i] is 1 and values[i] the value, or found[i] is 0 and values[i] as it was.
+   BAD_LENGTHS: both arrays stay. */
+ODHT_CALL uint32_t odht_b16_u64_view_get_all(
+    const odht_view *view, const uint8_t *keys, size_t keys_len, uint64_t *values,
+    size_t values_len, uint8_t *found, size_t found_len)
+    ODHT_INLINE(b16_u64_view_get_all);
+
+/* OK: the table is the first *len bytes of out. TOO_SMALL: out_len is below *len, the length that
+   it has. CAPACITY, BAD_PERCENT, BAD_LENGTHS: *len stays. With all but OK out stays. */
+ODHT_CALL uint32_t odht_b16_u64_build(
+    const uint8_t *keys, size_t keys_len, const uint64_t *values, size_t values_len,
+    uint8_t percent, uint8_t *out, size_t out_len, size_t *len)
+    ODHT_INLINE(b16_u64_build);
+
+/* OK, TOO_SMALL and BAD_LENGTHS as there. MEMORY: out and *len stay. */
+ODHT_CALL uint32_t odht_b16_u64_build_growing(
+    const uint8_t *keys, size_t keys_len, const uint64_t *values, size_t values_len,
+    uint8_t *out, size_t out_len, size_t *len)
+    ODHT_INLINE(b16_u64_build_growing);
+
+#if ODHT_TAKES_NULL
+/* The symbols of the library, then the functions around them. */
+uint32_t odht_symbol_b16_u64_get(
+    const uint8_t *bytes, size_t bytes_len, const uint8_t key[16], uint64_t *value)
+    ODHT_SYMBOL(b16_u64_get);
+uint32_t odht_symbol_b16_u64_get_all(
+    const uint8_t *bytes, size_t bytes_len, const uint8_t *keys, size_t keys_len,
+    uint64_t *values, size_t values_len, uint8_t *found, size_t found_len)
+    ODHT_SYMBOL(b16_u64_get_all);
+uint32_t odht_symbol_b16_u64_insert(
+    uint8_t *bytes, size_t bytes_len, const uint8_t key[16], uint64_t value, uint64_t *former)
+    ODHT_SYMBOL(b16_u64_insert);
+uint32_t odht_symbol_b16_u64_insert_all(
+    uint8_t *bytes, size_t bytes_len, const uint8_t *keys, size_t keys_len,
+    const uint64_t *values, size_t values_len, size_t *accepted)
+    ODHT_SYMBOL(b16_u64_insert_all);
+uint32_t odht_symbol_b16_u64_walk(
+    const uint8_t *bytes, size_t bytes_len, size_t *cursor, uint8_t *keys, size_t keys_len,
+    uint64_t *values, size_t values_len, size_t *count)
+    ODHT_SYMBOL(b16_u64_walk);
+uint32_t odht_symbol_b16_u64_view_get(
+    const odht_view *view, const uint8_t key[16], uint64_t *value)
+    ODHT_SYMBOL(b16_u64_view_get);
+uint32_t odht_symbol_b16_u64_view_get_all(
+    const odht_view *view, const uint8_t *keys, size_t keys_len, uint64_t *values,
+    size_t values_len, uint8_t *found, size_t found_len)
+    ODHT_SYMBOL(b16_u64_view_get_all);
+uint32_t odht_symbol_b16_u64_build(
+    const uint8_t *keys, size_t keys_len, const uint64_t *values, size_t values_len,
+    uint8_t percent, uint8_t *out, size_t out_len, size_t *len)
+    ODHT_SYMBOL(b16_u64_build);
+uint32_t odht_symbol_b16_u64_build_growing(
+    const uint8_t *keys, size_t keys_len, const uint64_t *values, size_t values_len,
+    uint8_t *out, size_t out_len, size_t *len)
+    ODHT_SYMBOL(b16_u64_build_growing);
+
+static inline uint32_t odht_b16_u64_get(
+    const uint8_t *bytes, size_t bytes_len, const uint8_t key[16], uint64_t *value)
+{
+    uint64_t unwanted = 0;
+    return odht_symbol_b16_u64_get(
+        odht_read_uint8_t(bytes, bytes_len), bytes_len, key, value ? value : &unwanted);
+}
+
+static inline uint32_t odht_b16_u64_get_all(
+    const uint8_t *bytes, size_t bytes_len, const uint8_t *keys, size_t keys_len,
+    uint64_t *values, size_t values_len, uint8_t *found, size_t found_len)
+{
+    return odht_symbol_b16_u64_get_all(
+        odht_read_uint8_t(bytes, bytes_len), bytes_len, odht_read_uint8_t(keys, keys_len),
+        keys_len, odht_write_uint64_t(values, values_len), values_len,
+        odht_write_uint8_t(found, found_len), found_len);
+}
+
+static inline uint32_t odht_b16_u64_insert(
+    uint8_t *bytes, size_t bytes_len, const uint8_t key[16], uint64_t value, uint64_t *former)
+{
+    uint64_t unwanted = 0;
+    return odht_symbol_b16_u64_insert(
+        odht_write_uint8_t(bytes, bytes_len), bytes_len, key, value, former ? former : &unwanted);
+}
+
+static inline uint32_t odht_b16_u64_insert_all(
+    uint8_t *bytes, size_t bytes_len, const uint8_t *keys, size_t keys_len,
+    const uint64_t *values, size_t values_len, size_t *accepted)
+{
+    size_t unwanted = 0;
+    return odht_symbol_b16_u64_insert_all(
+        odht_write_uint8_t(bytes, bytes_len), bytes_len, odht_read_uint8_t(keys, keys_len),
+        keys_len, odht_read_uint64_t(values, values_len), values_len,
+        accepted ? accepted : &unwanted);
+}
+
+static inline uint32_t odht_b16_u64_walk(
+    const uint8_t *bytes, size_t bytes_len, size_t *cursor, uint8_t *keys, size_t keys_len,
+    uint64_t *values, size_t values_len, size_t *count)
+{
+    size_t unwanted = 0;
+    return odht_symbol_b16_u64_walk(
+        odht_read_uint8_t(bytes, bytes_len), bytes_len, cursor,
+        odht_write_uint8_t(keys, keys_len), keys_len, odht_write_uint64_t(values, values_len),
+        values_len, count ? count : &unwanted);
+}
+
+static inline uint32_t odht_b16_u64_view_get(
+    const odht_view *view, const uint8_t key[16], uint64_t *value)
+{
+    uint64_t unwanted = 0;
+    return odht_symbol_b16_u64_view_get(view, key, value ? value : &unwanted);
+}
+
+static inline uint32_t odht_b16_u64_view_get_all(
+    const odht_view *view, const uint8_t *keys, size_t keys_len, uint64_t *values,
+    size_t values_len, uint8_t *found, size_t found_len)
+{
+    return odht_symbol_b16_u64_view_get_all(
+        view, odht_read_uint8_t(keys, keys_len), keys_len,
+        odht_write_uint64_t(values, values_len), values_len, odht_write_uint8_t(found, found_len),
+        found_len);
+}
+
+static inline uint32_t odht_b16_u64_build(
+    const uint8_t *keys, size_t keys_len, const uint64_t *values, size_t values_len,
+    uint8_t percent, uint8_t *out, size_t out_len, size_t *len)
+{
+    size_t unwanted = 0;
+    return odht_symbol_b16_u64_build(
+        odht_read_uint8_t(keys, keys_len), keys_len, odht_read_uint64_t(values, values_len),
+        values_len, percent, odht_write_uint8_t(out, out_len), out_len, len ? len : &unwanted);
+}
+
+static inline uint32_t odht_b16_u64_build_growing(
+    const uint8_t *keys, size_t keys_len, const uint64_t *values, size_t values_len,
+    uint8_t *out, size_t out_len, size_t *len)
+{
+    size_t unwanted = 0;
+    return odht_symbol_b16_u64_build_growing(
+        odht_read_uint8_t(keys, keys_len), keys_len, odht_read_uint64_t(values, values_len),
+        values_len, odht_write_uint8_t(out, out_len), out_len, len ? len : &unwanted);
+}
+#endif
+
+/* ---- odht_b20_u64_*: from hashes of 20 bytes to 64-bit numbers, UnHashFn ---- */
+
+/* OK: *len is the length in bytes of a table for so many items. BAD_PERCENT. CAPACITY. */
+ODHT_CALL uint32_t odht_b20_u64_bytes_needed(size_t max_item_count, uint8_t percent, size_t *len)
+    ODHT_INLINE(b20_u64_bytes_needed);
+
+/* OK: the bytes are an empty table. BAD_PERCENT, CAPACITY, INIT_LENGTH: they stay. */
+ODHT_CALL uint32_t odht_b20_u64_init(
+    uint8_t *bytes, size_t bytes_len, size_t max_item_count, uint8_t percent)
+    ODHT_INLINE(b20_u64_init);
+
+/* OK: calls can be made on the bytes. A refusal, 1 to 9. Takes equally long for every table. */
+ODHT_CALL uint32_t odht_b20_u64_open(const uint8_t *bytes, size_t bytes_len)
+    ODHT_INLINE(b20_u64_open);
+
+/* OK: the bytes are valid to the last one. A refusal, 1 to 16. Goes over all slots. */
+ODHT_CALL uint32_t odht_b20_u64_check(const uint8_t *bytes, size_t bytes_len)
+    ODHT_INLINE(b20_u64_check);
+
+/* OK: *count is the number of items that the header states. A refusal, 1 to 7: it stays. */
+ODHT_CALL uint32_t odht_b20_u64_len(const uint8_t *bytes, size_t bytes_len, size_t *count)
+    ODHT_INLINE(b20_u64_len);
+
+/* OK: the numbers of the header: how many slots, how many items these take at most, and the load
+   factor in percent, rounded down. A refusal, 1 to 7: they stay. */
+ODHT_CALL uint32_t odht_b20_u64_sizes(
+    const uint8_t *bytes, size_t bytes_len, size_t *slots, size_t *max_item_count, uint8_t *percent)
+    ODHT_INLINE(b20_u64_sizes);
+
+/* OK: the slots that hold a pair, in an order of inserts. UNMADE: no inserts make the table, and
+   the numbers in slots say nothing. BAD_LENGTHS, or a refusal, 1 to 16: slots stay. */
+ODHT_CALL uint32_t odht_b20_u64_insert_order(
+    const uint8_t *bytes, size_t bytes_len, size_t *slots, size_t slots_len)
+    ODHT_INLINE(b20_u64_insert_order);
+
+/* OK: the first *len bytes of out are the grown table. TOO_SMALL: out_len is below *len, and out
+   stays. A refusal, 1 to 7, LOAD_FACTOR_TOO_SMALL, CAPACITY: *len stays too. */
+ODHT_CALL uint32_t odht_b20_u64_grow(
+    const uint8_t *bytes, size_t bytes_len, uint8_t *out, size_t out_len, size_t *len)
+    ODHT_INLINE(b20_u64_grow);
+
+/* OK: *view is the view of the bytes. A refusal, 1 to 9: it stays. */
+ODHT_CALL uint32_t odht_b20_u64_open_view(const uint8_t *bytes, size_t bytes_len, odht_view *view)
+    ODHT_INLINE(b20_u64_open_view);
+
+/* The number of items that the header states. */
+ODHT_CALL size_t odht_b20_u64_view_len(const odht_view *view)
+    ODHT_INLINE(b20_u64_view_len);
+
+#if ODHT_TAKES_NULL
+/* The symbols of the library, then the functions around them. */
+uint32_t odht_symbol_b20_u64_bytes_needed(size_t max_item_count, uint8_t percent, size_t *len)
+    ODHT_SYMBOL(b20_u64_bytes_needed);
+uint32_t odht_symbol_b20_u64_init(
+    uint8_t *bytes, size_t bytes_len, size_t max_item_count, uint8_t percent)
+    ODHT_SYMBOL(b20_u64_init);
+uint32_t odht_symbol_b20_u64_open(const uint8_t *bytes, size_t bytes_len)
+    ODHT_SYMBOL(b20_u64_open);
+uint32_t odht_symbol_b20_u64_check(const uint8_t *bytes, size_t bytes_len)
+    ODHT_SYMBOL(b20_u64_check);
+uint32_t odht_symbol_b20_u64_len(const uint8_t *bytes, size_t bytes_len, size_t *count)
+    ODHT_SYMBOL(b20_u64_len);
+uint32_t odht_symbol_b20_u64_sizes(
+    const uint8_t *bytes, size_t bytes_len, size_t *slots, size_t *max_item_count, uint8_t *percent)
+    ODHT_SYMBOL(b20_u64_sizes);
+uint32_t odht_symbol_b20_u64_insert_order(
+    const uint8_t *bytes, size_t bytes_len, size_t *slots, size_t slots_len)
+    ODHT_SYMBOL(b20_u64_insert_order);
+uint32_t odht_symbol_b20_u64_grow(
+    const uint8_t *bytes, size_t bytes_len, uint8_t *out, size_t out_len, size_t *len)
+    ODHT_SYMBOL(b20_u64_grow);
+uint32_t odht_symbol_b20_u64_open_view(const uint8_t *bytes, size_t bytes_len, odht_view *view)
+    ODHT_SYMBOL(b20_u64_open_view);
+size_t odht_symbol_b20_u64_view_len(const odht_view *view)
+    ODHT_SYMBOL(b20_u64_view_len);
+
+static inline uint32_t odht_b20_u64_bytes_needed(
+    size_t max_item_count, uint8_t percent, size_t *len)
+{
+    size_t unwanted = 0;
+    return odht_symbol_b20_u64_bytes_needed(max_item_count, percent, len ? len : &unwanted);
+}
+
+static inline uint32_t odht_b20_u64_init(
+    uint8_t *bytes, size_t bytes_len, size_t max_item_count, uint8_t percent)
+{
+    return odht_symbol_b20_u64_init(
+        odht_write_uint8_t(bytes, bytes_len), bytes_len, max_item_count, percent);
+}
+
+static inline uint32_t odht_b20_u64_open(const uint8_t *bytes, size_t bytes_len)
+{
+    return odht_symbol_b20_u64_open(odht_read_uint8_t(bytes, bytes_len), bytes_len);
+}
+
+static inline uint32_t odht_b20_u64_check(const uint8_t *bytes, size_t bytes_len)
+{
+    return odht_symbol_b20_u64_check(odht_read_uint8_t(bytes, bytes_len), bytes_len);
+}
+
+static inline uint32_t odht_b20_u64_len(const uint8_t *bytes, size_t bytes_len, size_t *count)
+{
+    size_t unwanted = 0;
+    return odht_symbol_b20_u64_len(
+        odht_read_uint8_t(bytes, bytes_len), bytes_len, count ? count : &unwanted);
+}
+
+static inline uint32_t odht_b20_u64_sizes(
+    const uint8_t *bytes, size_t bytes_len, size_t *slots, size_t *max_item_count, uint8_t *percent)
+{
+    size_t unwanted[2] = { 0, 0 };
+    uint8_t unwanted_percent = 0;
+    return odht_symbol_b20_u64_sizes(
+        odht_read_uint8_t(bytes, bytes_len), bytes_len, slots ? slots : &unwanted[0],
+        max_item_count ? max_item_count : &unwanted[1], percent ? percent : &unwanted_percent);
+}
+
+static inline uint32_t odht_b20_u64_insert_order(
+    const uint8_t *bytes, size_t bytes_len, size_t *slots, size_t slots_len)
+{
+    return odht_symbol_b20_u64_insert_order(
+        odht_read_uint8_t(bytes, bytes_len), bytes_len, odht_write_size_t(slots, slots_len),
+        slots_len);
+}
+
+static inline uint32_t odht_b20_u64_grow(
+    const uint8_t *bytes, size_t bytes_len, uint8_t *out, size_t out_len, size_t *len)
+{
+    size_t unwanted = 0;
+    return odht_symbol_b20_u64_grow(
+        odht_read_uint8_t(bytes, bytes_len), bytes_len, odht_write_uint8_t(out, out_len), out_len,
+        len ? len : &unwanted);
+}
+
+static inline uint32_t odht_b20_u64_open_view(
+    const uint8_t *bytes, size_t bytes_len, odht_view *view)
+{
+    odht_view opened = ODHT_NO_VIEW;
+    uint32_t status = odht_symbol_b20_u64_open_view(
+        odht_read_uint8_t(bytes, bytes_len), bytes_len, &opened);
+    if (status == ODHT_OK)
+        *view = opened;
+    return status;
+}
+
+static inline size_t odht_b20_u64_view_len(const odht_view *view)
+{
+    return odht_symbol_b20_u64_view_len(view);
+}
+#endif
+
+/* OK: *value is the value. ABSENT, or a refusal, 1 to 7: *value stays. */
+ODHT_CALL uint32_t odht_b20_u64_get(
+    const uint8_t *bytes, size_t bytes_len, const uint8_t key[20], uint64_t *value)
+    ODHT_INLINE(b20_u64_get);
+
+/* OK: found[i] is 1 and values[i] the value, or found[i] is 0 and values[i] as it was.
+   BAD_LENGTHS, or a refusal, 1 to 7: both arrays stay. */
+ODHT_CALL uint32_t odht_b20_u64_get_all(
+    const uint8_t *bytes, size_t bytes_len, const uint8_t *keys, size_t keys_len,
+    uint64_t *values, size_t values_len, uint8_t *found, size_t found_len)
+    ODHT_INLINE(b20_u64_get_all);
+
+/* OK: the key was new. REPLACED: *former is the former value. FULL, or a refusal, 1 to 7: nothing
+   changes. */
+ODHT_CALL uint32_t odht_b20_u64_insert(
+    uint8_t *bytes, size_t bytes_len, const uint8_t key[20], uint64_t value, uint64_t *former)
+    ODHT_INLINE(b20_u64_insert);
+
+/* OK or FULL: *accepted pairs are inserted. BAD_LENGTHS, or a refusal, 1 to 7: nothing changes. */
+ODHT_CALL uint32_t odht_b20_u64_insert_all(
+    uint8_t *bytes, size_t bytes_len, const uint8_t *keys, size_t keys_len,
+    const uint64_t *values, size_t values_len, size_t *accepted)
+    ODHT_INLINE(b20_u64_insert_all);
+
+/* OK: the last *count pairs, from slot *cursor on. TOO_SMALL: the arrays are full, there are more,
+   and *cursor is where to go on. BAD_LENGTHS, or a refusal, 1 to 7: nothing is written. */
+ODHT_CALL uint32_t odht_b20_u64_walk(
+    const uint8_t *bytes, size_t bytes_len, size_t *cursor, uint8_t *keys, size_t keys_len,
+    uint64_t *values, size_t values_len, size_t *count)
+    ODHT_INLINE(b20_u64_walk);
+
+/* OK: *value is the value. ABSENT: it stays. */
+ODHT_CALL uint32_t odht_b20_u64_view_get(
+    const odht_view *view, const uint8_t key[20], uint64_t *value)
+    ODHT_INLINE(b20_u64_view_get);
+
+/* OK: found[i] is 1 and values[i] the value, or found[i] is 0 and values[i] as it was.
+   BAD_LENGTHS: both arrays stay. */
+ODHT_CALL uint32_t odht_b20_u64_view_get_all(
+    const odht_view *view, const uint8_t *keys, size_t keys_len, uint64_t *values,
+    size_t values_len, uint8_t *found, size_t found_len)
+    ODHT_INLINE(b20_u64_view_get_all);
+
+/* OK: the table is the first *len bytes of out. TOO_SMALL: out_len is below *len, the length that
+   it has. CAPACITY, BAD_PERCENT, BAD_LENGTHS: *len stays. With all but OK out stays. */
+ODHT_CALL uint32_t odht_b20_u64_build(
+    const uint8_t *keys, size_t keys_len, const uint64_t *values, size_t values_len,
+    uint8_t percent, uint8_t *out, size_t out_len, size_t *len)
+    ODHT_INLINE(b20_u64_build);
+
+/* OK, TOO_SMALL and BAD_LENGTHS as there. MEMORY: out and *len stay. */
+ODHT_CALL uint32_t odht_b20_u64_build_growing(
+    const uint8_t *keys, size_t keys_len, const uint64_t *values, size_t values_len,
+    uint8_t *out, size_t out_len, size_t *len)
+    ODHT_INLINE(b20_u64_build_growing);
+
+#if ODHT_TAKES_NULL
+/* The symbols of the library, then the functions around them. */
+uint32_t odht_symbol_b20_u64_get(
+    const uint8_t *bytes, size_t bytes_len, const uint8_t key[20], uint64_t *value)
+    ODHT_SYMBOL(b20_u64_get);
+uint32_t odht_symbol_b20_u64_get_all(
+    const uint8_t *bytes, size_t bytes_len, const uint8_t *keys, size_t keys_len,
+    uint64_t *values, size_t values_len, uint8_t *found, size_t found_len)
+    ODHT_SYMBOL(b20_u64_get_all);
+uint32_t odht_symbol_b20_u64_insert(
+    uint8_t *bytes, size_t bytes_len, const uint8_t key[20], uint64_t value, uint64_t *former)
+    ODHT_SYMBOL(b20_u64_insert);
+uint32_t odht_symbol_b20_u64_insert_all(
+    uint8_t *bytes, size_t bytes_len, const uint8_t *keys, size_t keys_len,
+    const uint64_t *values, size_t values_len, size_t *accepted)
+    ODHT_SYMBOL(b20_u64_insert_all);
+uint32_t odht_symbol_b20_u64_walk(
+    const uint8_t *bytes, size_t bytes_len, size_t *cursor, uint8_t *keys, size_t keys_len,
+    uint64_t *values, size_t values_len, size_t *count)
+    ODHT_SYMBOL(b20_u64_walk);
+uint32_t odht_symbol_b20_u64_view_get(
+    const odht_view *view, const uint8_t key[20], uint64_t *value)
+    ODHT_SYMBOL(b20_u64_view_get);
+uint32_t odht_symbol_b20_u64_view_get_all(
+    const odht_view *view, const uint8_t *keys, size_t keys_len, uint64_t *values,
+    size_t values_len, uint8_t *found, size_t found_len)
+    ODHT_SYMBOL(b20_u64_view_get_all);
+uint32_t odht_symbol_b20_u64_build(
+    const uint8_t *keys, size_t keys_len, const uint64_t *values, size_t values_len,
+    uint8_t percent, uint8_t *out, size_t out_len, size_t *len)
+    ODHT_SYMBOL(b20_u64_build);
+uint32_t odht_symbol_b20_u64_build_growing(
+    const uint8_t *keys, size_t keys_len, const uint64_t *values, size_t values_len,
+    uint8_t *out, size_t out_len, size_t *len)
+    ODHT_SYMBOL(b20_u64_build_growing);
+
+static inline uint32_t odht_b20_u64_get(
+    const uint8_t *bytes, size_t bytes_len, const uint8_t key[20], uint64_t *value)
+{
+    uint64_t unwanted = 0;
+    return odht_symbol_b20_u64_get(
+        odht_read_uint8_t(bytes, bytes_len), bytes_len, key, value ? value : &unwanted);
+}
+
+static inline uint32_t odht_b20_u64_get_all(
+    const uint8_t *bytes, size_t bytes_len, const uint8_t *keys, size_t keys_len,
+    uint64_t *values, size_t values_len, uint8_t *found, size_t found_len)
+{
+    return odht_symbol_b20_u64_get_all(
+        odht_read_uint8_t(bytes, bytes_len), bytes_len, odht_read_uint8_t(keys, keys_len),
+        keys_len, odht_write_uint64_t(values, values_len), values_len,
+        odht_write_uint8_t(found, found_len), found_len);
+}
+
+static inline uint32_t odht_b20_u64_insert(
+    uint8_t *bytes, size_t bytes_len, const uint8_t key[20], uint64_t value, uint64_t *former)
+{
+    uint64_t unwanted = 0;
+    return odht_symbol_b20_u64_insert(
+        odht_write_uint8_t(bytes, bytes_len), bytes_len, key, value, former ? former : &unwanted);
+}
+
+static inline uint32_t odht_b20_u64_insert_all(
+    uint8_t *bytes, size_t bytes_len, const uint8_t *keys, size_t keys_len,
+    const uint64_t *values, size_t values_len, size_t *accepted)
+{
+    size_t unwanted = 0;
+    return odht_symbol_b20_u64_insert_all(
+        odht_write_uint8_t(bytes, bytes_len), bytes_len, odht_read_uint8_t(keys, keys_len),
+        keys_len, odht_read_uint64_t(values, values_len), values_len,
+        accepted ? accepted : &unwanted);
+}
+
+static inline uint32_t odht_b20_u64_walk(
+    const uint8_t *bytes, size_t bytes_len, size_t *cursor, uint8_t *keys, size_t keys_len,
+    uint64_t *values, size_t values_len, size_t *count)
+{
+    size_t unwanted = 0;
+    return odht_symbol_b20_u64_walk(
+        odht_read_uint8_t(bytes, bytes_len), bytes_len, cursor,
+        odht_write_uint8_t(keys, keys_len), keys_len, odht_write_uint64_t(values, values_len),
+        values_len, count ? count : &unwanted);
+}
+
+static inline uint32_t odht_b20_u64_view_get(
+    const odht_view *view, const uint8_t key[20], uint64_t *value)
+{
+    uint64_t unwanted = 0;
+    return odht_symbol_b20_u64_view_get(view, key, value ? value : &unwanted);
+}
+
+static inline uint32_t odht_b20_u64_view_get_all(
+    const odht_view *view, const uint8_t *keys, size_t keys_len, uint64_t *values,
+    size_t values_len, uint8_t *found, size_t found_len)
+{
+    return odht_symbol_b20_u64_view_get_all(
+        view, odht_read_uint8_t(keys, keys_len), keys_len,
+        odht_write_uint64_t(values, values_len), values_len, odht_write_uint8_t(found, found_len),
+        found_len);
+}
+
+static inline uint32_t odht_b20_u64_build(
+    const uint8_t *keys, size_t keys_len, const uint64_t *values, size_t values_len,
+    uint8_t percent, uint8_t *out, size_t out_len, size_t *len)
+{
+    size_t unwanted = 0;
+    return odht_symbol_b20_u64_build(
+        odht_read_uint8_t(keys, keys_len), keys_len, odht_read_uint64_t(values, values_len),
+        values_len, percent, odht_write_uint8_t(out, out_len), out_len, len ? len : &unwanted);
+}
+
+static inline uint32_t odht_b20_u64_build_growing(
+    const uint8_t *keys, size_t keys_len, const uint64_t *values, size_t values_len,
+    uint8_t *out, size_t out_len, size_t *len)
+{
+    size_t unwanted = 0;
+    return odht_symbol_b20_u64_build_growing(
+        odht_read_uint8_t(keys, keys_len), keys_len, odht_read_uint64_t(values, values_len),
+        values_len, odht_write_uint8_t(out, out_len), out_len, len ? len : &unwanted);
+}
+#endif
+
+/* ---- odht_b32_u64_*: from hashes of 32 bytes to 64-bit numbers, UnHashFn ---- */
+
+/* OK: *len is the length in bytes of a table for so many items. BAD_PERCENT. CAPACITY. */
+ODHT_CALL uint32_t odht_b32_u64_bytes_needed(size_t max_item_count, uint8_t percent, size_t *len)
+    ODHT_INLINE(b32_u64_bytes_needed);
+
+/* OK: the bytes are an empty table. BAD_PERCENT, CAPACITY, INIT_LENGTH: they stay. */
+ODHT_CALL uint32_t odht_b32_u64_init(
+    uint8_t *bytes, size_t bytes_len, size_t max_item_count, uint8_t percent)
+    ODHT_INLINE(b32_u64_init);
+
+/* OK: calls can be made on the bytes. A refusal, 1 to 9. Takes equally long for every table. */
+ODHT_CALL uint32_t odht_b32_u64_open(const uint8_t *bytes, size_t bytes_len)
+    ODHT_INLINE(b32_u64_open);
+
+/* OK: the bytes are valid to the last one. A refusal, 1 to 16. Goes over all slots. */
+ODHT_CALL uint32_t odht_b32_u64_check(const uint8_t *bytes, size_t bytes_len)
+    ODHT_INLINE(b32_u64_check);
+
+/* OK: *count is the number of items that the header states. A refusal, 1 to 7: it stays. */
+ODHT_CALL uint32_t odht_b32_u64_len(const uint8_t *bytes, size_t bytes_len, size_t *count)
+    ODHT_INLINE(b32_u64_len);
+
+/* OK: the numbers of the header: how many slots, how many items these take at most, and the load
+   factor in percent, rounded down. A refusal, 1 to 7: they stay. */
+ODHT_CALL uint32_t odht_b32_u64_sizes(
+    const uint8_t *bytes, size_t bytes_len, size_t *slots, size_t *max_item_count, uint8_t *percent)
+    ODHT_INLINE(b32_u64_sizes);
+
+/* OK: the slots that hold a pair, in an order of inserts. UNMADE: no inserts make the table, and
+   the numbers in slots say nothing. BAD_LENGTHS, or a refusal, 1 to 16: slots stay. */
+ODHT_CALL uint32_t odht_b32_u64_insert_order(
+    const uint8_t *bytes, size_t bytes_len, size_t *slots, size_t slots_len)
+    ODHT_INLINE(b32_u64_insert_order);
+
+/* OK: the first *len bytes of out are the grown table. TOO_SMALL: out_len is below *len, and out
+   stays. A refusal, 1 to 7, LOAD_FACTOR_TOO_SMALL, CAPACITY: *len stays too. */
+ODHT_CALL uint32_t odht_b32_u64_grow(
+    const uint8_t *bytes, size_t bytes_len, uint8_t *out, size_t out_len, size_t *len)
+    ODHT_INLINE(b32_u64_grow);
+
+/* OK: *view is the view of the bytes. A refusal, 1 to 9: it stays. */
+ODHT_CALL uint32_t odht_b32_u64_open_view(const uint8_t *bytes, size_t bytes_len, odht_view *view)
+    ODHT_INLINE(b32_u64_open_view);
+
+/* The number of items that the header states. */
+ODHT_CALL size_t odht_b32_u64_view_len(const odht_view *view)
+    ODHT_INLINE(b32_u64_view_len);
+
+#if ODHT_TAKES_NULL
+/* The symbols of the library, then the functions around them. */
+uint32_t odht_symbol_b32_u64_bytes_needed(size_t max_item_count, uint8_t percent, size_t *len)
+    ODHT_SYMBOL(b32_u64_bytes_needed);
+uint32_t odht_symbol_b32_u64_init(
+    uint8_t *bytes, size_t bytes_len, size_t max_item_count, uint8_t percent)
+    ODHT_SYMBOL(b32_u64_init);
+uint32_t odht_symbol_b32_u64_open(const uint8_t *bytes, size_t bytes_len)
+    ODHT_SYMBOL(b32_u64_open);
+uint32_t odht_symbol_b32_u64_check(const uint8_t *bytes, size_t bytes_len)
+    ODHT_SYMBOL(b32_u64_check);
+uint32_t odht_symbol_b32_u64_len(const uint8_t *bytes, size_t bytes_len, size_t *count)
+    ODHT_SYMBOL(b32_u64_len);
+uint32_t odht_symbol_b32_u64_sizes(
+    const uint8_t *bytes, size_t bytes_len, size_t *slots, size_t *max_item_count, uint8_t *percent)
+    ODHT_SYMBOL(b32_u64_sizes);
+uint32_t odht_symbol_b32_u64_insert_order(
+    const uint8_t *bytes, size_t bytes_len, size_t *slots, size_t slots_len)
+    ODHT_SYMBOL(b32_u64_insert_order);
+uint32_t odht_symbol_b32_u64_grow(
+    const uint8_t *bytes, size_t bytes_len, uint8_t *out, size_t out_len, size_t *len)
+    ODHT_SYMBOL(b32_u64_grow);
+uint32_t odht_symbol_b32_u64_open_view(const uint8_t *bytes, size_t bytes_len, odht_view *view)
+    ODHT_SYMBOL(b32_u64_open_view);
+size_t odht_symbol_b32_u64_view_len(const odht_view *view)
+    ODHT_SYMBOL(b32_u64_view_len);
+
+static inline uint32_t odht_b32_u64_bytes_needed(
+    size_t max_item_count, uint8_t percent, size_t *len)
+{
+    size_t unwanted = 0;
+    return odht_symbol_b32_u64_bytes_needed(max_item_count, percent, len ? len : &unwanted);
+}
+
+static inline uint32_t odht_b32_u64_init(
+    uint8_t *bytes, size_t bytes_len, size_t max_item_count, uint8_t percent)
+{
+    return odht_symbol_b32_u64_init(
+        odht_write_uint8_t(bytes, bytes_len), bytes_len, max_item_count, percent);
+}
+
+static inline uint32_t odht_b32_u64_open(const uint8_t *bytes, size_t bytes_len)
+{
+    return odht_symbol_b32_u64_open(odht_read_uint8_t(bytes, bytes_len), bytes_len);
+}
+
+static inline uint32_t odht_b32_u64_check(const uint8_t *bytes, size_t bytes_len)
+{
+    return odht_symbol_b32_u64_check(odht_read_uint8_t(bytes, bytes_len), bytes_len);
+}
+
+static inline uint32_t odht_b32_u64_len(const uint8_t *bytes, size_t bytes_len, size_t *count)
+{
+    size_t unwanted = 0;
+    return odht_symbol_b32_u64_len(
+        odht_read_uint8_t(bytes, bytes_len), bytes_len, count ? count : &unwanted);
+}
+
+static inline uint32_t odht_b32_u64_sizes(
+    const uint8_t *bytes, size_t bytes_len, size_t *slots, size_t *max_item_count, uint8_t *percent)
+{
+    size_t unwanted[2] = { 0, 0 };
+    uint8_t unwanted_percent = 0;
+    return odht_symbol_b32_u64_sizes(
+        odht_read_uint8_t(bytes, bytes_len), bytes_len, slots ? slots : &unwanted[0],
+        max_item_count ? max_item_count : &unwanted[1], percent ? percent : &unwanted_percent);
+}
+
+static inline uint32_t odht_b32_u64_insert_order(
+    const uint8_t *bytes, size_t bytes_len, size_t *slots, size_t slots_len)
+{
+    return odht_symbol_b32_u64_insert_order(
+        odht_read_uint8_t(bytes, bytes_len), bytes_len, odht_write_size_t(slots, slots_len),
+        slots_len);
+}
+
+static inline uint32_t odht_b32_u64_grow(
+    const uint8_t *bytes, size_t bytes_len, uint8_t *out, size_t out_len, size_t *len)
+{
+    size_t unwanted = 0;
+    return odht_symbol_b32_u64_grow(
+        odht_read_uint8_t(bytes, bytes_len), bytes_len, odht_write_uint8_t(out, out_len), out_len,
+        len ? len : &unwanted);
+}
+
+static inline uint32_t odht_b32_u64_open_view(
+    const uint8_t *bytes, size_t bytes_len, odht_view *view)
+{
+    odht_view opened = ODHT_NO_VIEW;
+    uint32_t status = odht_symbol_b32_u64_open_view(
+        odht_read_uint8_t(bytes, bytes_len), bytes_len, &opened);
+    if (status == ODHT_OK)
+        *view = opened;
+    return status;
+}
+
+static inline size_t odht_b32_u64_view_len(const odht_view *view)
+{
+    return odht_symbol_b32_u64_view_len(view);
+}
+#endif
+
+/* OK: *value is the value. ABSENT, or a refusal, 1 to 7: *value stays. */
+ODHT_CALL uint32_t odht_b32_u64_get(
+    const uint8_t *bytes, size_t bytes_len, const uint8_t key[32], uint64_t *value)
+    ODHT_INLINE(b32_u64_get);
+
+/* OK: found[i] is 1 and values[i] the value, or found[i] is 0 and values[i] as it was.
+   BAD_LENGTHS, or a refusal, 1 to 7: both arrays stay. */
+ODHT_CALL uint32_t odht_b32_u64_get_all(
+    const uint8_t *bytes, size_t bytes_len, const uint8_t *keys, size_t keys_len,
+    uint64_t *values, size_t values_len, uint8_t *found, size_t found_len)
+    ODHT_INLINE(b32_u64_get_all);
+
+/* OK: the key was new. REPLACED: *former is the former value. FULL, or a refusal, 1 to 7: nothing
+   changes. */
+ODHT_CALL uint32_t odht_b32_u64_insert(
+    uint8_t *bytes, size_t bytes_len, const uint8_t key[32], uint64_t value, uint64_t *former)
+    ODHT_INLINE(b32_u64_insert);
+
+/* OK or FULL: *accepted pairs are inserted. BAD_LENGTHS, or a refusal, 1 to 7: nothing changes. */
+ODHT_CALL uint32_t odht_b32_u64_insert_all(
+    uint8_t *bytes, size_t bytes_len, const uint8_t *keys, size_t keys_len,
+    const uint64_t *values, size_t values_len, size_t *accepted)
+    ODHT_INLINE(b32_u64_insert_all);
+
+/* OK: the last *count pairs, from slot *cursor on. TOO_SMALL: the arrays are full, there are more,
+   and *cursor is where to go on. BAD_LENGTHS, or a refusal, 1 to 7: nothing is written. */
+ODHT_CALL uint32_t odht_b32_u64_walk(
+    const uint8_t *bytes, size_t bytes_len, size_t *cursor, uint8_t *keys, size_t keys_len,
+    uint64_t *values, size_t values_len, size_t *count)
+    ODHT_INLINE(b32_u64_walk);
+
+/* OK: *value is the value. ABSENT: it stays. */
+ODHT_CALL uint32_t odht_b32_u64_view_get(
+    const odht_view *view, const uint8_t key[32], uint64_t *value)
+    ODHT_INLINE(b32_u64_view_get);
+
+/* OK: found[i] is 1 and values[i] the value, or found[i] is 0 and values[i] as it was.
+   BAD_LENGTHS: both arrays stay. */
+ODHT_CALL uint32_t odht_b32_u64_view_get_all(
+    const odht_view *view, const uint8_t *keys, size_t keys_len, uint64_t *values,
+    size_t values_len, uint8_t *found, size_t found_len)
+    ODHT_INLINE(b32_u64_view_get_all);
+
+/* OK: the table is the first *len bytes of out. TOO_SMALL: out_len is below *len, the length that
+   it has. CAPACITY, BAD_PERCENT, BAD_LENGTHS: *len stays. With all but OK out stays. */
+ODHT_CALL uint32_t odht_b32_u64_build(
+    const uint8_t *keys, size_t keys_len, const uint64_t *values, size_t values_len,
+    uint8_t percent, uint8_t *out, size_t out_len, size_t *len)
+    ODHT_INLINE(b32_u64_build);
+
+/* OK, TOO_SMALL and BAD_LENGTHS as there. MEMORY: out and *len stay. */
+ODHT_CALL uint32_t odht_b32_u64_build_growing(
+    const uint8_t *keys, size_t keys_len, const uint64_t *values, size_t values_len,
+    uint8_t *out, size_t out_len, size_t *len)
+    ODHT_INLINE(b32_u64_build_growing);
+
+#if ODHT_TAKES_NULL
+/* The symbols of the library, then the functions around them. */
+uint32_t odht_symbol_b32_u64_get(
+    const uint8_t *bytes, size_t bytes_len, const uint8_t key[32], uint64_t *value)
+    ODHT_SYMBOL(b32_u64_get);
+uint32_t odht_symbol_b32_u64_get_all(
+    const uint8_t *bytes, size_t bytes_len, const uint8_t *keys, size_t keys_len,
+    uint64_t *values, size_t values_len, uint8_t *found, size_t found_len)
+    ODHT_SYMBOL(b32_u64_get_all);
+uint32_t odht_symbol_b32_u64_insert(
+    uint8_t *bytes, size_t bytes_len, const uint8_t key[32], uint64_t value, uint64_t *former)
+    ODHT_SYMBOL(b32_u64_insert);
+uint32_t odht_symbol_b32_u64_insert_all(
+    uint8_t *bytes, size_t bytes_len, const uint8_t *keys, size_t keys_len,
+    const uint64_t *values, size_t values_len, size_t *accepted)
+    ODHT_SYMBOL(b32_u64_insert_all);
+uint32_t odht_symbol_b32_u64_walk(
+    const uint8_t *bytes, size_t bytes_len, size_t *cursor, uint8_t *keys, size_t keys_len,
+    uint64_t *values, size_t values_len, size_t *count)
+    ODHT_SYMBOL(b32_u64_walk);
+uint32_t odht_symbol_b32_u64_view_get(
+    const odht_view *view, const uint8_t key[32], uint64_t *value)
+    ODHT_SYMBOL(b32_u64_view_get);
+uint32_t odht_symbol_b32_u64_view_get_all(
+    const odht_view *view, const uint8_t *keys, size_t keys_len, uint64_t *values,
+    size_t values_len, uint8_t *found, size_t found_len)
+    ODHT_SYMBOL(b32_u64_view_get_all);
+uint32_t odht_symbol_b32_u64_build(
+    const uint8_t *keys, size_t keys_len, const uint64_t *values, size_t values_len,
+    uint8_t percent, uint8_t *out, size_t out_len, size_t *len)
+    ODHT_SYMBOL(b32_u64_build);
+uint32_t odht_symbol_b32_u64_build_growing(
+    const uint8_t *keys, size_t keys_len, const uint64_t *values, size_t values_len,
+    uint8_t *out, size_t out_len, size_t *len)
+    ODHT_SYMBOL(b32_u64_build_growing);
+
+static inline uint32_t odht_b32_u64_get(
+    const uint8_t *bytes, size_t bytes_len, const uint8_t key[32], uint64_t *value)
+{
+    uint64_t unwanted = 0;
+    return odht_symbol_b32_u64_get(
+        odht_read_uint8_t(bytes, bytes_len), bytes_len, key, value ? value : &unwanted);
+}
+
+static inline uint32_t odht_b32_u64_get_all(
+    const uint8_t *bytes, size_t bytes_len, const uint8_t *keys, size_t keys_len,
+    uint64_t *values, size_t values_len, uint8_t *found, size_t found_len)
+{
+    return odht_symbol_b32_u64_get_all(
+        odht_read_uint8_t(bytes, bytes_len), bytes_len, odht_read_uint8_t(keys, keys_len),
+        keys_len, odht_write_uint64_t(values, values_len), values_len,
+        odht_write_uint8_t(found, found_len), found_len);
+}
+
+static inline uint32_t odht_b32_u64_insert(
+    uint8_t *bytes, size_t bytes_len, const uint8_t key[32], uint64_t value, uint64_t *former)
+{
+    uint64_t unwanted = 0;
+    return odht_symbol_b32_u64_insert(
+        odht_write_uint8_t(bytes, bytes_len), bytes_len, key, value, former ? former : &unwanted);
+}
+
+static inline uint32_t odht_b32_u64_insert_all(
+    uint8_t *bytes, size_t bytes_len, const uint8_t *keys, size_t keys_len,
+    const uint64_t *values, size_t values_len, size_t *accepted)
+{
+    size_t unwanted = 0;
+    return odht_symbol_b32_u64_insert_all(
+        odht_write_uint8_t(bytes, bytes_len), bytes_len, odht_read_uint8_t(keys, keys_len),
+        keys_len, odht_read_uint64_t(values, values_len), values_len,
+        accepted ? accepted : &unwanted);
+}
+
+static inline uint32_t odht_b32_u64_walk(
+    const uint8_t *bytes, size_t bytes_len, size_t *cursor, uint8_t *keys, size_t keys_len,
+    uint64_t *values, size_t values_len, size_t *count)
+{
+    size_t unwanted = 0;
+    return odht_symbol_b32_u64_walk(
+        odht_read_uint8_t(bytes, bytes_len), bytes_len, cursor,
+        odht_write_uint8_t(keys, keys_len), keys_len, odht_write_uint64_t(values, values_len),
+        values_len, count ? count : &unwanted);
+}
+
+static inline uint32_t odht_b32_u64_view_get(
+    const odht_view *view, const uint8_t key[32], uint64_t *value)
+{
+    uint64_t unwanted = 0;
+    return odht_symbol_b32_u64_view_get(view, key, value ? value : &unwanted);
+}
+
+static inline uint32_t odht_b32_u64_view_get_all(
+    const odht_view *view, const uint8_t *keys, size_t keys_len, uint64_t *values,
+    size_t values_len, uint8_t *found, size_t found_len)
+{
+    return odht_symbol_b32_u64_view_get_all(
+        view, odht_read_uint8_t(keys, keys_len), keys_len,
+        odht_write_uint64_t(values, values_len), values_len, odht_write_uint8_t(found, found_len),
+        found_len);
+}
+
+static inline uint32_t odht_b32_u64_build(
+    const uint8_t *keys, size_t keys_len, const uint64_t *values, size_t values_len,
+    uint8_t percent, uint8_t *out, size_t out_len, size_t *len)
+{
+    size_t unwanted = 0;
+    return odht_symbol_b32_u64_build(
+        odht_read_uint8_t(keys, keys_len), keys_len, odht_read_uint64_t(values, values_len),
+        values_len, percent, odht_write_uint8_t(out, out_len), out_len, len ? len : &unwanted);
+}
+
+static inline uint32_t odht_b32_u64_build_growing(
+    const uint8_t *keys, size_t keys_len, const uint64_t *values, size_t values_len,
+    uint8_t *out, size_t out_len, size_t *len)
+{
+    size_t unwanted = 0;
+    return odht_symbol_b32_u64_build_growing(
+        odht_read_uint8_t(keys, keys_len), keys_len, odht_read_uint64_t(values, values_len),
+        values_len, odht_write_uint8_t(out, out_len), out_len, len ? len : &unwanted);
+}
+#endif
+
+/* ---- odht_b16_*: of hashes of 16 bytes, a set, UnHashFn ---- */
+
+/* OK: *len is the length in bytes of a table for so many items. BAD_PERCENT. CAPACITY. */
+ODHT_CALL uint32_t odht_b16_bytes_needed(size_t max_item_count, uint8_t percent, size_t *len)
+    ODHT_INLINE(b16_bytes_needed);
+
+/* OK: the bytes are an empty table. BAD_PERCENT, CAPACITY, INIT_LENGTH: they stay. */
+ODHT_CALL uint32_t odht_b16_init(
+    uint8_t *bytes, size_t bytes_len, size_t max_item_count, uint8_t percent)
+    ODHT_INLINE(b16_init);
+
+/* OK: calls can be made on the bytes. A refusal, 1 to 9. Takes equally long for every table. */
+ODHT_CALL uint32_t odht_b16_open(const uint8_t *bytes, size_t bytes_len)
+    ODHT_INLINE(b16_open);
+
+/* OK: the bytes are valid to the last one. A refusal, 1 to 16. Goes over all slots. */
+ODHT_CALL uint32_t odht_b16_check(const uint8_t *bytes, size_t bytes_len)
+    ODHT_INLINE(b16_check);
+
+/* OK: *count is the number of items that the header states. A refusal, 1 to 7: it stays. */
+ODHT_CALL uint32_t odht_b16_len(const uint8_t *bytes, size_t bytes_len, size_t *count)
+    ODHT_INLINE(b16_len);
+
+/* OK: the numbers of the header: how many slots, how many items these take at most, and the load
+   factor in percent, rounded down. A refusal, 1 to 7: they stay. */
+ODHT_CALL uint32_t odht_b16_sizes(
+    const uint8_t *bytes, size_t bytes_len, size_t *slots, size_t *max_item_count, uint8_t *percent)
+    ODHT_INLINE(b16_sizes);
+
+/* OK: the slots that hold a pair, in an order of inserts. UNMADE: no inserts make the table, and
+   the numbers in slots say nothing. BAD_LENGTHS, or a refusal, 1 to 16: slots stay. */
+ODHT_CALL uint32_t odht_b16_insert_order(
+    const uint8_t *bytes, size_t bytes_len, size_t *slots, size_t slots_len)
+    ODHT_INLINE(b16_insert_order);
+
+/* OK: the first *len bytes of out are the grown table. TOO_SMALL: out_len is below *len, and out
+   stays. A refusal, 1 to 7, LOAD_FACTOR_TOO_SMALL, CAPACITY: *len stays too. */
+ODHT_CALL uint32_t odht_b16_grow(
+    const uint8_t *bytes, size_t bytes_len, uint8_t *out, size_t out_len, size_t *len)
+    ODHT_INLINE(b16_grow);
+
+/* OK: *view is the view of the bytes. A refusal, 1 to 9: it stays. */
+ODHT_CALL uint32_t odht_b16_open_view(const uint8_t *bytes, size_t bytes_len, odht_view *view)
+    ODHT_INLINE(b16_open_view);
+
+/* The number of items that the header states. */
+ODHT_CALL size_t odht_b16_view_len(const odht_view *view)
+    ODHT_INLINE(b16_view_len);
+
+#if ODHT_TAKES_NULL
+/* The symbols of the library, then the functions around them. */
+uint32_t odht_symbol_b16_bytes_needed(size_t max_item_count, uint8_t percent, size_t *len)
+    ODHT_SYMBOL(b16_bytes_needed);
+uint32_t odht_symbol_b16_init(
+    uint8_t *bytes, size_t bytes_len, size_t max_item_count, uint8_t percent)
+    ODHT_SYMBOL(b16_init);
+uint32_t odht_symbol_b16_open(const uint8_t *bytes, size_t bytes_len)
+    ODHT_SYMBOL(b16_open);
+uint32_t odht_symbol_b16_check(const uint8_t *bytes, size_t bytes_len)
+    ODHT_SYMBOL(b16_check);
+uint32_t odht_symbol_b16_len(const uint8_t *bytes, size_t bytes_len, size_t *count)
+    ODHT_SYMBOL(b16_len);
+uint32_t odht_symbol_b16_sizes(
+    const uint8_t *bytes, size_t bytes_len, size_t *slots, size_t *max_item_count, uint8_t *percent)
+    ODHT_SYMBOL(b16_sizes);
+uint32_t odht_symbol_b16_insert_order(
+    const uint8_t *bytes, size_t bytes_len, size_t *slots, size_t slots_len)
+    ODHT_SYMBOL(b16_insert_order);
+uint32_t odht_symbol_b16_grow(
+    const uint8_t *bytes, size_t bytes_len, uint8_t *out, size_t out_len, size_t *len)
+    ODHT_SYMBOL(b16_grow);
+uint32_t odht_symbol_b16_open_view(const uint8_t *bytes, size_t bytes_len, odht_view *view)
+    ODHT_SYMBOL(b16_open_view);
+size_t odht_symbol_b16_view_len(const odht_view *view)
+    ODHT_SYMBOL(b16_view_len);
+
+static inline uint32_t odht_b16_bytes_needed(
+    size_t max_item_count, uint8_t percent, size_t *len)
+{
+    size_t unwanted = 0;
+    return odht_symbol_b16_bytes_needed(max_item_count, percent, len ? len : &unwanted);
+}
+
+static inline uint32_t odht_b16_init(
+    uint8_t *bytes, size_t bytes_len, size_t max_item_count, uint8_t percent)
+{
+    return odht_symbol_b16_init(
+        odht_write_uint8_t(bytes, bytes_len), bytes_len, max_item_count, percent);
+}
+
+static inline uint32_t odht_b16_open(const uint8_t *bytes, size_t bytes_len)
+{
+    return odht_symbol_b16_open(odht_read_uint8_t(bytes, bytes_len), bytes_len);
+}
+
+static inline uint32_t odht_b16_check(const uint8_t *bytes, size_t bytes_len)
+{
+    return odht_symbol_b16_check(odht_read_uint8_t(bytes, bytes_len), bytes_len);
+}
+
+static inline uint32_t odht_b16_len(const uint8_t *bytes, size_t bytes_len, size_t *count)
+{
+    size_t unwanted = 0;
+    return odht_symbol_b16_len(
+        odht_read_uint8_t(bytes, bytes_len), bytes_len, count ? count : &unwanted);
+}
+
+static inline uint32_t odht_b16_sizes(
+    const uint8_t *bytes, size_t bytes_len, size_t *slots, size_t *max_item_count, uint8_t *percent)
+{
+    size_t unwanted[2] = { 0, 0 };
+    uint8_t unwanted_percent = 0;
+    return odht_symbol_b16_sizes(
+        odht_read_uint8_t(bytes, bytes_len), bytes_len, slots ? slots : &unwanted[0],
+        max_item_count ? max_item_count : &unwanted[1], percent ? percent : &unwanted_percent);
+}
+
+static inline uint32_t odht_b16_insert_order(
+    const uint8_t *bytes, size_t bytes_len, size_t *slots, size_t slots_len)
+{
+    return odht_symbol_b16_insert_order(
+        odht_read_uint8_t(bytes, bytes_len), bytes_len, odht_write_size_t(slots, slots_len),
+        slots_len);
+}
+
+static inline uint32_t odht_b16_grow(
+    const uint8_t *bytes, size_t bytes_len, uint8_t *out, size_t out_len, size_t *len)
+{
+    size_t unwanted = 0;
+    return odht_symbol_b16_grow(
+        odht_read_uint8_t(bytes, bytes_len), bytes_len, odht_write_uint8_t(out, out_len), out_len,
+        len ? len : &unwanted);
+}
+
+static inline uint32_t odht_b16_open_view(
+    const uint8_t *bytes, size_t bytes_len, odht_view *view)
+{
+    odht_view opened = ODHT_NO_VIEW;
+    uint32_t status = odht_symbol_b16_open_view(
+        odht_read_uint8_t(bytes, bytes_len), bytes_len, &opened);
+    if (status == ODHT_OK)
+        *view = opened;
+    return status;
+}
+
+static inline size_t odht_b16_view_len(const odht_view *view)
+{
+    return odht_symbol_b16_view_len(view);
+}
+#endif
+
+/* These are made of the calls of a map without values, so compilers without ODHT_TAKES_NULL have none. */
+#if ODHT_TAKES_NULL
+/* OK: the key is there. ABSENT, or a refusal, 1 to 7. */
+ODHT_CALL uint32_t odht_b16_contains(const uint8_t *bytes, size_t bytes_len, const uint8_t key[16])
+    ODHT_INLINE(b16_contains);
+
+/* OK: found[i] is 1 where keys[i] is there, else 0. BAD_LENGTHS, or a refusal, 1 to 7: found stays. */
+ODHT_CALL uint32_t odht_b16_contains_all(
+    const uint8_t *bytes, size_t bytes_len, const uint8_t *keys, size_t keys_len,
+    uint8_t *found, size_t found_len)
+    ODHT_INLINE(b16_contains_all);
+
+/* OK: the key was new. REPLACED: it was there. FULL, or a refusal, 1 to 7: nothing changes. */
+ODHT_CALL uint32_t odht_b16_insert(uint8_t *bytes, size_t bytes_len, const uint8_t key[16])
+    ODHT_INLINE(b16_insert);
+
+/* OK or FULL: *accepted keys are inserted. A refusal, 1 to 7: nothing changes. */
+ODHT_CALL uint32_t odht_b16_insert_all(
+    uint8_t *bytes, size_t bytes_len, const uint8_t *keys, size_t keys_len, size_t *accepted)
+    ODHT_INLINE(b16_insert_all);
+
+/* OK: the last *count keys, from slot *cursor on. TOO_SMALL: the array is full, there are more, and
+   *cursor is where to go on. A refusal, 1 to 7: nothing is written. */
+ODHT_CALL uint32_t odht_b16_walk(
+    const uint8_t *bytes, size_t bytes_len, size_t *cursor, uint8_t *keys, size_t keys_len,
+    size_t *count)
+    ODHT_INLINE(b16_walk);
+
+/* OK: the key is there. ABSENT. */
+ODHT_CALL uint32_t odht_b16_view_contains(const odht_view *view, const uint8_t key[16])
+    ODHT_INLINE(b16_view_contains);
+
+/* OK: found[i] is 1 where keys[i] is there, else 0. BAD_LENGTHS: found stays. */
+ODHT_CALL uint32_t odht_b16_view_contains_all(
+    const odht_view *view, const uint8_t *keys, size_t keys_len, uint8_t *found, size_t found_len)
+    ODHT_INLINE(b16_view_contains_all);
+
+/* OK: the set is the first *len bytes of out. TOO_SMALL: out_len is below *len, the length that it
+   has. CAPACITY, BAD_PERCENT: *len stays. With all but OK out stays. */
+ODHT_CALL uint32_t odht_b16_build(
+    const uint8_t *keys, size_t keys_len, uint8_t percent, uint8_t *out, size_t out_len, size_t *len)
+    ODHT_INLINE(b16_build);
+
+/* OK and TOO_SMALL as there. MEMORY: out and *len stay. */
+ODHT_CALL uint32_t odht_b16_build_growing(
+    const uint8_t *keys, size_t keys_len, uint8_t *out, size_t out_len, size_t *len)
+    ODHT_INLINE(b16_build_growing);
+
+/* The symbols of the library, whose values have no bytes, then the functions around them. */
+uint32_t odht_symbol_b16_get(
+    const uint8_t *bytes, size_t bytes_len, const uint8_t key[16], void *value)
+    ODHT_SYMBOL(b16_get);
+uint32_t odht_symbol_b16_get_all(
+    const uint8_t *bytes, size_t bytes_len, const uint8_t *keys, size_t keys_len,
+    void *values, size_t values_len, uint8_t *found, size_t found_len)
+    ODHT_SYMBOL(b16_get_all);
+uint32_t odht_symbol_b16_insert(
+    uint8_t *bytes, size_t bytes_len, const uint8_t key[16], void *former)
+    ODHT_SYMBOL(b16_insert);
+uint32_t odht_symbol_b16_insert_all(
+    uint8_t *bytes, size_t bytes_len, const uint8_t *keys, size_t keys_len,
+    const void *values, size_t values_len, size_t *accepted)
+    ODHT_SYMBOL(b16_insert_all);
+uint32_t odht_symbol_b16_walk(
+    const uint8_t *bytes, size_t bytes_len, size_t *cursor, uint8_t *keys, size_t keys_len,
+    void *values, size_t values_len, size_t *count)
+    ODHT_SYMBOL(b16_walk);
+uint32_t odht_symbol_b16_view_get(
+    const odht_view *view, const uint8_t key[16], void *value)
+    ODHT_SYMBOL(b16_view_get);
+uint32_t odht_symbol_b16_view_get_all(
+    const odht_view *view, const uint8_t *keys, size_t keys_len, void *values, size_t values_len,
+    uint8_t *found, size_t found_len)
+    ODHT_SYMBOL(b16_view_get_all);
+uint32_t odht_symbol_b16_build(
+    const uint8_t *keys, size_t keys_len, const void *values, size_t values_len,
+    uint8_t percent, uint8_t *out, size_t out_len, size_t *len)
+    ODHT_SYMBOL(b16_build);
+uint32_t odht_symbol_b16_build_growing(
+    const uint8_t *keys, size_t keys_len, const void *values, size_t values_len,
+    uint8_t *out, size_t out_len, size_t *len)
+    ODHT_SYMBOL(b16_build_growing);
+
+static inline uint32_t odht_b16_contains(const uint8_t *bytes, size_t bytes_len, const uint8_t key[16])
+{
+    uint8_t nothing = 0;
+    return odht_symbol_b16_get(odht_read_uint8_t(bytes, bytes_len), bytes_len, key, &nothing);
+}
+
+static inline uint32_t odht_b16_contains_all(
+    const uint8_t *bytes, size_t bytes_len, const uint8_t *keys, size_t keys_len,
+    uint8_t *found, size_t found_len)
+{
+    uint8_t nothing = 0;
+    return odht_symbol_b16_get_all(
+        odht_read_uint8_t(bytes, bytes_len), bytes_len, odht_read_uint8_t(keys, keys_len), keys_len,
+        &nothing, keys_len, odht_write_uint8_t(found, found_len), found_len);
+}
+
+static inline uint32_t odht_b16_insert(uint8_t *bytes, size_t bytes_len, const uint8_t key[16])
+{
+    uint8_t nothing = 0;
+    return odht_symbol_b16_insert(odht_write_uint8_t(bytes, bytes_len), bytes_len, key, &nothing);
+}
+
+static inline uint32_t odht_b16_insert_all(
+    uint8_t *bytes, size_t bytes_len, const uint8_t *keys, size_t keys_len, size_t *accepted)
+{
+    const uint8_t nothing = 0;
+    size_t unwanted = 0;
+    return odht_symbol_b16_insert_all(
+        odht_write_uint8_t(bytes, bytes_len), bytes_len, odht_read_uint8_t(keys, keys_len), keys_len,
+        &nothing, keys_len, accepted ? accepted : &unwanted);
+}
+
+static inline uint32_t odht_b16_walk(
+    const uint8_t *bytes, size_t bytes_len, size_t *cursor, uint8_t *keys, size_t keys_len,
+    size_t *count)
+{
+    uint8_t nothing = 0;
+    size_t unwanted = 0;
+    return odht_symbol_b16_walk(
+        odht_read_uint8_t(bytes, bytes_len), bytes_len, cursor,
+        odht_write_uint8_t(keys, keys_len), keys_len, &nothing, keys_len, count ? count : &unwanted);
+}
+
+static inline uint32_t odht_b16_view_contains(const odht_view *view, const uint8_t key[16])
+{
+    uint8_t nothing = 0;
+    return odht_symbol_b16_view_get(view, key, &nothing);
+}
+
+static inline uint32_t odht_b16_view_contains_all(
+    const odht_view *view, const uint8_t *keys, size_t keys_len, uint8_t *found, size_t found_len)
+{
+    uint8_t nothing = 0;
+    return odht_symbol_b16_view_get_all(
+        view, odht_read_uint8_t(keys, keys_len), keys_len, &nothing, keys_len,
+        odht_write_uint8_t(found, found_len), found_len);
+}
+
+static inline uint32_t odht_b16_build(
+    const uint8_t *keys, size_t keys_len, uint8_t percent, uint8_t *out, size_t out_len, size_t *len)
+{
+    const uint8_t nothing = 0;
+    size_t unwanted = 0;
+    return odht_symbol_b16_build(
+        odht_read_uint8_t(keys, keys_len), keys_len, &nothing, keys_len, percent,
+        odht_write_uint8_t(out, out_len), out_len, len ? len : &unwanted);
+}
+
+static inline uint32_t odht_b16_build_growing(
+    const uint8_t *keys, size_t keys_len, uint8_t *out, size_t out_len, size_t *len)
+{
+    const uint8_t nothing = 0;
+    size_t unwanted = 0;
+    return odht_symbol_b16_build_growing(
+        odht_read_uint8_t(keys, keys_len), keys_len, &nothing, keys_len,
+        odht_write_uint8_t(out, out_len), out_len, len ? len : &unwanted);
+}
+#endif
+
+/* ---- odht_b32_*: of hashes of 32 bytes, a set, UnHashFn ---- */
+
+/* OK: *len is the length in bytes of a table for so many items. BAD_PERCENT. CAPACITY. */
+ODHT_CALL uint32_t odht_b32_bytes_needed(size_t max_item_count, uint8_t percent, size_t *len)
+    ODHT_INLINE(b32_bytes_needed);
+
+/* OK: the bytes are an empty table. BAD_PERCENT, CAPACITY, INIT_LENGTH: they stay. */
+ODHT_CALL uint32_t odht_b32_init(
+    uint8_t *bytes, size_t bytes_len, size_t max_item_count, uint8_t percent)
+    ODHT_INLINE(b32_init);
+
+/* OK: calls can be made on the bytes. A refusal, 1 to 9. Takes equally long for every table. */
+ODHT_CALL uint32_t odht_b32_open(const uint8_t *bytes, size_t bytes_len)
+    ODHT_INLINE(b32_open);
+
+/* OK: the bytes are valid to the last one. A refusal, 1 to 16. Goes over all slots. */
+ODHT_CALL uint32_t odht_b32_check(const uint8_t *bytes, size_t bytes_len)
+    ODHT_INLINE(b32_check);
+
+/* OK: *count is the number of items that the header states. A refusal, 1 to 7: it stays. */
+ODHT_CALL uint32_t odht_b32_len(const uint8_t *bytes, size_t bytes_len, size_t *count)
+    ODHT_INLINE(b32_len);
+
+/* OK: the numbers of the header: how many slots, how many items these take at most, and the load
+   factor in percent, rounded down. A refusal, 1 to 7: they stay. */
+ODHT_CALL uint32_t odht_b32_sizes(
+    const uint8_t *bytes, size_t bytes_len, size_t *slots, size_t *max_item_count, uint8_t *percent)
+    ODHT_INLINE(b32_sizes);
+
+/* OK: the slots that hold a pair, in an order of inserts. UNMADE: no inserts make the table, and
+   the numbers in slots say nothing. BAD_LENGTHS, or a refusal, 1 to 16: slots stay. */
+ODHT_CALL uint32_t odht_b32_insert_order(
+    const uint8_t *bytes, size_t bytes_len, size_t *slots, size_t slots_len)
+    ODHT_INLINE(b32_insert_order);
+
+/* OK: the first *len bytes of out are the grown table. TOO_SMALL: out_len is below *len, and out
+   stays. A refusal, 1 to 7, LOAD_FACTOR_TOO_SMALL, CAPACITY: *len stays too. */
+ODHT_CALL uint32_t odht_b32_grow(
+    const uint8_t *bytes, size_t bytes_len, uint8_t *out, size_t out_len, size_t *len)
+    ODHT_INLINE(b32_grow);
+
+/* OK: *view is the view of the bytes. A refusal, 1 to 9: it stays. */
+ODHT_CALL uint32_t odht_b32_open_view(const uint8_t *bytes, size_t bytes_len, odht_view *view)
+    ODHT_INLINE(b32_open_view);
+
+/* The number of items that the header states. */
+ODHT_CALL size_t odht_b32_view_len(const odht_view *view)
+    ODHT_INLINE(b32_view_len);
+
+#if ODHT_TAKES_NULL
+/* The symbols of the library, then the functions around them. */
+uint32_t odht_symbol_b32_bytes_needed(size_t max_item_count, uint8_t percent, size_t *len)
+    ODHT_SYMBOL(b32_bytes_needed);
+uint32_t odht_symbol_b32_init(
+    uint8_t *bytes, size_t bytes_len, size_t max_item_count, uint8_t percent)
+    ODHT_SYMBOL(b32_init);
+uint32_t odht_symbol_b32_open(const uint8_t *bytes, size_t bytes_len)
+    ODHT_SYMBOL(b32_open);
+uint32_t odht_symbol_b32_check(const uint8_t *bytes, size_t bytes_len)
+    ODHT_SYMBOL(b32_check);
+uint32_t odht_symbol_b32_len(const uint8_t *bytes, size_t bytes_len, size_t *count)
+    ODHT_SYMBOL(b32_len);
+uint32_t odht_symbol_b32_sizes(
+    const uint8_t *bytes, size_t bytes_len, size_t *slots, size_t *max_item_count, uint8_t *percent)
+    ODHT_SYMBOL(b32_sizes);
+uint32_t odht_symbol_b32_insert_order(
+    const uint8_t *bytes, size_t bytes_len, size_t *slots, size_t slots_len)
+    ODHT_SYMBOL(b32_insert_order);
+uint32_t odht_symbol_b32_grow(
+    const uint8_t *bytes, size_t bytes_len, uint8_t *out, size_t out_len, size_t *len)
+    ODHT_SYMBOL(b32_grow);
+uint32_t odht_symbol_b32_open_view(const uint8_t *bytes, size_t bytes_len, odht_view *view)
+    ODHT_SYMBOL(b32_open_view);
+size_t odht_symbol_b32_view_len(const odht_view *view)
+    ODHT_SYMBOL(b32_view_len);
+
+static inline uint32_t odht_b32_bytes_needed(
+    size_t max_item_count, uint8_t percent, size_t *len)
+{
+    size_t unwanted = 0;
+    return odht_symbol_b32_bytes_needed(max_item_count, percent, len ? len : &unwanted);
+}
+
+static inline uint32_t odht_b32_init(
+    uint8_t *bytes, size_t bytes_len, size_t max_item_count, uint8_t percent)
+{
+    return odht_symbol_b32_init(
+        odht_write_uint8_t(bytes, bytes_len), bytes_len, max_item_count, percent);
+}
+
+static inline uint32_t odht_b32_open(const uint8_t *bytes, size_t bytes_len)
+{
+    return odht_symbol_b32_open(odht_read_uint8_t(bytes, bytes_len), bytes_len);
+}
+
+static inline uint32_t odht_b32_check(const uint8_t *bytes, size_t bytes_len)
+{
+    return odht_symbol_b32_check(odht_read_uint8_t(bytes, bytes_len), bytes_len);
+}
+
+static inline uint32_t odht_b32_len(const uint8_t *bytes, size_t bytes_len, size_t *count)
+{
+    size_t unwanted = 0;
+    return odht_symbol_b32_len(
+        odht_read_uint8_t(bytes, bytes_len), bytes_len, count ? count : &unwanted);
+}
+
+static inline uint32_t odht_b32_sizes(
+    const uint8_t *bytes, size_t bytes_len, size_t *slots, size_t *max_item_count, uint8_t *percent)
+{
+    size_t unwanted[2] = { 0, 0 };
+    uint8_t unwanted_percent = 0;
+    return odht_symbol_b32_sizes(
+        odht_read_uint8_t(bytes, bytes_len), bytes_len, slots ? slots : &unwanted[0],
+        max_item_count ? max_item_count : &unwanted[1], percent ? percent : &unwanted_percent);
+}
+
+static inline uint32_t odht_b32_insert_order(
+    const uint8_t *bytes, size_t bytes_len, size_t *slots, size_t slots_len)
+{
+    return odht_symbol_b32_insert_order(
+        odht_read_uint8_t(bytes, bytes_len), bytes_len, odht_write_size_t(slots, slots_len),
+        slots_len);
+}
+
+static inline uint32_t odht_b32_grow(
+    const uint8_t *bytes, size_t bytes_len, uint8_t *out, size_t out_len, size_t *len)
+{
+    size_t unwanted = 0;
+    return odht_symbol_b32_grow(
+        odht_read_uint8_t(bytes, bytes_len), bytes_len, odht_write_uint8_t(out, out_len), out_len,
+        len ? len : &unwanted);
+}
+
+static inline uint32_t odht_b32_open_view(
+    const uint8_t *bytes, size_t bytes_len, odht_view *view)
+{
+    odht_view opened = ODHT_NO_VIEW;
+    uint32_t status = odht_symbol_b32_open_view(
+        odht_read_uint8_t(bytes, bytes_len), bytes_len, &opened);
+    if (status == ODHT_OK)
+        *view = opened;
+    return status;
+}
+
+static inline size_t odht_b32_view_len(const odht_view *view)
+{
+    return odht_symbol_b32_view_len(view);
+}
+#endif
+
+/* These are made of the calls of a map without values, so compilers without ODHT_TAKES_NULL have none. */
+#if ODHT_TAKES_NULL
+/* OK: the key is there. ABSENT, or a refusal, 1 to 7. */
+ODHT_CALL uint32_t odht_b32_contains(const uint8_t *bytes, size_t bytes_len, const uint8_t key[32])
+    ODHT_INLINE(b32_contains);
+
+/* OK: found[i] is 1 where keys[i] is there, else 0. BAD_LENGTHS, or a refusal, 1 to 7: found stays. */
+ODHT_CALL uint32_t odht_b32_contains_all(
+    const uint8_t *bytes, size_t bytes_len, const uint8_t *keys, size_t keys_len,
+    uint8_t *found, size_t found_len)
+    ODHT_INLINE(b32_contains_all);
+
+/* OK: the key was new. REPLACED: it was there. FULL, or a refusal, 1 to 7: nothing changes. */
+ODHT_CALL uint32_t odht_b32_insert(uint8_t *bytes, size_t bytes_len, const uint8_t key[32])
+    ODHT_INLINE(b32_insert);
+
+/* OK or FULL: *accepted keys are inserted. A refusal, 1 to 7: nothing changes. */
+ODHT_CALL uint32_t odht_b32_insert_all(
+    uint8_t *bytes, size_t bytes_len, const uint8_t *keys, size_t keys_len, size_t *accepted)
+    ODHT_INLINE(b32_insert_all);
+
+/* OK: the last *count keys, from slot *cursor on. TOO_SMALL: the array is full, there are more, and
+   *cursor is where to go on. A refusal, 1 to 7: nothing is written. */
+ODHT_CALL uint32_t odht_b32_walk(
+    const uint8_t *bytes, size_t bytes_len, size_t *cursor, uint8_t *keys, size_t keys_len,
+    size_t *count)
+    ODHT_INLINE(b32_walk);
+
+/* OK: the key is there. ABSENT. */
+ODHT_CALL uint32_t odht_b32_view_contains(const odht_view *view, const uint8_t key[32])
+    ODHT_INLINE(b32_view_contains);
+
+/* OK: found[i] is 1 where keys[i] is there, else 0. BAD_LENGTHS: found stays. */
+ODHT_CALL uint32_t odht_b32_view_contains_all(
+    const odht_view *view, const uint8_t *keys, size_t keys_len, uint8_t *found, size_t found_len)
+    ODHT_INLINE(b32_view_contains_all);
+
+/* OK: the set is the first *len bytes of out. TOO_SMALL: out_len is below *len, the length that it
+   has. CAPACITY, BAD_PERCENT: *len stays. With all but OK out stays. */
+ODHT_CALL uint32_t odht_b32_build(
+    const uint8_t *keys, size_t keys_len, uint8_t percent, uint8_t *out, size_t out_len, size_t *len)
+    ODHT_INLINE(b32_build);
+
+/* OK and TOO_SMALL as there. MEMORY: out and *len stay. */
+ODHT_CALL uint32_t odht_b32_build_growing(
+    const uint8_t *keys, size_t keys_len, uint8_t *out, size_t out_len, size_t *len)
+    ODHT_INLINE(b32_build_growing);
+
+/* The symbols of the library, whose values have no bytes, then the functions around them. */
+uint32_t odht_symbol_b32_get(
+    const uint8_t *bytes, size_t bytes_len, const uint8_t key[32], void *value)
+    ODHT_SYMBOL(b32_get);
+uint32_t odht_symbol_b32_get_all(
+    const uint8_t *bytes, size_t bytes_len, const uint8_t *keys, size_t keys_len,
+    void *values, size_t values_len, uint8_t *found, size_t found_len)
+    ODHT_SYMBOL(b32_get_all);
+uint32_t odht_symbol_b32_insert(
+    uint8_t *bytes, size_t bytes_len, const uint8_t key[32], void *former)
+    ODHT_SYMBOL(b32_insert);
+uint32_t odht_symbol_b32_insert_all(
+    uint8_t *bytes, size_t bytes_len, const uint8_t *keys, size_t keys_len,
+    const void *values, size_t values_len, size_t *accepted)
+    ODHT_SYMBOL(b32_insert_all);
+uint32_t odht_symbol_b32_walk(
+    const uint8_t *bytes, size_t bytes_len, size_t *cursor, uint8_t *keys, size_t keys_len,
+    void *values, size_t values_len, size_t *count)
+    ODHT_SYMBOL(b32_walk);
+uint32_t odht_symbol_b32_view_get(
+    const odht_view *view, const uint8_t key[32], void *value)
+    ODHT_SYMBOL(b32_view_get);
+uint32_t odht_symbol_b32_view_get_all(
+    const odht_view *view, const uint8_t *keys, size_t keys_len, void *values, size_t values_len,
+    uint8_t *found, size_t found_len)
+    ODHT_SYMBOL(b32_view_get_all);
+uint32_t odht_symbol_b32_build(
+    const uint8_t *keys, size_t keys_len, const void *values, size_t values_len,
+    uint8_t percent, uint8_t *out, size_t out_len, size_t *len)
+    ODHT_SYMBOL(b32_build);
+uint32_t odht_symbol_b32_build_growing(
+    const uint8_t *keys, size_t keys_len, const void *values, size_t values_len,
+    uint8_t *out, size_t out_len, size_t *len)
+    ODHT_SYMBOL(b32_build_growing);
+
+static inline uint32_t odht_b32_contains(const uint8_t *bytes, size_t bytes_len, const uint8_t key[32])
+{
+    uint8_t nothing = 0;
+    return odht_symbol_b32_get(odht_read_uint8_t(bytes, bytes_len), bytes_len, key, &nothing);
+}
+
+static inline uint32_t odht_b32_contains_all(
+    const uint8_t *bytes, size_t bytes_len, const uint8_t *keys, size_t keys_len,
+    uint8_t *found, size_t found_len)
+{
+    uint8_t nothing = 0;
+    return odht_symbol_b32_get_all(
+        odht_read_uint8_t(bytes, bytes_len), bytes_len, odht_read_uint8_t(keys, keys_len), keys_len,
+        &nothing, keys_len, odht_write_uint8_t(found, found_len), found_len);
+}
+
+static inline uint32_t odht_b32_insert(uint8_t *bytes, size_t bytes_len, const uint8_t key[32])
+{
+    uint8_t nothing = 0;
+    return odht_symbol_b32_insert(odht_write_uint8_t(bytes, bytes_len), bytes_len, key, &nothing);
+}
+
+static inline uint32_t odht_b32_insert_all(
+    uint8_t *bytes, size_t bytes_len, const uint8_t *keys, size_t keys_len, size_t *accepted)
+{
+    const uint8_t nothing = 0;
+    size_t unwanted = 0;
+    return odht_symbol_b32_insert_all(
+        odht_write_uint8_t(bytes, bytes_len), bytes_len, odht_read_uint8_t(keys, keys_len), keys_len,
+        &nothing, keys_len, accepted ? accepted : &unwanted);
+}
+
+static inline uint32_t odht_b32_walk(
+    const uint8_t *bytes, size_t bytes_len, size_t *cursor, uint8_t *keys, size_t keys_len,
+    size_t *count)
+{
+    uint8_t nothing = 0;
+    size_t unwanted = 0;
+    return odht_symbol_b32_walk(
+        odht_read_uint8_t(bytes, bytes_len), bytes_len, cursor,
+        odht_write_uint8_t(keys, keys_len), keys_len, &nothing, keys_len, count ? count : &unwanted);
+}
+
+static inline uint32_t odht_b32_view_contains(const odht_view *view, const uint8_t key[32])
+{
+    uint8_t nothing = 0;
+    return odht_symbol_b32_view_get(view, key, &nothing);
+}
+
+static inline uint32_t odht_b32_view_contains_all(
+    const odht_view *view, const uint8_t *keys, size_t keys_len, uint8_t *found, size_t found_len)
+{
+    uint8_t nothing = 0;
+    return odht_symbol_b32_view_get_all(
+        view, odht_read_uint8_t(keys, keys_len), keys_len, &nothing, keys_len,
+        odht_write_uint8_t(found, found_len), found_len);
+}
+
+static inline uint32_t odht_b32_build(
+    const uint8_t *keys, size_t keys_len, uint8_t percent, uint8_t *out, size_t out_len, size_t *len)
+{
+    const uint8_t nothing = 0;
+    size_t unwanted = 0;
+    return odht_symbol_b32_build(
+        odht_read_uint8_t(keys, keys_len), keys_len, &nothing, keys_len, percent,
+        odht_write_uint8_t(out, out_len), out_len, len ? len : &unwanted);
+}
+
+static inline uint32_t odht_b32_build_growing(
+    const uint8_t *keys, size_t keys_len, uint8_t *out, size_t out_len, size_t *len)
+{
+    const uint8_t nothing = 0;
+    size_t unwanted = 0;
+    return odht_symbol_b32_build_growing(
+        odht_read_uint8_t(keys, keys_len), keys_len, &nothing, keys_len,
+        odht_write_uint8_t(out, out_len), out_len, len ? len : &unwanted);
 }
 #endif
 

@@ -43,6 +43,11 @@
  *     the bytes: before odht_S_check has passed them, allocate nothing by it. No
  *     table holds more items than bytes. A refusal, 1 to 7.
  *
+ * odht_S_sizes(bytes, bytes_len, *slots, *max_item_count, *percent)
+ *     OK: how many slots the header states, how many items these take at the most, and
+ *     the load factor in percent. It is rounded down, so it may be one below that which
+ *     the table was made with. A refusal, 1 to 7.
+ *
  * odht_S_get(bytes, bytes_len, key, *value)
  *     OK: the key is there, and *value is its value. ABSENT: it is not there.
  *     A refusal, 1 to 7.
@@ -66,11 +71,25 @@
  *     inserted, and the next one was refused: its key is new. BAD_LENGTHS: keys_len
  *     is not values_len. A refusal, 1 to 7. With the last two nothing changes.
  *
- * odht_S_walk(bytes, bytes_len, keys, keys_len, values, values_len, *count)
- *     Writes each pair of the table into two arrays, in the order of the slots.
- *     OK: these are *count pairs, and the rest of the arrays is as it was.
- *     TOO_SMALL: the arrays are full, and there are more pairs; *count is keys_len.
- *     BAD_LENGTHS: keys_len is not values_len. A refusal, 1 to 7.
+ * odht_S_walk(bytes, bytes_len, *cursor, keys, keys_len, values, values_len, *count)
+ *     Writes pairs into the front of two arrays, in the order of the slots: those at
+ *     slot *cursor and behind it. *cursor is 0 at first, and then the slot to go on at,
+ *     so arrays of any size do:
+ *
+ *         do {
+ *             status = odht_S_walk(bytes, len, &cursor, keys, 64, values, 64, &count);
+ *             if (status != ODHT_OK && status != ODHT_TOO_SMALL)
+ *                 break;
+ *             use the first count pairs
+ *         } while (status == ODHT_TOO_SMALL);
+ *
+ *     OK: these *count pairs are the last ones. TOO_SMALL: the arrays are full, and
+ *     there are more. With both the rest of the arrays is as it was. BAD_LENGTHS:
+ *     keys_len is not values_len. A refusal, 1 to 7. With the last two the arrays,
+ *     *cursor and *count stay.
+ *     A walk gives what is there, whatever count the header states: on any bytes that
+ *     pass refusals 1 to 7 at most one pair for each slot, and bytes_len is more than
+ *     the length of a pair for each of these.
  *
  * odht_S_insert_order(bytes, bytes_len, slots, slots_len)
  *     Asks whether inserts can make the table, and in which order. Its pairs,
@@ -86,6 +105,20 @@
  *     them. In a pass each item that waits asks for the places before its own, by a
  *     binary search among those that wait; behind it what is left is sorted. It takes
  *     no memory.
+ *
+ * odht_S_grow(bytes, bytes_len, out, out_len, *len)
+ *     Writes the table that this one grows into to out: with the slots for twice as
+ *     many items, and for one at least, and the same load factor. So a caller goes on
+ *     whose insert was answered FULL: it grows the table into larger memory and
+ *     inserts there. The bytes are those that a table has which grows by itself.
+ *     OK: the first *len bytes of out are the grown table, and the rest of out stays.
+ *     TOO_SMALL: out_len is below *len, the length in bytes that it has, and out
+ *     stays; so with out_len 0 a caller asks how much memory it needs. A refusal, 1
+ *     to 7. LOAD_FACTOR_TOO_SMALL: the header states less than 1 percent, as no valid
+ *     table does. CAPACITY: no slot count is enough, or the length does not fit
+ *     size_t.
+ *     It looks at each slot once and hashes each key once; no keys are compared. It
+ *     takes no memory. bytes and out must not overlap.
  *
  * odht_S_build(keys, keys_len, values, values_len, percent, out, out_len, *len)
  *     Makes a table for exactly these pairs in out and inserts them one after the
@@ -112,6 +145,9 @@
  * odht_S_view_len(view)
  *     As odht_S_get, odht_S_get_all and odht_S_len, in an opened table and with no
  *     refusals of bytes. The last answers the number itself.
+ *
+ * Sets have no values. In place of get and get_all they have contains and
+ * contains_all, also in a view, and where the others take or give values they do not.
  */
 
 #if ODHT_TAKES_NULL
@@ -133,4 +169,7 @@ ODHT_SLICES(uint64_t)
 ODHT_SLICES(size_t)
 #undef ODHT_SLICES
 #endif
+
+/* ODHT_VERSION as the linked library has it: another one than this header's is no version of it. */
+ODHT_NODISCARD extern uint32_t odht_version(void);
 

@@ -1,14 +1,15 @@
 /*
  * odht.h: hash tables that are used in the very bytes in which they are stored.
  *
- * Made by crates/odht_c/exports/generate.sh from header_*.h beside it: edit those.
+ * Made by crates/odht_c/exports/generate.sh of header_*.h beside it: edit those.
  *
- * docs/FORMAT.md has the bytes and all rules. These kinds of table are here:
+ * docs/FORMAT.md has the bytes and all rules. These shapes of tables are here:
  *
 @SHAPES@
  *
  * FxHashFn hashes numbers. UnHashFn is for keys that are hashes already: their
- * last four bytes are the hash, and should vary. A table is a slice of bytes that
+ * last four bytes are taken as the hash, and should vary. Numbers are stored with
+ * their lowest byte first. A table is a slice of bytes that
  * the caller owns: a file's contents, a mapping, a part of either, or memory made
  * for it. It may begin at any address. There is nothing to close or to free.
  *
@@ -24,7 +25,8 @@
  * - Nobody writes a table's bytes while a call reads them, and nobody reads
  *   them while a call writes them. The library keeps nothing between calls, so
  *   any number of threads may read one table.
- * - Every call answers a status, an enum odht_status, but odht_*_view_len. The
+ * - Every call answers a status, an enum odht_status, but odht_*_view_len and
+ *   odht_version. The
  *   places behind the pointers to results are written only where the comment says
  *   so. Compilers warn where an answer is not looked at.
  * - Where arrays of different lengths are given that should be equally long,

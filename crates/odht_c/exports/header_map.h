@@ -22,11 +22,11 @@ ODHT_CALL uint32_t odht_@S@_insert_all(
     const @VALUE@ *values, size_t values_len, size_t *accepted)
     ODHT_INLINE(@S@_insert_all);
 
-/* OK: *count pairs, in the order of the slots. TOO_SMALL: the arrays are full, and there are
-   more. BAD_LENGTHS, or a refusal, 1 to 7: the arrays and *count stay. */
+/* OK: the last *count pairs, from slot *cursor on. TOO_SMALL: the arrays are full, there are more,
+   and *cursor is where to go on. BAD_LENGTHS, or a refusal, 1 to 7: nothing is written. */
 ODHT_CALL uint32_t odht_@S@_walk(
-    const uint8_t *bytes, size_t bytes_len, @KEYS@ *keys, size_t keys_len, @VALUE@ *values,
-    size_t values_len, size_t *count)
+    const uint8_t *bytes, size_t bytes_len, size_t *cursor, @KEYS@ *keys, size_t keys_len,
+    @VALUE@ *values, size_t values_len, size_t *count)
     ODHT_INLINE(@S@_walk);
 
 /* OK: *value is the value. ABSENT: it stays. */
@@ -40,6 +40,19 @@ ODHT_CALL uint32_t odht_@S@_view_get_all(
     const odht_view *view, const @KEYS@ *keys, size_t keys_len, @VALUE@ *values,
     size_t values_len, uint8_t *found, size_t found_len)
     ODHT_INLINE(@S@_view_get_all);
+
+/* OK: the table is the first *len bytes of out. TOO_SMALL: out_len is below *len, the length that
+   it has. CAPACITY, BAD_PERCENT, BAD_LENGTHS: *len stays. With all but OK out stays. */
+ODHT_CALL uint32_t odht_@S@_build(
+    const @KEYS@ *keys, size_t keys_len, const @VALUE@ *values, size_t values_len,
+    uint8_t percent, uint8_t *out, size_t out_len, size_t *len)
+    ODHT_INLINE(@S@_build);
+
+/* OK, TOO_SMALL and BAD_LENGTHS as there. MEMORY: out and *len stay. */
+ODHT_CALL uint32_t odht_@S@_build_growing(
+    const @KEYS@ *keys, size_t keys_len, const @VALUE@ *values, size_t values_len,
+    uint8_t *out, size_t out_len, size_t *len)
+    ODHT_INLINE(@S@_build_growing);
 
 #if ODHT_TAKES_NULL
 /* The symbols of the library, then the functions around them. */
@@ -83,13 +96,14 @@ static inline uint32_t odht_@S@_insert_all(
 }
 
 static inline uint32_t odht_@S@_walk(
-    const uint8_t *bytes, size_t bytes_len, @KEYS@ *keys, size_t keys_len, @VALUE@ *values,
-    size_t values_len, size_t *count)
+    const uint8_t *bytes, size_t bytes_len, size_t *cursor, @KEYS@ *keys, size_t keys_len,
+    @VALUE@ *values, size_t values_len, size_t *count)
 {
     size_t unwanted = 0;
     return odht_symbol_@S@_walk(
-        odht_read_uint8_t(bytes, bytes_len), bytes_len, odht_write_@KEYS@(keys, keys_len),
-        keys_len, odht_write_@VALUE@(values, values_len), values_len, count ? count : &unwanted);
+        odht_read_uint8_t(bytes, bytes_len), bytes_len, cursor,
+        odht_write_@KEYS@(keys, keys_len), keys_len, odht_write_@VALUE@(values, values_len),
+        values_len, count ? count : &unwanted);
 }
 
 static inline uint32_t odht_@S@_view_get(
@@ -107,6 +121,26 @@ static inline uint32_t odht_@S@_view_get_all(
         view, odht_read_@KEYS@(keys, keys_len), keys_len,
         odht_write_@VALUE@(values, values_len), values_len, odht_write_uint8_t(found, found_len),
         found_len);
+}
+
+static inline uint32_t odht_@S@_build(
+    const @KEYS@ *keys, size_t keys_len, const @VALUE@ *values, size_t values_len,
+    uint8_t percent, uint8_t *out, size_t out_len, size_t *len)
+{
+    size_t unwanted = 0;
+    return odht_symbol_@S@_build(
+        odht_read_@KEYS@(keys, keys_len), keys_len, odht_read_@VALUE@(values, values_len),
+        values_len, percent, odht_write_uint8_t(out, out_len), out_len, len ? len : &unwanted);
+}
+
+static inline uint32_t odht_@S@_build_growing(
+    const @KEYS@ *keys, size_t keys_len, const @VALUE@ *values, size_t values_len,
+    uint8_t *out, size_t out_len, size_t *len)
+{
+    size_t unwanted = 0;
+    return odht_symbol_@S@_build_growing(
+        odht_read_@KEYS@(keys, keys_len), keys_len, odht_read_@VALUE@(values, values_len),
+        values_len, odht_write_uint8_t(out, out_len), out_len, len ? len : &unwanted);
 }
 #endif
 

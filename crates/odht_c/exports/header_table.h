@@ -21,11 +21,23 @@ ODHT_CALL uint32_t odht_@S@_check(const uint8_t *bytes, size_t bytes_len)
 ODHT_CALL uint32_t odht_@S@_len(const uint8_t *bytes, size_t bytes_len, size_t *count)
     ODHT_INLINE(@S@_len);
 
+/* OK: the numbers of the header: how many slots, how many items these take at most, and the load
+   factor in percent, rounded down. A refusal, 1 to 7: they stay. */
+ODHT_CALL uint32_t odht_@S@_sizes(
+    const uint8_t *bytes, size_t bytes_len, size_t *slots, size_t *max_item_count, uint8_t *percent)
+    ODHT_INLINE(@S@_sizes);
+
 /* OK: the slots that hold a pair, in an order of inserts. UNMADE: no inserts make the table, and
    the numbers in slots say nothing. BAD_LENGTHS, or a refusal, 1 to 16: slots stay. */
 ODHT_CALL uint32_t odht_@S@_insert_order(
     const uint8_t *bytes, size_t bytes_len, size_t *slots, size_t slots_len)
     ODHT_INLINE(@S@_insert_order);
+
+/* OK: the first *len bytes of out are the grown table. TOO_SMALL: out_len is below *len, and out
+   stays. A refusal, 1 to 7, LOAD_FACTOR_TOO_SMALL, CAPACITY: *len stays too. */
+ODHT_CALL uint32_t odht_@S@_grow(
+    const uint8_t *bytes, size_t bytes_len, uint8_t *out, size_t out_len, size_t *len)
+    ODHT_INLINE(@S@_grow);
 
 /* OK: *view is the view of the bytes. A refusal, 1 to 9: it stays. */
 ODHT_CALL uint32_t odht_@S@_open_view(const uint8_t *bytes, size_t bytes_len, odht_view *view)
@@ -70,12 +82,31 @@ static inline uint32_t odht_@S@_len(const uint8_t *bytes, size_t bytes_len, size
         odht_read_uint8_t(bytes, bytes_len), bytes_len, count ? count : &unwanted);
 }
 
+static inline uint32_t odht_@S@_sizes(
+    const uint8_t *bytes, size_t bytes_len, size_t *slots, size_t *max_item_count, uint8_t *percent)
+{
+    size_t unwanted[2] = { 0, 0 };
+    uint8_t unwanted_percent = 0;
+    return odht_symbol_@S@_sizes(
+        odht_read_uint8_t(bytes, bytes_len), bytes_len, slots ? slots : &unwanted[0],
+        max_item_count ? max_item_count : &unwanted[1], percent ? percent : &unwanted_percent);
+}
+
 static inline uint32_t odht_@S@_insert_order(
     const uint8_t *bytes, size_t bytes_len, size_t *slots, size_t slots_len)
 {
     return odht_symbol_@S@_insert_order(
         odht_read_uint8_t(bytes, bytes_len), bytes_len, odht_write_size_t(slots, slots_len),
         slots_len);
+}
+
+static inline uint32_t odht_@S@_grow(
+    const uint8_t *bytes, size_t bytes_len, uint8_t *out, size_t out_len, size_t *len)
+{
+    size_t unwanted = 0;
+    return odht_symbol_@S@_grow(
+        odht_read_uint8_t(bytes, bytes_len), bytes_len, odht_write_uint8_t(out, out_len), out_len,
+        len ? len : &unwanted);
 }
 
 static inline uint32_t odht_@S@_open_view(

@@ -1,4 +1,4 @@
-//! Tables from hashes of 20 bytes to u64, lowest byte first, hashed by UnHashFn.
+//! The exports of tables from hashes of 20 bytes to 64-bit numbers, UnHashFn.
 //!
 //! The statuses in the texts have the names of include/odht.h, and the bytes and rules are those of docs/FORMAT.md.
 //!
@@ -11,11 +11,12 @@ ghost use Rattle.odht_c.specs.Reads.{GetAnswers, GetAllAnswers, LenAnswers, Size
 ghost use Rattle.odht_c.specs.Views.{OpenViewAnswers, ViewGetAnswers, ViewGetAllAnswers, ViewLenAnswers};
 ghost use Rattle.odht_c.specs.Orders.{OrderAnswers};
 ghost use Rattle.odht_c.specs.Writes.{BytesNeededAnswers, InitAnswers, InsertAnswers, InsertAllAnswers};
+ghost use Rattle.odht_c.specs.Grows.{GrowAnswers};
 ghost use Rattle.odht_c.specs.Builds.{BuildAnswers, BuildGrowingAnswers};
 
 use crate::status::{BAD_LENGTHS, BAD_PERCENT};
 use crate::view::{self, View};
-use crate::{build, order, read, write};
+use crate::{build, grow, order, read, write};
 use odht::bytes::BorrowedMut;
 use odht::config::Coded;
 use odht::configs::Bytes20ToU64 as Shape;
@@ -245,6 +246,19 @@ pub extern "C" fn odht_b20_u64_insert_order(bytes: &[u8], out: &mut [usize]) -> 
     ensures { OrderAnswers ⟦<Shape as Coded>⟧.coding bytes.now out.old result out.new }
 {
     order::insert_order::<Shape>(bytes, out)
+}
+
+/// Writes the table that the one in `bytes` grows into at its maximum to the front of `out`, and tells its length in
+/// `len`: status 0. It has the slots for twice as many items, and for one at least, and the same load factor; the pairs
+/// are placed in slot order. `TOO_SMALL` where `out` is shorter than the table: then only `len` is written. A refusal of
+/// the header or length, `LOAD_FACTOR_TOO_SMALL` where the header states less than one percent, or `CAPACITY` where no
+/// slot count is enough or the length passes `usize`; then nothing is written. Behind the table `out` stays. No memory is
+/// asked for. One pass over both, and each item is hashed once.
+#[unsafe(no_mangle)]
+pub extern "C" fn odht_b20_u64_grow(bytes: &[u8], out: &mut [u8], len: &mut usize) -> u32
+    ensures { GrowAnswers ⟦<Shape as Coded>⟧.coding bytes.now out.old len.old result out.new len.new }
+{
+    grow::grow::<Shape>(bytes, out, len)
 }
 
 /// Builds the table of the pairs, the key and the value at each index, at the front of `out`, and tells its length in
