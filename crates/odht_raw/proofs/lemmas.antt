@@ -77,6 +77,8 @@ pub mod PartRuns
 pub mod JoinedRuns
 -- the bytes of a table cut into its parts, and joined again
 pub mod ListWrites
+-- where a round of inserts ends
+pub mod RoundEnds
 -- where a search is expected to end
 pub mod Expected
 -- runs of items in turn

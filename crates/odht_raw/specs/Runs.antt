@@ -6,16 +6,22 @@
 --                          and of which n add an entry, may leave es' and ctrl'
 --     ArePartsOfRun F P ps n es' ctrl'  these are the parts of the placed table P after the pairs ps are placed in turn, of
 --                          which n are of new keys
+--     room_end P from m    where a round ends that begins at item `from` of m: it takes as many items as the table P has
+--                          room for below its maximum, and no more than there are
+--     stated_end B from m  the same by the count and the maximum that the bytes B state
+--     IsStop ctrl s to i   inserts up to item `to` in turn may stop at i: it is `to`, or each of the s slots counts as
+--                          filled
 --     IsPlacedBelow F P ps B  B are the bytes of the table P after the pairs ps, which are of F, are placed in turn; it has
 --                          room for all of them below its maximum
-use Rattle.std.specs.Prelude.{◌≡◌, ℕ, ◌+◌, ◌≤◌, List, [], ◌∷◌, ◌++◌, length, map, All, Option, Some, None, Result, Ok}
+use Rattle.std.specs.Prelude.{◌≡◌, ℕ, ◌+◌, ◌-◌, ◌≤◌, min, ◌⊎◌, List, [], ◌∷◌, ◌++◌, length, map, All, Option, Some, None, Result, Ok}
 use Rattle.odht_base.specs.Format.{Format}
 use Rattle.odht_base.specs.Insert.{place_all}
 use Rattle.odht_base.specs.Load.{max_items}
+use Rattle.odht_base.specs.Shown.{stated_count}
 use Rattle.odht_base.specs.Table.{Pair, Table, slot_count, count}
 use Rattle.odht_base.specs.Valid.{IsPairOf, IsPartsOf, IsImage}
 use Rattle.odht_raw.specs.Coding.{Coding, encoded}
-use Rattle.odht_raw.specs.Frame.{IsFramed, PartsFrame}
+use Rattle.odht_raw.specs.Frame.{IsFramed, PartsFrame, HasNoFreeSlot, stated_maximum}
 use Rattle.odht_raw.specs.declared.error.Error.{Error}
 
 abbrev pub encoded_all : {K V : Type 0} → Coding K V → List (K × V) → List Pair
@@ -42,6 +48,15 @@ pub record ArePartsOfRun (F : Format) (P : Table) (ps : List Pair) (n : ℕ) (es
   pub placed : place_all F P ps ≡ Some table
   pub parts : IsPartsOf F table es' ctrl'
   pub counted : count table ≡ count P + n
+
+abbrev pub room_end : Table → ℕ → ℕ → ℕ
+room_end P from m = min (from + (max_items (slot_count P) P.factor - count P)) m
+
+abbrev pub stated_end : List ℕ → ℕ → ℕ → ℕ
+stated_end B from m = min (from + (stated_maximum B - stated_count B)) m
+
+abbrev pub IsStop : List ℕ → ℕ → ℕ → ℕ → Type 0
+IsStop ctrl s to i = (i ≡ to) ⊎ HasNoFreeSlot ctrl s
 
 pub record IsPlacedBelow (F : Format) (P : Table) (ps : List Pair) (B : List ℕ) : Type 0 where
   pub fits : All (IsPairOf F) ps

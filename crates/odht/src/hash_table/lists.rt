@@ -1,12 +1,13 @@
 //! Lists of inserts into the table over bytes of any kind.
 ghost use Rattle.std.specs.Prelude.{◌≡◌, ◌≤◌, ◌↔◌, length, take, IsOk, OnErr};
 ghost use Rattle.std.specs.List.{slice_range};
+ghost use Rattle.odht_base.specs.Shown.{stated_slots, controls_of};
 ghost use Rattle.odht_base.specs.Table.{Table};
 ghost use Rattle.odht_base.specs.Insert.{put_view};
 ghost use Rattle.odht_base.specs.Valid.{IsImage};
 ghost use Rattle.odht.specs.Lists.{encoded_all, IsFilled, IsFramedRun, IsRefusedAt, IsStoppedAt};
 ghost use Rattle.odht_raw.specs.Frame.{IsAccepted};
-ghost use Rattle.odht_raw.specs.Runs.{IsPlacedBelow};
+ghost use Rattle.odht_raw.specs.Runs.{IsPlacedBelow, IsStop, room_end, stated_end};
 
 use super::HashTable;
 use crate::bytes::ByteStoreMut;
@@ -16,7 +17,7 @@ use crate::items::Items;
 
 impl<C: Config, D: ByteStoreMut> HashTable<C, D> {
     /// Inserts the items from index `from` on in their order, as many as there is room for below the maximum, and answers
-    /// the index of the first that was not inserted.
+    /// the index of the first that was not inserted. On any bytes it stops before only where each slot counts as filled.
     #[inline(always)]
     pub(crate) fn insert_below_maximum<I: Items<C::Key, C::Value>>(
         &mut self,
@@ -26,6 +27,14 @@ impl<C: Config, D: ByteStoreMut> HashTable<C, D> {
         requires { from ≤ length (I.items items.now) }
         ensures from { from ≤ result }
         ensures bound { result ≤ length (I.items items.now) }
+        ensures number { let c = ⟦<C as Coded>⟧.coding
+            in (P : Table)
+            → IsImage c.format P (D.bytes self.old)
+            → result ≡ room_end P from (length (I.items items.now)) }
+        ensures number_on_any { let F = ⟦<C as Coded>⟧.coding.format
+            in let B = D.bytes self.new
+            in let all = stated_end (D.bytes self.old) from (length (I.items items.now))
+            in IsStop (controls_of F B) (stated_slots B) all result }
         ensures placed { let c = ⟦<C as Coded>⟧.coding
             in (P : Table)
             → IsImage c.format P (D.bytes self.old)

@@ -111,7 +111,7 @@ module _ (F : Format) (P : Table) (k es ctrl : List ℕ) (f : IsFormat F) (h : I
   is_free_slot i l (inr mirror) = sym (mirror_is i mirror.0) ∙ mirror.1
 
   -- and one that counts as filled is filled
-  is_filled_slot : (i : ℕ) → i < slot_count P → CountsAsFilled ctrl i → is_free P.cells i ≡ false
+  pub is_filled_slot : (i : ℕ) → i < slot_count P → CountsAsFilled ctrl i → is_free P.cells i ≡ false
   is_filled_slot i l (inl own) = sym (byte_is F f P es ctrl h i l) ∙ own
   is_filled_slot i l (inr mirror) = sym (mirror_is i mirror.0) ∙ mirror.1
 

@@ -1,6 +1,6 @@
 -- The bytes of a table cut into header, entries and control bytes, and what they are once a list was inserted.
 --     IsCut F B H es ctrl  the accepted bytes B are the header H, the entries es and the control bytes ctrl
-use Rattle.std.proofs.Common.{◌≡◌, ◌<◌, ◌≤◌, ◌+◌, ◌*◌, ◌^◌, ◌∙◌, ◌++◌, ℕ, sym, ap, ap₂, subst, List, take, drop, length, All, arith, lit≤, refl, append_assoc, length-append, length-take, length-drop, take_at, drop_at, take-append-drop}
+use Rattle.std.proofs.Common.{◌≡◌, ◌<◌, ◌≤◌, ◌+◌, ◌-◌, ◌*◌, ◌^◌, ◌∙◌, ◌++◌, ℕ, inl, inr, sym, ap, ap₂, subst, List, take, drop, length, All, arith, lit≤, refl, append_assoc, length-append, length-take, length-drop, take_at, drop_at, take-append-drop}
 use Rattle.std.proofs.lemmas.List.{length-map, take-take}
 use Rattle.std.proofs.lemmas.List.Elements.{All-take}
 use Rattle.odht_base.specs.Bytes.{bytes_at}
@@ -8,7 +8,7 @@ use Rattle.odht_base.specs.Format.{Format, entry_len}
 use Rattle.odht_base.specs.Image.{header_bytes, entries, controls, image}
 use Rattle.odht_base.specs.Load.{max_items}
 use Rattle.odht_base.specs.Numbers.{num}
-use Rattle.odht_base.specs.Shown.{stated_slots, stated_count, stated_factor}
+use Rattle.odht_base.specs.Shown.{stated_slots, stated_count, stated_factor, controls_of}
 use Rattle.odht_base.specs.Table.{Table, slot_count, count}
 use Rattle.odht_base.specs.Valid.{IsImage, IsPartsOf}
 use Rattle.odht_base.specs.Writes.{with_count}
@@ -17,10 +17,10 @@ use Rattle.odht_base.proofs.lemmas.Fits.{IsSized-IsPlaced}
 use Rattle.odht_base.proofs.lemmas.Image.{stated_count-image, stated_slots-image}
 use Rattle.odht_base.proofs.lemmas.Parts.{length-header_bytes, length-entries}
 use Rattle.odht_raw.specs.Coding.{Coding, encoded}
-use Rattle.odht_raw.specs.Frame.{IsAccepted, stated_maximum}
-use Rattle.odht_raw.specs.Runs.{encoded_all, IsFramedRun, IsPartsRun, ArePartsOfRun, IsPlacedBelow}
+use Rattle.odht_raw.specs.Frame.{IsAccepted, HasNoFreeSlot, stated_maximum}
+use Rattle.odht_raw.specs.Runs.{encoded_all, IsFramedRun, IsPartsRun, ArePartsOfRun, IsPlacedBelow, IsStop}
 use Rattle.odht_raw.proofs.lemmas.Accepted.{accepted_len}
-use Rattle.odht_raw.proofs.lemmas.JoinedRuns.{joined, IsJoinedRun, run_joined, length-with_count, with_count-stated, accepted_joined, placed_joined}
+use Rattle.odht_raw.proofs.lemmas.JoinedRuns.{joined, joined-slots, joined-controls, IsJoinedRun, run_joined, length-with_count, with_count-stated, accepted_joined, placed_joined}
 use Rattle.odht_raw.proofs.lemmas.PartRuns.{run_fits}
 
 pub record IsCut (F : Format) (B H es ctrl : List ℕ) : Type 0 where
@@ -117,6 +117,21 @@ module _ {K V : Type 0} (c : Coding K V) (B H es ctrl : List ℕ) (cut : IsCut c
   list_length =
       let head : length H' ≡ 32 = ap length written ∙ length-with_count H (stated_count B + n) es ctrl cut.head in
       omega (arith, length-append (H' ++ es') ctrl', length-append H' es', head, told.entries_len, told.control_len, ap length cut.whole, length-append H (es ++ ctrl), length-append es ctrl, cut.head)
+
+  -- with as many control bytes
+  pub list_control : length ctrl' ≡ stated_slots B + 16
+  list_control = told.control_len ∙ cut.mirrored ∙ ap (λ s. s + 16) cut.slots
+
+  -- where the inserts may stop by the parts they may by the bytes
+  pub list_stop : (to i : ℕ) → IsStop ctrl' (length ctrl' - 16) to i → IsStop (controls_of c.format (H' ++ es' ++ ctrl')) (stated_slots (H' ++ es' ++ ctrl')) to i
+  list_stop to i (inl e) = inl e
+  list_stop to i (inr none) =
+      let m = stated_count B + n in
+      let slots = joined-slots H m es' ctrl' cut.head in
+      let controls = joined-controls c.format H m es' ctrl' cut.head (told.entries_len ∙ cut.long) in
+      let same : length ctrl' - 16 ≡ stated_slots (joined H m es' ctrl') = omega (arith, told.control_len, cut.mirrored, slots) in
+      inr (subst (λ b. HasNoFreeSlot (controls_of c.format b) (stated_slots b)) now
+      (subst (λ x. HasNoFreeSlot x (stated_slots (joined H m es' ctrl'))) (sym controls) (subst (HasNoFreeSlot ctrl') same none)))
 
   -- and on the image of a table that of the table with the pairs placed
   pub list_placed : (P : Table) → IsImage c.format P B → count P + length items ≤ max_items (slot_count P) P.factor

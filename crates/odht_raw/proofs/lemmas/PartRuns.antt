@@ -10,13 +10,14 @@ use Rattle.std.specs.Result.{result_map_both}
 use Rattle.odht_base.specs.Format.{Format}
 use Rattle.odht_base.specs.Insert.{place}
 use Rattle.odht_base.specs.Map.{map_of}
+use Rattle.odht_base.specs.Shown.{slot_value}
 use Rattle.odht_base.specs.Table.{Pair, Table, count}
 use Rattle.odht_base.specs.Valid.{IsPairOf}
 use Rattle.odht_base.proofs.lemmas.Options.{some_same}
 use Rattle.odht_base.proofs.lemmas.Places.{count-place}
 use Rattle.odht_base.proofs.lemmas.Runs.{run-push}
 use Rattle.odht_raw.specs.Coding.{Coding, encoded}
-use Rattle.odht_raw.specs.Frame.{PartsFrame, IsPartsFramed}
+use Rattle.odht_raw.specs.Frame.{HasNoFreeSlot, PartsFrame, IsPartsFramed}
 use Rattle.odht_raw.specs.PartsInserts.{AnswersFormer, ArePartsPlaced}
 use Rattle.odht_raw.specs.Runs.{encoded_all, count_after, IsPartsRun, ArePartsOfRun}
 use Rattle.odht_raw.specs.declared.error.Error.{Error}
@@ -78,6 +79,17 @@ run_more {K = K} {V = V} c es0 ctrl0 items k v n es ctrl es' ctrl' before fits {
         subst (λ m. IsPartsRun c es0 ctrl0 (items ++ (k, v) ∷ []) m es' ctrl') (count_after-former f n o old same)
         (IsPartsRun.accepted items k v n o es ctrl es' ctrl' before fits frame)
     go (Err x) e frame = absurd (let both : Ok old ≡ Err x = sym ok ∙ e in cc)
+
+-- a refused item finds no slot
+pub refused_full : (F : Format) (es ctrl : List ℕ) (p : Pair) (es' ctrl' : List ℕ) {W : Type 0} (f : List ℕ → W) (r : Result (Option W) Error) (e : Error)
+    → r ≡ Err e → IsPartsFramed F f es ctrl p r es' ctrl' → HasNoFreeSlot ctrl' (length ctrl' - 16)
+refused_full F es ctrl p es' ctrl' {W = W} f r e err framed = go es ctrl es' ctrl' framed.0 framed.1 framed.2
+  where
+    go : (es ctrl es' ctrl' : List ℕ) (a : Result (Option (List ℕ)) Error) → r ≡ result_map_both (option_map f) (λ e. e) a → PartsFrame F es ctrl p a es' ctrl'
+        → HasNoFreeSlot ctrl' (length ctrl' - 16)
+    go es ctrl es' ctrl' a is (PartsFrame.no_slot none) = none
+    go es ctrl es' ctrl' a is (PartsFrame.overwrote i low key) = absurd (let both : Err e ≡ Ok (Some (f (slot_value F es i))) = sym err ∙ is in cc)
+    go es ctrl es' ctrl' a is (PartsFrame.added i low free) = absurd (let both : Err e ≡ Ok None = sym err ∙ is in cc)
 
 -- one more item on the parts of a placed table
 pub placed_more : (F : Format) (P : Table) (ps : List Pair) (n : ℕ) (es ctrl : List ℕ) (h : ArePartsOfRun F P ps n es ctrl) (p : Pair) (es' ctrl' : List ℕ)

@@ -6,7 +6,7 @@ ghost use Rattle.odht_base.specs.Table.{Table};
 ghost use Rattle.odht_base.specs.Valid.{IsPartsOf};
 ghost use Rattle.odht_raw.specs.Expected.{AreAhead};
 ghost use Rattle.odht_raw.specs.PartLengths.{ArePairLengths, ArePartLengths};
-ghost use Rattle.odht_raw.specs.Runs.{encoded_all, IsPartsRun, ArePartsOfRun};
+ghost use Rattle.odht_raw.specs.Runs.{encoded_all, IsPartsRun, ArePartsOfRun, IsStop};
 
 use super::lists::insert_into_parts;
 use crate::bytes::ByteArray;
@@ -44,6 +44,7 @@ pub(super) fn insert_by_size<C: Config, I: Items<C::Key, C::Value>>(
         in (P : Table)
         → IsPartsOf c.format P entries.old control.old
         → ArePartsOfRun c.format P pairs result.1 entries.new control.new }
+    ensures stop { IsStop control.new (length control.new - 16) to result.0 }
 {
     if control.len() - REFERENCE_GROUP_SIZE >= LARGE {
         return insert_in_batches::<C, I>(control, entries, items, from, to);
@@ -73,6 +74,7 @@ fn insert_in_batches<C: Config, I: Items<C::Key, C::Value>>(
         in (P : Table)
         → IsPartsOf c.format P entries.old control.old
         → ArePartsOfRun c.format P pairs result.1 entries.new control.new }
+    ensures stop { IsStop control.new (length control.new - 16) to result.0 }
 {
     let mut index = from;
     let mut added = 0;
@@ -109,6 +111,7 @@ fn insert_batch<C: Config, I: Items<C::Key, C::Value>>(
         in (P : Table)
         → IsPartsOf c.format P entries.old control.old
         → ArePartsOfRun c.format P pairs result.1 entries.new control.new }
+    ensures stop { IsStop control.new (length control.new - 16) (from + 8) result.0 }
 {
     let ahead = look_ahead::<C, I>(control, items, from);
     let mut added = 0;

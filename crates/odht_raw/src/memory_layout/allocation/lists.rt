@@ -1,11 +1,12 @@
 //! Lists of items that are inserted into the bytes of a table: the header is read once, and the item count written once.
-ghost use Rattle.std.specs.Prelude.{◌≡◌, ◌+◌, ◌≤◌, ℕ, length};
+ghost use Rattle.std.specs.Prelude.{◌≡◌, ◌+◌, ◌-◌, ◌≤◌, length};
 ghost use Rattle.std.specs.List.{slice_range};
+ghost use Rattle.odht_base.specs.Shown.{stated_slots, controls_of};
 ghost use Rattle.odht_base.specs.Table.{Table};
 ghost use Rattle.odht_base.specs.Valid.{IsImage, IsPartsOf};
 ghost use Rattle.odht_raw.specs.Frame.{IsAccepted};
 ghost use Rattle.odht_raw.specs.PartLengths.{ArePartLengths};
-ghost use Rattle.odht_raw.specs.Runs.{encoded_all, IsFramedRun, IsPartsRun, ArePartsOfRun, IsPlacedBelow};
+ghost use Rattle.odht_raw.specs.Runs.{encoded_all, IsFramedRun, IsPartsRun, ArePartsOfRun, IsPlacedBelow, IsStop, room_end, stated_end};
 
 use super::Allocation;
 use super::batches::insert_by_size;
@@ -20,8 +21,8 @@ use crate::raw_table::RawTableMut;
 
 impl<C: Config, M: ByteStoreMut> Allocation<C, M> {
     /// Inserts the items from index `from` on in their order, as many as the table has room for below its maximum, and
-    /// answers the index of the first that was not inserted. It stops early only where an item finds no slot, which no
-    /// valid table has.
+    /// answers the index of the first that was not inserted. On valid bytes these are all that are left, or as many as the
+    /// maximum is above the count before. On any bytes it stops before that only where each slot counts as filled.
     ///
     /// The header is read once and the item count written once. At most each group is looked at once for an item; that at
     /// the home slot once more in tables of 2^20 slots and above, whose groups are looked at ahead, for eight keys at once.
@@ -34,6 +35,14 @@ impl<C: Config, M: ByteStoreMut> Allocation<C, M> {
         requires { from ≤ length (I.items items.now) }
         ensures from { from ≤ result }
         ensures bound { result ≤ length (I.items items.now) }
+        ensures number { let c = ⟦<C as Coded>⟧.coding
+            in (P : Table)
+            → IsImage c.format P (M.bytes self.old)
+            → result ≡ room_end P from (length (I.items items.now)) }
+        ensures number_on_any { let F = ⟦<C as Coded>⟧.coding.format
+            in let B = M.bytes self.new
+            in let all = stated_end (M.bytes self.old) from (length (I.items items.now))
+            in IsStop (controls_of F B) (stated_slots B) all result }
         ensures placed { let c = ⟦<C as Coded>⟧.coding
             in (P : Table)
             → IsImage c.format P (M.bytes self.old)
@@ -59,6 +68,14 @@ fn insert_into_store<C: Config, M: ByteStoreMut, I: Items<C::Key, C::Value>>(
     requires from { from ≤ length (I.items items.now) }
     ensures from { from ≤ result }
     ensures bound { result ≤ length (I.items items.now) }
+    ensures number { let c = ⟦<C as Coded>⟧.coding
+        in (P : Table)
+        → IsImage c.format P (M.bytes store.old)
+        → result ≡ room_end P from (length (I.items items.now)) }
+    ensures number_on_any { let F = ⟦<C as Coded>⟧.coding.format
+        in let B = M.bytes store.new
+        in let all = stated_end (M.bytes store.old) from (length (I.items items.now))
+        in IsStop (controls_of F B) (stated_slots B) all result }
     ensures placed { let c = ⟦<C as Coded>⟧.coding
         in (P : Table)
         → IsImage c.format P (M.bytes store.old)
@@ -83,6 +100,14 @@ fn insert_into_bytes<C: Config, I: Items<C::Key, C::Value>>(
     requires from { from ≤ length (I.items items.now) }
     ensures from { from ≤ result }
     ensures bound { result ≤ length (I.items items.now) }
+    ensures number { let c = ⟦<C as Coded>⟧.coding
+        in (P : Table)
+        → IsImage c.format P bytes.old
+        → result ≡ room_end P from (length (I.items items.now)) }
+    ensures number_on_any { let F = ⟦<C as Coded>⟧.coding.format
+        in let B = bytes.new
+        in let all = stated_end bytes.old from (length (I.items items.now))
+        in IsStop (controls_of F B) (stated_slots B) all result }
     ensures placed { let c = ⟦<C as Coded>⟧.coding
         in (P : Table)
         → IsImage c.format P bytes.old
@@ -132,6 +157,7 @@ pub(super) fn insert_into_parts<C: Config, I: Items<C::Key, C::Value>>(
         in (P : Table)
         → IsPartsOf c.format P entries.old control.old
         → ArePartsOfRun c.format P pairs result.1 entries.new control.new }
+    ensures stop { IsStop control.new (length control.new - 16) to result.0 }
 {
     let mut table: RawTableMut<'_, '_, C::EncodedKey, C::EncodedValue, C::H> = RawTableMut::new(
         control, entries,

@@ -1,4 +1,4 @@
-use Rattle.std.proofs.Common.{◌≡◌, ◌+◌, ◌<◌, ◌∙◌, ◌++◌, ℕ, List, [], ◌∷◌, get_or, sym, ap, subst, refl, cond, arith, length}
+use Rattle.std.proofs.Common.{◌≡◌, ◌+◌, ◌<◌, ◌∙◌, ◌++◌, ℕ, List, [], ◌∷◌, get_or, inr, sym, ap, subst, refl, cond, arith, length}
 use Rattle.std.specs.Prelude.{is_none}
 use Rattle.std.specs.List.{slice_range}
 use Rattle.std.proofs.lemmas.Option.{slice_get-get_or}
@@ -10,7 +10,7 @@ use Rattle.odht_raw.specs.Frame.{IsPartsFramed}
 use Rattle.odht_raw.specs.PartsInserts.{AnswersFormer}
 use Rattle.odht_raw.specs.Runs.{encoded_all, IsPartsRun, ArePartsOfRun}
 use Rattle.odht_raw.proofs.lemmas.Expected.{expected_run}
-use Rattle.odht_raw.proofs.lemmas.PartRuns.{range_more, range_none, encoded_push, is_none-not, run_more, placed_more, run_fits}
+use Rattle.odht_raw.proofs.lemmas.PartRuns.{range_more, range_none, encoded_push, is_none-not, run_more, placed_more, refused_full, run_fits}
 use Rattle.odht_raw.proofs.memory_layout.allocation.batches.insert_batch.Given.{Over}
 use Rattle.odht_raw.proofs.memory_layout.allocation.batches.insert_batch.Goals as goal
 use Rattle.odht_raw.proofs.memory_layout.allocation.batches.insert_batch.Goals.{After-as_slice-in-loop-place, then-is_none, else-is_none}
@@ -104,3 +104,7 @@ loop-place-preserved g c =
           (subst (λ (ps : List Pair). ArePartsOfRun K.format P ps (cond (is_none former) (c.loop-place.added + 1) c.loop-place.added) es' ctrl') (sym (ap (encoded_all K) more ∙ encoded_push K before k v))
           (placed_more K.format P (encoded_all K before) c.loop-place.added es ctrl h (encoded K k v) es' ctrl' value_of answer.result former c.in-Ok.is answers)));
     }
+
+pub returns-in_default-clause-stop : goal.returns-in_default-clause-stop
+returns-in_default-clause-stop g c =
+    inr (refused_full (coding g).format _ _ _ _ _ g.C.EncodedValue.ByteArray.of_bytes c.insert_expected-answer.result c.in_default.field-0 c.in_default.is c.insert_expected-answer.ensures.any.frame)

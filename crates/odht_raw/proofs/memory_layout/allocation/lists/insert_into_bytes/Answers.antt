@@ -1,4 +1,4 @@
-use Rattle.std.proofs.Common.{◌≡◌, ◌<◌, ◌≤◌, ◌+◌, ◌-◌, ◌*◌, ◌∙◌, ℕ, List, length, sym, ap, subst, arith}
+use Rattle.std.proofs.Common.{◌≡◌, ◌<◌, ◌≤◌, ◌+◌, ◌-◌, ◌*◌, ◌∙◌, ℕ, List, length, min, inl, inr, sym, ap, subst, arith}
 use Rattle.std.specs.List.{slice_range}
 use Rattle.odht_base.specs.Bytes.{overwritten_at}
 use Rattle.odht_base.specs.Format.{Format, format_of, entry_len}
@@ -11,10 +11,13 @@ use Rattle.odht_base.proofs.lemmas.Image.{stated_count-image, stated_slots-image
 use Rattle.odht_base.specs.Numbers.{le_bytes}
 use Rattle.odht_raw.specs.Coding.{Coding, coding_of}
 use Rattle.odht_raw.specs.Frame.{stated_maximum}
+use Rattle.odht_raw.specs.Runs.{encoded_all, stated_end}
 use Rattle.odht_raw.proofs.lemmas.Accepted.{accepted_opening, accepted_len, accepted_slots}
+use Rattle.odht_raw.proofs.lemmas.Formats.{IsFormat-format_of}
 use Rattle.odht_raw.proofs.lemmas.HeaderWrites.{le_bytes-w64}
-use Rattle.odht_raw.proofs.lemmas.ListWrites.{IsCut, cut_accepted, cut-image, list_framed, list_accepted, list_length, list_placed}
-use Rattle.odht_raw.proofs.lemmas.PartRuns.{length-range}
+use Rattle.odht_raw.proofs.lemmas.ListWrites.{IsCut, cut_accepted, cut-image, list_framed, list_accepted, list_length, list_control, list_stop, list_placed}
+use Rattle.odht_raw.proofs.lemmas.PartRuns.{length-range, run_fits}
+use Rattle.odht_raw.proofs.lemmas.RoundEnds.{goes_on}
 use Rattle.odht_raw.proofs.memory_layout.allocation.lists.insert_into_bytes.Given.{Over}
 use Rattle.odht_raw.proofs.memory_layout.allocation.lists.insert_into_bytes.Goals as goal
 use Rattle.odht_raw.proofs.memory_layout.allocation.lists.insert_into_bytes.Goals.{After-split_at_mut-front, After-write_slice}
@@ -119,3 +122,37 @@ returns-clause-placed g c P is =
     list_placed K c.args.bytes.now _ _ _ cut (inserted g w) c.insert_by_size-end.result.1 _ _ _
     (written g w) c.insert_by_size-end.ensures.run (room g w) (omega (arith, told.1)) P is few
     (c.insert_by_size-end.ensures.placed P (cut-image K.format c.args.bytes.now _ _ _ cut P is).1)
+
+-- where the round ends, if it goes on to its last item
+ends : (g : Over) (c : After-write_slice g) → c.args.from + c.min-room.result ≡ stated_end c.args.bytes.now c.args.from (length (g.I.Items.items c.args.items.now))
+ends g c =
+    let told = stated g c in
+    omega (arith, told.0, told.1, c.requires.from, c.count.ensures, c.min-room.ensures, c.saturating_sub.ensures)
+
+pub returns-clause-number_on_any : goal.returns-clause-number_on_any
+returns-clause-number_on_any g c =
+    let w = (goal.at.returns-clause-number_on_any g c).After-write_slice in
+    let stop = list_stop (coding g) c.args.bytes.now _ _ _ (cut g (goal.at.returns-clause-number_on_any g c).After-split_at_mut-front) (inserted g w) c.insert_by_size-end.result.1 _ _ _
+    (written g w) c.insert_by_size-end.ensures.run (room g w) (omega (arith, (stated g w).1)) (c.args.from + c.min-room.result) c.insert_by_size-end.result.0 c.insert_by_size-end.ensures.stop in
+    elim stop [ inl e ↦ inl (e ∙ ends g w) | inr none ↦ inr none ]
+
+pub returns-clause-number : goal.returns-clause-number
+returns-clause-number g c P is =
+    let w = (goal.at.returns-clause-number g c).After-write_slice in
+    let K = coding g in
+    let cut = cut g (goal.at.returns-clause-number g c).After-split_at_mut-front in
+    let told = stated g w in
+    let items = g.I.Items.items c.args.items.now in
+    let b = c.insert_by_size-end in
+    let sized = IsSized-IsPlaced K.format P is.valid.placed in
+    let count_is : stated_count c.args.bytes.now ≡ count P = ap stated_count is.bytes ∙ stated_count-image K.format P sized in
+    let slots_is : stated_slots c.args.bytes.now ≡ slot_count P = ap stated_slots is.bytes ∙ stated_slots-image K.format P sized in
+    let most_is : stated_maximum c.args.bytes.now ≡ max_items (slot_count P) P.factor =
+    ap stated_maximum is.bytes ∙ (λ i. max_items (stated_slots-image K.format P sized i) (stated_factor-image K.format P is.valid.factor_high i)) in
+    let f = IsFormat-format_of _ _ _ _ g.met.C.Config.key_fits g.met.C.Config.value_fits g.met.C.Config.key_hashes g.met.C.H.HashFn.fits in
+    let long = list_control K c.args.bytes.now _ _ _ cut (inserted g w) b.result.1 _ _ _ (written g w) b.ensures.run (room g w) (omega (arith, told.1)) in
+    let few : count P + b.result.1 ≤ max_items (slot_count P) P.factor =
+    omega (arith, told.0, told.1, count_is, most_is, is.valid.room, b.ensures.bound, b.ensures.few, c.min-room.ensures, c.saturating_sub.ensures) in
+    goes_on K.format P (encoded_all K (inserted g w)) b.result.1 _ _ (c.args.from + c.min-room.result) b.result.0 f is.valid (run_fits K _ _ (inserted g w) b.result.1 _ _ b.ensures.run)
+    (b.ensures.placed P (cut-image K.format c.args.bytes.now _ _ _ cut P is).1) few (long ∙ ap (λ s. s + 16) slots_is) b.ensures.stop
+    ∙ ends g w ∙ (λ i. min (c.args.from + (most_is i - count_is i)) (length items))

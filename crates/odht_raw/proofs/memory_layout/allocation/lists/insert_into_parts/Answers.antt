@@ -1,13 +1,13 @@
-use Rattle.std.proofs.Common.{◌≡◌, ◌+◌, ◌<◌, ◌∙◌, List, sym, ap, subst, refl, cond, arith, length}
+use Rattle.std.proofs.Common.{◌≡◌, ◌+◌, ◌<◌, ◌∙◌, ◌-◌, ℕ, rules, List, inr, sym, ap, subst, refl, cond, arith, length}
 use Rattle.std.specs.Prelude.{is_none}
 use Rattle.std.specs.List.{slice_range}
 use Rattle.odht_base.specs.Table.{Pair}
 use Rattle.odht_base.specs.Valid.{IsPairOf}
 use Rattle.odht_raw.specs.Coding.{Coding, coding_of, encoded}
-use Rattle.odht_raw.specs.Frame.{IsPartsFramed}
+use Rattle.odht_raw.specs.Frame.{HasNoFreeSlot, IsPartsFramed}
 use Rattle.odht_raw.specs.PartsInserts.{AnswersFormer}
 use Rattle.odht_raw.specs.Runs.{encoded_all, IsPartsRun, ArePartsOfRun}
-use Rattle.odht_raw.proofs.lemmas.PartRuns.{range_more, range_none, encoded_push, is_none-not, run_more, placed_more}
+use Rattle.odht_raw.proofs.lemmas.PartRuns.{range_more, range_none, encoded_push, is_none-not, run_more, placed_more, refused_full}
 use Rattle.odht_raw.proofs.memory_layout.allocation.lists.insert_into_parts.Given.{Over}
 use Rattle.odht_raw.proofs.memory_layout.allocation.lists.insert_into_parts.Goals as goal
 use Rattle.odht_raw.proofs.memory_layout.allocation.lists.insert_into_parts.Goals.{then-is_none, else-is_none}
@@ -84,3 +84,8 @@ loop-index-preserved g c =
           (subst (λ (ps : List Pair). ArePartsOfRun K.format P ps (cond (is_none former) (c.loop-index.added + 1) c.loop-index.added) es' ctrl') (sym (ap (encoded_all K) more ∙ encoded_push K before k v))
           (placed_more K.format P (encoded_all K before) c.loop-index.added es ctrl h (encoded K k v) es' ctrl' value_of c.insert.result former c.in-Ok.is answers)));
     }
+
+pub returns-in_default-clause-stop : goal.returns-in_default-clause-stop
+returns-in_default-clause-stop g c =
+    let full = refused_full (coding g).format _ _ _ _ _ g.C.EncodedValue.ByteArray.of_bytes c.insert.result c.in_default.field-0 c.in_default.is c.insert.ensures.frame in
+    inr (subst (λ (x : List ℕ). HasNoFreeSlot x (length x - 16)) (search rules) full)
