@@ -40,9 +40,11 @@
  * header states; an insert, alone or of many, changes one value beside an equal
  * key, or adds one entry below the maximum that the header states; and it
  * answers FULL only at that maximum, or where each slot counts as filled, by its
- * control byte or its copy in the mirror. docs/FORMAT.md has the frame.
+ * control byte or its copy in the mirror; a growth gives bytes that pass these
+ * refusals, with the count and the load factor of the header. docs/FORMAT.md has
+ * the frame.
  *
- * Memory is asked for by odht_u64_u32_build_growing alone, by malloc, and given
+ * Memory is asked for by odht_*_build_growing alone, by malloc, and given
  * back before it returns. It goes through the kit's small C library, so programs
  * are linked with both: libodht_c.a, then liblibc_c.a.
  */
@@ -79,10 +81,10 @@ enum odht_status {
     ODHT_NON_ZERO_EMPTY = 8,              /* a free slot's entry is not zero (open, check) */
     ODHT_CONTROL_MISMATCH = 9,            /* a control byte is not its key's tag (open, check) */
 
-    /* Refusals of the whole check alone: of odht_*_check, and of odht_*_insert_order,
+    /* Refusals of the whole check: of odht_*_check, and of odht_*_insert_order,
        which makes it first. After 1 to 9 as above it looks at the load
        factor and the padding, then at all slots in turn, where the first bad one
-       gives 8, 12 or 9, and then for 13 to 16. */
+       gives 8, 12 or 9, and then for 13 to 16. odht_*_grow answers 10 too. */
     ODHT_LOAD_FACTOR_TOO_SMALL = 10,      /* below 1 percent */
     ODHT_NON_ZERO_PADDING = 11,           /* bytes 30 and 31 are not zero */
     ODHT_BAD_FREE_CONTROL = 12,           /* a free slot's control byte is not 255 */
@@ -164,7 +166,7 @@ static inline const char *odht_status_name(uint32_t status)
  * - Nothing has written their header since but odht_*_insert, odht_*_insert_all
  *   and odht_*_init of the same kind of table, on exactly these bytes. These calls
  *   keep a view good, whatever they answer, and it finds what they have inserted.
- *   A build into these bytes does not, nor does another program that writes a
+ *   A build or a growth into these bytes does not, nor does another program that writes a
  *   mapped file. (Slots that something else has written make answers as told above.)
  *
  * Otherwise a lookup may read anywhere and answer anything, or the program may
@@ -331,6 +333,24 @@ uint32_t odht_u64_u32_insert_order(const uint8_t *bytes, size_t bytes_len, size_
                                    size_t out_len);
 
 /*
+ * Writes the table that this one grows into to out: with the slots for twice as
+ * many items, and for one at least, and the same load factor. So a caller goes on
+ * whose insert was answered FULL: it grows the table into larger memory of its own
+ * and inserts there. The bytes are those that a table has which grows by itself:
+ * the pairs are placed in the order of the slots.
+ * OK: the first *len bytes of out are the grown table, and the rest of out stays.
+ * TOO_SMALL: out_len is below *len, the length in bytes that it has, and out
+ * stays; so with out_len 0 a caller asks how much memory it needs. A refusal, 1
+ * to 7. LOAD_FACTOR_TOO_SMALL: the header states less than 1 percent, as no valid
+ * table does. CAPACITY: no slot count is enough, or the length does not fit
+ * size_t. With the last three nothing is written.
+ * It looks at each slot once and hashes each key once; no keys are compared. It
+ * takes no memory. bytes and out must not overlap.
+ */
+uint32_t odht_u64_u32_grow(const uint8_t *bytes, size_t bytes_len, uint8_t *out, size_t out_len,
+                           size_t *len);
+
+/*
  * Makes a table for exactly these pairs in out and inserts them one after the
  * other. Of equal keys the last value counts. It takes no memory.
  * OK: the table is the first *len bytes of out. TOO_SMALL: out_len is below
@@ -419,6 +439,22 @@ size_t odht_b16_u32_view_len(const odht_view *view);
    table, and the numbers in out say nothing. BAD_LENGTHS, or a refusal, 1 to 16: out stays. */
 uint32_t odht_b16_u32_insert_order(const uint8_t *bytes, size_t bytes_len, size_t *out,
                                    size_t out_len);
+
+/* OK: the first *len bytes of out are the grown table. TOO_SMALL: out_len is below *len, and out
+   stays. A refusal, 1 to 7, LOAD_FACTOR_TOO_SMALL, CAPACITY: nothing is written. */
+uint32_t odht_b16_u32_grow(const uint8_t *bytes, size_t bytes_len, uint8_t *out, size_t out_len,
+                           size_t *len);
+
+/* OK: the table is the first *len bytes of out. TOO_SMALL: out_len is below *len, and out stays.
+   CAPACITY, BAD_PERCENT, BAD_LENGTHS: nothing is written. */
+uint32_t odht_b16_u32_build(const uint8_t (*keys)[16], size_t keys_len, const uint32_t *values,
+                            size_t values_len, uint8_t max_load_factor_percent, uint8_t *out,
+                            size_t out_len, size_t *len);
+
+/* OK and TOO_SMALL as for odht_b16_u32_build. MEMORY, BAD_LENGTHS: nothing is written. */
+uint32_t odht_b16_u32_build_growing(const uint8_t (*keys)[16], size_t keys_len,
+                                    const uint32_t *values, size_t values_len, uint8_t *out,
+                                    size_t out_len, size_t *len);
 
 #ifdef __cplusplus
 }

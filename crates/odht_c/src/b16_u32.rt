@@ -12,13 +12,16 @@ ghost use Rattle.odht_c.specs.Reads.{GetAnswers, GetAllAnswers, LenAnswers, Walk
 ghost use Rattle.odht_c.specs.Views.{OpenViewAnswers, ViewGetAnswers, ViewGetAllAnswers, ViewLenAnswers};
 ghost use Rattle.odht_c.specs.Orders.{OrderAnswers};
 ghost use Rattle.odht_c.specs.Writes.{BytesNeededAnswers, InitAnswers, InsertAnswers, InsertAllAnswers};
+ghost use Rattle.odht_c.specs.Grows.{GrowAnswers};
+ghost use Rattle.odht_c.specs.Builds.{BuildAnswers, BuildGrowingAnswers};
 
-use crate::status::BAD_LENGTHS;
+use crate::status::{BAD_LENGTHS, BAD_PERCENT};
 use crate::view::{self, View};
-use crate::{order, read, write};
+use crate::{build, grow, order, read, write};
 use odht::bytes::BorrowedMut;
 use odht::config::{Coded, Config};
 use odht::hash::UnHashFn;
+use std::alloc::Global;
 
 /// From 16 bytes to `u32`.
 pub struct Bytes16ToU32;
@@ -281,4 +284,66 @@ pub extern "C" fn odht_b16_u32_insert_order(bytes: &[u8], out: &mut [usize]) -> 
     ensures { OrderAnswers ⟦<Bytes16ToU32 as Coded>⟧.coding bytes.now out.old result out.new }
 {
     order::insert_order::<Bytes16ToU32>(bytes, out)
+}
+
+/// Writes the table that the one in `bytes` grows into at its maximum to the front of `out`, and tells its length in
+/// `len`: status 0. It has the slots for twice as many items, and for one at least, and the same load factor; the pairs
+/// are placed in slot order. `TOO_SMALL` where `out` is shorter than the table: then only `len` is written. A refusal of
+/// the header or length, `LOAD_FACTOR_TOO_SMALL` where the header states less than one percent, or `CAPACITY` where no
+/// slot count is enough or the length passes `usize`; then nothing is written. Behind the table `out` stays. No memory is
+/// asked for. One pass over both, and each item is hashed once.
+#[unsafe(no_mangle)]
+pub extern "C" fn odht_b16_u32_grow(bytes: &[u8], out: &mut [u8], len: &mut usize) -> u32
+    ensures { GrowAnswers ⟦<Bytes16ToU32 as Coded>⟧.coding bytes.now out.old len.old result out.new len.new }
+{
+    grow::grow::<Bytes16ToU32>(bytes, out, len)
+}
+
+/// Builds the table of the pairs, the key and the value at each index, at the front of `out`, and tells its length in
+/// `len`: status 0. It is made for as many pairs as there are, so it never grows; a later pair gives an earlier key its
+/// value. `TOO_SMALL` where `out` is shorter than the table: then only `len` is written. `BAD_LENGTHS` where there are
+/// more of the keys or of the values, `BAD_PERCENT` where the load factor is not from 1 to 100 percent, `CAPACITY` only
+/// where no slot count is enough or the length passes `usize`; then nothing is written. Behind the table `out` stays.
+/// No memory is asked for. One pass over the bytes, then one insert a pair.
+#[unsafe(no_mangle)]
+pub extern "C" fn odht_b16_u32_build(
+    keys: &[[u8; 16]],
+    values: &[u32],
+    max_load_factor_percent: u8,
+    out: &mut [u8],
+    len: &mut usize,
+) -> u32
+    ensures { BuildAnswers ⟦<Bytes16ToU32 as Coded>⟧.coding keys.now values.now max_load_factor_percent
+        out.old len.old result out.new len.new }
+{
+    if values.len() != keys.len() {
+        return BAD_LENGTHS;
+    }
+    if max_load_factor_percent < 1 || max_load_factor_percent > 100 {
+        return BAD_PERCENT;
+    }
+    build::collected::<Bytes16ToU32>(keys, values, max_load_factor_percent, out, len)
+}
+
+/// Builds the table of the pairs, the key and the value at each index, in memory of its own, copies it to the front of
+/// `out`, and tells its length in `len`: status 0. It begins with sixteen slots at 87 percent, and grows as the pairs
+/// are put into it; a later pair gives an earlier key its value. `TOO_SMALL` where `out` is shorter than the table:
+/// then only `len` is written. `BAD_LENGTHS` where there are more of the keys or of the values, `MEMORY` where the
+/// memory was refused; then nothing is written. Behind the table `out` stays. One insert a pair, the growths, and one
+/// copy of the table.
+#[unsafe(no_mangle)]
+pub extern "C" fn odht_b16_u32_build_growing(
+    alloc: Global,
+    keys: &[[u8; 16]],
+    values: &[u32],
+    out: &mut [u8],
+    len: &mut usize,
+) -> u32
+    ensures { BuildGrowingAnswers ⟦<Bytes16ToU32 as Coded>⟧.coding keys.now values.now
+        out.old len.old result out.new len.new }
+{
+    if values.len() != keys.len() {
+        return BAD_LENGTHS;
+    }
+    build::grown::<Bytes16ToU32>(alloc, keys, values, out, len)
 }

@@ -5,6 +5,9 @@ mod b16_u32;
 mod build;
 #[cfg(test)]
 mod check_tests;
+mod grow;
+#[cfg(test)]
+mod grow_tests;
 mod lookups;
 mod order;
 #[cfg(test)]

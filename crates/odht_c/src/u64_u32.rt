@@ -11,11 +11,12 @@ ghost use Rattle.odht_c.specs.Reads.{GetAnswers, GetAllAnswers, LenAnswers, Walk
 ghost use Rattle.odht_c.specs.Views.{OpenViewAnswers, ViewGetAnswers, ViewGetAllAnswers, ViewLenAnswers};
 ghost use Rattle.odht_c.specs.Orders.{OrderAnswers};
 ghost use Rattle.odht_c.specs.Writes.{BytesNeededAnswers, InitAnswers, InsertAnswers, InsertAllAnswers};
+ghost use Rattle.odht_c.specs.Grows.{GrowAnswers};
 ghost use Rattle.odht_c.specs.Builds.{BuildAnswers, BuildGrowingAnswers};
 
 use crate::status::{BAD_LENGTHS, BAD_PERCENT};
 use crate::view::{self, View};
-use crate::{build, order, read, write};
+use crate::{build, grow, order, read, write};
 use odht::bytes::BorrowedMut;
 use odht::config::{Coded, Config};
 use odht::hash::FxHashFn;
@@ -278,6 +279,19 @@ pub extern "C" fn odht_u64_u32_insert_order(bytes: &[u8], out: &mut [usize]) -> 
     ensures { OrderAnswers ⟦<U64ToU32 as Coded>⟧.coding bytes.now out.old result out.new }
 {
     order::insert_order::<U64ToU32>(bytes, out)
+}
+
+/// Writes the table that the one in `bytes` grows into at its maximum to the front of `out`, and tells its length in
+/// `len`: status 0. It has the slots for twice as many items, and for one at least, and the same load factor; the pairs
+/// are placed in slot order. `TOO_SMALL` where `out` is shorter than the table: then only `len` is written. A refusal of
+/// the header or length, `LOAD_FACTOR_TOO_SMALL` where the header states less than one percent, or `CAPACITY` where no
+/// slot count is enough or the length passes `usize`; then nothing is written. Behind the table `out` stays. No memory is
+/// asked for. One pass over both, and each item is hashed once.
+#[unsafe(no_mangle)]
+pub extern "C" fn odht_u64_u32_grow(bytes: &[u8], out: &mut [u8], len: &mut usize) -> u32
+    ensures { GrowAnswers ⟦<U64ToU32 as Coded>⟧.coding bytes.now out.old len.old result out.new len.new }
+{
+    grow::grow::<U64ToU32>(bytes, out, len)
 }
 
 /// Builds the table of the pairs, the key and the value at each index, at the front of `out`, and tells its length in
