@@ -5,6 +5,8 @@ pub mod NewRefusals
 pub mod ViewInserts
 -- a growth, slot by slot
 pub mod Growths
+-- the bytes of a growth
+pub mod GrownBytes
 -- inserts in turn
 pub mod Fillings
 -- keys and values that their bytes decode to

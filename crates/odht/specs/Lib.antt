@@ -7,5 +7,7 @@ pub mod Lists
 pub mod LastValues
 -- making a table again by inserts
 pub mod Rebuilds
+-- what a table grows into
+pub mod Growths
 -- lookups of many keys
 pub mod Lookups

@@ -1,15 +1,13 @@
 //! The table that owns its bytes, and grows.
-ghost use Rattle.std.specs.Prelude.{◌≡◌, ℕ, List, ◌++◌, ◌+◌, ◌-◌, ◌*◌, ◌≤◌, ◌↔◌, ◌⊎◌, All, Some, length, map, replicate, take, option_map, IfOk, IsOk, IsSome, IsTrue, IsErrOf, OnErr, OnOk};
-ghost use Rattle.odht_base.specs.Load.{IsSlotCount, factor_of, slots_for};
+ghost use Rattle.std.specs.Prelude.{◌≡◌, ℕ, List, ◌≤◌, ◌↔◌, ◌⊎◌, Some, length, take, option_map, IfOk, IsOk, IsSome, IsTrue, IsErrOf, OnErr, OnOk};
+ghost use Rattle.odht_base.specs.Load.{factor_of, slots_for};
 ghost use Rattle.odht_base.specs.Table.{Table, walk, count, empty};
-ghost use Rattle.odht_base.specs.Map.{map_of, KeysApart};
+ghost use Rattle.odht_base.specs.Map.{map_of};
 ghost use Rattle.odht_base.specs.Search.{groups_read};
-ghost use Rattle.odht_base.specs.Format.{format_of};
-ghost use Rattle.odht_base.specs.Image.{header_bytes, image_len, parts};
-ghost use Rattle.odht_base.specs.Insert.{grown, place_all, put_owned, IsFullFor};
-ghost use Rattle.odht_base.specs.Valid.{IsImage, IsPartsOf, IsValidBytes};
+ghost use Rattle.odht_base.specs.Insert.{put_owned, IsFullFor};
+ghost use Rattle.odht_base.specs.Valid.{IsImage, IsValidBytes};
 ghost use Rattle.odht_raw.specs.Coding.{value_for};
-ghost use Rattle.odht_raw.specs.PartsPlacings.{IsNewTo};
+ghost use Rattle.odht.specs.Growths.{IsGrownImage};
 ghost use Rattle.odht.specs.Lists.{encoded_all, IsFilled, IsFreshFilled, IsRefusedAt};
 ghost use Rattle.odht.specs.Inserts.{IsFresh, IsInserted};
 ghost use Rattle.odht.specs.LastValues.{HasLastValues};
@@ -17,16 +15,15 @@ ghost use Rattle.odht_raw.specs.Walks.{decoded_all};
 ghost use Rattle.std.specs.Iterator.{Drains, IsFinite};
 ghost use Rattle.odht_raw.specs.Refusals.{IsTooLarge, check_refusal};
 
-use crate::bytes::{ByteArray, OwnedBytes};
+use crate::bytes::OwnedBytes;
 use crate::config::{Coded, Config};
 use crate::error::Error;
-use crate::hash::HashFn;
+use crate::growth::{grown_layout, write_grown};
 use crate::hash_table::HashTable;
 use crate::items::Items;
 use crate::iter::Iter;
 use crate::load::{Factor, slots_needed};
-use crate::memory_layout::{self, HEADER_SIZE};
-use crate::raw_table::{FREE, RawIter, RawTableMut};
+use crate::memory_layout;
 use std::alloc::Global;
 use std::marker::Model;
 
@@ -276,77 +273,15 @@ impl<C: Config> HashTableOwned<C> {
         ensures ok { let F = ⟦<C as Coded>⟧.coding.format
             in (P : Table)
             → IsImage F P self.now
-            → IfOk result (λ t. (Q : Table) × (grown F P ≡ Some Q) × IsImage F Q t) }
+            → IfOk result (IsGrownImage F P) }
         ensures memory { OnErr result (result ≡ Err Error.Memory) }
     {
-        let header = self.table.allocation().header();
-        let item_count = header.item_count();
-        let factor = header.max_load_factor();
-        let twice = (2 * item_count).max(1);
-        let Some((slot_count, len)) = memory_layout::layout_for::<C>(twice, factor) else {
+        let Some((slot_count, len)) = grown_layout::<C>(&self.table.allocation().header()) else {
             return Err(Error::Memory);
         };
         let mut bytes = vec![in self.alloc; 0; len]?;
-        let (control, entries) = self.table.allocation().data_slices();
-        let walk = RawIter::new(control, entries);
-        write_table::<C>(bytes.as_mut_slice(), slot_count, item_count, factor, walk);
+        write_grown(&self.table, slot_count, bytes.as_mut_slice());
         Ok(HashTable::from_raw_bytes_unchecked(OwnedBytes::new(bytes)))
-    }
-}
-
-// Writes the table of so many slots with the items of the walk, whose keys are apart, into zeros, of which as many are
-// counted as are stated.
-fn write_table<C: Config>(
-    bytes: &mut [u8],
-    slot_count: usize,
-    item_count: usize,
-    max_load_factor: Factor,
-    walk: RawIter<'_, C::EncodedKey, C::EncodedValue>,
-)
-    requires slots { IsSlotCount slot_count }
-    requires len { length bytes.old ≡ image_len ⟦<C as Coded>⟧.coding.format slot_count }
-    requires zeros { bytes.old ≡ replicate (length bytes.old) 0 }
-    ensures { let F = ⟦<C as Coded>⟧.coding.format
-        in let f = max_load_factor.0
-        in let pairs = map (λ x. record { key = C.EncodedKey.bytes x.1.key; value = C.EncodedValue.bytes x.1.value })
-        walk.entry
-        in (Q : Table)
-        → KeysApart pairs
-        → place_all F (empty slot_count f) pairs ≡ Some Q
-        → bytes.new ≡ header_bytes F slot_count item_count f ++ parts F Q.cells }
-{
-    let (table, control) = bytes.split_at_mut(memory_layout::entry_at::<C>(slot_count));
-    let (header, entries) = table.split_at_mut(HEADER_SIZE);
-    memory_layout::write_header::<C>(header, slot_count, item_count, max_load_factor);
-    control.fill(FREE);
-    insert_walk::<C::EncodedKey, C::EncodedValue, C::H>(control, entries, walk);
-}
-
-// Places the items of a walk in turn into the parts of a table; their keys are apart and new to it. The slices then hold
-// what that left.
-fn insert_walk<K: ByteArray, V: ByteArray, H: HashFn>(
-    control: &mut [u8],
-    entries: &mut [u8],
-    walk: RawIter<'_, K, V>,
-)
-    requires slots { IsSlotCount (length control.old - 16) }
-    requires entries { length entries.old ≡ (length control.old - 16) * (K.LEN + V.LEN) }
-    requires hashes { H.MIN_LEN ≤ K.LEN }
-    requires key { K.LEN ≤ 255 }
-    requires value { V.LEN ≤ 255 }
-    ensures { let F = format_of K.LEN V.LEN H.hash
-        in let pairs = map (λ x. record { key = K.bytes x.1.key; value = V.bytes x.1.value }) walk.entry
-        in (P Q : Table)
-        → IsPartsOf F P entries.old control.old
-        → KeysApart pairs
-        → All (IsNewTo P) pairs
-        → place_all F P pairs ≡ Some Q
-        → IsPartsOf F Q entries.new control.new }
-{
-    let mut table: RawTableMut<'_, '_, K, V, H> = RawTableMut::new(control, entries);
-    for (_, entry) in walk {
-        // There is room for each item.
-        let _ = table.place(entry.key, entry.value);
     }
 }
 

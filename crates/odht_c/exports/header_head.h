@@ -48,7 +48,9 @@
  * header states; an insert, alone or of many, changes one value beside an equal
  * key, or adds one entry below the maximum that the header states; and it
  * answers FULL only at that maximum, or where each slot counts as filled, by its
- * control byte or its copy in the mirror. docs/FORMAT.md has the frame.
+ * control byte or its copy in the mirror; a growth gives bytes that pass these
+ * refusals, with the count and the load factor of the header. docs/FORMAT.md has
+ * the frame.
  *
  * Memory is asked for by odht_*_build_growing alone, by malloc, and given back
  * before it returns. libodht.a and libodht.so need the C library and nothing else.
@@ -125,10 +127,10 @@ enum odht_status {
     ODHT_NON_ZERO_EMPTY = 8,              /* Error::NonZeroEmpty: a free slot's entry is not zero */
     ODHT_CONTROL_MISMATCH = 9,            /* Error::ControlMismatch: a control byte is not its key's tag */
 
-    /* Refusals of the whole check alone: of odht_*_check, and of odht_*_insert_order,
+    /* Refusals of the whole check: of odht_*_check, and of odht_*_insert_order,
        which makes it first. After 1 to 9 as above it looks at the load
        factor and the padding, then at all slots in turn, where the first bad one
-       gives 8, 12 or 9, and then for 13 to 16. */
+       gives 8, 12 or 9, and then for 13 to 16. odht_*_grow answers 10 too. */
     ODHT_LOAD_FACTOR_TOO_SMALL = 10,      /* Error::LoadFactorTooSmall: below 1 percent */
     ODHT_NON_ZERO_PADDING = 11,           /* Error::NonZeroPadding: bytes 30 and 31 are not zero */
     ODHT_BAD_FREE_CONTROL = 12,           /* Error::BadFreeControl: a free slot's control byte is not 255 */
@@ -212,8 +214,8 @@ static inline const char *odht_status_name(uint32_t status)
  * - Nothing has written their header since but odht_*_insert, odht_*_insert_all
  *   and odht_*_init of the same kind of table, on exactly these bytes. These calls
  *   keep a view good, whatever they answer, and it finds what they have inserted.
- *   A build into these bytes does not, nor does another program that writes a
- *   mapped file. (Slots that something else has written make answers as told above.)
+ *   A build or a growth into these bytes does not, nor does another program that
+ *   writes a mapped file. (Slots that something else has written make answers as told above.)
  *
  * Otherwise a lookup may read anywhere and answer anything, or the program may
  * stop, as with any wrong pointer in C.

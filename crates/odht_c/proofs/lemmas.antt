@@ -24,3 +24,5 @@ pub mod Stays
 pub mod Ordered
 -- a new table for as many pairs as there are
 pub mod NewBuilds
+-- what a growth is refused for, and what the call answers
+pub mod Grown

@@ -13,3 +13,5 @@ pub mod Orders
 pub mod Writes
 -- the calls that build a table in memory of its own
 pub mod Builds
+-- the call that writes the table into which another one grows
+pub mod Grows

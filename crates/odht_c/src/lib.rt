@@ -4,6 +4,9 @@
 mod build;
 #[cfg(test)]
 mod check_tests;
+mod grow;
+#[cfg(test)]
+mod grow_tests;
 mod lookups;
 mod order;
 #[cfg(test)]

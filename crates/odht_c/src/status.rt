@@ -7,6 +7,9 @@ use odht::error::Error;
 /// It is done.
 pub(crate) const OK: u32 = 0;
 
+/// The header states a load factor below one percent.
+pub(crate) const LOAD_FACTOR_TOO_SMALL: u32 = 10;
+
 /// The bytes for a new table have another length than it needs.
 pub(crate) const INIT_LENGTH: u32 = 17;
 

@@ -9,7 +9,7 @@ use Rattle.odht_raw.specs.PartsPlacings.{IsNewTo}
 use Rattle.odht_raw.specs.Walks.{Item}
 use Rattle.odht_raw.proofs.lemmas.Walks.{stored}
 use Rattle.odht.proofs.lemmas.Growths.{accepted_holds, all_new, LeadsTo, leads_new, leads_fits, leads_on}
-use Rattle.odht.proofs.hash_table_owned.insert_walk.Goals as goal
+use Rattle.odht.proofs.growth.insert_walk.Goals as goal
 
 pub loop-entry-init : goal.loop-entry-init
 loop-entry-init g c = record {

@@ -7,7 +7,7 @@ use Rattle.odht_base.specs.Valid.{IsPartsOf}
 use Rattle.odht_raw.specs.PartsPlacings.{IsNewTo}
 use Rattle.odht_raw.proofs.lemmas.Walks.{stored}
 use Rattle.odht.proofs.lemmas.Growths.{LeadsTo}
-use Rattle.odht.proofs.hash_table_owned.insert_walk.Given as goal
+use Rattle.odht.proofs.growth.insert_walk.Given as goal
 
 -- the slices are lent to the table, and the items that are left lead from its parts to where all lead
 abbrev pub invariant-loop-entry : goal.invariant-loop-entry

@@ -1,0 +1,68 @@
+use Rattle.std.proofs.Common.{◌++◌, map, filter_map, ◌∙◌, ◌≡◌, Some, sym, ap, subst, arith}
+use Rattle.odht_base.specs.Format.{Format, format_of}
+use Rattle.odht_base.specs.Image.{header_bytes, parts}
+use Rattle.odht_base.specs.Insert.{grown_slots, place_all}
+use Rattle.odht_base.specs.Load.{slots_for}
+use Rattle.odht_base.specs.Map.{KeysApart}
+use Rattle.odht_base.specs.Shown.{shown_cells, stated_count, stated_factor}
+use Rattle.odht_base.specs.Table.{walk, count, empty}
+use Rattle.odht_base.proofs.lemmas.Apart.{walk-KeysApart}
+use Rattle.odht_base.proofs.lemmas.Least.{slots_for-IsLeastSlots}
+use Rattle.odht_raw.proofs.lemmas.Formats.{IsFormat-format_of}
+use Rattle.odht_raw.proofs.lemmas.Walks.{stored, stored-walk, seen-image}
+use Rattle.odht.proofs.lemmas.GrownBytes.{grown_stated, headed_accepted, headed_count, headed_factor}
+use Rattle.odht.proofs.lemmas.Growths.{grown_placed, grown_image}
+use Rattle.odht.proofs.lemmas.ViewInserts.{count_stated, factor_stated}
+use Rattle.odht.proofs.growth.write_grown.Goals as goal
+
+pub write_table-requires-clause-slots : goal.write_table-requires-clause-slots
+write_table-requires-clause-slots g c κs within = (slots_for-IsLeastSlots _ _ _ c.requires.slots).is_count
+
+-- what is written is the grown table of the one that the bytes are of
+pub returns-clause-on_valid : goal.returns-clause-on_valid
+returns-clause-on_valid g c P is =
+    let key = g.C.EncodedKey.ByteArray in
+    let value = g.C.EncodedValue.ByteArray in
+    let F : Format = format_of key.LEN value.LEN g.C.H.HashFn.hash in
+    let f = IsFormat-format_of _ _ _ _ g.met.C.Config.key_fits g.met.C.Config.value_fits g.met.C.Config.key_hashes g.met.C.H.HashFn.fits in
+    let B = g.D.ByteStore.bytes c.args.table.now in
+    let s = c.args.slot_count in
+    let header = c.header-header.ensures.bytes ∙ ap g.D.ByteStore.bytes c.allocation.ensures in
+    let items = c.item_count-item_count.ensures ∙ ap stated_count header ∙ count_stated F P B is in
+    let factor = c.max_load_factor-factor.ensures ∙ ap stated_factor header ∙ factor_stated F P B is in
+    let enough : grown_slots P ≡ Some s = sym (grown_stated F P B is) ∙ c.requires.slots in
+    let split = c.data_slices-entries.ensures in
+    let shown = (λ j. filter_map (λ x. x) (shown_cells F (split.entries j) (split.control j)))
+    ∙ seen-image F P _ f (record { valid = is.valid; bytes = ap g.D.ByteStore.bytes c.allocation-2.ensures ∙ is.bytes }) in
+    let pairs : map (stored key.bytes value.bytes) c.new-walk.result ≡ walk P =
+    ap (map (stored key.bytes value.bytes)) c.new-walk.ensures.items
+    ∙ stored-walk key.bytes value.bytes key.of_bytes value.of_bytes key.LEN value.LEN g.C.H.HashFn.hash g.met.C.EncodedKey.ByteArray.kept g.met.C.EncodedValue.ByteArray.kept P
+    (record { control = c.data_slices-entries.result.0.now; entries = c.data_slices-entries.result.1 }) is.valid.placed split.len shown in
+    let q = grown_placed F P is.valid s enough in
+    let placed : place_all F (empty s c.max_load_factor-factor.result.0) (map (stored key.bytes value.bytes) c.new-walk.result) ≡ Some q.0 = (λ i. place_all F (empty s (factor i)) (pairs i)) ∙ q.1 in
+    let apart : KeysApart (map (stored key.bytes value.bytes) c.new-walk.result) = subst KeysApart (sym pairs) (walk-KeysApart F P is.valid.placed) in
+    let bytes : c.write_table.new.bytes ≡ header_bytes F s (count P) P.factor ++ parts F q.0.cells =
+    c.write_table.ensures.placed q.0 apart placed ∙ (λ i. header_bytes F s (items i) (factor i) ++ parts F q.0.cells) in
+    let is_grown = grown_image F P is.valid s enough q.0 q.1 c.write_table.new.bytes bytes in
+    (q.0, is_grown.0, is_grown.1)
+
+-- the header states what it did
+pub returns-clause-accepted : goal.returns-clause-accepted
+returns-clause-accepted g c =
+    let F : Format = format_of g.C.EncodedKey.ByteArray.LEN g.C.EncodedValue.ByteArray.LEN g.C.H.HashFn.hash in
+    headed_accepted F c.write_table.new.bytes c.args.slot_count c.item_count-item_count.result c.max_load_factor-factor.result.0 c.write_table.ensures.header
+    (slots_for-IsLeastSlots _ _ _ c.requires.slots).is_count (omega (arith, c.write_table.auto.bytes, c.requires.len))
+
+pub returns-clause-count : goal.returns-clause-count
+returns-clause-count g c =
+    let F : Format = format_of g.C.EncodedKey.ByteArray.LEN g.C.EncodedValue.ByteArray.LEN g.C.H.HashFn.hash in
+    let header = c.header-header.ensures.bytes ∙ ap g.D.ByteStore.bytes c.allocation.ensures in
+    headed_count F c.write_table.new.bytes c.args.slot_count c.item_count-item_count.result c.max_load_factor-factor.result.0 c.write_table.ensures.header c.item_count-item_count.type_inv
+    ∙ c.item_count-item_count.ensures ∙ ap stated_count header
+
+pub returns-clause-factor : goal.returns-clause-factor
+returns-clause-factor g c =
+    let F : Format = format_of g.C.EncodedKey.ByteArray.LEN g.C.EncodedValue.ByteArray.LEN g.C.H.HashFn.hash in
+    let header = c.header-header.ensures.bytes ∙ ap g.D.ByteStore.bytes c.allocation.ensures in
+    headed_factor F c.write_table.new.bytes c.args.slot_count c.item_count-item_count.result c.max_load_factor-factor.result.0 c.write_table.ensures.header c.max_load_factor-factor.type_inv.1.1.0.1
+    ∙ c.max_load_factor-factor.ensures ∙ ap stated_factor header

@@ -1,0 +1,27 @@
+use Rattle.std.proofs.Common.{◌≡◌, ◌∙◌, sym, ap, None, Some}
+use Rattle.odht_base.specs.Format.{format_of}
+use Rattle.odht.specs.Growths.{grown_len}
+use Rattle.odht.proofs.lemmas.GrownBytes.{grown_len-layout, grown_len-image}
+use Rattle.odht.proofs.hash_table.HashTable.grown_len.Goals as goal
+
+pub returns-in_err-len-clause-stated : goal.returns-in_err-len-clause-stated
+returns-in_err-len-clause-stated g c =
+    let F = format_of g.C.EncodedKey.ByteArray.LEN g.C.EncodedValue.ByteArray.LEN g.C.H.HashFn.hash in
+    let none : grown_len F c.header.result ≡ None = c.in_err-len.ensures in
+    c.from_residual.ensures ∙ sym none ∙ ap (grown_len F) (c.header.ensures.bytes ∙ ap g.D.ByteStore.bytes c.allocation.ensures)
+
+pub returns-in_err-len-clause-on_valid : goal.returns-in_err-len-clause-on_valid
+returns-in_err-len-clause-on_valid g c P is =
+    let F = format_of g.C.EncodedKey.ByteArray.LEN g.C.EncodedValue.ByteArray.LEN g.C.H.HashFn.hash in
+    returns-in_err-len-clause-stated g c ∙ grown_len-image F P _ is
+
+pub returns-clause-stated : goal.returns-clause-stated
+returns-clause-stated g c =
+    let F = format_of g.C.EncodedKey.ByteArray.LEN g.C.EncodedValue.ByteArray.LEN g.C.H.HashFn.hash in
+    sym (grown_len-layout F c.header.result _ c.in_ok-len.len c.in_ok-len.ensures)
+    ∙ ap (grown_len F) (c.header.ensures.bytes ∙ ap g.D.ByteStore.bytes c.allocation.ensures)
+
+pub returns-clause-on_valid : goal.returns-clause-on_valid
+returns-clause-on_valid g c P is =
+    let F = format_of g.C.EncodedKey.ByteArray.LEN g.C.EncodedValue.ByteArray.LEN g.C.H.HashFn.hash in
+    returns-clause-stated g c ∙ grown_len-image F P _ is

@@ -1,0 +1,134 @@
+-- The bytes that a table grows into: how many they are, and what their header states.
+use Rattle.std.proofs.Common.{◌≡◌, ◌<◌, ◌≤◌, ◌∙◌, ◌*◌, ◌+◌, ◌-◌, ◌^◌, ◌++◌, ℕ, sym, ap, subst, refl, List, Option, Some, None, take, drop, length, arith, lt-ltb, le-ltb, take-append-drop, length-append, length-take-le, length-drop, replicate}
+use borrow.Rule.Slice.PartMut.{put_mid}
+use Rattle.std.proofs.lemmas.List.{length-replicate}
+use Rattle.std.specs.Prelude.{max, IfSome, IsNone, MatchOption}
+use Rattle.std.specs.Bool.{then_some}
+use Rattle.std.proofs.lemmas.Option.{none-some}
+use Rattle.std.proofs.Math.Nat.{le-max_left, le-max_right, mul-le-mul_left}
+use Rattle.odht_base.specs.Bytes.{bytes_at}
+use Rattle.odht_base.specs.Format.{Format}
+use Rattle.odht_base.specs.Image.{header_bytes, image_len}
+use Rattle.odht_base.specs.Load.{slots_for, IsSlotCount}
+use Rattle.odht_base.specs.Insert.{grown_slots}
+use Rattle.odht_base.specs.Shown.{stated_count, stated_factor, stated_slots}
+use Rattle.odht_base.specs.Table.{Table}
+use Rattle.odht_base.specs.Valid.{IsImage}
+use Rattle.odht_base.proofs.lemmas.ByteRanges.{bytes_at-between}
+use Rattle.odht_base.proofs.lemmas.Least.{slots_for-IsLeastSlots}
+use Rattle.odht_base.proofs.lemmas.Numbers.{num-le_bytes}
+use Rattle.odht_base.proofs.lemmas.Options.{some_same}
+use Rattle.odht_base.proofs.lemmas.SlotCounts.{few_slots, slots_fit}
+use Rattle.odht_raw.specs.Frame.{IsAccepted}
+use Rattle.odht_raw.specs.Layouts.{IsLayout}
+use Rattle.odht_raw.specs.Refusals.{IsTooLarge}
+use Rattle.odht_raw.proofs.lemmas.Accepted.{opening_refusal-IsOpening}
+use Rattle.odht.specs.Growths.{table_len, grown_slots_of, grown_len}
+use Rattle.odht.proofs.lemmas.ViewInserts.{count_stated, factor_stated}
+
+-- ---- the length
+-- a layout for so many items is the length
+pub grown_len-layout : (F : Format) (B : List ℕ) (s len : ℕ) → IsLayout F (max 1 (2 * stated_count B)) (stated_factor B) s len → grown_len F B ≡ Some len
+unfolding grown_len
+grown_len-layout F B s len layout =
+    let short : image_len F s < 2 ^ 64 = omega (arith, layout.long, layout.fits) in
+    ap (table_len F) layout.slots ∙ ap (λ t. then_some t (image_len F s)) (lt-ltb (image_len F s) (2 ^ 64) short) ∙ ap Some (sym layout.long)
+
+-- and another length is the same
+pub asked_len : (F : Format) (B : List ℕ) (s len n : ℕ) → IsLayout F (max 1 (2 * stated_count B)) (stated_factor B) s len → grown_len F B ≡ Some n → n ≡ image_len F s
+asked_len F B s len n layout is = some_same n len (sym is ∙ grown_len-layout F B s len layout) ∙ layout.long
+
+-- where so many items are too many there is none
+pub grown_len-large : (F : Format) (B : List ℕ) → IsTooLarge F (max 1 (2 * stated_count B)) (stated_factor B) → grown_len F B ≡ None
+unfolding grown_len
+grown_len-large F B large = go (grown_slots_of B) refl
+  where
+    go : (o : Option ℕ) → grown_slots_of B ≡ o → table_len F o ≡ None
+    go None e = refl
+    go (Some s) e = ap (λ t. then_some t (image_len F s)) (le-ltb (image_len F s) (2 ^ 64) (large s e))
+
+-- the answer of who asks for a layout for so many items
+pub asked_layout : (F : Format) (B : List ℕ) (n f : ℕ) → n ≡ max 1 (2 * stated_count B) → f ≡ stated_factor B
+    → (r : Option (ℕ × ℕ)) → IfSome r (λ l. IsLayout F n f l.0 l.1) → (IsNone r → IsTooLarge F n f)
+    → MatchOption r (grown_len F B ≡ None) (λ l. IsLayout F (max 1 (2 * stated_count B)) (stated_factor B) l.0 l.1)
+asked_layout F B n f items factor (Some l) some none = subst (λ m. IsLayout F m (stated_factor B) l.0 l.1) items (subst (λ t. IsLayout F n t l.0 l.1) factor some)
+asked_layout F B n f items factor None some none = grown_len-large F B (subst (λ m. IsTooLarge F m (stated_factor B)) items (subst (IsTooLarge F n) factor (none refl)))
+
+-- at the load factor 0 there is none
+pub none_at_zero : (F : Format) (B : List ℕ) → stated_factor B ≡ 0 → grown_len F B ≡ None
+none_at_zero F B zero = grown_len-large F B (λ s e. (
+    let least = slots_for-IsLeastSlots _ _ s e in
+    let holds : 65536 * max 1 (2 * stated_count B) ≤ s * 0 = subst (λ f. 65536 * max 1 (2 * stated_count B) ≤ s * f) zero least.holds in
+    absurd (omega (arith, holds, le-max_left 1 (2 * stated_count B)))))
+
+-- and so is twice a count that twice passes 64 bits
+pub none_of_many : (F : Format) (B : List ℕ) → stated_factor B ≤ 65535 → 2 ^ 64 ≤ 2 * stated_count B → grown_len F B ≡ None
+none_of_many F B few many = grown_len-large F B (λ s e. (
+    let least = slots_for-IsLeastSlots _ _ s e in
+    let most : s * stated_factor B ≤ s * 65535 = mul-le-mul_left s few in
+    absurd (omega (arith, least.holds, most, few_slots s least.is_count, le-max_right 1 (2 * stated_count B), many))))
+
+-- of a valid table's bytes the slots are those of the table
+pub grown_stated : (F : Format) (P : Table) (B : List ℕ) → IsImage F P B → grown_slots_of B ≡ grown_slots P
+grown_stated F P B is = λ i. slots_for (max 1 (2 * count_stated F P B is i)) (factor_stated F P B is i)
+
+pub grown_len-image : (F : Format) (P : Table) (B : List ℕ) → IsImage F P B → grown_len F B ≡ table_len F (grown_slots P)
+unfolding grown_len
+grown_len-image F P B is = ap (table_len F) (grown_stated F P B is)
+
+-- ---- the header
+module _ (F : Format) (T : List ℕ) (s c f : ℕ) (front : take 32 T ≡ header_bytes F s c f) where
+  split : T ≡ header_bytes F s c f ++ drop 32 T
+  split = sym (take-append-drop 32 T) ∙ ap (λ h. h ++ drop 32 T) front
+
+  -- the count is stated
+  pub headed_count : c < 2 ^ 64 → stated_count T ≡ c
+  headed_count fits = ap stated_count split ∙ num-le_bytes 8 c fits
+
+  -- the load factor
+  pub headed_factor : f < 2 ^ 16 → stated_factor T ≡ f
+  headed_factor fits = ap stated_factor split ∙ num-le_bytes 2 f fits
+
+  -- and the slots, so bytes as long as these ask are accepted
+  pub headed_accepted : IsSlotCount s → length T ≡ image_len F s → IsAccepted F T
+  headed_accepted count long =
+      let stated : stated_slots (header_bytes F s c f ++ drop 32 T) ≡ s = num-le_bytes 8 s (slots_fit s count) in
+      let same : length (header_bytes F s c f ++ drop 32 T) ≡ image_len F s = ap length (sym split) ∙ long in
+      subst (IsAccepted F) (sym split)
+      (opening_refusal-IsOpening F (header_bytes F s c f ++ drop 32 T) (record {
+        long = omega (arith, same);
+        header = record {
+          tag_is = refl;
+          version_is = refl;
+          metadata_is = refl;
+          key_len_is = refl;
+          value_len_is = refl;
+          header_len_is = refl;
+          slots = subst IsSlotCount (sym stated) count;
+          length_is = same ∙ ap (image_len F) (sym stated);
+        };
+      }))
+
+-- ---- entries that are cleared
+module _ (xs ys : List ℕ) (m to : ℕ) (at : to ≡ 32 + m) (fits : to ≤ length xs) (zeros : ys ≡ replicate (length (take (to - 32) (drop 32 xs))) 0) where
+  front : length (take 32 xs) ≡ 32
+  front = length-take-le 32 xs (omega (arith, at, fits))
+
+  few : ys ≡ replicate m 0
+  few =
+      let k : to - 32 ≡ m = omega (arith, at) in
+      let rest : m ≤ length (drop 32 xs) = omega (arith, length-drop 32 xs, at, fits) in
+      zeros ∙ ap (λ n. replicate n 0) (ap (λ n. length (take n (drop 32 xs))) k ∙ length-take-le m (drop 32 xs) rest)
+
+  many : length ys ≡ m
+  many = ap length few ∙ length-replicate m 0
+
+  -- are zeros
+  pub cleared_zeros : bytes_at (put_mid 32 (to - 32) xs ys) 32 m ≡ replicate m 0
+  cleared_zeros = bytes_at-between (take 32 xs) ys (drop (to - 32) (drop 32 xs)) 32 m front many ∙ few
+
+  -- in bytes as many as before
+  pub cleared_length : length (put_mid 32 (to - 32) xs ys) ≡ length xs
+  cleared_length =
+      let rest = drop (to - 32) (drop 32 xs) in
+      omega (arith, length-append (take 32 xs) (ys ++ rest), length-append ys rest, front, many, length-drop (to - 32) (drop 32 xs), length-drop 32 xs, at, fits)

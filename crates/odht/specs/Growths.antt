@@ -1,0 +1,27 @@
+-- What a table grows into, and how long that is.
+--     table_len F o        how many bytes a table of these slots has; None where there are none, or the length passes 64 bits
+--     grown_slots_of B     the slots for twice as many items as the header of the bytes B states, and for one at least, at
+--                          the header's load factor
+--     grown_len F B        how many bytes the table has that the bytes B grow into
+--     IsGrownImage F P T   T is the image of the grown table of P
+use Rattle.std.specs.Prelude.{◌≡◌, ℕ, ◌*◌, ◌^◌, max, nat_lt, List, Option, Some, option_and_then}
+use Rattle.std.specs.Bool.{then_some}
+use Rattle.odht_base.specs.Format.{Format}
+use Rattle.odht_base.specs.Image.{image_len}
+use Rattle.odht_base.specs.Insert.{grown}
+use Rattle.odht_base.specs.Load.{slots_for}
+use Rattle.odht_base.specs.Shown.{stated_count, stated_factor}
+use Rattle.odht_base.specs.Table.{Table}
+use Rattle.odht_base.specs.Valid.{IsImage}
+
+abbrev pub table_len : Format → Option ℕ → Option ℕ
+table_len F o = option_and_then (λ s. then_some (nat_lt (image_len F s) (2 ^ 64)) (image_len F s)) o
+
+abbrev pub grown_slots_of : List ℕ → Option ℕ
+grown_slots_of B = slots_for (max 1 (2 * stated_count B)) (stated_factor B)
+
+unfoldable pub grown_len : Format → List ℕ → Option ℕ
+grown_len F B = table_len F (grown_slots_of B)
+
+abbrev pub IsGrownImage : Format → Table → List ℕ → Type 0
+IsGrownImage F P T = (Q : Table) × (grown F P ≡ Some Q) × IsImage F Q T

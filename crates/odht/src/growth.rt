@@ -1,0 +1,170 @@
+//! Growth: a table with the slots for twice as many items, written into larger bytes.
+ghost use Rattle.std.specs.Prelude.{◌≡◌, ℕ, List, ◌++◌, ◌+◌, ◌-◌, ◌*◌, ◌≤◌, max, All, Some, None, MatchOption, length, map, replicate, take};
+ghost use Rattle.odht_base.specs.Bytes.{bytes_at};
+ghost use Rattle.odht_base.specs.Format.{entry_len, format_of};
+ghost use Rattle.odht_base.specs.Image.{header_bytes, image_len, parts};
+ghost use Rattle.odht_base.specs.Insert.{grown_slots, place_all};
+ghost use Rattle.odht_base.specs.Load.{IsSlotCount};
+ghost use Rattle.odht_base.specs.Map.{KeysApart};
+ghost use Rattle.odht_base.specs.Shown.{stated_count, stated_factor};
+ghost use Rattle.odht_base.specs.Table.{Table, empty};
+ghost use Rattle.odht_base.specs.Valid.{IsImage, IsPartsOf};
+ghost use Rattle.odht_raw.specs.Frame.{IsAccepted};
+ghost use Rattle.odht_raw.specs.Layouts.{IsLayout};
+ghost use Rattle.odht_raw.specs.PartsPlacings.{IsNewTo};
+ghost use Rattle.odht.specs.Growths.{grown_len, grown_slots_of, table_len, IsGrownImage};
+
+use crate::bytes::{ByteArray, ByteStore};
+use crate::config::{Coded, Config};
+use crate::hash::HashFn;
+use crate::hash_table::HashTable;
+use crate::load::Factor;
+use crate::memory_layout::{self, HEADER_SIZE, Header};
+use crate::raw_table::{FREE, RawIter, RawTableMut};
+
+impl<C: Config, D: ByteStore> HashTable<C, D> {
+    /// How many bytes the table has that this one grows into: that of the slots for twice as many items as the header
+    /// states, and for one at least, at the same load factor. None exactly where no slot count is enough, or the length
+    /// passes `usize`.
+    ///
+    /// Valid bytes state a load factor of at least one percent, 655. A smaller one is taken as it is: 0 has no slot count
+    /// that is enough, so the answer is None.
+    pub fn grown_len(&self) -> Option<usize>
+        ensures stated { result ≡ grown_len ⟦<C as Coded>⟧.coding.format (D.bytes self.now) }
+        ensures on_valid { let F = ⟦<C as Coded>⟧.coding.format
+            in (P : Table)
+            → IsImage F P (D.bytes self.now)
+            → result ≡ table_len F (grown_slots P) }
+    {
+        let (_, len) = grown_layout::<C>(&self.allocation().header())?;
+        Some(len)
+    }
+
+    /// Writes the table that this one grows into, whatever stood in `out`, which has [`HashTable::grown_len`] bytes: the
+    /// pairs in slot order, in the slots for twice as many items, and for one at least, at the same load factor. The
+    /// owned table grows so at its maximum.
+    ///
+    /// One pass over `out`, and over the slots of this table; each item is hashed once. No key is compared.
+    ///
+    /// On any bytes the new header states the item count and the load factor of this one, and the pairs that the walk
+    /// gives are placed as long as a slot is free.
+    pub fn grow_into(&self, out: &mut [u8])
+        requires { grown_len ⟦<C as Coded>⟧.coding.format (D.bytes self.now) ≡ Some (length out.old) }
+        ensures on_valid { let F = ⟦<C as Coded>⟧.coding.format
+            in (P : Table)
+            → IsImage F P (D.bytes self.now)
+            → IsGrownImage F P out.new }
+        ensures accepted { IsAccepted ⟦<C as Coded>⟧.coding.format out.new }
+        ensures count { stated_count out.new ≡ stated_count (D.bytes self.now) }
+        ensures factor { stated_factor out.new ≡ stated_factor (D.bytes self.now) }
+    {
+        let Some((slot_count, _)) = grown_layout::<C>(&self.allocation().header()) else {
+            // `out` has the length of the grown table.
+            unreachable!()
+        };
+        let entries = memory_layout::entry_at::<C>(slot_count);
+        out[HEADER_SIZE..entries].fill(0);
+        write_grown(self, slot_count, out);
+    }
+}
+
+/// The slots and the length of the table that the one of this header grows into. None exactly where no slot count is
+/// enough, or the length passes `usize`.
+pub(crate) fn grown_layout<C: Config>(header: &Header<'_>) -> Option<(usize, usize)>
+    ensures { let F = ⟦<C as Coded>⟧.coding.format
+        in let B = header.now
+        in MatchOption result (grown_len F B ≡ None)
+        (λ l. IsLayout F (max 1 (2 * stated_count B)) (stated_factor B) l.0 l.1) }
+{
+    let factor = header.max_load_factor();
+    let twice = header.item_count().checked_mul(2)?;
+    if factor.0 == 0 {
+        return None;
+    }
+    memory_layout::layout_for::<C>(twice.max(1), factor)
+}
+
+/// Writes the grown table of so many slots into bytes whose entries are zeros.
+pub(crate) fn write_grown<C: Config, D: ByteStore>(
+    table: &HashTable<C, D>,
+    slot_count: usize,
+    out: &mut [u8],
+)
+    requires slots { grown_slots_of (D.bytes table.now) ≡ Some slot_count }
+    requires len { length out.old ≡ image_len ⟦<C as Coded>⟧.coding.format slot_count }
+    requires zeros { let n = slot_count * entry_len ⟦<C as Coded>⟧.coding.format
+        in bytes_at out.old 32 n ≡ replicate n 0 }
+    ensures on_valid { let F = ⟦<C as Coded>⟧.coding.format
+        in (P : Table)
+        → IsImage F P (D.bytes table.now)
+        → IsGrownImage F P out.new }
+    ensures accepted { IsAccepted ⟦<C as Coded>⟧.coding.format out.new }
+    ensures count { stated_count out.new ≡ stated_count (D.bytes table.now) }
+    ensures factor { stated_factor out.new ≡ stated_factor (D.bytes table.now) }
+{
+    let header = table.allocation().header();
+    let item_count = header.item_count();
+    let factor = header.max_load_factor();
+    let (control, entries) = table.allocation().data_slices();
+    let walk = RawIter::new(control, entries);
+    write_table::<C>(out, slot_count, item_count, factor, walk);
+}
+
+// Writes the table of so many slots with the items of the walk, whose keys are apart, into bytes whose entries are zeros.
+// As many items are counted as are stated.
+fn write_table<C: Config>(
+    bytes: &mut [u8],
+    slot_count: usize,
+    item_count: usize,
+    max_load_factor: Factor,
+    walk: RawIter<'_, C::EncodedKey, C::EncodedValue>,
+)
+    requires slots { IsSlotCount slot_count }
+    requires len { length bytes.old ≡ image_len ⟦<C as Coded>⟧.coding.format slot_count }
+    requires zeros { let n = slot_count * entry_len ⟦<C as Coded>⟧.coding.format
+        in bytes_at bytes.old 32 n ≡ replicate n 0 }
+    ensures placed { let F = ⟦<C as Coded>⟧.coding.format
+        in let f = max_load_factor.0
+        in let pairs = map (λ x. record { key = C.EncodedKey.bytes x.1.key; value = C.EncodedValue.bytes x.1.value })
+        walk.entry
+        in (Q : Table)
+        → KeysApart pairs
+        → place_all F (empty slot_count f) pairs ≡ Some Q
+        → bytes.new ≡ header_bytes F slot_count item_count f ++ parts F Q.cells }
+    ensures header { let F = ⟦<C as Coded>⟧.coding.format
+        in take 32 bytes.new ≡ header_bytes F slot_count item_count max_load_factor.0 }
+{
+    let (table, control) = bytes.split_at_mut(memory_layout::entry_at::<C>(slot_count));
+    let (header, entries) = table.split_at_mut(HEADER_SIZE);
+    memory_layout::write_header::<C>(header, slot_count, item_count, max_load_factor);
+    control.fill(FREE);
+    insert_walk::<C::EncodedKey, C::EncodedValue, C::H>(control, entries, walk);
+}
+
+// Places the items of a walk in turn into the parts of a table; their keys are apart and new to it. The slices then hold
+// what that left.
+fn insert_walk<K: ByteArray, V: ByteArray, H: HashFn>(
+    control: &mut [u8],
+    entries: &mut [u8],
+    walk: RawIter<'_, K, V>,
+)
+    requires slots { IsSlotCount (length control.old - 16) }
+    requires entries { length entries.old ≡ (length control.old - 16) * (K.LEN + V.LEN) }
+    requires hashes { H.MIN_LEN ≤ K.LEN }
+    requires key { K.LEN ≤ 255 }
+    requires value { V.LEN ≤ 255 }
+    ensures { let F = format_of K.LEN V.LEN H.hash
+        in let pairs = map (λ x. record { key = K.bytes x.1.key; value = V.bytes x.1.value }) walk.entry
+        in (P Q : Table)
+        → IsPartsOf F P entries.old control.old
+        → KeysApart pairs
+        → All (IsNewTo P) pairs
+        → place_all F P pairs ≡ Some Q
+        → IsPartsOf F Q entries.new control.new }
+{
+    let mut table: RawTableMut<'_, '_, K, V, H> = RawTableMut::new(control, entries);
+    for (_, entry) in walk {
+        // There is room for each item of a valid table.
+        let _ = table.place(entry.key, entry.value);
+    }
+}
