@@ -4,7 +4,7 @@
 # make lib: build/libodht.a and build/libodht.so, each with all that it needs but the C library
 # make install, make uninstall: these, the header and what pkg-config and CMake read, below PREFIX, and below DESTDIR
 # before it
-# make header: include/odht.h, of its parts
+# make exports: include/odht.h and the exports of each shape of tables, of what is written once for all shapes
 # make examples: all examples, compiled against an installed copy and compared with what they must print
 # make bench: the tables of speeds; QUICK=1 for a short run, ODHT_RUST=folder for the Rust crate beside it, CHECK=1 for
 # the tables of the whole check alone, WORST=1 for the largest forged table too, about an hour, ORDER=1 for the line of
@@ -19,7 +19,7 @@ WORST ?=
 ORDER ?=
 MARKDOWN ?=
 ODHT_RUST ?=
-.PHONY: run build test memory lib header header_is_made install uninstall examples bench FORCE
+.PHONY: run build test memory lib exports exports_are_current install uninstall examples bench FORCE
 run:
 	@cd crates/odht_table && rt try < $(abspath $(SCRIPT))
 
@@ -28,7 +28,7 @@ build:
 	@cd crates/odht_table && rt run < stdin >&2
 	@echo crates/odht_table/out/odht_table
 
-test: memory
+test: exports_are_current memory
 	rt ci
 
 memory:

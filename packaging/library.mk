@@ -12,7 +12,7 @@ DESTDIR ?=
 # the kit's folder is asked for only where something is linked
 KIT = $(dir $(shell rt doc))
 
-lib: header_is_made build/libodht.a build/$(SHARED)
+lib: exports_are_current build/libodht.a build/$(SHARED)
 
 build/libodht.a: $(LIBRARY) packaging/merge.sh
 	@mkdir -p build
@@ -26,11 +26,11 @@ build/$(SHARED): build/libodht.a packaging/odht.map
 	@ln -sf $(SHARED) build/$(SONAME)
 	@ln -sf $(SONAME) build/libodht.so
 
-header:
-	@sh crates/odht_c/exports/generate.sh > include/odht.h
+exports:
+	@sh crates/odht_c/exports/generate.sh
 
-header_is_made:
-	@sh crates/odht_c/exports/generate.sh | cmp - include/odht.h || { echo 'run make header' >&2; exit 1; }
+exports_are_current:
+	@sh crates/odht_c/exports/generate.sh --check
 
 # below ${prefix} where they are, so that the installed folder can be moved
 below_prefix = $(patsubst $(PREFIX)/%,$${prefix}/%,$(1))

@@ -1,11 +1,11 @@
 //! Growth into bytes of the caller: of full tables whose growth was worked out by docs/FORMAT.md outside the library, and
 //! refused.
 
-use crate::b16_u32::{
+use crate::shapes::b16_u32::{
     odht_b16_u32_check, odht_b16_u32_get, odht_b16_u32_grow, odht_b16_u32_init, odht_b16_u32_insert,
 };
 use crate::status::{CAPACITY, LOAD_FACTOR_TOO_SMALL, OK, TOO_SMALL};
-use crate::u64_u32::{
+use crate::shapes::u64_u32::{
     odht_u64_u32_check, odht_u64_u32_get, odht_u64_u32_grow, odht_u64_u32_init, odht_u64_u32_insert,
 };
 use std::process::Abort;
