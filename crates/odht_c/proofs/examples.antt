@@ -13,6 +13,8 @@ pub mod Views
 pub mod Walks
 -- orders of inserts
 pub mod Orders
+-- growths
+pub mod Grows
 -- new tables in bytes
 pub mod Inits
 -- what an insert answers
