@@ -15,6 +15,8 @@ pub mod Walks
 pub mod Sizes
 -- orders of inserts
 pub mod Orders
+-- growths
+pub mod Grows
 -- new tables in bytes
 pub mod Inits
 -- what an insert answers

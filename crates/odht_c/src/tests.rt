@@ -2,6 +2,9 @@
 //! call may then be that memory was refused, and the second may not. The tests of one try fail where a request is
 //! refused, and so count the requests.
 
+use crate::shapes::b16_u32::{
+    odht_b16_u32_build, odht_b16_u32_build_growing, odht_b16_u32_check, odht_b16_u32_get,
+};
 use crate::shapes::u64_u32::{
     odht_u64_u32_build, odht_u64_u32_build_growing, odht_u64_u32_get, odht_u64_u32_len,
     odht_u64_u32_open,
@@ -120,4 +123,37 @@ fn refused_arguments(rt: HostRuntime) {
         same_status(&rt, "build", status, BAD_PERCENT);
     }
     same(&rt, "length", len, 0);
+}
+
+// Demands a table of keys of 16 bytes, where the value of each is ten times its hash.
+fn check_hashes(rt: &impl Abort, table: &[u8], keys: &[[u8; 16]]) {
+    same_status(rt, "check", odht_b16_u32_check(table), OK);
+    for key in keys {
+        let mut value = 0;
+        same_status(rt, "get", odht_b16_u32_get(table, key, &mut value), OK);
+        same(rt, "value", value as usize, 10 * key[12] as usize);
+    }
+}
+
+#[test]
+fn fourteen_keys_of_16_bytes(rt: HostRuntime) {
+    let (mut keys, mut values) = ([[0; 16]; 14], [0; 14]);
+    for index in 0..14 {
+        keys[index][12] = index as u8;
+        values[index] = 10 * index as u32;
+    }
+    let (mut out, mut len) = ([7; 384], 0);
+    let status = odht_b16_u32_build(&keys[..3], &values[..3], 95, &mut out, &mut len);
+    same_status(&rt, "build", status, OK);
+    same(&rt, "length", len, 384);
+    check_hashes(&rt, &out, &keys[..3]);
+    let (mut out, mut len) = ([7; 720], 0);
+    let mut status = odht_b16_u32_build_growing(rt.alloc(), &keys, &values, &mut out, &mut len);
+    if status == MEMORY {
+        same(&rt, "length after a refusal", len, 0);
+        status = odht_b16_u32_build_growing(rt.alloc(), &keys, &values, &mut out, &mut len);
+    }
+    same_status(&rt, "build_growing", status, OK);
+    same(&rt, "length", len, 720);
+    check_hashes(&rt, &out, &keys);
 }
