@@ -47,7 +47,7 @@
  *   and a view are never NULL. Where ODHT_TAKES_NULL is 0 no pointer is NULL, also
  *   where the length beside it is 0.
  *
- * What holds of answers holds for valid bytes: those that these calls have
+ * What is said of answers holds for valid bytes: those that these calls have
  * made, and all others that odht_*_check passes. It looks at every byte.
  * odht_*_open does not find out whether bytes are valid, since it looks at ten
  * slots. On other bytes that pass refusals 1 to 7 no call reads or writes
