@@ -23,10 +23,7 @@ fn find_folder() -> PathBuf {
         if has_archive(&named) {
             return named;
         }
-        give_up(&format!(
-            "ODHT_LIB_DIR is {}, and {ARCHIVE} is not there.",
-            named.display()
-        ));
+        give_up(&format!("ODHT_LIB_DIR is {}, and {ARCHIVE} is not there.", named.display()));
     }
     let built = repository_build();
     // Once the archive is made there, this is to run again.
@@ -36,10 +33,7 @@ fn find_folder() -> PathBuf {
     }
     match installed().filter(|folder| has_archive(folder)) {
         Some(folder) => folder,
-        None => give_up(&format!(
-            "{ARCHIVE} is not in {}, and pkg-config knows no odht.",
-            built.display()
-        )),
+        None => give_up(&format!("{ARCHIVE} is not in {}, and pkg-config knows no odht.", built.display())),
     }
 }
 
@@ -57,10 +51,7 @@ fn repository_build() -> PathBuf {
 /// The folder of an installed library.
 fn installed() -> Option<PathBuf> {
     let program = std::env::var_os("PKG_CONFIG").unwrap_or_else(|| "pkg-config".into());
-    let output = Command::new(program)
-        .args(["--variable=libdir", "odht"])
-        .output()
-        .ok()?;
+    let output = Command::new(program).args(["--variable=libdir", "odht"]).output().ok()?;
     let folder = String::from_utf8(output.stdout).ok()?;
     let folder = folder.trim();
     (output.status.success() && !folder.is_empty()).then(|| PathBuf::from(folder))

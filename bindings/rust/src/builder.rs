@@ -28,11 +28,7 @@ pub struct Builder<S: Shape> {
 impl<S: Shape> Builder<S> {
     /// No pairs yet, for tables that are filled to at most so many percent of their slots, 1 to 100.
     pub fn new(percent: u8) -> Self {
-        Builder {
-            keys: Vec::new(),
-            values: Vec::new(),
-            percent,
-        }
+        Builder { keys: Vec::new(), values: Vec::new(), percent }
     }
 
     /// One pair more.

@@ -76,11 +76,7 @@ impl<S: Shape> Iterator for Iter<'_, S> {
     /// not in it, since it need not be true.
     fn size_hint(&self) -> (usize, Option<usize>) {
         let read = self.end - self.next;
-        let unread = if self.more {
-            self.slots.saturating_sub(self.cursor)
-        } else {
-            0
-        };
+        let unread = if self.more { self.slots.saturating_sub(self.cursor) } else { 0 };
         (read, read.checked_add(unread))
     }
 }
@@ -90,8 +86,6 @@ impl<S: Shape> FusedIterator for Iter<'_, S> {}
 impl<S: Shape> fmt::Debug for Iter<'_, S> {
     fn fmt(&self, formatter: &mut fmt::Formatter<'_>) -> fmt::Result {
         let mut iter = formatter.debug_struct("Iter");
-        iter.field("shape", &S::default())
-            .field("cursor", &self.cursor)
-            .finish_non_exhaustive()
+        iter.field("shape", &S::default()).field("cursor", &self.cursor).finish_non_exhaustive()
     }
 }

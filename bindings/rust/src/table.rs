@@ -79,14 +79,7 @@ impl<'a, S: Shape> Table<'a, S> {
     #[inline]
     pub fn open(bytes: &'a [u8]) -> Result<Self, Error> {
         let (status, view) = S::Calls::open_view(bytes);
-        Error::unless_ok(
-            status,
-            Table {
-                view,
-                bytes,
-                shape: PhantomData,
-            },
-        )
+        Error::unless_ok(status, Table { view, bytes, shape: PhantomData })
     }
 
     /// Opens bytes that are valid, to the last one: makes the whole check, which goes over all slots. It is for bytes
@@ -106,15 +99,8 @@ impl<'a, S: Shape> Table<'a, S> {
     /// `open` or `init` of this shape has answered `OK` of the bytes, and nothing but inserts of this shape has written
     /// them since.
     pub(crate) unsafe fn of_accepted(bytes: &'a [u8]) -> Self {
-        let view = View {
-            bytes: bytes.as_ptr(),
-            len: bytes.len(),
-        };
-        Table {
-            view,
-            bytes,
-            shape: PhantomData,
-        }
+        let view = View { bytes: bytes.as_ptr(), len: bytes.len() };
+        Table { view, bytes, shape: PhantomData }
     }
 
     /// Makes the whole check of the opened bytes.
@@ -188,16 +174,8 @@ impl<'a, S: Shape> Table<'a, S> {
 
     /// What the header says of the slots.
     pub fn shape(&self) -> Dimensions {
-        let mut shape = Dimensions {
-            slots: 0,
-            max_items: 0,
-            percent: 0,
-        };
-        let Dimensions {
-            slots,
-            max_items,
-            percent,
-        } = &mut shape;
+        let mut shape = Dimensions { slots: 0, max_items: 0, percent: 0 };
+        let Dimensions { slots, max_items, percent } = &mut shape;
         let status = S::Calls::shape(self.bytes, slots, max_items, percent);
         debug_assert_eq!(status, OK, "opened bytes have a header");
         shape

@@ -29,13 +29,7 @@ impl<'a, S: Shape> TableMut<'a, S> {
     /// stay.
     pub fn init(bytes: &'a mut [u8], max_items: usize, percent: u8) -> Result<Self, Error> {
         let status = S::Calls::init(bytes, max_items, percent);
-        Error::unless_ok(
-            status,
-            TableMut {
-                bytes,
-                shape: PhantomData,
-            },
-        )
+        Error::unless_ok(status, TableMut { bytes, shape: PhantomData })
     }
 
     /// Opens bytes, as [`Table::open`] does.
@@ -45,13 +39,7 @@ impl<'a, S: Shape> TableMut<'a, S> {
     /// The first of [`Error::TooShort`] to [`Error::ControlMismatch`] (1 to 9) that applies.
     pub fn open(bytes: &'a mut [u8]) -> Result<Self, Error> {
         let status = S::Calls::open(bytes);
-        Error::unless_ok(
-            status,
-            TableMut {
-                bytes,
-                shape: PhantomData,
-            },
-        )
+        Error::unless_ok(status, TableMut { bytes, shape: PhantomData })
     }
 
     /// Opens bytes that are valid, to the last one, as [`Table::checked`] does.

@@ -123,16 +123,7 @@ fn the_whole_check_refuses() {
     // 951 * 16 / 65536 is 0.
     refused_by_check(&[(28, 0xb7), (29, 3)], Error::TooManyItems);
     // Key 1 in slot 6, behind its home 5, which is free.
-    let moved = [
-        (92, 0),
-        (100, 0),
-        (104, 1),
-        (112, 2),
-        (229, 255),
-        (230, 0x13),
-        (245, 255),
-        (246, 0x13),
-    ];
+    let moved = [(92, 0), (100, 0), (104, 1), (112, 2), (229, 255), (230, 0x13), (245, 255), (246, 0x13)];
     refused_by_check(&moved, Error::Unreachable);
 }
 
@@ -179,14 +170,8 @@ fn lengths_have_to_agree() {
     assert_eq!(table.insert_all(&[7, 8], &[1]), (0, Err(Error::BadLengths)));
     let table = table.into_table();
     let (mut values, mut found) = ([5; 2], [6; 2]);
-    assert_eq!(
-        table.get_all_into(&[1], &mut values, &mut found),
-        Err(Error::BadLengths)
-    );
-    assert_eq!(
-        table.get_all_into(&[1, 7], &mut values, &mut found[..1]),
-        Err(Error::BadLengths)
-    );
+    assert_eq!(table.get_all_into(&[1], &mut values, &mut found), Err(Error::BadLengths));
+    assert_eq!(table.get_all_into(&[1, 7], &mut values, &mut found[..1]), Err(Error::BadLengths));
     assert_eq!((values, found), ([5; 2], [6; 2]));
     assert_eq!(table.get_all_into(&[1, 7], &mut values, &mut found), Ok(()));
     assert_eq!((values, found), ([2, 5], [1, 0]));

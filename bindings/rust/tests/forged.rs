@@ -42,14 +42,7 @@ fn lookups_do_not_ask_for_the_count() {
     let bytes = stating(u64::MAX);
     let table = Table::<U64U32>::open(&bytes).unwrap();
     assert_eq!(table.get_all(&[1, 2, 3]), [Some(2), None, Some(4)]);
-    assert_eq!(
-        table.shape(),
-        Dimensions {
-            slots: 16,
-            max_items: 15,
-            percent: 94
-        }
-    );
+    assert_eq!(table.shape(), Dimensions { slots: 16, max_items: 15, percent: 94 });
 }
 
 #[test]
@@ -72,10 +65,7 @@ fn inserts_of_new_keys_are_refused() {
         assert_eq!(table.insert(&5, 6), Ok(Some(6)));
         assert_eq!(table.insert_all(&[1, 7, 3], &[2, 8, 4]), (1, Err(Error::Full)));
         assert_eq!(table.grow_into(&mut Vec::new()).map(|_| ()), Err(Error::TooManyItems));
-        assert_eq!(
-            odht::insert_growing::<U64U32>(&mut bytes, &7, 8),
-            Err(Error::TooManyItems)
-        );
+        assert_eq!(odht::insert_growing::<U64U32>(&mut bytes, &7, 8), Err(Error::TooManyItems));
         assert_eq!(bytes, stating(count));
     }
 }

@@ -69,26 +69,14 @@ fn pairs_come_in_slot_order() {
 fn the_header_is_told() {
     let bytes = worked_example();
     // 62258 * 16 / 65536 is 15 and some; 62258 * 100 / 65535 is 94 and some.
-    let shape = Dimensions {
-        slots: 16,
-        max_items: 15,
-        percent: 94,
-    };
+    let shape = Dimensions { slots: 16, max_items: 15, percent: 94 };
     assert_eq!(Table::<U64U32>::open(&bytes).unwrap().shape(), shape);
 }
 
 /// The table of docs/FORMAT.md: slots for items at a percentage.
 #[test]
 fn lengths_follow_from_slots() {
-    let lengths = [
-        (0, 87, 16),
-        (13, 87, 16),
-        (14, 87, 32),
-        (40, 87, 64),
-        (3, 95, 16),
-        (15, 100, 16),
-        (16, 100, 32),
-    ];
+    let lengths = [(0, 87, 16), (13, 87, 16), (14, 87, 32), (40, 87, 64), (3, 95, 16), (15, 100, 16), (16, 100, 32)];
     for (items, percent, slots) in lengths {
         assert_eq!(bytes_needed::<U64U32>(items, percent), Ok(32 + slots * 12 + slots + 16));
         assert_eq!(bytes_needed::<B16U32>(items, percent), Ok(32 + slots * 20 + slots + 16));
@@ -107,14 +95,8 @@ fn growth_places_pairs_in_slot_order() {
     };
     let mut bytes = empty_table::<B16U32>(2, 13).unwrap();
     let mut table = TableMut::<B16U32>::open(&mut bytes).unwrap();
-    assert_eq!(
-        table.insert_all(&[key(15), key(47), key(3)], &[1, 2, 3]),
-        (2, Err(Error::Full))
-    );
-    assert_eq!(
-        table.as_table().iter().collect::<Vec<_>>(),
-        [(key(47), 2), (key(15), 1)]
-    );
+    assert_eq!(table.insert_all(&[key(15), key(47), key(3)], &[1, 2, 3]), (2, Err(Error::Full)));
+    assert_eq!(table.as_table().iter().collect::<Vec<_>>(), [(key(47), 2), (key(15), 1)]);
     let mut larger = vec![1];
     let mut grown = table.grow_into(&mut larger).unwrap();
     assert_eq!(grown.as_table().shape().slots, 32);
@@ -130,11 +112,7 @@ fn a_table_for_no_items_grows() {
     let mut bytes = empty_table::<U64U32>(0, 1).unwrap();
     let mut table = TableMut::<U64U32>::open(&mut bytes).unwrap();
     assert_eq!(table.insert(&1, 2), Err(Error::Full));
-    let shape = Dimensions {
-        slots: 128,
-        max_items: 1,
-        percent: 0,
-    };
+    let shape = Dimensions { slots: 128, max_items: 1, percent: 0 };
     let grown = table.as_table().grown().unwrap();
     assert_eq!(Table::<U64U32>::open(&grown).unwrap().shape(), shape);
     assert_eq!(table.as_table().grown_len(), Ok(32 + 128 * 12 + 128 + 16));
@@ -145,8 +123,6 @@ fn a_table_for_no_items_grows() {
 
 #[test]
 fn the_version_is_that_of_the_package() {
-    let parts = env!("CARGO_PKG_VERSION")
-        .split('.')
-        .map(|part| part.parse::<u32>().unwrap());
+    let parts = env!("CARGO_PKG_VERSION").split('.').map(|part| part.parse::<u32>().unwrap());
     assert_eq!(odht::version(), parts.fold(0, |version, part| 100 * version + part));
 }

@@ -24,11 +24,7 @@ where
     let mut pairs: Pairs<S> = Vec::new();
     for _ in 0..count {
         let again = !pairs.is_empty() && random.below(4) == 0;
-        let key = if again {
-            pairs[random.below(pairs.len())].0
-        } else {
-            S::Key::by_chance(random)
-        };
+        let key = if again { pairs[random.below(pairs.len())].0 } else { S::Key::by_chance(random) };
         pairs.push((key, S::Value::by_chance(random)));
     }
     pairs
@@ -165,10 +161,7 @@ where
 {
     for seed in SEEDS {
         let random = &mut Random(seed);
-        for (count, percent) in COUNTS
-            .into_iter()
-            .flat_map(|count| PERCENTS.map(|percent| (count, percent)))
-        {
+        for (count, percent) in COUNTS.into_iter().flat_map(|count| PERCENTS.map(|percent| (count, percent))) {
             let pairs = some_pairs::<S>(random, count);
             let (bytes, map) = insert::<S>(&pairs, percent);
             read::<S>(&bytes, &map, random);
