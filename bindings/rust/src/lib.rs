@@ -6,6 +6,7 @@ mod builder;
 mod calls;
 mod error;
 mod iter;
+mod sets;
 mod shape;
 pub mod sys;
 mod table;

@@ -148,6 +148,11 @@ impl<'a, S: Shape> Table<'a, S> {
         pairs.map(|(found, value)| (*found == 1).then_some(value)).collect()
     }
 
+    /// Whether each key is there, in their order.
+    pub fn contains_all(&self, keys: &[S::Key]) -> Vec<bool> {
+        self.get_all(keys).iter().map(Option::is_some).collect()
+    }
+
     /// As [`Table::get_all`], and asks for no memory: at each index `found` becomes 1 and `values` the value, or
     /// `found` becomes 0 and `values` stays.
     ///
@@ -184,6 +189,11 @@ impl<'a, S: Shape> Table<'a, S> {
     /// The pairs in slot order. Each slot that counts as filled gives one, whatever the header states.
     pub fn iter(&self) -> Iter<'a, S> {
         Iter::new(self.bytes, self.shape().slots)
+    }
+
+    /// The keys in slot order, as [`Table::iter`].
+    pub fn keys(&self) -> impl Iterator<Item = S::Key> + 'a {
+        self.iter().map(|(key, _)| key)
     }
 
     /// Writes the pairs from slot `cursor` on, in slot order, to the front of the slices, and moves `cursor` to the
