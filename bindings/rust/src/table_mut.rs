@@ -97,10 +97,13 @@ impl<'a, S: Shape> TableMut<'a, S> {
     ///
     /// # Errors
     ///
-    /// As of [`Table::grown`]. Then `larger` stays.
+    /// As of [`Table::grown`]; where these bytes are not valid also [`Error::NonZeroEmpty`] or
+    /// [`Error::ControlMismatch`]. Then `larger` stays.
     pub fn grow_into<'b>(&self, larger: &'b mut Vec<u8>) -> Result<TableMut<'b, S>, Error> {
-        *larger = self.as_table().grown()?;
-        TableMut::open(larger)
+        let grown = self.as_table().grown()?;
+        Table::<S>::open(&grown)?;
+        *larger = grown;
+        Ok(TableMut { bytes: larger, shape: PhantomData })
     }
 }
 
@@ -142,7 +145,7 @@ pub fn empty_table<S: Shape>(max_items: usize, percent: u8) -> Result<Vec<u8>, E
 ///
 /// # Errors
 ///
-/// As of [`TableMut::open`] and [`Table::grown`]. Then the bytes stay.
+/// As of [`TableMut::open`] and [`Table::grown`]; where the bytes are not valid also [`Error::Full`]. Then they stay.
 ///
 /// ```
 /// # fn main() -> Result<(), odht::Error> {
