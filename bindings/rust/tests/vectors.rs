@@ -290,5 +290,5 @@ fn the_vectors_hold() {
     };
     let texts = files.map(|file| file.unwrap().path()).filter(|path| path.extension().is_some_and(|end| end == "txt"));
     let count: usize = texts.map(|path| run_file(&std::fs::read_to_string(path).unwrap())).sum();
-    assert!(count > 1000, "only {count} cases were compared");
+    assert!(count > 7000, "only {count} cases were compared");
 }
