@@ -13,7 +13,8 @@ use crate::zeros;
 /// A table in borrowed bytes, to look up in: its header and its length are looked at once.
 ///
 /// It copies nothing and has nothing to free. The bytes may begin at any address, as those of a mapped file or of a
-/// part of one. Any number of threads may read one table.
+/// part of one. (Who maps a file as a slice sees to it that no program writes the file meanwhile.) Any number of
+/// threads may read one table.
 ///
 /// What is said of answers holds for valid bytes: those that this library has made, and all others that the whole
 /// check passes ([`Table::checked`]). [`Table::open`] does not find out whether bytes are valid, for it looks at ten

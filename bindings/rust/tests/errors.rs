@@ -193,3 +193,30 @@ fn slices_can_be_too_short() {
     assert_eq!(builder.build_growing_into(&mut out), Err(Error::TooSmall));
     assert_eq!(out, [9; 255]);
 }
+
+/// The lines of include/odht.h that have a word, each from behind it on.
+fn lines_with<'a>(header: &'a str, word: &'a str) -> impl Iterator<Item = &'a str> {
+    header.lines().filter_map(move |line| line.trim().strip_prefix(word))
+}
+
+#[test]
+fn the_header_has_the_same_statuses() {
+    let path = concat!(env!("CARGO_MANIFEST_DIR"), "/../../include/odht.h");
+    let Ok(header) = std::fs::read_to_string(path) else {
+        println!("There is no {path}: this package is not in its repository.");
+        return;
+    };
+    let names = lines_with(&header, "ODHT_").filter_map(|line| line.split_once(" = "));
+    let number = |text: &str| text.split([',', ' ', '\n']).next().unwrap().parse::<u32>().ok();
+    let numbers: Vec<(&str, u32)> = names.filter_map(|(name, text)| Some((name, number(text)?))).collect();
+    // Those that stand for no error.
+    let others = ["OK", "ABSENT", "REPLACED", "UNMADE"];
+    assert_eq!(numbers.len(), ERRORS.len() + others.len());
+    for (name, number) in numbers {
+        let case = format!("case ODHT_{name}: return \"");
+        let text = lines_with(&header, &case).next().unwrap().strip_suffix("\";").unwrap();
+        let error = Error::from_number(number);
+        let expected = if others.contains(&name) { "unknown status" } else { text };
+        assert_eq!(error.name(), expected, "{name}");
+    }
+}
