@@ -5,7 +5,6 @@
 mod check;
 mod keys;
 #[allow(dead_code)]
-#[path = "../examples/rust/odht.rs"]
 mod library;
 mod lines;
 mod maps;
@@ -19,6 +18,9 @@ mod original;
 mod ours;
 mod run;
 mod runs;
+#[allow(dead_code)]
+#[path = "../bindings/rust/src/sys.rs"]
+mod sys;
 mod table;
 mod work;
 

@@ -3,7 +3,8 @@
 use std::hint::black_box;
 
 use crate::keys::Key;
-use crate::library::{b16_u32, declared, u64_u32, Status};
+use crate::library::{b16_u32, u64_u32, Status};
+use crate::sys;
 use crate::work::{Work, PERCENT};
 
 /// The calls for one kind of table.
@@ -34,9 +35,9 @@ pub trait Calls: Key {
 
 /// `$key => $passed` says how a single key is handed over.
 macro_rules! calls {
-    ($type:ty, $calls:ident, $place:ident, $key:ident => $passed:expr) => {
+    ($type:ty, $calls:ident, $key:ident => $passed:expr) => {
         impl Calls for $type {
-            const PLACE: *const () = declared::$place as *const ();
+            const PLACE: *const () = sys::$calls::get_all as *const ();
 
             fn bytes_needed(count: usize) -> usize {
                 $calls::bytes_needed(count, PERCENT).expect("the table fits")
@@ -88,8 +89,8 @@ macro_rules! calls {
     };
 }
 
-calls!(u64, u64_u32, odht_u64_u32_get_all, key => *key);
-calls!([u8; 16], b16_u32, odht_b16_u32_get_all, key => key);
+calls!(u64, u64_u32, key => *key);
+calls!([u8; 16], b16_u32, key => key);
 
 fn init<K: Calls>(work: &mut Work<K>) {
     K::init(&mut work.table, work.keys.len()).expect("the length is right");

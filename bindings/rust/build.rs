@@ -1,0 +1,67 @@
+//! Finds the archive `libodht.a`: in the folder that ODHT_LIB_DIR names; else in build/ of the repository; else in the
+//! folder that pkg-config knows. Where there is none it says what to do.
+
+use std::path::{Path, PathBuf};
+use std::process::{exit, Command};
+
+const ARCHIVE: &str = "libodht.a";
+
+fn main() {
+    println!("cargo:rerun-if-env-changed=ODHT_LIB_DIR");
+    println!("cargo:rerun-if-env-changed=PKG_CONFIG");
+    println!("cargo:rerun-if-env-changed=PKG_CONFIG_PATH");
+    println!("cargo:rerun-if-changed=build.rs");
+    let folder = find_folder();
+    println!("cargo:rerun-if-changed={}", folder.join(ARCHIVE).display());
+    println!("cargo:rustc-link-search=native={}", folder.display());
+    println!("cargo:rustc-link-lib=static=odht");
+}
+
+fn find_folder() -> PathBuf {
+    if let Some(named) = std::env::var_os("ODHT_LIB_DIR") {
+        let named = PathBuf::from(named);
+        if has_archive(&named) {
+            return named;
+        }
+        give_up(&format!("ODHT_LIB_DIR is {}, and {ARCHIVE} is not there.", named.display()));
+    }
+    let built = repository_build();
+    // Once the archive is made there, this is to run again.
+    println!("cargo:rerun-if-changed={}", built.join(ARCHIVE).display());
+    if has_archive(&built) {
+        return built;
+    }
+    match installed().filter(|folder| has_archive(folder)) {
+        Some(folder) => folder,
+        None => give_up(&format!("{ARCHIVE} is not in {}, and pkg-config knows no odht.", built.display())),
+    }
+}
+
+fn has_archive(folder: &Path) -> bool {
+    folder.join(ARCHIVE).is_file()
+}
+
+/// build/ at the top of the repository, where `make lib` puts the archive.
+fn repository_build() -> PathBuf {
+    let package = std::env::var_os("CARGO_MANIFEST_DIR").expect("cargo names the package's folder");
+    let top = Path::new(&package).join("../..");
+    top.canonicalize().unwrap_or(top).join("build")
+}
+
+/// The folder of an installed library.
+fn installed() -> Option<PathBuf> {
+    let program = std::env::var_os("PKG_CONFIG").unwrap_or_else(|| "pkg-config".into());
+    let output = Command::new(program).args(["--variable=libdir", "odht"]).output().ok()?;
+    let folder = String::from_utf8(output.stdout).ok()?;
+    let folder = folder.trim();
+    (output.status.success() && !folder.is_empty()).then(|| PathBuf::from(folder))
+}
+
+fn give_up(what: &str) -> ! {
+    eprintln!("{what}");
+    eprintln!("Do one of these, and build again:");
+    eprintln!("- run `make lib` at the top of the odht repository, which makes build/{ARCHIVE};");
+    eprintln!("- set ODHT_LIB_DIR to the folder that has {ARCHIVE};");
+    eprintln!("- install the library, so that `pkg-config --variable=libdir odht` prints that folder.");
+    exit(1)
+}

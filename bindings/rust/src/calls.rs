@@ -1,0 +1,240 @@
+//! The calls of the archive with slices and references in place of pointers, the same for every shape. All that is said
+//! of them in include/odht.h holds here too; each answers a status.
+//!
+//! Of all calls but three this makes safe functions, for the reason that [`crate::sys`] asks for no more than slices
+//! and references uphold by themselves. Their pointers are aligned and not null, also those of empty slices. They may
+//! be read for their whole length, and written where they are `mut`. What is borrowed for writing overlaps nothing
+//! else, and nobody else reads or writes it meanwhile; what is borrowed for reading nobody writes. The archive keeps
+//! no pointer, but for a view in the place that it is given.
+
+use crate::sys::{self, View};
+use crate::{B16, B16U32, B16U64, B20U64, B32, B32U64, U32U32, U64U32, U64U64};
+
+/// The calls for one shape of table.
+pub trait Calls {
+    type Key;
+    type Value;
+
+    fn bytes_needed(max_items: usize, percent: u8, len: &mut usize) -> u32;
+    fn init(bytes: &mut [u8], max_items: usize, percent: u8) -> u32;
+    fn open(bytes: &[u8]) -> u32;
+    fn check(bytes: &[u8]) -> u32;
+    fn shape(bytes: &[u8], slots: &mut usize, max_items: &mut usize, percent: &mut u8) -> u32;
+    fn insert(bytes: &mut [u8], key: &Self::Key, value: Self::Value, former: &mut Self::Value) -> u32;
+    fn insert_all(bytes: &mut [u8], keys: &[Self::Key], values: &[Self::Value], accepted: &mut usize) -> u32;
+    fn walk(
+        bytes: &[u8],
+        cursor: &mut usize,
+        keys: &mut [Self::Key],
+        values: &mut [Self::Value],
+        count: &mut usize,
+    ) -> u32;
+    fn insert_order(bytes: &[u8], out: &mut [usize]) -> u32;
+    fn grow(bytes: &[u8], out: &mut [u8], len: &mut usize) -> u32;
+    fn build(keys: &[Self::Key], values: &[Self::Value], percent: u8, out: &mut [u8], len: &mut usize) -> u32;
+    fn build_growing(keys: &[Self::Key], values: &[Self::Value], out: &mut [u8], len: &mut usize) -> u32;
+
+    /// The status, and the view: of the bytes where the status is `OK`, or else of none.
+    fn open_view(bytes: &[u8]) -> (u32, View);
+
+    /// # Safety
+    ///
+    /// The view is that of an [`Calls::open_view`] of this shape which has answered `OK`, or the pointer and the
+    /// length of bytes that [`Calls::open`] or [`Calls::init`] of this shape has answered `OK` of. Nobody writes the
+    /// bytes until this returns, and since that answer nothing but [`Calls::insert`] and [`Calls::insert_all`] of this
+    /// shape has.
+    unsafe fn view_get(view: &View, key: &Self::Key, value: &mut Self::Value) -> u32;
+
+    /// # Safety
+    ///
+    /// As of [`Calls::view_get`].
+    unsafe fn view_get_all(view: &View, keys: &[Self::Key], values: &mut [Self::Value], found: &mut [u8]) -> u32;
+
+    /// # Safety
+    ///
+    /// As of [`Calls::view_get`].
+    unsafe fn view_len(view: &View) -> usize;
+}
+
+/// `$key => $passed` says how a single key is handed over, and `$value => $given` a single value: a set's is not.
+macro_rules! calls {
+    ($shape:ty, $module:ident, $key_type:ty, $value_type:ty, $key:ident => $passed:expr,
+     $value:pat => $($given:expr)?) => {
+        impl Calls for $shape {
+            type Key = $key_type;
+            type Value = $value_type;
+
+            #[inline]
+            fn bytes_needed(max_items: usize, percent: u8, len: &mut usize) -> u32 {
+                // SAFETY: `len` is a reference.
+                unsafe { sys::$module::bytes_needed(max_items, percent, len) }
+            }
+
+            #[inline]
+            fn init(bytes: &mut [u8], max_items: usize, percent: u8) -> u32 {
+                // SAFETY: the pointer and the length are those of a slice that is borrowed for writing.
+                unsafe { sys::$module::init(bytes.as_mut_ptr(), bytes.len(), max_items, percent) }
+            }
+
+            #[inline]
+            fn open(bytes: &[u8]) -> u32 {
+                // SAFETY: the pointer and the length are those of a slice.
+                unsafe { sys::$module::open(bytes.as_ptr(), bytes.len()) }
+            }
+
+            #[inline]
+            fn check(bytes: &[u8]) -> u32 {
+                // SAFETY: the pointer and the length are those of a slice.
+                unsafe { sys::$module::check(bytes.as_ptr(), bytes.len()) }
+            }
+
+            #[inline]
+            fn shape(bytes: &[u8], slots: &mut usize, max_items: &mut usize, percent: &mut u8) -> u32 {
+                // SAFETY: of a slice, and of references that are apart.
+                unsafe { sys::$module::shape(bytes.as_ptr(), bytes.len(), slots, max_items, percent) }
+            }
+
+            #[inline]
+            fn insert(
+                bytes: &mut [u8],
+                $key: &$key_type,
+                $value: $value_type,
+                former: &mut $value_type,
+            ) -> u32 {
+                let (pointer, length) = (bytes.as_mut_ptr(), bytes.len());
+                // SAFETY: of a slice and a reference that are borrowed for writing, so apart from the key too.
+                unsafe { sys::$module::insert(pointer, length, $passed, $($given,)? former) }
+            }
+
+            #[inline]
+            fn insert_all(
+                bytes: &mut [u8],
+                keys: &[$key_type],
+                values: &[$value_type],
+                accepted: &mut usize,
+            ) -> u32 {
+                // SAFETY: of slices and a reference; those that are borrowed for writing are apart from all others.
+                unsafe {
+                    sys::$module::insert_all(
+                        bytes.as_mut_ptr(), bytes.len(), keys.as_ptr(), keys.len(),
+                        values.as_ptr(), values.len(), accepted,
+                    )
+                }
+            }
+
+            #[inline]
+            fn walk(
+                bytes: &[u8],
+                cursor: &mut usize,
+                keys: &mut [$key_type],
+                values: &mut [$value_type],
+                count: &mut usize,
+            ) -> u32 {
+                // SAFETY: of slices and references; those that are borrowed for writing are apart from all others.
+                // Whatever bytes the call writes into a key or a value, it is one.
+                unsafe {
+                    sys::$module::walk(
+                        bytes.as_ptr(), bytes.len(), cursor, keys.as_mut_ptr(), keys.len(),
+                        values.as_mut_ptr(), values.len(), count,
+                    )
+                }
+            }
+
+            #[inline]
+            fn insert_order(bytes: &[u8], out: &mut [usize]) -> u32 {
+                // SAFETY: of slices, of which the one for writing is apart from the other.
+                unsafe {
+                    sys::$module::insert_order(bytes.as_ptr(), bytes.len(), out.as_mut_ptr(), out.len())
+                }
+            }
+
+            #[inline]
+            fn grow(bytes: &[u8], out: &mut [u8], len: &mut usize) -> u32 {
+                // SAFETY: of slices and a reference; those that are borrowed for writing are apart from all others.
+                unsafe {
+                    sys::$module::grow(bytes.as_ptr(), bytes.len(), out.as_mut_ptr(), out.len(), len)
+                }
+            }
+
+            #[inline]
+            fn build(
+                keys: &[$key_type],
+                values: &[$value_type],
+                percent: u8,
+                out: &mut [u8],
+                len: &mut usize,
+            ) -> u32 {
+                // SAFETY: of slices and a reference; those that are borrowed for writing are apart from all others.
+                unsafe {
+                    sys::$module::build(
+                        keys.as_ptr(), keys.len(), values.as_ptr(), values.len(), percent,
+                        out.as_mut_ptr(), out.len(), len,
+                    )
+                }
+            }
+
+            #[inline]
+            fn build_growing(
+                keys: &[$key_type],
+                values: &[$value_type],
+                out: &mut [u8],
+                len: &mut usize,
+            ) -> u32 {
+                // SAFETY: of slices and a reference; those that are borrowed for writing are apart from all others.
+                unsafe {
+                    sys::$module::build_growing(
+                        keys.as_ptr(), keys.len(), values.as_ptr(), values.len(),
+                        out.as_mut_ptr(), out.len(), len,
+                    )
+                }
+            }
+
+            #[inline]
+            fn open_view(bytes: &[u8]) -> (u32, View) {
+                let mut view = View { bytes: bytes.as_ptr(), len: 0 };
+                // SAFETY: of a slice, and of a view that is apart from it.
+                let status = unsafe { sys::$module::open_view(bytes.as_ptr(), bytes.len(), &mut view) };
+                (status, view)
+            }
+
+            #[inline]
+            unsafe fn view_get(view: &View, $key: &$key_type, value: &mut $value_type) -> u32 {
+                // SAFETY: what is said of this function is what the call demands; the rest are references.
+                unsafe { sys::$module::view_get(view, $passed, value) }
+            }
+
+            #[inline]
+            unsafe fn view_get_all(
+                view: &View,
+                keys: &[$key_type],
+                values: &mut [$value_type],
+                found: &mut [u8],
+            ) -> u32 {
+                // SAFETY: what is said of this function is what the call demands; the rest are slices, and those for
+                // writing are apart from all others.
+                unsafe {
+                    sys::$module::view_get_all(
+                        view, keys.as_ptr(), keys.len(), values.as_mut_ptr(), values.len(),
+                        found.as_mut_ptr(), found.len(),
+                    )
+                }
+            }
+
+            #[inline]
+            unsafe fn view_len(view: &View) -> usize {
+                // SAFETY: what is said of this function is what the call demands.
+                unsafe { sys::$module::view_len(view) }
+            }
+        }
+    };
+}
+
+calls!(U32U32, u32_u32, u32, u32, key => *key, value => value);
+calls!(U64U32, u64_u32, u64, u32, key => *key, value => value);
+calls!(U64U64, u64_u64, u64, u64, key => *key, value => value);
+calls!(B16U32, b16_u32, [u8; 16], u32, key => key, value => value);
+calls!(B16U64, b16_u64, [u8; 16], u64, key => key, value => value);
+calls!(B20U64, b20_u64, [u8; 20], u64, key => key, value => value);
+calls!(B32U64, b32_u64, [u8; 32], u64, key => key, value => value);
+calls!(B16, b16, [u8; 16], (), key => key, () =>);
+calls!(B32, b32, [u8; 32], (), key => key, () =>);

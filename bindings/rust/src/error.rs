@@ -1,0 +1,124 @@
+//! Why a call was refused.
+
+use std::fmt;
+
+/// The status of success.
+pub(crate) const OK: u32 = 0;
+/// A key has no value. Nothing that went wrong.
+pub(crate) const ABSENT: u32 = 32;
+/// A key had a value. Nothing that went wrong.
+pub(crate) const REPLACED: u32 = 33;
+/// No list of inserts makes the table. Nothing that went wrong.
+pub(crate) const UNMADE: u32 = 37;
+
+macro_rules! errors {
+    ($($(#[$comment:meta])* $name:ident = $number:literal $text:literal,)*) => {
+        /// Why a call was refused: each status of the library that stands for an error.
+        ///
+        /// Those from 1 to 16 are about the bytes of a table. Opening looks in their order and tells the first that
+        /// applies, 1 to 9; the whole check goes on as docs/FORMAT.md of the repository tells.
+        #[non_exhaustive]
+        #[derive(Clone, Copy, Debug, PartialEq, Eq, Hash)]
+        pub enum Error {
+            $($(#[$comment])* $name,)*
+            /// A number that this version of the crate has no name for. No call of this version answers it.
+            Unknown(u32),
+        }
+
+        impl Error {
+            /// The error with this number, a status of include/odht.h; [`Error::Unknown`] where no error has it.
+            pub fn from_number(number: u32) -> Error {
+                match number {
+                    $($number => Error::$name,)*
+                    other => Error::Unknown(other),
+                }
+            }
+
+            /// Its number, a status of include/odht.h.
+            pub fn number(self) -> u32 {
+                match self {
+                    $(Error::$name => $number,)*
+                    Error::Unknown(number) => number,
+                }
+            }
+
+            /// A short text, as that of `odht_status_name`.
+            pub fn name(self) -> &'static str {
+                match self {
+                    $(Error::$name => $text,)*
+                    Error::Unknown(_) => "unknown status",
+                }
+            }
+        }
+    };
+}
+
+errors! {
+    /// There are fewer than 32 bytes.
+    TooShort = 1 "too short",
+    /// The first four bytes are not `ODHT`.
+    WrongTag = 2 "wrong tag",
+    /// The bytes are not of version 2 of the format.
+    WrongVersion = 3 "wrong version",
+    /// Keys, values or the header have other lengths: it is a table of another shape.
+    WrongSize = 4 "wrong size",
+    /// The slot count is not a power of two.
+    SlotCountNotPowerOfTwo = 5 "slot count not a power of two",
+    /// There are fewer than 16 slots.
+    SlotCountTooSmall = 6 "slot count too small",
+    /// There are not as many bytes as the slots need.
+    WrongLength = 7 "wrong length",
+    /// The entry of a free slot is not zero.
+    NonZeroEmpty = 8 "non-zero empty slot",
+    /// A control byte is not its key's tag.
+    ControlMismatch = 9 "control mismatch",
+    /// The load factor is below 1 percent.
+    LoadFactorTooSmall = 10 "load factor too small",
+    /// Bytes 30 and 31 are not zero.
+    NonZeroPadding = 11 "non-zero padding",
+    /// The control byte of a free slot is not 255.
+    BadFreeControl = 12 "bad free control",
+    /// The last 16 bytes do not repeat the first control bytes.
+    MirrorMismatch = 13 "mirror mismatch",
+    /// There are not as many items as the header states.
+    WrongItemCount = 14 "wrong item count",
+    /// There are more items than the load factor allows.
+    TooManyItems = 15 "too many items",
+    /// A key stands behind a free slot of its probe order, or is there a second time.
+    Unreachable = 16 "unreachable",
+    /// The bytes to initialize are not as many as the table needs.
+    InitLength = 17 "wrong length to initialize",
+    /// The key is new, and the table has as many items as it takes.
+    Full = 18 "full",
+    /// Memory was refused.
+    Memory = 19 "no memory",
+    /// No table takes so many items.
+    Capacity = 20 "capacity",
+    /// The load factor is 0 percent, or more than 100.
+    BadPercent = 34 "bad percent",
+    /// Slices have different lengths, or not a place for each item.
+    BadLengths = 35 "bad lengths",
+    /// There is more than there is room for.
+    TooSmall = 36 "too small",
+}
+
+impl Error {
+    /// `answer` where the status is that of success, or else its error.
+    pub(crate) fn unless_ok<T>(status: u32, answer: T) -> Result<T, Error> {
+        match status {
+            OK => Ok(answer),
+            refused => Err(Error::from_number(refused)),
+        }
+    }
+}
+
+impl fmt::Display for Error {
+    fn fmt(&self, formatter: &mut fmt::Formatter<'_>) -> fmt::Result {
+        match self {
+            Error::Unknown(number) => write!(formatter, "unknown status {number}"),
+            known => formatter.write_str(known.name()),
+        }
+    }
+}
+
+impl std::error::Error for Error {}

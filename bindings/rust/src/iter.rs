@@ -1,0 +1,91 @@
+//! The pairs of a table, one after the other.
+
+use std::fmt;
+use std::iter::FusedIterator;
+
+use crate::calls::Calls;
+use crate::error::{Error, OK};
+use crate::shape::Shape;
+
+/// How many pairs are read at once.
+const BLOCK: usize = 64;
+
+/// The pairs of a table in slot order. It reads them in blocks, asks for no memory, and ends behind the last slot,
+/// whatever the header states.
+#[derive(Clone)]
+pub struct Iter<'a, S: Shape> {
+    bytes: &'a [u8],
+    slots: usize,
+    /// The slot to go on at.
+    cursor: usize,
+    /// Whether there may be pairs from there on.
+    more: bool,
+    keys: [S::Key; BLOCK],
+    values: [S::Value; BLOCK],
+    /// The places of the block that are not given yet.
+    next: usize,
+    end: usize,
+}
+
+impl<'a, S: Shape> Iter<'a, S> {
+    /// Of the bytes of an opened table, which has so many slots.
+    pub(crate) fn new(bytes: &'a [u8], slots: usize) -> Self {
+        Iter {
+            bytes,
+            slots,
+            cursor: 0,
+            more: true,
+            keys: [S::Key::default(); BLOCK],
+            values: [S::Value::default(); BLOCK],
+            next: 0,
+            end: 0,
+        }
+    }
+
+    /// Reads the next block, once this one is given.
+    #[cold]
+    fn read(&mut self) {
+        let mut count = 0;
+        let (keys, values) = (&mut self.keys, &mut self.values);
+        let status = S::Calls::walk(self.bytes, &mut self.cursor, keys, values, &mut count);
+        debug_assert!(status == OK || Error::from_number(status) == Error::TooSmall);
+        // A block that is not full is the last one, so this ends.
+        self.more = status != OK && count == BLOCK;
+        self.next = 0;
+        self.end = count.min(BLOCK);
+    }
+}
+
+impl<S: Shape> Iterator for Iter<'_, S> {
+    type Item = (S::Key, S::Value);
+
+    #[inline]
+    fn next(&mut self) -> Option<(S::Key, S::Value)> {
+        if self.next == self.end && self.more {
+            self.read();
+        }
+        if self.next == self.end {
+            return None;
+        }
+        let place = self.next;
+        self.next += 1;
+        Some((self.keys[place], self.values[place]))
+    }
+
+    /// At least the rest of the block, at most that and one for each slot behind it. The item count of the header is
+    /// not in it, since it need not be true.
+    fn size_hint(&self) -> (usize, Option<usize>) {
+        let read = self.end - self.next;
+        let unread = if self.more { self.slots.saturating_sub(self.cursor) } else { 0 };
+        (read, read.checked_add(unread))
+    }
+}
+
+impl<S: Shape> FusedIterator for Iter<'_, S> {}
+
+impl<S: Shape> fmt::Debug for Iter<'_, S> {
+    fn fmt(&self, formatter: &mut fmt::Formatter<'_>) -> fmt::Result {
+        let mut iter = formatter.debug_struct("Iter");
+        iter.field("shape", &S::default()).field("cursor", &self.cursor).finish_non_exhaustive()
+    }
+}

@@ -1,0 +1,33 @@
+#![doc = include_str!("../README.md")]
+#![deny(missing_docs)]
+#![deny(unsafe_op_in_unsafe_fn)]
+
+mod builder;
+mod calls;
+mod error;
+mod iter;
+mod sets;
+mod shape;
+pub mod sys;
+mod table;
+mod table_mut;
+
+pub use builder::{Builder, DEFAULT_PERCENT};
+pub use error::Error;
+pub use iter::Iter;
+pub use shape::{Shape, B16, B16U32, B16U64, B20U64, B32, B32U64, U32U32, U64U32, U64U64};
+pub use table::{Dimensions, Table, Walked};
+pub use table_mut::{bytes_needed, empty_table, insert_growing, TableMut};
+
+/// The version of the archive that is linked: 10000 times the major number, 100 times the minor one, and the patch.
+pub fn version() -> u32 {
+    sys::odht_version()
+}
+
+/// So many zeros, or [`Error::Memory`] where there is no memory for them.
+fn zeros<T: Copy + Default>(count: usize) -> Result<Vec<T>, Error> {
+    let mut all = Vec::new();
+    all.try_reserve_exact(count).map_err(|_| Error::Memory)?;
+    all.resize(count, T::default());
+    Ok(all)
+}

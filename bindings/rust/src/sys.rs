@@ -1,0 +1,245 @@
+//! The calls of the archive by their symbols, one module for each shape of table. include/odht.h tells what each does.
+//!
+//! A slice is a pointer and, behind it, a length: in bytes of bytes, in items of arrays. Each call answers a status,
+//! but `view_len` and `odht_version`.
+//!
+//! # Safety
+//!
+//! What a caller of these functions upholds:
+//!
+//! - No pointer is null, also where the length beside it is 0. Pointers to numbers are aligned; keys that are bytes,
+//!   and a table's bytes, may begin at any address.
+//! - A pointer and its length are a slice that may be read, and may be written where the pointer is `*mut`; a place
+//!   that a call writes overlaps no other of that call.
+//! - Nobody writes the bytes while a call reads them, and nobody reads or writes them while a call writes them.
+//! - A view that is looked up in was filled by `open_view` of the same shape, or by hand with bytes that `open` of that
+//!   shape has accepted. Its bytes are still there, and nothing has written their header since but `insert`,
+//!   `insert_all` and `init` of that shape, on exactly these bytes.
+
+const _: () = assert!(size_of::<usize>() == 8, "the library is built for 64 bits");
+
+/// The pointer and the length of the bytes of an opened table.
+#[repr(C)]
+#[derive(Clone, Copy, Debug)]
+pub struct View {
+    /// All bytes of the table.
+    pub bytes: *const u8,
+    /// How many they are.
+    pub len: usize,
+}
+
+unsafe extern "C" {
+    /// The version of the archive: 10000 times the major number, 100 times the minor one, and the patch. Asks nothing
+    /// of its caller.
+    pub safe fn odht_version() -> u32;
+}
+
+/// `$passed` is how a single key is handed over, and the words after `insert` are the single value of an insert: a
+/// set's has none.
+macro_rules! shape {
+    ($(#[$comment:meta])* $shape:ident, $key:ty, $passed:ty, $value:ty, insert($($word:ident: $type:ty)?)) => {
+        $(#[$comment])*
+        pub mod $shape {
+            use super::View;
+
+            // A set's values are `()`: of those the calls take pointers alone, and never read or write behind them.
+            #[allow(improper_ctypes)]
+            unsafe extern "C" {
+                /// How many bytes a new table has.
+                #[link_name = concat!("odht_", stringify!($shape), "_bytes_needed")]
+                pub fn bytes_needed(max_items: usize, percent: u8, len: *mut usize) -> u32;
+
+                /// Makes an empty table.
+                #[link_name = concat!("odht_", stringify!($shape), "_init")]
+                pub fn init(bytes: *mut u8, bytes_len: usize, max_items: usize, percent: u8) -> u32;
+
+                /// Whether bytes can be used as a table.
+                #[link_name = concat!("odht_", stringify!($shape), "_open")]
+                pub fn open(bytes: *const u8, bytes_len: usize) -> u32;
+
+                /// Whether bytes are valid, to the last one.
+                #[link_name = concat!("odht_", stringify!($shape), "_check")]
+                pub fn check(bytes: *const u8, bytes_len: usize) -> u32;
+
+                /// What the header says of the slots.
+                #[link_name = concat!("odht_", stringify!($shape), "_shape")]
+                pub fn shape(
+                    bytes: *const u8,
+                    bytes_len: usize,
+                    slots: *mut usize,
+                    max_items: *mut usize,
+                    percent: *mut u8,
+                ) -> u32;
+
+                /// The number of items that the header states.
+                #[link_name = concat!("odht_", stringify!($shape), "_len")]
+                pub fn len(bytes: *const u8, bytes_len: usize, count: *mut usize) -> u32;
+
+                /// The value of a key.
+                #[link_name = concat!("odht_", stringify!($shape), "_get")]
+                pub fn get(bytes: *const u8, bytes_len: usize, key: $passed, value: *mut $value) -> u32;
+
+                /// The values of many keys.
+                #[link_name = concat!("odht_", stringify!($shape), "_get_all")]
+                pub fn get_all(
+                    bytes: *const u8,
+                    bytes_len: usize,
+                    keys: *const $key,
+                    keys_len: usize,
+                    values: *mut $value,
+                    values_len: usize,
+                    found: *mut u8,
+                    found_len: usize,
+                ) -> u32;
+
+                /// Gives a key a value.
+                #[link_name = concat!("odht_", stringify!($shape), "_insert")]
+                pub fn insert(
+                    bytes: *mut u8,
+                    bytes_len: usize,
+                    key: $passed,
+                    $($word: $type,)?
+                    former: *mut $value,
+                ) -> u32;
+
+                /// Gives keys their values, up to the first that is refused.
+                #[link_name = concat!("odht_", stringify!($shape), "_insert_all")]
+                pub fn insert_all(
+                    bytes: *mut u8,
+                    bytes_len: usize,
+                    keys: *const $key,
+                    keys_len: usize,
+                    values: *const $value,
+                    values_len: usize,
+                    accepted: *mut usize,
+                ) -> u32;
+
+                /// The pairs from a slot on, in slot order.
+                #[link_name = concat!("odht_", stringify!($shape), "_walk")]
+                pub fn walk(
+                    bytes: *const u8,
+                    bytes_len: usize,
+                    cursor: *mut usize,
+                    keys: *mut $key,
+                    keys_len: usize,
+                    values: *mut $value,
+                    values_len: usize,
+                    count: *mut usize,
+                ) -> u32;
+
+                /// The filled slots in an order of inserts that makes the table.
+                #[link_name = concat!("odht_", stringify!($shape), "_insert_order")]
+                pub fn insert_order(
+                    bytes: *const u8,
+                    bytes_len: usize,
+                    out: *mut usize,
+                    out_len: usize,
+                ) -> u32;
+
+                /// The table as it grows at its maximum.
+                #[link_name = concat!("odht_", stringify!($shape), "_grow")]
+                pub fn grow(
+                    bytes: *const u8,
+                    bytes_len: usize,
+                    out: *mut u8,
+                    out_len: usize,
+                    len: *mut usize,
+                ) -> u32;
+
+                /// A table for exactly these pairs.
+                #[link_name = concat!("odht_", stringify!($shape), "_build")]
+                pub fn build(
+                    keys: *const $key,
+                    keys_len: usize,
+                    values: *const $value,
+                    values_len: usize,
+                    percent: u8,
+                    out: *mut u8,
+                    out_len: usize,
+                    len: *mut usize,
+                ) -> u32;
+
+                /// The table that grows as these pairs are inserted.
+                #[link_name = concat!("odht_", stringify!($shape), "_build_growing")]
+                pub fn build_growing(
+                    keys: *const $key,
+                    keys_len: usize,
+                    values: *const $value,
+                    values_len: usize,
+                    out: *mut u8,
+                    out_len: usize,
+                    len: *mut usize,
+                ) -> u32;
+
+                /// Opens bytes, to look up in them often.
+                #[link_name = concat!("odht_", stringify!($shape), "_open_view")]
+                pub fn open_view(bytes: *const u8, bytes_len: usize, view: *mut View) -> u32;
+
+                /// The value of a key of an opened table.
+                #[link_name = concat!("odht_", stringify!($shape), "_view_get")]
+                pub fn view_get(view: *const View, key: $passed, value: *mut $value) -> u32;
+
+                /// The values of many keys of an opened table.
+                #[link_name = concat!("odht_", stringify!($shape), "_view_get_all")]
+                pub fn view_get_all(
+                    view: *const View,
+                    keys: *const $key,
+                    keys_len: usize,
+                    values: *mut $value,
+                    values_len: usize,
+                    found: *mut u8,
+                    found_len: usize,
+                ) -> u32;
+
+                /// The number of items that the header of an opened table states.
+                #[link_name = concat!("odht_", stringify!($shape), "_view_len")]
+                pub fn view_len(view: *const View) -> usize;
+            }
+        }
+    };
+}
+
+shape! {
+    /// Keys of 32 bits, values of 32 bits.
+    u32_u32, u32, u32, u32, insert(value: u32)
+}
+
+shape! {
+    /// Keys of 64 bits, values of 32 bits.
+    u64_u32, u64, u64, u32, insert(value: u32)
+}
+
+shape! {
+    /// Keys of 64 bits, values of 64 bits.
+    u64_u64, u64, u64, u64, insert(value: u64)
+}
+
+shape! {
+    /// Keys of 16 bytes, values of 32 bits.
+    b16_u32, [u8; 16], *const [u8; 16], u32, insert(value: u32)
+}
+
+shape! {
+    /// Keys of 16 bytes, values of 64 bits.
+    b16_u64, [u8; 16], *const [u8; 16], u64, insert(value: u64)
+}
+
+shape! {
+    /// Keys of 20 bytes, values of 64 bits.
+    b20_u64, [u8; 20], *const [u8; 20], u64, insert(value: u64)
+}
+
+shape! {
+    /// Keys of 32 bytes, values of 64 bits.
+    b32_u64, [u8; 32], *const [u8; 32], u64, insert(value: u64)
+}
+
+shape! {
+    /// Sets of keys of 16 bytes.
+    b16, [u8; 16], *const [u8; 16], (), insert()
+}
+
+shape! {
+    /// Sets of keys of 32 bytes.
+    b32, [u8; 32], *const [u8; 32], (), insert()
+}

@@ -1,0 +1,312 @@
+//! Tables that are read.
+
+use std::fmt;
+use std::marker::PhantomData;
+
+use crate::calls::Calls;
+use crate::error::{Error, ABSENT, OK, UNMADE};
+use crate::iter::Iter;
+use crate::shape::Shape;
+use crate::sys::View;
+use crate::zeros;
+
+/// A table in borrowed bytes, to look up in: its header and its length are looked at once.
+///
+/// It copies nothing and has nothing to free. The bytes may begin at any address, as those of a mapped file or of a
+/// part of one. (Who maps a file as a slice sees to it that no program writes the file meanwhile.) Any number of
+/// threads may read one table.
+///
+/// What is said of answers holds for valid bytes: those that this library has made, and all others that the whole
+/// check passes ([`Table::checked`]). [`Table::open`] does not find out whether bytes are valid, for it looks at ten
+/// slots. On other bytes that it accepts every call is safe, and ends, but [`Table::get`] may miss a key or find a
+/// value that stands beside it in a free slot, and [`Table::len`] tells what the header states. docs/FORMAT.md of the
+/// repository has the frame.
+///
+/// While a table is there nobody can write its bytes:
+///
+/// ```compile_fail,E0506
+/// # let mut bytes = odht::Builder::<odht::U64U32>::new(87).build().unwrap();
+/// let table = odht::Table::<odht::U64U32>::open(&bytes).unwrap();
+/// bytes[16] = 0;
+/// table.get(&7);
+/// ```
+pub struct Table<'a, S: Shape> {
+    /// Of `bytes`, which open has accepted.
+    view: View,
+    bytes: &'a [u8],
+    shape: PhantomData<S>,
+}
+
+// SAFETY: the pointer of the view is that of `bytes`, behind which everybody only reads while the table is there. So a
+// table is no more than the slice, which may be sent to other threads and used by many.
+unsafe impl<S: Shape> Send for Table<'_, S> {}
+// SAFETY: as above.
+unsafe impl<S: Shape> Sync for Table<'_, S> {}
+
+impl<S: Shape> Clone for Table<'_, S> {
+    fn clone(&self) -> Self {
+        *self
+    }
+}
+
+impl<S: Shape> Copy for Table<'_, S> {}
+
+/// What the header of a table says of its slots.
+#[derive(Clone, Copy, Debug, PartialEq, Eq)]
+pub struct Dimensions {
+    /// How many slots there are.
+    pub slots: usize,
+    /// How many items the slots take at this load factor.
+    pub max_items: usize,
+    /// The load factor in percent, rounded down: it may be one below what the table was made with.
+    pub percent: u8,
+}
+
+/// What a step of [`Table::walk`] has written.
+#[derive(Clone, Copy, Debug, PartialEq, Eq)]
+pub struct Walked {
+    /// How many pairs, from the front of the slices on.
+    pub count: usize,
+    /// Whether the slices are full and there are more pairs.
+    pub more: bool,
+}
+
+impl<'a, S: Shape> Table<'a, S> {
+    /// Opens bytes: looks at the header, the length and the first ten slots, equally long for every table.
+    ///
+    /// # Errors
+    ///
+    /// The first of [`Error::TooShort`] to [`Error::ControlMismatch`] (1 to 9) that applies.
+    #[inline]
+    pub fn open(bytes: &'a [u8]) -> Result<Self, Error> {
+        let (status, view) = S::Calls::open_view(bytes);
+        Error::unless_ok(status, Table { view, bytes, shape: PhantomData })
+    }
+
+    /// Opens bytes that are valid, to the last one: makes the whole check, which goes over all slots. It is for bytes
+    /// of unknown origin. For tables whose keys vary it takes about as long as looking each key up; where many keys
+    /// have one hash it grows as the square of the number of slots, so bound the length of bytes from strangers.
+    ///
+    /// # Errors
+    ///
+    /// The first of [`Error::TooShort`] to [`Error::Unreachable`] (1 to 16) that applies.
+    pub fn checked(bytes: &'a [u8]) -> Result<Self, Error> {
+        Error::unless_ok(S::Calls::check(bytes), ())?;
+        Table::open(bytes)
+    }
+
+    /// # Safety
+    ///
+    /// `open` or `init` of this shape has answered `OK` of the bytes, and nothing but inserts of this shape has written
+    /// them since.
+    pub(crate) unsafe fn of_accepted(bytes: &'a [u8]) -> Self {
+        let view = View { bytes: bytes.as_ptr(), len: bytes.len() };
+        Table { view, bytes, shape: PhantomData }
+    }
+
+    /// Makes the whole check of the opened bytes.
+    ///
+    /// # Errors
+    ///
+    /// As of [`Table::checked`].
+    pub fn check(&self) -> Result<(), Error> {
+        Error::unless_ok(S::Calls::check(self.bytes), ())
+    }
+
+    /// The bytes of the table.
+    pub fn bytes(&self) -> &'a [u8] {
+        self.bytes
+    }
+
+    /// The value of a key where the key is there.
+    #[inline]
+    pub fn get(&self, key: &S::Key) -> Option<S::Value> {
+        let mut value = S::Value::default();
+        // SAFETY: the view was opened, and `bytes` is borrowed since, so that nobody has written or writes them.
+        match unsafe { S::Calls::view_get(&self.view, key, &mut value) } {
+            OK => Some(value),
+            status => {
+                debug_assert_eq!(status, ABSENT);
+                None
+            }
+        }
+    }
+
+    /// Whether a key is there.
+    #[inline]
+    pub fn contains(&self, key: &S::Key) -> bool {
+        self.get(key).is_some()
+    }
+
+    /// The value of each key, in their order. It is faster than as many [`Table::get`], and asks for memory for the
+    /// answers.
+    pub fn get_all(&self, keys: &[S::Key]) -> Vec<Option<S::Value>> {
+        let mut values = vec![S::Value::default(); keys.len()];
+        let mut found = vec![0; keys.len()];
+        let written = self.get_all_into(keys, &mut values, &mut found);
+        debug_assert_eq!(written, Ok(()));
+        let pairs = found.iter().zip(values);
+        pairs.map(|(found, value)| (*found == 1).then_some(value)).collect()
+    }
+
+    /// Whether each key is there, in their order.
+    pub fn contains_all(&self, keys: &[S::Key]) -> Vec<bool> {
+        self.get_all(keys).iter().map(Option::is_some).collect()
+    }
+
+    /// As [`Table::get_all`], and asks for no memory: at each index `found` becomes 1 and `values` the value, or
+    /// `found` becomes 0 and `values` stays.
+    ///
+    /// # Errors
+    ///
+    /// [`Error::BadLengths`] where the slices are not equally long; then both stay.
+    pub fn get_all_into(&self, keys: &[S::Key], values: &mut [S::Value], found: &mut [u8]) -> Result<(), Error> {
+        // SAFETY: the view was opened, and `bytes` is borrowed since, so that nobody has written or writes them.
+        Error::unless_ok(unsafe { S::Calls::view_get_all(&self.view, keys, values, found) }, ())
+    }
+
+    /// The number of items, as the header states it. Of bytes that are not valid it may be any number: do not ask for
+    /// memory by it.
+    #[inline]
+    pub fn len(&self) -> usize {
+        // SAFETY: the view was opened, and `bytes` is borrowed since, so that nobody has written or writes them.
+        unsafe { S::Calls::view_len(&self.view) }
+    }
+
+    /// Whether the header states no items.
+    pub fn is_empty(&self) -> bool {
+        self.len() == 0
+    }
+
+    /// What the header says of the slots.
+    pub fn shape(&self) -> Dimensions {
+        let mut shape = Dimensions { slots: 0, max_items: 0, percent: 0 };
+        let Dimensions { slots, max_items, percent } = &mut shape;
+        let status = S::Calls::shape(self.bytes, slots, max_items, percent);
+        debug_assert_eq!(status, OK, "opened bytes have a header");
+        shape
+    }
+
+    /// The pairs in slot order. Each slot that counts as filled gives one, whatever the header states.
+    pub fn iter(&self) -> Iter<'a, S> {
+        Iter::new(self.bytes, self.shape().slots)
+    }
+
+    /// The keys in slot order, as [`Table::iter`].
+    pub fn keys(&self) -> impl Iterator<Item = S::Key> + 'a {
+        self.iter().map(|(key, _)| key)
+    }
+
+    /// Writes the pairs from slot `cursor` on, in slot order, to the front of the slices, and moves `cursor` to the
+    /// slot to go on at. It is 0 at first. The rest of the slices stays.
+    ///
+    /// # Errors
+    ///
+    /// [`Error::BadLengths`] where the slices are not equally long; then nothing is written.
+    pub fn walk(&self, cursor: &mut usize, keys: &mut [S::Key], values: &mut [S::Value]) -> Result<Walked, Error> {
+        let mut count = 0;
+        let status = S::Calls::walk(self.bytes, cursor, keys, values, &mut count);
+        match Error::unless_ok(status, ()) {
+            Ok(()) => Ok(Walked { count, more: false }),
+            Err(Error::TooSmall) => Ok(Walked { count, more: true }),
+            Err(refused) => Err(refused),
+        }
+    }
+
+    /// An order of inserts that makes these very bytes, of an empty table of as many slots and the same load factor:
+    /// the slots that hold a pair, each once. `None` where no list of inserts makes them. It makes the whole check
+    /// first.
+    ///
+    /// # Errors
+    ///
+    /// As of [`Table::checked`]; [`Error::Memory`].
+    pub fn insert_order(&self) -> Result<Option<Vec<usize>>, Error> {
+        // Where the header states more items than there are slots, the check refuses: no memory is asked for by that.
+        let count = self.len();
+        let places = if count <= self.shape().slots { count } else { 0 };
+        let mut order = zeros(places)?;
+        Ok(self.insert_order_into(&mut order)?.then_some(order))
+    }
+
+    /// As [`Table::insert_order`], and asks for no memory: whether there is an order, which is then in `out`. Where
+    /// there is none, what `out` holds says nothing.
+    ///
+    /// # Errors
+    ///
+    /// As of [`Table::checked`]; [`Error::BadLengths`] where the bytes are valid and `out` has not a place for each
+    /// item. Then `out` stays.
+    pub fn insert_order_into(&self, out: &mut [usize]) -> Result<bool, Error> {
+        match S::Calls::insert_order(self.bytes, out) {
+            UNMADE => Ok(false),
+            status => Error::unless_ok(status, true),
+        }
+    }
+
+    /// The table as it grows at its maximum: the pairs in slot order in a table for twice as many, and for one at
+    /// least, at the same load factor.
+    ///
+    /// # Errors
+    ///
+    /// [`Error::LoadFactorTooSmall`]; [`Error::TooManyItems`] where the header states more items than the maximum;
+    /// [`Error::Capacity`], [`Error::Memory`].
+    pub fn grown(&self) -> Result<Vec<u8>, Error> {
+        let mut larger = zeros(self.grown_len()?)?;
+        self.grow_into(&mut larger)?;
+        Ok(larger)
+    }
+
+    /// How many bytes the grown table has. Where the table has room for an item that is about twice as many as now.
+    ///
+    /// # Errors
+    ///
+    /// As of [`Table::grown`], but [`Error::Memory`].
+    pub fn grown_len(&self) -> Result<usize, Error> {
+        if self.len() > self.shape().max_items {
+            // So nobody asks for memory by a number that is not true.
+            return Err(Error::TooManyItems);
+        }
+        let mut len = 0;
+        match Error::unless_ok(S::Calls::grow(self.bytes, &mut [], &mut len), len) {
+            Err(Error::TooSmall) => Ok(len),
+            other => other,
+        }
+    }
+
+    /// Writes the grown table to the front of `out`, the rest of which stays. The answer is its length.
+    ///
+    /// # Errors
+    ///
+    /// [`Error::TooSmall`] where `out` is shorter than [`Table::grown_len`]; [`Error::LoadFactorTooSmall`],
+    /// [`Error::Capacity`]. Then `out` stays.
+    pub fn grow_into(&self, out: &mut [u8]) -> Result<usize, Error> {
+        let mut len = 0;
+        let status = S::Calls::grow(self.bytes, out, &mut len);
+        Error::unless_ok(status, len)
+    }
+}
+
+impl<S: Shape> fmt::Debug for Table<'_, S> {
+    fn fmt(&self, formatter: &mut fmt::Formatter<'_>) -> fmt::Result {
+        let mut table = formatter.debug_struct("Table");
+        table.field("shape", &S::default()).field("len", &self.len());
+        table.field("slots", &self.shape().slots).finish_non_exhaustive()
+    }
+}
+
+impl<'a, S: Shape> IntoIterator for Table<'a, S> {
+    type Item = (S::Key, S::Value);
+    type IntoIter = Iter<'a, S>;
+
+    fn into_iter(self) -> Iter<'a, S> {
+        self.iter()
+    }
+}
+
+impl<'a, S: Shape> IntoIterator for &Table<'a, S> {
+    type Item = (S::Key, S::Value);
+    type IntoIter = Iter<'a, S>;
+
+    fn into_iter(self) -> Iter<'a, S> {
+        self.iter()
+    }
+}
