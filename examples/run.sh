@@ -104,10 +104,20 @@ try_cmake() {
     echo "example, null: well by cmake"
 }
 
+# The tests of the crate for Rust, which read the repository's vectors too, and the example that uses it.
 try_rust() {
-    rustc --edition 2021 -O -D warnings rust/main.rs -L native=usr/lib -l static=odht -o example.rust
-    run example ./example.rust
-    echo "example: well in Rust, prints and stores the same"
+    export ODHT_LIB_DIR="$room/usr/lib" CARGO_TARGET_DIR="$room/target"
+    (cd "$top/bindings/rust" && cargo test --quiet --offline) > printed 2>&1 ||
+        { cat printed >&2; fail "the tests of bindings/rust"; }
+    sed "s|path = \"\.\..*\"|path = \"$top/bindings/rust\"|" "$top/examples/rust/Cargo.toml" > rust/Cargo.toml
+    (cd rust && cargo build --quiet --offline --release) || fail "example: cargo does not compile it"
+    run example target/release/example
+    echo "example: well in Rust by cargo, and the tests of its crate"
+}
+    sed 's|path = ".*"|path = "../crate"|' "$top/examples/rust/Cargo.toml" > rust/Cargo.toml
+    (cd rust && cargo build --quiet --offline --release) || fail "example: cargo does not compile it"
+    run example rust/target/release/example
+    echo "example: well in Rust by cargo, and the crate's tests"
 }
 
 sh "$top/crates/odht_c/exports/statuses.sh"
@@ -128,4 +138,4 @@ if has clang++; then
     header clang++ c++ c++11 c++14 c++17 c++20
 fi
 if has cc && has cmake; then try_cmake; fi
-if has rustc; then try_rust; fi
+if has cargo; then try_rust; fi

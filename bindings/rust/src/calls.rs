@@ -19,7 +19,7 @@ pub trait Calls {
     fn init(bytes: &mut [u8], max_items: usize, percent: u8) -> u32;
     fn open(bytes: &[u8]) -> u32;
     fn check(bytes: &[u8]) -> u32;
-    fn shape(bytes: &[u8], slots: &mut usize, max_items: &mut usize, percent: &mut u8) -> u32;
+    fn sizes(bytes: &[u8], slots: &mut usize, max_items: &mut usize, percent: &mut u8) -> u32;
     fn insert(bytes: &mut [u8], key: &Self::Key, value: Self::Value, former: &mut Self::Value) -> u32;
     fn insert_all(bytes: &mut [u8], keys: &[Self::Key], values: &[Self::Value], accepted: &mut usize) -> u32;
     fn walk(
@@ -89,9 +89,9 @@ macro_rules! calls {
             }
 
             #[inline]
-            fn shape(bytes: &[u8], slots: &mut usize, max_items: &mut usize, percent: &mut u8) -> u32 {
+            fn sizes(bytes: &[u8], slots: &mut usize, max_items: &mut usize, percent: &mut u8) -> u32 {
                 // SAFETY: of a slice, and of references that are apart.
-                unsafe { sys::$module::shape(bytes.as_ptr(), bytes.len(), slots, max_items, percent) }
+                unsafe { sys::$module::sizes(bytes.as_ptr(), bytes.len(), slots, max_items, percent) }
             }
 
             #[inline]

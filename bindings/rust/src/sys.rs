@@ -62,8 +62,8 @@ macro_rules! shape {
                 pub fn check(bytes: *const u8, bytes_len: usize) -> u32;
 
                 /// What the header says of the slots.
-                #[link_name = concat!("odht_", stringify!($shape), "_shape")]
-                pub fn shape(
+                #[link_name = concat!("odht_", stringify!($shape), "_sizes")]
+                pub fn sizes(
                     bytes: *const u8,
                     bytes_len: usize,
                     slots: *mut usize,

@@ -53,7 +53,7 @@ impl<S: Shape> Copy for Table<'_, S> {}
 
 /// What the header of a table says of its slots.
 #[derive(Clone, Copy, Debug, PartialEq, Eq)]
-pub struct Dimensions {
+pub struct Sizes {
     /// How many slots there are.
     pub slots: usize,
     /// How many items the slots take at this load factor.
@@ -179,17 +179,17 @@ impl<'a, S: Shape> Table<'a, S> {
     }
 
     /// What the header says of the slots.
-    pub fn shape(&self) -> Dimensions {
-        let mut shape = Dimensions { slots: 0, max_items: 0, percent: 0 };
-        let Dimensions { slots, max_items, percent } = &mut shape;
-        let status = S::Calls::shape(self.bytes, slots, max_items, percent);
+    pub fn sizes(&self) -> Sizes {
+        let mut shape = Sizes { slots: 0, max_items: 0, percent: 0 };
+        let Sizes { slots, max_items, percent } = &mut shape;
+        let status = S::Calls::sizes(self.bytes, slots, max_items, percent);
         debug_assert_eq!(status, OK, "opened bytes have a header");
         shape
     }
 
     /// The pairs in slot order. Each slot that counts as filled gives one, whatever the header states.
     pub fn iter(&self) -> Iter<'a, S> {
-        Iter::new(self.bytes, self.shape().slots)
+        Iter::new(self.bytes, self.sizes().slots)
     }
 
     /// The keys in slot order, as [`Table::iter`].
@@ -223,7 +223,7 @@ impl<'a, S: Shape> Table<'a, S> {
     pub fn insert_order(&self) -> Result<Option<Vec<usize>>, Error> {
         // Where the header states more items than there are slots, the check refuses: no memory is asked for by that.
         let count = self.len();
-        let places = if count <= self.shape().slots { count } else { 0 };
+        let places = if count <= self.sizes().slots { count } else { 0 };
         let mut order = zeros(places)?;
         Ok(self.insert_order_into(&mut order)?.then_some(order))
     }
@@ -261,7 +261,7 @@ impl<'a, S: Shape> Table<'a, S> {
     ///
     /// As of [`Table::grown`], but [`Error::Memory`].
     pub fn grown_len(&self) -> Result<usize, Error> {
-        if self.len() > self.shape().max_items {
+        if self.len() > self.sizes().max_items {
             // So nobody asks for memory by a number that is not true.
             return Err(Error::TooManyItems);
         }
@@ -289,7 +289,7 @@ impl<S: Shape> fmt::Debug for Table<'_, S> {
     fn fmt(&self, formatter: &mut fmt::Formatter<'_>) -> fmt::Result {
         let mut table = formatter.debug_struct("Table");
         table.field("shape", &S::default()).field("len", &self.len());
-        table.field("slots", &self.shape().slots).finish_non_exhaustive()
+        table.field("slots", &self.sizes().slots).finish_non_exhaustive()
     }
 }
 

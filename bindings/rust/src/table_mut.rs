@@ -112,7 +112,7 @@ impl<S: Shape> fmt::Debug for TableMut<'_, S> {
         let table = self.as_table();
         let mut fields = formatter.debug_struct("TableMut");
         fields.field("shape", &S::default()).field("len", &table.len());
-        fields.field("slots", &table.shape().slots).finish_non_exhaustive()
+        fields.field("slots", &table.sizes().slots).finish_non_exhaustive()
     }
 }
 

@@ -4,7 +4,7 @@
 mod common;
 
 use common::{worked_example, Chance, Random};
-use odht::{Builder, Dimensions, Error, Shape, Table, TableMut, B16U32, B32, U64U32};
+use odht::{Builder, Sizes, Error, Shape, Table, TableMut, B16U32, B32, U64U32};
 
 fn stating(count: u64) -> Vec<u8> {
     let mut bytes = worked_example();
@@ -43,7 +43,7 @@ fn lookups_do_not_ask_for_the_count() {
     let bytes = stating(u64::MAX);
     let table = Table::<U64U32>::open(&bytes).unwrap();
     assert_eq!(table.get_all(&[1, 2, 3]), [Some(2), None, Some(4)]);
-    assert_eq!(table.shape(), Dimensions { slots: 16, max_items: 15, percent: 94 });
+    assert_eq!(table.sizes(), Sizes { slots: 16, max_items: 15, percent: 94 });
 }
 
 #[test]
@@ -77,7 +77,7 @@ fn insert_into_changed<S: Shape>(bytes: &mut [u8], key: &S::Key, value: S::Value
     let mut table = TableMut::<S>::open(bytes).unwrap();
     let answer = table.insert(key, value);
     let count = table.as_table().iter().count();
-    assert!(count <= table.as_table().shape().slots);
+    assert!(count <= table.as_table().sizes().slots);
     match answer {
         Ok(_) => assert_eq!(before[..8], bytes[..8]),
         Err(error) => {
@@ -91,7 +91,7 @@ fn insert_into_changed<S: Shape>(bytes: &mut [u8], key: &S::Key, value: S::Value
 /// there.
 fn read_changed<S: Shape>(bytes: &[u8], key: &S::Key) {
     let Ok(table) = Table::<S>::open(bytes) else { return };
-    let slots = table.shape().slots;
+    let slots = table.sizes().slots;
     let pairs: Vec<(S::Key, S::Value)> = table.iter().collect();
     assert!(pairs.len() <= slots && slots < bytes.len());
     let (least, most) = table.iter().size_hint();

@@ -3,7 +3,7 @@
 mod common;
 
 use common::worked_example;
-use odht::{bytes_needed, empty_table, Builder, Dimensions, Error, Table, TableMut, B16, B16U32, U64U32};
+use odht::{bytes_needed, empty_table, Builder, Sizes, Error, Table, TableMut, B16, B16U32, U64U32};
 
 const PAIRS: [(u64, u32); 3] = [(1, 2), (3, 4), (5, 6)];
 
@@ -69,8 +69,8 @@ fn pairs_come_in_slot_order() {
 fn the_header_is_told() {
     let bytes = worked_example();
     // 62258 * 16 / 65536 is 15 and some; 62258 * 100 / 65535 is 94 and some.
-    let shape = Dimensions { slots: 16, max_items: 15, percent: 94 };
-    assert_eq!(Table::<U64U32>::open(&bytes).unwrap().shape(), shape);
+    let sizes = Sizes { slots: 16, max_items: 15, percent: 94 };
+    assert_eq!(Table::<U64U32>::open(&bytes).unwrap().sizes(), sizes);
 }
 
 /// The table of docs/FORMAT.md: slots for items at a percentage.
@@ -99,7 +99,7 @@ fn growth_places_pairs_in_slot_order() {
     assert_eq!(table.as_table().iter().collect::<Vec<_>>(), [(key(47), 2), (key(15), 1)]);
     let mut larger = vec![1];
     let mut grown = table.grow_into(&mut larger).unwrap();
-    assert_eq!(grown.as_table().shape().slots, 32);
+    assert_eq!(grown.as_table().sizes().slots, 32);
     assert_eq!(grown.as_table().insert_order(), Ok(Some(vec![15, 16])));
     assert_eq!(grown.insert(&key(3), 3), Ok(None));
     let pairs: Vec<_> = grown.into_table().iter().collect();
@@ -112,13 +112,13 @@ fn a_table_for_no_items_grows() {
     let mut bytes = empty_table::<U64U32>(0, 1).unwrap();
     let mut table = TableMut::<U64U32>::open(&mut bytes).unwrap();
     assert_eq!(table.insert(&1, 2), Err(Error::Full));
-    let shape = Dimensions { slots: 128, max_items: 1, percent: 0 };
+    let sizes = Sizes { slots: 128, max_items: 1, percent: 0 };
     let grown = table.as_table().grown().unwrap();
-    assert_eq!(Table::<U64U32>::open(&grown).unwrap().shape(), shape);
+    assert_eq!(Table::<U64U32>::open(&grown).unwrap().sizes(), sizes);
     assert_eq!(table.as_table().grown_len(), Ok(32 + 128 * 12 + 128 + 16));
     assert_eq!(odht::insert_growing::<U64U32>(&mut bytes, &1, 2), Ok(None));
     assert_eq!(odht::insert_growing::<U64U32>(&mut bytes, &1, 3), Ok(Some(2)));
-    assert_eq!(Table::<U64U32>::checked(&bytes).unwrap().shape(), shape);
+    assert_eq!(Table::<U64U32>::checked(&bytes).unwrap().sizes(), sizes);
 }
 
 #[test]

@@ -144,10 +144,10 @@ where
             }
         }
     };
-    assert_eq!(map.len(), table.as_table().shape().max_items);
+    assert_eq!(map.len(), table.as_table().sizes().max_items);
     let mut larger = Vec::new();
     let mut grown = table.grow_into(&mut larger).unwrap();
-    assert_eq!(grown.as_table().shape().slots, 2 * table.as_table().shape().slots);
+    assert_eq!(grown.as_table().sizes().slots, 2 * table.as_table().sizes().slots);
     assert_eq!(grown.as_table().len(), map.len());
     assert_eq!(grown.insert(&key, value), Ok(None));
     map.insert(key, value);
