@@ -1,7 +1,6 @@
 -- What a growth is refused for, and what the call answers.
-use Rattle.std.proofs.Common.{◌≡◌, ◌<◌, ◌≤◌, ◌∙◌, ℕ, sym, refl, ap, subst, List, [], ◌∷◌, length, arith, Some, None, take, drop, lt-ltb, le-ltb}
+use Rattle.std.proofs.Common.{◌≡◌, ◌<◌, ◌≤◌, ◌∙◌, ◌++◌, ℕ, sym, refl, ap, subst, List, [], ◌∷◌, length, arith, Some, None, drop, take_at, drop_at, lt-ltb, le-ltb}
 use Rattle.std.specs.Prelude.{is_none}
-use Rattle.std.proofs.lemmas.Option.{none-some}
 use Rattle.odht_base.specs.Format.{Format}
 use Rattle.odht_base.specs.Shown.{stated_factor}
 use Rattle.odht_base.proofs.lemmas.Options.{some_same}
@@ -11,7 +10,7 @@ use Rattle.odht_raw.specs.Refusals.{◌gives◌, first_of, factor_refusal, openi
 use Rattle.odht_raw.specs.declared.error.Error.{Error}
 use Rattle.odht_raw.specs.declared.error.Error.TheVariants.{LoadFactorTooSmall, Capacity}
 use Rattle.odht.specs.Growths.{grown_len}
-use Rattle.odht_c.specs.Grows.{growth_refusal, GrowAnswers, IsGrownInto}
+use Rattle.odht_c.specs.Grows.{growth_refusal, GrowAnswers, IsGrownFrom, IsGrownInto}
 use Rattle.odht_c.specs.Statuses.{status_of, done, too_small}
 use Rattle.odht_c.proofs.lemmas.Refused.{told, not_none}
 
@@ -46,6 +45,11 @@ module _ (F : Format) (B : List ℕ) where
       -- and nothing where there is one
       pub not_refused : (n : ℕ) → grown_len F B ≡ Some n → growth_refusal F B ≡ None
       not_refused n is = behind_factor ∙ ap (λ o. first_of ((is_none o gives Capacity) ∷ [])) is
+
+-- ---- what is written
+-- the grown bytes before what stays
+pub written_front : (F : Format) (B T out : List ℕ) (n : ℕ) → length T ≡ n → IsGrownFrom F B T → IsGrownInto F B n out (T ++ drop n out)
+written_front F B T out n long from = record { table = subst (IsGrownFrom F B) (sym (take_at T (drop n out) n long)) from; rest = drop_at T (drop n out) n long }
 
 -- ---- what the call answers
 module _ {K V : Type 0} (c : Coding K V) (B out : List ℕ) (len : ℕ) where
