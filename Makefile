@@ -19,7 +19,7 @@ WORST ?=
 ORDER ?=
 MARKDOWN ?=
 ODHT_RUST ?=
-.PHONY: run build test memory lib exports exports_are_current install uninstall examples bench FORCE
+.PHONY: run build test memory lib exports exports_are_current install uninstall examples bench
 run:
 	@cd crates/odht_table && rt try < $(abspath $(SCRIPT))
 
@@ -34,9 +34,16 @@ test: exports_are_current memory
 memory:
 	@sh crates/odht_memory/refuse.sh
 
-# always asked for: `rt lib` is quick where nothing changed
-crates/odht_c/out/libodht_c.a: FORCE
-	@for crate in $(LIBRARIES) odht_c; do (cd crates/$$crate && rt lib >&2) || exit 1; done
+# `rt lib` takes a quarter of a minute also where nothing changed, so it is asked only where something is newer
+SOURCES = crates.txt $(shell find $(foreach crate,$(LIBRARIES) odht_c,crates/$(crate)) -path '*/out' -prune -o \
+  '(' -name '*.rt' -o -name '*.antt' ')' -print)
+crates/odht_c/out/libodht_c.a: $(SOURCES)
+	@mkdir -p build
+	@test -f $@ || echo 'proving the library first, ten to twenty minutes; build/lib.log tells how far it is' >&2
+	@for crate in $(LIBRARIES) odht_c; do \
+	  (cd crates/$$crate && rt lib) > build/lib.log 2>&1 || { cat build/lib.log >&2; exit 1; }; \
+	done
+	@touch $@
 
 include packaging/library.mk
 

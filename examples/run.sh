@@ -58,20 +58,21 @@ sanitizes() {
     "$@" -fsanitize=address,undefined empty.c -o empty 2> /dev/null && ./empty 2> /dev/null
 }
 
-# A program in C, by a compiler with its flags, in each way to link.
+# A program in a language, by a compiler with its flags, in each way to link; a program in C with the sanitizers and
+# under valgrind too.
 try() {
     program=$1
     language=$2
     shift 2
     ways='shared static'
-    if sanitizes "$@"; then ways="$ways sanitized"; fi
+    if [ "$language" = C ] && sanitizes "$@"; then ways="$ways sanitized"; fi
     for way in $ways; do
         # shellcheck disable=SC2046,SC2086
         "$@" -O1 $warnings $(sources "$program") -x none $(link_flags "$way") -o "$program.$way" ||
             fail "$program: $1 does not compile it"
         run "$program" "./$program.$way"
     done
-    if has valgrind; then
+    if [ "$language" = C ] && has valgrind; then
         ways="$ways valgrind"
         run "$program" valgrind -q --error-exitcode=9 --leak-check=full "./$program.static"
     fi

@@ -18,11 +18,12 @@ build/libodht.a: $(LIBRARY) packaging/merge.sh
 	@mkdir -p build
 	@sh packaging/merge.sh $@ $(LIBRARY) $(KIT)c/liblibc_c.a
 
-# linked with the C library alone, all names found and no code to be changed where it is loaded: else it is refused
+# linked with the C library alone, and what the compiler has for its own code: with a name that is not found, or code
+# that would have to be changed where it is loaded, it is refused
 build/$(SHARED): build/libodht.a packaging/odht.map
 	@$(CC) -shared -nodefaultlibs -Wl,-soname,$(SONAME) -Wl,--version-script=packaging/odht.map \
 	  -Wl,-z,defs -Wl,-z,text -Wl,-z,relro -Wl,-z,noexecstack \
-	  -Wl,--whole-archive $< -Wl,--no-whole-archive -lc -o $@
+	  -Wl,--whole-archive $< -Wl,--no-whole-archive -lc -lgcc -o $@
 	@ln -sf $(SHARED) build/$(SONAME)
 	@ln -sf $(SONAME) build/libodht.so
 

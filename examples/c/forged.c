@@ -82,8 +82,8 @@ int main(void)
         {0, ODHT_TOO_SMALL, 0},
         {LENGTH + 1, REFUSED, 0},
         {UINT64_C(1) << 32, REFUSED, 0},
-        {UINT64_C(1) << 61, REFUSED, 0},         /* times 8 is 0 in 64 bits */
-        {(UINT64_C(1) << 61) + 1, REFUSED, 0},   /* times 8 is 8 */
+        {UINT64_C(1) << 62, REFUSED, 0},         /* times 8 and times 4 is 0 in 64 bits */
+        {(UINT64_C(1) << 62) + 1, REFUSED, 0},   /* times 8 is 8, and times 4 is 4 */
         {UINT64_MAX, REFUSED, 0},
     };
     uint8_t *bytes = made();
