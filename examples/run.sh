@@ -115,11 +115,6 @@ try_rust() {
     run example target/release/example
     echo "example: well in Rust by cargo, and the tests of its crate"
 }
-    sed 's|path = ".*"|path = "../crate"|' "$top/examples/rust/Cargo.toml" > rust/Cargo.toml
-    (cd rust && cargo build --quiet --offline --release) || fail "example: cargo does not compile it"
-    run example rust/target/release/example
-    echo "example: well in Rust by cargo, and the crate's tests"
-}
 
 sh "$top/crates/odht_c/exports/statuses.sh"
 if has cc; then

@@ -180,11 +180,11 @@ impl<'a, S: Shape> Table<'a, S> {
 
     /// What the header says of the slots.
     pub fn sizes(&self) -> Sizes {
-        let mut shape = Sizes { slots: 0, max_items: 0, percent: 0 };
-        let Sizes { slots, max_items, percent } = &mut shape;
+        let mut sizes = Sizes { slots: 0, max_items: 0, percent: 0 };
+        let Sizes { slots, max_items, percent } = &mut sizes;
         let status = S::Calls::sizes(self.bytes, slots, max_items, percent);
         debug_assert_eq!(status, OK, "opened bytes have a header");
-        shape
+        sizes
     }
 
     /// The pairs in slot order. Each slot that counts as filled gives one, whatever the header states.

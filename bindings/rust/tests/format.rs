@@ -3,7 +3,7 @@
 mod common;
 
 use common::worked_example;
-use odht::{bytes_needed, empty_table, Builder, Sizes, Error, Table, TableMut, B16, B16U32, U64U32};
+use odht::{bytes_needed, empty_table, Builder, Error, Sizes, Table, TableMut, B16, B16U32, U64U32};
 
 const PAIRS: [(u64, u32); 3] = [(1, 2), (3, 4), (5, 6)];
 

@@ -1,0 +1,86 @@
+//! The declarations of src/sys.rs beside those of include/odht.h: every call of every shape has the same parameters in
+//! the same order, as far as a machine can tell them apart.
+
+use std::collections::BTreeMap;
+
+/// What a parameter is to the machine: `*const`, `*mut`, or a number of so many bits.
+type Kinds = Vec<String>;
+
+/// The header without its comments; nothing outside of the repository.
+fn header() -> Option<String> {
+    let path = concat!(env!("CARGO_MANIFEST_DIR"), "/../../include/odht.h");
+    let text = std::fs::read_to_string(path).ok()?;
+    let mut parts = text.split("/*");
+    let first = parts.next()?.to_string();
+    Some(parts.fold(first, |text, part| text + part.split_once("*/").map_or("", |(_, behind)| behind)))
+}
+
+fn kind_in_c(parameter: &str) -> String {
+    let kind = match parameter.split_whitespace().next().unwrap() {
+        "const" => "*const",
+        _ if parameter.contains('*') => "*mut",
+        "size_t" => "usize",
+        "uint8_t" => "u8",
+        "uint32_t" => "u32",
+        "uint64_t" => "u64",
+        other => panic!("{other} is no type of a parameter"),
+    };
+    kind.to_string()
+}
+
+/// The symbols that the header declares, without `odht_`: what the parameters are, and at the end the answer.
+fn declared_in_c(header: &str) -> BTreeMap<String, Kinds> {
+    let mut symbols = BTreeMap::new();
+    let mut before = "";
+    for piece in header.split("odht_symbol_") {
+        let (name, behind) = piece.split_once('(').unwrap();
+        let (parameters, behind) = behind.split_once(')').unwrap();
+        // Else it is a call, in the body of a function.
+        if behind.trim_start().starts_with("ODHT_SYMBOL") {
+            let answer = before.split_whitespace().last().unwrap();
+            let kinds = parameters.split(',').map(kind_in_c).chain([kind_in_c(answer)]);
+            symbols.insert(name.to_string(), kinds.collect());
+        }
+        before = piece;
+    }
+    symbols
+}
+
+fn kind_in_rust(part: &str, key: &str) -> String {
+    let kind = part.split_once(':').map_or(part, |(_, kind)| kind).trim();
+    let kind = if kind == "$passed" { key } else { kind };
+    kind.split_whitespace().next().unwrap().to_string()
+}
+
+/// The symbols that src/sys.rs declares, in the same way.
+fn declared_in_rust() -> BTreeMap<String, Kinds> {
+    let (template, shapes) =
+        include_str!("../src/sys.rs").split_once("macro_rules! shape").unwrap().1.split_once("shape! {").unwrap();
+    let mut symbols = BTreeMap::new();
+    for line in shapes.lines().filter(|line| line.contains("insert(")) {
+        let (types, value) = line.split_once("insert(").unwrap();
+        let types: Vec<&str> = types.split(',').map(str::trim).collect();
+        let value = value.replace(')', if value.len() > 1 { "," } else { "" });
+        for call in template.split("pub fn ").skip(1) {
+            let call = call.replace("$($word: $type,)?", &value);
+            let (name, behind) = call.split_once('(').unwrap();
+            let (parameters, answer) = behind.split_once(") -> ").unwrap();
+            let parts = parameters.split(',').filter(|part| !part.trim().is_empty());
+            let answer = answer.split_once(';').unwrap().0;
+            let kinds = parts.chain([answer]).map(|part| kind_in_rust(part, types[2]));
+            symbols.insert(format!("{}_{name}", types[0]), kinds.collect());
+        }
+    }
+    symbols
+}
+
+#[test]
+fn the_header_declares_the_same() {
+    let Some(header) = header() else {
+        println!("There is no include/odht.h: this package is not in its repository.");
+        return;
+    };
+    let declared = declared_in_rust();
+    assert_eq!(declared.len(), 9 * 19);
+    assert_eq!(declared, declared_in_c(&header));
+}
