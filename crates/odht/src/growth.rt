@@ -27,8 +27,8 @@ impl<C: Config, D: ByteStore> HashTable<C, D> {
     /// states, and for one at least, at the same load factor. None exactly where no slot count is enough, or the length
     /// passes `usize`.
     ///
-    /// Valid bytes state a load factor of at least one percent, 655. A smaller one is taken as it is: 0 has no slot count
-    /// that is enough, so the answer is None.
+    /// Valid bytes state a load factor of at least one percent, 655. A smaller one is taken as it is: 0 has no slot
+    /// count that is enough, so the answer is None.
     pub fn grown_len(&self) -> Option<usize>
         ensures stated { result ≡ grown_len ⟦<C as Coded>⟧.coding.format (D.bytes self.now) }
         ensures on_valid { let F = ⟦<C as Coded>⟧.coding.format
@@ -40,9 +40,9 @@ impl<C: Config, D: ByteStore> HashTable<C, D> {
         Some(len)
     }
 
-    /// Writes the table that this one grows into, whatever stood in `out`, which has [`HashTable::grown_len`] bytes: the
-    /// pairs in slot order, in the slots for twice as many items, and for one at least, at the same load factor. The
-    /// owned table grows so at its maximum.
+    /// Writes the table that this one grows into, whatever stood in `out`, which has [`HashTable::grown_len`] bytes:
+    /// the pairs in slot order, in the slots for twice as many items, and for one at least, at the same load factor.
+    /// The owned table grows so at its maximum.
     ///
     /// One pass over `out`, and over the slots of this table; each item is hashed once. No key is compared.
     ///
@@ -110,8 +110,8 @@ pub(crate) fn write_grown<C: Config, D: ByteStore>(
     write_table::<C>(out, slot_count, item_count, factor, walk);
 }
 
-// Writes the table of so many slots with the items of the walk, whose keys are apart, into bytes whose entries are zeros.
-// As many items are counted as are stated.
+// Writes the table of so many slots with the items of the walk, whose keys are apart, into bytes whose entries are
+// zeros. As many items are counted as are stated.
 fn write_table<C: Config>(
     bytes: &mut [u8],
     slot_count: usize,
@@ -141,8 +141,8 @@ fn write_table<C: Config>(
     insert_walk::<C::EncodedKey, C::EncodedValue, C::H>(control, entries, walk);
 }
 
-// Places the items of a walk in turn into the parts of a table; their keys are apart and new to it. The slices then hold
-// what that left.
+// Places the items of a walk in turn into the parts of a table; their keys are apart and new to it. The slices then
+// hold what that left.
 fn insert_walk<K: ByteArray, V: ByteArray, H: HashFn>(
     control: &mut [u8],
     entries: &mut [u8],

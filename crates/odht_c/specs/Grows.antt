@@ -1,7 +1,7 @@
 -- What the call answers that writes the table into which another one grows, and what it leaves in bytes of the caller.
 -- The status is s; `out` and `len` stand in the places before the call, and out' and len' after it.
---     growth_refusal F B   what a growth of the bytes B is refused for: what their header or length is, then a load factor
---                          below 1 percent, then that no slot count is enough or the length passes 64 bits
+--     growth_refusal F B   what a growth of the bytes B is refused for: what their header or length is, then a load
+--                          factor below 1 percent, then that no slot count is enough or the length passes 64 bits
 --     IsGrownFrom F B T    T are accepted bytes that state the item count and the load factor of B; and where B is the
 --                          image of a table, T is the image of the one that it grows into
 --     IsGrownInto F B n out out'   the first n bytes of out' are grown from B, and behind them stands what stood there
@@ -32,7 +32,8 @@ pub record IsGrownInto (F : Format) (B : List ℕ) (n : ℕ) (out out' : List �
   pub table : IsGrownFrom F B (take n out')
   pub rest : drop n out' ≡ drop n out
 
-pub record GrowAnswers {K V : Type 0} (c : Coding K V) (B out : List ℕ) (len s : ℕ) (out' : List ℕ) (len' : ℕ) : Type 0 where
+pub record GrowAnswers {K V : Type 0} (c : Coding K V) (B out : List ℕ) (len s : ℕ)
+    (out' : List ℕ) (len' : ℕ) : Type 0 where
   pub refused : (e : Error) → growth_refusal c.format B ≡ Some e → (s ≡ status_of e) × (out' ≡ out) × (len' ≡ len)
   pub short : (n : ℕ) → growth_refusal c.format B ≡ None → grown_len c.format B ≡ Some n → length out < n
       → (s ≡ too_small) × (out' ≡ out) × (len' ≡ n)

@@ -1,5 +1,5 @@
-//! Growth into bytes of the caller: of full tables whose growth was worked out by docs/FORMAT.md outside the library, and
-//! refused.
+//! Growth into bytes of the caller: of full tables whose growth was worked out by docs/FORMAT.md outside the library,
+//! and refused.
 
 use crate::shapes::b16_u32::{
     odht_b16_u32_check, odht_b16_u32_get, odht_b16_u32_grow, odht_b16_u32_init, odht_b16_u32_insert,
