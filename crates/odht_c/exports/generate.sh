@@ -14,7 +14,7 @@ symbols() {
         sed 's/^ODHT_CALL //; s/ odht_@S@_/ odht_symbol_@S@_/; s/ODHT_INLINE(/ODHT_SYMBOL(/'
 }
 
-# A part of the header, for one shape: table, its calls without pairs; map, those with pairs; build, the builds of a map.
+# A part of the header, for one shape: table, its calls without pairs; map, those with pairs; build, those that build.
 part() {
     symbols "$here/header_$1.h" > "$scratch"
     sed -e "/@SYMBOLS@/{" -e "r $scratch" -e "d" -e "}" "$here/header_$1.h" |
