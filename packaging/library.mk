@@ -45,7 +45,7 @@ INSTALLED = $(DESTDIR)$(INCLUDEDIR)/odht.h $(INTO)/libodht.a $(INTO)/$(SHARED) $
 
 # what is made is installed as it is, so that it can be made as one user and installed as another
 install: $(if $(and $(wildcard build/libodht.a),$(wildcard build/$(SHARED))),,lib)
-	@mkdir -p '$(DESTDIR)$(INCLUDEDIR)' '$(INTO)/pkgconfig' '$(INTO)/cmake/odht'
+	@install -d '$(DESTDIR)$(INCLUDEDIR)' '$(INTO)/pkgconfig' '$(INTO)/cmake/odht'
 	@install -m 644 include/odht.h '$(DESTDIR)$(INCLUDEDIR)/odht.h'
 	@install -m 644 build/libodht.a '$(INTO)/libodht.a'
 	@install -m 755 build/$(SHARED) '$(INTO)/$(SHARED)'
@@ -55,6 +55,7 @@ install: $(if $(and $(wildcard build/libodht.a),$(wildcard build/$(SHARED))),,li
 	@for file in odht-config odht-config-version; do \
 	  $(FILL) packaging/$$file.cmake.in > "$(INTO)/cmake/odht/$$file.cmake" || exit 1; \
 	done
+	@chmod 644 '$(INTO)/pkgconfig/odht.pc' '$(INTO)/cmake/odht/'*.cmake
 
 uninstall:
 	@rm -f $(foreach file,$(INSTALLED),'$(file)')
