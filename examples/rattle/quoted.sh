@@ -1,12 +1,12 @@
 # sh examples/rattle/quoted.sh
-# Each block of Rattle in docs/USING.md is a run of whole lines of one of the example's files.
+# Each block of Rattle and each proof in docs/USING.md is a run of whole lines of one of the example's files.
 set -eu
 cd "$(dirname "$0")"
 find crates -type f -name '*.txt' | xargs awk -v page=../../docs/USING.md '
   { all = all $0 "\n" }
   END {
     while ((getline line < page) > 0) {
-      if (line == "```rattle") { block = ""; inside = 1 }
+      if (line == "```rattle" || line == "```antt") { block = ""; inside = 1 }
       else if (line == "```" && inside) {
         inside = 0; blocks++
         if (!index(all, "\n" block)) { printf "in no file:\n%s\n", block; missing++ }
