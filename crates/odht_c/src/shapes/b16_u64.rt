@@ -249,11 +249,11 @@ pub extern "C" fn odht_b16_u64_insert_order(bytes: &[u8], out: &mut [usize]) -> 
 }
 
 /// Writes the table that the one in `bytes` grows into at its maximum to the front of `out`, and tells its length in
-/// `len`: status 0. It has the slots for twice as many items, and for one at least, and the same load factor; the pairs
-/// are placed in slot order. `TOO_SMALL` where `out` is shorter than the table: then only `len` is written. A refusal of
-/// the header or length, `LOAD_FACTOR_TOO_SMALL` where the header states less than one percent, or `CAPACITY` where no
-/// slot count is enough or the length passes `usize`; then nothing is written. Behind the table `out` stays. No memory is
-/// asked for. One pass over both, and each item is hashed once.
+/// `len`: status 0. It has the slots for twice as many items, and for one at least, and the same load factor; the
+/// pairs are placed in slot order. `TOO_SMALL` where `out` is shorter than the table: then only `len` is written. A
+/// refusal of the header or length, `LOAD_FACTOR_TOO_SMALL` where the header states less than one percent, or
+/// `CAPACITY` where no slot count is enough or the length passes `usize`; then nothing is written. Behind the table
+/// `out` stays. No memory is asked for. One pass over both, and each item is hashed once.
 #[unsafe(no_mangle)]
 pub extern "C" fn odht_b16_u64_grow(bytes: &[u8], out: &mut [u8], len: &mut usize) -> u32
     ensures { GrowAnswers ⟦<Shape as Coded>⟧.coding bytes.now out.old len.old result out.new len.new }
