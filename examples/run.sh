@@ -118,11 +118,11 @@ try_rust() {
 
 sh "$top/crates/odht_c/exports/statuses.sh"
 if has cc; then
-    for program in example null forged; do try "$program" C cc -std=c11; done
+    for program in example null forged sets; do try "$program" C cc -std=c11; done
     header cc c c99 c11 c17 c2x
 fi
 if has c++; then
-    for program in example null forged; do try "$program" C++ c++ -std=c++17 -x c++; done
+    for program in example null forged sets; do try "$program" C++ c++ -std=c++17 -x c++; done
     header c++ c++ c++11 c++14 c++17 c++20
 fi
 if has clang; then

@@ -1,7 +1,8 @@
 /*
- * A program that reads a table of somebody else without a whole check: it opens the bytes, asks for their length,
- * allocates for as many pairs, and walks. The length is a claim of the header. Here it is forged, and nothing may be
- * read or written outside of what was allocated, nor may the program take memory for pairs that cannot be there.
+ * A program that reads a table of somebody else without a whole check: it opens the bytes and walks, a few pairs at a
+ * time. It does not ask how many there are, which is a claim of the header. Here that is forged; all pairs are found,
+ * and nothing is read or written outside of the arrays. A program that does ask, and allocates for all pairs at once, has
+ * to hold the number to the length of the bytes first.
  */
 #include <inttypes.h>
 #include <stdint.h>
@@ -12,7 +13,7 @@
 #include "odht.h"
 #include "expect.h"
 
-enum { LENGTH = 256, PAIRS = 13, KEY_SUM = 91, REFUSED = 1000 };
+enum { LENGTH = 256, PAIRS = 13, KEY_SUM = 91, PLACES = 4, REFUSED = 1000 };
 
 static uint64_t sum_of(const uint64_t *keys, size_t count)
 {
@@ -22,16 +23,34 @@ static uint64_t sum_of(const uint64_t *keys, size_t count)
     return sum;
 }
 
-/*
- * Adds up the keys of all pairs. A slot takes more than one byte, so a table that states more items than it has
- * bytes is forged; with fewer the products below stay far below 2^64, since the bytes are there.
- */
+/* Adds up the keys of all pairs. */
 static uint32_t add_up_keys(const uint8_t *bytes, size_t length, uint64_t *sum)
 {
+    uint64_t keys[PLACES];
+    uint32_t values[PLACES];
+    size_t cursor = 0;
     size_t count = 0;
     uint32_t status = odht_u64_u32_open(bytes, length);
-    if (status == ODHT_OK)
-        status = odht_u64_u32_len(bytes, length, &count);
+
+    if (status != ODHT_OK)
+        return status;
+    do {
+        status = odht_u64_u32_walk(bytes, length, &cursor, keys, PLACES, values, PLACES, &count);
+        if (status == ODHT_OK || status == ODHT_TOO_SMALL)
+            *sum += sum_of(keys, count);
+    } while (status == ODHT_TOO_SMALL);
+    return status;
+}
+
+/*
+ * The same by one walk. A slot takes more than one byte, so a table that states more items than it has bytes is forged;
+ * with fewer the products below stay far below 2^64, since the bytes are there.
+ */
+static uint32_t add_up_keys_at_once(const uint8_t *bytes, size_t length, uint64_t *sum)
+{
+    size_t cursor = 0;
+    size_t count = 0;
+    uint32_t status = odht_u64_u32_len(bytes, length, &count);
     if (status != ODHT_OK)
         return status;
     if (count > length)
@@ -41,7 +60,7 @@ static uint32_t add_up_keys(const uint8_t *bytes, size_t length, uint64_t *sum)
     uint32_t *values = (uint32_t *)calloc(count + 1, sizeof *values);
     status = ODHT_MEMORY;
     if (keys != NULL && values != NULL) {
-        status = odht_u64_u32_walk(bytes, length, keys, count, values, count, &count);
+        status = odht_u64_u32_walk(bytes, length, &cursor, keys, count, values, count, &count);
         *sum = sum_of(keys, count);
     }
     free(keys);
@@ -94,7 +113,10 @@ int main(void)
 
         state(bytes, cases[index].stated);
         EXPECT(odht_u64_u32_check(bytes, LENGTH), checked);
-        EXPECT(add_up_keys(bytes, LENGTH, &sum), cases[index].status);
+        EXPECT(add_up_keys(bytes, LENGTH, &sum), ODHT_OK);
+        EXPECT(sum, KEY_SUM);
+        sum = 0;
+        EXPECT(add_up_keys_at_once(bytes, LENGTH, &sum), cases[index].status);
         EXPECT(sum, cases[index].sum);
     }
     free(bytes);

@@ -67,6 +67,7 @@ static void null_through_pointer(void)
 
 int main(void)
 {
+    EXPECT(odht_version(), ODHT_VERSION);
     null_u64_u32();
     null_b16_u32();
     null_builds();

@@ -9,6 +9,7 @@ static void TEST(void)
     VALUE value = 5;
     VALUE values[1] = {9};
     size_t count = 77;
+    size_t cursor = 0;
     odht_view view;
 
     /* No bytes are too short, and nothing is told. */
@@ -19,9 +20,11 @@ static void TEST(void)
     EXPECT(CALL(get_all)(NULL, 0, NULL, 0, NULL, 0, NULL, 0), ODHT_TOO_SHORT);
     EXPECT(CALL(insert)(NULL, 0, KEY, 1, NULL), ODHT_TOO_SHORT);
     EXPECT(CALL(insert_all)(NULL, 0, NULL, 0, NULL, 0, NULL), ODHT_TOO_SHORT);
-    EXPECT(CALL(walk)(NULL, 0, NULL, 0, NULL, 0, NULL), ODHT_TOO_SHORT);
+    EXPECT(CALL(walk)(NULL, 0, &cursor, NULL, 0, NULL, 0, NULL), ODHT_TOO_SHORT);
     EXPECT(CALL(insert_order)(NULL, 0, NULL, 0), ODHT_TOO_SHORT);
     EXPECT(CALL(open_view)(NULL, 0, &view), ODHT_TOO_SHORT);
+    EXPECT(CALL(sizes)(NULL, 0, NULL, NULL, NULL), ODHT_TOO_SHORT);
+    EXPECT(CALL(grow)(NULL, 0, NULL, 0, NULL), ODHT_TOO_SHORT);
 
     EXPECT(CALL(bytes_needed)(13, 87, NULL), ODHT_OK);
     EXPECT(CALL(bytes_needed)(13, 101, NULL), ODHT_BAD_PERCENT);
@@ -37,7 +40,11 @@ static void TEST(void)
     EXPECT(CALL(insert_all)(bytes, LENGTH, NULL, 0, NULL, 0, NULL), ODHT_OK);
     EXPECT(CALL(insert_all)(bytes, LENGTH, NULL, 0, values, 1, &count), ODHT_BAD_LENGTHS);
     EXPECT(count, 77);
-    EXPECT(CALL(walk)(bytes, LENGTH, NULL, 0, NULL, 0, NULL), ODHT_OK);
+    EXPECT(CALL(walk)(bytes, LENGTH, &cursor, NULL, 0, NULL, 0, NULL), ODHT_OK);
+    EXPECT(CALL(sizes)(bytes, LENGTH, NULL, NULL, NULL), ODHT_OK);
+    EXPECT(CALL(grow)(bytes, LENGTH, NULL, 0, NULL), ODHT_TOO_SMALL);
+    EXPECT(CALL(grow)(bytes, LENGTH, NULL, 0, &count), ODHT_TOO_SMALL);
+    EXPECT(count, LENGTH);
     EXPECT(CALL(insert_order)(bytes, LENGTH, NULL, 0), ODHT_OK);
 
     /* One item. */
@@ -48,8 +55,9 @@ static void TEST(void)
     EXPECT(CALL(get)(bytes, LENGTH, KEY, &value), ODHT_OK);
     EXPECT(value, 9);
     EXPECT(CALL(get)(bytes, LENGTH, OTHER_KEY, NULL), ODHT_ABSENT);
-    EXPECT(CALL(walk)(bytes, LENGTH, NULL, 0, NULL, 0, NULL), ODHT_TOO_SMALL);
-    EXPECT(CALL(walk)(bytes, LENGTH, NULL, 0, values, 1, NULL), ODHT_BAD_LENGTHS);
+    cursor = 0;
+    EXPECT(CALL(walk)(bytes, LENGTH, &cursor, NULL, 0, NULL, 0, NULL), ODHT_TOO_SMALL);
+    EXPECT(CALL(walk)(bytes, LENGTH, &cursor, NULL, 0, values, 1, NULL), ODHT_BAD_LENGTHS);
     EXPECT(CALL(insert_order)(bytes, LENGTH, NULL, 0), ODHT_BAD_LENGTHS);
 
     /* The view had no value before, and a refusal leaves it. */

@@ -35,6 +35,7 @@ void order_of_inserts(void)
     uint32_t values[3] = {30, 190, 350}, ordered_values[3];
     uint8_t bytes[256];
     size_t slots[3];
+    size_t cursor = 0;
     size_t count = 0;
 
     printf("\nan order of inserts\n");
@@ -42,7 +43,7 @@ void order_of_inserts(void)
     say("insert_all 3 19 35",
         odht_u64_u32_insert_all(bytes, sizeof bytes, collide, 3, values, 3, &count));
     printf(", %zu accepted\n", count);
-    must_be_ok(odht_u64_u32_walk(bytes, sizeof bytes, keys, 3, values, 3, NULL));
+    must_be_ok(odht_u64_u32_walk(bytes, sizeof bytes, &cursor, keys, 3, values, 3, NULL));
     insert_again("inserts in slot order", keys, values, bytes);
     say("insert_order", odht_u64_u32_insert_order(bytes, sizeof bytes, slots, 3));
     say_slots(3, slots);
