@@ -110,9 +110,10 @@ pub(crate) fn sizes<C: Config>(
         return status_of(&refused);
     }
     let header = Header::of(bytes);
+    let slots = header.slot_count();
     let factor = header.max_load_factor();
-    *slot_count = header.slot_count();
-    *max_item_count = max_item_count_for(header.slot_count(), factor);
+    *slot_count = slots;
+    *max_item_count = max_item_count_for(slots, factor);
     *max_load_factor_percent = factor.to_percent() as u8;
     OK
 }

@@ -14,7 +14,7 @@ use Rattle.odht_c.proofs.examples.Tables.{direct_coding, one_item, one_bytes, mi
 -- no bytes are refused, and the places stay
 pub too_short_sizes : SizesAnswers direct_coding.format [] 9 9 9 1 9 9 9
 unfolding opened
-too_short_sizes = refused_sizes direct_coding [] (TooShort 0) 1 refl refl 9 9 9
+too_short_sizes = refused_sizes direct_coding.format [] (TooShort 0) 1 refl refl 9 9 9
 
 -- a valid table
 pub one_sizes : SizesAnswers direct_coding.format one_bytes 9 9 9 0 16 1 6

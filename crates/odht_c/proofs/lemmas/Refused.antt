@@ -1,5 +1,6 @@
 -- What the calls answer where they refuse.
 use Rattle.std.proofs.Common.{◌≡◌, ◌∙◌, ℕ, List, sym, ap, refl, length, Option, Some, None}
+use Rattle.odht_base.specs.Format.{Format}
 use Rattle.odht_raw.specs.Coding.{Coding}
 use Rattle.odht_raw.specs.Refusals.{opening_refusal}
 use Rattle.odht_raw.specs.declared.error.Error.{Error}
@@ -16,7 +17,16 @@ told o a e first second = let both : Some a ≡ Some e = sym first ∙ second in
 pub not_none : {R : Type 0} (o : Option Error) (a : Error) → o ≡ Some a → o ≡ None → R
 not_none o a some none = absurd (let both : None ≡ Some a = sym none ∙ some in cc)
 
--- each call on bytes whose opening is refused
+-- the call for the numbers of the header, on bytes whose opening is refused
+pub refused_sizes : (F : Format) (B : List ℕ) (a : Error) (s : ℕ) → Some a ≡ opening_refusal F B → s ≡ status_of a → (n m p : ℕ) → SizesAnswers F B n m p s n m p
+refused_sizes F B a s is status n m p = record {
+  status = status ∙ ap status_or_ok is;
+  refused = λ e other. (refl, refl, refl);
+  stated = λ none. not_none _ a (sym is) none;
+  on_valid = λ P image. never_refused F P B a image (sym is);
+}
+
+-- each other call on them
 module _ {K V : Type 0} (c : Coding K V) (B : List ℕ) (a : Error) (s : ℕ) (is : Some a ≡ opening_refusal c.format B) (status : s ≡ status_of a) where
   pub refused_get : (k : K) (old : V) → GetAnswers c B k old s old
   refused_get k old = record {
@@ -38,14 +48,6 @@ module _ {K V : Type 0} (c : Coding K V) (B : List ℕ) (a : Error) (s : ℕ) (i
   refused_len old = record {
     status = status ∙ ap status_or_ok is;
     refused = λ e other. refl;
-    stated = λ none. not_none _ a (sym is) none;
-    on_valid = λ P image. never_refused c.format P B a image (sym is);
-  }
-
-  pub refused_sizes : (n m p : ℕ) → SizesAnswers c.format B n m p s n m p
-  refused_sizes n m p = record {
-    status = status ∙ ap status_or_ok is;
-    refused = λ e other. (refl, refl, refl);
     stated = λ none. not_none _ a (sym is) none;
     on_valid = λ P image. never_refused c.format P B a image (sym is);
   }

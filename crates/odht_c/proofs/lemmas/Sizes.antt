@@ -1,5 +1,5 @@
 -- What a table's header states, of bytes that are accepted.
-use Rattle.std.proofs.Common.{◌≡◌, ◌∙◌, ℕ, List, sym, ap, refl, None}
+use Rattle.std.proofs.Common.{◌≡◌, ◌∙◌, ℕ, List, sym, ap, subst, refl, None}
 use Rattle.odht_base.specs.Format.{Format}
 use Rattle.odht_base.specs.Load.{max_items, percent_of}
 use Rattle.odht_base.specs.Shown.{stated_slots, stated_factor}
@@ -26,3 +26,12 @@ opened_sizes F B n m p none = record {
         let slots : stated_slots B ≡ slot_count P = ap stated_slots image.bytes ∙ stated_slots-image F P (IsSized-IsPlaced F P image.valid.placed) in
         let factor : stated_factor B ≡ P.factor = ap stated_factor image.bytes ∙ stated_factor-image F P image.valid.factor_high in
         (slots, λ i. max_items (slots i) (factor i), ap percent_of factor)
+
+-- however they were read
+pub read_sizes : (F : Format) (B : List ℕ) (n m p slots factor maximum percent : ℕ) → IsAccepted F B → slots ≡ stated_slots B → factor ≡ stated_factor B → maximum ≡ max_items slots factor → percent ≡ percent_of factor
+    → SizesAnswers F B n m p done slots maximum percent
+read_sizes F B n m p slots factor maximum percent none hs hf hm hp =
+    let most : maximum ≡ stated_maximum B = hm ∙ (λ i. max_items (hs i) (hf i)) in
+    subst (λ x. SizesAnswers F B n m p done x maximum percent) (sym hs)
+    (subst (λ x. SizesAnswers F B n m p done (stated_slots B) x percent) (sym most)
+    (subst (λ x. SizesAnswers F B n m p done (stated_slots B) (stated_maximum B) x) (sym (hp ∙ ap percent_of hf)) (opened_sizes F B n m p none)))
