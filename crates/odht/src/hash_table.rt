@@ -33,6 +33,7 @@ use crate::swisstable_group_query::GroupQuery;
 use std::marker::Model;
 
 mod lists;
+mod walks;
 
 /// How many bytes a new table for `max_item_count` items has. None exactly where no slot count is enough, or the length
 /// passes `usize`.

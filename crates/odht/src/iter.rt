@@ -1,10 +1,10 @@
 //! A walk over the pairs of a table.
 ghost use Rattle.std.specs.Prelude.{◌≡◌, length};
 ghost use Rattle.std.specs.Iterator.{YieldsFirst, item_count};
-ghost use Rattle.odht_raw.specs.Walks.{decoded_items};
+ghost use Rattle.odht_raw.specs.Walks.{decoded_items, decoded_numbered};
 
 use crate::config::Config;
-use crate::raw_table::RawIter;
+use crate::raw_table::{RawIter, RawSlots};
 use std::iter::FusedIterator;
 use std::marker::Model;
 
@@ -50,3 +50,50 @@ impl<'a, C: Config> Iterator for Iter<'a, C> {
 }
 
 impl<'a, C: Config> FusedIterator for Iter<'a, C> {}
+
+/// The slots that hold a pair, from a slot on, in slot order: the number of each, with its key and value, decoded. Who stops
+/// at a pair may go on later from the number that comes with it.
+///
+/// A contract speaks of it as of the list of those that are left. A whole walk reads each control byte once.
+#[derive(Drop)]
+pub struct Slots<'a, C: Config> {
+    raw: RawSlots<'a, C::EncodedKey, C::EncodedValue>,
+}
+
+impl<'a, C: Config> Model for Slots<'a, C> {
+    ghost use Rattle.std.specs.Prelude.{ℕ, List};
+    ghost use Rattle.odht_raw.specs.Walks.{decoded_numbered};
+
+    ghost Value = { List (ℕ × (C.Key × C.Value)) };
+
+    ghost view = { λ it. decoded_numbered C.decode_key C.decode_value it.raw };
+}
+
+impl<'a, C: Config> Slots<'a, C> {
+    /// The pairs of what is left of a raw walk.
+    #[inline]
+    pub(crate) fn new(raw: RawSlots<'a, C::EncodedKey, C::EncodedValue>) -> Self
+        ensures items { result ≡ decoded_numbered C.decode_key C.decode_value raw.entry }
+        ensures few { length result ≡ length raw.entry }
+    {
+        Slots { raw }
+    }
+}
+
+impl<'a, C: Config> Iterator for Slots<'a, C> {
+    type Item = (usize, (C::Key, C::Value));
+
+    ghost next_gives = { YieldsFirst (λ left. left) };
+
+    ghost remaining = { item_count (λ left. left) };
+
+    fn next(&mut self) -> Option<(usize, (C::Key, C::Value))> {
+        let (slot, (_, entry)) = self.raw.next()?;
+        Some((
+            slot,
+            (C::decode_key(&entry.key), C::decode_value(&entry.value)),
+        ))
+    }
+}
+
+impl<'a, C: Config> FusedIterator for Slots<'a, C> {}

@@ -83,6 +83,8 @@ pub mod OrdersKept
 pub mod InsertOrders
 -- a valid table is made exactly where it has an insert order
 pub mod MadeTables
+-- a walk that goes on where another stopped
+pub mod SlotWalks
 -- ---- Masks of a group of control bytes
 -- the places of what is true
 pub mod MarkedPlaces

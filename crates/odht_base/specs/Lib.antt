@@ -17,6 +17,8 @@ pub mod Format
 pub mod Probe
 -- plain tables: a load factor and a list of cells
 pub mod Table
+-- walks over them that begin at a slot
+pub mod SlotWalks
 -- plain tables as finite maps
 pub mod Map
 -- where the search for a key ends, and how many groups it reads

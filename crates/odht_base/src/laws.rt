@@ -1,13 +1,14 @@
 //! Laws of the definitions that no call carries by itself. Each function does nothing: its contract is the law.
 //!
 //! They are said for every format `F`: every pair of lengths up to 255 and every hash of 32 bits.
-ghost use Rattle.std.specs.Prelude.{◌≡◌, ℕ, ◌+◌, ◌*◌, ◌%◌, ◌<◌, ◌≤◌, ◌^◌, ◌++◌, ◌↔◌, List, length, All, Some, IsTrue, IsPermutation, bytes_eq, if◌then◌else◌};
+ghost use Rattle.std.specs.Prelude.{◌≡◌, ℕ, ◌+◌, ◌*◌, ◌%◌, ◌<◌, ◌≤◌, ◌^◌, ◌++◌, ◌↔◌, List, [], ◌∷◌, length, drop, map, All, Some, IsTrue, IsPermutation, bytes_eq, if◌then◌else◌};
 ghost use Rattle.std.specs.List.{range_with_len};
 ghost use Rattle.odht_base.specs.Numbers.{num, le_bytes, IsBytes};
 ghost use Rattle.odht_base.specs.Load.{factor_of, IsSlotCount};
 ghost use Rattle.odht_base.specs.Format.{Format, IsFormat};
 ghost use Rattle.odht_base.specs.Probe.{place_slot, order};
 ghost use Rattle.odht_base.specs.Table.{Pair, Table, slot_count, is_free, walk, count, empty, fresh};
+ghost use Rattle.odht_base.specs.SlotWalks.{walk_from, slots_from};
 ghost use Rattle.odht_base.specs.Map.{map_of, last, overwritten, KeysApart};
 ghost use Rattle.odht_base.specs.CountRule.{put_owned_by_count, put_view_by_count, NoneOverwritesFull};
 ghost use Rattle.odht_base.specs.Insert.{place, grown, run, put_owned, put_view};
@@ -48,6 +49,16 @@ pub fn valid_tables_have_room()
     ensures view { (F : Format) (n p : ℕ) (P : Table) (ps : List Pair)
         → 1 ≤ p → p ≤ 100 → fresh n p ≡ Some P → All (IsPairOf F) ps → length ps ≤ n
         → (Q : Table) × (run (put_view F) P ps ≡ Some Q) × (slot_count Q ≡ slot_count P) }
+{}
+
+/// A walk may begin at any slot. At the slot of a pair that another walk came to it gives that pair and those behind it, and
+/// past the last slot none.
+pub fn walks_go_on_from_any_slot()
+    ensures start { (P : Table) → walk_from P 0 ≡ walk P }
+    ensures pairs { (P : Table) (i : ℕ) → map (λ x. x.1) (slots_from P i) ≡ walk_from P i }
+    ensures goes_on { (P : Table) (i n s : ℕ) (p : Pair) (left : List (ℕ × Pair))
+        → drop n (slots_from P i) ≡ (s, p) ∷ left → slots_from P s ≡ (s, p) ∷ left }
+    ensures past_end { (P : Table) (i : ℕ) → slot_count P ≤ i → slots_from P i ≡ [] }
 {}
 
 /// Placing a pair keeps a table placed, and changes its map at the pair's key alone.

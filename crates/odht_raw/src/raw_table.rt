@@ -45,7 +45,7 @@ pub use plain::{plain_find, plain_insert};
 pub use probe_seq::{ProbeSeq, probe_order};
 pub use scan::Scan;
 pub use table_mut::RawTableMut;
-pub use walk::RawIter;
+pub use walk::{RawIter, RawSlots};
 
 /// A control byte: the tag of a filled slot, which has seven bits, or `FREE`.
 pub type EntryMetadata = u8;

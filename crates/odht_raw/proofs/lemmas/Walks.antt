@@ -1,23 +1,25 @@
 -- A walk over the slots, sixteen at a time, and what it gives of a table's bytes.
-use Rattle.std.proofs.Common.{All, ◌≡◌, ℕ, zero, suc, ◌+◌, ◌-◌, ◌<◌, ◌≤◌, ◌∙◌, ◌++◌, Bool, true, false, sym, ap, subst, refl, arith, List, [], ◌∷◌, length, map, slice_index, slice_get, Option, Some, None, nat_lt, lt-ltb, le-ltb, le-leb, ltb-true}
-use Rattle.std.proofs.lemmas.Bool.{lt-leb}
+use Rattle.std.proofs.Common.{All, ◌≡◌, ℕ, zero, suc, ◌+◌, ◌-◌, ◌<◌, ◌≤◌, ◌∙◌, ◌++◌, Bool, true, false, min, inl, inr, sym, ap, subst, refl, arith, List, [], ◌∷◌, length, map, drop, slice_index, slice_get, Option, Some, None, nat_lt, lt-ltb, le-ltb, le-leb, ltb-true}
+use Rattle.std.proofs.lemmas.Bool.{lt-leb, cases_lt}
 use Rattle.std.specs.Prelude.{slice_index_or}
 use native.Mathlib.Decide.{dec_lt}
+use Rattle.std.proofs.lemmas.List.{drop-map}
 use Rattle.std.proofs.lemmas.Option.{none-some}
 use Rattle.std.proofs.lemmas.List.Elements.{All-head, All-tail, All-filter, filter_passes, filter_map-append}
 use Rattle.std.specs.Prelude.{option_map}
 use Rattle.std.specs.List.{filter_map, cons_option, range_with_len}
 use Rattle.std.proofs.lemmas.List.FromFn.{length-range_with_len, get_or-range_with_len}
 use Rattle.odht_base.specs.Format.{Format, IsFormat, format_of}
-use Rattle.odht_base.specs.Table.{Pair, Table, walk}
-use Rattle.odht_base.specs.Shown.{counts_as_free, shown_cell, shown_cells, seen}
+use Rattle.odht_base.specs.SlotWalks.{numbered, slots_from}
+use Rattle.odht_base.specs.Table.{Pair, Cells, Table, walk}
+use Rattle.odht_base.specs.Shown.{counts_as_free, shown_cell, shown_cells, shown, entries_of, controls_of, seen}
 use Rattle.odht_base.specs.Valid.{IsImage, IsPairOf, IsPlaced}
 use Rattle.odht_base.specs.Groups.{filled}
 use Rattle.odht_base.proofs.lemmas.Apart.{walk-IsPairOf}
 use Rattle.odht_base.proofs.lemmas.Image.{shown-image}
 use Rattle.odht_base.proofs.lemmas.MarkedPlaces.{places_of, filled-places}
 use Rattle.odht_raw.specs.Parts.{TableParts, entry_format}
-use Rattle.odht_raw.specs.Walks.{Item, item, slot_item, items_of, items_from, AreFilled, decoded_items}
+use Rattle.odht_raw.specs.Walks.{Item, item, slot_item, slot_numbered, items_of, items_from, numbered_of, numbered_from, AreFilled, decoded_items, decoded_numbered}
 
 -- ---- slots by groups
 -- a list without a first item
@@ -32,6 +34,18 @@ range-append a (suc m) n =
     let e : a + 1 + m ≡ a + suc m = omega arith in
     let z : suc m + n ≡ suc (m + n) = omega arith in
     rw z (ap (λ xs. a ∷ xs) (range-append (a + 1) m n ∙ ap (λ b. range_with_len (a + 1) m ++ range_with_len b n) e))
+
+zero_add : (i : ℕ) → 0 + i ≡ i
+zero_add i = omega arith
+
+-- a range without its first numbers
+drop-range : (m a n : ℕ) → drop m (range_with_len a n) ≡ range_with_len (a + m) (n - m)
+drop-range zero a n = let start : a ≡ a + 0 = omega arith in let all : n ≡ n - 0 = omega arith in λ i. range_with_len (start i) (all i)
+drop-range (suc m) a zero = let none : 0 - suc m ≡ 0 = omega arith in rw none refl
+drop-range (suc m) a (suc n) =
+    let next : a + 1 + m ≡ a + suc m = omega arith in
+    let less : n - m ≡ suc n - suc m = omega arith in
+    drop-range m (a + 1) n ∙ (λ i. range_with_len (next i) (less i))
 
 -- places that are counted from another start
 places-shift : (a i : ℕ) (bs : List Bool) → map (λ j. a + j) (places_of i bs) ≡ places_of (a + i) bs
@@ -54,31 +68,55 @@ filled-All T a bs fits are k d l =
 
 module _ {K V : Type 0} (f : List ℕ → K) (g : List ℕ → V) (F : Format) (T : TableParts) where
   -- the items of slots whose control bytes are these are those of the filled ones
-  items_of-filled : (a : ℕ) (bs : List ℕ) → ((k : ℕ) → k < length bs → slice_index T.control (a + k) ≡ slice_index bs k)
-      → items_of f g F T (range_with_len a (length bs)) ≡ items_of f g F T (places_of a (map (λ x. nat_lt x 128) bs))
-  items_of-filled a [] are = refl
-  items_of-filled a (x ∷ bs) are =
+  numbered_of-filled : (a : ℕ) (bs : List ℕ) → ((k : ℕ) → k < length bs → slice_index T.control (a + k) ≡ slice_index bs k)
+      → numbered_of f g F T (range_with_len a (length bs)) ≡ numbered_of f g F T (places_of a (map (λ x. nat_lt x 128) bs))
+  numbered_of-filled a [] are = refl
+  numbered_of-filled a (x ∷ bs) are =
       let first : a ≡ a + 0 = omega arith in
       let here : slice_index T.control a ≡ x = ap (slice_index T.control) first ∙ are 0 (omega arith) in
-      let rest = items_of-filled (a + 1) bs (λ k l. let behind : a + 1 + k ≡ a + suc k = omega arith in ap (slice_index T.control) behind ∙ are (suc k) (omega arith)) in
+      let rest = numbered_of-filled (a + 1) bs (λ k l. let behind : a + 1 + k ≡ a + suc k = omega arith in ap (slice_index T.control) behind ∙ are (suc k) (omega arith)) in
       elim (dec_lt x 128) [
-        | yes p ↦ rw (lt-ltb x 128 p) (ap (cons_option (slot_item f g F T a)) rest)
+        | yes p ↦ rw (lt-ltb x 128 p) (ap (cons_option (slot_numbered f g F T a)) rest)
         | no p ↦
             let free : counts_as_free (slice_index T.control a) ≡ true = ap counts_as_free here ∙ le-leb 128 x (omega arith) in
             rw (le-ltb x 128 (omega arith), free) rest
       ]
 
   -- the items from a slot on are those of the filled ones of the next n, and those behind these
-  pub items_from-group : (a n : ℕ) (bs : List ℕ) → length bs ≡ n → a + n ≤ T.entries.slots → ((k : ℕ) → k < length bs → slice_index T.control (a + k) ≡ slice_index bs k)
-      → items_from f g F T a ≡ items_of f g F T (map (λ i. a + i) (filled bs)) ++ items_from f g F T (a + n)
-  items_from-group a n bs len fits are =
+  pub numbered_from-group : (a n : ℕ) (bs : List ℕ) → length bs ≡ n → a + n ≤ T.entries.slots → ((k : ℕ) → k < length bs → slice_index T.control (a + k) ≡ slice_index bs k)
+      → numbered_from f g F T a ≡ numbered_of f g F T (map (λ i. a + i) (filled bs)) ++ numbered_from f g F T (a + n)
+  numbered_from-group a n bs len fits are =
       let split : T.entries.slots - a ≡ n + (T.entries.slots - (a + n)) = omega arith in
       let zero : a + 0 ≡ a = omega arith in
       let slots : map (λ i. a + i) (filled bs) ≡ places_of a (map (λ x. nat_lt x 128) bs) = ap (map (λ i. a + i)) (filled-places bs) ∙ places-shift a 0 (map (λ x. nat_lt x 128) bs) ∙ ap (λ m. places_of m (map (λ x. nat_lt x 128) bs)) zero in
-      ap (λ m. items_of f g F T (range_with_len a m)) split
-      ∙ ap (items_of f g F T) (range-append a n (T.entries.slots - (a + n)))
-      ∙ filter_map-append (slot_item f g F T) (range_with_len a n) (range_with_len (a + n) (T.entries.slots - (a + n)))
-      ∙ ap (λ xs. xs ++ items_from f g F T (a + n)) (sym (ap (λ m. items_of f g F T (range_with_len a m)) len) ∙ items_of-filled a bs are ∙ ap (items_of f g F T) (sym slots))
+      ap (λ m. numbered_of f g F T (range_with_len a m)) split
+      ∙ ap (numbered_of f g F T) (range-append a n (T.entries.slots - (a + n)))
+      ∙ filter_map-append (slot_numbered f g F T) (range_with_len a n) (range_with_len (a + n) (T.entries.slots - (a + n)))
+      ∙ ap (λ xs. xs ++ numbered_from f g F T (a + n)) (sym (ap (λ m. numbered_of f g F T (range_with_len a m)) len) ∙ numbered_of-filled a bs are ∙ ap (numbered_of f g F T) (sym slots))
+
+  -- the items of numbered slots
+  items-numbered_of : (is : List ℕ) → map (λ (x : ℕ × Item K V). x.1) (numbered_of f g F T is) ≡ items_of f g F T is
+  items-numbered_of [] = refl
+  items-numbered_of (i ∷ is) = go (slot_item f g F T i) (items-numbered_of is)
+    where
+      go : (o : Option (Item K V)) → map (λ (x : ℕ × Item K V). x.1) (numbered_of f g F T is) ≡ items_of f g F T is
+          → map (λ (x : ℕ × Item K V). x.1) (cons_option (option_map (λ x. (i, x)) o) (numbered_of f g F T is)) ≡ cons_option o (items_of f g F T is)
+      go None e = e
+      go (Some x) e = ap (λ xs. x ∷ xs) e
+
+  pub items-numbered_from : (i : ℕ) → map (λ (x : ℕ × Item K V). x.1) (numbered_from f g F T i) ≡ items_from f g F T i
+  items-numbered_from i = items-numbered_of (range_with_len i (T.entries.slots - i))
+
+  -- past the last slot there is none
+  pub numbered_from-min : (i : ℕ) → numbered_from f g F T (min i T.entries.slots) ≡ numbered_from f g F T i
+  numbered_from-min i = elim (cases_lt T.entries.slots i) [
+    | inl past ↦
+        let last : min i T.entries.slots ≡ T.entries.slots = omega (arith, past) in
+        let none : T.entries.slots - T.entries.slots ≡ 0 = omega arith in
+        let none' : T.entries.slots - i ≡ 0 = omega (arith, past) in
+        ap (numbered_from f g F T) last ∙ ap (λ m. numbered_of f g F T (range_with_len T.entries.slots m)) none ∙ sym (ap (λ m. numbered_of f g F T (range_with_len i m)) none')
+    | inr within ↦ let same : min i T.entries.slots ≡ i = omega (arith, within) in ap (numbered_from f g F T) same
+  ]
 
 -- no more come than there are
 length-filter_map : {X Y : Type 0} (h : X → Option Y) (xs : List X) → length (filter_map h xs) ≤ length xs
@@ -90,8 +128,8 @@ length-filter_map h (x ∷ xs) = go (h x) (length-filter_map h xs)
     go (Some y) l = omega (arith, l)
 
 -- no more items than slots
-pub few-items : {K V : Type 0} (f : List ℕ → K) (g : List ℕ → V) (F : Format) (T : TableParts) → length (items_from f g F T 0) ≤ T.entries.slots
-few-items f g F T = omega (arith, length-filter_map (slot_item f g F T) (range_with_len 0 (T.entries.slots - 0)), length-range_with_len 0 (T.entries.slots - 0))
+pub few-numbered : {K V : Type 0} (f : List ℕ → K) (g : List ℕ → V) (F : Format) (T : TableParts) (i : ℕ) → length (numbered_from f g F T i) ≤ T.entries.slots
+few-numbered f g F T i = omega (arith, length-filter_map (slot_numbered f g F T) (range_with_len i (T.entries.slots - i)), length-range_with_len i (T.entries.slots - i))
 
 module _ {EK EV K V : Type 0} (f : List ℕ → EK) (g : List ℕ → EV) (decode_key : EK → K) (decode_value : EV → V) where
   abbrev pair_of : Pair → K × V
@@ -120,9 +158,45 @@ module _ {EK EV K V : Type 0} (f : List ℕ → EK) (g : List ℕ → EV) (decod
       decoded_items-slots (entry_format key_len value_len) T (range_with_len 0 (T.entries.slots - 0))
       ∙ ap (λ n. map pair_of (filter_map (λ c. c) (map (shown_cell (entry_format key_len value_len) T.entries.bytes T.control) (range_with_len 0 n)))) slots
 
+  -- numbered items, decoded, are the numbered pairs of the cells that the slots show
+  numbered-cells : (F : Format) (T : TableParts) (i n : ℕ)
+      → decoded_numbered decode_key decode_value (filter_map (slot_numbered f g F T) (range_with_len i n))
+      ≡ map (λ (x : ℕ × Pair). (x.0, pair_of x.1)) (numbered i (map (shown_cell F T.entries.bytes T.control) (range_with_len i n)))
+  numbered-cells F T i zero = refl
+  numbered-cells F T i (suc n) = go (map (shown_cell F T.entries.bytes T.control) (range_with_len (i + 1) n)) (shown_cell F T.entries.bytes T.control i) (numbered-cells F T (i + 1) n)
+    where
+      go : (rest : Cells) (c : Option Pair)
+          → decoded_numbered decode_key decode_value (filter_map (slot_numbered f g F T) (range_with_len (i + 1) n))
+          ≡ map (λ (x : ℕ × Pair). (x.0, pair_of x.1)) (numbered (i + 1) rest)
+          → decoded_numbered decode_key decode_value
+          (cons_option (option_map (λ x. (i, x)) (option_map (item f g (slice_index T.control i)) c)) (filter_map (slot_numbered f g F T) (range_with_len (i + 1) n)))
+          ≡ map (λ (x : ℕ × Pair). (x.0, pair_of x.1)) (numbered i (c ∷ rest))
+      go rest None e = e
+      go rest (Some p) e = ap (λ xs. (i, pair_of p) ∷ xs) e
+
+  -- so a walk from a slot on, decoded, gives the pairs that the bytes show from there on
+  pub decoded_numbered-shown : (key_len value_len : ℕ) (hash : List ℕ → ℕ) (T : TableParts) (B : List ℕ) (i : ℕ) → length T.control ≡ T.entries.slots + 16
+      → T.entries.bytes ≡ entries_of (format_of key_len value_len hash) B → T.control ≡ controls_of (format_of key_len value_len hash) B
+      → decoded_numbered decode_key decode_value (numbered_from f g (entry_format key_len value_len) T i)
+      ≡ map (λ (x : ℕ × Pair). (x.0, pair_of x.1)) (slots_from (shown (format_of key_len value_len hash) B) i)
+  unfolding shown_cells
+  decoded_numbered-shown key_len value_len hash T B i long entries control =
+      let slots : T.entries.slots ≡ length T.control - 16 = omega (arith, long) in
+      let cell = shown_cell (entry_format key_len value_len) T.entries.bytes T.control in
+      let here : map cell (range_with_len i (T.entries.slots - i)) ≡ drop i (map cell (range_with_len 0 (length T.control - 16))) =
+      sym (ap (map cell) (drop-range i 0 T.entries.slots ∙ ap (λ a. range_with_len a (T.entries.slots - i)) (zero_add i)))
+      ∙ sym (drop-map cell i (range_with_len 0 T.entries.slots)) ∙ ap (λ n. drop i (map cell (range_with_len 0 n))) slots in
+      numbered-cells (entry_format key_len value_len) T i (T.entries.slots - i)
+      ∙ ap (λ cs. map (λ (x : ℕ × Pair). (x.0, pair_of x.1)) (numbered i cs)) here
+      ∙ (λ j. map (λ (x : ℕ × Pair). (x.0, pair_of x.1)) (numbered i (drop i (shown_cells (format_of key_len value_len hash) (entries j) (control j)))))
+
 -- the bytes of a valid table show its pairs
 pub seen-image : (F : Format) (P : Table) (B : List ℕ) → IsFormat F → IsImage F P B → seen F B ≡ walk P
 seen-image F P B f is = ap (seen F) is.bytes ∙ ap walk (shown-image F P f is.valid)
+
+-- and from each slot on those of its slots
+pub slots-image : (F : Format) (P : Table) (B : List ℕ) (i : ℕ) → IsFormat F → IsImage F P B → slots_from (shown F B) i ≡ slots_from P i
+slots-image F P B i f is = ap (λ b. slots_from (shown F b) i) is.bytes ∙ ap (λ T. slots_from T i) (shown-image F P f is.valid)
 
 -- ---- the items as pairs of bytes
 module _ {EK EV : Type 0} (key_bytes : EK → List ℕ) (value_bytes : EV → List ℕ) where

@@ -2,7 +2,7 @@
 ghost use Rattle.std.specs.Prelude.{◌≡◌, ◌+◌, ◌≤◌, length};
 ghost use Rattle.std.specs.Iterator.{YieldsFirst, item_count};
 ghost use Rattle.odht_raw.specs.Parts.{TableParts, entry_format};
-ghost use Rattle.odht_raw.specs.Walks.{items_from};
+ghost use Rattle.odht_raw.specs.Walks.{items_from, numbered_from};
 
 use super::{Entries, Entry, EntryMetadata};
 use crate::bytes::ByteArray;
@@ -10,11 +10,12 @@ use crate::swisstable_group_query::{FilledQuery, REFERENCE_GROUP_SIZE};
 use std::iter::FusedIterator;
 use std::marker::Model;
 
-/// The control byte and the entry of each slot whose own control byte does not count as free, in slot order.
+/// The slots from a slot on whose own control byte does not count as free, in slot order: the number of each, with its
+/// control byte and its entry. Who stops at an item may go on later from the number that comes with it.
 ///
 /// A contract speaks of it as of the list of those that are left. A whole walk reads each control byte once, sixteen at a time.
 #[derive(Drop)]
-pub struct RawIter<'a, K: ByteArray, V: ByteArray> {
+pub struct RawSlots<'a, K: ByteArray, V: ByteArray> {
     control: &'a [EntryMetadata],
     entries: Entries<'a, K, V>,
     base: usize,
@@ -22,55 +23,58 @@ pub struct RawIter<'a, K: ByteArray, V: ByteArray> {
     next_slot: usize,
 }
 
-impl<'a, K: ByteArray, V: ByteArray> Model for RawIter<'a, K, V> {
-    ghost use Rattle.std.specs.Prelude.{◌≡◌, ◌+◌, ◌≤◌, ◌++◌, List, length, map};
+impl<'a, K: ByteArray, V: ByteArray> Model for RawSlots<'a, K, V> {
+    ghost use Rattle.std.specs.Prelude.{◌≡◌, ◌+◌, ◌≤◌, ◌++◌, ℕ, List, length, map};
     ghost use Rattle.odht_raw.specs.Parts.{TableParts, entry_format};
-    ghost use Rattle.odht_raw.specs.Walks.{Item, items_of, items_from, AreFilled};
+    ghost use Rattle.odht_raw.specs.Walks.{Item, numbered_of, numbered_from, AreFilled};
 
-    ghost Value = { List (Item K V) };
+    ghost Value = { List (ℕ × Item K V) };
 
     ghost view = { λ w.
         let T : TableParts = record { control = w.control.now; entries = w.entries }
         in let F = entry_format K.LEN V.LEN
-        in items_of K.of_bytes V.of_bytes F T (map (λ i. w.base + i) w.filled)
-        ++ items_from K.of_bytes V.of_bytes F T w.next_slot };
+        in numbered_of K.of_bytes V.of_bytes F T (map (λ i. w.base + i) w.filled)
+        ++ numbered_from K.of_bytes V.of_bytes F T w.next_slot };
 
     ghost invariant = { λ w. (length w.control.now ≡ w.entries.slots + 16)
         × (w.next_slot ≤ w.entries.slots)
         × AreFilled (record { control = w.control.now; entries = w.entries }) w.base w.filled };
 }
 
-impl<'a, K: ByteArray, V: ByteArray> RawIter<'a, K, V> {
-    /// A walk over all slots, of which `control` holds the control bytes with their mirror.
+impl<'a, K: ByteArray, V: ByteArray> RawSlots<'a, K, V> {
+    /// The slots from slot `from` on, none where it is past the last one, of those of which `control` holds the control bytes
+    /// with their mirror.
     #[inline]
-    pub fn new(control: &'a [EntryMetadata], entries: Entries<'a, K, V>) -> Self
+    pub fn new(control: &'a [EntryMetadata], entries: Entries<'a, K, V>, from: usize) -> Self
         requires { length control.now ≡ entries.slots + 16 }
         ensures items { let T : TableParts = record { control = control.now; entries = entries.entry }
-            in result ≡ items_from K.of_bytes V.of_bytes (entry_format K.LEN V.LEN) T 0 }
+            in result ≡ numbered_from K.of_bytes V.of_bytes (entry_format K.LEN V.LEN) T from }
         ensures few { length result ≤ entries.entry.slots }
     {
-        RawIter {
+        let first = from.min(entries.len());
+        RawSlots {
             control,
             entries,
-            base: 0,
+            base: first,
             filled: FilledQuery::none(),
-            next_slot: 0,
+            next_slot: first,
         }
     }
 }
 
-impl<'a, K: ByteArray, V: ByteArray> Iterator for RawIter<'a, K, V> {
-    type Item = (EntryMetadata, Entry<K, V>);
+impl<'a, K: ByteArray, V: ByteArray> Iterator for RawSlots<'a, K, V> {
+    type Item = (usize, (EntryMetadata, Entry<K, V>));
 
     ghost next_gives = { YieldsFirst (λ left. left) };
 
     ghost remaining = { item_count (λ left. left) };
 
-    fn next(&mut self) -> Option<(EntryMetadata, Entry<K, V>)> {
+    #[inline]
+    fn next(&mut self) -> Option<(usize, (EntryMetadata, Entry<K, V>))> {
         'groups: loop {
             if let Some(index) = self.filled.next_filled() {
                 let slot = self.base + index;
-                return Some((self.control[slot], self.entries.get(slot)));
+                return Some((slot, (self.control[slot], self.entries.get(slot))));
             }
             if self.next_slot >= self.entries.len() {
                 return None;
@@ -84,6 +88,53 @@ impl<'a, K: ByteArray, V: ByteArray> Iterator for RawIter<'a, K, V> {
             );
             self.next_slot += size;
         }
+    }
+}
+
+impl<'a, K: ByteArray, V: ByteArray> FusedIterator for RawSlots<'a, K, V> {}
+
+/// The control byte and the entry of each slot whose own control byte does not count as free, in slot order.
+///
+/// A contract speaks of it as of the list of those that are left. A whole walk reads each control byte once, sixteen at a time.
+#[derive(Drop)]
+pub struct RawIter<'a, K: ByteArray, V: ByteArray> {
+    slots: RawSlots<'a, K, V>,
+}
+
+impl<'a, K: ByteArray, V: ByteArray> Model for RawIter<'a, K, V> {
+    ghost use Rattle.std.specs.Prelude.{List, map};
+    ghost use Rattle.odht_raw.specs.Walks.{Item};
+
+    ghost Value = { List (Item K V) };
+
+    ghost view = { λ w. map (λ x. x.1) w.slots };
+}
+
+impl<'a, K: ByteArray, V: ByteArray> RawIter<'a, K, V> {
+    /// A walk over all slots, of which `control` holds the control bytes with their mirror.
+    #[inline]
+    pub fn new(control: &'a [EntryMetadata], entries: Entries<'a, K, V>) -> Self
+        requires { length control.now ≡ entries.slots + 16 }
+        ensures items { let T : TableParts = record { control = control.now; entries = entries.entry }
+            in result ≡ items_from K.of_bytes V.of_bytes (entry_format K.LEN V.LEN) T 0 }
+        ensures few { length result ≤ entries.entry.slots }
+    {
+        RawIter {
+            slots: RawSlots::new(control, entries, 0),
+        }
+    }
+}
+
+impl<'a, K: ByteArray, V: ByteArray> Iterator for RawIter<'a, K, V> {
+    type Item = (EntryMetadata, Entry<K, V>);
+
+    ghost next_gives = { YieldsFirst (λ left. left) };
+
+    ghost remaining = { item_count (λ left. left) };
+
+    fn next(&mut self) -> Option<(EntryMetadata, Entry<K, V>)> {
+        let (_, item) = self.slots.next()?;
+        Some(item)
     }
 }
 

@@ -3,10 +3,10 @@ use Rattle.odht_base.specs.Bytes.{bytes_at}
 use Rattle.odht_base.specs.Format.{Format}
 use Rattle.odht_base.proofs.lemmas.ByteRanges.{length-bytes_at}
 use Rattle.odht_raw.specs.Parts.{TableParts, entry_format}
-use Rattle.odht_raw.specs.Walks.{items_of, items_from, AreFilled}
+use Rattle.odht_raw.specs.Walks.{numbered_of, numbered_from, AreFilled}
 use Rattle.odht_raw.proofs.lemmas.GroupLooks.{index-bytes_at}
-use Rattle.odht_raw.proofs.lemmas.Walks.{list-none, filled-All, items_from-group}
-use Rattle.odht_raw.proofs.raw_table.walk.RawIterIterator.next.Goals as goal
+use Rattle.odht_raw.proofs.lemmas.Walks.{list-none, filled-All, numbered_from-group}
+use Rattle.odht_raw.proofs.raw_table.walk.RawSlotsIterator.next.Goals as goal
 
 pub groups-preserved : goal.groups-preserved
 groups-preserved g c =
@@ -29,8 +29,8 @@ groups-preserved g c =
       within = fits;
       filled = subst (AreFilled T at) (sym c.of-self-inside.ensures) (filled-All T at (take n B) (omega (arith, len, fits)) are);
       left =
-          ap (λ xs. items_of g.K.ByteArray.of_bytes g.V.ByteArray.of_bytes F T (map (λ i. at + i) xs) ++ items_from g.K.ByteArray.of_bytes g.V.ByteArray.of_bytes F T (at + n)) c.of-self-inside.ensures
-          ∙ sym (items_from-group g.K.ByteArray.of_bytes g.V.ByteArray.of_bytes F T at n (take n B) len fits are)
-          ∙ sym (ap (λ xs. items_of g.K.ByteArray.of_bytes g.V.ByteArray.of_bytes F T (map (λ i. c.groups.self-inside.base + i) xs) ++ items_from g.K.ByteArray.of_bytes g.V.ByteArray.of_bytes F T at) none)
+          ap (λ xs. numbered_of g.K.ByteArray.of_bytes g.V.ByteArray.of_bytes F T (map (λ i. at + i) xs) ++ numbered_from g.K.ByteArray.of_bytes g.V.ByteArray.of_bytes F T (at + n)) c.of-self-inside.ensures
+          ∙ sym (numbered_from-group g.K.ByteArray.of_bytes g.V.ByteArray.of_bytes F T at n (take n B) len fits are)
+          ∙ sym (ap (λ xs. numbered_of g.K.ByteArray.of_bytes g.V.ByteArray.of_bytes F T (map (λ i. c.groups.self-inside.base + i) xs) ++ numbered_from g.K.ByteArray.of_bytes g.V.ByteArray.of_bytes F T at) none)
           ∙ v.left;
     }

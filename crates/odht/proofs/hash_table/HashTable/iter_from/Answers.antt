@@ -1,0 +1,28 @@
+use Rattle.std.proofs.Common.{◌∙◌, ap}
+use Rattle.odht_base.specs.Shown.{entries_of, controls_of}
+use Rattle.odht_raw.specs.Walks.{decoded_numbered, decoded_slots}
+use Rattle.odht_raw.specs.Coding.{Coding, coding_of}
+use Rattle.odht_raw.proofs.lemmas.Formats.{IsFormat-format_of}
+use Rattle.odht_raw.proofs.lemmas.Walks.{decoded_numbered-shown, slots-image}
+use Rattle.odht.proofs.hash_table.HashTable.iter_from.Given.{Over}
+use Rattle.odht.proofs.hash_table.HashTable.iter_from.Goals as goal
+
+-- the coding of the configuration
+abbrev coding : (g : Over) → Coding g.row.C-Key.Denot g.row.C-Value.Denot
+coding g = coding_of g.C.EncodedKey.ByteArray.LEN g.C.EncodedKey.ByteArray.bytes g.C.EncodedKey.ByteArray.of_bytes g.C.EncodedValue.ByteArray.LEN g.C.EncodedValue.ByteArray.bytes g.C.EncodedValue.ByteArray.of_bytes g.C.H.HashFn.hash g.C.Config.encode_key g.C.Config.encode_value g.C.Config.decode_key g.C.Config.decode_value
+
+pub returns-clause-on_any : goal.returns-clause-on_any
+returns-clause-on_any g c =
+    let F = (coding g).format in
+    let parts = c.data_slices-entries.ensures in
+    let same = ap g.D.ByteStore.bytes c.self.view_is in
+    let decodes = decoded_numbered-shown g.C.EncodedKey.ByteArray.of_bytes g.C.EncodedValue.ByteArray.of_bytes g.C.Config.decode_key g.C.Config.decode_value F.key_len F.value_len F.hash in
+    c.new-2.ensures.items
+    ∙ ap (decoded_numbered g.C.Config.decode_key g.C.Config.decode_value) c.new.ensures.items
+    ∙ decodes (record { control = c.data_slices-entries.result.0.now; entries = c.data_slices-entries.result.1 }) (g.D.ByteStore.bytes c.args.self.now) c.args.from parts.len
+    (parts.entries ∙ ap (entries_of F) same) (parts.control ∙ ap (controls_of F) same)
+
+pub returns-clause-on_valid : goal.returns-clause-on_valid
+returns-clause-on_valid g c P is =
+    let fits = IsFormat-format_of _ _ _ _ g.met.C.Config.key_fits g.met.C.Config.value_fits g.met.C.Config.key_hashes g.met.C.H.HashFn.fits in
+    returns-clause-on_any g c ∙ ap (decoded_slots (coding g)) (slots-image (coding g).format P _ c.args.from fits is)

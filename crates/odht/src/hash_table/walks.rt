@@ -1,0 +1,30 @@
+//! Walks over the table that begin at a slot.
+ghost use Rattle.std.specs.Prelude.{◌≡◌, ◌≤◌, length};
+ghost use Rattle.odht_base.specs.Shown.{shown};
+ghost use Rattle.odht_base.specs.SlotWalks.{slots_from};
+ghost use Rattle.odht_base.specs.Table.{Table};
+ghost use Rattle.odht_base.specs.Valid.{IsImage};
+ghost use Rattle.odht_raw.specs.Walks.{decoded_slots};
+
+use super::HashTable;
+use crate::bytes::ByteStore;
+use crate::config::{Coded, Config};
+use crate::iter::Slots;
+use crate::raw_table::RawSlots;
+
+impl<C: Config, D: ByteStore> HashTable<C, D> {
+    /// The slots from slot `from` on whose own control byte does not count as free, in slot order, each with its key and
+    /// value: on valid bytes each pair that stands there, once. None where `from` is past the last slot.
+    #[inline]
+    pub fn iter_from(&self, from: usize) -> Slots<'_, C>
+        ensures on_valid { (P : Table)
+            → IsImage ⟦<C as Coded>⟧.coding.format P (D.bytes self.now)
+            → result ≡ decoded_slots ⟦<C as Coded>⟧.coding (slots_from P from) }
+        ensures on_any { let c = ⟦<C as Coded>⟧.coding
+            in result ≡ decoded_slots c (slots_from (shown c.format (D.bytes self.now)) from) }
+        ensures few { length result ≤ usize.MAX }
+    {
+        let (control, entries) = self.allocation.data_slices();
+        Slots::new(RawSlots::new(control, entries, from))
+    }
+}
