@@ -275,14 +275,24 @@ uint32_t odht_u64_u32_get_all(const uint8_t *bytes, size_t bytes_len, const uint
 uint32_t odht_u64_u32_len(const uint8_t *bytes, size_t bytes_len, size_t *count);
 
 /*
- * Writes each pair of the table into two arrays, in the order of the slots.
- * OK: these are *count pairs, and the rest of the arrays is as it was.
- * TOO_SMALL: the arrays are full, and there are more pairs; *count is keys_len.
+ * Writes the pairs of the table into two arrays, in the order of the slots, from
+ * slot *cursor on: 0 at first. Past the last slot there are none.
+ * OK: *count pairs are at the front of the arrays, the rest of which is as it was,
+ * and none are left. TOO_SMALL: the arrays are full, so *count is keys_len, and
+ * there are more pairs. With either *cursor is then the slot to go on at: the
+ * pairs from there on are those that were not written yet.
  * BAD_LENGTHS: keys_len is not values_len. A refusal, 1 to 7. With the last two
- * the arrays and *count stay as they were.
+ * the arrays, *cursor and *count stay as they were.
+ *
+ * A forged header can state any count, so do not ask for memory for as many pairs
+ * as odht_u64_u32_len tells of bytes that are not trusted. Take arrays of any size,
+ * and call again while the answer is TOO_SMALL. On any accepted bytes there are
+ * never more pairs than slots, and no more slots than bytes_len / 13: an entry of
+ * 12 bytes and a control byte for each.
  */
-uint32_t odht_u64_u32_walk(const uint8_t *bytes, size_t bytes_len, uint64_t *keys, size_t keys_len,
-                           uint32_t *values, size_t values_len, size_t *count);
+uint32_t odht_u64_u32_walk(const uint8_t *bytes, size_t bytes_len, size_t *cursor,
+                           uint64_t *keys, size_t keys_len, uint32_t *values,
+                           size_t values_len, size_t *count);
 
 /*
  * Opens bytes as odht_u64_u32_open does, to look up in them often: "Opened tables"
@@ -395,10 +405,13 @@ uint32_t odht_b16_u32_get_all(const uint8_t *bytes, size_t bytes_len, const uint
 /* OK: *count is the number of items. A refusal, 1 to 7: it stays. */
 uint32_t odht_b16_u32_len(const uint8_t *bytes, size_t bytes_len, size_t *count);
 
-/* OK: *count pairs, in the order of the slots. TOO_SMALL: the arrays are full, and there are
-   more. BAD_LENGTHS, or a refusal, 1 to 7: the arrays and *count stay. */
-uint32_t odht_b16_u32_walk(const uint8_t *bytes, size_t bytes_len, uint8_t (*keys)[16],
-                           size_t keys_len, uint32_t *values, size_t values_len, size_t *count);
+/* OK: *count pairs, in the order of the slots from *cursor on, and none are left. TOO_SMALL: the
+   arrays are full, and there are more. With either *cursor is then the slot to go on at.
+   BAD_LENGTHS, or a refusal, 1 to 7: the arrays, *cursor and *count stay. There are no more slots
+   than bytes_len / 21. */
+uint32_t odht_b16_u32_walk(const uint8_t *bytes, size_t bytes_len, size_t *cursor,
+                           uint8_t (*keys)[16], size_t keys_len, uint32_t *values,
+                           size_t values_len, size_t *count);
 
 /* OK: *view is the view of the bytes. A refusal, 1 to 9: it stays. */
 uint32_t odht_b16_u32_open_view(const uint8_t *bytes, size_t bytes_len, odht_view *view);

@@ -111,10 +111,11 @@ static void walk(const uint8_t *bytes, size_t length)
     uint64_t key_sum = 0;
     uint64_t value_sum = 0;
     size_t count = 0;
+    size_t cursor = 0;
 
     say("len", odht_u64_u32_len(bytes, length, &count));
     printf(", %zu items\n", count);
-    say("walk", odht_u64_u32_walk(bytes, length, keys, PAIRS, values, PAIRS, &count));
+    say("walk", odht_u64_u32_walk(bytes, length, &cursor, keys, PAIRS, values, PAIRS, &count));
     for (size_t index = 0; index < count; index++) {
         key_sum += keys[index];
         value_sum += values[index];
@@ -123,8 +124,11 @@ static void walk(const uint8_t *bytes, size_t length)
            key_sum, value_sum);
     printf("walk: the first pair is %" PRIu64 " to %" PRIu32 ", the last is %" PRIu64
            " to %" PRIu32 "\n", keys[0], values[0], keys[count - 1], values[count - 1]);
-    say_line("walk into 39 places",
-             odht_u64_u32_walk(bytes, length, keys, PAIRS - 1, values, PAIRS - 1, &count));
+    cursor = 0;
+    say_line("walk into 39 places", odht_u64_u32_walk(bytes, length, &cursor, keys, PAIRS - 1,
+                                                      values, PAIRS - 1, &count));
+    say("walk on", odht_u64_u32_walk(bytes, length, &cursor, keys, PAIRS, values, PAIRS, &count));
+    printf(", %zu pair, %" PRIu64 " to %" PRIu32 "\n", count, keys[0], values[0]);
 }
 
 /* Builds the stored table at once, of the pairs that it holds. */
@@ -231,10 +235,11 @@ static void walk_bytes(const uint8_t *bytes, size_t length)
     uint32_t key_sum = 0;
     uint32_t value_sum = 0;
     size_t count = 0;
+    size_t cursor = 0;
 
     say("len", odht_b16_u32_len(bytes, length, &count));
     printf(", %zu items\n", count);
-    say("walk", odht_b16_u32_walk(bytes, length, keys, 5, values, 5, &count));
+    say("walk", odht_b16_u32_walk(bytes, length, &cursor, keys, 5, values, 5, &count));
     for (size_t index = 0; index < count; index++) {
         key_sum += keys[index][0];
         value_sum += values[index];

@@ -37,13 +37,14 @@ void order_of_inserts(void)
     uint8_t bytes[256];
     size_t slots[3];
     size_t count = 0;
+    size_t cursor = 0;
 
     printf("\nan order of inserts\n");
     say_line("init", odht_u64_u32_init(bytes, sizeof bytes, 13, 87));
     say("insert_all 3 19 35",
         odht_u64_u32_insert_all(bytes, sizeof bytes, collide, 3, values, 3, &count));
     printf(", %zu accepted\n", count);
-    odht_u64_u32_walk(bytes, sizeof bytes, keys, 3, values, 3, &count);
+    odht_u64_u32_walk(bytes, sizeof bytes, &cursor, keys, 3, values, 3, &count);
     insert_again("inserts in slot order", keys, values, bytes);
     say("insert_order", odht_u64_u32_insert_order(bytes, sizeof bytes, slots, 3));
     say_slots(3, slots);

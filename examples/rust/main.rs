@@ -77,6 +77,11 @@ fn say_walk(answer: Result<usize, Status>, key_sum: u64, value_sum: u64) {
     println!("walk: {ok}, {count} pairs, the keys add up to {key_sum}, the values to {value_sum}");
 }
 
+fn say_one(what: &str, answer: Result<usize, Status>, key: u64, value: u32) {
+    let count = answer.expect("the arrays have room for the rest");
+    println!("{what}: {}, {count} pair, {key} to {value}", Status::OK);
+}
+
 // ---- Keys of 64 bits ----
 
 /// The pairs 1 to 10, 2 to 20, and so on.
@@ -135,16 +140,19 @@ fn look_up_in_view(bytes: &[u8]) {
 fn walk(bytes: &[u8]) {
     let (mut keys, mut values) = ([0; PAIRS], [0; PAIRS]);
     say_number("len", u64_u32::len(bytes), "items");
-    let answer = u64_u32::walk(bytes, &mut keys, &mut values);
+    let answer = u64_u32::walk(bytes, &mut 0, &mut keys, &mut values);
     let value_sum = values.iter().map(|value| u64::from(*value)).sum();
     say_walk(answer, keys.iter().sum(), value_sum);
     let last = PAIRS - 1;
     print!("walk: the first pair is {} to {}, ", keys[0], values[0]);
     println!("the last is {} to {}", keys[last], values[last]);
+    let mut cursor = 0;
     say(
         "walk into 39 places",
-        u64_u32::walk(bytes, &mut keys[..last], &mut values[..last]),
+        u64_u32::walk(bytes, &mut cursor, &mut keys[..last], &mut values[..last]),
     );
+    let answer = u64_u32::walk(bytes, &mut cursor, &mut keys, &mut values);
+    say_one("walk on", answer, keys[0], values[0]);
 }
 
 /// Builds the stored table at once, of the pairs that it holds.
@@ -198,7 +206,7 @@ fn order_of_inserts() {
     let answer = u64_u32::insert_all(&mut bytes, &[3, 19, 35], &[30, 190, 350]);
     say_accepted("insert_all 3 19 35", answer);
     let (mut keys, mut values, mut slots) = ([0; 3], [0; 3], [0; 3]);
-    u64_u32::walk(&bytes, &mut keys, &mut values).expect("three pairs");
+    u64_u32::walk(&bytes, &mut 0, &mut keys, &mut values).expect("three pairs");
     insert_again("inserts in slot order", &keys, &values, &bytes);
     let answer = u64_u32::insert_order(&bytes, &mut slots);
     say_order("insert_order", answer, &slots);
@@ -230,7 +238,7 @@ fn byte_pairs(count: u8) -> (Vec<[u8; 16]>, Vec<u32>) {
 fn walk_bytes(bytes: &[u8]) {
     let (mut keys, mut values) = ([[0; 16]; 5], [0; 5]);
     say_number("len", b16_u32::len(bytes), "items");
-    let answer = b16_u32::walk(bytes, &mut keys, &mut values);
+    let answer = b16_u32::walk(bytes, &mut 0, &mut keys, &mut values);
     let value_sum = values.iter().map(|value| u64::from(*value)).sum();
     say_walk(
         answer,

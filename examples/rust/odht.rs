@@ -135,6 +135,7 @@ pub mod declared {
                 pub fn $walk(
                     bytes: *const u8,
                     bytes_len: usize,
+                    cursor: *mut usize,
                     keys: *mut $key,
                     keys_len: usize,
                     values: *mut u32,
@@ -285,13 +286,15 @@ macro_rules! safe_calls {
                 unsafe { declared::$len(bytes.as_ptr(), bytes.len(), &mut count) }.with(count)
             }
 
-            /// Writes the pairs into two arrays in slot order; the answer is their number.
-            pub fn walk(bytes: &[u8], keys: &mut [$key], values: &mut [u32])
+            /// Writes the pairs from slot `cursor` on into two arrays in slot order; the answer is their
+            /// number. Where they are full and there are more it is `TOO_SMALL`: another walk goes on
+            /// at `cursor`.
+            pub fn walk(bytes: &[u8], cursor: &mut usize, keys: &mut [$key], values: &mut [u32])
                 -> Result<usize, Status> {
                 let mut count = 0;
                 let status = unsafe {
-                    declared::$walk(bytes.as_ptr(), bytes.len(), keys.as_mut_ptr(), keys.len(),
-                        values.as_mut_ptr(), values.len(), &mut count)
+                    declared::$walk(bytes.as_ptr(), bytes.len(), cursor, keys.as_mut_ptr(),
+                        keys.len(), values.as_mut_ptr(), values.len(), &mut count)
                 };
                 status.with(count)
             }

@@ -8,14 +8,15 @@ ghost use Rattle.std.proofs.Common.{lit≤};
 ghost use Rattle.odht_raw.specs.Frame.{IsAccepted};
 ghost use Rattle.odht_raw.specs.Refusals.{view_refusal, check_refusal};
 ghost use Rattle.odht_c.specs.Statuses.{status_or_ok};
-ghost use Rattle.odht_c.specs.Reads.{GetAnswers, GetAllAnswers, LenAnswers, WalkAnswers};
+ghost use Rattle.odht_c.specs.Reads.{GetAnswers, GetAllAnswers, LenAnswers};
+ghost use Rattle.odht_c.specs.Walks.{WalkAnswers};
 ghost use Rattle.odht_c.specs.Views.{OpenViewAnswers, ViewGetAnswers, ViewGetAllAnswers, ViewLenAnswers};
 ghost use Rattle.odht_c.specs.Orders.{OrderAnswers};
 ghost use Rattle.odht_c.specs.Writes.{BytesNeededAnswers, InitAnswers, InsertAnswers, InsertAllAnswers};
 
 use crate::status::BAD_LENGTHS;
 use crate::view::{self, View};
-use crate::{order, read, write};
+use crate::{order, read, walk, write};
 use odht::bytes::BorrowedMut;
 use odht::config::{Coded, Config};
 use odht::hash::UnHashFn;
@@ -199,23 +200,25 @@ pub extern "C" fn odht_b16_u32_len(bytes: &[u8], item_count: &mut usize) -> u32
     read::len::<Bytes16ToU32>(bytes, item_count)
 }
 
-/// The keys and values in slot order, from the first on as many as the arrays take, and in `item_count` how many:
-/// status 0, or `TOO_SMALL` where there are more. `BAD_LENGTHS` where the arrays are not equally long, or a refusal of
-/// the header or length; then nothing is written.
+/// The keys and values at the slots from `cursor` on (0 at first), in slot order, as many as the arrays take, and in
+/// `item_count` how many. Status 0 where these are all; `TOO_SMALL` where the arrays are full and there are more. Either
+/// way `cursor` is then the slot to go on at: the pairs from there on are those that are left. `BAD_LENGTHS` where the
+/// arrays are not equally long, or a refusal of the header or length; then nothing is written.
 #[unsafe(no_mangle)]
 pub extern "C" fn odht_b16_u32_walk(
     bytes: &[u8],
+    cursor: &mut usize,
     keys: &mut [[u8; 16]],
     values: &mut [u32],
     item_count: &mut usize,
 ) -> u32
     ensures { WalkAnswers ⟦<Bytes16ToU32 as Coded>⟧.coding bytes.now
-        keys.old values.old item_count.old result keys.new values.new item_count.new }
+        cursor.old keys.old values.old item_count.old result cursor.new keys.new values.new item_count.new }
 {
     if values.len() != keys.len() {
         return BAD_LENGTHS;
     }
-    read::walk::<Bytes16ToU32>(bytes, keys, values, item_count)
+    walk::walk::<Bytes16ToU32>(bytes, cursor, keys, values, item_count)
 }
 
 /// Opens the bytes as `open` does: status 0, and `view` is a view of them. A refusal of the header, the length or the

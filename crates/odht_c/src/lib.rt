@@ -17,4 +17,7 @@ mod u64_u32;
 mod view;
 #[cfg(test)]
 mod view_tests;
+mod walk;
+#[cfg(test)]
+mod walk_tests;
 mod write;
