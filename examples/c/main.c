@@ -127,6 +127,8 @@ static void walk(const uint8_t *bytes, size_t length)
     cursor = 0;
     say_line("walk into 39 places",
              odht_u64_u32_walk(bytes, length, &cursor, keys, PAIRS - 1, values, PAIRS - 1, &count));
+    say("walk on", odht_u64_u32_walk(bytes, length, &cursor, keys, PAIRS, values, PAIRS, &count));
+    printf(", %zu pair, %" PRIu64 " to %" PRIu32 "\n", count, keys[0], values[0]);
 }
 
 /* Builds the stored table at once, of the pairs that it holds. */

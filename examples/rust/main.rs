@@ -63,9 +63,12 @@ fn walk(bytes: &[u8]) -> Result<(), Error> {
     say::sums(&pairs);
     let (first, last) = (pairs[0], pairs[PAIRS - 1]);
     println!("walk: the first pair is {} to {}, the last is {} to {}", first.0, first.1, last.0, last.1);
-    let walked = table.walk(&mut 0, &mut [0; PAIRS - 1], &mut [0; PAIRS - 1])?;
+    let (mut cursor, mut keys, mut values) = (0, [0; PAIRS], [0; PAIRS]);
+    let walked = table.walk(&mut cursor, &mut keys[1..], &mut values[1..])?;
     let answer = if walked.more { Err(Error::TooSmall) } else { Ok(()) };
     say("walk into 39 places", answer);
+    let rest = table.walk(&mut cursor, &mut keys, &mut values)?;
+    say::number("walk on", Ok(rest.count), &format!("pair, {} to {}", keys[0], values[0]));
     Ok(())
 }
 

@@ -31,7 +31,7 @@ exports() {
     sed -e "$insert" -e "s/@WORDS@/$words/" -e "s/@NAME@/$name/" -e "s/@CONFIG@/$config/" \
         -e "s/@KEY_ARGUMENT@/$argument/" -e "s/@KEY_NOW@/$key_now/" -e "s/@KEY_REFERENCE@/$key_taken/" \
         -e "s/@VALUE_NOW@/$value_now/" -e "s/@VALUE_REFERENCE@/$value_taken/" \
-        -e "s/@KEY@/$key/g" -e "s/@VALUE@/$value/g" "$here/shape.rt" > "$to/shapes/$name.rt"
+        -e "s/@KEY@/$key/g" -e "s/@VALUE@/$value/g" "$here/shape.rt.in" > "$to/shapes/$name.rt"
 }
 
 # The line of the header's first comment that names a shape.

@@ -3,6 +3,8 @@
 pub mod Statuses
 -- the calls that read a table
 pub mod Reads
+-- the call that walks into arrays
+pub mod Walks
 -- lookups of many keys
 pub mod Lookups
 -- the calls that open a table and read an opened one

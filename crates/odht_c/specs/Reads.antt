@@ -1,31 +1,26 @@
 -- What the calls answer that read a table, and what they leave in the places that their caller lends.
--- The status is s; `old`, ks, vs, fs and n stand in the places before the call, and `new`, ks', vs', fs' and n' after.
+-- The status is s; `old`, vs and fs stand in the places before the call, and `new`, vs' and fs' after.
 --     IsGot o old s new    a lookup that finds o answers the status s, and leaves `new` where `old` stood
 --     IsGotAt o old f new  the same of one key among many: f is 1 where it is found, else 0
---     IsWalked xs ks vs s ks' vs' n   a walk over the pairs xs into arrays that held ks and vs answers the status s,
---                          leaves ks' and vs', and tells n: as many pairs as the arrays take, from the first on
 --     Each of the calls in bytes B, which the coding c reads:
 --     GetAnswers c B k old s new              the value of the key k
 --     GetAllAnswers c B keys vs fs s vs' fs'  the values of keys, and which of them were found
 --     LenAnswers c B old s new                how many items the header states
 --     SizesAnswers F B n m p s n' m' p'       how many slots the header states, how many items these take, and the load
 --                                             factor in percent
---     WalkAnswers c B ks vs n s ks' vs' n'    the keys and the values in slot order, and how many
 -- Bytes whose header or length is refused change no place, and neither do arrays that are not equally long. A clause
 -- `on_valid` speaks of the bytes of a valid table, and `on_any` of all that a view of the header and length accepts.
-use Rattle.std.specs.Prelude.{◌≡◌, ◌≤◌, ◌<◌, ℕ, min, Option, Some, None, IfSome}
-use Rattle.std.specs.Prelude.{List, ◌++◌, length, map, take, drop, slice_get}
+use Rattle.std.specs.Prelude.{◌≡◌, ℕ, Option, Some, None, IfSome, List, length, slice_get}
 use Rattle.odht_base.specs.Format.{Format}
 use Rattle.odht_base.specs.Load.{max_items, percent_of}
-use Rattle.odht_base.specs.Table.{Table, slot_count, count, walk}
-use Rattle.odht_base.specs.Shown.{stated_count, stated_slots, stated_factor, seen}
+use Rattle.odht_base.specs.Table.{Table, slot_count, count}
+use Rattle.odht_base.specs.Shown.{stated_count, stated_slots, stated_factor}
 use Rattle.odht_base.specs.Valid.{IsImage}
 use Rattle.odht_raw.specs.Coding.{Coding, value_for, HasStored}
 use Rattle.odht_raw.specs.Frame.{IsAccepted, stated_maximum}
 use Rattle.odht_raw.specs.Refusals.{opening_refusal}
-use Rattle.odht_raw.specs.Walks.{decoded_all}
 use Rattle.odht_raw.specs.declared.error.Error.{Error}
-use Rattle.odht_c.specs.Statuses.{status_of, status_or_ok, AreAsLong, done, absent, bad_lengths, too_small}
+use Rattle.odht_c.specs.Statuses.{status_of, status_or_ok, AreAsLong, done, absent, bad_lengths}
 
 abbrev pub IsGot : {V : Type 0} → Option V → V → ℕ → V → Type 0
 IsGot None old s new = (s ≡ absent) × (new ≡ old)
@@ -34,14 +29,6 @@ IsGot (Some v) old s new = (s ≡ done) × (new ≡ v)
 abbrev pub IsGotAt : {V : Type 0} → Option V → Option V → Option ℕ → Option V → Type 0
 IsGotAt None old f new = (f ≡ Some 0) × (new ≡ old)
 IsGotAt (Some v) old f new = (f ≡ Some 1) × (new ≡ Some v)
-
-pub record IsWalked {K V : Type 0} (xs : List (K × V)) (ks : List K) (vs : List V) (s : ℕ)
-    (ks' : List K) (vs' : List V) (n : ℕ) : Type 0 where
-  pub told : n ≡ min (length xs) (length ks)
-  pub keys : ks' ≡ map (λ x. x.0) (take n xs) ++ drop n ks
-  pub values : vs' ≡ map (λ x. x.1) (take n xs) ++ drop n vs
-  pub all : length xs ≤ length ks → s ≡ done
-  pub more : length ks < length xs → s ≡ too_small
 
 pub record GetAnswers {K V : Type 0} (c : Coding K V) (B : List ℕ) (k : K) (old : V) (s : ℕ) (new : V) : Type 0 where
   pub refused : (e : Error) → opening_refusal c.format B ≡ Some e → (s ≡ status_of e) × (new ≡ old)
@@ -75,13 +62,3 @@ pub record SizesAnswers (F : Format) (B : List ℕ) (slots maximum percent s slo
       → (slots' ≡ stated_slots B) × (maximum' ≡ stated_maximum B) × (percent' ≡ percent_of (stated_factor B))
   pub on_valid : (P : Table) → IsImage F P B
       → (slots' ≡ slot_count P) × (maximum' ≡ max_items (slot_count P) P.factor) × (percent' ≡ percent_of P.factor)
-
-pub record WalkAnswers {K V : Type 0} (c : Coding K V) (B : List ℕ) (ks : List K) (vs : List V) (n s : ℕ)
-    (ks' : List K) (vs' : List V) (n' : ℕ) : Type 0 where
-  pub lengths : (length vs ≡ length ks → ⊥) → (s ≡ bad_lengths) × (ks' ≡ ks) × (vs' ≡ vs) × (n' ≡ n)
-  pub refused : (e : Error) → length vs ≡ length ks → opening_refusal c.format B ≡ Some e
-      → (s ≡ status_of e) × (ks' ≡ ks) × (vs' ≡ vs) × (n' ≡ n)
-  pub on_valid : (P : Table) → length vs ≡ length ks → IsImage c.format P B
-      → IsWalked (decoded_all c (walk P)) ks vs s ks' vs' n'
-  pub on_any : length vs ≡ length ks → IsAccepted c.format B
-      → IsWalked (decoded_all c (seen c.format B)) ks vs s ks' vs' n'

@@ -22,4 +22,7 @@ mod version;
 mod view;
 #[cfg(test)]
 mod view_tests;
+mod walk;
+#[cfg(test)]
+mod walk_tests;
 mod write;

@@ -3,10 +3,10 @@ ghost use Rattle.std.specs.Prelude.{◌≡◌, length, IfOk};
 ghost use Rattle.std.specs.Result.{result_err};
 ghost use Rattle.odht_raw.specs.Refusals.{opening_refusal, view_refusal, check_refusal};
 ghost use Rattle.odht_c.specs.Statuses.{status_or_ok};
-ghost use Rattle.odht_c.specs.Reads.{GetAnswers, GetAllAnswers, LenAnswers, SizesAnswers, WalkAnswers};
+ghost use Rattle.odht_c.specs.Reads.{GetAnswers, GetAllAnswers, LenAnswers, SizesAnswers};
 
 use crate::lookups::look_up_all;
-use crate::status::{OK, TOO_SMALL, status_of};
+use crate::status::{OK, status_of};
 use crate::view;
 use odht::bytes::Borrowed;
 use odht::config::{Coded, Config};
@@ -115,35 +115,5 @@ pub(crate) fn sizes<C: Config>(
     *slot_count = slots;
     *max_item_count = max_item_count_for(slots, factor);
     *max_load_factor_percent = factor.to_percent() as u8;
-    OK
-}
-
-/// The keys and values in slot order, as many as the arrays take.
-#[inline]
-pub(crate) fn walk<C: Config>(
-    bytes: &[u8],
-    keys: &mut [C::Key],
-    values: &mut [C::Value],
-    item_count: &mut usize,
-) -> u32
-    requires { length values.old ≡ length keys.old }
-    ensures { WalkAnswers ⟦<C as Coded>⟧.coding bytes.now
-        keys.old values.old item_count.old result keys.new values.new item_count.new }
-{
-    let table = match view::<C>(bytes) {
-        Ok(table) => table,
-        Err(refused) => return status_of(&refused),
-    };
-    let mut written = 0;
-    for (key, value) in table.iter() {
-        if written >= keys.len() {
-            *item_count = written;
-            return TOO_SMALL;
-        }
-        keys[written] = key;
-        values[written] = value;
-        written += 1;
-    }
-    *item_count = written;
     OK
 }

@@ -4,7 +4,8 @@ use Rattle.odht_base.specs.Format.{Format}
 use Rattle.odht_raw.specs.Coding.{Coding}
 use Rattle.odht_raw.specs.Refusals.{opening_refusal}
 use Rattle.odht_raw.specs.declared.error.Error.{Error}
-use Rattle.odht_c.specs.Reads.{GetAnswers, GetAllAnswers, LenAnswers, SizesAnswers, WalkAnswers}
+use Rattle.odht_c.specs.Reads.{GetAnswers, GetAllAnswers, LenAnswers, SizesAnswers}
+use Rattle.odht_c.specs.Walks.{WalkAnswers}
 use Rattle.odht_c.specs.Statuses.{AreAsLong, status_of, status_or_ok}
 use Rattle.odht_c.specs.Writes.{InsertAnswers, InsertAllAnswers}
 use Rattle.odht_c.proofs.lemmas.Opened.{never_refused}
@@ -52,10 +53,10 @@ module _ {K V : Type 0} (c : Coding K V) (B : List ℕ) (a : Error) (s : ℕ) (i
     on_valid = λ P image. never_refused c.format P B a image (sym is);
   }
 
-  pub refused_walk : (ks : List K) (vs : List V) (n : ℕ) → length vs ≡ length ks → WalkAnswers c B ks vs n s ks vs n
-  refused_walk ks vs n equal = record {
+  pub refused_walk : (at : ℕ) (ks : List K) (vs : List V) (n : ℕ) → length vs ≡ length ks → WalkAnswers c B at ks vs n s at ks vs n
+  refused_walk at ks vs n equal = record {
     lengths = λ other. absurd (other equal);
-    refused = λ e long other. (status ∙ told _ a e (sym is) other, refl, refl, refl);
+    refused = λ e long other. (status ∙ told _ a e (sym is) other, refl, refl, refl, refl);
     on_valid = λ P long image. never_refused c.format P B a image (sym is);
     on_any = λ long none. not_none _ a (sym is) none;
   }

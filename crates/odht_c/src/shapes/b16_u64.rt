@@ -2,12 +2,13 @@
 //!
 //! The statuses in the texts have the names of include/odht.h, and the bytes and rules are those of docs/FORMAT.md.
 //!
-//! Written by exports/generate.sh from exports/shape.rt: edit that one.
+//! Written by exports/generate.sh from exports/shape.rt.in: edit that one.
 ghost use Rattle.std.specs.Prelude.{◌≡◌};
 ghost use Rattle.odht_raw.specs.Frame.{IsAccepted};
 ghost use Rattle.odht_raw.specs.Refusals.{view_refusal, check_refusal};
 ghost use Rattle.odht_c.specs.Statuses.{status_or_ok};
-ghost use Rattle.odht_c.specs.Reads.{GetAnswers, GetAllAnswers, LenAnswers, SizesAnswers, WalkAnswers};
+ghost use Rattle.odht_c.specs.Reads.{GetAnswers, GetAllAnswers, LenAnswers, SizesAnswers};
+ghost use Rattle.odht_c.specs.Walks.{WalkAnswers};
 ghost use Rattle.odht_c.specs.Views.{OpenViewAnswers, ViewGetAnswers, ViewGetAllAnswers, ViewLenAnswers};
 ghost use Rattle.odht_c.specs.Orders.{OrderAnswers};
 ghost use Rattle.odht_c.specs.Writes.{BytesNeededAnswers, InitAnswers, InsertAnswers, InsertAllAnswers};
@@ -16,7 +17,7 @@ ghost use Rattle.odht_c.specs.Builds.{BuildAnswers, BuildGrowingAnswers};
 
 use crate::status::{BAD_LENGTHS, BAD_PERCENT};
 use crate::view::{self, View};
-use crate::{build, grow, order, read, write};
+use crate::{build, grow, order, read, walk, write};
 use odht::bytes::BorrowedMut;
 use odht::config::Coded;
 use odht::configs::Bytes16ToU64 as Shape;
@@ -164,23 +165,25 @@ pub extern "C" fn odht_b16_u64_sizes(
     read::sizes::<Shape>(bytes, slot_count, max_item_count, max_load_factor_percent)
 }
 
-/// The keys and values in slot order, from the first on as many as the arrays take, and in `item_count` how many:
-/// status 0, or `TOO_SMALL` where there are more. `BAD_LENGTHS` where the arrays are not equally long, or a refusal of
-/// the header or length; then nothing is written.
+/// The keys and values at the slots from `cursor` on (0 at first), in slot order, as many as the arrays take, and in
+/// `item_count` how many. Status 0 where these are all; `TOO_SMALL` where the arrays are full and there are more. Either
+/// way `cursor` is then the slot to go on at: the pairs from there on are those that are left. `BAD_LENGTHS` where the
+/// arrays are not equally long, or a refusal of the header or length; then nothing is written.
 #[unsafe(no_mangle)]
 pub extern "C" fn odht_b16_u64_walk(
     bytes: &[u8],
+    cursor: &mut usize,
     keys: &mut [[u8; 16]],
     values: &mut [u64],
     item_count: &mut usize,
 ) -> u32
     ensures { WalkAnswers ⟦<Shape as Coded>⟧.coding bytes.now
-        keys.old values.old item_count.old result keys.new values.new item_count.new }
+        cursor.old keys.old values.old item_count.old result cursor.new keys.new values.new item_count.new }
 {
     if values.len() != keys.len() {
         return BAD_LENGTHS;
     }
-    read::walk::<Shape>(bytes, keys, values, item_count)
+    walk::walk::<Shape>(bytes, cursor, keys, values, item_count)
 }
 
 /// Opens the bytes as `open` does: status 0, and `view` is a view of them. A refusal of the header, the length or the

@@ -13,7 +13,8 @@ use std::marker::Model;
 /// The slots from a slot on whose own control byte does not count as free, in slot order: the number of each, with its
 /// control byte and its entry. Who stops at an item may go on later from the number that comes with it.
 ///
-/// A contract speaks of it as of the list of those that are left. A whole walk reads each control byte once, sixteen at a time.
+/// A contract speaks of it as of the list of those that are left. A whole walk reads each control byte once, sixteen at a
+/// time.
 #[derive(Drop)]
 pub struct RawSlots<'a, K: ByteArray, V: ByteArray> {
     control: &'a [EntryMetadata],
@@ -42,8 +43,8 @@ impl<'a, K: ByteArray, V: ByteArray> Model for RawSlots<'a, K, V> {
 }
 
 impl<'a, K: ByteArray, V: ByteArray> RawSlots<'a, K, V> {
-    /// The slots from slot `from` on, none where it is past the last one, of those of which `control` holds the control bytes
-    /// with their mirror.
+    /// The slots from slot `from` on, none where it is past the last one, of the slots whose control bytes with their
+    /// mirror are `control`.
     #[inline]
     pub fn new(control: &'a [EntryMetadata], entries: Entries<'a, K, V>, from: usize) -> Self
         requires { length control.now ≡ entries.slots + 16 }
@@ -95,7 +96,8 @@ impl<'a, K: ByteArray, V: ByteArray> FusedIterator for RawSlots<'a, K, V> {}
 
 /// The control byte and the entry of each slot whose own control byte does not count as free, in slot order.
 ///
-/// A contract speaks of it as of the list of those that are left. A whole walk reads each control byte once, sixteen at a time.
+/// A contract speaks of it as of the list of those that are left. A whole walk reads each control byte once, sixteen at a
+/// time.
 #[derive(Drop)]
 pub struct RawIter<'a, K: ByteArray, V: ByteArray> {
     slots: RawSlots<'a, K, V>,
