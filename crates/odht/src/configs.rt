@@ -8,12 +8,12 @@ ghost use Rattle.std.proofs.Common.{lit≤, zero-le};
 use crate::bytes::ByteArray;
 use crate::config::{Config, Lossless};
 use crate::hash::{FxHashFn, UnHashFn};
-use std::marker::PhantomData;
-
 pub use hashed::{
-    Bytes16Set, Bytes16ToU32, Bytes16ToU64, Bytes20ToU64, Bytes32Set, Bytes32ToU64, HashBytes, Hashes,
+    Bytes16Set, Bytes16ToU32, Bytes16ToU64, Bytes20ToU64, Bytes32Set, Bytes32ToU64, HashBytes,
+    Hashes,
 };
 pub use numbers::{Numbers, Stored, U64ToU32, U64ToU64};
+use std::marker::PhantomData;
 
 mod hashed;
 mod numbers;

@@ -18,8 +18,6 @@ pub mod HandedOut
 pub mod Walked
 -- what an insert answers
 pub mod Inserted
--- bytes that stay accepted
-pub mod Stays
 -- what the call for an order of inserts answers
 pub mod Ordered
 -- a new table for as many pairs as there are

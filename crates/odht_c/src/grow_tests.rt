@@ -4,10 +4,10 @@
 use crate::shapes::b16_u32::{
     odht_b16_u32_check, odht_b16_u32_get, odht_b16_u32_grow, odht_b16_u32_init, odht_b16_u32_insert,
 };
-use crate::status::{CAPACITY, LOAD_FACTOR_TOO_SMALL, OK, TOO_SMALL};
 use crate::shapes::u64_u32::{
     odht_u64_u32_check, odht_u64_u32_get, odht_u64_u32_grow, odht_u64_u32_init, odht_u64_u32_insert,
 };
+use crate::status::{CAPACITY, LOAD_FACTOR_TOO_SMALL, OK, TOO_SMALL};
 use std::process::Abort;
 
 // The header's tag is another.

@@ -1,6 +1,5 @@
 -- Where a round of inserts ends: behind its last item, since below the maximum a valid table has a free slot.
 use Rattle.std.proofs.Common.{◌≡◌, ◌<◌, ◌≤◌, ◌+◌, ◌-◌, ◌∙◌, ℕ, true≢false, inl, inr, sym, ap, arith, List, [], length, All}
-use Rattle.std.specs.Prelude.{◌⊎◌}
 use Rattle.odht_base.specs.Format.{Format, IsFormat}
 use Rattle.odht_base.specs.Load.{max_items}
 use Rattle.odht_base.specs.Table.{Pair, Table, slot_count, count}
@@ -12,7 +11,6 @@ use Rattle.odht_base.proofs.lemmas.SlotCounts.{slots_pos}
 use Rattle.odht_raw.specs.Frame.{HasNoFreeSlot}
 use Rattle.odht_raw.specs.Runs.{ArePartsOfRun, IsStop}
 use Rattle.odht_raw.proofs.lemmas.FreeSearches.{is_filled_slot}
-use Rattle.odht_raw.proofs.lemmas.PartCells.{slots_are}
 
 -- where a table has fewer pairs than slots, some slot counts as free
 pub has_free_slot : (F : Format) (P : Table) (es ctrl : List ℕ) → IsFormat F → IsPartsOf F P es ctrl → length ctrl ≡ slot_count P + 16 → count P < slot_count P

@@ -1,4 +1,4 @@
-use Rattle.std.proofs.Common.{◌≡◌, ◌∙◌, ℕ, ap, map, length, arith}
+use Rattle.std.proofs.Common.{◌∙◌, ℕ, ap, map, arith}
 use Rattle.std.proofs.lemmas.List.{length-map}
 use Rattle.odht_raw.specs.Parts.{TableParts, entry_format}
 use Rattle.odht_raw.specs.Walks.{Item}
