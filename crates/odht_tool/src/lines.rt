@@ -11,9 +11,9 @@ pub fn read_line<R: BufRead>(reader: &mut R, line: &mut Vec<u8>) -> io::Result<b
     }
     if line.as_slice().ends_with(b"\n") {
         let _ = line.pop();
-    }
-    if line.as_slice().ends_with(b"\r") {
-        let _ = line.pop();
+        if line.as_slice().ends_with(b"\r") {
+            let _ = line.pop();
+        }
     }
     Ok(true)
 }

@@ -3,6 +3,7 @@
 //! docs/TOOL.md shows each command.
 #![tactic(auto)]
 
+mod answers;
 mod arguments;
 mod commands;
 mod failure;

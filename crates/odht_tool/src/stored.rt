@@ -55,7 +55,10 @@ impl<'a> StoredTable<'a> {
         if slot_count < 16 {
             return Err(Error::SlotCountTooSmall { found: slot_count });
         }
-        let expected = self.control_at() + slot_count as u128 + 16;
+        let expected = self
+            .control_at()
+            .saturating_add(slot_count as u128)
+            .saturating_add(16);
         if found as u128 != expected {
             return Err(Error::WrongLength {
                 slot_count,

@@ -1,4 +1,9 @@
 //! `odht check`: whether a file is a valid table.
+ghost use Rattle.std.specs.Prelude.{◌≡◌, OnOk};
+ghost use Rattle.std.specs.Io.KnownBytes.{Appends};
+ghost use Rattle.odht_raw.specs.Refusals.{checked, check_refusal};
+ghost use Rattle.odht_tool.specs.Texts.{checked_text};
+
 use super::{DONE, NOT_DONE};
 use crate::failure::Failure;
 use crate::files::read_file;
@@ -6,7 +11,7 @@ use crate::shapes::{
     Bytes16Set, Bytes16ToU32, Bytes16ToU64, Bytes20ToU64, Bytes32Set, Bytes32ToU64, DirectU32ToU32,
     Hash, Shape, U32ToU32, U64ToU32, U64ToU64, for_shape,
 };
-use odht::config::Config;
+use odht::config::{Coded, Config};
 use odht::error::{Error, Part as Stated};
 use odht::memory_layout::check_all;
 use std::io::{self, Write};
@@ -28,12 +33,16 @@ pub fn run<R: Files + AllocGlobal, O: Write>(
     }
 }
 
-fn check_bytes<C: Config>(bytes: &[u8]) -> Result<(), Error> {
+fn check_bytes<C: Config>(bytes: &[u8]) -> Result<(), Error>
+    ensures { result ≡ checked (check_refusal ⟦<C as Coded>⟧.coding.format bytes.now) }
+{
     check_all::<C>(bytes)
 }
 
 /// `valid`, or the refusal, on a line.
-pub fn write_checked<O: Write>(checked: &Result<(), Error>, output: &mut O) -> io::Result<()> {
+pub fn write_checked<O: Write>(checked: &Result<(), Error>, output: &mut O) -> io::Result<()>
+    ensures { OnOk result (Appends (O.contents output.old) (O.contents output.new) (checked_text checked.now)) }
+{
     match checked {
         Ok(()) => writeln!(output, "valid"),
         Err(refused) => writeln!(output, "{refused}"),

@@ -1,6 +1,14 @@
 //! `odht dump`: the pairs of a table file.
+ghost use Rattle.std.specs.Prelude.{OnOk};
+ghost use Rattle.std.specs.Io.KnownBytes.{Appends};
+ghost use Rattle.odht_base.specs.Table.{Table, walk};
+ghost use Rattle.odht_base.specs.Valid.{IsImage};
+ghost use Rattle.odht_raw.specs.Walks.{decoded_all};
+ghost use Rattle.odht_tool.specs.Texts.{pairs_text};
+
 use super::DONE;
 use super::check::shape_of;
+use crate::answers::write_pair;
 use crate::arguments::Options;
 use crate::failure::Failure;
 use crate::files::read_file;
@@ -11,7 +19,7 @@ use crate::shapes::{
 };
 use crate::text::Text;
 use odht::bytes::{Borrowed, ByteArray};
-use odht::config::Config;
+use odht::config::{Coded, Config};
 use odht::error::Error;
 use odht::hash::HashFn;
 use odht::memory_layout::Allocation;
@@ -46,8 +54,23 @@ where
     ));
     match opened {
         Err(refused) => Err(Failure::Refused(refused)),
-        Ok(table) => of_output(write_pairs::<C, O>(table.iter(), output)),
+        Ok(table) => of_output(write_table(&table, output)),
     }
+}
+
+// The pairs of a table.
+fn write_table<C: Config, O: Write>(
+    table: &HashTable<C, Borrowed<'_>>,
+    output: &mut O,
+) -> io::Result<()>
+where
+    C::Key: Text,
+    C::Value: Text,
+    ensures { (P : Table)
+        → IsImage ⟦<C as Coded>⟧.coding.format P table.now.0.now
+        → OnOk result (Appends (O.contents output.old) (O.contents output.new) (pairs_text C.Key.text C.Value.text (decoded_all ⟦<C as Coded>⟧.coding (walk P)))) }
+{
+    write_pairs(table.iter(), output)
 }
 
 fn of_output(written: io::Result<()>) -> Result<u8, Failure> {
@@ -62,23 +85,12 @@ fn write_pairs<C: Config, O: Write>(pairs: Iter<'_, C>, output: &mut O) -> io::R
 where
     C::Key: Text,
     C::Value: Text,
+    ensures { OnOk result (Appends (O.contents output.old) (O.contents output.new) (pairs_text C.Key.text C.Value.text pairs.entry)) }
 {
     for (key, value) in pairs {
         write_pair(&key, &value, output)?;
     }
     Ok(())
-}
-
-/// A key, a tab and a value, on a line.
-pub fn write_pair<K: Text, V: Text, O: Write>(
-    key: &K,
-    value: &V,
-    output: &mut O,
-) -> io::Result<()> {
-    key.write(output)?;
-    output.write_all(b"\t")?;
-    value.write(output)?;
-    output.write_all(b"\n")
 }
 
 fn dump_slots<C: Config, O: Write>(bytes: &[u8], output: &mut O) -> Result<u8, Failure>

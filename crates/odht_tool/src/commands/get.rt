@@ -1,7 +1,15 @@
 //! `odht get`: lookups in a table file.
+ghost use Rattle.std.specs.Prelude.{◌≡◌, ◌↔◌, OnOk, IfOk, IsTrue, is_some, length, map};
+ghost use Rattle.std.specs.Io.KnownBytes.{Appends};
+ghost use Rattle.std.specs.List.{AllPass};
+ghost use Rattle.odht_base.specs.Table.{Table};
+ghost use Rattle.odht_base.specs.Valid.{IsImage};
+ghost use Rattle.odht_raw.specs.Coding.{value_for};
+ghost use Rattle.odht_tool.specs.Texts.{answers_text};
+
 use super::check::shape_of;
-use super::dump::write_pair;
 use super::{DONE, NOT_DONE};
+use crate::answers::{absent_values, are_found, write_answers};
 use crate::failure::{Failure, LineFault};
 use crate::files::read_file;
 use crate::lines::read_line;
@@ -12,10 +20,10 @@ use crate::shapes::{
 use crate::text::Text;
 use odht::HashTable;
 use odht::bytes::Borrowed;
-use odht::config::Config;
+use odht::config::{Coded, Config};
 use odht::error::Error;
-use std::alloc::Global;
-use std::io::{self, BufRead, Write};
+use std::alloc::{AllocError, Global};
+use std::io::{BufRead, Write};
 use std::rt::Files;
 
 /// How many keys are looked up at once.
@@ -54,15 +62,19 @@ where
     C::Value: Text,
 {
     let table = open::<C>(bytes)?;
-    let mut batch = Batch::new(alloc);
+    let mut keys = Vec::new(alloc);
     for word in words {
         match C::Key::parse(word.as_str().as_bytes()) {
-            Some(key) => batch.keys.push(key).or(Err(Failure::Memory))?,
+            Some(key) => keys.push(key).or(Err(Failure::Memory))?,
             None => return Err(wrong_key(alloc, word.as_str())),
         }
     }
-    batch.answer(&table, output)?;
-    Ok(batch.status())
+    let is_all_found = answer_keys(alloc, &table, keys.as_slice(), output)?;
+    Ok(status_of(is_all_found))
+}
+
+fn status_of(is_all_found: bool) -> u8 {
+    if is_all_found { DONE } else { NOT_DONE }
 }
 
 fn wrong_key(alloc: Global, word: &str) -> Failure {
@@ -84,8 +96,9 @@ where
     C::Value: Text,
 {
     let table = open::<C>(bytes)?;
-    let mut batch = Batch::new(alloc);
+    let mut keys = Vec::new(alloc);
     let mut line = Vec::new(alloc);
+    let mut is_all_found = true;
     for number in 1..u64::MAX {
         match read_line(input, &mut line) {
             Ok(true) => {}
@@ -93,19 +106,20 @@ where
             Err(error) => return Err(Failure::Input(error)),
         }
         match C::Key::parse(line.as_slice()) {
-            Some(key) => batch.keys.push(key).or(Err(Failure::Memory))?,
+            Some(key) => keys.push(key).or(Err(Failure::Memory))?,
             None => {
-                batch.answer(&table, output)?;
+                answer_keys(alloc, &table, keys.as_slice(), output)?;
                 let fault = LineFault::Key;
                 return Err(Failure::Line { number, fault });
             }
         }
-        if batch.keys.len() >= BATCH {
-            batch.answer(&table, output)?;
+        if keys.len() >= BATCH {
+            is_all_found = answer_keys(alloc, &table, keys.as_slice(), output)? && is_all_found;
+            keys.clear();
         }
     }
-    batch.answer(&table, output)?;
-    Ok(batch.status())
+    is_all_found = answer_keys(alloc, &table, keys.as_slice(), output)? && is_all_found;
+    Ok(status_of(is_all_found))
 }
 
 fn open<C: Config>(bytes: &[u8]) -> Result<HashTable<C, Borrowed<'_>>, Failure> {
@@ -115,67 +129,51 @@ fn open<C: Config>(bytes: &[u8]) -> Result<HashTable<C, Borrowed<'_>>, Failure> 
     }
 }
 
-// Keys that are looked up together, and whether all up to now were found.
-#[derive(Drop)]
-struct Batch<C: Config> {
-    keys: Vec<C::Key>,
-    values: Vec<Option<C::Value>>,
-    is_all_found: bool,
-}
-
-impl<C: Config> Batch<C>
+// Looks the keys up, and writes a line for each. Whether each was found.
+fn answer_keys<C: Config, O: Write>(
+    alloc: Global,
+    table: &HashTable<C, Borrowed<'_>>,
+    keys: &[C::Key],
+    output: &mut O,
+) -> Result<bool, Failure>
 where
     C::Key: Text,
     C::Value: Text,
+    ensures lines { let c = ⟦<C as Coded>⟧.coding
+        in (P : Table)
+        → IsImage c.format P table.now.0.now
+        → OnOk result (Appends (O.contents output.old) (O.contents output.new) (answers_text C.Key.text C.Value.text keys.now (map (value_for c P) keys.now))) }
+    ensures all { let c = ⟦<C as Coded>⟧.coding
+        in (P : Table)
+        → IsImage c.format P table.now.0.now
+        → IfOk result (λ all. IsTrue all ↔ AllPass is_some (map (value_for c P) keys.now)) }
 {
-    fn new(alloc: Global) -> Self {
-        Batch {
-            keys: Vec::new(alloc),
-            values: Vec::new(alloc),
-            is_all_found: true,
-        }
-    }
-
-    fn status(&self) -> u8 {
-        if self.is_all_found { DONE } else { NOT_DONE }
-    }
-
-    // Looks the keys up, writes their lines, and is empty then.
-    fn answer<O: Write>(
-        &mut self,
-        table: &HashTable<C, Borrowed<'_>>,
-        output: &mut O,
-    ) -> Result<(), Failure> {
-        self.values.clear();
-        for _ in 0..self.keys.len() {
-            self.values.push(None).or(Err(Failure::Memory))?;
-        }
-        table.get_all(self.keys.as_slice(), self.values.as_mut_slice());
-        match write_answers(self.keys.as_slice(), self.values.as_slice(), output) {
-            Ok(is_all_found) => self.is_all_found = self.is_all_found && is_all_found,
-            Err(error) => return Err(Failure::Output(error)),
-        }
-        self.keys.clear();
-        Ok(())
+    let values = match look_up::<C>(alloc, table, keys) {
+        Ok(values) => values,
+        Err(_) => return Err(Failure::Memory),
+    };
+    let values = values.as_slice();
+    match write_answers(keys, values, output) {
+        Ok(()) => Ok(are_found(values)),
+        Err(error) => Err(Failure::Output(error)),
     }
 }
 
-// A line for each key, and whether each has a value.
-fn write_answers<K: Text, V: Text, O: Write>(
-    keys: &[K],
-    values: &[Option<V>],
-    output: &mut O,
-) -> io::Result<bool> {
-    let mut is_all_found = true;
-    for (key, value) in keys.iter().zip(values.iter()) {
-        match value {
-            Some(value) => write_pair(key, value, output)?,
-            None => {
-                is_all_found = false;
-                key.write(output)?;
-                output.write_all(b"\n")?;
-            }
-        }
-    }
-    Ok(is_all_found)
+// The value of each key.
+fn look_up<C: Config>(
+    alloc: Global,
+    table: &HashTable<C, Borrowed<'_>>,
+    keys: &[C::Key],
+) -> Result<Vec<Option<C::Value>>, AllocError>
+where
+    C::Value: Text,
+    ensures len { IfOk result (λ values. length values.items ≡ length keys.now) }
+    ensures values { let c = ⟦<C as Coded>⟧.coding
+        in (P : Table)
+        → IsImage c.format P table.now.0.now
+        → IfOk result (λ values. values.items ≡ map (value_for c P) keys.now) }
+{
+    let mut values = absent_values::<C::Value>(alloc, keys.len())?;
+    table.get_all(keys, values.as_mut_slice());
+    Ok(values)
 }
