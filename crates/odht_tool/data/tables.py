@@ -1,0 +1,241 @@
+"""A reading of docs/FORMAT.md: writes the tables of this folder, and the texts that the commands have to write of them.
+
+It shares no code with the program. Run it in this folder, `python3 tables.py`, and lay out the crate by `rt fmt`."""
+import struct
+
+FREE = 255
+
+
+def fx(key):
+    state, at = 0, 0
+
+    def step(state, number):
+        state = ((state << 5) | (state >> 59)) & (2 ** 64 - 1)
+        return ((state ^ number) * 0x517cc1b727220a95) % 2 ** 64
+
+    while len(key) - at >= 8:
+        state, at = step(state, int.from_bytes(key[at:at + 8], "little")), at + 8
+    for size in (4, 2, 1):
+        if len(key) - at >= size:
+            state, at = step(state, int.from_bytes(key[at:at + size], "little")), at + size
+    return state % 2 ** 32
+
+
+def unhash(key):
+    return int.from_bytes(key[-4:], "little")
+
+
+class Table:
+    def __init__(self, key_size, value_size, hash, percent, capacity):
+        self.key_size, self.value_size, self.hash = key_size, value_size, hash
+        self.factor = percent * 65535 // 100
+        self.cells = [None] * self.slots_for(capacity)
+
+    def slots_for(self, items):
+        slots = 16
+        while slots * self.factor < 65536 * items:
+            slots *= 2
+        return slots
+
+    def order(self, key):
+        slots, home = len(self.cells), self.hash(key) % len(self.cells)
+        for j in range(slots // 16):
+            for i in range(16):
+                yield j + 1, (home + 8 * j * (j + 1) + i) % slots
+
+    def count(self):
+        return sum(cell is not None for cell in self.cells)
+
+    def most(self):
+        return len(self.cells) * self.factor // 65536
+
+    def find(self, key):
+        for groups, slot in self.order(key):
+            if self.cells[slot] is None or self.cells[slot][0] == key:
+                return groups, slot
+
+    def put(self, key, value):
+        _, slot = self.find(key)
+        if self.cells[slot] is None and self.count() >= self.most():
+            pairs = [cell for cell in self.cells if cell is not None]
+            self.cells = [None] * self.slots_for(max(1, 2 * len(pairs)))
+            for pair in pairs:
+                self.cells[self.find(pair[0])[1]] = pair
+            _, slot = self.find(key)
+        self.cells[slot] = (key, value)
+
+    def controls(self):
+        return bytes(FREE if cell is None else self.hash(cell[0]) >> 25 for cell in self.cells)
+
+    def image(self):
+        header = b"ODHT" + bytes([1, self.key_size, self.value_size, 32])
+        header += struct.pack("<QQ", self.count(), len(self.cells)) + bytes([0, 0, 0, 2])
+        header += struct.pack("<HH", self.factor, 0)
+        zeros = bytes(self.key_size + self.value_size)
+        entries = b"".join(zeros if cell is None else cell[0] + cell[1] for cell in self.cells)
+        controls = self.controls()
+        return header + entries + controls + controls[:16]
+
+
+def number(data):
+    return str(int.from_bytes(data, "little"))
+
+
+def nothing(data):
+    return ""
+
+
+def info_text(table, percent):
+    lines = [
+        ("key bytes", table.key_size), ("value bytes", table.value_size), ("header bytes", 32),
+        ("all bytes", len(table.image())), ("items", table.count()), ("slots", len(table.cells)),
+        ("maximum", table.most()), ("load", f"{table.count() * 100 // len(table.cells)} percent"),
+        ("maximum load", f"{percent} percent"),
+        ("hash", "fx" if table.hash is fx else "unhash"),
+    ]
+    text = "".join(f"{name:<14}{value}\n" for name, value in lines)
+    text += "  groups         items\n"
+    groups = [table.find(cell[0])[0] for cell in table.cells if cell is not None]
+    longest = max(groups, default=0)
+    counts = [groups.count(n) for n in range(1, longest + 1)]
+    for n, count in enumerate(counts, 1):
+        bar = "#" * max(1, count * 40 // max(counts)) if count else ""
+        text += f"{n:>8}  {count:>12}  {bar}\n"
+    return text + f"{'longest':<14}{longest} groups\n"
+
+
+def dump_text(table, key_text, value_text):
+    return "".join(f"{key_text(k)}\t{value_text(v)}\n" for k, v in filter(None, table.cells))
+
+
+def slots_text(table, key_text, value_text):
+    text = ""
+    for slot, cell in enumerate(table.cells):
+        if cell is not None:
+            groups = table.find(cell[0])[0]
+            assert table.find(cell[0])[1] == slot
+            text += f"{slot}\t{table.hash(cell[0]) >> 25}\t{groups}\t{key_text(cell[0])}\t{value_text(cell[1])}\n"
+    return text
+
+
+def le(number, size):
+    return number.to_bytes(size, "little")
+
+
+class Case:
+    """A table, and the texts that the commands have to write of it."""
+
+    def __init__(self, name, words, key_size, value_size, hash, percent, capacity, pairs, key_text=number,
+                 value_text=number):
+        self.name, self.words, self.table = name, words, Table(key_size, value_size, hash, percent, capacity)
+        for key, value in pairs:
+            self.table.put(key, value)
+        self.texts = {
+            "info": info_text(self.table, percent),
+            "dump": dump_text(self.table, key_text, value_text),
+            "slots": slots_text(self.table, key_text, value_text),
+            "pairs": "".join(f"{key_text(k)}\t{value_text(v)}\n" for k, v in pairs),
+        }
+
+    def write_file(self):
+        with open(f"{self.name}.odht", "wb") as file:
+            file.write(self.table.image())
+
+    def constant(self):
+        """The table and its texts in the language of the tests."""
+        text = "    Case {\n" + f"        name: \"{self.name}\",\n        words: \"{self.words}\",\n"
+        for kind, value in [("bytes", self.table.image().hex()), *self.texts.items()]:
+            text += f"        {kind}: {wrapped(value)},\n"
+        return text + "    },\n"
+
+
+def wrapped(text):
+    """A string constant of lines of at most 110 signs."""
+    text = text.replace("\n", "\\n").replace("\t", "\\t")
+    if len(text) < 90:
+        return f'"{text}"'
+    lines = []
+    while text:
+        end = 110
+        while text[end - 1:end] in ("\\",) or text[end:end + 1] == " ":
+            end -= 1
+        lines.append(text[:end])
+        text = text[end:]
+    return '"\\\n' + "\\\n".join(lines) + '"'
+
+
+def spread(at, size):
+    """Bytes that vary: the first `size` of the multiples of an odd number."""
+    data = b""
+    while len(data) < size:
+        data += le((at * 0x9E3779B97F4A7C15 + len(data) * 0xBF58476D1CE4E5B9) % 2 ** 64, 8)
+    return data[:size]
+
+
+def cases():
+    # 40 keys in a table for 12 that grows twice; each third key is given a second value.
+    yield Case("u32_u32", "--key u32 --value u32", 4, 4, fx, 87, 12,
+               [(le(k * k + 7, 4), le(k, 4)) for k in range(40)]
+               + [(le(k * k + 7, 4), le(1000 + k, 4)) for k in range(0, 40, 3)])
+    # docs/FORMAT.md, "Search": the hash is the key, keys 0, 64, .. 2048 have one home, and the last needs 3 groups.
+    yield Case("direct", "--key u32 --value u32 --hash unhash --capacity 40", 4, 4, unhash, 87, 40,
+               [(le(64 * k, 4), le(k, 4)) for k in range(33)])
+    yield Case("u64_u32", "--key u64 --value u32 --percent 95 --capacity 3", 8, 4, fx, 95, 3,
+               [(le(1, 8), le(2, 4)), (le(3, 8), le(4, 4)), (le(5, 8), le(2 ** 32 - 1, 4))])
+    yield Case("u64_u64", "--key u64 --value u64 --percent 6 --capacity 0", 8, 8, fx, 6, 0,
+               [(le(2 ** 64 - 1 - k, 8), le(k * 2 ** 40, 8)) for k in range(2)])
+    yield Case("bytes16_u32", "--key hex16 --value u32", 16, 4, unhash, 87, 12,
+               [(spread(k + 1, 16), le(k, 4)) for k in range(13)], bytes.hex)
+    yield Case("bytes16_u64", "--key hex16 --value u64 --hash unhash", 16, 8, unhash, 87, 12,
+               [(spread(k + 1, 16), le(k << 33, 8)) for k in range(3)], bytes.hex)
+    yield Case("bytes16_set", "--key hex16 --value none --percent 100", 16, 0, unhash, 100, 12,
+               [(spread(k + 1, 16), b"") for k in range(15)], bytes.hex, nothing)
+    yield Case("bytes20_u64", "--key hex20 --value u64", 20, 8, unhash, 87, 12,
+               [(spread(k + 1, 20), le(k, 8)) for k in range(3)], bytes.hex)
+    yield Case("bytes32_u64", "--key hex32 --value u64", 32, 8, unhash, 87, 12,
+               [(spread(k + 1, 32), le(k, 8)) for k in range(2)], bytes.hex)
+    yield Case("bytes32_set", "--key hex32 --value none", 32, 0, unhash, 87, 12,
+               [(spread(k + 1, 32), b"") for k in range(3)], bytes.hex, nothing)
+    # No ready shape has these sizes.
+    yield Case("odd_sizes", "", 3, 5, fx, 60, 12,
+               [(le(k * 77 % 2 ** 24, 3), le(k, 5)) for k in range(12)], bytes.hex, bytes.hex)
+    yield Case("empty", "", 8, 4, fx, 87, 12, [])
+
+
+def wrong_tag():
+    """A table whose slot 0 has another tag, in its control byte and in the mirror."""
+    table = Table(4, 4, unhash, 87, 12)
+    table.put(le(0, 4), le(9, 4))
+    image = bytearray(table.image())
+    image[32 + 16 * 8] = image[32 + 16 * 8 + 16] = 1
+    return image
+
+
+HEAD = """//! The tables of data/ and their texts, as data/tables.py writes them here: a test has no files of its own.
+
+/// A table, the words with which it is built, and what is told of it.
+#[derive(Clone, Copy)]
+pub struct Case {
+    pub name: &'static str,
+    /// Nothing where no ready shape has its sizes, or the table is not built.
+    pub words: &'static str,
+    /// Two digits a byte.
+    pub bytes: &'static str,
+    pub info: &'static str,
+    pub dump: &'static str,
+    pub slots: &'static str,
+    pub pairs: &'static str,
+}
+
+"""
+
+if __name__ == "__main__":
+    for case in cases():
+        case.write_file()
+    with open("wrong_tag.odht", "wb") as file:
+        file.write(wrong_tag())
+    all_cases = [case.constant() for case in cases()]
+    with open("../src/tests/tables.rt", "w") as file:
+        file.write(HEAD)
+        file.write("pub const WRONG_TAG: &str = " + wrapped(wrong_tag().hex()) + ";\n\n")
+        file.write(f"pub const CASES: [Case; {len(all_cases)}] = [\n" + "".join(all_cases) + "];\n")

@@ -1,0 +1,79 @@
+//! `odht check`: whether a file is a valid table.
+ghost use Rattle.std.specs.Prelude.{◌≡◌, OnOk};
+ghost use Rattle.std.specs.Io.KnownBytes.{Appends};
+ghost use Rattle.odht_raw.specs.Refusals.{checked, check_refusal};
+ghost use Rattle.odht_tool.specs.Texts.{checked_text};
+
+use super::{DONE, NOT_DONE};
+use crate::failure::Failure;
+use crate::files::read_file;
+use crate::shapes::{
+    Bytes16Set, Bytes16ToU32, Bytes16ToU64, Bytes20ToU64, Bytes32Set, Bytes32ToU64, DirectU32ToU32,
+    Hash, Shape, U32ToU32, U64ToU32, U64ToU64, for_shape,
+};
+use odht::config::{Coded, Config};
+use odht::error::{Error, Part as Stated};
+use odht::memory_layout::check_all;
+use std::io::{self, Write};
+use std::rt::Files;
+
+/// Writes `valid`, or the first rule that the file breaks.
+pub fn run<R: Files + AllocGlobal, O: Write>(
+    rt: &R,
+    file: &str,
+    hash: Option<Hash>,
+    output: &mut O,
+) -> Result<u8, Failure> {
+    let bytes = read_file(rt, file)?;
+    let shape = shape_of(bytes.as_slice(), hash)?;
+    let checked = for_shape!(shape, check_bytes[](bytes.as_slice()));
+    match write_checked(&checked, output) {
+        Ok(()) => Ok(if checked.is_ok() { DONE } else { NOT_DONE }),
+        Err(error) => Err(Failure::Output(error)),
+    }
+}
+
+fn check_bytes<C: Config>(bytes: &[u8]) -> Result<(), Error>
+    ensures { result ≡ checked (check_refusal ⟦<C as Coded>⟧.coding.format bytes.now) }
+{
+    check_all::<C>(bytes)
+}
+
+/// `valid`, or the refusal, on a line.
+pub fn write_checked<O: Write>(checked: &Result<(), Error>, output: &mut O) -> io::Result<()>
+    ensures { OnOk result (Appends (O.contents output.old) (O.contents output.new) (checked_text checked.now)) }
+{
+    match checked {
+        Ok(()) => writeln!(output, "valid"),
+        Err(refused) => writeln!(output, "{refused}"),
+    }
+}
+
+/// The ready shape of these bytes, by the sizes that they state. Bytes that are refused for what stands before the sizes
+/// have any shape.
+pub fn shape_of(bytes: &[u8], hash: Option<Hash>) -> Result<Shape, Failure> {
+    let Some((key_size, value_size)) = stated_sizes(bytes) else {
+        return Ok(Shape::U64ToU32);
+    };
+    match Shape::of_sizes(key_size, value_size, hash) {
+        Some(shape) => Ok(shape),
+        None => match check_all::<U64ToU32>(bytes) {
+            Err(
+                Error::WrongSizeOf {
+                    part: Stated::EncodedKey | Stated::EncodedValue,
+                    ..
+                },
+            )
+            | Ok(()) => Err(Failure::NoShape {
+                key_size,
+                value_size,
+            }),
+            Err(_) => Ok(Shape::U64ToU32),
+        },
+    }
+}
+
+// The key size and the value size that a header states.
+fn stated_sizes(bytes: &[u8]) -> Option<(u8, u8)> {
+    Some((*bytes.get(5)?, *bytes.get(6)?))
+}

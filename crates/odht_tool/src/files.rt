@@ -1,0 +1,71 @@
+//! Whole files: read at once, and written beside the old one, which is then replaced.
+use crate::failure::Failure;
+use std::alloc::Global;
+use std::fs::{self, File, OpenFile};
+use std::io::{self, Read, Write};
+use std::rt::Files;
+
+/// All bytes of a file. The memory is asked for once, by the length that the file has at first.
+pub fn read_file<R: Files + AllocGlobal>(rt: &R, path: &str) -> Result<Vec<u8>, Failure> {
+    match read_bytes(rt, path) {
+        Ok(bytes) => Ok(bytes),
+        Err(error) => Err(of_reading(error)),
+    }
+}
+
+fn of_reading(error: io::Error) -> Failure {
+    match error.kind() {
+        io::ErrorKind::OutOfMemory => Failure::Memory,
+        _ => Failure::Read(error),
+    }
+}
+
+fn read_bytes<R: Files + AllocGlobal>(rt: &R, path: &str) -> io::Result<Vec<u8>> {
+    let alloc: Global = rt.alloc();
+    let mut file = fs::open(rt, path)?;
+    let len = file.metadata()?.len();
+    let mut bytes = Vec::with_capacity(alloc, usize::try_from(len).unwrap_or(0))?;
+    file.read_to_end(&mut bytes)?;
+    Ok(bytes)
+}
+
+/// Writes a file beside the named one, and gives it that name once all of it is stored. On a failure the file of that name
+/// is as it was, and the one beside it, whose name is the first with `.new` behind it, is removed.
+///
+/// Where there is a file of that other name already, nothing is written: another run may be at work on it.
+pub fn replace_file<R: Files + AllocGlobal>(
+    rt: &R,
+    path: &str,
+    bytes: &[u8],
+) -> Result<(), Failure> {
+    let alloc: Global = rt.alloc();
+    let beside = match format!(in alloc; "{path}.new") {
+        Ok(beside) => beside,
+        Err(_) => return Err(Failure::Memory),
+    };
+    let file = match File::create_new(rt, beside.as_str()) {
+        Ok(file) => file,
+        Err(error) => return Err(Failure::Write(error)),
+    };
+    match store(rt, file, bytes, beside.as_str(), path) {
+        Ok(()) => Ok(()),
+        Err(error) => {
+            // What cannot be removed either stays, and is told by the next run.
+            let _ = fs::remove_file(rt, beside.as_str());
+            Err(Failure::Write(error))
+        }
+    }
+}
+
+fn store<R: Files>(
+    rt: &R,
+    file: R::File,
+    bytes: &[u8],
+    beside: &str,
+    path: &str,
+) -> io::Result<()> {
+    let mut file = file;
+    file.write_all(bytes)?;
+    file.sync_all()?;
+    fs::rename(rt, beside, path)
+}

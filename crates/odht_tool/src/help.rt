@@ -1,0 +1,80 @@
+//! The texts of `--help`.
+use crate::arguments::Topic;
+
+/// The text about a command, or about all.
+pub fn help_text(topic: Option<Topic>) -> &'static str {
+    match topic {
+        None => GENERAL,
+        Some(Topic::Info) => INFO,
+        Some(Topic::Check) => CHECK,
+        Some(Topic::Get) => GET,
+        Some(Topic::Dump) => DUMP,
+        Some(Topic::Build) => BUILD,
+        Some(Topic::Put) => PUT,
+    }
+}
+
+const GENERAL: &str = "\
+odht info FILE       tells what a table file holds, of any key and value sizes
+odht check FILE      tells whether a file is a valid table
+odht get FILE KEY..  looks keys up; with - instead of keys, those of standard input
+odht dump FILE       tells each pair
+odht build FILE --key SHAPE --value SHAPE
+                     makes a table file of the lines of standard input
+odht put FILE        adds the lines of standard input to a table file
+
+Each has --help. Status 0: done; 1: refused, failed, or a key is absent;
+2: the words are not understood.
+";
+
+const INFO: &str = "\
+odht info FILE
+    Tells sizes, item and slot count, load factors, the hash function that the
+    control bytes agree with, and how many items are found by looking at one
+    group of control bytes, at two, and so on. The file may have any key and
+    value sizes. Only its header and its length are checked.
+";
+
+const CHECK: &str = "\
+odht check FILE [--hash fx|unhash]
+    Says `valid`, or the first rule of the format that the file breaks, and then
+    ends with status 1. The shape is that of the file's key and value sizes.
+    --hash names the hash function where both are possible, with keys and values
+    of four bytes; fx is assumed.
+";
+
+const GET: &str = "\
+odht get FILE KEY.. [--hash fx|unhash]
+    Writes a line for each key, in their order: KEY, a tab and VALUE; or KEY alone
+    where it is absent, and then ends with status 1. With the one word - the keys
+    are the lines of standard input.
+";
+
+const DUMP: &str = "\
+odht dump FILE [--slots] [--hash fx|unhash]
+    Writes a line for each pair, in slot order: KEY, a tab and VALUE. With --slots
+    the slot, the control byte and the number of groups that a search for the key
+    looks at stand before them, with tabs too.
+";
+
+const BUILD: &str = "\
+odht build FILE --key SHAPE --value SHAPE [--hash fx|unhash]
+                [--percent P] [--capacity N] [--progress]
+    Makes a table of the lines of standard input, KEY, a tab and VALUE, and stores
+    it as FILE, in the place of an older one, which stays where something fails.
+    The last line of a key wins.
+    SHAPE       u32, u64, none (a value only), or hexN: N bytes as 2 N digits
+    ready       u32 to u32 (fx or unhash); u64 to u32, u64 (fx);
+                hex16 to u32, u64, none (unhash); hex20 to u64 (unhash);
+                hex32 to u64, none (unhash)
+    --percent   the load factor, 1 to 100, else 87
+    --capacity  the number of items for which room is made at first, else 12
+    --progress  a line on standard error each second
+";
+
+const PUT: &str = "\
+odht put FILE [--hash fx|unhash] [--progress]
+    Adds the lines of standard input, KEY, a tab and VALUE, to the table in FILE,
+    which grows as needed, and stores it in the place of the older one, which
+    stays where something fails. The last line of a key wins.
+";

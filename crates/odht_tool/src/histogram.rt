@@ -1,0 +1,83 @@
+//! How many items each number of groups finds.
+use std::alloc::{AllocError, Global};
+use std::io::{self, Write};
+
+/// How many numbers of groups have a count of their own. What is above is counted together.
+const MOST: usize = 64;
+
+/// How many hyphens the longest line has.
+const WIDTH: u128 = 40;
+
+/// For each number of groups from 1 on, how many items are found by looking at so many.
+#[derive(Drop)]
+pub struct Histogram {
+    counts: Vec<usize>,
+    /// The largest number of groups.
+    pub longest: usize,
+}
+
+impl Histogram {
+    /// A histogram of no items.
+    pub fn new(alloc: Global) -> Result<Self, AllocError> {
+        Ok(Histogram {
+            counts: vec![in alloc; 0; MOST]?,
+            longest: 0,
+        })
+    }
+
+    /// Counts an item that is found by looking at so many groups, which are at least one.
+    pub fn add(&mut self, groups: usize) {
+        self.longest = self.longest.max(groups);
+        let index = groups.saturating_sub(1).min(MOST - 1);
+        if let Some(count) = self.counts.get_mut(index) {
+            *count = count.saturating_add(1);
+        }
+    }
+
+    /// A line for each number of groups up to the longest: the number, the count, and a bar.
+    pub fn write<W: Write>(&self, output: &mut W) -> io::Result<()> {
+        let most = self.counts.iter().copied().max().unwrap_or(0);
+        let lines = self.longest.min(MOST);
+        for (index, count) in self.counts.iter().copied().take(lines).enumerate() {
+            let groups = index + 1;
+            let more = if groups == MOST && self.longest > MOST {
+                "+"
+            } else {
+                ""
+            };
+            write!(output, "{groups:>8}{more}  {count:>12}  ")?;
+            write_bar(count, most, output)?;
+            writeln!(output, "")?;
+        }
+        Ok(())
+    }
+}
+
+// As many signs as the count is of the most, of forty; and one at least, where anything is counted.
+fn write_bar<W: Write>(count: usize, most: usize, output: &mut W) -> io::Result<()> {
+    if count == 0 || most == 0 {
+        return Ok(());
+    }
+    let signs = (count as u128 * WIDTH / most as u128).max(1);
+    for _ in 0..signs {
+        output.write_all(b"#")?;
+    }
+    Ok(())
+}
+
+/// The number of the group of a key's probe order in which a slot stands, from 1 on: as many groups as a search for the
+/// key in the slot looks at. The slot count is a power of two from 16 on.
+///
+/// It goes through the groups of the probe order up to that.
+pub fn groups_to(hash: u32, slot: usize, slot_count: usize) -> usize {
+    let last = slot_count.wrapping_sub(1);
+    let mut start = hash as usize & last;
+    let most = slot_count / 16;
+    for group in 0..most {
+        if slot.wrapping_sub(start) & last < 16 {
+            return group + 1;
+        }
+        start = start.wrapping_add((group + 1).wrapping_mul(16)) & last;
+    }
+    most
+}

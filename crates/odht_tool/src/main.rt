@@ -1,0 +1,48 @@
+//! `odht`: tells what table files hold, checks them, makes them and adds to them.
+//!
+//! docs/TOOL.md shows each command.
+#![tactic(auto)]
+
+mod answers;
+mod arguments;
+mod commands;
+mod failure;
+mod files;
+mod help;
+mod histogram;
+mod lines;
+mod progress;
+mod shapes;
+mod stored;
+#[cfg(test)]
+mod tests;
+mod text;
+
+use std::alloc::Global;
+use std::env;
+use std::io::{self, BufReader, BufWriter};
+use std::process::ExitCode;
+
+/// How many bytes are read and written at once.
+const BUFFER_SIZE: usize = 1 << 16;
+
+fn main(rt: HostRuntime) -> ExitCode {
+    match run(&rt) {
+        Ok(status) => ExitCode::from(status),
+        Err(error) => {
+            // Where standard error takes nothing either, the status says it alone.
+            let _ = eprintln!(rt; "odht: {error}");
+            ExitCode::FAILURE
+        }
+    }
+}
+
+// Runs the command that the arguments name, and answers its status. An error is one of the arguments or of memory.
+fn run(rt: &HostRuntime) -> io::Result<u8> {
+    let alloc: Global = rt.alloc();
+    let words: Vec<String> = env::args(rt)?.skip(1).collect(alloc)?;
+    let mut input = BufReader::with_capacity(alloc, BUFFER_SIZE, rt.stdin())?;
+    let mut output = BufWriter::with_capacity(alloc, BUFFER_SIZE, rt.stdout())?;
+    let mut errors = rt.stderr();
+    Ok(commands::run(rt, words, &mut input, &mut output, &mut errors))
+}

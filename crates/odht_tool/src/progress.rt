@@ -1,0 +1,40 @@
+//! The line that tells how far a long run has come.
+use std::io::{self, Write};
+use std::rt::Clock;
+use std::time::{Duration, Instant};
+
+/// When the next line is due.
+#[derive(Clone, Copy)]
+pub struct Progress {
+    since: Option<Instant>,
+}
+
+impl Progress {
+    /// Lines each second from now on, where they are asked for. Without a clock there are none.
+    pub fn new<R: Clock>(rt: &R, is_asked: bool) -> Progress {
+        let since = if is_asked {
+            Instant::now(rt).ok()
+        } else {
+            None
+        };
+        Progress { since }
+    }
+
+    /// Writes a line where more than a second has passed since the last.
+    pub fn tell<R: Clock, E: Write>(
+        &mut self,
+        rt: &R,
+        line_count: u64,
+        errors: &mut E,
+    ) -> io::Result<()> {
+        let Some(since) = self.since else {
+            return Ok(());
+        };
+        let now = Instant::now(rt)?;
+        if now.duration_since(since) < Duration::from_secs(1) {
+            return Ok(());
+        }
+        self.since = Some(now);
+        writeln!(errors, "odht: {line_count} lines")
+    }
+}

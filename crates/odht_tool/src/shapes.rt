@@ -1,0 +1,154 @@
+//! The shapes of tables that the commands read and write: the types of keys and values, and the hash function.
+mod hashed;
+mod numbers;
+
+pub use hashed::{Bytes16Set, Bytes16ToU32, Bytes16ToU64, Bytes20ToU64, Bytes32Set, Bytes32ToU64};
+pub use numbers::{U64ToU32, U64ToU64};
+pub use odht::configs::{DirectU32ToU32, U32ToU32};
+
+/// A hash function of keys.
+#[derive(Clone, Copy, Debug, PartialEq, Eq)]
+pub enum Hash {
+    /// `FxHashFn`.
+    Fx,
+    /// `UnHashFn`.
+    Unhash,
+}
+
+impl Hash {
+    /// The hash function of this name.
+    pub fn named(name: &str) -> Option<Hash> {
+        match name {
+            "fx" => Some(Hash::Fx),
+            "unhash" => Some(Hash::Unhash),
+            _ => None,
+        }
+    }
+}
+
+/// What a key or a value is.
+#[derive(Clone, Copy, Debug, PartialEq, Eq)]
+pub enum Part {
+    /// Nothing, in a table that is a set.
+    Nothing,
+    /// A number of 32 bits.
+    U32,
+    /// A number of 64 bits.
+    U64,
+    /// So many bytes.
+    Bytes(u8),
+}
+
+impl Part {
+    /// The part of this name: `u32`, `u64`, `none`, or `hex` and a number of bytes from 1 to 255.
+    pub fn named(name: &str) -> Option<Part> {
+        match name {
+            "none" => Some(Part::Nothing),
+            "u32" => Some(Part::U32),
+            "u64" => Some(Part::U64),
+            _ => {
+                let size = name.strip_prefix("hex")?.parse::<u8>().ok()?;
+                if size == 0 {
+                    None
+                } else {
+                    Some(Part::Bytes(size))
+                }
+            }
+        }
+    }
+
+    /// How many bytes it takes in a table.
+    pub fn size(self) -> u8 {
+        match self {
+            Part::Nothing => 0,
+            Part::U32 => 4,
+            Part::U64 => 8,
+            Part::Bytes(size) => size,
+        }
+    }
+
+    // Whether a ready shape of this size is of this kind: 4 and 8 bytes are numbers there.
+    fn is_ready(self) -> bool {
+        match self {
+            Part::Bytes(size) => size != 4 && size != 8,
+            _ => true,
+        }
+    }
+}
+
+/// A ready shape, by the name of its configuration.
+#[derive(Clone, Copy, Debug, PartialEq, Eq)]
+pub enum Shape {
+    U32ToU32,
+    DirectU32ToU32,
+    U64ToU32,
+    U64ToU64,
+    Bytes16ToU32,
+    Bytes16ToU64,
+    Bytes16Set,
+    Bytes20ToU64,
+    Bytes32ToU64,
+    Bytes32Set,
+}
+
+impl Shape {
+    /// The ready shape of keys and values of so many bytes. Where both hash functions are possible and none is named, it
+    /// is `fx`.
+    pub fn of_sizes(key_size: u8, value_size: u8, hash: Option<Hash>) -> Option<Shape> {
+        let shape = match (key_size, value_size) {
+            (4, 4) if hash == Some(Hash::Unhash) => Shape::DirectU32ToU32,
+            (4, 4) => Shape::U32ToU32,
+            (8, 4) => Shape::U64ToU32,
+            (8, 8) => Shape::U64ToU64,
+            (16, 4) => Shape::Bytes16ToU32,
+            (16, 8) => Shape::Bytes16ToU64,
+            (16, 0) => Shape::Bytes16Set,
+            (20, 8) => Shape::Bytes20ToU64,
+            (32, 8) => Shape::Bytes32ToU64,
+            (32, 0) => Shape::Bytes32Set,
+            _ => return None,
+        };
+        match hash {
+            Some(hash) if hash != shape.hash() => None,
+            _ => Some(shape),
+        }
+    }
+
+    /// The ready shape of this key and this value.
+    pub fn of_parts(key: Part, value: Part, hash: Option<Hash>) -> Option<Shape> {
+        if key.is_ready() && value.is_ready() {
+            Shape::of_sizes(key.size(), value.size(), hash)
+        } else {
+            None
+        }
+    }
+
+    /// Its hash function.
+    pub fn hash(self) -> Hash {
+        match self {
+            Shape::U32ToU32 | Shape::U64ToU32 | Shape::U64ToU64 => Hash::Fx,
+            _ => Hash::Unhash,
+        }
+    }
+}
+
+/// Calls a function for the configuration of a shape, which is its first type parameter:
+/// `for_shape!(shape, function[more, parameters](arguments))`.
+macro_rules! for_shape {
+    ($shape:expr, $function:ident[$($more:ty),*]($($argument:expr),*)) => {
+        match $shape {
+            Shape::U32ToU32 => $function::<U32ToU32, $($more),*>($($argument),*),
+            Shape::DirectU32ToU32 => $function::<DirectU32ToU32, $($more),*>($($argument),*),
+            Shape::U64ToU32 => $function::<U64ToU32, $($more),*>($($argument),*),
+            Shape::U64ToU64 => $function::<U64ToU64, $($more),*>($($argument),*),
+            Shape::Bytes16ToU32 => $function::<Bytes16ToU32, $($more),*>($($argument),*),
+            Shape::Bytes16ToU64 => $function::<Bytes16ToU64, $($more),*>($($argument),*),
+            Shape::Bytes16Set => $function::<Bytes16Set, $($more),*>($($argument),*),
+            Shape::Bytes20ToU64 => $function::<Bytes20ToU64, $($more),*>($($argument),*),
+            Shape::Bytes32ToU64 => $function::<Bytes32ToU64, $($more),*>($($argument),*),
+            Shape::Bytes32Set => $function::<Bytes32Set, $($more),*>($($argument),*),
+        }
+    };
+}
+
+pub(crate) use for_shape;
