@@ -1,10 +1,8 @@
 //! The shapes of tables that the commands read and write: the types of keys and values, and the hash function.
-mod hashed;
-mod numbers;
-
-pub use hashed::{Bytes16Set, Bytes16ToU32, Bytes16ToU64, Bytes20ToU64, Bytes32Set, Bytes32ToU64};
-pub use numbers::{U64ToU32, U64ToU64};
-pub use odht::configs::{DirectU32ToU32, U32ToU32};
+pub use odht::configs::{
+    Bytes16Set, Bytes16ToU32, Bytes16ToU64, Bytes20ToU64, Bytes32Set, Bytes32ToU64, DirectU32ToU32,
+    U32ToU32, U64ToU32, U64ToU64,
+};
 
 /// A hash function of keys.
 #[derive(Clone, Copy, Debug, PartialEq, Eq)]
