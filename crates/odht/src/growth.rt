@@ -1,5 +1,5 @@
 //! Growth: a table with the slots for twice as many items, written into larger bytes.
-ghost use Rattle.std.specs.Prelude.{◌≡◌, ℕ, List, ◌++◌, ◌+◌, ◌-◌, ◌*◌, ◌≤◌, max, All, Some, None, MatchOption, length, map, replicate, take};
+ghost use Rattle.std.specs.Prelude.{◌≡◌, ◌++◌, ◌+◌, ◌-◌, ◌*◌, ◌≤◌, max, All, Some, None, MatchOption, length, map, replicate, take};
 ghost use Rattle.odht_base.specs.Bytes.{bytes_at};
 ghost use Rattle.odht_base.specs.Format.{entry_len, format_of};
 ghost use Rattle.odht_base.specs.Image.{header_bytes, image_len, parts};

@@ -2,7 +2,6 @@ use Rattle.std.proofs.Common.{◌++◌, map, filter_map, ◌∙◌, ◌≡◌, S
 use Rattle.odht_base.specs.Format.{Format, format_of}
 use Rattle.odht_base.specs.Image.{header_bytes, parts}
 use Rattle.odht_base.specs.Insert.{grown_slots, place_all}
-use Rattle.odht_base.specs.Load.{slots_for}
 use Rattle.odht_base.specs.Map.{KeysApart}
 use Rattle.odht_base.specs.Shown.{shown_cells, stated_count, stated_factor}
 use Rattle.odht_base.specs.Table.{walk, count, empty}

@@ -1,4 +1,4 @@
-use Rattle.std.proofs.Common.{◌≡◌, ◌+◌, ◌-◌, ◌*◌, ◌∙◌, ◌++◌, sym, ap, arith, append_assoc, length, replicate, take, take_at, drop}
+use Rattle.std.proofs.Common.{◌≡◌, ◌+◌, ◌*◌, ◌∙◌, ◌++◌, sym, ap, arith, append_assoc, length, replicate, take, take_at, drop}
 use Rattle.std.proofs.lemmas.List.{drop-take}
 use Rattle.odht_base.specs.Format.{Format, format_of, entry_len}
 use Rattle.odht_base.specs.Table.{empty}

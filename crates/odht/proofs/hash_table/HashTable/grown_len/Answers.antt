@@ -1,4 +1,4 @@
-use Rattle.std.proofs.Common.{◌≡◌, ◌∙◌, sym, ap, None, Some}
+use Rattle.std.proofs.Common.{◌≡◌, ◌∙◌, sym, ap, None}
 use Rattle.odht_base.specs.Format.{format_of}
 use Rattle.odht.specs.Growths.{grown_len}
 use Rattle.odht.proofs.lemmas.GrownBytes.{grown_len-layout, grown_len-image}

@@ -1,4 +1,4 @@
-use Rattle.std.proofs.Common.{◌≡◌, ◌+◌, ◌*◌, ◌∙◌, sym, ap, subst, arith, length, replicate, take_at}
+use Rattle.std.proofs.Common.{◌≡◌, ◌*◌, ◌∙◌, sym, ap, subst, arith, length, replicate, take_at}
 use Rattle.odht_base.specs.Bytes.{bytes_at}
 use Rattle.odht_base.specs.Format.{Format, format_of, entry_len}
 use Rattle.odht_raw.specs.Frame.{IsAccepted}
