@@ -1,4 +1,11 @@
 //! `odht build` and `odht put`: tables of the lines of standard input.
+ghost use Rattle.std.specs.Prelude.{◌≡◌, ◌≤◌, OnOk, IfOk, length};
+ghost use Rattle.odht_base.specs.Table.{Table};
+ghost use Rattle.odht_base.specs.Insert.{put_owned};
+ghost use Rattle.odht_base.specs.Valid.{IsImage};
+ghost use Rattle.odht.specs.Inserts.{IsFresh};
+ghost use Rattle.odht.specs.Lists.{encoded_all, IsFilled};
+
 use super::DONE;
 use super::check::shape_of;
 use crate::arguments::Options;
@@ -12,7 +19,7 @@ use crate::shapes::{
 };
 use crate::text::Text;
 use odht::HashTableOwned;
-use odht::config::Config;
+use odht::config::{Coded, Config};
 use std::alloc::Global;
 use std::io::{BufRead, Write};
 use std::rt::{Clock, Files};
@@ -55,13 +62,21 @@ where
     C::Value: Text,
 {
     let alloc: Global = rt.alloc();
-    let table = make_table::<C>(alloc, options)?;
+    let capacity = options.capacity.unwrap_or(12) as usize;
+    let percent = options.percent.unwrap_or(87).clamp(1, 100);
+    let table = make_table::<C>(alloc, capacity, percent)?;
     fill_file(rt, file, options, table, input, errors)
 }
 
-fn make_table<C: Config>(alloc: Global, options: Options) -> Result<HashTableOwned<C>, Failure> {
-    let capacity = options.capacity.unwrap_or(12) as usize;
-    let percent = options.percent.unwrap_or(87).clamp(1, 100);
+fn make_table<C: Config>(
+    alloc: Global,
+    capacity: usize,
+    percent: u8,
+) -> Result<HashTableOwned<C>, Failure>
+    requires low { 1 ≤ percent }
+    requires high { percent ≤ 100 }
+    ensures { IfOk result (IsFresh ⟦<C as Coded>⟧.coding.format capacity percent) }
+{
     match HashTableOwned::with_capacity(alloc, capacity, percent) {
         Ok(table) => Ok(table),
         Err(refused) => Err(Failure::of_table(refused)),
@@ -99,7 +114,9 @@ where
     fill_file(rt, file, options, table, input, errors)
 }
 
-fn copy_table<C: Config>(alloc: Global, bytes: Vec<u8>) -> Result<HashTableOwned<C>, Failure> {
+fn copy_table<C: Config>(alloc: Global, bytes: Vec<u8>) -> Result<HashTableOwned<C>, Failure>
+    ensures { IfOk result (λ table. table ≡ bytes.items) }
+{
     match HashTableOwned::from_raw_bytes(alloc, bytes.as_slice()) {
         Ok(table) => Ok(table),
         Err(refused) => Err(Failure::of_table(refused)),
@@ -165,10 +182,19 @@ where
 fn insert_batch<C: Config>(
     table: &mut HashTableOwned<C>,
     pairs: &mut Vec<(C::Key, C::Value)>,
-) -> Result<(), Failure> {
+) -> Result<(), Failure>
+    ensures filled { let c = ⟦<C as Coded>⟧.coding
+        in (P : Table)
+        → IsImage c.format P table.old
+        → OnOk result (IsFilled c.format (put_owned c.format) P (encoded_all c pairs.old.items) table.new) }
+    ensures empty { length pairs.new.items ≡ 0 }
+{
     let (_, inserted) = table.insert_all(pairs.as_slice());
     pairs.clear();
-    inserted.or(Err(Failure::Memory))
+    match inserted {
+        Ok(()) => Ok(()),
+        Err(_) => Err(Failure::Memory),
+    }
 }
 
 /// The key and the value of a line: on either side of its first tab, or, where values have no text, of a line with none.
