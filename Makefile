@@ -9,6 +9,7 @@
 # make bench: the tables of speeds; QUICK=1 for a short run, ODHT_RUST=folder for the Rust crate beside it, CHECK=1 for
 # the tables of the whole check alone, WORST=1 for the largest forged table too, about an hour, ORDER=1 for the line of
 # an order of inserts alone, MARKDOWN=1 for Markdown
+# make bounds: loops that tell what bounds these speeds; ODHT_RUST=folder is needed
 SCRIPT ?= crates/odht_table/stdin
 # lowest first
 LIBRARIES = odht_base odht_raw odht
@@ -66,6 +67,16 @@ bench: build/libodht.a $(if $(ODHT_RUST),original)
 	@$(if $(MARKDOWN),sh bench/machine.sh)
 	@build/bench $(if $(QUICK),quick) $(if $(CHECK),check) $(if $(WORST),worst) $(if $(ORDER),order) \
 	  $(if $(MARKDOWN),markdown)
+
+# what bounds the lines of the tables: loops that do only what a job cannot do without; it needs ODHT_RUST
+.PHONY: bounds
+bounds: build/libodht.a original
+	@mkdir -p build
+	@$(BENCH_RUST) --edition 2021 -D warnings $(LINK_ORIGINAL) bench/bounds.rs $(LINK_RUST) -o build/bounds
+	@for items in 1000 100000 1000000 10000000; do \
+	  build/bounds u64 $$items && build/bounds calls $$items || exit 1; \
+	done
+	@for items in 1000 100000 1000000; do build/bounds b16 $$items && build/bounds growing $$items || exit 1; done
 
 # the Rust crate, from a checkout or from a flat folder with names as src--lib.rs.txt
 .PHONY: original
