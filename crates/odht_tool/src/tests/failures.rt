@@ -3,6 +3,7 @@ use super::tables::WRONG_TAG;
 use super::{case_of, told, write_hex};
 use crate::commands::run;
 use std::alloc::Global;
+use std::fs;
 use std::io::{self, ErrorKind, Write};
 use std::process::Abort;
 use std::rt::{Clock, Files};
@@ -134,6 +135,8 @@ fn refusals(rt: HostRuntime) -> Result<(), Fail> {
         );
         assert_eq!(&rt; told.status, status, "{words}");
     }
+    fs::remove_file(&rt, "wrong_tag.odht")?;
+    fs::remove_file(&rt, "odd_sizes.odht")?;
     Ok(())
 }
 
@@ -176,6 +179,7 @@ fn absent_keys(rt: HostRuntime) -> Result<(), Fail> {
         "odht: keys.odht: \"-1\" is not a key of the table's shape\n"
     );
     assert_eq!(&rt; wrong.status, 1);
+    fs::remove_file(&rt, "keys.odht")?;
     Ok(())
 }
 
@@ -224,5 +228,6 @@ fn broken_outputs(rt: HostRuntime) -> Result<(), Fail> {
         told.as_str()
             .starts_with("odht: pipe.odht: standard output cannot be written: ")
     );
+    fs::remove_file(&rt, "pipe.odht")?;
     Ok(())
 }
