@@ -94,8 +94,9 @@ fn grown_table(rt: &impl Abort) -> [u8; 464] {
     }
     for (slot, key, tag) in GROWN {
         assert!(rt; slot < 32, "a slot");
+        assert!(rt; key < 128, "a key whose double is a byte");
         set(rt, &mut bytes, 32 + 12 * slot, key);
-        set(rt, &mut bytes, 32 + 12 * slot + 8, key + key);
+        set(rt, &mut bytes, 32 + 12 * slot + 8, 2 * key);
         set(rt, &mut bytes, 416 + slot, tag);
         if slot < 16 {
             set(rt, &mut bytes, 448 + slot, tag);

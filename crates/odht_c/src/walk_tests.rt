@@ -19,13 +19,15 @@ fn same(rt: &impl Abort, what: &str, found: usize, expected: usize) {
 // Demands that these arrays begin with the keys of these numbers, and with ten times the numbers.
 fn same_pairs(rt: &impl Abort, keys: &[[u8; 16]], values: &[u32], numbers: &[u8]) {
     for index in 0..numbers.len() {
-        same(rt, "key", keys[index][15] as usize, numbers[index] as usize);
-        same(
-            rt,
-            "value",
-            values[index] as usize,
-            10 * numbers[index] as usize,
-        );
+        let number = numbers[index] as usize;
+        match keys.get(index) {
+            Some(key) => same(rt, "key", key[15] as usize, number),
+            None => same(rt, "keys", keys.len(), numbers.len()),
+        }
+        match values.get(index) {
+            Some(value) => same(rt, "value", *value as usize, 10 * number),
+            None => same(rt, "values", values.len(), numbers.len()),
+        }
     }
 }
 
