@@ -73,7 +73,7 @@ macro_rules! calls {
             }
 
             fn walk(bytes: &[u8], keys: &mut [$type], values: &mut [u32]) -> Result<usize, Status> {
-                $calls::walk(bytes, &mut 0, keys, values)
+                $calls::walk(bytes, keys, values)
             }
 
             type View<'a> = $calls::View<'a>;
