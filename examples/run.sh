@@ -117,8 +117,9 @@ try_rust() {
 }
 
 sh "$top/crates/odht_c/exports/statuses.sh"
+sh "$top/examples/quoted.sh"
 if has cc; then
-    for program in example null forged sets; do try "$program" C cc -std=c11; done
+    for program in example null forged sets readme; do try "$program" C cc -std=c11; done
     header cc c c99 c11 c17 c2x
 fi
 if has c++; then

@@ -4,6 +4,7 @@ mod builds;
 mod carried_items;
 mod changed_tables;
 mod checks;
+mod first_table;
 mod frame;
 mod full_tables;
 mod header_bytes;
