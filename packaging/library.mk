@@ -32,6 +32,7 @@ exports:
 
 exports_are_current:
 	@sh crates/odht_c/exports/generate.sh --check
+	@sh crates/odht_c/exports/statuses.sh > /dev/null
 
 # below ${prefix} where they are, so that the installed folder can be moved
 below_prefix = $(patsubst $(PREFIX)/%,$${prefix}/%,$(1))
