@@ -96,18 +96,26 @@ def sizes():
         if path.endswith(".rt"):
             for number, line in enumerate(text):
                 found = re.match(r"^(\s*)(?:pub(?:\([a-z]+\))? )?(?:const )?fn (\w+)", line)
-                if found:
-                    end = number
-                    while end < len(text) and text[end] != found.group(1) + "}":
-                        end += 1
-                    body = number
-                    while body < end and not text[body].rstrip().endswith("{"):
-                        body += 1
-                    functions.append((end - number + 1, f"{path}:{number + 1} {found.group(2)}"))
-    for title, rows in (("longest functions, clauses included", functions), ("longest lines of .rt", [r for r in lines if ".rt:" in r[1]]),
-                        ("longest lines of .antt", [r for r in lines if ".antt:" in r[1]]),
-                        ("largest .rt", [r for r in lengths if r[1].endswith(".rt")]),
-                        ("largest .antt", [r for r in lengths if r[1].endswith(".antt")])):
+                if not found:
+                    continue
+                indent = found.group(1)
+                start = number
+                while start < len(text) and not (text[start].rstrip().endswith("{}") or text[start] == indent + "{"
+                                                 or start == number and text[start].endswith("{")
+                                                 or text[start] == indent + ") {" or text[start].endswith(";")):
+                    start += 1
+                if start == len(text) or text[start].rstrip().endswith(("{}", ";")):
+                    continue
+                end = text.index(indent + "}", start)
+                functions.append((end - start - 1, f"{path}:{number + 1} {found.group(2)}"))
+    tables = (
+        ("longest bodies of functions", functions),
+        ("longest lines of .rt", [row for row in lines if ".rt:" in row[1]]),
+        ("longest lines of .antt", [row for row in lines if ".antt:" in row[1]]),
+        ("largest .rt", [row for row in lengths if row[1].endswith(".rt")]),
+        ("largest .antt", [row for row in lengths if row[1].endswith(".antt")]),
+    )
+    for title, rows in tables:
         print(title)
         for size, where in sorted(rows, reverse=True)[:8]:
             print(f"  {size:5} {where}")
