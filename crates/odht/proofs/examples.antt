@@ -4,7 +4,7 @@ pub mod SmallTables
 -- what a new table is, and what an insert leaves
 pub mod Inserts
 -- lists of items that are inserted in turn
-pub mod Fillings
+pub mod ListInserts
 -- the last value of a key in a list of items
 pub mod LastValues
 -- items that make a table again

@@ -8,9 +8,9 @@ pub mod Growths
 -- the bytes of a growth
 pub mod GrownBytes
 -- inserts in turn
-pub mod Fillings
+pub mod ListInserts
 -- keys and values that their bytes decode to
-pub mod Kept
+pub mod LosslessPairs
 -- inserts in an insert order make a table again
 pub mod Rebuilding
 -- lookups of many keys

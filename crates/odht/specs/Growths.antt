@@ -11,7 +11,7 @@ use Rattle.odht_base.specs.Format.{Format}
 use Rattle.odht_base.specs.Image.{image_len}
 use Rattle.odht_base.specs.Insert.{grown}
 use Rattle.odht_base.specs.Load.{slots_for}
-use Rattle.odht_base.specs.Shown.{stated_count, stated_factor}
+use Rattle.odht_base.specs.Decoded.{header_count, header_factor}
 use Rattle.odht_base.specs.Table.{Table}
 use Rattle.odht_base.specs.Valid.{IsImage}
 
@@ -19,7 +19,7 @@ abbrev pub table_len : Format → Option ℕ → Option ℕ
 table_len F o = option_and_then (λ s. then_some (nat_lt (image_len F s) (2 ^ 64)) (image_len F s)) o
 
 abbrev pub grown_slots_of : List ℕ → Option ℕ
-grown_slots_of B = slots_for (max 1 (2 * stated_count B)) (stated_factor B)
+grown_slots_of B = slots_for (max 1 (2 * header_count B)) (header_factor B)
 
 unfoldable pub grown_len : Format → List ℕ → Option ℕ
 grown_len F B = table_len F (grown_slots_of B)

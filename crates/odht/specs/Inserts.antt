@@ -14,9 +14,9 @@ pub record IsFresh (F : Format) (n percent : ℕ) (B : List ℕ) : Type 0 where
   pub new : fresh n percent ≡ Some table
   pub image : IsImage F table B
 
-pub record IsInserted {K V : Type 0} (c : Coding K V) (put : Table → Pair → Option Table) (P : Table) (k : K) (v : V) (old : Option V) (B : List ℕ) : Type 0 where
+pub record IsInserted {K V : Type 0} (c : Coding K V) (insert : Table → Pair → Option Table) (P : Table) (k : K) (v : V) (old : Option V) (B : List ℕ) : Type 0 where
   pub former : old ≡ value_for c P k
   pub table : Table
-  pub inserted : put P (encoded c k v) ≡ Some table
+  pub inserted : insert P (encoded c k v) ≡ Some table
   pub image : IsImage c.format table B
   pub maps : (q : List ℕ) → map_of table q ≡ (if bytes_eq q (c.key_bytes k) then Some (c.value_bytes v) else map_of P q)

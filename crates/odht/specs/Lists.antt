@@ -1,14 +1,14 @@
 -- Lists of keys and values that are inserted in turn.
---     IsFilled F put P ps B  B are the bytes of the table after the inserts `put` of the pairs ps into P, which has their
+--     IsAfterInserts F put P ps B  B are the bytes of the table after the inserts `put` of the pairs ps into P, which has their
 --                          last values over those of P; where all have room below its maximum, its size stays
 --     HasSizeOf P Q        Q has the slot count and the load factor of P
 --     IsRefusedAt c P items n    P is full for the key of item n
 --     IsStoppedAt c items n B    on the bytes B, accepted, an insert of item n may be refused
---     IsFreshFilled c p items B  B are the bytes of the fresh table for as many items at p percent, after these are put into
+--     IsFreshAfterInserts c p items B  B are the bytes of the fresh table for as many items at p percent, after these are put into
 --                          it by the owned table; it has not grown
 use Rattle.std.specs.Prelude.{◌≡◌, ℕ, ◌+◌, ◌≤◌, List, length, Option, Some, Err, slice_get}
 use Rattle.odht_base.specs.Format.{Format}
-use Rattle.odht_base.specs.Insert.{run, put_owned, IsFullFor}
+use Rattle.odht_base.specs.Insert.{run, insert_owned, IsFullFor}
 use Rattle.odht_base.specs.Load.{max_items}
 use Rattle.odht_base.specs.Map.{map_of, last, overwritten}
 use Rattle.odht_base.specs.Table.{Pair, Table, fresh, slot_count, count}
@@ -21,9 +21,9 @@ use Rattle.odht_raw.specs.declared.error.Error.TheVariants.{Full}
 abbrev pub HasSizeOf : Table → Table → Type 0
 HasSizeOf P Q = (slot_count Q ≡ slot_count P) × (Q.factor ≡ P.factor)
 
-pub record IsFilled (F : Format) (put : Table → Pair → Option Table) (P : Table) (ps : List Pair) (B : List ℕ) : Type 0 where
+pub record IsAfterInserts (F : Format) (insert : Table → Pair → Option Table) (P : Table) (ps : List Pair) (B : List ℕ) : Type 0 where
   pub table : Table
-  pub runs : run put P ps ≡ Some table
+  pub runs : run insert P ps ≡ Some table
   pub image : IsImage F table B
   pub maps : (k : List ℕ) → map_of table k ≡ overwritten (map_of P) (last ps) k
   pub stays : count P + length ps ≤ max_items (slot_count P) P.factor → HasSizeOf P table × (count table ≤ count P + length ps)
@@ -38,8 +38,8 @@ pub record IsStoppedAt {K V : Type 0} (c : Coding K V) (items : List (K × V)) (
   pub at : slice_get items n ≡ Some item
   pub framed : IsFramed c B item.0 item.1 (Err Full) B
 
-pub record IsFreshFilled {K V : Type 0} (c : Coding K V) (percent : ℕ) (items : List (K × V)) (B : List ℕ) : Type 0 where
+pub record IsFreshAfterInserts {K V : Type 0} (c : Coding K V) (percent : ℕ) (items : List (K × V)) (B : List ℕ) : Type 0 where
   pub start : Table
   pub new : fresh (length items) percent ≡ Some start
-  pub filled : IsFilled c.format (put_owned c.format) start (encoded_all c items) B
-  pub never_grown : HasSizeOf start filled.table
+  pub inserted : IsAfterInserts c.format (insert_owned c.format) start (encoded_all c items) B
+  pub never_grown : HasSizeOf start inserted.table

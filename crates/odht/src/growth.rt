@@ -6,7 +6,7 @@ ghost use Rattle.odht_base.specs.Image.{header_bytes, image_len, parts};
 ghost use Rattle.odht_base.specs.Insert.{grown_slots, place_all};
 ghost use Rattle.odht_base.specs.Load.{IsSlotCount};
 ghost use Rattle.odht_base.specs.Map.{KeysApart};
-ghost use Rattle.odht_base.specs.Shown.{stated_count, stated_factor};
+ghost use Rattle.odht_base.specs.Decoded.{header_count, header_factor};
 ghost use Rattle.odht_base.specs.Table.{Table, empty};
 ghost use Rattle.odht_base.specs.Valid.{IsImage, IsPartsOf};
 ghost use Rattle.odht_raw.specs.Frame.{IsAccepted};
@@ -30,7 +30,7 @@ impl<C: Config, D: ByteStore> HashTable<C, D> {
     /// Valid bytes state a load factor of at least one percent, 655. A smaller one is taken as it is: 0 has no slot
     /// count that is enough, so the answer is None.
     pub fn grown_len(&self) -> Option<usize>
-        ensures stated { result ≡ grown_len ⟦<C as Coded>⟧.coding.format (D.bytes self.now) }
+        ensures by_header { result ≡ grown_len ⟦<C as Coded>⟧.coding.format (D.bytes self.now) }
         ensures on_valid { let F = ⟦<C as Coded>⟧.coding.format
             in (P : Table)
             → IsImage F P (D.bytes self.now)
@@ -55,8 +55,8 @@ impl<C: Config, D: ByteStore> HashTable<C, D> {
             → IsImage F P (D.bytes self.now)
             → IsGrownImage F P out.new }
         ensures accepted { IsAccepted ⟦<C as Coded>⟧.coding.format out.new }
-        ensures count { stated_count out.new ≡ stated_count (D.bytes self.now) }
-        ensures factor { stated_factor out.new ≡ stated_factor (D.bytes self.now) }
+        ensures count { header_count out.new ≡ header_count (D.bytes self.now) }
+        ensures factor { header_factor out.new ≡ header_factor (D.bytes self.now) }
     {
         let Some((slot_count, _)) = grown_layout::<C>(&self.allocation().header()) else {
             // `out` has the length of the grown table.
@@ -74,7 +74,7 @@ pub(crate) fn grown_layout<C: Config>(header: &Header<'_>) -> Option<(usize, usi
     ensures { let F = ⟦<C as Coded>⟧.coding.format
         in let B = header.now
         in MatchOption result (grown_len F B ≡ None)
-        (λ l. IsLayout F (max 1 (2 * stated_count B)) (stated_factor B) l.0 l.1) }
+        (λ l. IsLayout F (max 1 (2 * header_count B)) (header_factor B) l.0 l.1) }
 {
     let factor = header.max_load_factor();
     let twice = header.item_count().checked_mul(2)?;
@@ -99,8 +99,8 @@ pub(crate) fn write_grown<C: Config, D: ByteStore>(
         → IsImage F P (D.bytes table.now)
         → IsGrownImage F P out.new }
     ensures accepted { IsAccepted ⟦<C as Coded>⟧.coding.format out.new }
-    ensures count { stated_count out.new ≡ stated_count (D.bytes table.now) }
-    ensures factor { stated_factor out.new ≡ stated_factor (D.bytes table.now) }
+    ensures count { header_count out.new ≡ header_count (D.bytes table.now) }
+    ensures factor { header_factor out.new ≡ header_factor (D.bytes table.now) }
 {
     let header = table.allocation().header();
     let item_count = header.item_count();

@@ -6,12 +6,12 @@ ghost use Rattle.odht_base.specs.Load.{factor_of, slots_for};
 ghost use Rattle.odht_base.specs.Image.{image_len};
 ghost use Rattle.odht_base.specs.Table.{Table, walk, count};
 ghost use Rattle.odht_base.specs.Map.{map_of};
-ghost use Rattle.odht_base.specs.Insert.{put_view, IsFullFor};
+ghost use Rattle.odht_base.specs.Insert.{insert_view, IsFullFor};
 ghost use Rattle.odht_base.specs.Search.{groups_read};
-ghost use Rattle.odht_base.specs.Shown.{stated_count, stated_slots, entries_of, controls_of, seen, HoldsKey};
+ghost use Rattle.odht_base.specs.Decoded.{header_count, header_slots, entries_of, controls_of, decoded_pairs, HoldsKey};
 ghost use Rattle.odht_base.specs.Valid.{IsImage, IsPartsOf, IsValidBytes};
 ghost use Rattle.odht_raw.specs.Coding.{value_for, HasStored};
-ghost use Rattle.odht.specs.Lists.{encoded_all, IsFilled, IsFramedRun, IsRefusedAt, IsStoppedAt};
+ghost use Rattle.odht.specs.Lists.{encoded_all, IsAfterInserts, IsFramedRun, IsRefusedAt, IsStoppedAt};
 ghost use Rattle.odht.specs.Inserts.{IsFresh, IsInserted};
 ghost use Rattle.odht.specs.Lookups.{HaveStored};
 ghost use Rattle.odht_raw.specs.Frame.{IsAccepted, IsFramed};
@@ -28,7 +28,7 @@ use crate::iter::Iter;
 use crate::load::{Factor, max_item_count_for};
 use crate::lookups;
 use crate::memory_layout::{self, Allocation};
-use crate::raw_table::{RawIter, RawTable, Scan, Search, search_hashed, tag_of};
+use crate::raw_table::{RawIter, RawTable, Scan, SearchResult, search_hashed, tag_of};
 use crate::swisstable_group_query::GroupQuery;
 use std::marker::Model;
 
@@ -153,7 +153,7 @@ impl<C: Config, D: ByteStore> HashTable<C, D> {
             → IsImage c.format P (D.bytes self.now)
             → result.1 ≡ groups_read c.format P.cells (c.key_bytes key.now) }
         ensures on_any { IfSome result.0 (λ v. HasStored ⟦<C as Coded>⟧.coding (D.bytes self.now) key.now v) }
-        ensures few { result.1 ≤ stated_slots (D.bytes self.now) / 16 }
+        ensures few { result.1 ≤ header_slots (D.bytes self.now) / 16 }
     {
         let table = self.as_raw();
         let key = C::encode_key(key);
@@ -187,7 +187,7 @@ impl<C: Config, D: ByteStore> HashTable<C, D> {
             → IsImage ⟦<C as Coded>⟧.coding.format P (D.bytes self.now)
             → result ≡ decoded_all ⟦<C as Coded>⟧.coding (walk P) }
         ensures on_any { let c = ⟦<C as Coded>⟧.coding
-            in result ≡ decoded_all c (seen c.format (D.bytes self.now)) }
+            in result ≡ decoded_all c (decoded_pairs c.format (D.bytes self.now)) }
         ensures few { length result ≤ usize.MAX }
     {
         let (control, entries) = self.allocation.data_slices();
@@ -197,7 +197,7 @@ impl<C: Config, D: ByteStore> HashTable<C, D> {
     /// How many items the header states: of valid bytes, how many there are.
     #[inline]
     pub fn len(&self) -> usize
-        ensures stated { result ≡ stated_count (D.bytes self.now) }
+        ensures by_header { result ≡ header_count (D.bytes self.now) }
         ensures on_valid { (P : Table)
             → IsImage ⟦<C as Coded>⟧.coding.format P (D.bytes self.now)
             → result ≡ count P }
@@ -241,7 +241,7 @@ impl<C: Config, D: ByteStore> HashTable<C, D> {
     pub fn as_raw(&self) -> RawTable<'_, C::EncodedKey, C::EncodedValue, C::H>
         ensures control { result.control ≡ controls_of ⟦<C as Coded>⟧.coding.format (D.bytes self.now) }
         ensures entries { result.entries.bytes ≡ entries_of ⟦<C as Coded>⟧.coding.format (D.bytes self.now) }
-        ensures slots { result.entries.slots ≡ stated_slots (D.bytes self.now) }
+        ensures slots { result.entries.slots ≡ header_slots (D.bytes self.now) }
         ensures parts { (P : Table)
             → IsImage ⟦<C as Coded>⟧.coding.format P (D.bytes self.now)
             → IsPartsOf ⟦<C as Coded>⟧.coding.format P result.entries.bytes result.control }
@@ -281,7 +281,7 @@ impl<C: Config, D: ByteStoreMut> HashTable<C, D> {
         requires high { max_load_factor_percent ≤ 100 }
         ensures ok { let F = ⟦<C as Coded>⟧.coding.format
             in IfOk result (λ t. IsFresh F max_item_count max_load_factor_percent (D.bytes t)) }
-        ensures place { IfOk result (λ t. t ≡ D.holding «data» (D.bytes t)) }
+        ensures same_store { IfOk result (λ t. t ≡ D.holding «data» (D.bytes t)) }
         ensures err { let F = ⟦<C as Coded>⟧.coding.format
             in let f = factor_of max_load_factor_percent
             in result_err result ≡ new_refusal F max_item_count f (length (D.bytes «data»)) }
@@ -310,13 +310,13 @@ impl<C: Config, D: ByteStoreMut> HashTable<C, D> {
     ///
     /// On any bytes one value beside an equal key changes, or, below the maximum that the header states, one entry is
     /// written with its tag into a slot that counted as free and the count rises by one; no other byte changes. `Full`
-    /// comes only at the stated maximum, or where each slot counts as filled.
+    /// comes only at the stated maximum, or where each slot counts as occupied.
     #[inline(always)]
     pub fn insert(&mut self, key: &C::Key, value: &C::Value) -> Result<Option<C::Value>, Error>
         ensures ok { let c = ⟦<C as Coded>⟧.coding
             in (P : Table)
             → IsImage c.format P (D.bytes self.old)
-            → IfOk result (λ old. IsInserted c (put_view c.format) P key.now value.now old (D.bytes self.new)) }
+            → IfOk result (λ old. IsInserted c (insert_view c.format) P key.now value.now old (D.bytes self.new)) }
         ensures full { let c = ⟦<C as Coded>⟧.coding
             in (P : Table)
             → IsImage c.format P (D.bytes self.old)
@@ -325,7 +325,7 @@ impl<C: Config, D: ByteStoreMut> HashTable<C, D> {
             in IsFramed c (D.bytes self.old) key.now value.now result (D.bytes self.new) }
         ensures only_full { OnErr result (result ≡ Err Error.Full) }
         ensures refused { OnErr result (self.new ≡ self.old) }
-        ensures place { self.new ≡ D.holding self.old (D.bytes self.new) }
+        ensures same_store { self.new ≡ D.holding self.old (D.bytes self.new) }
         ensures accepted { IsAccepted ⟦<C as Coded>⟧.coding.format (D.bytes self.new) }
     {
         let key = C::encode_key(key);
@@ -337,12 +337,12 @@ impl<C: Config, D: ByteStoreMut> HashTable<C, D> {
         match search_hashed::<C::EncodedKey, C::EncodedValue, C::H, GroupQuery>(
             &mut scan, &entries, &key, hash,
         ) {
-            Search::Found(slot) => {
+            SearchResult::Found(slot) => {
                 let old = entries.get(slot).value;
                 self.allocation.write_value(slot, &value);
                 Ok(Some(C::decode_value(&old)))
             }
-            Search::Free(slot) => {
+            SearchResult::Free(slot) => {
                 let count = header.item_count();
                 let max = max_item_count_for(header.slot_count(), header.max_load_factor());
                 if count >= max {
@@ -353,7 +353,7 @@ impl<C: Config, D: ByteStoreMut> HashTable<C, D> {
                 self.allocation.set_item_count(count + 1);
                 Ok(None)
             }
-            Search::Neither => Err(Error::Full),
+            SearchResult::Neither => Err(Error::Full),
         }
     }
 }

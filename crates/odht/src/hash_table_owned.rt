@@ -4,11 +4,11 @@ ghost use Rattle.odht_base.specs.Load.{factor_of, slots_for};
 ghost use Rattle.odht_base.specs.Table.{Table, walk, count, empty};
 ghost use Rattle.odht_base.specs.Map.{map_of};
 ghost use Rattle.odht_base.specs.Search.{groups_read};
-ghost use Rattle.odht_base.specs.Insert.{put_owned, IsFullFor};
+ghost use Rattle.odht_base.specs.Insert.{insert_owned, IsFullFor};
 ghost use Rattle.odht_base.specs.Valid.{IsImage, IsValidBytes};
 ghost use Rattle.odht_raw.specs.Coding.{value_for};
 ghost use Rattle.odht.specs.Growths.{IsGrownImage};
-ghost use Rattle.odht.specs.Lists.{encoded_all, IsFilled, IsFreshFilled, IsRefusedAt};
+ghost use Rattle.odht.specs.Lists.{encoded_all, IsAfterInserts, IsFreshAfterInserts, IsRefusedAt};
 ghost use Rattle.odht.specs.Inserts.{IsFresh, IsInserted};
 ghost use Rattle.odht.specs.LastValues.{HasLastValues};
 ghost use Rattle.odht_raw.specs.Walks.{decoded_all};
@@ -100,7 +100,7 @@ impl<C: Config> HashTableOwned<C> {
         requires high { max_load_factor_percent ≤ 100 }
         ensures ok { IfOk result (λ t. (xs : List (C.Key × C.Value))
             × Drains I.next_gives items xs
-            × IsFreshFilled ⟦<C as Coded>⟧.coding max_load_factor_percent xs t) }
+            × IsFreshAfterInserts ⟦<C as Coded>⟧.coding max_load_factor_percent xs t) }
         ensures capacity { IsErrOf result Error.Capacity → (xs : List (C.Key × C.Value))
             × Drains I.next_gives items xs
             × IsTooLarge ⟦<C as Coded>⟧.coding.format (length xs) (factor_of max_load_factor_percent) }
@@ -232,7 +232,7 @@ impl<C: Config> HashTableOwned<C> {
         ensures ok { let c = ⟦<C as Coded>⟧.coding
             in (P : Table)
             → IsImage c.format P self.old
-            → IfOk result (λ old. IsInserted c (put_owned c.format) P key.now value.now old self.new) }
+            → IfOk result (λ old. IsInserted c (insert_owned c.format) P key.now value.now old self.new) }
         ensures at_maximum { let c = ⟦<C as Coded>⟧.coding
             in (P : Table)
             → IsImage c.format P self.old
@@ -254,7 +254,7 @@ impl<C: Config> HashTableOwned<C> {
             in (P : Table)
             → IsImage c.format P self.old
             → IsFullFor P (c.key_bytes key.now)
-            → IfOk result (λ old. IsInserted c (put_owned c.format) P key.now value.now old self.new) }
+            → IfOk result (λ old. IsInserted c (insert_owned c.format) P key.now value.now old self.new) }
         ensures memory { OnErr result (result ≡ Err Error.Memory) }
         ensures refused { OnErr result (self.new ≡ self.old) }
     {

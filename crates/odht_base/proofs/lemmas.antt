@@ -3,7 +3,7 @@
 -- answers that are there or not
 pub mod Options
 -- the first item of a list that passes a test
-pub mod Firsts
+pub mod FirstMatch
 -- different items that all stand in a list no longer than theirs are that list in another order
 pub mod Pigeons
 -- what is read and written at a place between two lists
@@ -45,32 +45,32 @@ pub mod Image
 pub mod Writes
 -- ---- Placing, growth and runs of inserts
 -- where the search for a key ends in a placed table
-pub mod Targets
+pub mod SearchEnds
 -- the pairs of cells and the map that they are
 pub mod Pairs
 -- what `place` does to a placed table
 pub mod Places
 -- a valid table has a free slot; empty and fresh tables
-pub mod Rooms
+pub mod FreeSlots
 -- inserts in turn, by any insert that keeps a property and overwrites the map at its key
-pub mod Runs
+pub mod InsertRuns
 -- lists of pairs of different keys, such as a walk
-pub mod Apart
+pub mod DistinctKeys
 -- pairs placed in turn, and the grown table
 pub mod Grown
 -- the inserts of both tables
-pub mod Puts
+pub mod TableInserts
 -- both rules of inserts make the same tables, but where a pair overwrites in a full one
 pub mod CountRules
 -- inserts into a table that has room for them all
 pub mod FreshRuns
 -- the inserts that ask the count alone
-pub mod CountPuts
+pub mod CountedInserts
 -- what a search in a placed table tells of its map
 pub mod Lookups
 -- ---- Tables that inserts make, and insert orders
--- the filled slots of a table
-pub mod Filled
+-- the occupied slots of a table
+pub mod OccupiedSlots
 -- which slots are ready after others
 pub mod ReadySlots
 -- the slots taken so far in the search for an insert order
@@ -87,7 +87,7 @@ pub mod MadeTables
 pub mod SlotWalks
 -- ---- Masks of a group of control bytes
 -- the places of what is true
-pub mod MarkedPlaces
+pub mod MarkedPositions
 -- the set bits of a mask
 pub mod MaskBits
 -- the masks of sixteen lanes

@@ -9,7 +9,7 @@
 use Rattle.std.specs.Prelude.{◌≡◌, ℕ, ◌+◌, ◌<◌, ◌==◌, nat_lt, ◌⊎◌, List, length, filter, position, slice_index, bit_xor, Option, Contains}
 use Rattle.std.specs.List.{range_with_len}
 use Rattle.std.specs.List.Sorted.{IsStrictlyIncreasing}
-use Rattle.odht_base.specs.Shown.{counts_as_free}
+use Rattle.odht_base.specs.Decoded.{counts_as_free}
 
 abbrev pub equal : List ℕ → ℕ → List ℕ
 equal g h = filter (λ i. slice_index g i == h) (range_with_len 0 (length g))
@@ -17,13 +17,13 @@ equal g h = filter (λ i. slice_index g i == h) (range_with_len 0 (length g))
 abbrev pub first_free : List ℕ → Option ℕ
 first_free g = position counts_as_free g
 
-abbrev pub filled : List ℕ → List ℕ
-filled g = filter (λ i. nat_lt (slice_index g i) 128) (range_with_len 0 (length g))
+abbrev pub occupied : List ℕ → List ℕ
+occupied g = filter (λ i. nat_lt (slice_index g i) 128) (range_with_len 0 (length g))
 
 pub record IsReport (g : List ℕ) (h : ℕ) (xs : List ℕ) : Type 0 where
   pub rising : IsStrictlyIncreasing xs
   pub complete : (i : ℕ) → i < length g → slice_index g i ≡ h → Contains xs i
-  pub filled : (i : ℕ) → Contains xs i → (i < length g) × (slice_index g i < 128)
+  pub occupied : (i : ℕ) → Contains xs i → (i < length g) × (slice_index g i < 128)
 
 pub record IsWordReport (g : List ℕ) (h : ℕ) (xs : List ℕ) : Type 0 where
   pub report : IsReport g h xs

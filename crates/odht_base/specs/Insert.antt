@@ -8,8 +8,8 @@
 --     is_full P            P holds the most items that its slots may
 --     is_full_for P k      P is full, and none of its pairs has the key k
 --     IsFullFor P k        the same as a statement
---     put_owned F P p      an insert of the owned table, which grows where P is full for the key of p
---     put_view F P p       an insert of a view, which refuses there
+--     insert_owned F P p      an insert of the owned table, which grows where P is full for the key of p
+--     insert_view F P p       an insert of a view, which refuses there
 use Rattle.std.specs.Prelude.{◌≡◌, ℕ, ◌*◌, max, Bool, ◌==◌, ◌&&◌, List, [], ◌∷◌, set, position, find, Option, Some, None, is_none, option_map, option_and_then, if◌then◌else◌}
 use Rattle.std.specs.Option.{option_or}
 use Rattle.odht_base.specs.Format.{Format}
@@ -28,8 +28,8 @@ unfoldable pub place : Format → Table → Pair → Option Table
 place F P p = option_map (λ cs. record P { cells = cs }) (place_in F P.cells p)
 
 abbrev pub run : (Table → Pair → Option Table) → Table → List Pair → Option Table
-run put P [] = Some P
-run put P (p ∷ ps) = option_and_then (λ Q. run put Q ps) (put P p)
+run insert P [] = Some P
+run insert P (p ∷ ps) = option_and_then (λ Q. run insert Q ps) (insert P p)
 
 abbrev pub place_all : Format → Table → List Pair → Option Table
 place_all F = run (place F)
@@ -49,8 +49,8 @@ is_full_for P k = is_full P && is_none (map_of P k)
 abbrev pub IsFullFor : Table → List ℕ → Type 0
 IsFullFor P k = (count P ≡ max_items (slot_count P) P.factor) × (map_of P k ≡ None)
 
-unfoldable pub put_owned : Format → Table → Pair → Option Table
-put_owned F P p = if is_full_for P p.key then option_and_then (λ Q. place F Q p) (grown F P) else place F P p
+unfoldable pub insert_owned : Format → Table → Pair → Option Table
+insert_owned F P p = if is_full_for P p.key then option_and_then (λ Q. place F Q p) (grown F P) else place F P p
 
-unfoldable pub put_view : Format → Table → Pair → Option Table
-put_view F P p = if is_full_for P p.key then None else place F P p
+unfoldable pub insert_view : Format → Table → Pair → Option Table
+insert_view F P p = if is_full_for P p.key then None else place F P p

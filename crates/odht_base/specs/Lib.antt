@@ -4,7 +4,7 @@ pub mod Numbers
 -- lists of bytes: a piece of them, and a write to them
 pub mod Bytes
 -- room of a fixed length that is filled with other bytes
-pub mod Refills
+pub mod AfterBorrow
 -- the hash functions
 pub mod Hashes
 -- their law: a hash has 32 bits
@@ -36,7 +36,7 @@ pub mod Made
 -- one step of the search for such an order
 pub mod Ready
 -- what any bytes show as a table
-pub mod Shown
+pub mod Decoded
 -- the writes of an insert
 pub mod Writes
 -- groups of control bytes

@@ -1,15 +1,15 @@
 -- The order in which a search from the slot b looks at the s slots of a table.
---     place_slot b s p     the slot at place p of the order
+--     probe_slot b s p     the slot at place p of the order
 --     order b s            the slots at places 0 to s - 1
 -- Group j is the sixteen places from 16 * j on: sixteen neighbouring slots modulo s, 16 * j slots further on than group j - 1.
 use Rattle.std.specs.Prelude.{ℕ, ◌+◌, ◌*◌, ◌/◌, ◌%◌, List, map}
 use Rattle.std.specs.List.{range_with_len}
 
-abbrev pub place_slot : ℕ → ℕ → ℕ → ℕ
-place_slot b s p =
+abbrev pub probe_slot : ℕ → ℕ → ℕ → ℕ
+probe_slot b s p =
     let j = p / 16 in
     let i = p % 16 in
     (b + 8 * j * (j + 1) + i) % s
 
 unfoldable pub order : ℕ → ℕ → List ℕ
-order b s = map (λ p. place_slot b s p) (range_with_len 0 s)
+order b s = map (λ p. probe_slot b s p) (range_with_len 0 s)

@@ -4,17 +4,17 @@
 --     IsStuck F P xs       no slot is ready after xs but those of xs
 use Rattle.std.specs.Prelude.{◌≡◌, ◌≢◌, ℕ, ◌<◌, List, length, take, slice_index, Contains, AllPairs}
 use Rattle.odht_base.specs.Format.{Format, home}
-use Rattle.odht_base.specs.Probe.{place_slot}
+use Rattle.odht_base.specs.Probe.{probe_slot}
 use Rattle.odht_base.specs.Table.{Pair, Table, slot_count}
 use Rattle.odht_base.specs.Valid.{HoldsPair}
 
 pub record IsReady (F : Format) (P : Table) (xs : List ℕ) (i : ℕ) : Type 0 where
   pub pair : Pair
   pub holds : HoldsPair P i pair
-  pub place : ℕ
-  pub in_order : place < slot_count P
-  pub stands : place_slot (home F pair.key (slot_count P)) (slot_count P) place ≡ i
-  pub earlier_taken : (q : ℕ) → q < place → Contains xs (place_slot (home F pair.key (slot_count P)) (slot_count P) q)
+  pub position : ℕ
+  pub in_order : position < slot_count P
+  pub stands : probe_slot (home F pair.key (slot_count P)) (slot_count P) position ≡ i
+  pub earlier_taken : (q : ℕ) → q < position → Contains xs (probe_slot (home F pair.key (slot_count P)) (slot_count P) q)
 
 pub record IsSoFar (F : Format) (P : Table) (xs : List ℕ) : Type 0 where
   pub apart : AllPairs (λ i j. i ≢ j) xs

@@ -15,7 +15,7 @@ use Rattle.odht_base.specs.Format.{Format, home}
 use Rattle.odht_base.specs.Image.{entries, controls, image}
 use Rattle.odht_base.specs.Load.{max_items, IsSlotCount}
 use Rattle.odht_base.specs.Numbers.{IsBytes}
-use Rattle.odht_base.specs.Probe.{place_slot}
+use Rattle.odht_base.specs.Probe.{probe_slot}
 use Rattle.odht_base.specs.Table.{cell_at, Pair, Cells, Table, slot_count, count, is_free, has_key}
 
 pub record IsPairOf (F : Format) (p : Pair) : Type 0 where
@@ -29,10 +29,10 @@ abbrev pub HoldsPair : Table → ℕ → Pair → Type 0
 HoldsPair P i p = cell_at P.cells i ≡ Some p
 
 pub record IsReached (F : Format) (P : Table) (k : List ℕ) (i : ℕ) : Type 0 where
-  pub place : ℕ
-  pub in_order : place < slot_count P
-  pub stands : place_slot (home F k (slot_count P)) (slot_count P) place ≡ i
-  pub earlier_filled : (q : ℕ) → q < place → IsFalse (is_free P.cells (place_slot (home F k (slot_count P)) (slot_count P) q))
+  pub position : ℕ
+  pub in_order : position < slot_count P
+  pub stands : probe_slot (home F k (slot_count P)) (slot_count P) position ≡ i
+  pub earlier_occupied : (q : ℕ) → q < position → IsFalse (is_free P.cells (probe_slot (home F k (slot_count P)) (slot_count P) q))
 
 pub record IsPlaced (F : Format) (P : Table) : Type 0 where
   pub slots : IsSlotCount (slot_count P)

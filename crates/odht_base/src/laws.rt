@@ -6,16 +6,16 @@ ghost use Rattle.std.specs.List.{range_with_len};
 ghost use Rattle.odht_base.specs.Numbers.{num, le_bytes, IsBytes};
 ghost use Rattle.odht_base.specs.Load.{factor_of, IsSlotCount};
 ghost use Rattle.odht_base.specs.Format.{Format, IsFormat};
-ghost use Rattle.odht_base.specs.Probe.{place_slot, order};
+ghost use Rattle.odht_base.specs.Probe.{probe_slot, order};
 ghost use Rattle.odht_base.specs.Table.{Pair, Table, slot_count, is_free, walk, count, empty, fresh};
 ghost use Rattle.odht_base.specs.SlotWalks.{walk_from, slots_from};
 ghost use Rattle.odht_base.specs.Map.{map_of, last, overwritten, KeysApart};
-ghost use Rattle.odht_base.specs.CountRule.{put_owned_by_count, put_view_by_count, NoneOverwritesFull};
-ghost use Rattle.odht_base.specs.Insert.{place, grown, run, put_owned, put_view};
+ghost use Rattle.odht_base.specs.CountRule.{insert_owned_by_count, insert_view_by_count, NoneOverwritesFull};
+ghost use Rattle.odht_base.specs.Insert.{place, grown, run, insert_owned, insert_view};
 ghost use Rattle.odht_base.specs.Image.{image, image_len};
 ghost use Rattle.odht_base.specs.Made.{IsMade, IsInsertOrder, pairs_of};
 ghost use Rattle.odht_base.specs.Valid.{IsPairOf, IsPlaced, IsValid};
-ghost use Rattle.odht_base.specs.Shown.{shown};
+ghost use Rattle.odht_base.specs.Decoded.{decoded_table};
 
 /// A number and its bytes determine one another.
 pub fn numbers_are_their_bytes()
@@ -26,7 +26,7 @@ pub fn numbers_are_their_bytes()
 /// The probe order from any home lists each slot exactly once; place `16 * j + i` of it is slot
 /// `(b + 8 * j * (j + 1) + i) mod s`.
 pub fn orders_list_each_slot_once()
-    ensures place { (b s j i : ℕ) → i < 16 → place_slot b s (16 * j + i) ≡ (b + 8 * j * (j + 1) + i) % s }
+    ensures slot { (b s j i : ℕ) → i < 16 → probe_slot b s (16 * j + i) ≡ (b + 8 * j * (j + 1) + i) % s }
     ensures each_once { (b s : ℕ) → IsSlotCount s → IsPermutation (order b s) (range_with_len 0 s) }
 {}
 
@@ -34,7 +34,7 @@ pub fn orders_list_each_slot_once()
 /// different images.
 pub fn images_determine_tables()
     ensures len { (F : Format) (P : Table) → IsValid F P → length (image F P) ≡ image_len F (slot_count P) }
-    ensures shown { (F : Format) (P : Table) → IsFormat F → IsValid F P → shown F (image F P) ≡ P }
+    ensures decoded { (F : Format) (P : Table) → IsFormat F → IsValid F P → decoded_table F (image F P) ≡ P }
     ensures one { (F : Format) (P Q : Table) → IsFormat F → IsValid F P → IsValid F Q → image F P ≡ image F Q → P ≡ Q }
 {}
 
@@ -45,10 +45,10 @@ pub fn valid_tables_have_room()
     ensures takes { (F : Format) (P : Table) (p : Pair) → IsValid F P → (Q : Table) × (place F P p ≡ Some Q) }
     ensures owned { (F : Format) (n p : ℕ) (P : Table) (ps : List Pair)
         → 1 ≤ p → p ≤ 100 → fresh n p ≡ Some P → All (IsPairOf F) ps → length ps ≤ n
-        → (Q : Table) × (run (put_owned F) P ps ≡ Some Q) × (slot_count Q ≡ slot_count P) }
+        → (Q : Table) × (run (insert_owned F) P ps ≡ Some Q) × (slot_count Q ≡ slot_count P) }
     ensures view { (F : Format) (n p : ℕ) (P : Table) (ps : List Pair)
         → 1 ≤ p → p ≤ 100 → fresh n p ≡ Some P → All (IsPairOf F) ps → length ps ≤ n
-        → (Q : Table) × (run (put_view F) P ps ≡ Some Q) × (slot_count Q ≡ slot_count P) }
+        → (Q : Table) × (run (insert_view F) P ps ≡ Some Q) × (slot_count Q ≡ slot_count P) }
 {}
 
 /// A walk may begin at any slot. At the slot of a pair that another walk came to it gives that pair and those behind it, and
@@ -80,10 +80,10 @@ pub fn growth_keeps_the_map()
 /// Inserts in turn keep a table valid, and have the map of the last values over the former one.
 pub fn runs_have_the_last_values()
     ensures owned { (F : Format) (P Q : Table) (ps : List Pair)
-        → IsValid F P → All (IsPairOf F) ps → run (put_owned F) P ps ≡ Some Q
+        → IsValid F P → All (IsPairOf F) ps → run (insert_owned F) P ps ≡ Some Q
         → IsValid F Q × ((k : List ℕ) → map_of Q k ≡ overwritten (map_of P) (last ps) k) }
     ensures view { (F : Format) (P Q : Table) (ps : List Pair)
-        → IsValid F P → All (IsPairOf F) ps → run (put_view F) P ps ≡ Some Q
+        → IsValid F P → All (IsPairOf F) ps → run (insert_view F) P ps ≡ Some Q
         → IsValid F Q × ((k : List ℕ) → map_of Q k ≡ overwritten (map_of P) (last ps) k) }
 {}
 
@@ -92,15 +92,15 @@ pub fn runs_have_the_last_values()
 /// are all different and new.
 pub fn rules_at_the_maximum_agree()
     ensures owned { (F : Format) (P : Table) (ps : List Pair)
-        → NoneOverwritesFull (put_owned F) P ps → run (put_owned F) P ps ≡ run (put_owned_by_count F) P ps }
+        → NoneOverwritesFull (insert_owned F) P ps → run (insert_owned F) P ps ≡ run (insert_owned_by_count F) P ps }
     ensures view { (F : Format) (P : Table) (ps : List Pair)
-        → NoneOverwritesFull (put_view F) P ps → run (put_view F) P ps ≡ run (put_view_by_count F) P ps }
+        → NoneOverwritesFull (insert_view F) P ps → run (insert_view F) P ps ≡ run (insert_view_by_count F) P ps }
     ensures new_keys_owned { (F : Format) (P : Table) (ps : List Pair)
         → IsValid F P → All (IsPairOf F) ps → KeysApart (walk P ++ ps)
-        → run (put_owned F) P ps ≡ run (put_owned_by_count F) P ps }
+        → run (insert_owned F) P ps ≡ run (insert_owned_by_count F) P ps }
     ensures new_keys_view { (F : Format) (P : Table) (ps : List Pair)
         → IsValid F P → All (IsPairOf F) ps → KeysApart (walk P ++ ps)
-        → run (put_view F) P ps ≡ run (put_view_by_count F) P ps }
+        → run (insert_view F) P ps ≡ run (insert_view_by_count F) P ps }
 {}
 
 /// The valid tables that inserts make, growths included, are exactly those with an insert order. The pairs in such an
@@ -111,14 +111,14 @@ pub fn insert_orders_make_tables()
         → IsValid F P → (IsMade F P ↔ (order : List ℕ) × IsInsertOrder F P order) }
     ensures owned { (F : Format) (P : Table) (order : List ℕ)
         → IsValid F P → IsInsertOrder F P order
-        → run (put_owned F) (empty (slot_count P) P.factor) (pairs_of P order) ≡ Some P }
+        → run (insert_owned F) (empty (slot_count P) P.factor) (pairs_of P order) ≡ Some P }
     ensures view { (F : Format) (P : Table) (order : List ℕ)
         → IsValid F P → IsInsertOrder F P order
-        → run (put_view F) (empty (slot_count P) P.factor) (pairs_of P order) ≡ Some P }
+        → run (insert_view F) (empty (slot_count P) P.factor) (pairs_of P order) ≡ Some P }
     ensures owned_by_count { (F : Format) (P : Table) (order : List ℕ)
         → IsValid F P → IsInsertOrder F P order
-        → run (put_owned_by_count F) (empty (slot_count P) P.factor) (pairs_of P order) ≡ Some P }
+        → run (insert_owned_by_count F) (empty (slot_count P) P.factor) (pairs_of P order) ≡ Some P }
     ensures view_by_count { (F : Format) (P : Table) (order : List ℕ)
         → IsValid F P → IsInsertOrder F P order
-        → run (put_view_by_count F) (empty (slot_count P) P.factor) (pairs_of P order) ≡ Some P }
+        → run (insert_view_by_count F) (empty (slot_count P) P.factor) (pairs_of P order) ≡ Some P }
 {}

@@ -61,11 +61,11 @@ pub fn slots_needed(max_item_count: usize, max_load_factor: Factor) -> Option<us
     ensures least { IfSome result (IsLeastSlots max_item_count max_load_factor.0) }
     ensures room { IfSome result (λ s. max_item_count ≤ max_items s max_load_factor.0) }
 {
-    let filled = (max_item_count as u128 * 65536).div_ceil(max_load_factor.0 as u128);
-    if filled > 1 << 63 {
+    let occupied = (max_item_count as u128 * 65536).div_ceil(max_load_factor.0 as u128);
+    if occupied > 1 << 63 {
         return None;
     }
-    Some((filled as usize).max(16).next_power_of_two())
+    Some((occupied as usize).max(16).next_power_of_two())
 }
 
 /// The maximum item count of `slot_count` slots: at least one slot stays free.

@@ -6,13 +6,13 @@
 ghost use Rattle.std.specs.Prelude.{◌≡◌, ℕ, ◌%◌, ◌<◌, List, Option, length, drop, slice_get, is_some};
 ghost use Rattle.odht_base.specs.Groups.{IsReport, first_free};
 
-mod filled;
 pub mod lanes;
 mod mask;
 pub mod no_simd;
+mod occupied;
 
-pub use filled::FilledQuery;
 pub use lanes::{GROUP_SIZE, GroupQuery};
+pub use occupied::OccupiedQuery;
 
 /// How many control bytes count as one group in the probe order, however many are looked at at once.
 pub const REFERENCE_GROUP_SIZE: usize = 16;

@@ -28,6 +28,6 @@ pub mod InsertAlls
 -- tables that are copied into bytes of the caller
 pub mod HandedOut
 -- tables that are built in memory
-pub mod Filled
+pub mod AfterInserts
 -- what the calls answer that build a table
 pub mod Builds

@@ -3,7 +3,7 @@
 --     IsHandedOut IsTable out s out' len'   bytes that are a table, as `IsTable` tells, were copied to the front of
 --                          `out` and the rest of it stays, or they are longer than it and all of it stays; len' is
 --                          their length
---     IsGrownFilled c items B  B are the bytes of the table that starts with sixteen slots at 87 percent, after the
+--     IsGrownAfterInserts c items B  B are the bytes of the table that starts with sixteen slots at 87 percent, after the
 --                          items are put into it by the owned table, which grows where it must
 --     Each of the calls, of bytes that the coding c reads and of the key and the value at each index:
 --     BuildAnswers c keys values p out len s out' len'   a table made at p percent for as many pairs as there are
@@ -11,13 +11,13 @@
 -- Where the arrays are not equally long, or p is no load factor in percent, nothing is written.
 use Rattle.std.specs.Prelude.{◌≡◌, ◌≤◌, ◌<◌, ℕ, List, length, take, drop, Some}
 use Rattle.std.specs.List.{zip}
-use Rattle.odht_base.specs.Insert.{put_owned}
+use Rattle.odht_base.specs.Insert.{insert_owned}
 use Rattle.odht_base.specs.Load.{factor_of}
 use Rattle.odht_base.specs.Table.{Table, fresh}
 use Rattle.odht_raw.specs.Coding.{Coding}
 use Rattle.odht_raw.specs.Refusals.{IsTooLarge}
 use Rattle.odht_raw.specs.declared.error.Error.TheVariants.{Memory, Capacity}
-use Rattle.odht.specs.Lists.{encoded_all, IsFilled, IsFreshFilled}
+use Rattle.odht.specs.Lists.{encoded_all, IsAfterInserts, IsFreshAfterInserts}
 use Rattle.odht_c.specs.Statuses.{status_of, IsPercent, done, bad_percent, bad_lengths, too_small}
 
 pub record IsHandedOut (IsTable : List ℕ → Type 0) (out : List ℕ) (s : ℕ) (out' : List ℕ) (len' : ℕ) : Type 0 where
@@ -27,15 +27,15 @@ pub record IsHandedOut (IsTable : List ℕ → Type 0) (out : List ℕ) (s : ℕ
   pub needed : s ≡ too_small → (B : List ℕ) × (length B ≡ len') × IsTable B
   pub too_small : s ≡ too_small → (length out < len') × (out' ≡ out)
 
-abbrev pub IsGrownFilled : {K V : Type 0} → Coding K V → List (K × V) → List ℕ → Type 0
-IsGrownFilled c items B =
-    (P : Table) → fresh 12 87 ≡ Some P → IsFilled c.format (put_owned c.format) P (encoded_all c items) B
+abbrev pub IsGrownAfterInserts : {K V : Type 0} → Coding K V → List (K × V) → List ℕ → Type 0
+IsGrownAfterInserts c items B =
+    (P : Table) → fresh 12 87 ≡ Some P → IsAfterInserts c.format (insert_owned c.format) P (encoded_all c items) B
 
 pub record BuildAnswers {K V : Type 0} (c : Coding K V) (keys : List K) (values : List V) (p : ℕ)
     (out : List ℕ) (len s : ℕ) (out' : List ℕ) (len' : ℕ) : Type 0 where
   pub lengths : (length values ≡ length keys → ⊥) → (s ≡ bad_lengths) × (out' ≡ out) × (len' ≡ len)
   pub percent : length values ≡ length keys → (IsPercent p → ⊥) → (s ≡ bad_percent) × (out' ≡ out) × (len' ≡ len)
-  pub built : IsHandedOut (IsFreshFilled c p (zip keys values)) out s out' len'
+  pub built : IsHandedOut (IsFreshAfterInserts c p (zip keys values)) out s out' len'
   pub refused : length values ≡ length keys → IsPercent p → (s ≡ done → ⊥) → (s ≡ too_small → ⊥)
       → (s ≡ status_of Capacity) × (out' ≡ out) × (len' ≡ len)
   pub capacity : s ≡ status_of Capacity → IsTooLarge c.format (length keys) (factor_of p)
@@ -43,6 +43,6 @@ pub record BuildAnswers {K V : Type 0} (c : Coding K V) (keys : List K) (values 
 pub record BuildGrowingAnswers {K V : Type 0} (c : Coding K V) (keys : List K) (values : List V)
     (out : List ℕ) (len s : ℕ) (out' : List ℕ) (len' : ℕ) : Type 0 where
   pub lengths : (length values ≡ length keys → ⊥) → (s ≡ bad_lengths) × (out' ≡ out) × (len' ≡ len)
-  pub built : IsHandedOut (IsGrownFilled c (zip keys values)) out s out' len'
+  pub built : IsHandedOut (IsGrownAfterInserts c (zip keys values)) out s out' len'
   pub refused : length values ≡ length keys → (s ≡ done → ⊥) → (s ≡ too_small → ⊥)
       → (s ≡ status_of Memory) × (out' ≡ out) × (len' ≡ len)

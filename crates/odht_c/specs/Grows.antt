@@ -8,7 +8,7 @@
 --     GrowAnswers c B out len s out' len'   the call, in bytes B that the coding c reads
 use Rattle.std.specs.Prelude.{◌≡◌, ◌≤◌, ◌<◌, ℕ, List, [], ◌∷◌, length, take, drop, Option, Some, None, is_none}
 use Rattle.odht_base.specs.Format.{Format}
-use Rattle.odht_base.specs.Shown.{stated_count, stated_factor}
+use Rattle.odht_base.specs.Decoded.{header_count, header_factor}
 use Rattle.odht_base.specs.Table.{Table}
 use Rattle.odht_base.specs.Valid.{IsImage}
 use Rattle.odht_raw.specs.Coding.{Coding}
@@ -24,8 +24,8 @@ growth_refusal F B = first_of (opening_refusal F B ∷ factor_refusal B ∷ (is_
 
 pub record IsGrownFrom (F : Format) (B T : List ℕ) : Type 0 where
   pub accepted : IsAccepted F T
-  pub count : stated_count T ≡ stated_count B
-  pub factor : stated_factor T ≡ stated_factor B
+  pub count : header_count T ≡ header_count B
+  pub factor : header_factor T ≡ header_factor B
   pub on_valid : (P : Table) → IsImage F P B → IsGrownImage F P T
 
 pub record IsGrownInto (F : Format) (B : List ℕ) (n : ℕ) (out out' : List ℕ) : Type 0 where

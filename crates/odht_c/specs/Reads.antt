@@ -14,10 +14,10 @@ use Rattle.std.specs.Prelude.{◌≡◌, ℕ, Option, Some, None, IfSome, List, 
 use Rattle.odht_base.specs.Format.{Format}
 use Rattle.odht_base.specs.Load.{max_items, percent_of}
 use Rattle.odht_base.specs.Table.{Table, slot_count, count}
-use Rattle.odht_base.specs.Shown.{stated_count, stated_slots, stated_factor}
+use Rattle.odht_base.specs.Decoded.{header_count, header_slots, header_factor}
 use Rattle.odht_base.specs.Valid.{IsImage}
 use Rattle.odht_raw.specs.Coding.{Coding, value_for, HasStored}
-use Rattle.odht_raw.specs.Frame.{IsAccepted, stated_maximum}
+use Rattle.odht_raw.specs.Frame.{IsAccepted, header_maximum}
 use Rattle.odht_raw.specs.Refusals.{opening_refusal}
 use Rattle.odht_raw.specs.declared.error.Error.{Error}
 use Rattle.odht_c.specs.Statuses.{status_of, status_or_ok, AreAsLong, done, absent, bad_lengths}
@@ -51,14 +51,14 @@ pub record GetAllAnswers {K V : Type 0} (c : Coding K V) (B : List ℕ) (keys : 
 pub record LenAnswers {K V : Type 0} (c : Coding K V) (B : List ℕ) (old s new : ℕ) : Type 0 where
   pub status : s ≡ status_or_ok (opening_refusal c.format B)
   pub refused : (e : Error) → opening_refusal c.format B ≡ Some e → new ≡ old
-  pub stated : IsAccepted c.format B → new ≡ stated_count B
+  pub by_header : IsAccepted c.format B → new ≡ header_count B
   pub on_valid : (P : Table) → IsImage c.format P B → new ≡ count P
 
 pub record SizesAnswers (F : Format) (B : List ℕ) (slots maximum percent s slots' maximum' percent' : ℕ) : Type 0 where
   pub status : s ≡ status_or_ok (opening_refusal F B)
   pub refused : (e : Error) → opening_refusal F B ≡ Some e
       → (slots' ≡ slots) × (maximum' ≡ maximum) × (percent' ≡ percent)
-  pub stated : IsAccepted F B
-      → (slots' ≡ stated_slots B) × (maximum' ≡ stated_maximum B) × (percent' ≡ percent_of (stated_factor B))
+  pub by_header : IsAccepted F B
+      → (slots' ≡ header_slots B) × (maximum' ≡ header_maximum B) × (percent' ≡ percent_of (header_factor B))
   pub on_valid : (P : Table) → IsImage F P B
       → (slots' ≡ slot_count P) × (maximum' ≡ max_items (slot_count P) P.factor) × (percent' ≡ percent_of P.factor)

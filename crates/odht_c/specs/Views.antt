@@ -14,7 +14,7 @@ use Rattle.std.specs.Prelude.{◌≡◌, ℕ, Option, Some, IfSome, List, length
 use Rattle.std.specs.Borrow.{Bor}
 use Rattle.odht_base.specs.Format.{Format}
 use Rattle.odht_base.specs.Table.{Table, count}
-use Rattle.odht_base.specs.Shown.{stated_count}
+use Rattle.odht_base.specs.Decoded.{header_count}
 use Rattle.odht_base.specs.Valid.{IsImage}
 use Rattle.odht_raw.specs.Coding.{Coding, value_for, HasStored}
 use Rattle.odht_raw.specs.Frame.{IsAccepted}
@@ -44,5 +44,5 @@ pub record ViewGetAllAnswers {K V : Type 0} (c : Coding K V) (B : List ℕ) (key
       → (o : Option V) × IsGotAt o (slice_get vs i) (slice_get fs' i) (slice_get vs' i) × IfSome o (HasStored c B k)
 
 pub record ViewLenAnswers {K V : Type 0} (c : Coding K V) (B : List ℕ) (n : ℕ) : Type 0 where
-  pub stated : n ≡ stated_count B
+  pub by_header : n ≡ header_count B
   pub on_valid : (P : Table) → IsImage c.format P B → n ≡ count P

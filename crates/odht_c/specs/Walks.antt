@@ -8,7 +8,7 @@
 -- Bytes whose header or length is refused change no place, and neither do arrays that are not equally long. The clause
 -- `on_valid` speaks of the bytes of a valid table, and `on_any` of the table that bytes show which a view accepts.
 use Rattle.std.specs.Prelude.{◌≡◌, ◌≤◌, ◌<◌, ℕ, min, Some, IsFalse, List, ◌++◌, length, map, take, drop}
-use Rattle.odht_base.specs.Shown.{shown}
+use Rattle.odht_base.specs.Decoded.{decoded_table}
 use Rattle.odht_base.specs.SlotWalks.{walk_from}
 use Rattle.odht_base.specs.Table.{Table, slot_count, is_free}
 use Rattle.odht_base.specs.Valid.{IsImage}
@@ -21,7 +21,7 @@ use Rattle.odht_c.specs.Statuses.{status_of, done, bad_lengths, too_small}
 
 pub record IsWalked {K V : Type 0} (c : Coding K V) (P : Table) (at : ℕ) (ks : List K) (vs : List V) (s at' : ℕ)
     (ks' : List K) (vs' : List V) (n : ℕ) : Type 0 where
-  pub told : n ≡ min (length (walk_from P at)) (length ks)
+  pub known : n ≡ min (length (walk_from P at)) (length ks)
   pub keys : ks' ≡ map (λ x. x.0) (take n (decoded_all c (walk_from P at))) ++ drop n ks
   pub values : vs' ≡ map (λ x. x.1) (take n (decoded_all c (walk_from P at))) ++ drop n vs
   pub left : walk_from P at' ≡ drop n (walk_from P at)
@@ -34,4 +34,4 @@ pub record WalkAnswers {K V : Type 0} (c : Coding K V) (B : List ℕ) (at : ℕ)
   pub refused : (e : Error) → length vs ≡ length ks → opening_refusal c.format B ≡ Some e
       → (s ≡ status_of e) × (at' ≡ at) × (ks' ≡ ks) × (vs' ≡ vs) × (n' ≡ n)
   pub on_valid : (P : Table) → length vs ≡ length ks → IsImage c.format P B → IsWalked c P at ks vs s at' ks' vs' n'
-  pub on_any : length vs ≡ length ks → IsAccepted c.format B → IsWalked c (shown c.format B) at ks vs s at' ks' vs' n'
+  pub on_any : length vs ≡ length ks → IsAccepted c.format B → IsWalked c (decoded_table c.format B) at ks vs s at' ks' vs' n'

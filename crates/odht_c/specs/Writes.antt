@@ -2,7 +2,7 @@
 -- The status is s; B, `old` and n stand in the places before the call, and B', `new` and n' after it.
 --     IsFormer o old s new an insert over the former value o answers the status s, and leaves `new` where `old` stood
 --     IsAnswered r old s new   the same of an insert that may be refused
---     IsPut c P k v B' old s new   an insert of k with v into the table P leaves the bytes B' of the table after it, or
+--     IsAfterInsert c P k v B' old s new   an insert of k with v into the table P leaves the bytes B' of the table after it, or
 --                          is refused where P is full for the key and leaves all as it was
 --     Each of the calls, of bytes that the coding c reads:
 --     BytesNeededAnswers c m p old s new      how many bytes a new table for m items at p percent has
@@ -16,7 +16,7 @@ use Rattle.std.specs.Prelude.{◌≡◌, ◌≤◌, ◌<◌, ◌^◌, ℕ, List,
 use Rattle.std.specs.Prelude.{Option, Some, None, MatchOption, Result, Ok, Err}
 use Rattle.std.specs.List.{zip}
 use Rattle.odht_base.specs.Image.{image_len}
-use Rattle.odht_base.specs.Insert.{put_view}
+use Rattle.odht_base.specs.Insert.{insert_view}
 use Rattle.odht_base.specs.Load.{factor_of, slots_for}
 use Rattle.odht_base.specs.Table.{Table, fresh}
 use Rattle.odht_base.specs.Valid.{IsImage}
@@ -25,7 +25,7 @@ use Rattle.odht_raw.specs.Frame.{IsAccepted, IsFramed}
 use Rattle.odht_raw.specs.Refusals.{IsTooLarge, new_refusal, opening_refusal}
 use Rattle.odht_raw.specs.declared.error.Error.{Error}
 use Rattle.odht_raw.specs.declared.error.Error.TheVariants.{Full, Capacity}
-use Rattle.odht.specs.Lists.{encoded_all, IsFilled, IsFramedRun, IsRefusedAt, IsStoppedAt}
+use Rattle.odht.specs.Lists.{encoded_all, IsAfterInserts, IsFramedRun, IsRefusedAt, IsStoppedAt}
 use Rattle.odht_c.specs.Statuses.{status_of, IsPercent, done, replaced, bad_percent, bad_lengths}
 
 abbrev pub IsFormer : {V : Type 0} → Option V → V → ℕ → V → Type 0
@@ -36,9 +36,9 @@ abbrev pub IsAnswered : {V : Type 0} → Result (Option V) Error → V → ℕ �
 IsAnswered (Ok o) old s new = IsFormer o old s new
 IsAnswered (Err e) old s new = (s ≡ status_of e) × (new ≡ old)
 
-abbrev pub IsPut : {K V : Type 0} → Coding K V → Table → K → V → List ℕ → V → ℕ → V → Type 0
-IsPut c P k v B' old s new =
-    MatchOption (put_view c.format P (encoded c k v))
+abbrev pub IsAfterInsert : {K V : Type 0} → Coding K V → Table → K → V → List ℕ → V → ℕ → V → Type 0
+IsAfterInsert c P k v B' old s new =
+    MatchOption (insert_view c.format P (encoded c k v))
     (IsImage c.format P B' × (s ≡ status_of Full) × (new ≡ old))
     (λ Q. IsImage c.format Q B' × IsFormer (value_for c P k) old s new)
 
@@ -58,7 +58,7 @@ pub record InitAnswers {K V : Type 0} (c : Coding K V) (m p : ℕ) (B : List ℕ
 pub record InsertAnswers {K V : Type 0} (c : Coding K V) (B : List ℕ) (k : K) (v old : V) (s : ℕ)
     (B' : List ℕ) (new : V) : Type 0 where
   pub refused : (e : Error) → opening_refusal c.format B ≡ Some e → (s ≡ status_of e) × (B' ≡ B) × (new ≡ old)
-  pub on_valid : (P : Table) → IsImage c.format P B → IsPut c P k v B' old s new
+  pub on_valid : (P : Table) → IsImage c.format P B → IsAfterInsert c P k v B' old s new
   pub on_any : IsAccepted c.format B
       → (r : Result (Option V) Error) × IsAnswered r old s new × IsFramed c B k v r B'
 
@@ -70,8 +70,8 @@ pub record InsertAllAnswers {K V : Type 0} (c : Coding K V) (B : List ℕ) (keys
   pub bound : length values ≡ length keys → IsAccepted c.format B → n' ≤ length keys
   pub all : length values ≡ length keys → IsAccepted c.format B → n' ≡ length keys → s ≡ done
   pub some : length values ≡ length keys → IsAccepted c.format B → n' < length keys → s ≡ status_of Full
-  pub filled : (P : Table) → length values ≡ length keys → IsImage c.format P B
-      → IsFilled c.format (put_view c.format) P (encoded_all c (take n' (zip keys values))) B'
+  pub inserted : (P : Table) → length values ≡ length keys → IsImage c.format P B
+      → IsAfterInserts c.format (insert_view c.format) P (encoded_all c (take n' (zip keys values))) B'
   pub framed : length values ≡ length keys → IsAccepted c.format B
       → IsFramedRun c B (take n' (zip keys values)) B'
   pub at_maximum : (P : Table) → length values ≡ length keys → IsAccepted c.format B → IsImage c.format P B'

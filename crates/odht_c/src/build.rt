@@ -5,7 +5,7 @@ ghost use Rattle.odht_base.specs.Image.{image_len};
 ghost use Rattle.odht_base.specs.Load.{factor_of, slots_for};
 ghost use Rattle.odht_base.specs.Valid.{IsPairOf};
 ghost use Rattle.odht_raw.specs.Runs.{encoded_all};
-ghost use Rattle.odht.specs.Lists.{IsFreshFilled};
+ghost use Rattle.odht.specs.Lists.{IsFreshAfterInserts};
 ghost use Rattle.odht_c.specs.Statuses.{done, too_small};
 ghost use Rattle.odht_c.specs.Builds.{IsHandedOut, BuildAnswers, BuildGrowingAnswers};
 
@@ -42,7 +42,7 @@ pub(crate) fn collected<C: Config>(
     if out.len() < needed {
         return TOO_SMALL;
     }
-    fill_new::<C>(
+    insert_into_new::<C>(
         &mut out[..needed],
         slot_count,
         max_load_factor_percent,
@@ -68,7 +68,7 @@ fn hold_pairs<C: Config>(keys: &[C::Key], values: &[C::Value])
 
 // Makes the table for the pairs in the bytes, whatever stood there, and inserts them in turn: there is room for each.
 #[inline(always)]
-fn fill_new<C: Config>(
+fn insert_into_new<C: Config>(
     bytes: &mut [u8],
     slot_count: usize,
     max_load_factor_percent: u8,
@@ -82,11 +82,11 @@ fn fill_new<C: Config>(
     requires len { length bytes.old ≡ image_len ⟦<C as Coded>⟧.coding.format slot_count }
     requires pairs { let c = ⟦<C as Coded>⟧.coding
         in All (IsPairOf c.format) (encoded_all c (zip keys.now values.now)) }
-    ensures { IsFreshFilled ⟦<C as Coded>⟧.coding max_load_factor_percent (zip keys.now values.now) bytes.new }
+    ensures { IsFreshAfterInserts ⟦<C as Coded>⟧.coding max_load_factor_percent (zip keys.now values.now) bytes.new }
 {
-    let mut place = BorrowedMut::new(bytes);
-    fill_place::<C, BorrowedMut<'_>>(
-        &mut place,
+    let mut store = BorrowedMut::new(bytes);
+    insert_into_store::<C, BorrowedMut<'_>>(
+        &mut store,
         slot_count,
         max_load_factor_percent,
         keys,
@@ -96,8 +96,8 @@ fn fill_new<C: Config>(
 
 // The same in a place of bytes.
 #[inline(always)]
-fn fill_place<C: Config, M: ByteStoreMut>(
-    place: &mut M,
+fn insert_into_store<C: Config, M: ByteStoreMut>(
+    store: &mut M,
     slot_count: usize,
     max_load_factor_percent: u8,
     keys: &[C::Key],
@@ -107,16 +107,16 @@ fn fill_place<C: Config, M: ByteStoreMut>(
     requires low { 1 ≤ max_load_factor_percent }
     requires high { max_load_factor_percent ≤ 100 }
     requires slots { slots_for (length keys.now) (factor_of max_load_factor_percent) ≡ Some slot_count }
-    requires len { length (M.bytes place.old) ≡ image_len ⟦<C as Coded>⟧.coding.format slot_count }
+    requires len { length (M.bytes store.old) ≡ image_len ⟦<C as Coded>⟧.coding.format slot_count }
     requires pairs { let c = ⟦<C as Coded>⟧.coding
         in All (IsPairOf c.format) (encoded_all c (zip keys.now values.now)) }
-    ensures filled { let items = zip keys.now values.now
-        in IsFreshFilled ⟦<C as Coded>⟧.coding max_load_factor_percent items (M.bytes place.new) }
-    ensures place { place.new ≡ M.holding place.old (M.bytes place.new) }
+    ensures inserted { let items = zip keys.now values.now
+        in IsFreshAfterInserts ⟦<C as Coded>⟧.coding max_load_factor_percent items (M.bytes store.new) }
+    ensures same_store { store.new ≡ M.holding store.old (M.bytes store.new) }
 {
     let factor = Factor::from_percent(max_load_factor_percent);
-    make::<C, M>(place, slot_count, factor);
-    let mut table = HashTable::<C, &mut M>::from_raw_bytes_unchecked(place);
+    make::<C, M>(store, slot_count, factor);
+    let mut table = HashTable::<C, &mut M>::from_raw_bytes_unchecked(store);
     let _ = table.insert_items(&Zipped::new(keys, values));
     let _place = table.into_data();
 }

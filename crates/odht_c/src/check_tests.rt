@@ -9,7 +9,7 @@ use std::process::Abort;
 // Writes the byte of each change in its place.
 fn change(rt: &impl Abort, bytes: &mut [u8], changes: &[(usize, u8)]) {
     for (at, byte) in changes {
-        assert!(rt; *at < bytes.len(), "the place of a change");
+        assert!(rt; *at < bytes.len(), "where a change is");
         bytes[*at] = *byte;
     }
 }

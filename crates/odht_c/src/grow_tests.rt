@@ -72,7 +72,7 @@ fn same_rest(rt: &impl Abort, found: &[u8], from: usize, expected: u8) {
 
 // Writes one byte.
 fn set(rt: &impl Abort, bytes: &mut [u8], at: usize, byte: u8) {
-    assert!(rt; at < bytes.len(), "the place of a byte");
+    assert!(rt; at < bytes.len(), "where the byte is");
     bytes[at] = byte;
 }
 

@@ -6,7 +6,7 @@ use odht::bytes::Borrowed;
 use odht::config::{Coded, Config};
 use odht::{HashTable, memory_layout};
 
-/// The filled slots in an order in which inserts of their pairs make the table, written to `out`, where there is one.
+/// The occupied slots in an order in which inserts of their pairs make the table, written to `out`, where there is one.
 #[inline]
 pub(crate) fn insert_order<C: Config>(bytes: &[u8], out: &mut [usize]) -> u32
     ensures { OrderAnswers ⟦<C as Coded>⟧.coding bytes.now out.old result out.new }

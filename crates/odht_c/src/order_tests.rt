@@ -19,7 +19,7 @@ fn same_status(rt: &impl Abort, what: &str, found: u32, expected: u32) {
 fn same_slots(rt: &impl Abort, found: &[usize], expected: &[usize]) {
     assert_eq!(rt; found.len(), expected.len(), "places");
     for index in 0..found.len() {
-        assert_eq!(rt; found[index], expected[index], "the slot at place {index}");
+        assert_eq!(rt; found[index], expected[index], "the slot at {index}");
     }
 }
 

@@ -37,13 +37,13 @@ pub(crate) fn bytes_needed<C: Config>(
 
 /// Makes an empty table for so many items in the place, whatever stood there. A refusal leaves it.
 pub(crate) fn init<C: Config, M: ByteStoreMut>(
-    place: &mut M,
+    store: &mut M,
     max_item_count: usize,
     max_load_factor_percent: u8,
 ) -> u32
     ensures answer { InitAnswers ⟦<C as Coded>⟧.coding max_item_count max_load_factor_percent
-        (M.bytes place.old) result (M.bytes place.new) }
-    ensures place { place.new ≡ M.holding place.old (M.bytes place.new) }
+        (M.bytes store.old) result (M.bytes store.new) }
+    ensures same_store { store.new ≡ M.holding store.old (M.bytes store.new) }
 {
     if max_load_factor_percent < 1 || max_load_factor_percent > 100 {
         return BAD_PERCENT;
@@ -52,47 +52,47 @@ pub(crate) fn init<C: Config, M: ByteStoreMut>(
     let Some((slot_count, expected)) = memory_layout::layout_for::<C>(max_item_count, factor) else {
         return CAPACITY;
     };
-    if place.bytes().len() != expected {
+    if store.bytes().len() != expected {
         return INIT_LENGTH;
     }
-    make::<C, M>(place, slot_count, factor);
+    make::<C, M>(store, slot_count, factor);
     OK
 }
 
 /// Makes the empty table of `slot_count` slots in the place, whatever stood there. One pass over the bytes.
 pub(crate) fn make<C: Config, M: ByteStoreMut>(
-    place: &mut M,
+    store: &mut M,
     slot_count: usize,
     max_load_factor: Factor,
 )
     requires slots { IsSlotCount slot_count }
-    requires len { length (M.bytes place.old) ≡ image_len ⟦<C as Coded>⟧.coding.format slot_count }
+    requires len { length (M.bytes store.old) ≡ image_len ⟦<C as Coded>⟧.coding.format slot_count }
     ensures bytes { let F = ⟦<C as Coded>⟧.coding.format
-        in M.bytes place.new ≡ with_count (image F (empty slot_count max_load_factor.0)) 0 }
-    ensures place { place.new ≡ M.holding place.old (M.bytes place.new) }
+        in M.bytes store.new ≡ with_count (image F (empty slot_count max_load_factor.0)) 0 }
+    ensures same_store { store.new ≡ M.holding store.old (M.bytes store.new) }
 {
-    let table = memory_layout::init_in_place::<C, &mut M>(place, slot_count, 0, max_load_factor);
+    let table = memory_layout::init_in_place::<C, &mut M>(store, slot_count, 0, max_load_factor);
     let _place = table.into_store();
 }
 
 /// Gives the key this value, and writes its former one to `former`, where it had one.
 #[inline(always)]
 pub(crate) fn insert<C: Config, M: ByteStoreMut>(
-    place: &mut M,
+    store: &mut M,
     key: &C::Key,
     value: &C::Value,
     former: &mut C::Value,
 ) -> u32
-    ensures answer { InsertAnswers ⟦<C as Coded>⟧.coding (M.bytes place.old) key.now value.now
-        former.old result (M.bytes place.new) former.new }
+    ensures answer { InsertAnswers ⟦<C as Coded>⟧.coding (M.bytes store.old) key.now value.now
+        former.old result (M.bytes store.new) former.new }
     ensures accepted { let F = ⟦<C as Coded>⟧.coding.format
-        in IsAccepted F (M.bytes place.old) → IsAccepted F (M.bytes place.new) }
-    ensures place { place.new ≡ M.holding place.old (M.bytes place.new) }
+        in IsAccepted F (M.bytes store.old) → IsAccepted F (M.bytes store.new) }
+    ensures same_store { store.new ≡ M.holding store.old (M.bytes store.new) }
 {
-    if let Err(refused) = view::<C>(place.bytes()) {
+    if let Err(refused) = view::<C>(store.bytes()) {
         return status_of(&refused);
     }
-    let mut table = HashTable::<C, &mut M>::from_raw_bytes_unchecked(place);
+    let mut table = HashTable::<C, &mut M>::from_raw_bytes_unchecked(store);
     let answer = table.insert(key, value);
     let _place = table.into_data();
     match answer {
@@ -108,22 +108,22 @@ pub(crate) fn insert<C: Config, M: ByteStoreMut>(
 /// Inserts the pairs in their order, up to the first that is refused, and tells how many were accepted.
 #[inline]
 pub(crate) fn insert_all<C: Config, M: ByteStoreMut>(
-    place: &mut M,
+    store: &mut M,
     keys: &[C::Key],
     values: &[C::Value],
     accepted: &mut usize,
 ) -> u32
     requires { length values.now ≡ length keys.now }
-    ensures answer { InsertAllAnswers ⟦<C as Coded>⟧.coding (M.bytes place.old) keys.now values.now
-        accepted.old result (M.bytes place.new) accepted.new }
+    ensures answer { InsertAllAnswers ⟦<C as Coded>⟧.coding (M.bytes store.old) keys.now values.now
+        accepted.old result (M.bytes store.new) accepted.new }
     ensures accepted { let F = ⟦<C as Coded>⟧.coding.format
-        in IsAccepted F (M.bytes place.old) → IsAccepted F (M.bytes place.new) }
-    ensures place { place.new ≡ M.holding place.old (M.bytes place.new) }
+        in IsAccepted F (M.bytes store.old) → IsAccepted F (M.bytes store.new) }
+    ensures same_store { store.new ≡ M.holding store.old (M.bytes store.new) }
 {
-    if let Err(refused) = view::<C>(place.bytes()) {
+    if let Err(refused) = view::<C>(store.bytes()) {
         return status_of(&refused);
     }
-    let mut table = HashTable::<C, &mut M>::from_raw_bytes_unchecked(place);
+    let mut table = HashTable::<C, &mut M>::from_raw_bytes_unchecked(store);
     let (count, answer) = table.insert_items(&Zipped::new(keys, values));
     let _place = table.into_data();
     *accepted = count;

@@ -12,7 +12,7 @@ ghost use Rattle.odht_base.specs.Table.{Table};
 ghost use Rattle.odht_base.specs.Valid.{IsImage};
 ghost use Rattle.odht_raw.specs.Coding.{value_for, HasStored};
 ghost use Rattle.odht_raw.specs.Refusals.{IsTooLarge, view_refusal};
-ghost use Rattle.odht.specs.Lists.{IsFreshFilled};
+ghost use Rattle.odht.specs.Lists.{IsFreshAfterInserts};
 ghost use Rattle.odht.specs.LastValues.{HasLastValues, IsLastValue};
 
 use odht::bytes::Borrowed;
@@ -97,8 +97,8 @@ impl Lossless for IndexConfig {
 /// memory was refused. A refusal leaves nothing behind. Each pair is hashed once, the table never grows, and its bytes
 /// are copied once.
 pub fn build(alloc: Global, pairs: &[([u8; 16], u32)]) -> Result<Vec<u8>, Error>
-    ensures filled { let c = ⟦<IndexConfig as Coded>⟧.coding
-        in IfOk result (λ bytes. IsFreshFilled c 87 pairs.now bytes.items) }
+    ensures inserted { let c = ⟦<IndexConfig as Coded>⟧.coding
+        in IfOk result (λ bytes. IsFreshAfterInserts c 87 pairs.now bytes.items) }
     ensures last_numbers { let c = ⟦<IndexConfig as Coded>⟧.coding
         in IfOk result (λ bytes. HasLastValues c pairs.now bytes.items) }
     ensures capacity { let F = ⟦<IndexConfig as Coded>⟧.coding.format

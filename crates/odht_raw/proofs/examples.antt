@@ -22,9 +22,9 @@ pub mod Placings
 -- what the whole check sees
 pub mod Checked
 -- what an insert through lent parts may not do
-pub mod LentInserts
+pub mod MutInserts
 -- what placing a key through lent parts may not do
-pub mod LentPlacings
+pub mod MutPlacings
 -- the first free slot, and a pair that is written there
 pub mod FreePlacings
 -- inserts into any parts

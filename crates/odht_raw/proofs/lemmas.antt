@@ -56,9 +56,9 @@ pub mod MirrorChecks
 -- the slots before a key's own, in its probe order
 pub mod KeyPasses
 -- and its own place there
-pub mod KeyPlaces
+pub mod KeyPositions
 -- a look at the slots in turn
-pub mod SlotsSeen
+pub mod SlotSummary
 -- lists of different numbers that rise
 pub mod RisingLists
 -- slots that wait to be placed, as they are listed
@@ -66,7 +66,7 @@ pub mod WaitingSlots
 -- what the whole check looks at beyond a view
 pub mod LateStages
 -- when a slot is ready, as the slots that wait tell it
-pub mod ReadyPlaces
+pub mod ReadyPositions
 -- one pass through the slots that wait, in the search for an order
 pub mod PlacedFirst
 -- that search from its start to its end

@@ -1,22 +1,22 @@
 -- What the whole check sees in the parts T of a table.
 --     cells_of F T         the cells that T shows
---     pairs_shown F T      how many of them hold a pair
+--     decoded_count F T      how many of them hold a pair
 --     IsFitting F T        neither a slot of T nor its mirror is refused
 --     IsSlotHash F T i o   o is the hash of the key in slot i, or none where the slot counts as free
 --     ArePassed F T k b n  none of the n slots from b on, counted on around the end, is free or holds the key k
 use Rattle.std.specs.Prelude.{◌≡◌, ℕ, ◌+◌, ◌%◌, ◌<◌, List, length, filter_map, slice_index, Option, None, MatchOption, IsTrue, IsFalse}
 use Rattle.odht_base.specs.Format.{Format}
 use Rattle.odht_base.specs.Search.{stops_at}
-use Rattle.odht_base.specs.Shown.{counts_as_free, slot_key, shown_cells}
+use Rattle.odht_base.specs.Decoded.{counts_as_free, slot_key, decoded_cells}
 use Rattle.odht_base.specs.Table.{Cells}
 use Rattle.odht_raw.specs.Parts.{TableParts}
 use Rattle.odht_raw.specs.Refusals.{slots_refusal, mirror_refusal}
 
 abbrev pub cells_of : Format → TableParts → Cells
-cells_of F T = shown_cells F T.entries.bytes T.control
+cells_of F T = decoded_cells F T.entries.bytes T.control
 
-abbrev pub pairs_shown : Format → TableParts → ℕ
-pairs_shown F T = length (filter_map (λ c. c) (cells_of F T))
+abbrev pub decoded_count : Format → TableParts → ℕ
+decoded_count F T = length (filter_map (λ c. c) (cells_of F T))
 
 pub record IsFitting (F : Format) (T : TableParts) : Type 0 where
   pub slots : slots_refusal F T.entries.bytes T.control ≡ None

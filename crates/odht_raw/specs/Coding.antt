@@ -8,7 +8,7 @@ use Rattle.std.specs.Prelude.{◌≡◌, ℕ, List, Option, option_map}
 use Rattle.odht_base.specs.Format.{Format, format_of}
 use Rattle.odht_base.specs.Table.{Pair, Table}
 use Rattle.odht_base.specs.Map.{map_of}
-use Rattle.odht_base.specs.Shown.{Stores}
+use Rattle.odht_base.specs.Decoded.{Stores}
 
 pub record Coding (K V : Type 0) : Type 0 where
   pub format : Format

@@ -15,7 +15,7 @@ use Rattle.std.specs.Fmt.{◌++?◌}
 use Rattle.std.specs.List.{range_with_len}
 use Rattle.odht_base.specs.Format.{Format}
 use Rattle.odht_base.specs.Load.{max_items, percent_of}
-use Rattle.odht_base.specs.Shown.{slot_key, slot_value, counts_as_free, stated_count, stated_slots, stated_factor, entries_of, controls_of}
+use Rattle.odht_base.specs.Decoded.{slot_key, slot_value, counts_as_free, header_count, header_slots, header_factor, entries_of, controls_of}
 use Rattle.odht_raw.specs.Parts.{TableParts}
 
 abbrev pub DebugText : Type 0
@@ -45,13 +45,13 @@ dump_text F key_text value_text name T =
     Some (head_text name s) ++? slots_text F key_text value_text T s ++? Some (codes "}\n")
 
 abbrev pub parts_of : Format → List ℕ → TableParts
-parts_of F B = record { control = controls_of F B; entries = record { slots = stated_slots B; bytes = entries_of F B } }
+parts_of F B = record { control = controls_of F B; entries = record { slots = header_slots B; bytes = entries_of F B } }
 
 abbrev pub counts_text : List ℕ → List ℕ
 counts_text B =
-    codes "(item_count=" ++ decimal (stated_count B)
-    ++ codes ", max_item_count=" ++ decimal (max_items (stated_slots B) (stated_factor B))
-    ++ codes ", max_load_factor=" ++ decimal (percent_of (stated_factor B)) ++ codes "%)\n"
+    codes "(item_count=" ++ decimal (header_count B)
+    ++ codes ", max_item_count=" ++ decimal (max_items (header_slots B) (header_factor B))
+    ++ codes ", max_load_factor=" ++ decimal (percent_of (header_factor B)) ++ codes "%)\n"
 
 abbrev pub owned_dump_text : Format → DebugText → DebugText → List ℕ → List ℕ → Option (List ℕ)
 owned_dump_text F key_text value_text name B =

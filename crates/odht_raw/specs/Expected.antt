@@ -8,9 +8,9 @@ use Rattle.std.specs.Prelude.{◌≡◌, ℕ, ◌+◌, ◌<◌, List, slice_get,
 use Rattle.odht_base.specs.Format.{Format}
 use Rattle.odht_base.specs.Table.{Table, slot_count, is_free}
 use Rattle.odht_base.specs.Valid.{IsPartsOf}
-use Rattle.odht_raw.specs.Answers.{answer}
+use Rattle.odht_raw.specs.SearchResults.{answer}
 use Rattle.odht_raw.specs.Coding.{Coding, encoded}
-use Rattle.odht_raw.specs.declared.raw_table.outcome.Search.TheVariants.{Free}
+use Rattle.odht_raw.specs.declared.raw_table.search_result.SearchResult.TheVariants.{Free}
 
 abbrev pub IsExpected : Format → Table → List ℕ → ℕ → Type 0
 IsExpected F P k i = i < slot_count P → Free i ≡ answer F P.cells k

@@ -2,9 +2,9 @@
 --     IsAccepted F B       the header and the length fit
 --     CountsAsFree ctrl i  the control byte of slot i, or for a slot below 16 its mirror, counts as free
 --     HasNoFree bs n       of the first n bytes none counts as free
---     CountsAsFilled ctrl i  the control byte of slot i, or for a slot below 16 its mirror, does not count as free
---     HasNoFreeSlot ctrl s   each of the s slots counts as filled
---     stated_maximum B     the maximum item count of the header's slot count and load factor
+--     CountsAsOccupied ctrl i  the control byte of slot i, or for a slot below 16 its mirror, does not count as free
+--     HasNoFreeSlot ctrl s   each of the s slots counts as occupied
+--     header_maximum B     the maximum item count of the header's slot count and load factor
 --     InsertFrame F B p r B'              an insert of p, a pair of F, may answer r and leave B'
 --     IsBytesFramed F f B p r B'          the same with the answer decoded by f
 --     IsFramed c B k v r B'               the same of a key and a value
@@ -16,7 +16,7 @@ use Rattle.odht_base.specs.Bytes.{overwritten_at}
 use Rattle.odht_base.specs.Format.{Format, entry_len, tag}
 use Rattle.odht_base.specs.Load.{max_items}
 use Rattle.odht_base.specs.Table.{Pair}
-use Rattle.odht_base.specs.Shown.{stated_count, stated_slots, stated_factor, controls_of, key_at, value_at, counts_as_free, slot_key, slot_value}
+use Rattle.odht_base.specs.Decoded.{header_count, header_slots, header_factor, controls_of, key_at, value_at, counts_as_free, slot_key, slot_value}
 use Rattle.odht_base.specs.Writes.{with_value, with_pair, with_count, tagged}
 use Rattle.odht_raw.specs.Coding.{Coding, encoded}
 use Rattle.odht_raw.specs.Refusals.{opening_refusal}
@@ -32,20 +32,20 @@ CountsAsFree ctrl i = IsTrue (counts_as_free (slice_index ctrl i)) ⊎ ((i < 16)
 abbrev pub HasNoFree : List ℕ → ℕ → Type 0
 HasNoFree bs n = (i : ℕ) → i < n → IsFalse (counts_as_free (slice_index bs i))
 
-abbrev pub CountsAsFilled : List ℕ → ℕ → Type 0
-CountsAsFilled ctrl i = IsFalse (counts_as_free (slice_index ctrl i)) ⊎ ((i < 16) × IsFalse (counts_as_free (slice_index ctrl (length ctrl - 16 + i))))
+abbrev pub CountsAsOccupied : List ℕ → ℕ → Type 0
+CountsAsOccupied ctrl i = IsFalse (counts_as_free (slice_index ctrl i)) ⊎ ((i < 16) × IsFalse (counts_as_free (slice_index ctrl (length ctrl - 16 + i))))
 
 abbrev pub HasNoFreeSlot : List ℕ → ℕ → Type 0
-HasNoFreeSlot ctrl s = (i : ℕ) → i < s → CountsAsFilled ctrl i
+HasNoFreeSlot ctrl s = (i : ℕ) → i < s → CountsAsOccupied ctrl i
 
-abbrev pub stated_maximum : List ℕ → ℕ
-stated_maximum B = max_items (stated_slots B) (stated_factor B)
+abbrev pub header_maximum : List ℕ → ℕ
+header_maximum B = max_items (header_slots B) (header_factor B)
 
 pub data InsertFrame (F : Format) (B : List ℕ) (p : Pair) : Result (Option (List ℕ)) Error → List ℕ → Type 0 where
-  full : stated_maximum B ≤ stated_count B → InsertFrame F B p (Err Full) B
-  no_slot : HasNoFreeSlot (controls_of F B) (stated_slots B) → InsertFrame F B p (Err Full) B
-  overwrote : (i : ℕ) → i < stated_slots B → key_at F B i ≡ p.key → InsertFrame F B p (Ok (Some (value_at F B i))) (with_value F B i p.value)
-  added : (i : ℕ) → i < stated_slots B → CountsAsFree (controls_of F B) i → stated_count B < stated_maximum B → InsertFrame F B p (Ok None) (with_count (with_pair F (stated_slots B) B i p) (stated_count B + 1))
+  full : header_maximum B ≤ header_count B → InsertFrame F B p (Err Full) B
+  no_slot : HasNoFreeSlot (controls_of F B) (header_slots B) → InsertFrame F B p (Err Full) B
+  overwrote : (i : ℕ) → i < header_slots B → key_at F B i ≡ p.key → InsertFrame F B p (Ok (Some (value_at F B i))) (with_value F B i p.value)
+  added : (i : ℕ) → i < header_slots B → CountsAsFree (controls_of F B) i → header_count B < header_maximum B → InsertFrame F B p (Ok None) (with_count (with_pair F (header_slots B) B i p) (header_count B + 1))
 
 abbrev pub IsBytesFramed : {V : Type 0} → Format → (List ℕ → V) → List ℕ → Pair → Result (Option V) Error → List ℕ → Type 0
 IsBytesFramed F f B p r B' = (a : Result (Option (List ℕ)) Error) × (r ≡ result_map_both (option_map f) (λ e. e) a) × InsertFrame F B p a B'

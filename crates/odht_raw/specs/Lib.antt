@@ -6,11 +6,11 @@ pub mod Parts
 -- the lengths that searches and inserts ask for
 pub mod PartLengths
 -- what a search answers
-pub mod Answers
+pub mod SearchResults
 -- the probe order, a group at a time
 pub mod ProbeSeqs
 -- a search at a place of the probe order
-pub mod Searches
+pub mod SearchSteps
 -- the first look of a search
 pub mod FirstLooks
 -- how large a new table is
@@ -38,7 +38,7 @@ pub mod Walks
 -- what `Debug` writes of a table
 pub mod Dumps
 -- the parts of a table which can be written
-pub mod LentParts
+pub mod PartsMut
 -- the slots that wait while an order of inserts is looked for
 pub mod Waiting
 -- where a search is expected to end

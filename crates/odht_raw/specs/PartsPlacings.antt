@@ -4,7 +4,7 @@
 --     IsNewPlacing F P p r es' ctrl'   of the parts of P, to which p is new: an Ok leaves the parts of P with p placed, and
 --                                      Full comes exactly where p has no place, which is where each slot is filled
 --     PlacingFrame F es ctrl p r es' ctrl'  of any parts es and ctrl: p was written with its tag into the first slot of its
---                                      key's probe order that counts as free, or each slot counts as filled
+--                                      key's probe order that counts as free, or each slot counts as occupied
 --     IsAddition F es ctrl p r es' ctrl'  this frame, Full as the only refusal, and nothing changed by it
 use Rattle.std.specs.Prelude.{◌≡◌, ℕ, ◌-◌, ◌*◌, ◌↔◌, List, ◌++◌, length, None, Result, Ok, Err, OnOk, OnErr}
 use Rattle.odht_base.specs.Bytes.{overwritten_at}

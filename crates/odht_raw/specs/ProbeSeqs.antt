@@ -1,16 +1,16 @@
 -- The places of the probe order, a group at a time.
---     ProbePlace             a place of the order from a home slot, with the slot count less one as a mask
+--     ProbePosition             a place of the order from a home slot, with the slot count less one as a mask
 --     IsProbe g h m p i b c s   at place p of the order from h among m + 1 slots stands slot i; p is a multiple of g, c how
 --                            many places of its group of sixteen are before it, b the first slot of that group, and s how
 --                            many slots this is further on than the first slot of the group before
 use Rattle.std.specs.Prelude.{◌≡◌, ℕ, ◌+◌, ◌*◌, ◌/◌, ◌%◌, ◌<◌}
 use Rattle.odht_base.specs.Load.{IsSlotCount}
-use Rattle.odht_base.specs.Probe.{place_slot}
+use Rattle.odht_base.specs.Probe.{probe_slot}
 
-pub record ProbePlace : Type 0 where
+pub record ProbePosition : Type 0 where
   pub home : ℕ
   pub mask : ℕ
-  pub place : ℕ
+  pub position : ℕ
 
 pub record IsProbe (g h m p i b c s : ℕ) : Type 0 where
   pub slots : IsSlotCount (m + 1)
@@ -18,7 +18,7 @@ pub record IsProbe (g h m p i b c s : ℕ) : Type 0 where
   pub aligned : p % g ≡ 0
   pub home_within : h < m + 1
   pub within : p < m + 1
-  pub slot_is : i ≡ place_slot h (m + 1) p
-  pub base_is : b ≡ place_slot h (m + 1) (16 * (p / 16))
+  pub slot_is : i ≡ probe_slot h (m + 1) p
+  pub base_is : b ≡ probe_slot h (m + 1) (16 * (p / 16))
   pub chunk_is : c ≡ p % 16
   pub stride_is : s ≡ 16 * (p / 16)

@@ -27,7 +27,7 @@ use Rattle.odht_base.specs.Table.{count}
 use Rattle.odht_base.specs.Image.{image_len}
 use Rattle.odht_base.specs.Search.{search_end, is_at}
 use Rattle.odht_base.specs.Bytes.{bytes_at}
-use Rattle.odht_base.specs.Shown.{stated_count, stated_slots, stated_factor, counts_as_free, shown, shown_cells, slot_entry, slot_key, entries_of, controls_of}
+use Rattle.odht_base.specs.Decoded.{header_count, header_slots, header_factor, counts_as_free, decoded_table, decoded_cells, slot_entry, slot_key, entries_of, controls_of}
 use Rattle.odht_raw.specs.declared.error.Error.{Error}
 use Rattle.odht_raw.specs.declared.error.Error.TheVariants.{TooShort, WrongTag, WrongVersion, WrongSizeOf, SlotCountNotPowerOfTwo, SlotCountTooSmall, WrongLength, NonZeroEmpty, ControlMismatch, LoadFactorTooSmall, NonZeroPadding, BadFreeControl, MirrorMismatch, WrongItemCount, TooManyItems, Unreachable, InitLength, Capacity}
 use Rattle.odht_raw.specs.declared.error.Part.{Part}
@@ -58,13 +58,13 @@ abbrev pub version_refusal : List ℕ → Option Error
 version_refusal B = lists_differ (bytes_at B 24 4) (0 ∷ 0 ∷ 0 ∷ 2 ∷ []) gives WrongVersion (bytes_at B 24 4)
 
 abbrev pub power_refusal : List ℕ → Option Error
-power_refusal B = not (is_power_of_two (stated_slots B)) gives SlotCountNotPowerOfTwo (stated_slots B)
+power_refusal B = not (is_power_of_two (header_slots B)) gives SlotCountNotPowerOfTwo (header_slots B)
 
 abbrev pub few_slots_refusal : List ℕ → Option Error
-few_slots_refusal B = nat_lt (stated_slots B) 16 gives SlotCountTooSmall (stated_slots B)
+few_slots_refusal B = nat_lt (header_slots B) 16 gives SlotCountTooSmall (header_slots B)
 
 abbrev pub length_refusal : Format → ℕ → List ℕ → Option Error
-length_refusal F n B = differs n (image_len F (stated_slots B)) gives WrongLength (stated_slots B) n (image_len F (stated_slots B))
+length_refusal F n B = differs n (image_len F (header_slots B)) gives WrongLength (header_slots B) n (image_len F (header_slots B))
 
 -- the field refusals, of at least 32 bytes that stand for n
 abbrev pub header_refusals : Format → ℕ → List ℕ → List (Option Error)
@@ -132,26 +132,26 @@ mirror_refusal ctrl = first_slot (mirror_refusal_at ctrl) 16
 -- slot i holds a key, and a search for it ends elsewhere
 abbrev pub unreachable : Format → List ℕ → List ℕ → ℕ → Option Error
 unreachable F es ctrl i =
-    not (counts_as_free (slice_index ctrl i)) && not (is_at i (search_end F (shown_cells F es ctrl) (slot_key F es i))) gives
+    not (counts_as_free (slice_index ctrl i)) && not (is_at i (search_end F (decoded_cells F es ctrl) (slot_key F es i))) gives
     Unreachable i
 
 unfoldable pub reach_refusal : Format → List ℕ → List ℕ → Option Error
 reach_refusal F es ctrl = first_slot (unreachable F es ctrl) (length ctrl - 16)
 
 abbrev pub factor_refusal : List ℕ → Option Error
-factor_refusal B = nat_lt (stated_factor B) 655 gives LoadFactorTooSmall (stated_factor B)
+factor_refusal B = nat_lt (header_factor B) 655 gives LoadFactorTooSmall (header_factor B)
 
 abbrev pub padding_refusal : List ℕ → Option Error
 padding_refusal B = lists_differ (bytes_at B 30 2) (0 ∷ 0 ∷ []) gives NonZeroPadding (bytes_at B 30 2)
 
 -- of a header that states another count than that of the pairs that were found
 abbrev pub count_refusal : ℕ → List ℕ → Option Error
-count_refusal found B = differs (stated_count B) found gives WrongItemCount (stated_count B) found
+count_refusal found B = differs (header_count B) found gives WrongItemCount (header_count B) found
 
 abbrev pub room_refusal : List ℕ → Option Error
 room_refusal B =
-    nat_lt (max_items (stated_slots B) (stated_factor B)) (stated_count B) gives
-    TooManyItems (stated_count B) (max_items (stated_slots B) (stated_factor B))
+    nat_lt (max_items (header_slots B) (header_factor B)) (header_count B) gives
+    TooManyItems (header_count B) (max_items (header_slots B) (header_factor B))
 
 -- of bytes that a view accepts
 abbrev pub late_refusals : Format → List ℕ → List (Option Error)
@@ -160,7 +160,7 @@ late_refusals F B =
     ∷ padding_refusal B
     ∷ slots_refusal F (entries_of F B) (controls_of F B)
     ∷ mirror_refusal (controls_of F B)
-    ∷ count_refusal (count (shown F B)) B
+    ∷ count_refusal (count (decoded_table F B)) B
     ∷ room_refusal B
     ∷ reach_refusal F (entries_of F B) (controls_of F B)
     ∷ []

@@ -8,7 +8,7 @@
 --                          which n are of new keys
 --     room_end P from m    where a round ends that begins at item `from` of m: it takes as many items as the table P has
 --                          room for below its maximum, and no more than there are
---     stated_end B from m  the same by the count and the maximum that the bytes B state
+--     header_end B from m  the same by the count and the maximum that the bytes B state
 --     IsStop ctrl s to i   inserts up to item `to` in turn may stop at i: it is `to`, or each of the s slots counts as
 --                          filled
 --     IsPlacedBelow F P ps B  B are the bytes of the table P after the pairs ps, which are of F, are placed in turn; it has
@@ -17,11 +17,11 @@ use Rattle.std.specs.Prelude.{◌≡◌, ℕ, ◌+◌, ◌-◌, ◌≤◌, min, 
 use Rattle.odht_base.specs.Format.{Format}
 use Rattle.odht_base.specs.Insert.{place_all}
 use Rattle.odht_base.specs.Load.{max_items}
-use Rattle.odht_base.specs.Shown.{stated_count}
+use Rattle.odht_base.specs.Decoded.{header_count}
 use Rattle.odht_base.specs.Table.{Pair, Table, slot_count, count}
 use Rattle.odht_base.specs.Valid.{IsPairOf, IsPartsOf, IsImage}
 use Rattle.odht_raw.specs.Coding.{Coding, encoded}
-use Rattle.odht_raw.specs.Frame.{IsFramed, PartsFrame, HasNoFreeSlot, stated_maximum}
+use Rattle.odht_raw.specs.Frame.{IsFramed, PartsFrame, HasNoFreeSlot, header_maximum}
 use Rattle.odht_raw.specs.declared.error.Error.{Error}
 
 abbrev pub encoded_all : {K V : Type 0} → Coding K V → List (K × V) → List Pair
@@ -52,8 +52,8 @@ pub record ArePartsOfRun (F : Format) (P : Table) (ps : List Pair) (n : ℕ) (es
 abbrev pub room_end : Table → ℕ → ℕ → ℕ
 room_end P from m = min (from + (max_items (slot_count P) P.factor - count P)) m
 
-abbrev pub stated_end : List ℕ → ℕ → ℕ → ℕ
-stated_end B from m = min (from + (stated_maximum B - stated_count B)) m
+abbrev pub header_end : List ℕ → ℕ → ℕ → ℕ
+header_end B from m = min (from + (header_maximum B - header_count B)) m
 
 abbrev pub IsStop : List ℕ → ℕ → ℕ → ℕ → Type 0
 IsStop ctrl s to i = (i ≡ to) ⊎ HasNoFreeSlot ctrl s

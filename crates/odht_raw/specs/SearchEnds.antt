@@ -1,36 +1,36 @@
 -- Where a search for a key k ends on any parts, and what a find answers: E are the entries, ctrl the control bytes.
 --     HoldsKeyAt F E k i        slot i is one of E, and its entry has the key k
 --     IsEnd F E ctrl k r        a Found is a slot that holds k, a Free one that counts as free, also by its mirror; after
---                               Neither each slot counts as filled, also by its mirror
+--                               Neither each slot counts as occupied, also by its mirror
 --     IsPlainEnd F E ctrl k r   the same, where a slot counts as free or filled by its own control byte
 --     IsEndAmong F E bs b n k r a Found is a slot that holds k, a Free is among the n slots from b on, counted on around the
 --                               end, and its byte of bs counts as free; Neither is no such end
 --     IsBesideKey F f E k v     some slot's entry is the key k beside bytes of which f makes v, whatever its control byte
 use Rattle.std.specs.Prelude.{◌≡◌, ℕ, ◌+◌, ◌%◌, ◌<◌, List, slice_index, IsTrue}
 use Rattle.odht_base.specs.Format.{Format}
-use Rattle.odht_base.specs.Shown.{slot_key, slot_value, counts_as_free}
-use Rattle.odht_raw.specs.Answers.{MatchSearch}
+use Rattle.odht_base.specs.Decoded.{slot_key, slot_value, counts_as_free}
+use Rattle.odht_raw.specs.SearchResults.{MatchSearchResult}
 use Rattle.odht_raw.specs.Frame.{CountsAsFree, HasNoFree, HasNoFreeSlot}
 use Rattle.odht_raw.specs.Parts.{EntryBytes}
-use Rattle.odht_raw.specs.declared.raw_table.outcome.Search.{Search}
+use Rattle.odht_raw.specs.declared.raw_table.search_result.SearchResult.{SearchResult}
 
 abbrev pub HoldsKeyAt : Format → EntryBytes → List ℕ → ℕ → Type 0
 HoldsKeyAt F E k i = (i < E.slots) × (slot_key F E.bytes i ≡ k)
 
-abbrev pub IsEnd : Format → EntryBytes → List ℕ → List ℕ → Search → Type 0
+abbrev pub IsEnd : Format → EntryBytes → List ℕ → List ℕ → SearchResult → Type 0
 IsEnd F E ctrl k r =
-    MatchSearch r (HoldsKeyAt F E k) (λ i. (i < E.slots) × CountsAsFree ctrl i) (HasNoFreeSlot ctrl E.slots)
+    MatchSearchResult r (HoldsKeyAt F E k) (λ i. (i < E.slots) × CountsAsFree ctrl i) (HasNoFreeSlot ctrl E.slots)
 
-abbrev pub IsPlainEnd : Format → EntryBytes → List ℕ → List ℕ → Search → Type 0
+abbrev pub IsPlainEnd : Format → EntryBytes → List ℕ → List ℕ → SearchResult → Type 0
 IsPlainEnd F E ctrl k r =
-    MatchSearch r
+    MatchSearchResult r
     (HoldsKeyAt F E k)
     (λ i. (i < E.slots) × IsTrue (counts_as_free (slice_index ctrl i)))
     (HasNoFree ctrl E.slots)
 
-abbrev pub IsEndAmong : Format → EntryBytes → List ℕ → ℕ → ℕ → List ℕ → Search → Type 0
+abbrev pub IsEndAmong : Format → EntryBytes → List ℕ → ℕ → ℕ → List ℕ → SearchResult → Type 0
 IsEndAmong F E bs b n k r =
-    MatchSearch r
+    MatchSearchResult r
     (HoldsKeyAt F E k)
     (λ i. (j : ℕ) × (j < n) × (i ≡ (b + j) % E.slots) × IsTrue (counts_as_free (slice_index bs j)))
     ⊥

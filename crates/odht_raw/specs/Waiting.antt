@@ -1,16 +1,16 @@
--- The filled slots of a table while an order of inserts is looked for: the list `done` of those that are placed, and a
+-- The occupied slots of a table while an order of inserts is looked for: the list `done` of those that are placed, and a
 -- list of the others, of which each is placed too in its turn, or waits. A slot that waits is listed with 2 ^ 63 added to it.
 --     waiting i            the slot i, listed as one that waits
 --     slot_of n            the slot that is listed as n
 --     placed_of ns         the slots of the list ns that do not wait
 --     IsWaiting s n        n is a slot below s that waits, as it is listed
 --     AreRising ns         the slots of ns rise
---     IsPending F P done ns  done and the slots of ns are the filled slots of P, each once; those of ns rise; and those of
+--     IsPending F P done ns  done and the slots of ns are the occupied slots of P, each once; those of ns rise; and those of
 --                          done, with those of ns that are placed, are taken so far in the search for an order
 --     AreWholeParts F P T n  T are the parts of the table P, which is valid and has n pairs
 use Rattle.std.specs.Prelude.{◌≡◌, ℕ, ◌+◌, ◌-◌, ◌^◌, ◌%◌, ◌<◌, ◌≤◌, nat_lt, List, ◌++◌, map, filter, AllPairs, IsPermutation}
 use Rattle.odht_base.specs.Format.{Format}
-use Rattle.odht_base.specs.Made.{filled}
+use Rattle.odht_base.specs.Made.{occupied}
 use Rattle.odht_base.specs.Ready.{IsSoFar}
 use Rattle.odht_base.specs.Table.{Table, count}
 use Rattle.odht_base.specs.Valid.{IsPartsOf, IsValid}
@@ -32,7 +32,7 @@ abbrev pub AreRising : List ℕ → Type 0
 AreRising ns = AllPairs ◌<◌ (map slot_of ns)
 
 pub record IsPending (F : Format) (P : Table) (done ns : List ℕ) : Type 0 where
-  pub listed : IsPermutation (filled P) (done ++ map slot_of ns)
+  pub listed : IsPermutation (occupied P) (done ++ map slot_of ns)
   pub rising : AreRising ns
   pub so_far : IsSoFar F P (done ++ placed_of ns)
 

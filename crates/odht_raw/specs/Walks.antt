@@ -12,12 +12,12 @@
 --     numbered_of f g F T is     the same of these slots
 --     numbered_from f g F T i    the same of the slots from i on
 --     decoded_slots c xs   pairs that have numbers, with the key and the value of each
---     AreFilled T b is     slot b + i is one of T and does not count as free, for each i of is
+--     AreOccupied T b is     slot b + i is one of T and does not count as free, for each i of is
 use Rattle.std.specs.Prelude.{ℕ, ◌+◌, ◌-◌, ◌<◌, All, IsFalse, List, map, slice_index, Option, option_map}
 use Rattle.std.specs.List.{range_with_len, filter_map}
 use Rattle.odht_base.specs.Format.{Format}
 use Rattle.odht_base.specs.Table.{Pair}
-use Rattle.odht_base.specs.Shown.{shown_cell, counts_as_free}
+use Rattle.odht_base.specs.Decoded.{decoded_cell, counts_as_free}
 use Rattle.odht_raw.specs.Coding.{Coding}
 use Rattle.odht_raw.specs.Parts.{TableParts}
 use Rattle.odht_raw.specs.declared.raw_table.entries.Entry.{Entry}
@@ -35,13 +35,13 @@ abbrev pub item : {K V : Type 0} → (List ℕ → K) → (List ℕ → V) → �
 item f g control p = (control, record { key = f p.key; value = g p.value })
 
 abbrev pub slot_item : {K V : Type 0} → (List ℕ → K) → (List ℕ → V) → Format → TableParts → ℕ → Option (Item K V)
-slot_item f g F T i = option_map (item f g (slice_index T.control i)) (shown_cell F T.entries.bytes T.control i)
+slot_item f g F T i = option_map (item f g (slice_index T.control i)) (decoded_cell F T.entries.bytes T.control i)
 
 abbrev pub items_of : {K V : Type 0} → (List ℕ → K) → (List ℕ → V) → Format → TableParts → List ℕ → List (Item K V)
 items_of f g F T is = filter_map (slot_item f g F T) is
 
-abbrev pub AreFilled : TableParts → ℕ → List ℕ → Type 0
-AreFilled T b is = All (λ i. (b + i < T.entries.slots) × IsFalse (counts_as_free (slice_index T.control (b + i)))) is
+abbrev pub AreOccupied : TableParts → ℕ → List ℕ → Type 0
+AreOccupied T b is = All (λ i. (b + i < T.entries.slots) × IsFalse (counts_as_free (slice_index T.control (b + i)))) is
 
 abbrev pub items_from : {K V : Type 0} → (List ℕ → K) → (List ℕ → V) → Format → TableParts → ℕ → List (Item K V)
 items_from f g F T i = items_of f g F T (range_with_len i (T.entries.slots - i))

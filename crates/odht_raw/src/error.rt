@@ -74,7 +74,7 @@ pub enum Error {
     NonZeroEmpty {
         slot: usize,
     },
-    /// A filled slot's control byte is not the tag of its key.
+    /// An occupied slot's control byte is not the tag of its key.
     ControlMismatch {
         slot: usize,
         expected: u8,
@@ -97,7 +97,7 @@ pub enum Error {
     MirrorMismatch {
         index: usize,
     },
-    /// The header states another item count than there are filled slots.
+    /// The header states another item count than there are occupied slots.
     WrongItemCount {
         stated: usize,
         found: usize,
@@ -107,7 +107,7 @@ pub enum Error {
         count: usize,
         max: usize,
     },
-    /// A filled slot is not where a search slot by slot for its key ends.
+    /// An occupied slot is not where a search slot by slot for its key ends.
     Unreachable {
         slot: usize,
     },

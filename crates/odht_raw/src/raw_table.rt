@@ -7,7 +7,7 @@ ghost use Rattle.odht_base.specs.Table.{Table};
 ghost use Rattle.odht_base.specs.Map.{map_of};
 ghost use Rattle.odht_base.specs.Search.{groups_read};
 ghost use Rattle.odht_base.specs.Valid.{IsPartsOf};
-ghost use Rattle.odht_base.specs.Shown.{counts_as_free};
+ghost use Rattle.odht_base.specs.Decoded.{counts_as_free};
 ghost use Rattle.odht_raw.specs.Parts.{entry_format};
 ghost use Rattle.odht_raw.specs.Checks.{IsSlotHash};
 ghost use Rattle.odht_raw.specs.SearchEnds.{IsBesideKey};
@@ -28,10 +28,10 @@ mod first_look;
 mod free_search;
 mod group_search;
 mod insert_order;
-mod outcome;
 mod plain;
 mod probe_seq;
 mod scan;
+mod search_result;
 mod table_mut;
 mod walk;
 mod writes;
@@ -40,14 +40,14 @@ pub(crate) use ahead::{expected_slot, insert_expected};
 pub use entries::{Entries, Entry};
 pub use first_look::FirstLook;
 pub use group_search::{search, search_hashed};
-pub use outcome::Search;
 pub use plain::{plain_find, plain_insert};
 pub use probe_seq::{ProbeSeq, probe_order};
 pub use scan::Scan;
+pub use search_result::SearchResult;
 pub use table_mut::RawTableMut;
 pub use walk::{RawIter, RawSlots};
 
-/// A control byte: the tag of a filled slot, which has seven bits, or `FREE`.
+/// A control byte: the tag of an occupied slot, which has seven bits, or `FREE`.
 pub type EntryMetadata = u8;
 
 /// The control byte of a free slot.
@@ -144,9 +144,9 @@ impl<'a, K: ByteArray, V: ByteArray, H: HashFn> RawTable<'a, K, V, H> {
         let end = search::<K, V, H, GroupQuery>(&mut scan, &self.entries, key);
         let groups = scan.groups();
         match end {
-            Search::Found(slot) => (Some(self.entries.get(slot).value), groups),
-            Search::Free(_) => (None, groups),
-            Search::Neither => (None, groups),
+            SearchResult::Found(slot) => (Some(self.entries.get(slot).value), groups),
+            SearchResult::Free(_) => (None, groups),
+            SearchResult::Neither => (None, groups),
         }
     }
 

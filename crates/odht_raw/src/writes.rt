@@ -22,7 +22,7 @@ pub(crate) fn write_pair<K: ByteArray, V: ByteArray, M: ByteStoreMut>(
     ensures bytes { let pair = K.bytes key.now ++ V.bytes value.now
         in M.bytes store.new ≡ overwritten_at (M.bytes store.old) at pair }
     ensures len { length (M.bytes store.new) ≡ length (M.bytes store.old) }
-    ensures place { store.new ≡ M.holding store.old (M.bytes store.new) }
+    ensures same_store { store.new ≡ M.holding store.old (M.bytes store.new) }
     ensures key { IsBytes K.LEN (K.bytes key.now) }
     ensures value { IsBytes V.LEN (V.bytes value.now) }
 {
@@ -46,7 +46,7 @@ pub(crate) fn write_tag<M: ByteStoreMut>(
     requires mirrored { slot < 16 → control + slot + slots < length (M.bytes store.old) }
     ensures bytes { M.bytes store.new ≡ tagged_at (M.bytes store.old) (control + slot) slots slot tag }
     ensures len { length (M.bytes store.new) ≡ length (M.bytes store.old) }
-    ensures place { store.new ≡ M.holding store.old (M.bytes store.new) }
+    ensures same_store { store.new ≡ M.holding store.old (M.bytes store.new) }
 {
     // A slice's length is below 2^64, and so is each place in it.
     let _ = store.bytes();

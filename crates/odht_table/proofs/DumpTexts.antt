@@ -4,7 +4,7 @@ use Rattle.std.specs.Prelude.{codes, decimal}
 use Rattle.std.specs.Fmt.{◌++?◌}
 use Rattle.std.specs.List.{range_with_len}
 use Rattle.odht_base.specs.Format.{Format}
-use Rattle.odht_base.specs.Shown.{counts_as_free, slot_key, slot_value}
+use Rattle.odht_base.specs.Decoded.{counts_as_free, slot_key, slot_value}
 use Rattle.odht_raw.specs.Dumps.{DebugText, texts_in_turn, slot_text, slots_text, head_text, dump_text, counts_text, owned_dump_text, parts_of}
 use Rattle.odht_raw.specs.Parts.{TableParts}
 

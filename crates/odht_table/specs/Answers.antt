@@ -23,7 +23,7 @@ use Rattle.odht_base.specs.Format.{Format}
 use Rattle.odht_base.specs.Load.{factor_of, max_items, slots_for}
 use Rattle.odht_base.specs.Table.{Table as Plain, count, walk, fresh}
 use Rattle.odht_base.specs.Image.{image}
-use Rattle.odht_base.specs.Insert.{put_owned, IsFullFor}
+use Rattle.odht_base.specs.Insert.{insert_owned, IsFullFor}
 use Rattle.odht_base.specs.Valid.{IsImage}
 use Rattle.odht_raw.specs.Coding.{Coding, encoded, value_for}
 use Rattle.odht_raw.specs.Dumps.{owned_dump_text}
@@ -65,7 +65,7 @@ new_text slots most = codes "slots " ++ decimal slots ++ codes " max " ++ decima
 
 abbrev pub IsPutAnswered : Coding ℕ ℕ → Plain → ℕ → ℕ → List ℕ → Plain → Type 0
 IsPutAnswered c P key value text Q =
-    ((text ≡ line_of (former_text (value_for c P key))) × (put_owned c.format P (encoded c key value) ≡ Some Q))
+    ((text ≡ line_of (former_text (value_for c P key))) × (insert_owned c.format P (encoded c key value) ≡ Some Q))
     ⊎ ((text ≡ line_of (codes "memory")) × (Q ≡ P) × IsFullFor P (c.key_bytes key))
 
 abbrev pub IsAnswered : Coding ℕ ℕ → Plain → Request → List ℕ → Plain → Type 0

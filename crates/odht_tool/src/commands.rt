@@ -33,8 +33,8 @@ pub fn run<R: Files + AllocGlobal + Clock, I: BufRead, O: Write, E: Write>(
     let alloc: Global = rt.alloc();
     match parse(alloc, words) {
         Ok(Request::Help(topic)) => {
-            let told = write_text(help_text(topic), output);
-            finish("help", told, errors)
+            let printed = write_text(help_text(topic), output);
+            finish("help", printed, errors)
         }
         Ok(Request::Call(call)) => run_call(rt, call, input, output, errors),
         Err(misuse) => {

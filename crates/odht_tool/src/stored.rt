@@ -105,7 +105,7 @@ impl<'a> StoredTable<'a> {
         self.bytes.get(start..start.saturating_add(self.key_size))
     }
 
-    /// How many of the filled slots do not have the tag of this hash function as their control byte.
+    /// How many of the occupied slots do not have the tag of this hash function as their control byte.
     pub fn strangers(&self, hash: Hash) -> usize {
         let mut count = 0_usize;
         for slot in 0..self.slot_count {
@@ -125,7 +125,7 @@ impl<'a> StoredTable<'a> {
         u8::try_from(self.hash_of(slot, hash)? >> 25).ok()
     }
 
-    /// How many filled slots are found after so many groups, by this hash function.
+    /// How many occupied slots are found after so many groups, by this hash function.
     pub fn count_groups(&self, hash: Hash, histogram: &mut Histogram) {
         for slot in 0..self.slot_count {
             if self.control_byte(slot) < 128

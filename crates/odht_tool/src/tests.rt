@@ -20,7 +20,7 @@ pub struct Outcome {
 }
 
 /// Runs these words, which stand with spaces between them.
-pub fn told<R: Files + AllocGlobal + Clock + Abort>(
+pub fn printed<R: Files + AllocGlobal + Clock + Abort>(
     rt: &R,
     words: &str,
     input: &[u8],
@@ -41,16 +41,16 @@ pub fn told<R: Files + AllocGlobal + Clock + Abort>(
 }
 
 /// Demands that a run writes this, with status 0 and no failure.
-pub fn check_told<R: Files + AllocGlobal + Clock + Abort>(
+pub fn check_printed<R: Files + AllocGlobal + Clock + Abort>(
     rt: &R,
     words: &str,
     input: &[u8],
     expected: &str,
 ) -> Result<(), Fail> {
-    let told = told(rt, words, input)?;
-    assert_eq!(rt; told.errors.as_str(), "", "{words}");
-    assert_eq!(rt; told.output.as_str(), expected, "{words}");
-    assert_eq!(rt; told.status, 0, "{words}");
+    let printed = printed(rt, words, input)?;
+    assert_eq!(rt; printed.errors.as_str(), "", "{words}");
+    assert_eq!(rt; printed.output.as_str(), expected, "{words}");
+    assert_eq!(rt; printed.status, 0, "{words}");
     Ok(())
 }
 
@@ -89,7 +89,7 @@ pub fn hash_words(case: Case) -> &'static str {
 fn tables_are_told(rt: HostRuntime) -> Result<(), Fail> {
     for case in CASES {
         write_hex(&rt, "told.odht", case.bytes)?;
-        check_told(&rt, "info told.odht", b"", case.info)?;
+        check_printed(&rt, "info told.odht", b"", case.info)?;
         if !case.words.is_empty() {
             check_reading(&rt, case)?;
         }
@@ -102,11 +102,11 @@ fn check_reading<R: Files + AllocGlobal + Clock + Abort>(rt: &R, case: Case) -> 
     let alloc: Global = rt.alloc();
     let hash = hash_words(case);
     let words = format!(in alloc; "check told.odht{hash}")?;
-    check_told(rt, words.as_str(), b"", "valid\n")?;
+    check_printed(rt, words.as_str(), b"", "valid\n")?;
     let words = format!(in alloc; "dump told.odht{hash}")?;
-    check_told(rt, words.as_str(), b"", case.dump)?;
+    check_printed(rt, words.as_str(), b"", case.dump)?;
     let words = format!(in alloc; "dump --slots told.odht{hash}")?;
-    check_told(rt, words.as_str(), b"", case.slots)?;
+    check_printed(rt, words.as_str(), b"", case.slots)?;
     check_lookups(rt, hash, case.dump)
 }
 
@@ -125,5 +125,5 @@ fn check_lookups<R: Files + AllocGlobal + Clock + Abort>(
         }
     }
     let words = format!(in alloc; "get told.odht -{hash}")?;
-    check_told(rt, words.as_str(), keys.as_str().as_bytes(), dump)
+    check_printed(rt, words.as_str(), keys.as_str().as_bytes(), dump)
 }

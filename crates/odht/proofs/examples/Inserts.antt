@@ -1,7 +1,7 @@
 -- Worked examples: what a new table is, and what an insert leaves.
 use Rattle.std.proofs.Common.{◌≡◌, ◌∙◌, ℕ, Bool, true, false, refl, sym, ap, arith, List, [], Option, Some, None, option_map, if◌then◌else◌, bytes_eq}
 use Rattle.std.proofs.lemmas.Option.{none-some}
-use Rattle.odht_base.specs.Insert.{put_owned}
+use Rattle.odht_base.specs.Insert.{insert_owned}
 use Rattle.odht_base.specs.Load.{factor_of}
 use Rattle.odht_base.specs.Map.{map_of}
 use Rattle.odht_base.specs.Numbers.{le_bytes}
@@ -37,7 +37,7 @@ no_percent h =
 
 -- ---- inserts
 -- a new key
-pub a_new_key : IsInserted number_coding (put_owned my_config) no_pairs 1 2 None (bytes_of (one_pair 2))
+pub a_new_key : IsInserted number_coding (insert_owned my_config) no_pairs 1 2 None (bytes_of (one_pair 2))
 unfolding opened
 a_new_key = record {
   former = refl;
@@ -53,7 +53,7 @@ a_new_key = record {
     go false = refl
 
 -- a key that is there
-pub an_old_key : IsInserted number_coding (put_owned my_config) (one_pair 2) 1 3 (Some 2) (bytes_of (one_pair 3))
+pub an_old_key : IsInserted number_coding (insert_owned my_config) (one_pair 2) 1 3 (Some 2) (bytes_of (one_pair 3))
 unfolding opened
 an_old_key = record {
   former = refl;
@@ -71,15 +71,15 @@ an_old_key = record {
     go false = refl
 
 -- another former value
-pub other_former : IsInserted number_coding (put_owned my_config) (one_pair 2) 1 3 (Some 3) (bytes_of (one_pair 3)) → ⊥
+pub other_former : IsInserted number_coding (insert_owned my_config) (one_pair 2) 1 3 (Some 3) (bytes_of (one_pair 3)) → ⊥
 other_former h = omega (arith, some_same 3 2 h.former)
 
 -- no former value
-pub no_former : IsInserted number_coding (put_owned my_config) (one_pair 2) 1 3 None (bytes_of (one_pair 3)) → ⊥
+pub no_former : IsInserted number_coding (insert_owned my_config) (one_pair 2) 1 3 None (bytes_of (one_pair 3)) → ⊥
 no_former h = none-some 2 h.former
 
 -- the bytes of another table with the same map
-pub not_inserted : IsInserted number_coding (put_owned my_config) no_pairs 1 2 None (bytes_of (one_of_32 87 2)) → ⊥
+pub not_inserted : IsInserted number_coding (insert_owned my_config) no_pairs 1 2 None (bytes_of (one_of_32 87 2)) → ⊥
 unfolding opened
 not_inserted h = unequal_lists _ _ refl (h.image.bytes ∙ ap bytes_of (sym (some_same (one_pair 2) h.table h.inserted)))
 
@@ -88,7 +88,7 @@ pub refused : IsInserted number_coding (λ P p. None) no_pairs 1 2 None (bytes_o
 refused h = none-some h.table h.inserted
 
 -- no bytes of a table
-pub no_image : IsInserted number_coding (put_owned my_config) no_pairs 1 2 None [] → ⊥
+pub no_image : IsInserted number_coding (insert_owned my_config) no_pairs 1 2 None [] → ⊥
 unfolding opened
 no_image h = unequal_lists _ _ refl (h.image.bytes ∙ ap bytes_of (sym (some_same (one_pair 2) h.table h.inserted)))
 

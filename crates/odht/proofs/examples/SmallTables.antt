@@ -15,11 +15,11 @@ use Rattle.odht_base.specs.Hashes.{fx}
 use Rattle.odht_base.specs.Image.{image}
 use Rattle.odht_base.specs.Load.{factor_of, max_items, is_power_of_two}
 use Rattle.odht_base.specs.Numbers.{le_bytes, num}
-use Rattle.odht_base.specs.Shown.{shown}
+use Rattle.odht_base.specs.Decoded.{decoded_table}
 use Rattle.odht_base.specs.Table.{Table, empty, fresh, slot_count, count}
 use Rattle.odht_base.specs.Valid.{IsImage}
 use Rattle.odht_base.proofs.examples.Configs.{my_config, pair64, owned_of}
-use Rattle.odht_base.proofs.lemmas.Image.{shown-image}
+use Rattle.odht_base.proofs.lemmas.Image.{decoded_table-image}
 use Rattle.odht_base.proofs.lemmas.Placed.{IsPlaced-tests, pair_fits, all_arrive}
 use Rattle.odht_raw.specs.Coding.{Coding, coding_of, encoded}
 use Rattle.odht_raw.proofs.examples.Opened.{opened}
@@ -95,5 +95,5 @@ one_of_32_image = image_by (one_of_32 6 2) refl (lit≤ tt) refl refl (lit≤ tt
 my_format : IsFormat my_config
 my_format = record { key_short = lit≤ tt; value_short = lit≤ tt; hash_small = λ b h. fx-lt b }
 
-pub the_table : (P : Table) (B : List ℕ) → IsImage my_config P B → shown my_config B ≡ P
-the_table P B h = ap (shown my_config) h.bytes ∙ shown-image my_config P my_format h.valid
+pub the_table : (P : Table) (B : List ℕ) → IsImage my_config P B → decoded_table my_config B ≡ P
+the_table P B h = ap (decoded_table my_config) h.bytes ∙ decoded_table-image my_config P my_format h.valid

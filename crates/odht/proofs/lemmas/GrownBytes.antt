@@ -10,7 +10,7 @@ use Rattle.odht_base.specs.Format.{Format}
 use Rattle.odht_base.specs.Image.{header_bytes, image_len}
 use Rattle.odht_base.specs.Load.{slots_for, IsSlotCount}
 use Rattle.odht_base.specs.Insert.{grown_slots}
-use Rattle.odht_base.specs.Shown.{stated_count, stated_factor, stated_slots}
+use Rattle.odht_base.specs.Decoded.{header_count, header_factor, header_slots}
 use Rattle.odht_base.specs.Table.{Table}
 use Rattle.odht_base.specs.Valid.{IsImage}
 use Rattle.odht_base.proofs.lemmas.ByteRanges.{bytes_at-between}
@@ -23,22 +23,22 @@ use Rattle.odht_raw.specs.Layouts.{IsLayout}
 use Rattle.odht_raw.specs.Refusals.{IsTooLarge}
 use Rattle.odht_raw.proofs.lemmas.Accepted.{opening_refusal-IsOpening}
 use Rattle.odht.specs.Growths.{table_len, grown_slots_of, grown_len}
-use Rattle.odht.proofs.lemmas.ViewInserts.{count_stated, factor_stated}
+use Rattle.odht.proofs.lemmas.ViewInserts.{count_header, factor_header}
 
 -- ---- the length
 -- a layout for so many items is the length
-pub grown_len-layout : (F : Format) (B : List ℕ) (s len : ℕ) → IsLayout F (max 1 (2 * stated_count B)) (stated_factor B) s len → grown_len F B ≡ Some len
+pub grown_len-layout : (F : Format) (B : List ℕ) (s len : ℕ) → IsLayout F (max 1 (2 * header_count B)) (header_factor B) s len → grown_len F B ≡ Some len
 unfolding grown_len
 grown_len-layout F B s len layout =
     let short : image_len F s < 2 ^ 64 = omega (arith, layout.long, layout.fits) in
     ap (table_len F) layout.slots ∙ ap (λ t. then_some t (image_len F s)) (lt-ltb (image_len F s) (2 ^ 64) short) ∙ ap Some (sym layout.long)
 
 -- and another length is the same
-pub asked_len : (F : Format) (B : List ℕ) (s len n : ℕ) → IsLayout F (max 1 (2 * stated_count B)) (stated_factor B) s len → grown_len F B ≡ Some n → n ≡ image_len F s
+pub asked_len : (F : Format) (B : List ℕ) (s len n : ℕ) → IsLayout F (max 1 (2 * header_count B)) (header_factor B) s len → grown_len F B ≡ Some n → n ≡ image_len F s
 asked_len F B s len n layout is = some_same n len (sym is ∙ grown_len-layout F B s len layout) ∙ layout.long
 
 -- where so many items are too many there is none
-pub grown_len-large : (F : Format) (B : List ℕ) → IsTooLarge F (max 1 (2 * stated_count B)) (stated_factor B) → grown_len F B ≡ None
+pub grown_len-large : (F : Format) (B : List ℕ) → IsTooLarge F (max 1 (2 * header_count B)) (header_factor B) → grown_len F B ≡ None
 unfolding grown_len
 grown_len-large F B large = go (grown_slots_of B) refl
   where
@@ -47,33 +47,33 @@ grown_len-large F B large = go (grown_slots_of B) refl
     go (Some s) e = ap (λ t. then_some t (image_len F s)) (le-ltb (image_len F s) (2 ^ 64) (large s e))
 
 -- the answer of who asks for a layout for so many items
-pub asked_layout : (F : Format) (B : List ℕ) (n f : ℕ) → n ≡ max 1 (2 * stated_count B) → f ≡ stated_factor B
+pub asked_layout : (F : Format) (B : List ℕ) (n f : ℕ) → n ≡ max 1 (2 * header_count B) → f ≡ header_factor B
     → (r : Option (ℕ × ℕ)) → IfSome r (λ l. IsLayout F n f l.0 l.1) → (IsNone r → IsTooLarge F n f)
-    → MatchOption r (grown_len F B ≡ None) (λ l. IsLayout F (max 1 (2 * stated_count B)) (stated_factor B) l.0 l.1)
-asked_layout F B n f items factor (Some l) some none = subst (λ m. IsLayout F m (stated_factor B) l.0 l.1) items (subst (λ t. IsLayout F n t l.0 l.1) factor some)
-asked_layout F B n f items factor None some none = grown_len-large F B (subst (λ m. IsTooLarge F m (stated_factor B)) items (subst (IsTooLarge F n) factor (none refl)))
+    → MatchOption r (grown_len F B ≡ None) (λ l. IsLayout F (max 1 (2 * header_count B)) (header_factor B) l.0 l.1)
+asked_layout F B n f items factor (Some l) some none = subst (λ m. IsLayout F m (header_factor B) l.0 l.1) items (subst (λ t. IsLayout F n t l.0 l.1) factor some)
+asked_layout F B n f items factor None some none = grown_len-large F B (subst (λ m. IsTooLarge F m (header_factor B)) items (subst (IsTooLarge F n) factor (none refl)))
 
 -- at the load factor 0 there is none
-pub none_at_zero : (F : Format) (B : List ℕ) → stated_factor B ≡ 0 → grown_len F B ≡ None
+pub none_at_zero : (F : Format) (B : List ℕ) → header_factor B ≡ 0 → grown_len F B ≡ None
 none_at_zero F B zero = grown_len-large F B (λ s e. (
     let least = slots_for-IsLeastSlots _ _ s e in
-    let holds : 65536 * max 1 (2 * stated_count B) ≤ s * 0 = subst (λ f. 65536 * max 1 (2 * stated_count B) ≤ s * f) zero least.holds in
-    absurd (omega (arith, holds, le-max_left 1 (2 * stated_count B)))))
+    let holds : 65536 * max 1 (2 * header_count B) ≤ s * 0 = subst (λ f. 65536 * max 1 (2 * header_count B) ≤ s * f) zero least.holds in
+    absurd (omega (arith, holds, le-max_left 1 (2 * header_count B)))))
 
 -- and so is twice a count that twice passes 64 bits
-pub none_of_many : (F : Format) (B : List ℕ) → stated_factor B ≤ 65535 → 2 ^ 64 ≤ 2 * stated_count B → grown_len F B ≡ None
+pub none_of_many : (F : Format) (B : List ℕ) → header_factor B ≤ 65535 → 2 ^ 64 ≤ 2 * header_count B → grown_len F B ≡ None
 none_of_many F B few many = grown_len-large F B (λ s e. (
     let least = slots_for-IsLeastSlots _ _ s e in
-    let most : s * stated_factor B ≤ s * 65535 = mul-le-mul_left s few in
-    absurd (omega (arith, least.holds, most, few_slots s least.is_count, le-max_right 1 (2 * stated_count B), many))))
+    let most : s * header_factor B ≤ s * 65535 = mul-le-mul_left s few in
+    absurd (omega (arith, least.holds, most, few_slots s least.is_count, le-max_right 1 (2 * header_count B), many))))
 
 -- of a valid table's bytes the slots are those of the table
-pub grown_stated : (F : Format) (P : Table) (B : List ℕ) → IsImage F P B → grown_slots_of B ≡ grown_slots P
-grown_stated F P B is = λ i. slots_for (max 1 (2 * count_stated F P B is i)) (factor_stated F P B is i)
+pub grown_header : (F : Format) (P : Table) (B : List ℕ) → IsImage F P B → grown_slots_of B ≡ grown_slots P
+grown_header F P B is = λ i. slots_for (max 1 (2 * count_header F P B is i)) (factor_header F P B is i)
 
 pub grown_len-image : (F : Format) (P : Table) (B : List ℕ) → IsImage F P B → grown_len F B ≡ table_len F (grown_slots P)
 unfolding grown_len
-grown_len-image F P B is = ap (table_len F) (grown_stated F P B is)
+grown_len-image F P B is = ap (table_len F) (grown_header F P B is)
 
 -- ---- the header
 module _ (F : Format) (T : List ℕ) (s c f : ℕ) (front : take 32 T ≡ header_bytes F s c f) where
@@ -81,17 +81,17 @@ module _ (F : Format) (T : List ℕ) (s c f : ℕ) (front : take 32 T ≡ header
   split = sym (take-append-drop 32 T) ∙ ap (λ h. h ++ drop 32 T) front
 
   -- the count is stated
-  pub headed_count : c < 2 ^ 64 → stated_count T ≡ c
-  headed_count fits = ap stated_count split ∙ num-le_bytes 8 c fits
+  pub headed_count : c < 2 ^ 64 → header_count T ≡ c
+  headed_count fits = ap header_count split ∙ num-le_bytes 8 c fits
 
   -- the load factor
-  pub headed_factor : f < 2 ^ 16 → stated_factor T ≡ f
-  headed_factor fits = ap stated_factor split ∙ num-le_bytes 2 f fits
+  pub headed_factor : f < 2 ^ 16 → header_factor T ≡ f
+  headed_factor fits = ap header_factor split ∙ num-le_bytes 2 f fits
 
   -- and the slots, so bytes as long as these ask are accepted
   pub headed_accepted : IsSlotCount s → length T ≡ image_len F s → IsAccepted F T
   headed_accepted count long =
-      let stated : stated_slots (header_bytes F s c f ++ drop 32 T) ≡ s = num-le_bytes 8 s (slots_fit s count) in
+      let by_header : header_slots (header_bytes F s c f ++ drop 32 T) ≡ s = num-le_bytes 8 s (slots_fit s count) in
       let same : length (header_bytes F s c f ++ drop 32 T) ≡ image_len F s = ap length (sym split) ∙ long in
       subst (IsAccepted F) (sym split)
       (opening_refusal-IsOpening F (header_bytes F s c f ++ drop 32 T) (record {
@@ -103,8 +103,8 @@ module _ (F : Format) (T : List ℕ) (s c f : ℕ) (front : take 32 T ≡ header
           key_len_is = refl;
           value_len_is = refl;
           header_len_is = refl;
-          slots = subst IsSlotCount (sym stated) count;
-          length_is = same ∙ ap (image_len F) (sym stated);
+          slots = subst IsSlotCount (sym by_header) count;
+          length_is = same ∙ ap (image_len F) (sym by_header);
         };
       }))
 

@@ -6,19 +6,19 @@ use Rattle.std.specs.Prelude.{option_and_then, max}
 use Rattle.odht_base.specs.Format.{Format}
 use Rattle.odht_base.specs.Image.{header_bytes, image, parts}
 use Rattle.odht_base.specs.Load.{IsLeastSlots}
-use Rattle.odht_base.specs.Insert.{grown, grown_slots, place, place_all, put_owned, put_view, run, IsFullFor}
+use Rattle.odht_base.specs.Insert.{grown, grown_slots, place, place_all, insert_owned, insert_view, run, IsFullFor}
 use Rattle.odht_base.specs.Map.{map_of, value_in, KeysApart}
 use Rattle.odht_base.specs.Table.{Pair, Table, slot_count, count, empty, walk}
 use Rattle.odht_base.specs.Valid.{IsImage, IsPartsOf, IsValid}
-use Rattle.odht_base.proofs.lemmas.Apart.{walk-IsPairOf}
+use Rattle.odht_base.proofs.lemmas.DistinctKeys.{walk-IsPairOf}
 use Rattle.odht_base.proofs.lemmas.Grown.{AreNew, new-head, new-tail, room_above, grown-IsGrown, place_all-fits, slot_count-place_all}
 use Rattle.odht_base.proofs.lemmas.Keys.{same_bytes}
 use Rattle.odht_base.proofs.lemmas.Least.{slots_for-IsLeastSlots}
 use Rattle.odht_base.proofs.lemmas.Options.{and_then_some, some_same}
 use Rattle.odht_base.proofs.lemmas.Pairs.{value_in-cons}
 use Rattle.odht_base.proofs.lemmas.Places.{map_of-place}
-use Rattle.odht_base.proofs.lemmas.Puts.{put_view-takes, put_owned-full}
-use Rattle.odht_base.proofs.lemmas.Rooms.{slot_count-empty, count-empty, empty-IsPlaced, max_items-lt}
+use Rattle.odht_base.proofs.lemmas.TableInserts.{insert_view-takes, insert_owned-full}
+use Rattle.odht_base.proofs.lemmas.FreeSlots.{slot_count-empty, count-empty, empty-IsPlaced, max_items-lt}
 use Rattle.odht_base.proofs.lemmas.SlotCounts.{few_slots, slots_pos}
 use Rattle.odht_raw.specs.PartsInserts.{ArePartsPlaced}
 use Rattle.odht_raw.specs.PartsPlacings.{IsNewTo}
@@ -69,12 +69,12 @@ module _ (F : Format) (Q : Table) (p : Pair) (ps : List Pair) (es ctrl : List �
 
   -- and once it is placed, those behind it lead on
   pub leads_on : (es' ctrl' : List ℕ) → ArePartsPlaced F at.table p es' ctrl' → LeadsTo F Q ps es' ctrl'
-  leads_on es' ctrl' put = record {
-    table = put.0;
-    parts = put.2;
+  leads_on es' ctrl' insert = record {
+    table = insert.0;
+    parts = insert.2;
     apart = at.apart.1;
-    new = new-tail at.table put.0 p ps at.apart at.new (map_of-place F at.table put.0 p at.parts.placed put.1);
-    placed = ap (λ R. place_all F R ps) (some_same put.0 next.0 (sym put.1 ∙ next.1)) ∙ next.2;
+    new = new-tail at.table insert.0 p ps at.apart at.new (map_of-place F at.table insert.0 p at.parts.placed insert.1);
+    placed = ap (λ R. place_all F R ps) (some_same insert.0 next.0 (sym insert.1 ∙ next.1)) ∙ next.2;
   }
 
 -- ---- the growth
@@ -102,10 +102,10 @@ module _ (F : Format) (P : Table) (ok : IsValid F P) (s : ℕ) (enough : grown_s
 -- ---- the owned insert, by that of the view
 module _ (F : Format) (P : Table) (p : Pair) (ok : IsValid F P) where
   -- where the table is full for the key it is that into the grown table
-  pub put_owned-grown : (Q : Table) → IsFullFor P p.key → grown F P ≡ Some Q → put_owned F P p ≡ put_view F Q p
-  put_owned-grown Q full e =
+  pub insert_owned-grown : (Q : Table) → IsFullFor P p.key → grown F P ≡ Some Q → insert_owned F P p ≡ insert_view F Q p
+  insert_owned-grown Q full e =
       let is = grown-IsGrown F P ok Q e in
-      put_owned-full F P p full ∙ ap (option_and_then (λ R. place F R p)) e ∙ sym (put_view-takes F Q p (inl is.room))
+      insert_owned-full F P p full ∙ ap (option_and_then (λ R. place F R p)) e ∙ sym (insert_view-takes F Q p (inl is.room))
 
   -- which has room, and the same values
   pub grown_below : (Q : Table) → grown F P ≡ Some Q → (k : List ℕ) → IsFullFor Q k → ⊥

@@ -5,7 +5,7 @@ use Rattle.std.proofs.Math.Nat.{eq-or-lt_of_le}
 use Rattle.std.proofs.lemmas.Option.{slice_get_within}
 use Rattle.odht_base.proofs.lemmas.Options.{some_same}
 use Rattle.odht_base.specs.Format.{Format}
-use Rattle.odht_base.specs.Shown.{Stores, entries_of, stated_slots, slot_key, slot_value}
+use Rattle.odht_base.specs.Decoded.{Stores, entries_of, header_slots, slot_key, slot_value}
 use Rattle.odht_base.specs.Table.{Table}
 use Rattle.odht_base.specs.Valid.{IsPartsOf}
 use Rattle.odht_raw.specs.Coding.{Coding, value_for}
@@ -38,7 +38,7 @@ maps f (x ∷ xs) (y ∷ ys) l h =
     λ i. first i ∷ rest i
 
 -- what stands beside a key in the entries of bytes is stored in them
-pub stored_beside : {V : Type 0} (F : Format) (f : List ℕ → V) (B k : List ℕ) (E : EntryBytes) (v : V) → E.bytes ≡ entries_of F B → E.slots ≡ stated_slots B
+pub stored_beside : {V : Type 0} (F : Format) (f : List ℕ → V) (B k : List ℕ) (E : EntryBytes) (v : V) → E.bytes ≡ entries_of F B → E.slots ≡ header_slots B
     → IsBesideKey F f E k v → (b : List ℕ) × (v ≡ f b) × Stores F B k b
 stored_beside F f B k E v es s h = (
   slot_value F (entries_of F B) h.0,
@@ -57,17 +57,17 @@ module _ {K V : Type 0} (c : Coding K V) (T : TableParts) (ks : List K) where
       go (inr h) = let was = so_far i k h at in (was.0, slice_get-set_other os n i o (λ e. omega (arith, e, h)) ∙ was.1, was.2)
 
   module _ (os : List (Option V)) (long : length os ≡ length ks) (all : AreLookups c T ks os (length ks)) where
-    told : (i : ℕ) (k : K) → slice_get ks i ≡ Some k → (o : Option V) × (slice_get os i ≡ Some o) × IsLookup c T k o
-    told i k at = all i k (slice_get_within ks i k at) at
+    known : (i : ℕ) (k : K) → slice_get ks i ≡ Some k → (o : Option V) × (slice_get os i ≡ Some o) × IsLookup c T k o
+    known i k at = all i k (slice_get_within ks i k at) at
 
     -- in a placed table they are its values
     pub lookups-values : (P : Table) → IsPartsOf c.format P T.entries.bytes T.control → os ≡ map (value_for c P) ks
-    lookups-values P parts = maps (value_for c P) ks os long (λ i k at. let got = told i k at in got.1 ∙ ap Some (got.2.on_placed P parts))
+    lookups-values P parts = maps (value_for c P) ks os long (λ i k at. let got = known i k at in got.1 ∙ ap Some (got.2.on_placed P parts))
 
     -- in the parts of any bytes they are stored there
-    pub lookups-stored : (B : List ℕ) → T.entries.bytes ≡ entries_of c.format B → T.entries.slots ≡ stated_slots B → HaveStored c B ks os
+    pub lookups-stored : (B : List ℕ) → T.entries.bytes ≡ entries_of c.format B → T.entries.slots ≡ header_slots B → HaveStored c B ks os
     lookups-stored B es s i k v at found =
-        let got = told i k at in
+        let got = known i k at in
         let same : got.0 ≡ Some v = some_same got.0 (Some v) (sym got.1 ∙ found) in
         stored_beside c.format c.value_of B (c.key_bytes k) T.entries v es s (subst (λ o. IfSome o (IsBesideKey c.format c.value_of T.entries (c.key_bytes k))) same got.2.on_any)
 

@@ -1,24 +1,24 @@
 -- Inserts in an insert order make a table again.
 use Rattle.std.proofs.Common.{◌≡◌, ◌∙◌, ℕ, sym, ap, subst, List, Some}
-use Rattle.odht_base.specs.Insert.{run, put_owned}
+use Rattle.odht_base.specs.Insert.{run, insert_owned}
 use Rattle.odht_base.specs.Table.{Table, slot_count, empty, fresh}
 use Rattle.odht_base.specs.Valid.{IsValid, IsImage}
-use Rattle.odht_base.proofs.lemmas.FreshRuns.{put_owned-PlacesBelow}
+use Rattle.odht_base.proofs.lemmas.FreshRuns.{insert_owned-PlacesBelow}
 use Rattle.odht_base.proofs.lemmas.MadeTables.{order-runs}
 use Rattle.odht_base.proofs.lemmas.Options.{some_same}
 use Rattle.odht_raw.specs.Coding.{Coding}
-use Rattle.odht.specs.Lists.{encoded_all, IsFilled}
+use Rattle.odht.specs.Lists.{encoded_all, IsAfterInserts}
 use Rattle.odht.specs.Rebuilds.{IsNewSizeOf, AreInOrder}
 
 module _ {K V : Type 0} (c : Coding K V) (items : List (K × V)) (n percent : ℕ) (start : Table) (new : fresh n percent ≡ Some start) where
   -- the bytes that the inserts of the items leave of the new table are those of the table
-  pub rebuilt-IsImage : (B : List ℕ) → IsFilled c.format (put_owned c.format) start (encoded_all c items) B
+  pub rebuilt-IsImage : (B : List ℕ) → IsAfterInserts c.format (insert_owned c.format) start (encoded_all c items) B
       → (P : Table) → IsValid c.format P → AreInOrder c P items → IsNewSizeOf P n percent → IsImage c.format P B
-  rebuilt-IsImage B filled P ok in_order size =
+  rebuilt-IsImage B inserted P ok in_order size =
       let F = c.format in
       let starts = some_same start (empty (slot_count P) P.factor) (sym new ∙ size) in
-      let from_start = ap (λ Q. run (put_owned F) Q (encoded_all c items)) starts in
-      let in_turn = ap (run (put_owned F) (empty (slot_count P) P.factor)) in_order.pairs in
-      let makes = order-runs F P ok (put_owned F) (put_owned-PlacesBelow F) in_order.order in_order.is_order in
-      let same = some_same filled.table P (sym filled.runs ∙ from_start ∙ in_turn ∙ makes) in
-      subst (λ Q. IsImage F Q B) same filled.image
+      let from_start = ap (λ Q. run (insert_owned F) Q (encoded_all c items)) starts in
+      let in_turn = ap (run (insert_owned F) (empty (slot_count P) P.factor)) in_order.pairs in
+      let makes = order-runs F P ok (insert_owned F) (insert_owned-PlacesBelow F) in_order.order in_order.is_order in
+      let same = some_same inserted.table P (sym inserted.runs ∙ from_start ∙ in_turn ∙ makes) in
+      subst (λ Q. IsImage F Q B) same inserted.image

@@ -7,70 +7,70 @@ use Rattle.odht_base.specs.Format.{Format, tag}
 use Rattle.odht_base.specs.Numbers.{IsBytes}
 use Rattle.odht_base.specs.Table.{Pair, Table, count, slot_count}
 use Rattle.odht_base.specs.Load.{max_items}
-use Rattle.odht_base.specs.Insert.{put_view, IsFullFor}
+use Rattle.odht_base.specs.Insert.{insert_view, IsFullFor}
 use Rattle.odht_base.specs.Map.{map_of}
 use Rattle.odht_base.specs.Valid.{IsPairOf, IsImage, IsPartsOf, IsValid}
-use Rattle.odht_base.specs.Shown.{stated_slots, stated_count, stated_factor, entries_of, controls_of, slot_key, slot_value, value_at}
+use Rattle.odht_base.specs.Decoded.{header_slots, header_count, header_factor, entries_of, controls_of, slot_key, slot_value, value_at}
 use Rattle.odht_base.specs.Writes.{with_value, with_entry, with_tag, with_pair, with_count}
 use Rattle.odht_base.proofs.lemmas.Fits.{IsSized-IsPlaced}
-use Rattle.odht_base.proofs.lemmas.Image.{stated_count-image, stated_slots-image, stated_factor-image}
-use Rattle.odht_base.proofs.lemmas.Rooms.{place-IsValid_fits}
+use Rattle.odht_base.proofs.lemmas.Image.{header_count-image, header_slots-image, header_factor-image}
+use Rattle.odht_base.proofs.lemmas.FreeSlots.{place-IsValid_fits}
 use Rattle.odht_base.proofs.lemmas.Places.{written}
-use Rattle.odht_base.proofs.lemmas.Puts.{HasRoom, TakesKey, there, place-IsValid, put_view-takes, put_view-IsInsert}
-use Rattle.odht_base.proofs.lemmas.Writes.{with_value-image, with_pair-image_stated}
+use Rattle.odht_base.proofs.lemmas.TableInserts.{HasRoom, TakesKey, there, place-IsValid, insert_view-takes, insert_view-IsInsert}
+use Rattle.odht_base.proofs.lemmas.Writes.{with_value-image, with_pair-image_header}
 use Rattle.odht_raw.specs.Coding.{Coding, encoded}
-use Rattle.odht_raw.specs.Frame.{CountsAsFree, HasNoFreeSlot, stated_maximum, InsertFrame, IsFramed}
+use Rattle.odht_raw.specs.Frame.{CountsAsFree, HasNoFreeSlot, header_maximum, InsertFrame, IsFramed}
 use Rattle.odht_raw.proofs.lemmas.Inserts.{found_key, found_value}
 use Rattle.odht.specs.Inserts.{IsInserted}
 use Rattle.odht_raw.proofs.lemmas.Lookups.{IsFoundAt, IsFreeAt, IsNowhere}
 
 -- an accepted insert ends in the bytes of the table with the pair put
-abbrev pub IsPut : Format → Table → Pair → List ℕ → Type 0
-IsPut F P p B = (Q : Table) × (put_view F P p ≡ Some Q) × IsImage F Q B
+abbrev pub IsAfterInsert : Format → Table → Pair → List ℕ → Type 0
+IsAfterInsert F P p B = (Q : Table) × (insert_view F P p ≡ Some Q) × IsImage F Q B
 
 -- ---- what an insert reads of the header of any bytes
-module _ {B header : List ℕ} {items most slots factor : ℕ} (at : header ≡ B) (n : items ≡ stated_count header) (s : slots ≡ stated_slots header)
-    (f : factor ≡ stated_factor header) (m : most ≡ max_items slots factor) where
+module _ {B header : List ℕ} {items most slots factor : ℕ} (at : header ≡ B) (n : items ≡ header_count header) (s : slots ≡ header_slots header)
+    (f : factor ≡ header_factor header) (m : most ≡ max_items slots factor) where
   -- is the stated maximum
-  maximum_read : most ≡ stated_maximum B
-  maximum_read = m ∙ (λ i. max_items ((s ∙ ap stated_slots at) i) ((f ∙ ap stated_factor at) i))
+  maximum_read : most ≡ header_maximum B
+  maximum_read = m ∙ (λ i. max_items ((s ∙ ap header_slots at) i) ((f ∙ ap header_factor at) i))
 
   -- and the stated count
-  count_read : items ≡ stated_count B
-  count_read = n ∙ ap stated_count at
+  count_read : items ≡ header_count B
+  count_read = n ∙ ap header_count at
 
   -- so at the maximum the header states no room
-  pub stated_full : most ≤ items → stated_maximum B ≤ stated_count B
-  stated_full h = omega (arith, maximum_read, count_read, h)
+  pub header_full : most ≤ items → header_maximum B ≤ header_count B
+  header_full h = omega (arith, maximum_read, count_read, h)
 
   -- and below it some
-  pub stated_room : items < most → stated_count B < stated_maximum B
-  stated_room h = omega (arith, maximum_read, count_read, h)
+  pub header_room : items < most → header_count B < header_maximum B
+  header_room h = omega (arith, maximum_read, count_read, h)
 
 -- ---- what the header of a valid table's bytes states
 module _ (F : Format) (P : Table) (B : List ℕ) (is : IsImage F P B) where
   -- the count
-  pub count_stated : stated_count B ≡ count P
-  count_stated = ap stated_count is.bytes ∙ stated_count-image F P (IsSized-IsPlaced F P is.valid.placed)
+  pub count_header : header_count B ≡ count P
+  count_header = ap header_count is.bytes ∙ header_count-image F P (IsSized-IsPlaced F P is.valid.placed)
 
   -- the load factor
-  pub factor_stated : stated_factor B ≡ P.factor
-  factor_stated = ap stated_factor is.bytes ∙ stated_factor-image F P is.valid.factor_high
+  pub factor_header : header_factor B ≡ P.factor
+  factor_header = ap header_factor is.bytes ∙ header_factor-image F P is.valid.factor_high
 
   -- and the maximum that its slot count and load factor give
-  max_stated : max_items (stated_slots B) (stated_factor B) ≡ max_items (slot_count P) P.factor
-  max_stated =
-      let slots = ap stated_slots is.bytes ∙ stated_slots-image F P (IsSized-IsPlaced F P is.valid.placed) in
-      λ i. max_items (slots i) (factor_stated i)
+  max_header : max_items (header_slots B) (header_factor B) ≡ max_items (slot_count P) P.factor
+  max_header =
+      let slots = ap header_slots is.bytes ∙ header_slots-image F P (IsSized-IsPlaced F P is.valid.placed) in
+      λ i. max_items (slots i) (factor_header i)
 
   -- so what an insert reads of it is the table's own: with the count at the maximum it is full
-  module _ {header : List ℕ} {items most slots factor : ℕ} (at : header ≡ B) (n : items ≡ stated_count header) (s : slots ≡ stated_slots header)
-      (f : factor ≡ stated_factor header) (m : most ≡ max_items slots factor) where
+  module _ {header : List ℕ} {items most slots factor : ℕ} (at : header ≡ B) (n : items ≡ header_count header) (s : slots ≡ header_slots header)
+      (f : factor ≡ header_factor header) (m : most ≡ max_items slots factor) where
     most_read : most ≡ max_items (slot_count P) P.factor
-    most_read = maximum_read at n s f m ∙ max_stated
+    most_read = maximum_read at n s f m ∙ max_header
 
     items_read : items ≡ count P
-    items_read = count_read at n s f m ∙ count_stated
+    items_read = count_read at n s f m ∙ count_header
 
     pub read_full : most ≤ items → count P ≡ max_items (slot_count P) P.factor
     read_full h = omega (arith, most_read, items_read, is.valid.room, h)
@@ -101,12 +101,12 @@ room_not_full P k room full = omega (arith, room, full.0)
 -- ---- the writes
 module _ (F : Format) (P : Table) (B : List ℕ) (is : IsImage F P B) (p : Pair) (fits : IsPairOf F p) (i : ℕ) where
   -- where the search found the key, with its value overwritten
-  pub found_put : IsFoundAt F P p.key i → IsPut F P p (with_value F B i p.value)
-  found_put at =
+  pub found_insert : IsFoundAt F P p.key i → IsAfterInsert F P p (with_value F B i p.value)
+  found_insert at =
       let placed = at.places p refl in
       let takes = found_takes F P p.key i at in (
         written P i p,
-        put_view-takes F P p takes ∙ placed,
+        insert_view-takes F P p takes ∙ placed,
         record {
           valid = place-IsValid F P (written P i p) p is.valid takes fits placed;
           bytes = ap (λ b. with_value F b i p.value) is.bytes ∙ with_value-image F P i p at.pair (IsSized-IsPlaced F P is.valid.placed) at.holds at.key fits.value.len;
@@ -114,30 +114,30 @@ module _ (F : Format) (P : Table) (B : List ℕ) (is : IsImage F P B) (p : Pair)
       )
 
   -- where it ended at a free slot and there is room, with the pair, its tag and the count written
-  pub free_put : HasRoom P → IsFreeAt F P p.key i → IsPut F P p (with_count (with_pair F (stated_slots B) B i p) (stated_count B + 1))
-  free_put room at =
+  pub free_insert : HasRoom P → IsFreeAt F P p.key i → IsAfterInsert F P p (with_count (with_pair F (header_slots B) B i p) (header_count B + 1))
+  free_insert room at =
       let placed = at.places p refl in (
         written P i p,
-        put_view-takes F P p (inl room) ∙ placed,
+        insert_view-takes F P p (inl room) ∙ placed,
         record {
           valid = place-IsValid F P (written P i p) p is.valid (inl room) fits placed;
-          bytes = ap (λ b. with_count (with_pair F (stated_slots b) b i p) (stated_count b + 1)) is.bytes
-              ∙ with_pair-image_stated F P i p (IsSized-IsPlaced F P is.valid.placed) at.within at.free fits.key.len fits.value.len;
+          bytes = ap (λ b. with_count (with_pair F (header_slots b) b i p) (header_count b + 1)) is.bytes
+              ∙ with_pair-image_header F P i p (IsSized-IsPlaced F P is.valid.placed) at.within at.free fits.key.len fits.value.len;
         },
       )
 
 -- ---- the answer of a view
 -- an insert that ends so answers the former value, and leaves the table after the put
 pub inserted : {K V : Type 0} (c : Coding K V) (P : Table) → IsValid c.format P → (k : K) (v : V) (old : Option V) (B : List ℕ) (p : Pair) → p ≡ encoded c k v
-    → old ≡ option_map c.value_of (map_of P p.key) → IsPut c.format P p B → IsInserted c (put_view c.format) P k v old B
-inserted c P ok k v old B p same former put =
-    let q = subst (λ (r : Pair). IsPut c.format P r B) same put in
+    → old ≡ option_map c.value_of (map_of P p.key) → IsAfterInsert c.format P p B → IsInserted c (insert_view c.format) P k v old B
+inserted c P ok k v old B p same former insert =
+    let q = subst (λ (r : Pair). IsAfterInsert c.format P r B) same insert in
     record {
       former = former ∙ ap (λ (r : Pair). option_map c.value_of (map_of P r.key)) same;
       table = q.0;
       inserted = q.1;
       image = q.2;
-      maps = (put_view-IsInsert c.format).maps P q.0 (encoded c k v) ok q.1;
+      maps = (insert_view-IsInsert c.format).maps P q.0 (encoded c k v) ok q.1;
     }
 
 -- a place that is written twice holds the last bytes
@@ -151,15 +151,15 @@ module _ {K V : Type 0} (c : Coding K V) (A : List ℕ) (k : K) (v : V) (p : Pai
   -- the overwritten value, of which r was made
   module _ (es : List ℕ) (r : V) (old : r ≡ c.value_of (slot_value c.format es slot)) (C : List ℕ) (written : C ≡ with_value c.format A slot p.value) where
     pub found_inserted : (P : Table) → IsImage c.format P A → (ctrl : List ℕ) → IsPartsOf c.format P es ctrl → IsFoundAt c.format P p.key slot
-        → IsBytes c.format.value_len p.value → IsInserted c (put_view c.format) P k v (Some r) C
+        → IsBytes c.format.value_len p.value → IsInserted c (insert_view c.format) P k v (Some r) C
     found_inserted P is ctrl parts at fits =
         inserted c P is.valid k v (Some r) C p same
         (ap Some (old ∙ ap c.value_of (found_value c.format P es ctrl parts p.key slot at)) ∙ sym (ap (option_map c.value_of) at.value))
-        (subst (IsPut c.format P p) (sym written)
-        (found_put c.format P A is p (record { key = found_key c.format P es ctrl parts p.key slot at; value = fits }) slot at))
+        (subst (IsAfterInsert c.format P p) (sym written)
+        (found_insert c.format P A is p (record { key = found_key c.format P es ctrl parts p.key slot at; value = fits }) slot at))
 
     -- on any bytes
-    pub found_framed : (B : List ℕ) → A ≡ B → es ≡ entries_of c.format A → (n : ℕ) → n ≡ stated_slots A → slot < n → slot_key c.format es slot ≡ p.key
+    pub found_framed : (B : List ℕ) → A ≡ B → es ≡ entries_of c.format A → (n : ℕ) → n ≡ header_slots A → slot < n → slot_key c.format es slot ≡ p.key
         → IsFramed c B k v (Ok (Some r)) C
     found_framed B here entries n slots low key =
         let frame : InsertFrame c.format A p (Ok (Some (value_at c.format A slot))) (with_value c.format A slot p.value) =
@@ -171,38 +171,38 @@ module _ {K V : Type 0} (c : Coding K V) (A : List ℕ) (k : K) (v : V) (p : Pai
         )
 
   -- the pair written into a free slot, with its tag, and the count
-  module _ (items t h : ℕ) (key header W C : List ℕ) (counted : items ≡ stated_count header) (at : header ≡ A) (hashed : h ≡ c.format.hash key) (read : key ≡ p.key)
-      (tagged : t ≡ h / 2 ^ 25) (entry : W ≡ with_tag c.format (stated_slots A) (with_entry c.format A slot p) slot t) (written : C ≡ with_count W (items + 1)) where
-    added : C ≡ with_count (with_pair c.format (stated_slots A) A slot p) (stated_count A + 1)
+  module _ (items t h : ℕ) (key header W C : List ℕ) (counted : items ≡ header_count header) (at : header ≡ A) (hashed : h ≡ c.format.hash key) (read : key ≡ p.key)
+      (tagged : t ≡ h / 2 ^ 25) (entry : W ≡ with_tag c.format (header_slots A) (with_entry c.format A slot p) slot t) (written : C ≡ with_count W (items + 1)) where
+    added : C ≡ with_count (with_pair c.format (header_slots A) A slot p) (header_count A + 1)
     added =
         let tag_is : t ≡ tag c.format p.key = tagged ∙ ap (λ n. n / 2 ^ 25) (hashed ∙ ap c.format.hash read) in
-        let count_is : items ≡ stated_count A = counted ∙ ap stated_count at in
+        let count_is : items ≡ header_count A = counted ∙ ap header_count at in
         written
         ∙ (λ i. with_count (entry i) (count_is i + 1))
-        ∙ (λ i. with_count (with_tag c.format (stated_slots A) (with_entry c.format A slot p) slot (tag_is i)) (stated_count A + 1))
+        ∙ (λ i. with_count (with_tag c.format (header_slots A) (with_entry c.format A slot p) slot (tag_is i)) (header_count A + 1))
 
     pub free_inserted : (P : Table) → IsImage c.format P A → HasRoom P → IsFreeAt c.format P p.key slot → IsPairOf c.format p
-        → IsInserted c (put_view c.format) P k v None C
+        → IsInserted c (insert_view c.format) P k v None C
     free_inserted P is room end fits =
         inserted c P is.valid k v None C p same (sym (ap (option_map c.value_of) end.value))
-        (subst (IsPut c.format P p) (sym added) (free_put c.format P A is p fits slot room end))
+        (subst (IsAfterInsert c.format P p) (sym added) (free_insert c.format P A is p fits slot room end))
 
     -- on any bytes
-    pub free_framed : (B : List ℕ) → A ≡ B → (ctrl : List ℕ) → ctrl ≡ controls_of c.format A → (n : ℕ) → n ≡ stated_slots A → slot < n → CountsAsFree ctrl slot
-        → stated_count A < stated_maximum A → IsFramed c B k v (Ok None) C
+    pub free_framed : (B : List ℕ) → A ≡ B → (ctrl : List ℕ) → ctrl ≡ controls_of c.format A → (n : ℕ) → n ≡ header_slots A → slot < n → CountsAsFree ctrl slot
+        → header_count A < header_maximum A → IsFramed c B k v (Ok None) C
     free_framed B here ctrl controls n slots low free room =
-        let frame : InsertFrame c.format A p (Ok None) (with_count (with_pair c.format (stated_slots A) A slot p) (stated_count A + 1)) =
+        let frame : InsertFrame c.format A p (Ok None) (with_count (with_pair c.format (header_slots A) A slot p) (header_count A + 1)) =
         InsertFrame.added slot (subst (λ m. slot < m) slots low) (subst (λ b. CountsAsFree b slot) controls free) room in
         subst (λ b. IsFramed c b k v (Ok None) C) here (Ok None, refl, subst (λ q. InsertFrame c.format A q (Ok None) C) same (subst (InsertFrame c.format A p (Ok None)) (sym added) frame))
 
 -- ---- a refusal, on any bytes
 module _ {K V : Type 0} (c : Coding K V) (A B : List ℕ) (k : K) (v : V) (here : A ≡ B) where
   -- at the stated maximum
-  pub full_framed : stated_maximum A ≤ stated_count A → IsFramed c B k v (Err Full) B
+  pub full_framed : header_maximum A ≤ header_count A → IsFramed c B k v (Err Full) B
   full_framed full = (Err Full, refl, subst (λ b. InsertFrame c.format b (encoded c k v) (Err Full) b) here (InsertFrame.full full))
 
-  -- and where each slot counts as filled
-  pub nowhere_framed : (ctrl : List ℕ) → ctrl ≡ controls_of c.format A → (n : ℕ) → n ≡ stated_slots A → HasNoFreeSlot ctrl n → IsFramed c B k v (Err Full) B
+  -- and where each slot counts as occupied
+  pub nowhere_framed : (ctrl : List ℕ) → ctrl ≡ controls_of c.format A → (n : ℕ) → n ≡ header_slots A → HasNoFreeSlot ctrl n → IsFramed c B k v (Err Full) B
   nowhere_framed ctrl controls n slots none =
-      let all : HasNoFreeSlot (controls_of c.format A) (stated_slots A) = subst (HasNoFreeSlot (controls_of c.format A)) slots (subst (λ b. HasNoFreeSlot b n) controls none) in
+      let all : HasNoFreeSlot (controls_of c.format A) (header_slots A) = subst (HasNoFreeSlot (controls_of c.format A)) slots (subst (λ b. HasNoFreeSlot b n) controls none) in
       (Err Full, refl, subst (λ b. InsertFrame c.format b (encoded c k v) (Err Full) b) here (InsertFrame.no_slot all))

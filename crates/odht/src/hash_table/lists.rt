@@ -1,13 +1,13 @@
 //! Lists of inserts into the table over bytes of any kind.
 ghost use Rattle.std.specs.Prelude.{◌≡◌, ◌≤◌, ◌↔◌, length, take, IsOk, OnErr};
 ghost use Rattle.std.specs.List.{slice_range};
-ghost use Rattle.odht_base.specs.Shown.{stated_slots, controls_of};
+ghost use Rattle.odht_base.specs.Decoded.{header_slots, controls_of};
 ghost use Rattle.odht_base.specs.Table.{Table};
-ghost use Rattle.odht_base.specs.Insert.{put_view};
+ghost use Rattle.odht_base.specs.Insert.{insert_view};
 ghost use Rattle.odht_base.specs.Valid.{IsImage};
-ghost use Rattle.odht.specs.Lists.{encoded_all, IsFilled, IsFramedRun, IsRefusedAt, IsStoppedAt};
+ghost use Rattle.odht.specs.Lists.{encoded_all, IsAfterInserts, IsFramedRun, IsRefusedAt, IsStoppedAt};
 ghost use Rattle.odht_raw.specs.Frame.{IsAccepted};
-ghost use Rattle.odht_raw.specs.Runs.{IsPlacedBelow, IsStop, room_end, stated_end};
+ghost use Rattle.odht_raw.specs.Runs.{IsPlacedBelow, IsStop, room_end, header_end};
 
 use super::HashTable;
 use crate::bytes::ByteStoreMut;
@@ -17,7 +17,7 @@ use crate::items::Items;
 
 impl<C: Config, D: ByteStoreMut> HashTable<C, D> {
     /// Inserts the items from index `from` on in their order, as many as there is room for below the maximum, and answers
-    /// the index of the first that was not inserted. On any bytes it stops before only where each slot counts as filled.
+    /// the index of the first that was not inserted. On any bytes it stops before only where each slot counts as occupied.
     #[inline(always)]
     pub(crate) fn insert_below_maximum<I: Items<C::Key, C::Value>>(
         &mut self,
@@ -33,15 +33,15 @@ impl<C: Config, D: ByteStoreMut> HashTable<C, D> {
             → result ≡ room_end P from (length (I.items items.now)) }
         ensures number_on_any { let F = ⟦<C as Coded>⟧.coding.format
             in let B = D.bytes self.new
-            in let all = stated_end (D.bytes self.old) from (length (I.items items.now))
-            in IsStop (controls_of F B) (stated_slots B) all result }
+            in let all = header_end (D.bytes self.old) from (length (I.items items.now))
+            in IsStop (controls_of F B) (header_slots B) all result }
         ensures placed { let c = ⟦<C as Coded>⟧.coding
             in (P : Table)
             → IsImage c.format P (D.bytes self.old)
             → IsPlacedBelow c.format P (encoded_all c (slice_range (I.items items.now) from result)) (D.bytes self.new) }
         ensures framed { let c = ⟦<C as Coded>⟧.coding
             in IsFramedRun c (D.bytes self.old) (slice_range (I.items items.now) from result) (D.bytes self.new) }
-        ensures place { self.new ≡ D.holding self.old (D.bytes self.new) }
+        ensures same_store { self.new ≡ D.holding self.old (D.bytes self.new) }
         ensures accepted { IsAccepted ⟦<C as Coded>⟧.coding.format (D.bytes self.new) }
     {
         self.allocation.insert_below_maximum(items, from)
@@ -54,13 +54,13 @@ impl<C: Config, D: ByteStoreMut> HashTable<C, D> {
     pub fn insert_all(&mut self, items: &[(C::Key, C::Value)]) -> (usize, Result<(), Error>)
         ensures bound { result.0 ≤ length items.now }
         ensures all { IsOk result.1 ↔ (result.0 ≡ length items.now) }
-        ensures filled { let c = ⟦<C as Coded>⟧.coding
+        ensures inserted { let c = ⟦<C as Coded>⟧.coding
             in (P : Table)
             → IsImage c.format P (D.bytes self.old)
-            → IsFilled c.format (put_view c.format) P (encoded_all c (take result.0 items.now)) (D.bytes self.new) }
+            → IsAfterInserts c.format (insert_view c.format) P (encoded_all c (take result.0 items.now)) (D.bytes self.new) }
         ensures framed { let c = ⟦<C as Coded>⟧.coding
             in IsFramedRun c (D.bytes self.old) (take result.0 items.now) (D.bytes self.new) }
-        ensures place { self.new ≡ D.holding self.old (D.bytes self.new) }
+        ensures same_store { self.new ≡ D.holding self.old (D.bytes self.new) }
         ensures accepted { IsAccepted ⟦<C as Coded>⟧.coding.format (D.bytes self.new) }
         ensures at_maximum { let c = ⟦<C as Coded>⟧.coding
             in (P : Table)
@@ -81,14 +81,14 @@ impl<C: Config, D: ByteStoreMut> HashTable<C, D> {
     ) -> (usize, Result<(), Error>)
         ensures bound { result.0 ≤ length (I.items items.now) }
         ensures all { IsOk result.1 ↔ (result.0 ≡ length (I.items items.now)) }
-        ensures filled { let c = ⟦<C as Coded>⟧.coding
+        ensures inserted { let c = ⟦<C as Coded>⟧.coding
             in let accepted = encoded_all c (take result.0 (I.items items.now))
             in (P : Table)
             → IsImage c.format P (D.bytes self.old)
-            → IsFilled c.format (put_view c.format) P accepted (D.bytes self.new) }
+            → IsAfterInserts c.format (insert_view c.format) P accepted (D.bytes self.new) }
         ensures framed { let c = ⟦<C as Coded>⟧.coding
             in IsFramedRun c (D.bytes self.old) (take result.0 (I.items items.now)) (D.bytes self.new) }
-        ensures place { self.new ≡ D.holding self.old (D.bytes self.new) }
+        ensures same_store { self.new ≡ D.holding self.old (D.bytes self.new) }
         ensures accepted { IsAccepted ⟦<C as Coded>⟧.coding.format (D.bytes self.new) }
         ensures at_maximum { let c = ⟦<C as Coded>⟧.coding
             in (P : Table)

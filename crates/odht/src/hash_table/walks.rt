@@ -1,6 +1,6 @@
 //! Walks over the table that begin at a slot.
 ghost use Rattle.std.specs.Prelude.{◌≡◌, ◌≤◌, length};
-ghost use Rattle.odht_base.specs.Shown.{shown};
+ghost use Rattle.odht_base.specs.Decoded.{decoded_table};
 ghost use Rattle.odht_base.specs.SlotWalks.{slots_from};
 ghost use Rattle.odht_base.specs.Table.{Table};
 ghost use Rattle.odht_base.specs.Valid.{IsImage};
@@ -21,7 +21,7 @@ impl<C: Config, D: ByteStore> HashTable<C, D> {
             → IsImage ⟦<C as Coded>⟧.coding.format P (D.bytes self.now)
             → result ≡ decoded_slots ⟦<C as Coded>⟧.coding (slots_from P from) }
         ensures on_any { let c = ⟦<C as Coded>⟧.coding
-            in result ≡ decoded_slots c (slots_from (shown c.format (D.bytes self.now)) from) }
+            in result ≡ decoded_slots c (slots_from (decoded_table c.format (D.bytes self.now)) from) }
         ensures few { length result ≤ usize.MAX }
     {
         let (control, entries) = self.allocation.data_slices();

@@ -9,7 +9,7 @@ use crate::config::{Coded, Config};
 
 impl<C: Config> HashTableOwned<C> {
     /// Whether some list of inserts, growths included, makes this table of an empty one of its load factor; and then
-    /// `out`, which has a place for each item, lists the filled slots in an order in which it does: their pairs,
+    /// `out`, which has a place for each item, lists the occupied slots in an order in which it does: their pairs,
     /// inserted in this order into an empty table of as many slots and the same load factor, leave these very bytes.
     /// Where no list makes it, `out` holds numbers that say nothing.
     ///

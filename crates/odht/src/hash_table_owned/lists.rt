@@ -1,9 +1,9 @@
 //! Lists of inserts into the table that grows.
 ghost use Rattle.std.specs.Prelude.{◌≡◌, ℕ, ◌≤◌, ◌↔◌, length, take, IsOk, OnErr, OnOk};
 ghost use Rattle.odht_base.specs.Table.{Table};
-ghost use Rattle.odht_base.specs.Insert.{put_owned};
+ghost use Rattle.odht_base.specs.Insert.{insert_owned};
 ghost use Rattle.odht_base.specs.Valid.{IsImage};
-ghost use Rattle.odht.specs.Lists.{encoded_all, IsFilled, IsFreshFilled, IsRefusedAt};
+ghost use Rattle.odht.specs.Lists.{encoded_all, IsAfterInserts, IsFreshAfterInserts, IsRefusedAt};
 ghost use Rattle.odht.specs.Inserts.{IsFresh};
 ghost use Rattle.odht.specs.LastValues.{HasLastValues};
 
@@ -21,14 +21,14 @@ impl<C: Config> HashTableOwned<C> {
     pub fn insert_all(&mut self, items: &[(C::Key, C::Value)]) -> (usize, Result<(), Error>)
         ensures bound { result.0 ≤ length items.now }
         ensures all { IsOk result.1 ↔ (result.0 ≡ length items.now) }
-        ensures filled { let c = ⟦<C as Coded>⟧.coding
+        ensures inserted { let c = ⟦<C as Coded>⟧.coding
             in (P : Table)
             → IsImage c.format P self.old
-            → IsFilled c.format (put_owned c.format) P (encoded_all c (take result.0 items.now)) self.new }
+            → IsAfterInserts c.format (insert_owned c.format) P (encoded_all c (take result.0 items.now)) self.new }
         ensures fresh { let c = ⟦<C as Coded>⟧.coding
             in (p : ℕ)
             → IsFresh c.format (length items.now) p self.old
-            → OnOk result.1 (IsFreshFilled c p items.now self.new) }
+            → OnOk result.1 (IsFreshAfterInserts c p items.now self.new) }
         ensures last_values { let c = ⟦<C as Coded>⟧.coding
             in (n p : ℕ)
             → IsFresh c.format n p self.old
@@ -50,15 +50,15 @@ impl<C: Config> HashTableOwned<C> {
     ) -> (usize, Result<(), Error>)
         ensures bound { result.0 ≤ length (I.items items.now) }
         ensures all { IsOk result.1 ↔ (result.0 ≡ length (I.items items.now)) }
-        ensures filled { let c = ⟦<C as Coded>⟧.coding
+        ensures inserted { let c = ⟦<C as Coded>⟧.coding
             in let accepted = encoded_all c (take result.0 (I.items items.now))
             in (P : Table)
             → IsImage c.format P self.old
-            → IsFilled c.format (put_owned c.format) P accepted self.new }
+            → IsAfterInserts c.format (insert_owned c.format) P accepted self.new }
         ensures fresh { let c = ⟦<C as Coded>⟧.coding
             in (p : ℕ)
             → IsFresh c.format (length (I.items items.now)) p self.old
-            → OnOk result.1 (IsFreshFilled c p (I.items items.now) self.new) }
+            → OnOk result.1 (IsFreshAfterInserts c p (I.items items.now) self.new) }
         ensures last_values { let c = ⟦<C as Coded>⟧.coding
             in (n p : ℕ)
             → IsFresh c.format n p self.old

@@ -9,7 +9,7 @@ use Rattle.std.specs.Prelude.{ℕ, List, map, Option, option_and_then}
 use Rattle.std.specs.List.{range_with_len}
 use Rattle.odht_base.specs.Format.{Format}
 use Rattle.odht_base.specs.Hashes.{fx, un}
-use Rattle.odht_base.specs.Insert.{run, put_owned, put_view}
+use Rattle.odht_base.specs.Insert.{run, insert_owned, insert_view}
 use Rattle.odht_base.specs.Numbers.{le_bytes}
 use Rattle.odht_base.specs.Table.{Pair, Table, fresh}
 
@@ -29,10 +29,10 @@ abbrev pub pair32 : ℕ → ℕ → Pair
 pair32 k v = record { key = le_bytes 4 k; value = le_bytes 4 v }
 
 abbrev pub view_of : Format → ℕ → ℕ → List Pair → Option Table
-view_of F n p ps = option_and_then (λ T. run (put_view F) T ps) (fresh n p)
+view_of F n p ps = option_and_then (λ T. run (insert_view F) T ps) (fresh n p)
 
 abbrev pub owned_of : Format → ℕ → ℕ → List Pair → Option Table
-owned_of F n p ps = option_and_then (λ T. run (put_owned F) T ps) (fresh n p)
+owned_of F n p ps = option_and_then (λ T. run (insert_owned F) T ps) (fresh n p)
 
 abbrev pub squares : ℕ → List Pair
 squares n = map (λ i. pair32 i i) (range_with_len 0 n)

@@ -9,16 +9,16 @@ Equal m n = m ≡ n
 
 -- of the bytes 3 and 255 the first is the tag 3
 pub report : IsReport (3 ∷ 255 ∷ []) 3 (0 ∷ [])
-report = record { rising = λ k l. absurd (omega (arith, l)); complete = complete; filled = filled }
+report = record { rising = λ k l. absurd (omega (arith, l)); complete = complete; occupied = occupied }
   where
     complete : (i : ℕ) → i < 2 → slice_index (3 ∷ 255 ∷ []) i ≡ 3 → Contains (0 ∷ []) i
     complete zero l e = (0, lit< tt, refl)
     complete (suc zero) l e = absurd (omega (arith, e))
     complete (suc (suc i)) l e = absurd (omega (arith, l))
 
-    filled : (i : ℕ) → Contains (0 ∷ []) i → (i < 2) × (slice_index (3 ∷ 255 ∷ []) i < 128)
-    filled i (zero, low, is) = subst (λ j. (j < 2) × (slice_index (3 ∷ 255 ∷ []) j < 128)) is (lit< tt, lit< tt)
-    filled i (suc k, low, is) = absurd (omega (arith, low))
+    occupied : (i : ℕ) → Contains (0 ∷ []) i → (i < 2) × (slice_index (3 ∷ 255 ∷ []) i < 128)
+    occupied i (zero, low, is) = subst (λ j. (j < 2) × (slice_index (3 ∷ 255 ∷ []) j < 128)) is (lit< tt, lit< tt)
+    occupied i (suc k, low, is) = absurd (omega (arith, low))
 
 -- none of the tag is left out, none of a free byte and none behind the group is told, and they rise
 pub other_reports_refused : (IsReport (3 ∷ []) 3 [] → ⊥)
@@ -26,10 +26,10 @@ pub other_reports_refused : (IsReport (3 ∷ []) 3 [] → ⊥)
     × (IsReport (3 ∷ []) 3 (0 ∷ 1 ∷ []) → ⊥)
     × (IsReport (3 ∷ 3 ∷ []) 3 (1 ∷ 0 ∷ []) → ⊥)
 other_reports_refused = (
-  λ h. let told = h.complete 0 (lit< tt) refl in omega (arith, told.1),
-  λ h. let told = h.filled 0 (0, lit< tt, refl) in omega (arith, told.1),
-  λ h. let told = h.filled 1 (1, lit< tt, refl) in omega (arith, told.0),
-  λ h. let told = h.rising 0 (lit< tt) in omega (arith, told),
+  λ h. let known = h.complete 0 (lit< tt) refl in omega (arith, known.1),
+  λ h. let known = h.occupied 0 (0, lit< tt, refl) in omega (arith, known.1),
+  λ h. let known = h.occupied 1 (1, lit< tt, refl) in omega (arith, known.0),
+  λ h. let known = h.rising 0 (lit< tt) in omega (arith, known),
 )
 
 -- a search by words may tell of a byte that differs from the tag in its lowest bit, behind one that it tells of, and of
@@ -43,4 +43,4 @@ other_word_reports_refused = (λ h. other (h.others 1 (1, lit< tt, refl)), λ h.
 
     first : Equal 2 3 ⊎ (Equal 2 (bit_xor 3 1) × ((j : ℕ) × (j + 1 ≡ 0) × Contains (0 ∷ []) j)) → ⊥
     first (inl e) = omega (arith, e)
-    first (inr (e, (j, next, told))) = omega (arith, next)
+    first (inr (e, (j, next, known))) = omega (arith, next)

@@ -4,8 +4,8 @@ use Rattle.std.specs.Prelude.{IfSome}
 use Rattle.std.specs.List.{range_with_len}
 use Rattle.std.proofs.lemmas.Bool.{false≢true}
 use Rattle.std.proofs.lemmas.Option.{none-some}
-use Rattle.odht_base.specs.CountRule.{put_owned_by_count, put_view_by_count, OverwritesFull, NoneOverwritesFull}
-use Rattle.odht_base.specs.Insert.{put_owned, put_view}
+use Rattle.odht_base.specs.CountRule.{insert_owned_by_count, insert_view_by_count, OverwritesFull, NoneOverwritesFull}
+use Rattle.odht_base.specs.Insert.{insert_owned, insert_view}
 use Rattle.odht_base.specs.Load.{max_items}
 use Rattle.odht_base.specs.Map.{map_of, KeysApart}
 use Rattle.odht_base.specs.Numbers.{le_bytes}
@@ -30,7 +30,7 @@ from_nothing = (refl, refl, refl, refl, refl)
 
 -- thirteen keys in sixteen slots, and one more insert into the owned table: a new key or one that is there
 abbrev full_owned : Pair → Option Table
-full_owned p = option_and_then (λ P. put_owned direct_config P p) (owned_of direct_config 13 87 (squares 13))
+full_owned p = option_and_then (λ P. insert_owned direct_config P p) (owned_of direct_config 13 87 (squares 13))
 
 pub owned_grows : (sizes (owned_of direct_config 13 87 (squares 13)) ≡ Some (16 ∷ 13 ∷ 13 ∷ []))
     × (sizes (full_owned (pair32 13 7)) ≡ Some (32 ∷ 14 ∷ 27 ∷ []))
@@ -41,7 +41,7 @@ owned_grows = (refl, refl, refl, refl)
 
 -- and into a view, which refuses the new key alone
 abbrev full_view : Pair → Option Table
-full_view p = option_and_then (λ P. put_view direct_config P p) (view_of direct_config 13 87 (squares 13))
+full_view p = option_and_then (λ P. insert_view direct_config P p) (view_of direct_config 13 87 (squares 13))
 
 pub view_refuses : (sizes (view_of direct_config 13 87 (squares 13)) ≡ Some (16 ∷ 13 ∷ 13 ∷ []))
     × (full_view (pair32 13 7) ≡ None)
@@ -52,14 +52,14 @@ view_refuses = (refl, refl, refl, refl)
 
 -- ---- the rule that asks the count alone
 -- at the maximum it grows, or refuses, whatever the key
-pub by_count : (sizes (option_and_then (λ P. put_owned_by_count direct_config P (pair32 3 7)) (owned_of direct_config 13 87 (squares 13))) ≡ Some (32 ∷ 13 ∷ 27 ∷ []))
-    × (option_and_then (λ P. put_view_by_count direct_config P (pair32 3 7)) (view_of direct_config 13 87 (squares 13)) ≡ None)
+pub by_count : (sizes (option_and_then (λ P. insert_owned_by_count direct_config P (pair32 3 7)) (owned_of direct_config 13 87 (squares 13))) ≡ Some (32 ∷ 13 ∷ 27 ∷ []))
+    × (option_and_then (λ P. insert_view_by_count direct_config P (pair32 3 7)) (view_of direct_config 13 87 (squares 13)) ≡ None)
 unfolding opened
 by_count = (refl, refl)
 
 -- below it, it overwrites as the other does
-pub by_count_below : (sizes (option_and_then (λ P. put_owned_by_count direct_config P (pair32 3 7)) (owned_of direct_config 13 87 (squares 12))) ≡ Some (16 ∷ 12 ∷ 13 ∷ []))
-    × (sizes (option_and_then (λ P. put_view_by_count direct_config P (pair32 3 7)) (view_of direct_config 13 87 (squares 12))) ≡ Some (16 ∷ 12 ∷ 13 ∷ []))
+pub by_count_below : (sizes (option_and_then (λ P. insert_owned_by_count direct_config P (pair32 3 7)) (owned_of direct_config 13 87 (squares 12))) ≡ Some (16 ∷ 12 ∷ 13 ∷ []))
+    × (sizes (option_and_then (λ P. insert_view_by_count direct_config P (pair32 3 7)) (view_of direct_config 13 87 (squares 12))) ≡ Some (16 ∷ 12 ∷ 13 ∷ []))
 unfolding opened
 by_count_below = (refl, refl)
 
@@ -77,11 +77,11 @@ unfolding opened
 below_refused h = false≢true h.0
 
 -- of a new key and then the same again, none overwrites in a full table: the first has grown it
-pub none_overwrites : IfSome (owned_of direct_config 13 87 (squares 13)) (λ P. NoneOverwritesFull (put_owned direct_config) P (pair32 13 7 ∷ pair32 13 8 ∷ []))
+pub none_overwrites : IfSome (owned_of direct_config 13 87 (squares 13)) (λ P. NoneOverwritesFull (insert_owned direct_config) P (pair32 13 7 ∷ pair32 13 8 ∷ []))
 unfolding opened
 none_overwrites = (λ h. false≢true h.1, (λ h. false≢true h.0, tt))
 
-pub one_overwrites : IfSome (owned_of direct_config 13 87 (squares 13)) (λ P. NoneOverwritesFull (put_owned direct_config) P (pair32 3 7 ∷ []) → ⊥)
+pub one_overwrites : IfSome (owned_of direct_config 13 87 (squares 13)) (λ P. NoneOverwritesFull (insert_owned direct_config) P (pair32 3 7 ∷ []) → ⊥)
 unfolding opened
 one_overwrites h = h.0 (refl, refl)
 
@@ -105,7 +105,7 @@ ends = option_map (λ P. map (λ k. search_end direct_config P.cells (le_bytes 4
 
 -- a growth places the old pairs in slot order, so then 15 is the first at its home
 pub slot_order : (ends crossed ≡ Some (Some 15 ∷ Some 0 ∷ []))
-    × (ends (option_and_then (λ P. put_owned direct_config P (pair32 12 12)) crossed) ≡ Some (Some 16 ∷ Some 15 ∷ []))
+    × (ends (option_and_then (λ P. insert_owned direct_config P (pair32 12 12)) crossed) ≡ Some (Some 16 ∷ Some 15 ∷ []))
 unfolding opened
 slot_order = (refl, refl)
 

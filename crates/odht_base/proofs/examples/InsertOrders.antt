@@ -4,13 +4,13 @@ use Rattle.std.specs.Prelude.{IfSome}
 use Rattle.std.proofs.lemmas.Bool.{false≢true}
 use Rattle.std.proofs.lemmas.List.Elements.{All-nil, All-cons}
 use Rattle.std.proofs.lemmas.List.Sorted.{IsPermutation-refl, IsPermutation-append_comm, length_permutation}
-use Rattle.odht_base.specs.CountRule.{put_owned_by_count, put_view_by_count}
+use Rattle.odht_base.specs.CountRule.{insert_owned_by_count, insert_view_by_count}
 use Rattle.odht_base.specs.Format.{home}
-use Rattle.odht_base.specs.Insert.{put_owned, put_view}
+use Rattle.odht_base.specs.Insert.{insert_owned, insert_view}
 use Rattle.odht_base.specs.Load.{factor_of, IsSlotCount}
-use Rattle.odht_base.specs.Made.{IsMadeBy, IsInsertOrder, filled}
+use Rattle.odht_base.specs.Made.{IsMadeBy, IsInsertOrder, occupied}
 use Rattle.odht_base.specs.Numbers.{le_bytes}
-use Rattle.odht_base.specs.Probe.{place_slot}
+use Rattle.odht_base.specs.Probe.{probe_slot}
 use Rattle.odht_base.specs.Ready.{IsReady, IsSoFar, IsStuck}
 use Rattle.odht_base.specs.Search.{search_end, is_at}
 use Rattle.odht_base.specs.Table.{Pair, Table, count, fresh}
@@ -33,7 +33,7 @@ abbrev pub fifteen_first : Table
 fifteen_first = record { factor = factor_of 87; cells = Some (pair32 31 31) ∷ replicate 14 None ++ Some (pair32 15 15) ∷ [] }
 
 -- that is what two inserts into a view give
-pub fifteen_slots : (wrapped ≡ Some fifteen_first) × (filled fifteen_first ≡ 0 ∷ 15 ∷ []) × (count fifteen_first ≡ 2)
+pub fifteen_slots : (wrapped ≡ Some fifteen_first) × (occupied fifteen_first ≡ 0 ∷ 15 ∷ []) × (count fifteen_first ≡ 2)
 unfolding opened
 fifteen_slots = (refl, refl, refl)
 
@@ -51,7 +51,7 @@ pub slot_order_refused : IsInsertOrder direct_config fifteen_first (0 ∷ 15 ∷
 unfolding opened
 slot_order_refused o = false≢true (some_same _ _ (ap at_home o.gives))
 
--- nor is one of the filled slots alone
+-- nor is one of the occupied slots alone
 pub alone_refused : IsInsertOrder direct_config fifteen_first (15 ∷ []) → ⊥
 alone_refused o = omega (arith, length_permutation (0 ∷ 15 ∷ []) (15 ∷ []) o.each_once)
 
@@ -63,7 +63,7 @@ twice_refused o = omega (arith, length_permutation (0 ∷ 15 ∷ []) (15 ∷ 0 �
 -- at the start slot 15 is ready
 pub fifteen_ready : IsReady direct_config fifteen_first [] 15
 unfolding opened
-fifteen_ready = record { pair = pair32 15 15; holds = refl; place = 0; in_order = lit< tt; stands = refl; earlier_taken = λ q l. absurd (omega arith) }
+fifteen_ready = record { pair = pair32 15 15; holds = refl; position = 0; in_order = lit< tt; stands = refl; earlier_taken = λ q l. absurd (omega arith) }
 
 -- slot 0 is not
 pub zero_refused : IsReady direct_config fifteen_first [] 0 → ⊥
@@ -76,10 +76,10 @@ unfolding opened
 zero_ready = record {
   pair = pair32 31 31;
   holds = refl;
-  place = 1;
+  position = 1;
   in_order = lit< tt;
   stands = refl;
-  earlier_taken = λ q l. let first : 0 ≡ q = omega arith in subst (λ n. Contains (15 ∷ []) (place_slot (home direct_config (le_bytes 4 31) 16) 16 n)) first (0, lit< tt, refl);
+  earlier_taken = λ q l. let first : 0 ≡ q = omega arith in subst (λ n. Contains (15 ∷ []) (probe_slot (home direct_config (le_bytes 4 31) 16) 16 n)) first (0, lit< tt, refl);
 }
 
 -- so a search is not stuck at the start
@@ -115,7 +115,7 @@ unfolding opened
 sixteen = record { power = refl; least = lit≤ tt }
 
 -- they make it, into the owned table or a view, by either rule at the maximum
-pub fifteen_made : IsMadeBy direct_config (put_owned direct_config) fifteen_first × IsMadeBy direct_config (put_view direct_config) fifteen_first
-    × IsMadeBy direct_config (put_owned_by_count direct_config) fifteen_first × IsMadeBy direct_config (put_view_by_count direct_config) fifteen_first
+pub fifteen_made : IsMadeBy direct_config (insert_owned direct_config) fifteen_first × IsMadeBy direct_config (insert_view direct_config) fifteen_first
+    × IsMadeBy direct_config (insert_owned_by_count direct_config) fifteen_first × IsMadeBy direct_config (insert_view_by_count direct_config) fifteen_first
 unfolding opened
 fifteen_made = ((16, both, sixteen, both_fit, refl), (16, both, sixteen, both_fit, refl), (16, both, sixteen, both_fit, refl), (16, both, sixteen, both_fit, refl))

@@ -44,16 +44,16 @@ unmade_valid = record {
   room = lit≤ tt;
 }
 
--- all filled slots but 0 and 1
+-- all occupied slots but 0 and 1
 abbrev taken : List ℕ
 taken = range_with_len 2 31 ++ range_with_len 49 15
 
 -- the test of a slot that is taken or free, or one of the two
-abbrev told : ℕ → Bool
-told i = list_any (eqb i) taken || (is_free unmade.cells i || (i == 0 || i == 1))
+abbrev known : ℕ → Bool
+known i = list_any (eqb i) taken || (is_free unmade.cells i || (i == 0 || i == 1))
 
 -- all 64 slots pass it
-all_told : list_all told (range_with_len 0 64) ≡ true
+all_told : list_all known (range_with_len 0 64) ≡ true
 all_told = refl
 
 -- a slot that is not found among the taken ones is not taken
@@ -74,12 +74,12 @@ one_not_ready r = not_ready direct_config unmade taken 1 (pair32 0 0) refl 0 (λ
 unmade_stuck : IsStuck direct_config unmade taken
 unmade_stuck = stuck_if_none direct_config unmade taken (λ i l out r. go i out r (sorts i l))
   where
-    sorts : (i : ℕ) → i < 64 → told i ≡ true
+    sorts : (i : ℕ) → i < 64 → known i ≡ true
     sorts i l =
         let at : get_or (range_with_len 0 64) i 0 ≡ i = omega (arith, get_or-range_with_len 0 64 i 0 l) in
-        subst (λ j. told j ≡ true) at (AllPass-from_list_all told (range_with_len 0 64) all_told i 0 l)
+        subst (λ j. known j ≡ true) at (AllPass-from_list_all known (range_with_len 0 64) all_told i 0 l)
 
-    go : (i : ℕ) → (Contains taken i → ⊥) → IsReady direct_config unmade taken i → told i ≡ true → ⊥
+    go : (i : ℕ) → (Contains taken i → ⊥) → IsReady direct_config unmade taken i → known i ≡ true → ⊥
     go i out r e = elim (or_cases _ _ e) [
       | inl here ↦ out ((is_member-Decides Decides-eqb taken i).0 here)
       | inr other ↦ elim (or_cases _ _ other) [

@@ -4,16 +4,16 @@ use Rattle.std.specs.Prelude.{is_none, option_and_then, IsSome, IsTrue, ◌&&◌
 use Rattle.std.specs.Option.{option_or}
 use Rattle.std.proofs.lemmas.List.Elements.{All-head, All-tail}
 use Rattle.std.proofs.lemmas.Option.{none-some}
-use Rattle.odht_base.specs.CountRule.{put_owned_by_count, put_view_by_count, OverwritesFull, NoneOverwritesFull}
+use Rattle.odht_base.specs.CountRule.{insert_owned_by_count, insert_view_by_count, OverwritesFull, NoneOverwritesFull}
 use Rattle.odht_base.specs.Format.{Format}
-use Rattle.odht_base.specs.Insert.{place, grown, run, is_full, put_owned, put_view}
+use Rattle.odht_base.specs.Insert.{place, grown, run, is_full, insert_owned, insert_view}
 use Rattle.odht_base.specs.Map.{map_of, value_in, KeysApart}
 use Rattle.odht_base.specs.Table.{Pair, Table, walk}
 use Rattle.odht_base.specs.Valid.{IsPairOf, IsValid}
 use Rattle.odht_base.proofs.lemmas.Grown.{AreNew, new-head, new-tail}
 use Rattle.odht_base.proofs.lemmas.Keys.{same_bytes}
 use Rattle.odht_base.proofs.lemmas.Pairs.{value_in-cons}
-use Rattle.odht_base.proofs.lemmas.Runs.{IsInsert, value_in-append}
+use Rattle.odht_base.proofs.lemmas.InsertRuns.{IsInsert, value_in-append}
 
 -- ---- one insert
 -- a test of the key does not matter where no pair overwrites in a full table
@@ -24,26 +24,26 @@ same_branch false o x y other = refl
 
 -- two inserts agree where no pair overwrites in a full table
 abbrev pub AgreeElsewhere : (Table → Pair → Option Table) → (Table → Pair → Option Table) → Type 0
-AgreeElsewhere put by_count = (P : Table) (p : Pair) → (OverwritesFull P p → ⊥) → put P p ≡ by_count P p
+AgreeElsewhere insert by_count = (P : Table) (p : Pair) → (OverwritesFull P p → ⊥) → insert P p ≡ by_count P p
 
 -- those of the owned table
-pub put_owned-agrees : (F : Format) → AgreeElsewhere (put_owned F) (put_owned_by_count F)
-unfolding put_owned
-put_owned-agrees F P p other = same_branch (is_full P) (map_of P p.key) (option_and_then (λ Q. place F Q p) (grown F P)) (place F P p) other
+pub insert_owned-agrees : (F : Format) → AgreeElsewhere (insert_owned F) (insert_owned_by_count F)
+unfolding insert_owned
+insert_owned-agrees F P p other = same_branch (is_full P) (map_of P p.key) (option_and_then (λ Q. place F Q p) (grown F P)) (place F P p) other
 
 -- and those of a view
-pub put_view-agrees : (F : Format) → AgreeElsewhere (put_view F) (put_view_by_count F)
-unfolding put_view
-put_view-agrees F P p other = same_branch (is_full P) (map_of P p.key) None (place F P p) other
+pub insert_view-agrees : (F : Format) → AgreeElsewhere (insert_view F) (insert_view_by_count F)
+unfolding insert_view
+insert_view-agrees F P p other = same_branch (is_full P) (map_of P p.key) None (place F P p) other
 
 -- ---- inserts in turn
 -- a list of which no pair does so makes the same table
-pub run-agrees : (put by_count : Table → Pair → Option Table) → AgreeElsewhere put by_count → (P : Table) (ps : List Pair) → NoneOverwritesFull put P ps → run put P ps ≡ run by_count P ps
-run-agrees put by_count agree P [] none = refl
-run-agrees put by_count agree P (p ∷ ps) none = go (put P p) none.1 (λ Q. run-agrees put by_count agree Q ps) ∙ ap (option_and_then (λ Q. run by_count Q ps)) (agree P p none.0)
+pub run-agrees : (insert by_count : Table → Pair → Option Table) → AgreeElsewhere insert by_count → (P : Table) (ps : List Pair) → NoneOverwritesFull insert P ps → run insert P ps ≡ run by_count P ps
+run-agrees insert by_count agree P [] none = refl
+run-agrees insert by_count agree P (p ∷ ps) none = go (insert P p) none.1 (λ Q. run-agrees insert by_count agree Q ps) ∙ ap (option_and_then (λ Q. run by_count Q ps)) (agree P p none.0)
   where
-    go : (o : Option Table) → IfSome o (λ Q. NoneOverwritesFull put Q ps) → ((Q : Table) → NoneOverwritesFull put Q ps → run put Q ps ≡ run by_count Q ps)
-        → option_and_then (λ Q. run put Q ps) o ≡ option_and_then (λ Q. run by_count Q ps) o
+    go : (o : Option Table) → IfSome o (λ Q. NoneOverwritesFull insert Q ps) → ((Q : Table) → NoneOverwritesFull insert Q ps → run insert Q ps ≡ run by_count Q ps)
+        → option_and_then (λ Q. run insert Q ps) o ≡ option_and_then (λ Q. run by_count Q ps) o
     go None rest ih = refl
     go (Some Q) rest ih = ih Q rest
 
@@ -67,25 +67,25 @@ apart-new (q ∷ qs) ps apart =
     go rest k v e false t = rest k v e
 
 -- such pairs never overwrite
-module _ (F : Format) (put : Table → Pair → Option Table) (is : IsInsert F (IsValid F) put) where
-  new-none_overwrite : (P : Table) (ps : List Pair) → IsValid F P → All (IsPairOf F) ps → KeysApart ps → AreNew P ps → NoneOverwritesFull put P ps
+module _ (F : Format) (insert : Table → Pair → Option Table) (is : IsInsert F (IsValid F) insert) where
+  new-none_overwrite : (P : Table) (ps : List Pair) → IsValid F P → All (IsPairOf F) ps → KeysApart ps → AreNew P ps → NoneOverwritesFull insert P ps
   new-none_overwrite P [] ok fit apart new = tt
   new-none_overwrite P (p ∷ ps) ok fit apart new = (
     (λ both. absent (map_of P p.key) (new-head P p ps new) both.1),
-    go (put P p) refl (λ Q e. new-none_overwrite Q ps (is.keeps P Q p ok (All-head (IsPairOf F) p ps fit) e) (All-tail (IsPairOf F) p ps fit) apart.1 (new-tail P Q p ps apart new (is.maps P Q p ok e))),
+    go (insert P p) refl (λ Q e. new-none_overwrite Q ps (is.keeps P Q p ok (All-head (IsPairOf F) p ps fit) e) (All-tail (IsPairOf F) p ps fit) apart.1 (new-tail P Q p ps apart new (is.maps P Q p ok e))),
   )
     where
       absent : (o : Option (List ℕ)) → o ≡ None → IsSome o → ⊥
       absent None e some = true≢false (sym some)
       absent (Some v) e some = none-some v (sym e)
 
-      go : (o : Option Table) → put P p ≡ o → ((Q : Table) → put P p ≡ Some Q → NoneOverwritesFull put Q ps) → IfSome o (λ Q. NoneOverwritesFull put Q ps)
+      go : (o : Option Table) → insert P p ≡ o → ((Q : Table) → insert P p ≡ Some Q → NoneOverwritesFull insert Q ps) → IfSome o (λ Q. NoneOverwritesFull insert Q ps)
       go None answer ih = tt
       go (Some Q) answer ih = ih Q answer
 
   -- so both rules make the same table of them
-  pub run-apart : (by_count : Table → Pair → Option Table) → AgreeElsewhere put by_count → (P : Table) (ps : List Pair) → IsValid F P → All (IsPairOf F) ps → KeysApart (walk P ++ ps)
-      → run put P ps ≡ run by_count P ps
+  pub run-apart : (by_count : Table → Pair → Option Table) → AgreeElsewhere insert by_count → (P : Table) (ps : List Pair) → IsValid F P → All (IsPairOf F) ps → KeysApart (walk P ++ ps)
+      → run insert P ps ≡ run by_count P ps
   run-apart by_count agree P ps ok fit apart =
       let new = apart-new (walk P) ps apart in
-      run-agrees put by_count agree P ps (new-none_overwrite P ps ok fit new.0 new.1)
+      run-agrees insert by_count agree P ps (new-none_overwrite P ps ok fit new.0 new.1)

@@ -36,7 +36,7 @@ pub count_fresh : (n : ℕ) → count_of (replicate n None) ≡ 0
 count_fresh n = ap length (pairs-free n)
 
 -- ---- a cell set
--- a pair set in a free cell is one more, and in a filled one none
+-- a pair set in a free cell is one more, and in an occupied one none
 pub count_set : (cs : Cells) (i : ℕ) (p : Pair) → i < length cs → count_of (set cs i (Some p)) ≡ (if is_none (cell_at cs i) then count_of cs + 1 else count_of cs)
 count_set [] i p l = absurd (omega arith)
 count_set (None ∷ cs) zero p l = omega arith
@@ -51,7 +51,7 @@ count_set (Some d ∷ cs) (suc i) p l = ap suc (count_set cs i p (omega arith)) 
 pub count_set_free : (cs : Cells) (i : ℕ) (p : Pair) → i < length cs → is_none (cell_at cs i) ≡ true → count_of (set cs i (Some p)) ≡ count_of cs + 1
 count_set_free cs i p l f = count_set cs i p l ∙ ap (λ b. if b then count_of cs + 1 else count_of cs) f
 
--- in a filled cell
+-- in an occupied cell
 pub count_set_again : (cs : Cells) (x : ℕ) (p : Pair) → is_none (cell_at cs x) ≡ false → count_of (set cs x (Some p)) ≡ count_of cs
 count_set_again [] x p f = refl
 count_set_again (None ∷ cs) zero p f = absurd (true≢false f)

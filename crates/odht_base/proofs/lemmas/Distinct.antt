@@ -1,7 +1,7 @@
 -- The probe order lists each slot once: two places of an order are two slots.
 use Rattle.std.proofs.Common.{◌≡◌, ◌<◌, ◌≤◌, ◌∙◌, ◌+◌, ◌*◌, ◌-◌, ◌/◌, ◌%◌, ◌^◌, ℕ, zero, suc, sym, ap, subst, refl, arith, pow-suc, Bool, true, false, nat_lt, ltb-true, ltb-false, mul_comm, div-add-mod', mul-le-mul_left}
 use Rattle.odht_base.specs.Load.{IsSlotCount}
-use Rattle.odht_base.specs.Probe.{place_slot}
+use Rattle.odht_base.specs.Probe.{probe_slot}
 use Rattle.odht_base.proofs.lemmas.SlotCounts.{exponent}
 
 -- a power of two that divides a product with an odd factor divides the other factor
@@ -87,8 +87,8 @@ at_power k b p q u v before within e =
     same_step k b (p / 16) (q / 16) (p % 16) (q % 16) u v same (omega (arith, same, before)) (omega (arith, within)) e
 
 -- two places of an order are two slots
-pub place_slot-injective : (b s p q : ℕ) → IsSlotCount s → p < q → q < s → place_slot b s p ≡ place_slot b s q → ⊥
-place_slot-injective b s p q c before within same = at_exponent (exponent s c).0 (exponent s c).1 (exponent s c).3
+pub probe_slot-injective : (b s p q : ℕ) → IsSlotCount s → p < q → q < s → probe_slot b s p ≡ probe_slot b s q → ⊥
+probe_slot-injective b s p q c before within same = at_exponent (exponent s c).0 (exponent s c).1 (exponent s c).3
   where
     at_exponent : (e : ℕ) → 4 ≤ e → s ≡ 2 ^ e → ⊥
     at_exponent (suc (suc (suc (suc k)))) lo power =

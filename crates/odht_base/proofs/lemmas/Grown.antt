@@ -12,14 +12,14 @@ use Rattle.odht_base.specs.Load.{max_items, IsLeastSlots}
 use Rattle.odht_base.specs.Map.{value_in, map_of, last, KeysApart}
 use Rattle.odht_base.specs.Table.{Pair, Table, slot_count, walk, count, empty}
 use Rattle.odht_base.specs.Valid.{IsPairOf, IsPlaced, IsValid}
-use Rattle.odht_base.proofs.lemmas.Apart.{last-apart, walk-KeysApart, walk-IsPairOf}
+use Rattle.odht_base.proofs.lemmas.DistinctKeys.{last-apart, walk-KeysApart, walk-IsPairOf}
 use Rattle.odht_base.proofs.lemmas.Keys.{same_bytes, key_itself}
 use Rattle.odht_base.proofs.lemmas.Least.{slots_for-IsLeastSlots}
 use Rattle.odht_base.proofs.lemmas.Options.{and_then_some, some_same, option_or-none_right}
 use Rattle.odht_base.proofs.lemmas.Pairs.{value_in-cons}
 use Rattle.odht_base.proofs.lemmas.Places.{place-IsPlaced, slot_count-place, factor-place, count-place, count-place_le, map_of-place, walk-place}
-use Rattle.odht_base.proofs.lemmas.Rooms.{max_items-holds, place-fits, slot_count-empty, walk-empty, map_of-empty, empty-IsPlaced}
-use Rattle.odht_base.proofs.lemmas.Runs.{IsInsert, run-keeps, factor-run, map_of-run}
+use Rattle.odht_base.proofs.lemmas.FreeSlots.{max_items-holds, place-fits, slot_count-empty, walk-empty, map_of-empty, empty-IsPlaced}
+use Rattle.odht_base.proofs.lemmas.InsertRuns.{IsInsert, run-keeps, factor-run, map_of-run}
 
 -- `place` is an insert of placed tables
 pub place-IsInsert : (F : Format) → IsInsert F (IsPlaced F) (place F)

@@ -4,29 +4,29 @@ use Rattle.std.proofs.lemmas.List.{length-replicate, replicate-append-replicate,
 use Rattle.odht_base.specs.Bytes.{bytes_at}
 use Rattle.odht_base.specs.Format.{Format, IsFormat, entry_len}
 use Rattle.odht_base.specs.Image.{header_bytes, control_byte, entries, controls, parts, image, image_len}
-use Rattle.odht_base.specs.Shown.{stated_slots, stated_count, stated_factor, entries_of, controls_of, shown_cells, shown, seen}
+use Rattle.odht_base.specs.Decoded.{header_slots, header_count, header_factor, entries_of, controls_of, decoded_cells, decoded_table, decoded_pairs}
 use Rattle.odht_base.specs.Table.{Table, slot_count, count, empty, walk}
 use Rattle.odht_base.specs.Valid.{IsValid, HasPairsOf}
 use Rattle.odht_base.proofs.lemmas.ByteRanges.{bytes_at-between}
 use Rattle.odht_base.proofs.lemmas.Counts.{count_of-le, count_fresh}
 use Rattle.odht_base.proofs.lemmas.Fits.{IsSized, IsSized-IsPlaced}
 use Rattle.odht_base.proofs.lemmas.Numbers.{num-le_bytes}
-use Rattle.odht_base.proofs.lemmas.Parts.{length-header_bytes, length-entries, length-parts, shown_cells-parts}
+use Rattle.odht_base.proofs.lemmas.Parts.{length-header_bytes, length-entries, length-parts, decoded_cells-parts}
 
 -- the image of a sized table states its slot count
-pub stated_slots-image : (F : Format) (P : Table) → IsSized F P → stated_slots (image F P) ≡ slot_count P
+pub header_slots-image : (F : Format) (P : Table) → IsSized F P → header_slots (image F P) ≡ slot_count P
 unfolding image
-stated_slots-image F P h = num-le_bytes 8 (slot_count P) h.few
+header_slots-image F P h = num-le_bytes 8 (slot_count P) h.few
 
 -- its count
-pub stated_count-image : (F : Format) (P : Table) → IsSized F P → stated_count (image F P) ≡ count P
+pub header_count-image : (F : Format) (P : Table) → IsSized F P → header_count (image F P) ≡ count P
 unfolding image
-stated_count-image F P h = let c = count_of-le P.cells in num-le_bytes 8 (count P) (omega (arith, c, h.few))
+header_count-image F P h = let c = count_of-le P.cells in num-le_bytes 8 (count P) (omega (arith, c, h.few))
 
 -- and its factor
-pub stated_factor-image : (F : Format) (P : Table) → P.factor ≤ 65535 → stated_factor (image F P) ≡ P.factor
+pub header_factor-image : (F : Format) (P : Table) → P.factor ≤ 65535 → header_factor (image F P) ≡ P.factor
 unfolding image
-stated_factor-image F P h = num-le_bytes 2 P.factor (omega (arith, h))
+header_factor-image F P h = num-le_bytes 2 P.factor (omega (arith, h))
 
 -- it has the length of its slot count
 pub length-image : (F : Format) (P : Table) → IsSized F P → length (image F P) ≡ image_len F (slot_count P)
@@ -41,7 +41,7 @@ length-image F P h =
 pub entries_of-image : (F : Format) (P : Table) → IsSized F P → entries_of F (image F P) ≡ entries F P.cells
 unfolding image
 entries_of-image F P h =
-    ap (λ s. bytes_at (image F P) 32 (s * entry_len F)) (stated_slots-image F P h)
+    ap (λ s. bytes_at (image F P) 32 (s * entry_len F)) (header_slots-image F P h)
     ∙ bytes_at-between (header_bytes F (slot_count P) (count P) P.factor) (entries F P.cells) (controls F P.cells) 32 (slot_count P * entry_len F)
     (length-header_bytes F (slot_count P) (count P) P.factor) (length-entries F P.cells h.lengths)
 
@@ -52,31 +52,31 @@ controls_of-image F P h =
     let H = header_bytes F (slot_count P) (count P) P.factor in
     let n : length (H ++ entries F P.cells) ≡ 32 + slot_count P * entry_len F =
     length-append H (entries F P.cells) ∙ omega (arith, length-header_bytes F (slot_count P) (count P) P.factor, length-entries F P.cells h.lengths) in
-    ap (λ s. drop (32 + s * entry_len F) (image F P)) (stated_slots-image F P h)
+    ap (λ s. drop (32 + s * entry_len F) (image F P)) (header_slots-image F P h)
     ∙ ap (drop (32 + slot_count P * entry_len F)) (sym (append_assoc H (entries F P.cells) (controls F P.cells)))
     ∙ drop_at (H ++ entries F P.cells) (controls F P.cells) (32 + slot_count P * entry_len F) n
 
 -- the image shows the cells
-pub shown_cells-image : (F : Format) (P : Table) → IsFormat F → IsSized F P → HasPairsOf F P.cells → shown_cells F (entries_of F (image F P)) (controls_of F (image F P)) ≡ P.cells
-shown_cells-image F P f h b =
-    ap (λ es. shown_cells F es (controls_of F (image F P))) (entries_of-image F P h)
-    ∙ ap (shown_cells F (entries F P.cells)) (controls_of-image F P h)
-    ∙ shown_cells-parts F P.cells f b h.enough
+pub decoded_cells-image : (F : Format) (P : Table) → IsFormat F → IsSized F P → HasPairsOf F P.cells → decoded_cells F (entries_of F (image F P)) (controls_of F (image F P)) ≡ P.cells
+decoded_cells-image F P f h b =
+    ap (λ es. decoded_cells F es (controls_of F (image F P))) (entries_of-image F P h)
+    ∙ ap (decoded_cells F (entries F P.cells)) (controls_of-image F P h)
+    ∙ decoded_cells-parts F P.cells f b h.enough
 
 -- the image of a valid table shows the table
-pub shown-image : (F : Format) (P : Table) → IsFormat F → IsValid F P → shown F (image F P) ≡ P
-shown-image F P f h =
-    let factor = stated_factor-image F P h.factor_high in
-    let cells = shown_cells-image F P f (IsSized-IsPlaced F P h.placed) h.placed.pairs in
+pub decoded_table-image : (F : Format) (P : Table) → IsFormat F → IsValid F P → decoded_table F (image F P) ≡ P
+decoded_table-image F P f h =
+    let factor = header_factor-image F P h.factor_high in
+    let cells = decoded_cells-image F P f (IsSized-IsPlaced F P h.placed) h.placed.pairs in
     λ i. record { factor = factor i; cells = cells i }
 
 -- valid bytes show their table's pairs
-pub seen-image : (F : Format) (P : Table) → IsFormat F → IsValid F P → seen F (image F P) ≡ walk P
-seen-image F P f h = ap walk (shown-image F P f h)
+pub decoded_pairs-image : (F : Format) (P : Table) → IsFormat F → IsValid F P → decoded_pairs F (image F P) ≡ walk P
+decoded_pairs-image F P f h = ap walk (decoded_table-image F P f h)
 
 -- valid tables with one image are one
 pub image-injective : (F : Format) (P Q : Table) → IsFormat F → IsValid F P → IsValid F Q → image F P ≡ image F Q → P ≡ Q
-image-injective F P Q f p q e = sym (shown-image F P f p) ∙ ap (shown F) e ∙ shown-image F Q f q
+image-injective F P Q f p q e = sym (decoded_table-image F P f p) ∙ ap (decoded_table F) e ∙ decoded_table-image F Q f q
 
 -- the entries of an empty table are zeros
 pub entries-empty : (F : Format) (s : ℕ) → entries F (replicate s None) ≡ replicate (s * entry_len F) 0

@@ -1,14 +1,14 @@
--- An insert order is all filled slots in an order in which each is ready, and a search for one finds it or is stuck.
+-- An insert order is all occupied slots in an order in which each is ready, and a search for one finds it or is stuck.
 use Rattle.std.proofs.Common.{◌≡◌, ◌<◌, inl, inr, ℕ, refl, List, [], ◌∷◌, Option, Some, None, length, get_or, arith, All, Contains}
 use Rattle.std.specs.List.{cons_option}
 use Rattle.std.proofs.lemmas.List.Elements.{All-nil, All-cons, Contains-get_or}
 use Rattle.std.proofs.lemmas.List.Sorted.{IsPermutation-sym}
 use Rattle.odht_base.specs.Format.{Format}
-use Rattle.odht_base.specs.Made.{IsInsertOrder, filled, pairs_of}
+use Rattle.odht_base.specs.Made.{IsInsertOrder, occupied, pairs_of}
 use Rattle.odht_base.specs.Ready.{IsSoFar, IsStuck}
 use Rattle.odht_base.specs.Table.{Pair, Table, slot_count, count, cell_at}
 use Rattle.odht_base.specs.Valid.{HasPairsOf, HoldsPair, IsPairOf, IsPlaced}
-use Rattle.odht_base.proofs.lemmas.Filled.{filled-Contains, filled-apart, length-filled}
+use Rattle.odht_base.proofs.lemmas.OccupiedSlots.{occupied-Contains, occupied-apart, length-occupied}
 use Rattle.odht_base.proofs.lemmas.OrdersKept.{IsOrdered, place_all-IsOrdered}
 use Rattle.odht_base.proofs.lemmas.Pigeons.{pigeons, pigeons_fit}
 use Rattle.odht_base.proofs.lemmas.ReadySlots.{contains_or_not}
@@ -26,13 +26,13 @@ pairs_of-IsPairOf F P (i ∷ out) fit = go (cell_at P.cells i) (fit i) (pairs_of
 
 module _ (F : Format) (P : Table) (ok : IsPlaced F P) where
   -- ---- orders in which each slot is ready
-  -- taken slots with all filled ones among them are an insert order
+  -- taken slots with all occupied ones among them are an insert order
   order_if_whole : (xs : List ℕ) → IsSoFar F P xs → ((i : ℕ) (p : Pair) → HoldsPair P i p → Contains xs i) → IsInsertOrder F P xs
   order_if_whole xs s all =
-      let held = λ (k d : ℕ) (l : k < length xs). (filled-Contains P (get_or xs k d)).1 (so_far_holds F P xs s (get_or xs k d) (Contains-get_or xs k d l)) in
-      let few = pigeons_fit (filled P) xs (filled-apart P) (λ k d l. let h = (filled-Contains P (get_or (filled P) k d)).0 (Contains-get_or (filled P) k d l) in all (get_or (filled P) k d) h.0 h.1) in
+      let held = λ (k d : ℕ) (l : k < length xs). (occupied-Contains P (get_or xs k d)).1 (so_far_holds F P xs s (get_or xs k d) (Contains-get_or xs k d l)) in
+      let few = pigeons_fit (occupied P) xs (occupied-apart P) (λ k d l. let h = (occupied-Contains P (get_or (occupied P) k d)).0 (Contains-get_or (occupied P) k d l) in all (get_or (occupied P) k d) h.0 h.1) in
       record {
-        each_once = IsPermutation-sym xs (filled P) (pigeons xs (filled P) s.apart held few);
+        each_once = IsPermutation-sym xs (occupied P) (pigeons xs (occupied P) s.apart held few);
         gives = so_far_gives F P ok xs s all;
       }
 
@@ -52,10 +52,10 @@ module _ (F : Format) (P : Table) (ok : IsPlaced F P) where
   -- stuck with fewer: there is no order in which each slot is ready
   pub not_ordered_if_fewer : (xs : List ℕ) → IsStuck F P xs → length xs < count P → IsOrdered F P → ⊥
   not_ordered_if_fewer xs stuck few o =
-      let all = λ (k d : ℕ) (l : k < length (filled P)).
-      let h = (filled-Contains P (get_or (filled P) k d)).0 (Contains-get_or (filled P) k d l) in
-      stuck_has_all F P xs o.order stuck o.so_far (get_or (filled P) k d) (o.all (get_or (filled P) k d) h.0 h.1) in
-      omega (arith, few, length-filled P, pigeons_fit (filled P) xs (filled-apart P) all)
+      let all = λ (k d : ℕ) (l : k < length (occupied P)).
+      let h = (occupied-Contains P (get_or (occupied P) k d)).0 (Contains-get_or (occupied P) k d l) in
+      stuck_has_all F P xs o.order stuck o.so_far (get_or (occupied P) k d) (o.all (get_or (occupied P) k d) h.0 h.1) in
+      omega (arith, few, length-occupied P, pigeons_fit (occupied P) xs (occupied-apart P) all)
 
   -- so there is no insert order
   pub no_order_if_fewer : (xs : List ℕ) → IsStuck F P xs → length xs < count P → (out : List ℕ) → IsInsertOrder F P out → ⊥

@@ -8,8 +8,8 @@ use Rattle.std.specs.Prelude.{slice_get}
 use Rattle.std.proofs.lemmas.Simd.{bitmask_splat, mask_l-mod}
 use lib.Lanes.{mask_l, zip2, top}
 use Rattle.odht_base.specs.Masks.{set_bits}
-use Rattle.odht_base.specs.Groups.{equal, first_free, filled}
-use Rattle.odht_base.proofs.lemmas.MarkedPlaces.{places_of, equal-places, filled-places}
+use Rattle.odht_base.specs.Groups.{equal, first_free, occupied}
+use Rattle.odht_base.proofs.lemmas.MarkedPositions.{positions_of, equal-places, occupied-places}
 use Rattle.odht_base.proofs.lemmas.MaskBits.{bits_mask, first_is_position}
 
 -- the mask of the lanes that equal h
@@ -61,15 +61,15 @@ mask_l-take (b ∷ bs) zero = omega arith
 mask_l-take (true ∷ bs) (suc n) = next-mask true bs n (mask_l-take bs n) (omega arith) (omega arith) (omega arith)
 mask_l-take (false ∷ bs) (suc n) = next-mask false bs n (mask_l-take bs n) (omega arith) (omega arith) (omega arith)
 
--- the mask of the filled ones of the first lanes
-pub filled_lanes : (g : List ℕ) (n : ℕ) → length g ≡ 16 → n ≤ 16
-    → set_bits (bit_and (mask_l (map (top 7) (zip2 (λ a b. cond (nat_lt a b) 255 0) g (replicate 16 128))) % 2 ^ 64) (1 * 2 ^ n % 2 ^ 64 - 1)) ≡ filled (take n g)
-filled_lanes g n l m =
+-- the mask of the occupied ones of the first lanes
+pub occupied_lanes : (g : List ℕ) (n : ℕ) → length g ≡ 16 → n ≤ 16
+    → set_bits (bit_and (mask_l (map (top 7) (zip2 (λ a b. cond (nat_lt a b) 255 0) g (replicate 16 128))) % 2 ^ 64) (1 * 2 ^ n % 2 ^ 64 - 1)) ≡ occupied (take n g)
+occupied_lanes g n l m =
     let below : 2 ^ n ≤ 2 ^ 16 = pow_mono {i = n} {j = 16} m in
     let ones : 1 * 2 ^ n % 2 ^ 64 - 1 ≡ 2 ^ n - 1 = omega (arith, below) in
     ap₂ (λ x y. set_bits (bit_and x y)) (bitmask_splat w8 (λ a b. nat_lt a b) g 16 128 l (omega arith)) ones
     ∙ ap set_bits (and_mask (mask_l (map (λ x. nat_lt x 128) g)) n)
     ∙ ap set_bits (mask_l-take (map (λ x. nat_lt x 128) g) n)
     ∙ bits_mask 64 0 (take n (map (λ x. nat_lt x 128) g)) (omega (arith, length-take n (map (λ x. nat_lt x 128) g), length-map g (λ x. nat_lt x 128)))
-    ∙ ap (places_of 0) (take-map (λ x. nat_lt x 128) n g)
-    ∙ sym (filled-places (take n g))
+    ∙ ap (positions_of 0) (take-map (λ x. nat_lt x 128) n g)
+    ∙ sym (occupied-places (take n g))

@@ -3,7 +3,7 @@ use Rattle.std.proofs.Common.{◌≡◌, ◌<◌, ◌≤◌, ◌∙◌, ◌+◌,
 use Rattle.std.proofs.lemmas.Option.{slice_get_within, slice_get-get_or}
 use Rattle.std.proofs.lemmas.List.FromFn.{get_or-map-range_with_len}
 use Rattle.odht_base.specs.Load.{slots_for, slot_counts, IsSlotCount, IsLeastSlots}
-use Rattle.odht_base.proofs.lemmas.Firsts.{IsFirst, find-Some, find-None}
+use Rattle.odht_base.proofs.lemmas.FirstMatch.{IsFirst, find-Some, find-None}
 use Rattle.odht_base.proofs.lemmas.Options.{some_same}
 use Rattle.odht_base.proofs.lemmas.SlotCounts.{exponent, IsSlotCount-pow}
 
@@ -22,7 +22,7 @@ module _ (n f : ℕ) where
 
   -- none before the first that passes is as small as one that passes
   first_is_least : (s : ℕ) → IsFirst fits slot_counts s → (t : ℕ) → IsSlotCount t → fits t ≡ true → s ≤ t
-  first_is_least s first t c h = go (nat_lt e (4 + first.place)) refl
+  first_is_least s first t c h = go (nat_lt e (4 + first.position)) refl
     where
       e : ℕ
       e = (exponent t c).0
@@ -30,30 +30,30 @@ module _ (n f : ℕ) where
       te : t ≡ 2 ^ e
       te = (exponent t c).3
 
-      in_range : first.place < 60
-      in_range = slice_get_within slot_counts first.place s first.is
+      in_range : first.position < 60
+      in_range = slice_get_within slot_counts first.position s first.is
 
-      power : 2 ^ (4 + first.place) ≡ s
-      power = some_same _ _ (sym (slice_get-slot_counts first.place (4 + first.place) in_range refl) ∙ first.is)
+      power : 2 ^ (4 + first.position) ≡ s
+      power = some_same _ _ (sym (slice_get-slot_counts first.position (4 + first.position) in_range refl) ∙ first.is)
 
-      go : (b : Bool) → nat_lt e (4 + first.place) ≡ b → s ≤ t
+      go : (b : Bool) → nat_lt e (4 + first.position) ≡ b → s ≤ t
       go true g =
           let x = exponent t c in
-          let below = ltb-true e (4 + first.place) g in
+          let below = ltb-true e (4 + first.position) g in
           let fails = first.before (e - 4) (2 ^ e) (omega (arith, below, x.1)) (slot_count-in_list e x.1 x.2) in
           absurd (true≢false (sym h ∙ ap fits te ∙ fails))
       go false g =
-          let above = ltb-false e (4 + first.place) g in
-          subst (λ u. u ≤ t) power (subst (λ u. 2 ^ (4 + first.place) ≤ u) (sym te) (pow_mono above))
+          let above = ltb-false e (4 + first.position) g in
+          subst (λ u. u ≤ t) power (subst (λ u. 2 ^ (4 + first.position) ≤ u) (sym te) (pow_mono above))
 
   -- what it answers is least
   pub slots_for-IsLeastSlots : (s : ℕ) → slots_for n f ≡ Some s → IsLeastSlots n f s
   unfolding slots_for
   slots_for-IsLeastSlots s e =
       let first = find-Some fits slot_counts s e in
-      let in_range : first.place < 60 = slice_get_within slot_counts first.place s first.is in
+      let in_range : first.position < 60 = slice_get_within slot_counts first.position s first.is in
       record {
-        is_count = IsSlotCount-pow s (4 + first.place) (omega arith) (omega arith) (some_same _ _ (sym first.is ∙ slice_get-slot_counts first.place (4 + first.place) in_range refl));
+        is_count = IsSlotCount-pow s (4 + first.position) (omega arith) (omega arith) (some_same _ _ (sym first.is ∙ slice_get-slot_counts first.position (4 + first.position) in_range refl));
         holds = leb-true (65536 * n) (s * f) first.passes;
         least = λ t c h. first_is_least s first t c (le-leb (65536 * n) (t * f) h);
       }

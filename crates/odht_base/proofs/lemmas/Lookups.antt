@@ -4,16 +4,16 @@ use Rattle.std.specs.Prelude.{is_none, option_map, option_and_then}
 use Rattle.std.proofs.lemmas.Bool.{or_from, or_right, false_from_ne_true}
 use Rattle.odht_base.specs.Format.{Format, home}
 use Rattle.odht_base.specs.Map.{map_of}
-use Rattle.odht_base.specs.Probe.{place_slot}
+use Rattle.odht_base.specs.Probe.{probe_slot}
 use Rattle.odht_base.specs.Search.{search_end, stops_at}
 use Rattle.odht_base.specs.Table.{Pair, Table, Cells, slot_count, cell_at, has_key}
 use Rattle.odht_base.specs.Valid.{IsPlaced}
 use Rattle.odht_base.proofs.lemmas.Options.{some_same}
-use Rattle.odht_base.proofs.lemmas.Orders.{place_slot-apart, find-order, find-order_none}
+use Rattle.odht_base.proofs.lemmas.Orders.{probe_slot-apart, find-order, find-order_none}
 use Rattle.odht_base.proofs.lemmas.Pairs.{value_in-Some}
 use Rattle.odht_base.proofs.lemmas.Placed.{AllArrive}
 use Rattle.odht_base.proofs.lemmas.Places.{is_free-target}
-use Rattle.odht_base.proofs.lemmas.Targets.{IsTarget, has_key-holds, has_key-one, search_end-IsTarget}
+use Rattle.odht_base.proofs.lemmas.SearchEnds.{IsTarget, has_key-holds, has_key-one, search_end-IsTarget}
 use Rattle.std.proofs.lemmas.Option.{none-some}
 
 -- in a placed table each pair stands where a search for its key ends
@@ -23,25 +23,25 @@ AllArrive-IsPlaced F P ok i p h =
     let r = ok.reached i p h in
     let here = has_key-holds P i p h in
     let b = home F p.key (slot_count P) in
-    find-order (stops_at P.cells p.key) b (slot_count P) r.place r.in_order
+    find-order (stops_at P.cells p.key) b (slot_count P) r.position r.in_order
     (ap (stops_at P.cells p.key) r.stands ∙ or_right _ _ here)
-    (λ q l. or_from _ _ (r.earlier_filled q l) (false_from_ne_true _ (λ g.
-    let same = has_key-one F P p.key ok (place_slot b (slot_count P) q) i g here in
+    (λ q l. or_from _ _ (r.earlier_occupied q l) (false_from_ne_true _ (λ g.
+    let same = has_key-one F P p.key ok (probe_slot b (slot_count P) q) i g here in
     let lq : q < slot_count P = omega (arith, r.in_order) in
-    let z = place_slot-apart b (slot_count P) q r.place ok.slots lq r.in_order (same ∙ sym r.stands) in omega arith)))
+    let z = probe_slot-apart b (slot_count P) q r.position ok.slots lq r.in_order (same ∙ sym r.stands) in omega arith)))
     ∙ ap Some r.stands
 
 -- a walk over the places of k's order that met no stop before place n, and one at place n
 pub search_end-at : (F : Format) (cs : Cells) (k : List ℕ) (n : ℕ) → n < length cs
-    → ((m : ℕ) → m < n → stops_at cs k (place_slot (home F k (length cs)) (length cs) m) ≡ false)
-    → stops_at cs k (place_slot (home F k (length cs)) (length cs) n) ≡ true
-    → search_end F cs k ≡ Some (place_slot (home F k (length cs)) (length cs) n)
+    → ((m : ℕ) → m < n → stops_at cs k (probe_slot (home F k (length cs)) (length cs) m) ≡ false)
+    → stops_at cs k (probe_slot (home F k (length cs)) (length cs) n) ≡ true
+    → search_end F cs k ≡ Some (probe_slot (home F k (length cs)) (length cs) n)
 unfolding search_end
 search_end-at F cs k n l below here = find-order (stops_at cs k) (home F k (length cs)) (length cs) n l here below
 
 -- one that met no stop at all
 pub search_end-nowhere : (F : Format) (cs : Cells) (k : List ℕ)
-    → ((m : ℕ) → m < length cs → stops_at cs k (place_slot (home F k (length cs)) (length cs) m) ≡ false)
+    → ((m : ℕ) → m < length cs → stops_at cs k (probe_slot (home F k (length cs)) (length cs) m) ≡ false)
     → search_end F cs k ≡ None
 unfolding search_end
 search_end-nowhere F cs k none = find-order_none (stops_at cs k) (home F k (length cs)) (length cs) none

@@ -7,7 +7,7 @@ use lib.Count.{count_trailing_zeros, under}
 use lib.Lanes.{mask_l}
 use borrow.Author.Tests.{lt-ltb, le-ltb, ltb-true, ltb-false}
 use Rattle.odht_base.specs.Masks.{bits_from, set_bits}
-use Rattle.odht_base.proofs.lemmas.MarkedPlaces.{places_of}
+use Rattle.odht_base.proofs.lemmas.MarkedPositions.{positions_of}
 
 -- an even mask has its lowest place free
 pub even_step : (k i n m : ℕ) → n ≡ 2 * m → bits_from (suc k) i n ≡ bits_from k (i + 1) m
@@ -72,7 +72,7 @@ without_lowest (suc n) l =
 
 -- ---- a mask of lanes
 -- a mask of answers has the places of the true ones
-pub bits_mask : (k i : ℕ) (bs : List Bool) → length bs ≤ k → bits_from k i (mask_l bs) ≡ places_of i bs
+pub bits_mask : (k i : ℕ) (bs : List Bool) → length bs ≤ k → bits_from k i (mask_l bs) ≡ positions_of i bs
 bits_mask k i [] l = no_bits k i
 bits_mask zero i (b ∷ bs) l = absurd (omega arith)
 bits_mask (suc k) i (true ∷ bs) l = odd_step k i (mask_l (true ∷ bs)) (mask_l bs) (omega arith) ∙ ap (λ r. i ∷ r) (bits_mask k (i + 1) bs (omega arith))
@@ -89,10 +89,10 @@ first_by false i r n rest e =
     e ∙ rw (same, test) refl
 
 -- the first place of a true answer, counted from i on
-first_place : {X : Type 0} (p : X → Bool) (i : ℕ) (xs : List X) → slice_get (places_of i (map p xs)) 0 ≡ cond (nat_lt (position_or_len p xs) (length xs)) (Some (i + position_or_len p xs)) None
+first_place : {X : Type 0} (p : X → Bool) (i : ℕ) (xs : List X) → slice_get (positions_of i (map p xs)) 0 ≡ cond (nat_lt (position_or_len p xs) (length xs)) (Some (i + position_or_len p xs)) None
 first_place p i [] = refl
-first_place p i (x ∷ xs) = first_by (p x) i (position_or_len p xs) (length xs) (places_of (i + 1) (map p xs)) (first_place p (i + 1) xs)
+first_place p i (x ∷ xs) = first_by (p x) i (position_or_len p xs) (length xs) (positions_of (i + 1) (map p xs)) (first_place p (i + 1) xs)
 
 -- the first place where a test passes
-pub first_is_position : {X : Type 0} (p : X → Bool) (xs : List X) → slice_get (places_of 0 (map p xs)) 0 ≡ position p xs
+pub first_is_position : {X : Type 0} (p : X → Bool) (xs : List X) → slice_get (positions_of 0 (map p xs)) 0 ≡ position p xs
 first_is_position p xs = first_place p 0 xs ∙ rw (let e : 0 + position_or_len p xs ≡ position_or_len p xs = omega arith in e) refl

@@ -22,29 +22,29 @@ pow-lt d e h = elim (cases_lt d e) [ inl l ↦ l | inr m ↦ absurd (let p : 2 ^
 
 module _ (n f : ℕ) (pos : 1 ≤ f) where
   -- how many slots the items fill, at least
-  abbrev filled : ℕ
-  filled = div_ceil (n * 65536) f
+  abbrev occupied : ℕ
+  occupied = div_ceil (n * 65536) f
 
   -- so many slots hold them
-  filled-holds : (s : ℕ) → filled ≤ s → 65536 * n ≤ s * f
-  filled-holds s h =
+  occupied-holds : (s : ℕ) → occupied ≤ s → 65536 * n ≤ s * f
+  occupied-holds s h =
       let enough = div_ceil-enough (n * 65536) f pos in
-      let more : filled * f ≤ s * f = mul-le-mul_right f h in
+      let more : occupied * f ≤ s * f = mul-le-mul_right f h in
       omega arith
 
   -- and no fewer do
-  filled-least : (t : ℕ) → 65536 * n ≤ t * f → filled ≤ t
-  filled-least t h = div_ceil-least (n * 65536) f t pos (omega arith)
+  occupied-least : (t : ℕ) → 65536 * n ≤ t * f → occupied ≤ t
+  occupied-least t h = div_ceil-least (n * 65536) f t pos (omega arith)
 
-  pub next-IsLeastSlots : (e s : ℕ) → s ≡ 2 ^ e → max filled 16 ≤ s → s / 2 < max 1 (max filled 16) → filled ≤ 2 ^ 63 → IsLeastSlots n f s
+  pub next-IsLeastSlots : (e s : ℕ) → s ≡ 2 ^ e → max occupied 16 ≤ s → s / 2 < max 1 (max occupied 16) → occupied ≤ 2 ^ 63 → IsLeastSlots n f s
   next-IsLeastSlots e s is low high few = record {
     is_count = IsSlotCount-pow s e four sixty_four is;
-    holds = filled-holds s (omega (arith, le-max_left filled 16));
+    holds = occupied-holds s (omega (arith, le-max_left occupied 16));
     least = least;
   }
     where
       four : 4 ≤ e
-      four = pow-lt 3 e (omega (arith, le-max_right filled 16))
+      four = pow-lt 3 e (omega (arith, le-max_right occupied 16))
 
       -- half of a higher power is as large
       half : (d : ℕ) → d < e → 2 ^ d ≤ s / 2
@@ -60,10 +60,10 @@ module _ (n f : ℕ) (pos : 1 ≤ f) where
       least t c h =
           let x = exponent t c in
           elim (cases_lt x.0 e) [
-            | inl l ↦ absurd (let p = half x.0 l in let m = filled-least t h in omega (arith, x.3, c.least))
+            | inl l ↦ absurd (let p = half x.0 l in let m = occupied-least t h in omega (arith, x.3, c.least))
             | inr m ↦ let p : 2 ^ e ≤ 2 ^ x.0 = pow_mono {i = e} {j = x.0} m in omega (arith, is, x.3)
           ]
 
   -- more than 2 ^ 63 are in no slot count
-  pub next_none : 2 ^ 63 < filled → slots_for n f ≡ None
-  next_none many = slots_for-none n f (λ t c h. let m = filled-least t h in let k = few_slots t c in omega arith)
+  pub next_none : 2 ^ 63 < occupied → slots_for n f ≡ None
+  next_none many = slots_for-none n f (λ t c h. let m = occupied-least t h in let k = few_slots t c in omega arith)

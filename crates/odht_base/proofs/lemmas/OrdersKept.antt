@@ -1,4 +1,4 @@
--- Each table that inserts make has its filled slots in an order in which each is ready after those before it.
+-- Each table that inserts make has its occupied slots in an order in which each is ready after those before it.
 use Rattle.std.proofs.Common.{◌≡◌, ◌<◌, ◌∙◌, ◌++◌, inl, inr, ℕ, false, true≢false, sym, ap, subst, refl, List, [], ◌∷◌, Option, Some, None, take, slice_index, Contains, All, length-set}
 use Rattle.std.specs.Prelude.{is_none}
 use Rattle.std.proofs.lemmas.Bool.{cases_eq, or_cases}
@@ -7,24 +7,24 @@ use Rattle.std.proofs.lemmas.List.Elements.{Contains-append_left, Contains-push}
 use Rattle.odht_base.specs.Format.{Format, home}
 use Rattle.odht_base.specs.Insert.{place, place_all, grown, grown_slots, run}
 use Rattle.odht_base.specs.Load.{IsSlotCount}
-use Rattle.odht_base.specs.Probe.{place_slot}
+use Rattle.odht_base.specs.Probe.{probe_slot}
 use Rattle.odht_base.specs.Ready.{IsReady, IsSoFar}
 use Rattle.odht_base.specs.Table.{Pair, Table, slot_count, cell_at, is_free, empty, walk}
 use Rattle.odht_base.specs.Valid.{IsPairOf, HoldsPair, IsPlaced, IsValid}
-use Rattle.odht_base.proofs.lemmas.Apart.{walk-IsPairOf}
+use Rattle.odht_base.proofs.lemmas.DistinctKeys.{walk-IsPairOf}
 use Rattle.odht_base.proofs.lemmas.Counts.{cell_at-free}
 use Rattle.odht_base.proofs.lemmas.Grown.{place-IsInsert}
 use Rattle.odht_base.proofs.lemmas.Keys.{key_pair}
 use Rattle.odht_base.proofs.lemmas.Least.{slots_for-IsLeastSlots}
 use Rattle.odht_base.proofs.lemmas.Options.{and_then_some, some_same}
 use Rattle.odht_base.proofs.lemmas.Places.{written, written_here, written_other, written_holds, place-written}
-use Rattle.odht_base.proofs.lemmas.Puts.{IsBased, IsBased-IsInsert}
-use Rattle.odht_base.proofs.lemmas.Rooms.{empty-IsPlaced}
-use Rattle.odht_base.proofs.lemmas.Runs.{IsInsert, run-keeps}
+use Rattle.odht_base.proofs.lemmas.TableInserts.{IsBased, IsBased-IsInsert}
+use Rattle.odht_base.proofs.lemmas.FreeSlots.{empty-IsPlaced}
+use Rattle.odht_base.proofs.lemmas.InsertRuns.{IsInsert, run-keeps}
 use Rattle.odht_base.proofs.lemmas.SoFar.{so_far_none, so_far_push, so_far_holds}
-use Rattle.odht_base.proofs.lemmas.Targets.{IsTarget}
+use Rattle.odht_base.proofs.lemmas.SearchEnds.{IsTarget}
 
--- all filled slots can be taken in some order
+-- all occupied slots can be taken in some order
 pub record IsOrdered (F : Format) (P : Table) : Type 0 where
   pub order : List ℕ
   pub so_far : IsSoFar F P order
@@ -44,14 +44,14 @@ record KeepsKeys (P Q : Table) : Type 0 where
 keeps_ready : (F : Format) (P Q : Table) (xs : List ℕ) (i : ℕ) → KeepsKeys P Q → IsReady F P xs i → IsReady F Q xs i
 keeps_ready F P Q xs i keep r =
     let q = keep.keys i r.pair r.holds in
-    let at = λ (n : ℕ). ap (λ k. place_slot (home F k (slot_count P)) (slot_count P) n) (sym q.2) in
-    let same = λ (n : ℕ). ap (λ s. place_slot (home F q.0.key s) s n) (sym keep.slots) ∙ at n in
+    let at = λ (n : ℕ). ap (λ k. probe_slot (home F k (slot_count P)) (slot_count P) n) (sym q.2) in
+    let same = λ (n : ℕ). ap (λ s. probe_slot (home F q.0.key s) s n) (sym keep.slots) ∙ at n in
     record {
       pair = q.0;
       holds = q.1;
-      place = r.place;
-      in_order = subst (λ s. r.place < s) keep.slots r.in_order;
-      stands = same r.place ∙ r.stands;
+      position = r.position;
+      in_order = subst (λ s. r.position < s) keep.slots r.in_order;
+      stands = same r.position ∙ r.stands;
       earlier_taken = λ n l. subst (Contains xs) (sym (same n)) (r.earlier_taken n l);
     }
 
@@ -92,14 +92,14 @@ module _ (F : Format) (P : Table) (i : ℕ) (p : Pair) (t : IsTarget F P p.key i
       ready : IsReady F Q o.order i
       ready =
           let r = t.reached in
-          let same = λ (n : ℕ). ap (λ s. place_slot (home F p.key s) s n) (sym keeps_keys.slots) in
+          let same = λ (n : ℕ). ap (λ s. probe_slot (home F p.key s) s n) (sym keeps_keys.slots) in
           record {
             pair = p;
             holds = written_here P i p t.within;
-            place = r.place;
-            in_order = subst (λ s. r.place < s) keeps_keys.slots r.in_order;
-            stands = same r.place ∙ r.stands;
-            earlier_taken = λ n l. subst (Contains o.order) (sym (same n)) (taken _ (r.earlier_filled n l));
+            position = r.position;
+            in_order = subst (λ s. r.position < s) keeps_keys.slots r.in_order;
+            stands = same r.position ∙ r.stands;
+            earlier_taken = λ n l. subst (Contains o.order) (sym (same n)) (taken _ (r.earlier_occupied n l));
           }
         where
           held : (c : Option Pair) → is_none c ≡ false → (d : Pair) × (c ≡ Some d)
@@ -130,8 +130,8 @@ place-IsOrdered F P Q p ok e o = let w = place-written F P p ok Q e in subst (Is
 
 -- ---- inserts in turn
 -- an insert that keeps a property J of tables with I keeps both
-with_more : (F : Format) (I J : Table → Type 0) (put : Table → Pair → Option Table) → IsInsert F I put → ((P Q : Table) (p : Pair) → I P → put P p ≡ Some Q → J P → J Q) → IsInsert F (λ P. I P × J P) put
-with_more F I J put is keeps = record {
+with_more : (F : Format) (I J : Table → Type 0) (insert : Table → Pair → Option Table) → IsInsert F I insert → ((P Q : Table) (p : Pair) → I P → insert P p ≡ Some Q → J P → J Q) → IsInsert F (λ P. I P × J P) insert
+with_more F I J insert is keeps = record {
   keeps = λ P Q p both fit e. (is.keeps P Q p both.0 fit e, keeps P Q p both.0 e both.1);
   factor = λ P Q p both. is.factor P Q p both.0;
   counts = λ P Q p both. is.counts P Q p both.0;
@@ -152,12 +152,12 @@ grown-IsOrdered F P Q ok e =
     place_all-IsOrdered F t.0 P.factor Q (walk P) (slots_for-IsLeastSlots _ _ t.0 t.1).is_count (walk-IsPairOf F P ok.placed) t.2
 
 -- an accepted insert leaves one where there was one
-based-IsOrdered : (F : Format) (put : Table → Pair → Option Table) → IsBased F put → (P Q : Table) (p : Pair) → IsValid F P → put P p ≡ Some Q → IsOrdered F P → IsOrdered F Q
-based-IsOrdered F put based P Q p ok e o =
+based-IsOrdered : (F : Format) (insert : Table → Pair → Option Table) → IsBased F insert → (P Q : Table) (p : Pair) → IsValid F P → insert P p ≡ Some Q → IsOrdered F P → IsOrdered F Q
+based-IsOrdered F insert based P Q p ok e o =
     let b = based P Q p ok e in
     place-IsOrdered F b.0 Q p b.1.valid.placed b.3 (elim b.1.is [ inl same ↦ subst (IsOrdered F) (sym same) o | inr grew ↦ grown-IsOrdered F P b.0 ok grew ])
 
 -- and so do inserts in turn
-pub run-IsOrdered : (F : Format) (put : Table → Pair → Option Table) → IsBased F put → (P Q : Table) (ps : List Pair) → IsValid F P → IsOrdered F P → All (IsPairOf F) ps → run put P ps ≡ Some Q → IsOrdered F Q
-run-IsOrdered F put based P Q ps ok o fit e =
-    (run-keeps F (λ R. IsValid F R × IsOrdered F R) put (with_more F (IsValid F) (IsOrdered F) put (IsBased-IsInsert F put based) (based-IsOrdered F put based)) P Q ps (ok, o) fit e).1
+pub run-IsOrdered : (F : Format) (insert : Table → Pair → Option Table) → IsBased F insert → (P Q : Table) (ps : List Pair) → IsValid F P → IsOrdered F P → All (IsPairOf F) ps → run insert P ps ≡ Some Q → IsOrdered F Q
+run-IsOrdered F insert based P Q ps ok o fit e =
+    (run-keeps F (λ R. IsValid F R × IsOrdered F R) insert (with_more F (IsValid F) (IsOrdered F) insert (IsBased-IsInsert F insert based) (based-IsOrdered F insert based)) P Q ps (ok, o) fit e).1

@@ -8,7 +8,7 @@ use Rattle.std.proofs.lemmas.List.Concat.{flat_map-append}
 use Rattle.std.proofs.lemmas.List.FromFn.{fill_by_all}
 use Rattle.odht_base.specs.Format.{Format, IsFormat, entry_len, tag}
 use Rattle.odht_base.specs.Image.{header_bytes, entry_bytes, control_byte, entries, controls, parts}
-use Rattle.odht_base.specs.Shown.{slot_entry, slot_key, slot_value, counts_as_free, shown_cell, shown_cells}
+use Rattle.odht_base.specs.Decoded.{slot_entry, slot_key, slot_value, counts_as_free, decoded_cell, decoded_cells}
 use Rattle.odht_base.specs.Table.{Pair, Cells, cell_at, is_free}
 use Rattle.odht_base.specs.Valid.{HasPairsOf}
 use Rattle.odht_base.proofs.lemmas.ByteRanges.{split_at, bytes_at-between}
@@ -79,12 +79,12 @@ slot_entry-entries F cs i h lt =
     ∙ bytes_at-between (entries F (take i cs)) (entry_bytes F (cell_at cs i)) (entries F (drop (suc i) cs)) (i * entry_len F) (entry_len F)
     (length-entries-take F cs i h lt) (length-entry_bytes F cs i h)
 
--- the key of a filled slot
+-- the key of an occupied slot
 pub slot_key-entries : (F : Format) (cs : Cells) (i : ℕ) (p : Pair) → HasLengths F cs → cell_at cs i ≡ Some p → slot_key F (entries F cs) i ≡ p.key
 slot_key-entries F cs i p h g =
     ap (take F.key_len) (slot_entry-entries F cs i h (cell_at-within cs i p g) ∙ ap (entry_bytes F) g) ∙ take_at p.key p.value F.key_len (h.keys i p g)
 
--- the value of a filled slot
+-- the value of an occupied slot
 pub slot_value-entries : (F : Format) (cs : Cells) (i : ℕ) (p : Pair) → HasLengths F cs → cell_at cs i ≡ Some p → slot_value F (entries F cs) i ≡ p.value
 slot_value-entries F cs i p h g =
     ap (drop F.key_len) (slot_entry-entries F cs i h (cell_at-within cs i p g) ∙ ap (entry_bytes F) g) ∙ drop_at p.key p.value F.key_len (h.keys i p g)
@@ -118,8 +118,8 @@ pub counts_as_free-control_byte : (F : Format) (cs : Cells) (i : ℕ) → IsForm
 counts_as_free-control_byte F cs i f h = byte_free F (cell_at cs i) (λ p e. tag-lt F p.key f (h i p e).key)
 
 -- the cell that the parts show at slot i
-pub shown_cell-parts : (F : Format) (cs : Cells) (i : ℕ) → IsFormat F → HasPairsOf F cs → i < length cs → shown_cell F (entries F cs) (controls F cs) i ≡ cell_at cs i
-shown_cell-parts F cs i f h lt =
+pub decoded_cell-parts : (F : Format) (cs : Cells) (i : ℕ) → IsFormat F → HasPairsOf F cs → i < length cs → decoded_cell F (entries F cs) (controls F cs) i ≡ cell_at cs i
+decoded_cell-parts F cs i f h lt =
     ap (λ b. cond b None (Some (record { key = slot_key F (entries F cs) i; value = slot_value F (entries F cs) i })))
     (ap counts_as_free (slice_index-controls F cs i lt) ∙ counts_as_free-control_byte F cs i f h)
     ∙ go (cell_at cs i) refl
@@ -133,9 +133,9 @@ shown_cell-parts F cs i f h lt =
         λ j. Some (record { key = k j; value = v j })
 
 -- what the parts of the cells show is the cells
-pub shown_cells-parts : (F : Format) (cs : Cells) → IsFormat F → HasPairsOf F cs → 16 ≤ length cs → shown_cells F (entries F cs) (controls F cs) ≡ cs
-unfolding shown_cells
-shown_cells-parts F cs f h enough =
+pub decoded_cells-parts : (F : Format) (cs : Cells) → IsFormat F → HasPairsOf F cs → 16 ≤ length cs → decoded_cells F (entries F cs) (controls F cs) ≡ cs
+unfolding decoded_cells
+decoded_cells-parts F cs f h enough =
     let e : length (controls F cs) - 16 ≡ length cs = omega (arith, length-controls F cs enough) in
-    ap (λ n. map (shown_cell F (entries F cs) (controls F cs)) (range_with_len 0 n)) e
-    ∙ sym (fill_by_all (shown_cell F (entries F cs) (controls F cs)) cs (length cs) None refl (λ k lt. sym (shown_cell-parts F cs k f h lt)))
+    ap (λ n. map (decoded_cell F (entries F cs) (controls F cs)) (range_with_len 0 n)) e
+    ∙ sym (fill_by_all (decoded_cell F (entries F cs) (controls F cs)) cs (length cs) None refl (λ k lt. sym (decoded_cell-parts F cs k f h lt)))

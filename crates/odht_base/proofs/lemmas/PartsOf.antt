@@ -1,7 +1,7 @@
 -- The two parts of any bytes: how long they are, and what stands where.
 use Rattle.std.proofs.Common.{◌≡◌, ◌<◌, ◌≤◌, ◌+◌, ◌*◌, ℕ, suc, List, length, arith, mul-le-mul_right}
 use Rattle.odht_base.specs.Format.{Format, entry_len}
-use Rattle.odht_base.specs.Shown.{slot_entry}
+use Rattle.odht_base.specs.Decoded.{slot_entry}
 use Rattle.odht_base.proofs.lemmas.ByteRanges.{length-bytes_at}
 
 -- the entry of slot i ends within those of s slots

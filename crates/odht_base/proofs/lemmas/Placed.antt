@@ -7,11 +7,11 @@ use Rattle.std.proofs.lemmas.List.Sums.{AllPass-from_list_all}
 use Rattle.odht_base.specs.Format.{Format, home}
 use Rattle.odht_base.specs.Load.{IsSlotCount}
 use Rattle.odht_base.specs.Numbers.{IsBytes}
-use Rattle.odht_base.specs.Probe.{order, place_slot}
+use Rattle.odht_base.specs.Probe.{order, probe_slot}
 use Rattle.odht_base.specs.Search.{search_end, stops_at, is_at}
 use Rattle.odht_base.specs.Table.{Pair, Table, Cells, slot_count, cell_at}
 use Rattle.odht_base.specs.Valid.{IsPairOf, HasPairsOf, HoldsPair, IsReached, IsPlaced}
-use Rattle.odht_base.proofs.lemmas.Firsts.{find-Some}
+use Rattle.odht_base.proofs.lemmas.FirstMatch.{find-Some}
 use Rattle.odht_base.proofs.lemmas.Keys.{cell_at-within}
 use Rattle.odht_base.proofs.lemmas.Options.{some_same}
 use Rattle.odht_base.proofs.lemmas.Orders.{length-order, slice_get-order}
@@ -27,12 +27,12 @@ IsReached-search_end F P k i e =
     let s = slot_count P in
     let b = home F k s in
     let first = find-Some (stops_at P.cells k) (order b s) i e in
-    let in_order : first.place < s = subst (λ n. first.place < n) (length-order b s) (slice_get_within (order b s) first.place i first.is) in
+    let in_order : first.position < s = subst (λ n. first.position < n) (length-order b s) (slice_get_within (order b s) first.position i first.is) in
     record {
-      place = first.place;
+      position = first.position;
       in_order = in_order;
-      stands = some_same _ _ (sym (slice_get-order b s first.place in_order) ∙ first.is);
-      earlier_filled = λ q h. (or_parts _ _ (first.before q (place_slot b s q) h (slice_get-order b s q (below q first.place s h in_order)))).0;
+      stands = some_same _ _ (sym (slice_get-order b s first.position in_order) ∙ first.is);
+      earlier_occupied = λ q h. (or_parts _ _ (first.before q (probe_slot b s q) h (slice_get-order b s q (below q first.position s h in_order)))).0;
     }
   where
     below : (q n s : ℕ) → q < n → n < s → q < s

@@ -7,7 +7,7 @@ use Rattle.odht_base.specs.Format.{Format, home}
 use Rattle.odht_base.specs.Insert.{place}
 use Rattle.odht_base.specs.Load.{IsSlotCount}
 use Rattle.odht_base.specs.Map.{map_of}
-use Rattle.odht_base.specs.Probe.{place_slot}
+use Rattle.odht_base.specs.Probe.{probe_slot}
 use Rattle.odht_base.specs.Search.{search_end}
 use Rattle.odht_base.specs.Table.{Pair, Table, slot_count, cell_at, is_free, has_key, walk, count}
 use Rattle.odht_base.specs.Valid.{IsPairOf, HoldsPair, IsReached, IsPlaced, IsFullWithout}
@@ -16,7 +16,7 @@ use Rattle.odht_base.proofs.lemmas.Fits.{HasPairsOf-set}
 use Rattle.odht_base.proofs.lemmas.Keys.{pair_key}
 use Rattle.odht_base.proofs.lemmas.Options.{some_same}
 use Rattle.odht_base.proofs.lemmas.Pairs.{value_in-set, pairs-set, has_key-None, value_in-Some}
-use Rattle.odht_base.proofs.lemmas.Targets.{IsTarget, has_key-holds, search_end-IsTarget, search_end-None, search_end-none, target-search_end}
+use Rattle.odht_base.proofs.lemmas.SearchEnds.{IsTarget, has_key-holds, search_end-IsTarget, search_end-None, search_end-none, target-search_end}
 
 -- the table with the pair p in slot i
 abbrev pub written : Table → ℕ → Pair → Table
@@ -63,7 +63,7 @@ is_free-target F P k i t = go (map_of P k) refl
         let j = t.others h.0 (ap (λ x. has_key x (cell_at P.cells h.0)) h.3 ∙ has_key-holds P h.0 h.1 h.2) in
         ap is_none (ap (cell_at P.cells) (sym j) ∙ h.2)
 
--- the map has at a filled slot's key that slot's value
+-- the map has at an occupied slot's key that slot's value
 pub map_of-holds : (F : Format) (P : Table) (i : ℕ) (p : Pair) → IsPlaced F P → HoldsPair P i p → map_of P p.key ≡ Some p.value
 map_of-holds F P i p ok h = go (map_of P p.key) refl
   where
@@ -85,9 +85,9 @@ module _ (P : Table) (i : ℕ) (p : Pair) (within : i < slot_count P) where
   pub written_other : (j : ℕ) → j ≢ i → cell_at (written P i p).cells j ≡ cell_at P.cells j
   written_other j ne = get_or-set_other P.cells i j (Some p) None ne
 
-  -- a filled slot stays filled
-  written_filled : (j : ℕ) → is_free P.cells j ≡ false → is_free (written P i p).cells j ≡ false
-  written_filled j f = elim (cases_eq j i) [
+  -- an occupied slot stays filled
+  written_occupied : (j : ℕ) → is_free P.cells j ≡ false → is_free (written P i p).cells j ≡ false
+  written_occupied j f = elim (cases_eq j i) [
     | inl here ↦ ap (is_free (written P i p).cells) here ∙ ap is_none written_here
     | inr ne ↦ ap is_none (written_other j ne) ∙ f
   ]
@@ -99,22 +99,22 @@ module _ (P : Table) (i : ℕ) (p : Pair) (within : i < slot_count P) where
     | inr ne ↦ inr (sym (written_other j ne) ∙ h)
   ]
 
--- a slot stays reached in a table of as many slots where no filled slot was freed
-IsReached-filled : (F : Format) (P Q : Table) (k : List ℕ) (i : ℕ) → slot_count P ≡ slot_count Q → ((j : ℕ) → is_free P.cells j ≡ false → is_free Q.cells j ≡ false) → IsReached F P k i → IsReached F Q k i
-IsReached-filled F P Q k i len filled r =
-    let at = λ (q : ℕ). ap (λ s. place_slot (home F k s) s q) len in
+-- a slot stays reached in a table of as many slots where no occupied slot was freed
+IsReached-occupied : (F : Format) (P Q : Table) (k : List ℕ) (i : ℕ) → slot_count P ≡ slot_count Q → ((j : ℕ) → is_free P.cells j ≡ false → is_free Q.cells j ≡ false) → IsReached F P k i → IsReached F Q k i
+IsReached-occupied F P Q k i len occupied r =
+    let at = λ (q : ℕ). ap (λ s. probe_slot (home F k s) s q) len in
     record {
-      place = r.place;
-      in_order = subst (λ s. r.place < s) len r.in_order;
-      stands = sym (at r.place) ∙ r.stands;
-      earlier_filled = λ q l. ap (is_free Q.cells) (sym (at q)) ∙ filled _ (r.earlier_filled q l);
+      position = r.position;
+      in_order = subst (λ s. r.position < s) len r.in_order;
+      stands = sym (at r.position) ∙ r.stands;
+      earlier_occupied = λ q l. ap (is_free Q.cells) (sym (at q)) ∙ occupied _ (r.earlier_occupied q l);
     }
 
 -- so the table stays placed
 written-IsPlaced : (F : Format) (P : Table) (i : ℕ) (p : Pair) → IsPlaced F P → IsPairOf F p → IsTarget F P p.key i → IsPlaced F (written P i p)
 written-IsPlaced F P i p ok fits t =
     let len = length-set P.cells i (Some p) in
-    let reached = λ (k : List ℕ) (j : ℕ). IsReached-filled F P (written P i p) k j (sym len) (written_filled P i p t.within) in
+    let reached = λ (k : List ℕ) (j : ℕ). IsReached-occupied F P (written P i p) k j (sym len) (written_occupied P i p t.within) in
     record {
       slots = subst IsSlotCount (sym len) ok.slots;
       pairs = HasPairsOf-set F P.cells i p ok.pairs fits;

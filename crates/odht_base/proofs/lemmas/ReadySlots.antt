@@ -5,7 +5,7 @@ use Rattle.std.proofs.lemmas.Bool.{cases_order}
 use Rattle.std.proofs.lemmas.Bool.Decides.{Decides-eqb}
 use Rattle.std.proofs.lemmas.Map.Made.{is_member-Decides}
 use Rattle.odht_base.specs.Format.{Format, home}
-use Rattle.odht_base.specs.Probe.{place_slot}
+use Rattle.odht_base.specs.Probe.{probe_slot}
 use Rattle.odht_base.specs.Ready.{IsReady, IsStuck}
 use Rattle.odht_base.specs.Table.{Pair, Table, slot_count}
 use Rattle.odht_base.specs.Valid.{HoldsPair}
@@ -27,7 +27,7 @@ module _ (F : Format) (P : Table) where
 
   -- a slot stays ready when more are taken
   pub ready_later : (xs ys : List ℕ) (i : ℕ) → ((j : ℕ) → Contains xs j → Contains ys j) → IsReady F P xs i → IsReady F P ys i
-  ready_later xs ys i more r = record { pair = r.pair; holds = r.holds; place = r.place; in_order = r.in_order; stands = r.stands; earlier_taken = λ q l. more _ (r.earlier_taken q l) }
+  ready_later xs ys i more r = record { pair = r.pair; holds = r.holds; position = r.position; in_order = r.in_order; stands = r.stands; earlier_taken = λ q l. more _ (r.earlier_taken q l) }
 
   -- where no slot outside the list is ready, it is stuck
   pub stuck_if_none : (xs : List ℕ) → ((i : ℕ) → i < slot_count P → (Contains xs i → ⊥) → IsReady F P xs i → ⊥) → IsStuck F P xs
@@ -36,30 +36,30 @@ module _ (F : Format) (P : Table) where
   module _ (xs : List ℕ) (i : ℕ) (p : Pair) (holds : HoldsPair P i p) where
     -- the slot at a place of the order of its key
     abbrev slot : ℕ → ℕ
-    slot q = place_slot (home F p.key (slot_count P)) (slot_count P) q
+    slot q = probe_slot (home F p.key (slot_count P)) (slot_count P) q
 
     -- the pair of a ready slot is the slot's
     ready_pair : (r : IsReady F P xs i) → r.pair ≡ p
     ready_pair r = some_same _ _ (sym r.holds ∙ holds)
 
     -- so the slot stands at its place of that order
-    ready_stands : (r : IsReady F P xs i) → slot r.place ≡ i
-    ready_stands r = ap (λ (d : Pair). place_slot (home F d.key (slot_count P)) (slot_count P) r.place) (sym (ready_pair r)) ∙ r.stands
+    ready_stands : (r : IsReady F P xs i) → slot r.position ≡ i
+    ready_stands r = ap (λ (d : Pair). probe_slot (home F d.key (slot_count P)) (slot_count P) r.position) (sym (ready_pair r)) ∙ r.stands
 
     -- and each earlier place of it is taken
-    ready_earlier : (r : IsReady F P xs i) (q : ℕ) → q < r.place → Contains xs (slot q)
-    ready_earlier r q l = subst (λ (d : Pair). Contains xs (place_slot (home F d.key (slot_count P)) (slot_count P) q)) (ready_pair r) (r.earlier_taken q l)
+    ready_earlier : (r : IsReady F P xs i) (q : ℕ) → q < r.position → Contains xs (slot q)
+    ready_earlier r q l = subst (λ (d : Pair). Contains xs (probe_slot (home F d.key (slot_count P)) (slot_count P) q)) (ready_pair r) (r.earlier_taken q l)
 
     -- a walk that meets another slot that is not taken, before slot i, finds it not ready
     pub not_ready : (n : ℕ) → ((q : ℕ) → q < n → slot q ≡ i → ⊥) → (slot n ≡ i → ⊥) → (Contains xs (slot n) → ⊥) → IsReady F P xs i → ⊥
-    not_ready n before other out r = elim (cases_order r.place n) [
+    not_ready n before other out r = elim (cases_order r.position n) [
       | inl same ↦ other (ap slot (sym same) ∙ ready_stands r)
       | inr differ ↦ elim differ [
-        | inl below ↦ before r.place below (ready_stands r)
+        | inl below ↦ before r.position below (ready_stands r)
         | inr above ↦ out (ready_earlier r n above)
       ]
     ]
 
     -- and so does one that meets slot i nowhere
     pub never_ready : ((q : ℕ) → q < slot_count P → slot q ≡ i → ⊥) → IsReady F P xs i → ⊥
-    never_ready nowhere r = nowhere r.place r.in_order (ready_stands r)
+    never_ready nowhere r = nowhere r.position r.in_order (ready_stands r)

@@ -8,7 +8,7 @@ use Rattle.std.proofs.lemmas.List.Elements.{Contains-append_left, Contains-push,
 use Rattle.odht_base.specs.Format.{Format, home}
 use Rattle.odht_base.specs.Insert.{place, place_all}
 use Rattle.odht_base.specs.Made.{pairs_of}
-use Rattle.odht_base.specs.Probe.{place_slot}
+use Rattle.odht_base.specs.Probe.{probe_slot}
 use Rattle.odht_base.specs.Ready.{IsReady, IsSoFar}
 use Rattle.odht_base.specs.Search.{search_end, stops_at}
 use Rattle.odht_base.specs.Table.{Pair, Table, slot_count, empty, cell_at, has_key}
@@ -16,13 +16,13 @@ use Rattle.odht_base.specs.Valid.{HoldsPair, IsPlaced}
 use Rattle.odht_base.proofs.lemmas.Counts.{cell_at-free}
 use Rattle.odht_base.proofs.lemmas.Keys.{cell_at-within}
 use Rattle.odht_base.proofs.lemmas.Lookups.{search_end-at}
-use Rattle.odht_base.proofs.lemmas.Orders.{place_slot-apart}
+use Rattle.odht_base.proofs.lemmas.Orders.{probe_slot-apart}
 use Rattle.odht_base.proofs.lemmas.Places.{written, written_here, written_other, place-at, place-IsPlaced}
 use Rattle.odht_base.proofs.lemmas.ReadySlots.{contains_or_not}
-use Rattle.odht_base.proofs.lemmas.Rooms.{slot_count-empty, empty-IsPlaced}
-use Rattle.odht_base.proofs.lemmas.Runs.{run-push}
+use Rattle.odht_base.proofs.lemmas.FreeSlots.{slot_count-empty, empty-IsPlaced}
+use Rattle.odht_base.proofs.lemmas.InsertRuns.{run-push}
 use Rattle.odht_base.proofs.lemmas.SoFar.{so_far_holds, so_far_new, Contains-take}
-use Rattle.odht_base.proofs.lemmas.Targets.{has_key-holds, has_key-one}
+use Rattle.odht_base.proofs.lemmas.SearchEnds.{has_key-holds, has_key-one}
 
 -- R is P with only the slots xs filled
 pub record IsPart (P R : Table) (xs : List ℕ) : Type 0 where
@@ -57,7 +57,7 @@ part_push P R xs i p part holds =
       ];
     }
 
--- the part of all filled slots is the table
+-- the part of all occupied slots is the table
 part_all : (P R : Table) (xs : List ℕ) → IsPart P R xs → ((i : ℕ) (p : Pair) → HoldsPair P i p → Contains xs i) → R ≡ P
 part_all P R xs part all = λ k. record { factor = part.factor k; cells = same k }
   where
@@ -76,27 +76,27 @@ module _ (F : Format) (P : Table) (ok : IsPlaced F P) where
     where
       -- the slot at a place of its order, in P and in R
       slot : ℕ → ℕ
-      slot q = place_slot (home F r.pair.key (slot_count P)) (slot_count P) q
+      slot q = probe_slot (home F r.pair.key (slot_count P)) (slot_count P) q
 
-      in_part : (q : ℕ) → place_slot (home F r.pair.key (slot_count R)) (slot_count R) q ≡ slot q
-      in_part q = ap (λ s. place_slot (home F r.pair.key s) s q) part.slots
+      in_part : (q : ℕ) → probe_slot (home F r.pair.key (slot_count R)) (slot_count R) q ≡ slot q
+      in_part q = ap (λ s. probe_slot (home F r.pair.key s) s q) part.slots
 
       -- an earlier place is taken, and by another key
-      passed : (q : ℕ) → q < r.place → stops_at R.cells r.pair.key (slot q) ≡ false
+      passed : (q : ℕ) → q < r.position → stops_at R.cells r.pair.key (slot q) ≡ false
       passed q l =
           let there = r.earlier_taken q l in
           let same = part.taken (slot q) there in
           or_from _ _ (ap is_none (same ∙ (held (slot q) there).1)) (false_from_ne_true _ (λ h.
           let one = has_key-one F P r.pair.key ok (slot q) i (sym (ap (has_key r.pair.key) same) ∙ h) (has_key-holds P i r.pair r.holds) in
-          let z = place_slot-apart (home F r.pair.key (slot_count P)) (slot_count P) q r.place ok.slots (omega (arith, r.in_order)) r.in_order (one ∙ sym r.stands) in
+          let z = probe_slot-apart (home F r.pair.key (slot_count P)) (slot_count P) q r.position ok.slots (omega (arith, r.in_order)) r.in_order (one ∙ sym r.stands) in
           omega arith))
 
       ends : search_end F R.cells r.pair.key ≡ Some i
       ends =
-          search_end-at F R.cells r.pair.key r.place (omega (arith, part.slots, r.in_order))
+          search_end-at F R.cells r.pair.key r.position (omega (arith, part.slots, r.in_order))
           (λ q l. ap (stops_at R.cells r.pair.key) (in_part q) ∙ passed q l)
-          (ap (stops_at R.cells r.pair.key) (in_part r.place ∙ r.stands) ∙ or_left _ _ (ap is_none (part.others i out)))
-          ∙ ap Some (in_part r.place ∙ r.stands)
+          (ap (stops_at R.cells r.pair.key) (in_part r.position ∙ r.stands) ∙ or_left _ _ (ap is_none (part.others i out)))
+          ∙ ap Some (in_part r.position ∙ r.stands)
 
   -- the pairs of a list and one more slot
   pairs_push : (xs : List ℕ) (i : ℕ) (p : Pair) → HoldsPair P i p → pairs_of P (xs ++ i ∷ []) ≡ pairs_of P xs ++ p ∷ []
@@ -123,7 +123,7 @@ module _ (F : Format) (P : Table) (ok : IsPlaced F P) where
         place-IsPlaced F before.0 (written before.0 i r.pair) r.pair before.3 one (ok.pairs i r.pair r.holds),
       )
 
-  -- so where all filled slots are taken, their pairs make the table
+  -- so where all occupied slots are taken, their pairs make the table
   pub so_far_gives : (xs : List ℕ) → IsSoFar F P xs → ((i : ℕ) (p : Pair) → HoldsPair P i p → Contains xs i) → place_all F (empty (slot_count P) P.factor) (pairs_of P xs) ≡ Some P
   so_far_gives xs s all =
       let made = first_make xs s (length xs) (omega arith) in

@@ -6,11 +6,11 @@ use Rattle.std.proofs.lemmas.List.Elements.{All-cons, Contains-append_left, Cont
 use Rattle.std.proofs.lemmas.List.Kept.{AllPairs-cons}
 use Rattle.std.proofs.lemmas.List.Quantifiers.{all_pairs_push}
 use Rattle.odht_base.specs.Format.{Format}
-use Rattle.odht_base.specs.Made.{filled}
+use Rattle.odht_base.specs.Made.{occupied}
 use Rattle.odht_base.specs.Ready.{IsReady, IsSoFar, IsStuck}
 use Rattle.odht_base.specs.Table.{Pair, Table, count}
 use Rattle.odht_base.specs.Valid.{HoldsPair}
-use Rattle.odht_base.proofs.lemmas.Filled.{filled-Contains, length-filled}
+use Rattle.odht_base.proofs.lemmas.OccupiedSlots.{occupied-Contains, length-occupied}
 use Rattle.odht_base.proofs.lemmas.Pigeons.{pigeons_fit}
 use Rattle.odht_base.proofs.lemmas.ReadySlots.{ready_later}
 
@@ -54,16 +54,16 @@ module _ (F : Format) (P : Table) where
   -- they are no more than the pairs
   pub so_far_le : (xs : List ℕ) → IsSoFar F P xs → length xs ≤ count P
   so_far_le xs s =
-      let few = pigeons_fit xs (filled P) s.apart (λ k d l. (filled-Contains P (get_or xs k d)).1 (so_far_holds xs s (get_or xs k d) (Contains-get_or xs k d l))) in
-      omega (arith, few, length-filled P)
+      let few = pigeons_fit xs (occupied P) s.apart (λ k d l. (occupied-Contains P (get_or xs k d)).1 (so_far_holds xs s (get_or xs k d) (Contains-get_or xs k d l))) in
+      omega (arith, few, length-occupied P)
 
-  -- and fewer where a filled slot is left
+  -- and fewer where an occupied slot is left
   pub so_far_lt : (xs : List ℕ) (i : ℕ) (p : Pair) → IsSoFar F P xs → HoldsPair P i p → (Contains xs i → ⊥) → length xs < count P
   so_far_lt xs i p s holds out =
-      let few = pigeons_fit (i ∷ xs) (filled P)
+      let few = pigeons_fit (i ∷ xs) (occupied P)
       (AllPairs-cons (λ a b. a ≢ b) i xs (λ k d l e. out (subst (Contains xs) (sym e) (Contains-get_or xs k d l))) s.apart)
-      (All-cons (Contains (filled P)) i xs ((filled-Contains P i).1 (p, holds)) (λ k d l. (filled-Contains P (get_or xs k d)).1 (so_far_holds xs s (get_or xs k d) (Contains-get_or xs k d l)))) in
-      omega (arith, few, length-filled P)
+      (All-cons (Contains (occupied P)) i xs ((occupied-Contains P i).1 (p, holds)) (λ k d l. (occupied-Contains P (get_or xs k d)).1 (so_far_holds xs s (get_or xs k d) (Contains-get_or xs k d l)))) in
+      omega (arith, few, length-occupied P)
 
   -- where a search is stuck, it has taken all that any other has
   pub stuck_has_all : (xs ys : List ℕ) → IsStuck F P xs → IsSoFar F P ys → (i : ℕ) → Contains ys i → Contains xs i

@@ -14,7 +14,7 @@ use Rattle.odht_base.specs.Numbers.{num}
 use Rattle.odht_base.specs.Masks.{bits_from, set_bytes}
 use Rattle.odht_base.specs.Groups.{first_free, IsWordReport}
 use Rattle.odht_base.proofs.lemmas.MaskBits.{even_step, odd_step, no_bits, first_is_position}
-use Rattle.odht_base.proofs.lemmas.MarkedPlaces.{places_of, rising, true_at, place_at}
+use Rattle.odht_base.proofs.lemmas.MarkedPositions.{positions_of, rising, true_at, position_at}
 
 -- each element is a byte
 abbrev pub Fit : List ℕ → Type 0
@@ -66,26 +66,26 @@ marked k i r =
     ∙ ap₂ (λ a j. a ∷ bits_from k j r) (let e : i + 1 + 1 + 1 + 1 + 1 + 1 + 1 ≡ i + 7 = omega arith in e) (eight_on i)
 
 -- the places of the marks are those of what is true
-marked_places : (i : ℕ) (bs : List Bool) → map (λ j. j / 8) (bits_from (eights (length bs)) (8 * i) (marks bs)) ≡ places_of i bs
-marked_places i [] = rw (no_bits 0 (8 * i)) refl
-marked_places i (true ∷ bs) =
+marked_positions : (i : ℕ) (bs : List Bool) → map (λ j. j / 8) (bits_from (eights (length bs)) (8 * i) (marks bs)) ≡ positions_of i bs
+marked_positions i [] = rw (no_bits 0 (8 * i)) refl
+marked_positions i (true ∷ bs) =
     let next : 8 * i + 8 ≡ 8 * (i + 1) = omega arith in
     let at : (8 * i + 7) / 8 ≡ i = omega arith in
     ap (map (λ j. j / 8)) (marked (eights (length bs)) (8 * i) (marks bs))
-    ∙ ap₂ (λ a r. a ∷ r) at (ap (λ j. map (λ j. j / 8) (bits_from (eights (length bs)) j (marks bs))) next ∙ marked_places (i + 1) bs)
-marked_places i (false ∷ bs) =
+    ∙ ap₂ (λ a r. a ∷ r) at (ap (λ j. map (λ j. j / 8) (bits_from (eights (length bs)) j (marks bs))) next ∙ marked_positions (i + 1) bs)
+marked_positions i (false ∷ bs) =
     let next : 8 * i + 8 ≡ 8 * (i + 1) = omega arith in
     let none : 0 + 256 * marks bs ≡ 256 * marks bs = omega arith in
     ap (λ m. map (λ j. j / 8) (bits_from (eights (suc (length bs))) (8 * i) m)) none
     ∙ ap (map (λ j. j / 8)) (unmarked (eights (length bs)) (8 * i) (marks bs))
     ∙ ap (λ j. map (λ j. j / 8) (bits_from (eights (length bs)) j (marks bs))) next
-    ∙ marked_places (i + 1) bs
+    ∙ marked_positions (i + 1) bs
 
 -- the same of eight marks
-marked_bytes : (bs : List Bool) → length bs ≡ 8 → set_bytes (marks bs) ≡ places_of 0 bs
+marked_bytes : (bs : List Bool) → length bs ≡ 8 → set_bytes (marks bs) ≡ positions_of 0 bs
 marked_bytes bs l =
     let e : eights (length bs) ≡ 64 = ap eights l in
-    sym (ap (λ k. map (λ j. j / 8) (bits_from k 0 (marks bs))) e) ∙ marked_places 0 bs
+    sym (ap (λ k. map (λ j. j / 8) (bits_from k 0 (marks bs))) e) ∙ marked_positions 0 bs
 
 -- ---- byte by byte
 -- the lowest byte by itself
@@ -319,28 +319,28 @@ map_xor h (x ∷ g) zero l = refl
 map_xor h (x ∷ g) (suc i) l = map_xor h g i (omega arith)
 
 -- the places of the bytes that borrow are a word's report
-word_report : (g : List ℕ) (h : ℕ) → h < 128 → IsWordReport g h (places_of 0 (borrows 0 (map (λ x. bit_xor x h) g)))
+word_report : (g : List ℕ) (h : ℕ) → h < 128 → IsWordReport g h (positions_of 0 (borrows 0 (map (λ x. bit_xor x h) g)))
 unfolding Below
 word_report g h small =
     let xs = map (λ x. bit_xor x h) g in
     let len = length-map g (λ x. bit_xor x h) in
-    let at = λ (i : ℕ) (c : Contains (places_of 0 (borrows 0 xs)) i). borrows_at 0 xs i (omega arith) (true_at (borrows 0 xs) i c) in
-    let inside = λ (i : ℕ) (c : Contains (places_of 0 (borrows 0 xs)) i). (let q : i < length g = omega (arith, (at i c).0, len) in q) in
-    let others = λ (i : ℕ) (c : Contains (places_of 0 (borrows 0 xs)) i). (let o : (get_or g i 0 ≡ h) ⊎ ((get_or g i 0 ≡ bit_xor h 1) × ((j : ℕ) × (j + 1 ≡ i) × Contains (places_of 0 (borrows 0 xs)) j)) = elim (at i c).1 [
+    let at = λ (i : ℕ) (c : Contains (positions_of 0 (borrows 0 xs)) i). borrows_at 0 xs i (omega arith) (true_at (borrows 0 xs) i c) in
+    let inside = λ (i : ℕ) (c : Contains (positions_of 0 (borrows 0 xs)) i). (let q : i < length g = omega (arith, (at i c).0, len) in q) in
+    let others = λ (i : ℕ) (c : Contains (positions_of 0 (borrows 0 xs)) i). (let o : (get_or g i 0 ≡ h) ⊎ ((get_or g i 0 ≡ bit_xor h 1) × ((j : ℕ) × (j + 1 ≡ i) × Contains (positions_of 0 (borrows 0 xs)) j)) = elim (at i c).1 [
       | inl z ↦ inl (xor_back (get_or g i 0) h 0 (sym (map_xor h g i (inside i c)) ∙ z) ∙ xor_zero_r h)
       | inr o ↦ inr (
         xor_back (get_or g i 0) h 1 (sym (map_xor h g i (inside i c)) ∙ o.0),
         elim o.1 [
           | inl s ↦ absurd (omega (arith, s.1))
-          | inr s ↦ (s.0, s.1, place_at (borrows 0 xs) s.0 s.2)
+          | inr s ↦ (s.0, s.1, position_at (borrows 0 xs) s.0 s.2)
         ],
       )
     ] in o) in
     record {
       report = record {
         rising = rising 0 (borrows 0 xs);
-        complete = λ i l e. place_at (borrows 0 xs) i (zero_borrows 0 xs i (omega (arith, len)) (map_xor h g i l ∙ ap (λ y. bit_xor y h) e ∙ xor_self h));
-        filled = λ i c. (
+        complete = λ i l e. position_at (borrows 0 xs) i (zero_borrows 0 xs i (omega (arith, len)) (map_xor h g i l ∙ ap (λ y. bit_xor y h) e ∙ xor_self h));
+        occupied = λ i c. (
           inside i c,
           elim (others i c) [
             | inl e ↦ omega arith

@@ -7,13 +7,13 @@ use Rattle.odht_base.specs.Bytes.{overwritten_at}
 use Rattle.odht_base.specs.Format.{Format, entry_len, tag}
 use Rattle.odht_base.specs.Image.{header_bytes, entry_bytes, control_byte, entries, controls, parts, image}
 use Rattle.odht_base.specs.Numbers.{le_bytes}
-use Rattle.odht_base.specs.Shown.{stated_slots, stated_count}
+use Rattle.odht_base.specs.Decoded.{header_slots, header_count}
 use Rattle.odht_base.specs.Table.{Pair, Table, Cells, cell_at, slot_count, count}
 use Rattle.odht_base.specs.Writes.{tagged, with_value, with_entry, with_tag, with_pair, with_count}
 use Rattle.odht_base.proofs.lemmas.ByteRanges.{overwritten_at-between, overwritten_at-append_left, overwritten_at-append_right, length-overwritten_at}
 use Rattle.odht_base.proofs.lemmas.Counts.{count_set_free, count_set_again}
 use Rattle.odht_base.proofs.lemmas.Fits.{HasLengths, IsSized}
-use Rattle.odht_base.proofs.lemmas.Image.{stated_slots-image, stated_count-image}
+use Rattle.odht_base.proofs.lemmas.Image.{header_slots-image, header_count-image}
 use Rattle.odht_base.proofs.lemmas.Keys.{cell_at-within}
 use Rattle.odht_base.proofs.lemmas.Parts.{length-header_bytes, length-entry_bytes, length-entries, length-entries-take, length-controls, entries-split, entries-set}
 use Rattle.odht_base.proofs.lemmas.PartsOf.{slot_within}
@@ -120,10 +120,10 @@ image-set_free F P i p lt g =
     ∙ ap (λ c. header_bytes F (slot_count P) c P.factor ++ parts F (set P.cells i (Some p))) (count_set_free P.cells i p lt (ap is_none g))
 
 -- the image after a value, as its header and its parts
-pub image-set_filled : (F : Format) (P : Table) (i : ℕ) (p q : Pair) → cell_at P.cells i ≡ Some q
+pub image-set_occupied : (F : Format) (P : Table) (i : ℕ) (p q : Pair) → cell_at P.cells i ≡ Some q
     → image F (record P { cells = set P.cells i (Some p) }) ≡ header_bytes F (slot_count P) (count P) P.factor ++ parts F (set P.cells i (Some p))
 unfolding image
-image-set_filled F P i p q g =
+image-set_occupied F P i p q g =
     ap (λ s. header_bytes F s (length (filter_map (λ c. c) (set P.cells i (Some p)))) P.factor ++ parts F (set P.cells i (Some p))) (length-set P.cells i (Some p))
     ∙ ap (λ c. header_bytes F (slot_count P) c P.factor ++ parts F (set P.cells i (Some p))) (count_set_again P.cells i p (ap is_none g))
 
@@ -201,7 +201,7 @@ with_value-image F P i p q h g k v =
     let H = header_bytes F (slot_count P) (count P) P.factor in
     with_value-append F (slot_count P) H (entries F P.cells) (controls F P.cells) i p.value (length-header_bytes F (slot_count P) (count P) P.factor) (length-entries F P.cells h.lengths) (cell_at-within P.cells i q g) v
     ∙ ap (λ t. H ++ t) (sym (parts-set_value F P.cells i p q h.lengths g k v))
-    ∙ sym (image-set_filled F P i p q g)
+    ∙ sym (image-set_occupied F P i p q g)
 
 -- a pair written into a free slot of an image, and counted
 pub with_pair-image : (F : Format) (P : Table) (i : ℕ) (p : Pair) → IsSized F P → i < slot_count P → cell_at P.cells i ≡ None → length p.key ≡ F.key_len → length p.value ≡ F.value_len
@@ -217,9 +217,9 @@ with_pair-image F P i p h lt g k v =
     ∙ sym (image-set_free F P i p lt g)
 
 -- the same with what the image states
-pub with_pair-image_stated : (F : Format) (P : Table) (i : ℕ) (p : Pair) → IsSized F P → i < slot_count P → cell_at P.cells i ≡ None → length p.key ≡ F.key_len → length p.value ≡ F.value_len
-    → with_count (with_pair F (stated_slots (image F P)) (image F P) i p) (stated_count (image F P) + 1) ≡ image F (record P { cells = set P.cells i (Some p) })
-with_pair-image_stated F P i p h lt g k v =
-    ap (λ s. with_count (with_pair F s (image F P) i p) (stated_count (image F P) + 1)) (stated_slots-image F P h)
-    ∙ ap (λ c. with_count (with_pair F (slot_count P) (image F P) i p) (c + 1)) (stated_count-image F P h)
+pub with_pair-image_header : (F : Format) (P : Table) (i : ℕ) (p : Pair) → IsSized F P → i < slot_count P → cell_at P.cells i ≡ None → length p.key ≡ F.key_len → length p.value ≡ F.value_len
+    → with_count (with_pair F (header_slots (image F P)) (image F P) i p) (header_count (image F P) + 1) ≡ image F (record P { cells = set P.cells i (Some p) })
+with_pair-image_header F P i p h lt g k v =
+    ap (λ s. with_count (with_pair F s (image F P) i p) (header_count (image F P) + 1)) (header_slots-image F P h)
+    ∙ ap (λ c. with_count (with_pair F (slot_count P) (image F P) i p) (c + 1)) (header_count-image F P h)
     ∙ with_pair-image F P i p h lt g k v

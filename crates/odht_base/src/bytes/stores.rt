@@ -3,7 +3,7 @@ ghost use Rattle.std.specs.Prelude.{◌≡◌, ℕ, ◌+◌, ◌≤◌, List, le
 ghost use Rattle.std.specs.Borrow.{sem, Lends, Array, u8};
 ghost use Rattle.std.proofs.Common.{ap};
 ghost use Rattle.odht_base.specs.Bytes.{overwritten_at};
-ghost use Rattle.odht_base.specs.Refills.{refilled, refilled-fits};
+ghost use Rattle.odht_base.specs.AfterBorrow.{after_borrow_bytes, after_borrow_bytes-fits};
 
 use std::marker::Model;
 
@@ -21,7 +21,7 @@ pub trait ByteStore: Drop {
 /// A contract names the place that holds other bytes by the ghost member `holding`. So who lends a place learns what it
 /// holds when it is handed back. Three laws say that nothing but the bytes tells one state of a place from another: it
 /// holds what it was told to hold, only the last bytes matter, and with the bytes that it has it is as it is. What it
-/// holds once lent bytes have come back is `lent`; as many bytes as it has are what it holds then (`lent_fits`).
+/// holds once lent bytes have come back is `lent`; as many bytes as it has are what it holds then (`after_borrow_fits`).
 ///
 /// So what a store keeps beside its bytes must stay as it is on a write. A count of the writes, say, is for the store's
 /// `Model` to leave out.
@@ -29,11 +29,11 @@ pub trait ByteStoreMut: ByteStore {
     ghost holding: { Self → List ℕ → Self };
 
     // the place when the bytes that it lent end as these
-    ghost lent: { Self → List ℕ → Self };
+    ghost after_borrow: { Self → List ℕ → Self };
 
     /// All of its bytes, to be written: the place then holds what is left in them.
     fn bytes_mut(&mut self) -> &mut [u8]
-        ensures* writes_back { sem 𝓛 (Lends Self.row (Array u8 0) self.entry result (lent self.old)) }
+        ensures* writes_back { sem 𝓛 (Lends Self.row (Array u8 0) self.entry result (after_borrow self.old)) }
         ensures value { result.now ≡ Self.bytes self.old };
 
     /// Writes `data` from the byte `at` on. No other byte changes.
@@ -42,7 +42,7 @@ pub trait ByteStoreMut: ByteStore {
         requires { at + length «data».now ≤ length (Self.bytes self.old) }
         ensures bytes { Self.bytes self.new ≡ overwritten_at (Self.bytes self.old) at «data».now }
         ensures len { length (Self.bytes self.new) ≡ length (Self.bytes self.old) }
-        ensures place { self.new ≡ holding self.old (Self.bytes self.new) }
+        ensures same_store { self.new ≡ holding self.old (Self.bytes self.new) }
     {
         write_slice(self.bytes_mut(), at, data)
     }
@@ -57,7 +57,7 @@ pub trait ByteStoreMut: ByteStore {
     ghost held_same: { (s : Self) → holding s (Self.bytes s) ≡ s };
 
     // a slice keeps its length, and with as many bytes it holds just these
-    ghost lent_fits: { (s : Self) (b : List ℕ) → length b ≡ length (Self.bytes s) → lent s b ≡ holding s b };
+    ghost after_borrow_fits: { (s : Self) (b : List ℕ) → length b ≡ length (Self.bytes s) → after_borrow s b ≡ holding s b };
 }
 
 // A place that is lent: what is written to it stands in the place itself.
@@ -73,7 +73,7 @@ impl<M: ByteStore> ByteStore for &mut M {
 impl<M: ByteStoreMut> ByteStoreMut for &mut M {
     ghost holding = { λ s b. record s { now = M.holding s.now b } };
 
-    ghost lent = { λ s b. record s { now = M.lent s.now b } };
+    ghost after_borrow = { λ s b. record s { now = M.after_borrow s.now b } };
 
     ghost held = { λ s b. M.held s.now b };
 
@@ -81,7 +81,7 @@ impl<M: ByteStoreMut> ByteStoreMut for &mut M {
 
     ghost held_same = { λ s. ap (λ n. record s { now = n }) (M.held_same s.now) };
 
-    ghost lent_fits = { λ s b fits. ap (λ n. record s { now = n }) (M.lent_fits s.now b fits) };
+    ghost after_borrow_fits = { λ s b fits. ap (λ n. record s { now = n }) (M.after_borrow_fits s.now b fits) };
 
     #[inline(always)]
     fn bytes_mut(&mut self) -> &mut [u8] {
@@ -149,7 +149,7 @@ impl ByteStore for BorrowedMut<'_> {
 impl ByteStoreMut for BorrowedMut<'_> {
     ghost holding = { λ s b. record s { 0 = record s.0 { now = b } } };
 
-    ghost lent = { λ s b. record s { 0 = record s.0 { now = b } } };
+    ghost after_borrow = { λ s b. record s { 0 = record s.0 { now = b } } };
 
     ghost held = { λ s b. refl };
 
@@ -157,7 +157,7 @@ impl ByteStoreMut for BorrowedMut<'_> {
 
     ghost held_same = { λ s. refl };
 
-    ghost lent_fits = { λ s b fits. refl };
+    ghost after_borrow_fits = { λ s b fits. refl };
 
     #[inline(always)]
     fn bytes_mut(&mut self) -> &mut [u8] {
@@ -206,7 +206,7 @@ impl ByteStore for OwnedBytes {
 impl ByteStoreMut for OwnedBytes {
     ghost holding = { λ s b. b };
 
-    ghost lent = { refilled };
+    ghost after_borrow = { after_borrow_bytes };
 
     ghost held = { λ s b. refl };
 
@@ -214,7 +214,7 @@ impl ByteStoreMut for OwnedBytes {
 
     ghost held_same = { λ s. refl };
 
-    ghost lent_fits = { refilled-fits };
+    ghost after_borrow_fits = { after_borrow_bytes-fits };
 
     #[inline(always)]
     fn bytes_mut(&mut self) -> &mut [u8] {
@@ -233,28 +233,28 @@ pub fn write_slice(all: &mut [u8], at: usize, piece: &[u8])
 
 // Writes `piece` over the whole place: in one store at the lengths that a number has.
 #[inline(always)]
-fn overwrite(place: &mut [u8], piece: &[u8])
-    requires { length place.old ≡ length piece.now }
-    ensures { place.new ≡ piece.now }
+fn overwrite(target: &mut [u8], piece: &[u8])
+    requires { length target.old ≡ length piece.now }
+    ensures { target.new ≡ piece.now }
 {
     match piece.len() {
-        1 => overwrite_array::<1>(place, piece),
-        2 => overwrite_array::<2>(place, piece),
-        4 => overwrite_array::<4>(place, piece),
-        8 => overwrite_array::<8>(place, piece),
-        16 => overwrite_array::<16>(place, piece),
-        _ => place.copy_from_slice(piece),
+        1 => overwrite_array::<1>(target, piece),
+        2 => overwrite_array::<2>(target, piece),
+        4 => overwrite_array::<4>(target, piece),
+        8 => overwrite_array::<8>(target, piece),
+        16 => overwrite_array::<16>(target, piece),
+        _ => target.copy_from_slice(piece),
     }
 }
 
 // Writes `piece` over the whole place, of `N` bytes, in one store.
 #[inline(always)]
-fn overwrite_array<const N: usize>(place: &mut [u8], piece: &[u8])
-    requires place_len { length place.old ≡ N }
+fn overwrite_array<const N: usize>(target: &mut [u8], piece: &[u8])
+    requires target_len { length target.old ≡ N }
     requires piece_len { length piece.now ≡ N }
-    ensures { place.new ≡ piece.now }
+    ensures { target.new ≡ piece.now }
 {
-    let (Some(to), Some(from)) = (place.first_chunk_mut::<N>(), piece.first_chunk::<N>()) else {
+    let (Some(to), Some(from)) = (target.first_chunk_mut::<N>(), piece.first_chunk::<N>()) else {
         unreachable!()
     };
     *to = *from;

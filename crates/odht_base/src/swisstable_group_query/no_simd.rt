@@ -44,7 +44,7 @@ fn lowest_byte(mask: u64) -> Option<usize>
     ensures { result ≡ slice_get (set_bytes mask) 0 }
 {
     match lowest_bit(mask) {
-        Some(place) => Some(place / 8),
+        Some(position) => Some(position / 8),
         None => None,
     }
 }

@@ -41,8 +41,8 @@ crowded = overwritten_at no_bytes 15 (128 ∷ [])
 abbrev nines : List ℕ
 nines = replicate 337 9
 
-abbrev filled : List ℕ
-filled = grown_bytes ++ 9 ∷ []
+abbrev inserted : List ℕ
+inserted = grown_bytes ++ 9 ∷ []
 
 -- the table of one item grows into that of thirty-two slots
 grows : grown direct_config one_item ≡ Some grown_item
@@ -96,7 +96,7 @@ unfolding opened
 other_table_refused h = unequal_lists other_grown grown_bytes refl (only_grown other_grown (h.on_valid one_item one_image))
 
 -- ---- IsGrownInto
-pub one_grown_into : IsGrownInto direct_config one_bytes 336 nines filled
+pub one_grown_into : IsGrownInto direct_config one_bytes 336 nines inserted
 unfolding opened
 one_grown_into = record { table = one_grown; rest = refl }
 
@@ -132,9 +132,9 @@ unfolding opened growth_refusal grown_len
 small_grow = short_grow direct_coding one_bytes (9 ∷ []) 4 336 refl refl (lit< tt)
 
 -- 337 bytes take the table, and the last stays
-pub one_grow : GrowAnswers direct_coding one_bytes nines 4 0 filled 336
+pub one_grow : GrowAnswers direct_coding one_bytes nines 4 0 inserted 336
 unfolding opened growth_refusal grown_len
-one_grow = done_grow direct_coding one_bytes nines 4 336 refl refl filled (lit≤ tt) one_grown_into
+one_grow = done_grow direct_coding one_bytes nines 4 336 refl refl inserted (lit≤ tt) one_grown_into
 
 -- what is refused is not answered with another status
 pub grow_status_refused : GrowAnswers direct_coding weak (9 ∷ []) 4 20 (9 ∷ []) 4 → ⊥
@@ -177,6 +177,6 @@ unfolding opened growth_refusal grown_len
 grow_done_bytes_refused h = unwritten_refused (h.grown 336 refl refl (lit≤ tt)).1
 
 -- and their length is told
-pub grow_done_length_refused : GrowAnswers direct_coding one_bytes nines 4 0 filled 337 → ⊥
+pub grow_done_length_refused : GrowAnswers direct_coding one_bytes nines 4 0 inserted 337 → ⊥
 unfolding opened growth_refusal grown_len
 grow_done_length_refused h = unequal 337 336 refl (h.grown 336 refl refl (lit≤ tt)).2

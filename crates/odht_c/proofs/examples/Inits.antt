@@ -10,7 +10,7 @@ use Rattle.odht_raw.specs.declared.error.Error.TheVariants.{InitLength, Capacity
 use Rattle.odht_raw.proofs.examples.Opened.{opened}
 use Rattle.odht_c.specs.Statuses.{IsPercent}
 use Rattle.odht_c.specs.Writes.{BytesNeededAnswers, InitAnswers}
-use Rattle.odht_c.proofs.lemmas.Refused.{told, not_none}
+use Rattle.odht_c.proofs.lemmas.Refused.{known, not_none}
 use Rattle.odht_c.proofs.examples.Statuses.{zero_percent_refused}
 use Rattle.odht_raw.proofs.examples.Apart.{unequal, unequal_lists}
 use Rattle.odht_c.proofs.examples.Tables.{direct_coding, no_items, no_bytes, one_bytes, no_image}
@@ -108,7 +108,7 @@ pub short_init : InitAnswers direct_coding 1 7 [] 17 []
 unfolding opened new_refusal
 short_init = record {
   percent = λ other. absurd (other seven);
-  refused = λ e ok is. (told _ (InitLength 0 192) e refl is, refl);
+  refused = λ e ok is. (known _ (InitLength 0 192) e refl is, refl);
   made = λ ok none. not_none _ (InitLength 0 192) refl none;
 }
 
@@ -151,9 +151,9 @@ unfolding opened new_refusal
 init_made_status_refused h = unequal 33 0 refl (h.made seven refl).0
 
 -- and is empty
-pub init_made_filled_refused : InitAnswers direct_coding 1 7 ones 0 one_bytes → ⊥
+pub init_made_inserted_refused : InitAnswers direct_coding 1 7 ones 0 one_bytes → ⊥
 unfolding opened new_refusal
-init_made_filled_refused h =
+init_made_inserted_refused h =
     let made = (h.made seven refl).1 in
     unequal_lists one_bytes no_bytes refl
     (made.2.bytes ∙ ap (image direct_config) (sym (some_same no_items made.0 made.1)))

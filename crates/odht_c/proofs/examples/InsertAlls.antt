@@ -2,14 +2,14 @@
 use Rattle.std.proofs.Common.{◌≡◌, ◌∙◌, ℕ, refl, sym, ap, arith, List, [], ◌∷◌, lit<, lit≤, subst, Option, option_map, Result, Ok, Err}
 use Rattle.odht_base.specs.Bytes.{overwritten_at}
 use Rattle.odht_base.specs.Image.{image}
-use Rattle.odht_base.specs.Insert.{put_view, IsFullFor}
+use Rattle.odht_base.specs.Insert.{insert_view, IsFullFor}
 use Rattle.odht_base.specs.Numbers.{le_bytes}
-use Rattle.odht_base.specs.Shown.{controls_of}
+use Rattle.odht_base.specs.Decoded.{controls_of}
 use Rattle.odht_base.specs.Table.{Pair, Table}
 use Rattle.odht_base.proofs.examples.Configs.{direct_config, pair32}
-use Rattle.odht_base.proofs.lemmas.FreshRuns.{put_view-PlacesBelow}
+use Rattle.odht_base.proofs.lemmas.FreshRuns.{insert_view-PlacesBelow}
 use Rattle.odht_base.proofs.lemmas.Options.{some_same}
-use Rattle.odht_base.proofs.lemmas.Puts.{put_view-IsInsert}
+use Rattle.odht_base.proofs.lemmas.TableInserts.{insert_view-IsInsert}
 use Rattle.odht_raw.specs.declared.error.Error.TheVariants.{TooShort, Full}
 use Rattle.odht_raw.specs.declared.error.Error.{Error}
 use Rattle.odht_raw.specs.Coding.{encoded}
@@ -17,8 +17,8 @@ use Rattle.odht_raw.specs.Frame.{IsFramed, InsertFrame}
 use Rattle.odht_raw.proofs.examples.FrameRefusals.{free_slot_refused}
 use Rattle.odht_raw.proofs.examples.Opened.{opened}
 use Rattle.std.specs.Result.{result_map_both}
-use Rattle.odht.specs.Lists.{IsFilled}
-use Rattle.odht.proofs.lemmas.Fillings.{filled_none, filled_more}
+use Rattle.odht.specs.Lists.{IsAfterInserts}
+use Rattle.odht.proofs.lemmas.ListInserts.{inserted_none, inserted_more}
 use Rattle.odht.specs.Lists.{IsFramedRun}
 use Rattle.odht_c.specs.Writes.{InsertAllAnswers}
 use Rattle.odht_c.proofs.lemmas.Inserted.{accepted_insert_all, full_insert_all}
@@ -40,26 +40,26 @@ lengths_insert_all = record {
   bound = λ long is. absurd (unequal 0 1 refl long);
   all = λ long is every. absurd (unequal 0 1 refl long);
   some = λ long is less. absurd (unequal 0 1 refl long);
-  filled = λ P long is. absurd (unequal 0 1 refl long);
+  inserted = λ P long is. absurd (unequal 0 1 refl long);
   framed = λ long is. absurd (unequal 0 1 refl long);
   at_maximum = λ P long is image less. absurd (unequal 0 1 refl long);
   stopped = λ long is less. absurd (unequal 0 1 refl long);
 }
 
 -- one pair into a valid table
-one_filled : IsFilled direct_config (put_view direct_config) no_items (pair32 5 7 ∷ []) one_bytes
+one_inserted : IsAfterInserts direct_config (insert_view direct_config) no_items (pair32 5 7 ∷ []) one_bytes
 unfolding opened
-one_filled =
-    let none : IsFilled direct_config (put_view direct_config) no_items [] no_bytes = (
+one_inserted =
+    let none : IsAfterInserts direct_config (insert_view direct_config) no_items [] no_bytes = (
     record { table = no_items; runs = refl; image = no_image; maps = λ k. refl; stays = λ room. ((refl, refl), omega arith) }) in
-    filled_more direct_config (put_view direct_config) (put_view-IsInsert direct_config)
-    (put_view-PlacesBelow direct_config) no_items [] (pair32 5 7) no_bytes one_bytes none one_item refl one_image
+    inserted_more direct_config (insert_view direct_config) (insert_view-IsInsert direct_config)
+    (insert_view-PlacesBelow direct_config) no_items [] (pair32 5 7) no_bytes one_bytes none one_item refl one_image
 
 -- of each table that is the one without items
-filled_from : (P : Table) → no_items ≡ P
-    → IsFilled direct_config (put_view direct_config) P (pair32 5 7 ∷ []) one_bytes
-filled_from P same =
-    subst (λ T. IsFilled direct_config (put_view direct_config) T (pair32 5 7 ∷ []) one_bytes) same one_filled
+inserted_from : (P : Table) → no_items ≡ P
+    → IsAfterInserts direct_config (insert_view direct_config) P (pair32 5 7 ∷ []) one_bytes
+inserted_from P same =
+    subst (λ T. IsAfterInserts direct_config (insert_view direct_config) T (pair32 5 7 ∷ []) one_bytes) same one_inserted
 
 -- and full is each that is the one with one item
 full_for : (P : Table) → one_item ≡ P → IsFullFor P (le_bytes 4 6)
@@ -70,7 +70,7 @@ pub one_insert_all : InsertAllAnswers direct_coding no_bytes (5 ∷ []) (7 ∷ [
 unfolding opened
 one_insert_all =
     accepted_insert_all direct_coding no_bytes one_bytes (5 ∷ []) (7 ∷ []) 9 1 refl refl one_run
-    (λ P is. filled_from P (same_table no_items P no_bytes no_image is)) refl
+    (λ P is. inserted_from P (same_table no_items P no_bytes no_image is)) refl
 
 -- an insert of the key 6 may be refused there
 six_refused : IsFramed direct_coding one_bytes 6 8 (Err Full) one_bytes
@@ -82,7 +82,7 @@ pub full_insert_all_answers : InsertAllAnswers direct_coding one_bytes (6 ∷ []
 unfolding opened
 full_insert_all_answers =
     full_insert_all direct_coding one_bytes one_bytes (6 ∷ []) (8 ∷ []) 9 0 refl refl IsFramedRun.start
-    (λ P is. filled_none direct_config (put_view direct_config) P one_bytes is)
+    (λ P is. inserted_none direct_config (insert_view direct_config) P one_bytes is)
     one_bytes 18 refl (lit< tt) refl
     (λ P is. record { item = (6, 8); at = refl; full = full_for P (same_table one_item P one_bytes one_image is) })
     (record { item = (6, 8); at = refl; framed = six_refused })
@@ -92,7 +92,7 @@ pub half_insert_all : InsertAllAnswers direct_coding no_bytes (5 ∷ 6 ∷ []) (
 unfolding opened
 half_insert_all =
     full_insert_all direct_coding no_bytes one_bytes (5 ∷ 6 ∷ []) (7 ∷ 8 ∷ []) 9 1 refl refl one_run
-    (λ P is. filled_from P (same_table no_items P no_bytes no_image is))
+    (λ P is. inserted_from P (same_table no_items P no_bytes no_image is))
     one_bytes 18 refl (lit< tt) refl
     (λ P is. record { item = (6, 8); at = refl; full = full_for P (same_table one_item P one_bytes one_image is) })
     (record { item = (6, 8); at = refl; framed = six_refused })
@@ -141,9 +141,9 @@ some_full_refused h = unequal 0 18 refl (h.some refl accepted_bytes.1 (lit< tt))
 pub misplaced_refused : InsertAllAnswers direct_coding no_bytes (5 ∷ []) (7 ∷ []) 9 0 misplaced 1 → ⊥
 unfolding opened
 misplaced_refused h =
-    let filled = h.filled no_items refl no_image in
+    let inserted = h.inserted no_items refl no_image in
     unequal_lists misplaced one_bytes refl
-    (filled.image.bytes ∙ ap (image direct_config) (sym (some_same one_item filled.table filled.runs)))
+    (inserted.image.bytes ∙ ap (image direct_config) (sym (some_same one_item inserted.table inserted.runs)))
 
 -- a count of six
 abbrev otherwise_miscounted : List ℕ
@@ -156,9 +156,9 @@ unframed_refused h =
     unequal_lists otherwise_miscounted miscounted refl (unchanged miscounted (h.framed refl accepted_bytes.2) refl)
 
 -- and of two pairs the first is not left out of the number
-pub untold_refused : InsertAllAnswers direct_coding no_bytes (5 ∷ 6 ∷ []) (7 ∷ 8 ∷ []) 9 18 one_bytes 0 → ⊥
+pub unanswered_refused : InsertAllAnswers direct_coding no_bytes (5 ∷ 6 ∷ []) (7 ∷ 8 ∷ []) 9 18 one_bytes 0 → ⊥
 unfolding opened
-untold_refused h = unequal_lists one_bytes no_bytes refl (unchanged no_bytes (h.framed refl accepted_bytes.0) refl)
+unanswered_refused h = unequal_lists one_bytes no_bytes refl (unchanged no_bytes (h.framed refl accepted_bytes.0) refl)
 
 -- a valid table that has room refuses no pair
 pub roomy_refused : InsertAllAnswers direct_coding no_bytes (5 ∷ []) (7 ∷ []) 9 18 no_bytes 0 → ⊥

@@ -8,7 +8,7 @@ use Rattle.odht_raw.specs.declared.error.Error.{Error}
 use Rattle.odht_raw.specs.declared.error.Error.TheVariants.{TooShort, Full}
 use Rattle.odht_raw.proofs.examples.Opened.{opened}
 use Rattle.odht_c.specs.Statuses.{status_of}
-use Rattle.odht_c.specs.Writes.{IsFormer, IsAnswered, IsPut, InsertAnswers}
+use Rattle.odht_c.specs.Writes.{IsFormer, IsAnswered, IsAfterInsert, InsertAnswers}
 use Rattle.odht_c.proofs.lemmas.Opened.{never_refused}
 use Rattle.odht_c.proofs.lemmas.Refused.{refused_insert}
 use Rattle.odht_raw.proofs.examples.Apart.{unequal, unequal_lists}
@@ -54,51 +54,51 @@ answered_refusal_refused h = unequal 0 18 refl h.0
 pub answered_written_refused : IsAnswered {V = ℕ} (Err Full) 9 18 7 → ⊥
 answered_written_refused h = unequal 7 9 refl h.1
 
--- ---- IsPut
+-- ---- IsAfterInsert
 -- a new key
-pub put_new : IsPut direct_coding no_items 5 7 one_bytes 9 0 9
+pub insert_new : IsAfterInsert direct_coding no_items 5 7 one_bytes 9 0 9
 unfolding opened
-put_new = (one_image, (refl, refl))
+insert_new = (one_image, (refl, refl))
 
 -- a key that was there, though the table is full
-pub put_again : IsPut direct_coding one_item 5 8 other_bytes 9 33 7
+pub insert_again : IsAfterInsert direct_coding one_item 5 8 other_bytes 9 33 7
 unfolding opened
-put_again = (other_image, (refl, refl))
+insert_again = (other_image, (refl, refl))
 
 -- another key into the full table
-pub put_full : IsPut direct_coding one_item 6 8 one_bytes 9 18 9
+pub insert_full : IsAfterInsert direct_coding one_item 6 8 one_bytes 9 18 9
 unfolding opened
-put_full = (one_image, refl, refl)
+insert_full = (one_image, refl, refl)
 
 -- a new key is written
-pub put_unwritten_refused : IsPut direct_coding no_items 5 7 no_bytes 9 0 9 → ⊥
+pub insert_unwritten_refused : IsAfterInsert direct_coding no_items 5 7 no_bytes 9 0 9 → ⊥
 unfolding opened
-put_unwritten_refused h = unequal_lists no_bytes one_bytes refl h.0.bytes
+insert_unwritten_refused h = unequal_lists no_bytes one_bytes refl h.0.bytes
 
 -- and not answered as one that was there
-pub put_as_replaced_refused : IsPut direct_coding no_items 5 7 one_bytes 9 33 9 → ⊥
+pub insert_as_replaced_refused : IsAfterInsert direct_coding no_items 5 7 one_bytes 9 33 9 → ⊥
 unfolding opened
-put_as_replaced_refused h = unequal 33 0 refl h.1.0
+insert_as_replaced_refused h = unequal 33 0 refl h.1.0
 
 -- a key that was there is told its former value, not its new one
-pub put_new_value_refused : IsPut direct_coding one_item 5 8 other_bytes 9 33 8 → ⊥
+pub insert_new_value_refused : IsAfterInsert direct_coding one_item 5 8 other_bytes 9 33 8 → ⊥
 unfolding opened
-put_new_value_refused h = unequal 8 7 refl h.1.1
+insert_new_value_refused h = unequal 8 7 refl h.1.1
 
 -- a full table stays
-pub put_full_written_refused : IsPut direct_coding one_item 6 8 other_bytes 9 18 9 → ⊥
+pub insert_full_written_refused : IsAfterInsert direct_coding one_item 6 8 other_bytes 9 18 9 → ⊥
 unfolding opened
-put_full_written_refused h = unequal_lists other_bytes one_bytes refl h.0.bytes
+insert_full_written_refused h = unequal_lists other_bytes one_bytes refl h.0.bytes
 
 -- and is not answered with ODHT_OK
-pub put_full_status_refused : IsPut direct_coding one_item 6 8 one_bytes 9 0 9 → ⊥
+pub insert_full_status_refused : IsAfterInsert direct_coding one_item 6 8 one_bytes 9 0 9 → ⊥
 unfolding opened
-put_full_status_refused h = unequal 0 18 refl h.1
+insert_full_status_refused h = unequal 0 18 refl h.1
 
 -- and writes no value
-pub put_full_value_refused : IsPut direct_coding one_item 6 8 one_bytes 9 18 7 → ⊥
+pub insert_full_value_refused : IsAfterInsert direct_coding one_item 6 8 one_bytes 9 18 7 → ⊥
 unfolding opened
-put_full_value_refused h = unequal 7 9 refl h.2
+insert_full_value_refused h = unequal 7 9 refl h.2
 
 -- ---- InsertAnswers
 -- no bytes are refused, and the places stay
@@ -111,8 +111,8 @@ pub new_insert : InsertAnswers direct_coding no_bytes 5 7 9 0 one_bytes 9
 unfolding opened
 new_insert = record {
   refused = λ e is. never_refused direct_config no_items no_bytes e no_image is;
-  on_valid = λ P is. subst (λ T. IsPut direct_coding T 5 7 one_bytes 9 0 9)
-      (same_table no_items P no_bytes no_image is) put_new;
+  on_valid = λ P is. subst (λ T. IsAfterInsert direct_coding T 5 7 one_bytes 9 0 9)
+      (same_table no_items P no_bytes no_image is) insert_new;
   on_any = λ is. (Ok None, (refl, refl), (Ok None, refl, InsertFrame.added 5 (lit< tt) (inl refl) (lit< tt)));
 }
 
@@ -121,8 +121,8 @@ pub again_insert : InsertAnswers direct_coding one_bytes 5 8 9 33 other_bytes 7
 unfolding opened
 again_insert = record {
   refused = λ e is. never_refused direct_config one_item one_bytes e one_image is;
-  on_valid = λ P is. subst (λ T. IsPut direct_coding T 5 8 other_bytes 9 33 7)
-      (same_table one_item P one_bytes one_image is) put_again;
+  on_valid = λ P is. subst (λ T. IsAfterInsert direct_coding T 5 8 other_bytes 9 33 7)
+      (same_table one_item P one_bytes one_image is) insert_again;
   on_any = λ is. (Ok (Some 7), (refl, refl), (Ok (Some (le_bytes 4 7)), refl, InsertFrame.overwrote 5 (lit< tt) refl));
 }
 
@@ -131,8 +131,8 @@ pub full_insert : InsertAnswers direct_coding one_bytes 6 8 9 18 one_bytes 9
 unfolding opened
 full_insert = record {
   refused = λ e is. never_refused direct_config one_item one_bytes e one_image is;
-  on_valid = λ P is. subst (λ T. IsPut direct_coding T 6 8 one_bytes 9 18 9)
-      (same_table one_item P one_bytes one_image is) put_full;
+  on_valid = λ P is. subst (λ T. IsAfterInsert direct_coding T 6 8 one_bytes 9 18 9)
+      (same_table one_item P one_bytes one_image is) insert_full;
   on_any = λ is. (Err Full, (refl, refl), (Err Full, refl, InsertFrame.full (lit≤ tt)));
 }
 

@@ -10,7 +10,7 @@ use Rattle.odht_raw.proofs.examples.Opened.{opened}
 use Rattle.odht.specs.Lists.{IsFramedRun}
 use Rattle.odht_raw.proofs.examples.Apart.{unequal_lists, tested}
 use Rattle.odht_c.proofs.examples.Tables.{direct_coding, no_bytes, one_bytes, other_bytes}
-use Rattle.odht_base.specs.Shown.{key_at}
+use Rattle.odht_base.specs.Decoded.{key_at}
 use Rattle.odht_raw.specs.Refusals.{lists_differ}
 
 -- no inserts

@@ -22,7 +22,7 @@ unfolding opened
 one_sizes = record {
   status = refl;
   refused = λ e is. never_refused direct_coding.format one_item one_bytes e one_image is;
-  stated = λ is. (refl, refl, refl);
+  by_header = λ is. (refl, refl, refl);
   on_valid = λ P is. subst (λ T. (16 ≡ slot_count T) × (1 ≡ max_items (slot_count T) T.factor) × (6 ≡ percent_of T.factor)) (same_table one_item P one_bytes one_image is) (refl, refl, refl);
 }
 
@@ -49,15 +49,15 @@ sizes_percent_written_refused h = unequal 0 9 refl (h.refused (TooShort 0) refl)
 -- of bytes that are accepted and not valid, they are what the header states
 pub sizes_unstated_slots_refused : SizesAnswers direct_coding.format miscounted 9 9 9 0 9 1 6 → ⊥
 unfolding opened
-sizes_unstated_slots_refused h = unequal 9 16 refl (h.stated accepted_bytes.2).0
+sizes_unstated_slots_refused h = unequal 9 16 refl (h.by_header accepted_bytes.2).0
 
 pub sizes_unstated_maximum_refused : SizesAnswers direct_coding.format miscounted 9 9 9 0 16 9 6 → ⊥
 unfolding opened
-sizes_unstated_maximum_refused h = unequal 9 1 refl (h.stated accepted_bytes.2).1
+sizes_unstated_maximum_refused h = unequal 9 1 refl (h.by_header accepted_bytes.2).1
 
 pub sizes_unstated_percent_refused : SizesAnswers direct_coding.format miscounted 9 9 9 0 16 1 7 → ⊥
 unfolding opened
-sizes_unstated_percent_refused h = unequal 7 6 refl (h.stated accepted_bytes.2).2
+sizes_unstated_percent_refused h = unequal 7 6 refl (h.by_header accepted_bytes.2).2
 
 -- and of a valid table they are its own
 pub sizes_other_slots_refused : SizesAnswers direct_coding.format one_bytes 9 9 9 0 9 1 6 → ⊥

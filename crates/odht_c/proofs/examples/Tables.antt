@@ -15,13 +15,13 @@ use Rattle.odht_base.specs.HashLaws.{un-lt}
 use Rattle.odht_base.specs.Image.{image}
 use Rattle.odht_base.specs.Load.{factor_of}
 use Rattle.odht_base.specs.Numbers.{num, le_bytes}
-use Rattle.odht_base.specs.Shown.{key_at}
+use Rattle.odht_base.specs.Decoded.{key_at}
 use Rattle.odht_base.specs.Table.{Table, empty}
 use Rattle.odht_base.specs.Valid.{IsImage}
 use Rattle.odht_base.proofs.examples.Configs.{direct_config, pair32}
 use Rattle.odht_base.proofs.lemmas.Image.{image-injective}
 use Rattle.odht_base.proofs.lemmas.Placed.{IsPlaced-tests}
-use Rattle.odht_base.proofs.lemmas.Rooms.{empty-IsValid}
+use Rattle.odht_base.proofs.lemmas.FreeSlots.{empty-IsValid}
 use Rattle.odht_raw.specs.Coding.{Coding, HasStored}
 use Rattle.odht_raw.specs.Frame.{IsAccepted}
 use Rattle.odht_raw.specs.Refusals.{lists_differ}

@@ -110,14 +110,14 @@ view_not_stored_refused h = go h.on_any
 pub view_one_len : ViewLenAnswers direct_coding one_bytes 1
 unfolding opened
 view_one_len = record {
-  stated = refl;
+  by_header = refl;
   on_valid = λ P is. subst (λ T. 1 ≡ count T) (same_table one_item P one_bytes one_image is) refl;
 }
 
 -- of bytes that are accepted and not valid, the number is what the header states
 pub view_recounted_refused : ViewLenAnswers direct_coding miscounted 0 → ⊥
 unfolding opened
-view_recounted_refused h = unequal 0 5 refl h.stated
+view_recounted_refused h = unequal 0 5 refl h.by_header
 
 -- and of a valid table it is its count
 pub view_uncounted_refused : ViewLenAnswers direct_coding one_bytes 0 → ⊥

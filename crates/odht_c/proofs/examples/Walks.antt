@@ -24,7 +24,7 @@ unfolding opened
 one_len = record {
   status = refl;
   refused = λ e is. never_refused direct_coding.format one_item one_bytes e one_image is;
-  stated = λ is. refl;
+  by_header = λ is. refl;
   on_valid = λ P is. subst (λ T. 1 ≡ count T) (same_table one_item P one_bytes one_image is) refl;
 }
 
@@ -41,7 +41,7 @@ len_written_refused h = unequal 0 9 refl (h.refused (TooShort 0) refl)
 -- of bytes that are accepted and not valid, the number is what the header states
 pub len_recounted_refused : LenAnswers direct_coding miscounted 9 0 0 → ⊥
 unfolding opened
-len_recounted_refused h = unequal 0 5 refl (h.stated accepted_bytes.2)
+len_recounted_refused h = unequal 0 5 refl (h.by_header accepted_bytes.2)
 
 -- and of a valid table it is its count
 pub len_uncounted_refused : LenAnswers direct_coding one_bytes 9 0 0 → ⊥
@@ -57,7 +57,7 @@ two = record { factor = 65535; cells = None ∷ Some (pair32 1 2) ∷ None ∷ S
 pub walked_all : IsWalked direct_coding two 0 (9 ∷ 9 ∷ 9 ∷ []) (8 ∷ 8 ∷ 8 ∷ []) 0 4 (1 ∷ 3 ∷ 9 ∷ []) (2 ∷ 4 ∷ 8 ∷ []) 2
 unfolding opened
 walked_all = record {
-  told = refl;
+  known = refl;
   keys = refl;
   values = refl;
   left = refl;
@@ -69,7 +69,7 @@ walked_all = record {
 pub walked_exactly : IsWalked direct_coding two 0 (9 ∷ 9 ∷ []) (8 ∷ 8 ∷ []) 0 4 (1 ∷ 3 ∷ []) (2 ∷ 4 ∷ []) 2
 unfolding opened
 walked_exactly = record {
-  told = refl;
+  known = refl;
   keys = refl;
   values = refl;
   left = refl;
@@ -81,7 +81,7 @@ walked_exactly = record {
 pub walked_first : IsWalked direct_coding two 0 (9 ∷ []) (8 ∷ []) 36 3 (1 ∷ []) (2 ∷ []) 1
 unfolding opened
 walked_first = record {
-  told = refl;
+  known = refl;
   keys = refl;
   values = refl;
   left = refl;
@@ -93,7 +93,7 @@ walked_first = record {
 pub walked_rest : IsWalked direct_coding two 3 (9 ∷ []) (8 ∷ []) 0 4 (3 ∷ []) (4 ∷ []) 1
 unfolding opened
 walked_rest = record {
-  told = refl;
+  known = refl;
   keys = refl;
   values = refl;
   left = refl;
@@ -105,7 +105,7 @@ walked_rest = record {
 pub walked_past : IsWalked direct_coding two 7 (9 ∷ []) (8 ∷ []) 0 4 (9 ∷ []) (8 ∷ []) 0
 unfolding opened
 walked_past = record {
-  told = refl;
+  known = refl;
   keys = refl;
   values = refl;
   left = refl;
@@ -117,7 +117,7 @@ walked_past = record {
 pub walked_fewer_refused : IsWalked direct_coding two 0 (9 ∷ 9 ∷ 9 ∷ []) (8 ∷ 8 ∷ 8 ∷ []) 0 4 (1 ∷ 9 ∷ 9 ∷ []) (2 ∷ 8 ∷ 8 ∷ []) 1
     → ⊥
 unfolding opened
-walked_fewer_refused h = unequal 1 2 refl h.told
+walked_fewer_refused h = unequal 1 2 refl h.known
 
 -- the keys stand in their order
 pub walked_keys_refused : IsWalked direct_coding two 0 (9 ∷ 9 ∷ 9 ∷ []) (8 ∷ 8 ∷ 8 ∷ []) 0 4 (3 ∷ 1 ∷ 9 ∷ []) (2 ∷ 4 ∷ 8 ∷ []) 2
@@ -192,7 +192,7 @@ lengths_walk = record {
 one_walked : IsWalked direct_coding one_item 0 (9 ∷ 9 ∷ []) (8 ∷ 8 ∷ []) 0 16 (5 ∷ 9 ∷ []) (7 ∷ 8 ∷ []) 1
 unfolding opened
 one_walked = record {
-  told = refl;
+  known = refl;
   keys = refl;
   values = refl;
   left = refl;
@@ -260,9 +260,9 @@ walk_number_refused h = unequal 0 4 refl (h.refused (TooShort 0) refl refl).4
 -- no pair of a valid table is left out
 pub walk_missed_refused : WalkAnswers direct_coding one_bytes 0 (9 ∷ []) (8 ∷ []) 4 0 16 (9 ∷ []) (8 ∷ []) 0 → ⊥
 unfolding opened
-walk_missed_refused h = unequal 0 1 refl (h.on_valid one_item refl one_image).told
+walk_missed_refused h = unequal 0 1 refl (h.on_valid one_item refl one_image).known
 
--- of bytes that are accepted and not valid, what no filled slot has is not walked over
+-- of bytes that are accepted and not valid, what no occupied slot has is not walked over
 pub walk_made_up_refused : WalkAnswers direct_coding miscounted 0 (9 ∷ []) (8 ∷ []) 4 0 16 (5 ∷ []) (7 ∷ []) 1 → ⊥
 unfolding opened
-walk_made_up_refused h = unequal 1 0 refl (h.on_any refl accepted_bytes.2).told
+walk_made_up_refused h = unequal 1 0 refl (h.on_any refl accepted_bytes.2).known

@@ -3,7 +3,7 @@
 use Rattle.std.proofs.Common.{◌≡◌, ◌<◌, ◌∙◌, ◌+◌, ◌⊎◌, inl, inr, ℕ, sym, ap, subst, arith, List, Option, Some, None, IfSome, length, set, slice_get}
 use Rattle.std.proofs.Math.Nat.{eq-or-lt_of_le}
 use Rattle.odht_base.specs.Format.{Format}
-use Rattle.odht_base.specs.Shown.{Stores, entries_of, stated_slots}
+use Rattle.odht_base.specs.Decoded.{Stores, entries_of, header_slots}
 use Rattle.odht_raw.specs.Coding.{Coding}
 use Rattle.odht_raw.specs.Parts.{EntryBytes, TableParts}
 use Rattle.odht_raw.specs.SearchEnds.{IsBesideKey}
@@ -17,7 +17,7 @@ Wrote None vs fs n vs' fs' = (vs' ≡ vs) × (fs' ≡ set fs n 0)
 Wrote (Some v) vs fs n vs' fs' = (vs' ≡ set vs n v) × (fs' ≡ set fs n 1)
 
 -- what is found beside a key in the entries of bytes is stored in them
-pub stored_answer : {V : Type 0} (F : Format) (f : List ℕ → V) (B k : List ℕ) (E : EntryBytes) (o : Option V) → E.bytes ≡ entries_of F B → E.slots ≡ stated_slots B
+pub stored_answer : {V : Type 0} (F : Format) (f : List ℕ → V) (B k : List ℕ) (E : EntryBytes) (o : Option V) → E.bytes ≡ entries_of F B → E.slots ≡ header_slots B
     → IfSome o (IsBesideKey F f E k) → IfSome o (λ v. (b : List ℕ) × (v ≡ f b) × Stores F B k b)
 stored_answer F f B k E None es s h = tt
 stored_answer F f B k E (Some v) es s h = stored_beside F f B k E v es s h
@@ -43,15 +43,15 @@ module _ {K V : Type 0} (c : Coding K V) (T : TableParts) (ks : List K) (old vs 
   pub got-next : n < length vs → n < length fs → Wrote o vs fs n vs' fs' → ((k : K) → slice_get ks n ≡ Some k → IsLookup c T k o)
       → AreGot c T ks old vs fs n → AreGot c T ks old vs' fs' (n + 1)
   got-next lv lf w this before = record {
-    got = λ i k l at. told i k at (eq-or-lt_of_le (omega (arith, l)));
+    got = λ i k l at. known i k at (eq-or-lt_of_le (omega (arith, l)));
     rest = λ i l. other_values o vs vs' fs fs' n i w (λ e. omega (arith, e, l)) ∙ before.rest i (omega (arith, l));
   }
     where
-      told : (i : ℕ) (k : K) → slice_get ks i ≡ Some k → (i ≡ n) ⊎ (i < n) → (x : Option V) × IsGotAt x (slice_get old i) (slice_get fs' i) (slice_get vs' i) × IsLookup c T k x
-      told i k at (inl e) =
+      known : (i : ℕ) (k : K) → slice_get ks i ≡ Some k → (i ≡ n) ⊎ (i < n) → (x : Option V) × IsGotAt x (slice_get old i) (slice_get fs' i) (slice_get vs' i) × IsLookup c T k x
+      known i k at (inl e) =
           let here : IsGotAt o (slice_get old n) (slice_get fs' n) (slice_get vs' n) = this_got o vs vs' fs fs' n (slice_get old n) w lv lf (before.rest n (omega arith)) in
           (o, subst (λ j. IsGotAt o (slice_get old j) (slice_get fs' j) (slice_get vs' j)) (sym e) here, this k (ap (slice_get ks) (sym e) ∙ at))
-      told i k at (inr h) =
+      known i k at (inr h) =
           let was = before.got i k h at in
           let d : i ≡ n → ⊥ = λ e. omega (arith, e, h) in (
             was.0,

@@ -2,7 +2,7 @@
 use Rattle.std.proofs.Common.{◌≡◌, ◌<◌, ◌≤◌, ◌∙◌, ◌++◌, ℕ, sym, refl, ap, subst, List, [], ◌∷◌, length, arith, Some, None, drop, take_at, drop_at, lt-ltb, le-ltb}
 use Rattle.std.specs.Prelude.{is_none}
 use Rattle.odht_base.specs.Format.{Format}
-use Rattle.odht_base.specs.Shown.{stated_factor}
+use Rattle.odht_base.specs.Decoded.{header_factor}
 use Rattle.odht_base.proofs.lemmas.Options.{some_same}
 use Rattle.odht_raw.specs.Coding.{Coding}
 use Rattle.odht_raw.specs.Frame.{IsAccepted}
@@ -12,7 +12,7 @@ use Rattle.odht_raw.specs.declared.error.Error.TheVariants.{LoadFactorTooSmall, 
 use Rattle.odht.specs.Growths.{grown_len}
 use Rattle.odht_c.specs.Grows.{growth_refusal, GrowAnswers, IsGrownFrom, IsGrownInto}
 use Rattle.odht_c.specs.Statuses.{status_of, done, too_small}
-use Rattle.odht_c.proofs.lemmas.Refused.{told, not_none}
+use Rattle.odht_c.proofs.lemmas.Refused.{known, not_none}
 
 -- ---- what is refused
 module _ (F : Format) (B : List ℕ) where
@@ -27,16 +27,16 @@ module _ (F : Format) (B : List ℕ) where
     behind_opening = ap (λ o. first_of (o ∷ factor_refusal B ∷ (is_none (grown_len F B) gives Capacity) ∷ [])) opens
 
     -- a small load factor
-    pub refused_factor : stated_factor B < 655 → growth_refusal F B ≡ Some (LoadFactorTooSmall (stated_factor B))
+    pub refused_factor : header_factor B < 655 → growth_refusal F B ≡ Some (LoadFactorTooSmall (header_factor B))
     refused_factor low =
         behind_opening
-        ∙ ap (λ t. first_of ((t gives LoadFactorTooSmall (stated_factor B)) ∷ (is_none (grown_len F B) gives Capacity) ∷ [])) (lt-ltb (stated_factor B) 655 low)
+        ∙ ap (λ t. first_of ((t gives LoadFactorTooSmall (header_factor B)) ∷ (is_none (grown_len F B) gives Capacity) ∷ [])) (lt-ltb (header_factor B) 655 low)
 
-    module _ (enough : 655 ≤ stated_factor B) where
+    module _ (enough : 655 ≤ header_factor B) where
       behind_factor : growth_refusal F B ≡ first_of ((is_none (grown_len F B) gives Capacity) ∷ [])
       behind_factor =
           behind_opening
-          ∙ ap (λ t. first_of ((t gives LoadFactorTooSmall (stated_factor B)) ∷ (is_none (grown_len F B) gives Capacity) ∷ [])) (le-ltb (stated_factor B) 655 enough)
+          ∙ ap (λ t. first_of ((t gives LoadFactorTooSmall (header_factor B)) ∷ (is_none (grown_len F B) gives Capacity) ∷ [])) (le-ltb (header_factor B) 655 enough)
 
       -- no length
       pub refused_capacity : grown_len F B ≡ None → growth_refusal F B ≡ Some Capacity
@@ -56,7 +56,7 @@ module _ {K V : Type 0} (c : Coding K V) (B out : List ℕ) (len : ℕ) where
   -- where it refuses
   pub refused_grow : (a : Error) (s : ℕ) → growth_refusal c.format B ≡ Some a → s ≡ status_of a → GrowAnswers c B out len s out len
   refused_grow a s is status = record {
-    refused = λ e other. (status ∙ told _ a e is other, refl, refl);
+    refused = λ e other. (status ∙ known _ a e is other, refl, refl);
     short = λ n none. not_none _ a is none;
     grown = λ n none. not_none _ a is none;
   }

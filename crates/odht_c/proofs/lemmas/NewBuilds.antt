@@ -3,20 +3,20 @@ use Rattle.std.proofs.Common.{◌≡◌, ◌<◌, ◌≤◌, ◌+◌, ◌∙◌,
 use Rattle.std.specs.Prelude.{option_map}
 use Rattle.std.proofs.lemmas.List.{length-map, take_all}
 use Rattle.odht_base.specs.Image.{image, image_len}
-use Rattle.odht_base.specs.Insert.{put_owned, put_view}
+use Rattle.odht_base.specs.Insert.{insert_owned, insert_view}
 use Rattle.odht_base.specs.Load.{factor_of, slots_for, max_items}
 use Rattle.odht_base.specs.Table.{Table, slot_count, count, empty, fresh}
 use Rattle.odht_base.specs.Valid.{IsImage, IsPairOf, IsValid}
 use Rattle.odht_base.proofs.lemmas.Fits.{IsSized-IsPlaced}
-use Rattle.odht_base.proofs.lemmas.FreshRuns.{put_owned-PlacesBelow, put_view-PlacesBelow, run-place_all, run-fits}
+use Rattle.odht_base.proofs.lemmas.FreshRuns.{insert_owned-PlacesBelow, insert_view-PlacesBelow, run-place_all, run-fits}
 use Rattle.odht_base.proofs.lemmas.Image.{length-image}
-use Rattle.odht_base.proofs.lemmas.Puts.{put_owned-IsInsert}
-use Rattle.odht_base.proofs.lemmas.Rooms.{count-fresh, max_items-fresh, fresh-IsValid}
-use Rattle.odht_base.proofs.lemmas.Runs.{run-keeps, map_of-run, factor-run, count-run}
+use Rattle.odht_base.proofs.lemmas.TableInserts.{insert_owned-IsInsert}
+use Rattle.odht_base.proofs.lemmas.FreeSlots.{count-fresh, max_items-fresh, fresh-IsValid}
+use Rattle.odht_base.proofs.lemmas.InsertRuns.{run-keeps, map_of-run, factor-run, count-run}
 use Rattle.odht_raw.specs.Coding.{Coding, encoded}
 use Rattle.odht_raw.specs.declared.error.Error.{Error}
-use Rattle.odht.specs.Lists.{encoded_all, IsFilled, IsFreshFilled, IsRefusedAt}
-use Rattle.odht.proofs.lemmas.Fillings.{fresh_filled}
+use Rattle.odht.specs.Lists.{encoded_all, IsAfterInserts, IsFreshAfterInserts, IsRefusedAt}
+use Rattle.odht.proofs.lemmas.ListInserts.{fresh_inserted}
 
 -- the new table of a slot count
 pub fresh_empty : (n p s : ℕ) → slots_for n (factor_of p) ≡ Some s → fresh n p ≡ Some (empty s (factor_of p))
@@ -34,24 +34,24 @@ module _ {K V : Type 0} (c : Coding K V) (percent : ℕ) (items : List (K × V))
   room = omega (arith, count-fresh (length items) percent P new, max_items-fresh (length items) percent P new, long items)
 
   -- all items by the insert of a view are all by that of the owned table
-  pub view_filled : (B : List ℕ) → IsFilled c.format (put_view c.format) P (encoded_all c items) B → IsFreshFilled c percent items B
-  view_filled B h =
+  pub view_inserted : (B : List ℕ) → IsAfterInserts c.format (insert_view c.format) P (encoded_all c items) B → IsFreshAfterInserts c percent items B
+  view_inserted B h =
       let F = c.format in
       let ps = encoded_all c items in
-      fresh_filled c percent items B P new (record {
+      fresh_inserted c percent items B P new (record {
         table = h.table;
-        runs = run-place_all F (put_owned F) (put_owned-PlacesBelow F) P ps valid fit room ∙ sym (run-place_all F (put_view F) (put_view-PlacesBelow F) P ps valid fit room) ∙ h.runs;
+        runs = run-place_all F (insert_owned F) (insert_owned-PlacesBelow F) P ps valid fit room ∙ sym (run-place_all F (insert_view F) (insert_view-PlacesBelow F) P ps valid fit room) ∙ h.runs;
         image = h.image;
         maps = h.maps;
         stays = h.stays;
       })
 
   -- none is refused
-  pub new_filled : (r : ℕ) (answer : Result (Unit {0}) Error) (B : List ℕ) → r ≤ length items → IsOk answer ↔ (r ≡ length items)
-      → IsFilled c.format (put_view c.format) P (encoded_all c (take r items)) B → ((Q : Table) → IsImage c.format Q B → OnErr answer (IsRefusedAt c Q items r)) → IsFreshFilled c percent items B
-  new_filled r (Ok t) B bound all h refused =
-      view_filled B (subst (λ (xs : List (K × V)). IsFilled c.format (put_view c.format) P (encoded_all c xs) B) (take_all r items (let e = all.0 refl in omega (arith, e))) h)
-  new_filled r (Err e) B bound all h refused =
+  pub new_inserted : (r : ℕ) (answer : Result (Unit {0}) Error) (B : List ℕ) → r ≤ length items → IsOk answer ↔ (r ≡ length items)
+      → IsAfterInserts c.format (insert_view c.format) P (encoded_all c (take r items)) B → ((Q : Table) → IsImage c.format Q B → OnErr answer (IsRefusedAt c Q items r)) → IsFreshAfterInserts c percent items B
+  new_inserted r (Ok t) B bound all h refused =
+      view_inserted B (subst (λ (xs : List (K × V)). IsAfterInserts c.format (insert_view c.format) P (encoded_all c xs) B) (take_all r items (let e = all.0 refl in omega (arith, e))) h)
+  new_inserted r (Err e) B bound all h refused =
       let full = (refused h.table h.image).full in
       let less : r < length items = (let ne : r ≡ length items → ⊥ = λ same. true≢false (sym (all.1 same)) in omega (arith, bound, ne)) in
       let some : length (encoded_all c (take r items)) ≤ r = omega (arith, long (take r items), length-take r items) in
@@ -62,21 +62,21 @@ module _ {K V : Type 0} (c : Coding K V) (percent : ℕ) (items : List (K × V))
       absurd (omega (arith, full.0, same, stays.1, some, less, start, most))
 
   -- there is such a table
-  pub new_exists : (B : List ℕ) × (length B ≡ image_len c.format (slot_count P)) × IsFreshFilled c percent items B
+  pub new_exists : (B : List ℕ) × (length B ≡ image_len c.format (slot_count P)) × IsFreshAfterInserts c percent items B
   new_exists =
       let F = c.format in
       let ps = encoded_all c items in
-      let put = put_owned F in
-      let is = put_owned-IsInsert F in
-      let q = run-fits F put (put_owned-PlacesBelow F) P ps valid fit room in
-      let kept = run-keeps F (IsValid F) put is P q.0 ps valid fit q.1 in (
+      let insert = insert_owned F in
+      let is = insert_owned-IsInsert F in
+      let q = run-fits F insert (insert_owned-PlacesBelow F) P ps valid fit room in
+      let kept = run-keeps F (IsValid F) insert is P q.0 ps valid fit q.1 in (
         image F q.0,
         length-image F q.0 (IsSized-IsPlaced F q.0 kept.placed) ∙ ap (image_len F) q.2,
-        fresh_filled c percent items (image F q.0) P new (record {
+        fresh_inserted c percent items (image F q.0) P new (record {
           table = q.0;
           runs = q.1;
           image = record { valid = kept; bytes = refl };
-          maps = map_of-run F (IsValid F) put is P q.0 ps valid fit q.1;
-          stays = λ roomy. ((q.2, factor-run F (IsValid F) put is P q.0 ps valid fit q.1), count-run F (IsValid F) put is P q.0 ps valid fit q.1);
+          maps = map_of-run F (IsValid F) insert is P q.0 ps valid fit q.1;
+          stays = λ roomy. ((q.2, factor-run F (IsValid F) insert is P q.0 ps valid fit q.1), count-run F (IsValid F) insert is P q.0 ps valid fit q.1);
         }),
       )

@@ -8,13 +8,13 @@ use Rattle.odht_raw.specs.Refusals.{check_refusal}
 use Rattle.odht_raw.specs.declared.error.Error.{Error}
 use Rattle.odht_c.specs.Orders.{OrderAnswers}
 use Rattle.odht_c.specs.Statuses.{status_of, done, bad_lengths, unmade}
-use Rattle.odht_c.proofs.lemmas.Refused.{told, not_none}
+use Rattle.odht_c.proofs.lemmas.Refused.{known, not_none}
 
 module _ {K V : Type 0} (c : Coding K V) (B out : List ℕ) where
   -- of bytes that the whole check refuses
   pub refused_order : (a : Error) (s : ℕ) → check_refusal c.format B ≡ Some a → s ≡ status_of a → (IsValidBytes c.format B → ⊥) → OrderAnswers c B out s out
   refused_order a s is status invalid = record {
-    refused = λ e other. (status ∙ told _ a e is other, refl);
+    refused = λ e other. (status ∙ known _ a e is other, refl);
     lengths = λ P image other. absurd (invalid (P, image));
     made = λ P image long. absurd (invalid (P, image));
     unmade = λ P image long. absurd (invalid (P, image));

@@ -11,8 +11,8 @@ use Rattle.odht_c.specs.Writes.{InsertAnswers, InsertAllAnswers}
 use Rattle.odht_c.proofs.lemmas.Opened.{never_refused}
 
 -- one refusal has one status
-pub told : (o : Option Error) (a e : Error) → o ≡ Some a → o ≡ Some e → status_of a ≡ status_of e
-told o a e first second = let both : Some a ≡ Some e = sym first ∙ second in let one : a ≡ e = cc in ap status_of one
+pub known : (o : Option Error) (a e : Error) → o ≡ Some a → o ≡ Some e → status_of a ≡ status_of e
+known o a e first second = let both : Some a ≡ Some e = sym first ∙ second in let one : a ≡ e = cc in ap status_of one
 
 -- a refusal is not none
 pub not_none : {R : Type 0} (o : Option Error) (a : Error) → o ≡ Some a → o ≡ None → R
@@ -23,7 +23,7 @@ pub refused_sizes : (F : Format) (B : List ℕ) (a : Error) (s : ℕ) → Some a
 refused_sizes F B a s is status n m p = record {
   status = status ∙ ap status_or_ok is;
   refused = λ e other. (refl, refl, refl);
-  stated = λ none. not_none _ a (sym is) none;
+  by_header = λ none. not_none _ a (sym is) none;
   on_valid = λ P image. never_refused F P B a image (sym is);
 }
 
@@ -31,7 +31,7 @@ refused_sizes F B a s is status n m p = record {
 module _ {K V : Type 0} (c : Coding K V) (B : List ℕ) (a : Error) (s : ℕ) (is : Some a ≡ opening_refusal c.format B) (status : s ≡ status_of a) where
   pub refused_get : (k : K) (old : V) → GetAnswers c B k old s old
   refused_get k old = record {
-    refused = λ e other. (status ∙ told _ a e (sym is) other, refl);
+    refused = λ e other. (status ∙ known _ a e (sym is) other, refl);
     on_valid = λ P image. never_refused c.format P B a image (sym is);
     on_any = λ none. not_none _ a (sym is) none;
   }
@@ -39,7 +39,7 @@ module _ {K V : Type 0} (c : Coding K V) (B : List ℕ) (a : Error) (s : ℕ) (i
   pub refused_get_all : (keys : List K) (vs : List V) (fs : List ℕ) → AreAsLong (length keys) (length vs) (length fs) → GetAllAnswers c B keys vs fs s vs fs
   refused_get_all keys vs fs equal = record {
     lengths = λ other. absurd (other equal);
-    refused = λ e long other. (status ∙ told _ a e (sym is) other, refl, refl);
+    refused = λ e long other. (status ∙ known _ a e (sym is) other, refl, refl);
     accepted = λ long none. not_none _ a (sym is) none;
     on_valid = λ P i key long image at. never_refused c.format P B a image (sym is);
     on_any = λ i key long none at. not_none _ a (sym is) none;
@@ -49,21 +49,21 @@ module _ {K V : Type 0} (c : Coding K V) (B : List ℕ) (a : Error) (s : ℕ) (i
   refused_len old = record {
     status = status ∙ ap status_or_ok is;
     refused = λ e other. refl;
-    stated = λ none. not_none _ a (sym is) none;
+    by_header = λ none. not_none _ a (sym is) none;
     on_valid = λ P image. never_refused c.format P B a image (sym is);
   }
 
   pub refused_walk : (at : ℕ) (ks : List K) (vs : List V) (n : ℕ) → length vs ≡ length ks → WalkAnswers c B at ks vs n s at ks vs n
   refused_walk at ks vs n equal = record {
     lengths = λ other. absurd (other equal);
-    refused = λ e long other. (status ∙ told _ a e (sym is) other, refl, refl, refl, refl);
+    refused = λ e long other. (status ∙ known _ a e (sym is) other, refl, refl, refl, refl);
     on_valid = λ P long image. never_refused c.format P B a image (sym is);
     on_any = λ long none. not_none _ a (sym is) none;
   }
 
   pub refused_insert : (k : K) (v old : V) → InsertAnswers c B k v old s B old
   refused_insert k v old = record {
-    refused = λ e other. (status ∙ told _ a e (sym is) other, refl, refl);
+    refused = λ e other. (status ∙ known _ a e (sym is) other, refl, refl);
     on_valid = λ P image. never_refused c.format P B a image (sym is);
     on_any = λ none. not_none _ a (sym is) none;
   }
@@ -71,11 +71,11 @@ module _ {K V : Type 0} (c : Coding K V) (B : List ℕ) (a : Error) (s : ℕ) (i
   pub refused_insert_all : (keys : List K) (values : List V) (n : ℕ) → length values ≡ length keys → InsertAllAnswers c B keys values n s B n
   refused_insert_all keys values n equal = record {
     lengths = λ other. absurd (other equal);
-    refused = λ e long other. (status ∙ told _ a e (sym is) other, refl, refl);
+    refused = λ e long other. (status ∙ known _ a e (sym is) other, refl, refl);
     bound = λ long none. not_none _ a (sym is) none;
     all = λ long none. not_none _ a (sym is) none;
     some = λ long none. not_none _ a (sym is) none;
-    filled = λ P long image. never_refused c.format P B a image (sym is);
+    inserted = λ P long image. never_refused c.format P B a image (sym is);
     framed = λ long none. not_none _ a (sym is) none;
     at_maximum = λ P long none. not_none _ a (sym is) none;
     stopped = λ long none. not_none _ a (sym is) none;

@@ -4,19 +4,19 @@ use Rattle.std.proofs.Math.Seq.{take-append_seam}
 use Rattle.std.proofs.lemmas.List.{length-map, drop-map, drop_all, drop_at}
 use Rattle.std.specs.Prelude.{filter_map}
 use Rattle.odht_base.specs.Format.{entry_len}
-use Rattle.odht_base.specs.Shown.{shown, stated_slots, entries_of, controls_of}
+use Rattle.odht_base.specs.Decoded.{decoded_table, header_slots, entries_of, controls_of}
 use Rattle.odht_base.specs.SlotWalks.{walk_from, slots_from}
 use Rattle.odht_base.specs.Table.{Pair, Table, slot_count, is_free}
 use Rattle.odht_base.specs.Valid.{IsImage}
 use Rattle.odht_base.proofs.lemmas.Fits.{IsSized-IsPlaced}
-use Rattle.odht_base.proofs.lemmas.Image.{stated_slots-image}
+use Rattle.odht_base.proofs.lemmas.Image.{header_slots-image}
 use Rattle.odht_base.proofs.lemmas.SlotWalks.{pairs-slots_from, walk_from-goes_on, holds_there}
 use Rattle.odht_raw.specs.Coding.{Coding}
 use Rattle.odht_raw.specs.Frame.{IsAccepted}
 use Rattle.odht_raw.specs.Refusals.{opening_refusal}
 use Rattle.odht_raw.specs.Walks.{decoded, decoded_all, decoded_slots}
 use Rattle.odht_raw.proofs.lemmas.Accepted.{accepted_len}
-use Rattle.odht_raw.proofs.lemmas.SlotFits.{length-shown_cells}
+use Rattle.odht_raw.proofs.lemmas.SlotFits.{length-decoded_cells}
 use Rattle.odht_c.specs.Walks.{IsWalked, WalkAnswers}
 use Rattle.odht_c.specs.Statuses.{done, too_small}
 use Rattle.odht_c.proofs.lemmas.Refused.{not_none}
@@ -79,7 +79,7 @@ module _ {K V : Type 0} (c : Coding K V) (P : Table) (at : ℕ) (all ys zs : Lis
   walked_all end at' past = (
       let none : length zs ≡ 0 = ap length end in
       record {
-        told = omega (arith, size, none, fits);
+        known = omega (arith, size, none, fits);
         keys = keys_are;
         values = values_are;
         left = ap (filter_map (λ c. c)) (drop_all at' P.cells (omega (arith, past))) ∙ sym (drop_all n (walk_from P at) (omega (arith, size, none)));
@@ -95,7 +95,7 @@ module _ {K V : Type 0} (c : Coding K V) (P : Table) (at : ℕ) (all ys zs : Lis
       sym (drop-map (λ (x : ℕ × Pair). (x.0, decoded c x.1)) n (slots_from P at)) ∙ ap (drop n) (sym is ∙ steps) ∙ drop_at ys zs n (sym long) ∙ next in
       let there = first_slot c (drop n (slots_from P at)) slot pair rest behind in
       record {
-        told = omega (arith, size, some, fits, full);
+        known = omega (arith, size, some, fits, full);
         keys = keys_are;
         values = values_are;
         left = walk_from-goes_on P at n slot there.0 there.1 there.2;
@@ -104,20 +104,20 @@ module _ {K V : Type 0} (c : Coding K V) (P : Table) (at : ℕ) (all ys zs : Lis
       })
 
 -- the slots that accepted bytes show are as many as they state
-shown-slots : {K V : Type 0} (c : Coding K V) (B : List ℕ) → IsAccepted c.format B → slot_count (shown c.format B) ≡ stated_slots B
-shown-slots c B is =
-    let long : length (controls_of c.format B) ≡ length B - (32 + stated_slots B * entry_len c.format) = length-drop (32 + stated_slots B * entry_len c.format) B in
-    length-shown_cells c.format (entries_of c.format B) (controls_of c.format B) ∙ omega (arith, long, accepted_len c.format B is)
+decoded_table-slots : {K V : Type 0} (c : Coding K V) (B : List ℕ) → IsAccepted c.format B → slot_count (decoded_table c.format B) ≡ header_slots B
+decoded_table-slots c B is =
+    let long : length (controls_of c.format B) ≡ length B - (32 + header_slots B * entry_len c.format) = length-drop (32 + header_slots B * entry_len c.format) B in
+    length-decoded_cells c.format (entries_of c.format B) (controls_of c.format B) ∙ omega (arith, long, accepted_len c.format B is)
 
 -- a walk over what a view of the bytes T gives tells of the bytes B of the caller
 pub accepted_walk : {K V : Type 0} (c : Coding K V) (B T : List ℕ) (all : List (ℕ × (K × V))) (at : ℕ) (ks : List K) (vs : List V) (n s at' : ℕ) (ks' : List K) (vs' : List V) (n' : ℕ)
     → length vs ≡ length ks → None ≡ opening_refusal c.format B → T ≡ B
-    → ((P : Table) → IsImage c.format P T → all ≡ decoded_slots c (slots_from P at)) → all ≡ decoded_slots c (slots_from (shown c.format T) at)
-    → ((P : Table) → all ≡ decoded_slots c (slots_from P at) → slot_count P ≡ stated_slots B → IsWalked c P at ks vs s at' ks' vs' n') → WalkAnswers c B at ks vs n s at' ks' vs' n'
+    → ((P : Table) → IsImage c.format P T → all ≡ decoded_slots c (slots_from P at)) → all ≡ decoded_slots c (slots_from (decoded_table c.format T) at)
+    → ((P : Table) → all ≡ decoded_slots c (slots_from P at) → slot_count P ≡ header_slots B → IsWalked c P at ks vs s at' ks' vs' n') → WalkAnswers c B at ks vs n s at' ks' vs' n'
 accepted_walk c B T all at ks vs n s at' ks' vs' n' equal none same valid any walked = record {
   lengths = λ other. absurd (other equal);
   refused = λ e long is. not_none _ e is (sym none);
   on_valid = λ P long is. walked P (valid P (subst (IsImage c.format P) (sym same) is))
-      (sym (ap stated_slots is.bytes ∙ stated_slots-image c.format P (IsSized-IsPlaced c.format P is.valid.placed)));
-  on_any = λ long is. walked (shown c.format B) (any ∙ ap (λ X. decoded_slots c (slots_from (shown c.format X) at)) same) (shown-slots c B is);
+      (sym (ap header_slots is.bytes ∙ header_slots-image c.format P (IsSized-IsPlaced c.format P is.valid.placed)));
+  on_any = λ long is. walked (decoded_table c.format B) (any ∙ ap (λ X. decoded_slots c (slots_from (decoded_table c.format X) at)) same) (decoded_table-slots c B is);
 }

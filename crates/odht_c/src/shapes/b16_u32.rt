@@ -49,8 +49,8 @@ pub extern "C" fn odht_b16_u32_init(
     ensures { InitAnswers ⟦<Shape as Coded>⟧.coding max_item_count max_load_factor_percent
         bytes.old result bytes.new }
 {
-    let mut place = BorrowedMut::new(bytes);
-    write::init::<Shape, BorrowedMut<'_>>(&mut place, max_item_count, max_load_factor_percent)
+    let mut store = BorrowedMut::new(bytes);
+    write::init::<Shape, BorrowedMut<'_>>(&mut store, max_item_count, max_load_factor_percent)
 }
 
 /// 0 where a view accepts the bytes, or the number of the first refusal: of too few bytes, of the header, of the
@@ -63,7 +63,7 @@ pub extern "C" fn odht_b16_u32_open(bytes: &[u8]) -> u32
 }
 
 /// 0 exactly where the bytes are valid, or the number of the first refusal of the whole check, 1 to 16. One pass over
-/// the slots, and for each filled one the control bytes of its key's probe order up to it.
+/// the slots, and for each occupied one the control bytes of its key's probe order up to it.
 #[unsafe(no_mangle)]
 pub extern "C" fn odht_b16_u32_check(bytes: &[u8]) -> u32
     ensures { result ≡ status_or_ok (check_refusal ⟦<Shape as Coded>⟧.coding.format bytes.now) }
@@ -86,8 +86,8 @@ pub extern "C" fn odht_b16_u32_insert(
     ensures accepted { let F = ⟦<Shape as Coded>⟧.coding.format
         in IsAccepted F bytes.old → IsAccepted F bytes.new }
 {
-    let mut place = BorrowedMut::new(bytes);
-    write::insert::<Shape, BorrowedMut<'_>>(&mut place, key, &value, former)
+    let mut store = BorrowedMut::new(bytes);
+    write::insert::<Shape, BorrowedMut<'_>>(&mut store, key, &value, former)
 }
 
 /// Inserts pairs, the key and the value at each index, in their order: status 0, or `FULL` at the first that is
@@ -108,8 +108,8 @@ pub extern "C" fn odht_b16_u32_insert_all(
     if values.len() != keys.len() {
         return BAD_LENGTHS;
     }
-    let mut place = BorrowedMut::new(bytes);
-    write::insert_all::<Shape, BorrowedMut<'_>>(&mut place, keys, values, accepted)
+    let mut store = BorrowedMut::new(bytes);
+    write::insert_all::<Shape, BorrowedMut<'_>>(&mut store, keys, values, accepted)
 }
 
 /// The value of a key, written to `value`: status 0. `ABSENT` where there is none, or a refusal of the header or
@@ -236,7 +236,7 @@ pub extern "C" fn odht_b16_u32_view_len(view: &View<'_>) -> usize
     view::table::<Shape>(view).len()
 }
 
-/// The filled slots in an order in which inserts make the table, written to `out`, which has a place for each item:
+/// The occupied slots in an order in which inserts make the table, written to `out`, which has a place for each item:
 /// status 0. Their pairs, inserted in this order into an empty table of as many slots and the same load factor, leave
 /// these very bytes. `UNMADE` where no list of inserts makes the table: then `out` holds numbers that say nothing.
 /// The number of the first refusal of the whole check, 1 to 16, or `BAD_LENGTHS` where `out` has not as many places as

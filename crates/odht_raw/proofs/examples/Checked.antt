@@ -4,7 +4,7 @@ use Rattle.odht_base.specs.Bytes.{overwritten_at}
 use Rattle.odht_base.specs.Numbers.{le_bytes}
 use Rattle.odht_base.specs.Search.{stops_at}
 use Rattle.odht_base.proofs.examples.Configs.{direct_config}
-use Rattle.odht_raw.specs.Checks.{cells_of, pairs_shown, IsFitting, IsSlotHash, ArePassed}
+use Rattle.odht_raw.specs.Checks.{cells_of, decoded_count, IsFitting, IsSlotHash, ArePassed}
 use Rattle.odht_raw.specs.Parts.{TableParts}
 use Rattle.odht_raw.proofs.lemmas.FirstErrors.{not-true}
 use Rattle.std.proofs.lemmas.Option.{none-some}
@@ -22,9 +22,9 @@ abbrev two : List ℕ
 two = set (set (set (set (replicate 32 255) 5 0) 6 0) 21 0) 22 0
 
 -- both are shown, and no slot is refused, nor the mirror
-pub two_shown : (pairs_shown direct_config (parts two) ≡ 2) × IsFitting direct_config (parts two)
+pub two_decoded : (decoded_count direct_config (parts two) ≡ 2) × IsFitting direct_config (parts two)
 unfolding opened
-two_shown = (refl, record { slots = refl; mirror = refl })
+two_decoded = (refl, record { slots = refl; mirror = refl })
 
 -- a wrong tag, a free slot with an entry, and another mirror do not fit
 pub unfitting_refused : (IsFitting direct_config (parts (set (set two 5 1) 21 1)) → ⊥)
@@ -34,7 +34,7 @@ unfolding opened
 unfitting_refused =
     (λ h. none-some _ (sym h.slots), λ h. none-some _ (sym h.slots), λ h. none-some _ (sym h.mirror))
 
--- a filled slot has its key's hash, and a free one none
+-- an occupied slot has its key's hash, and a free one none
 pub hashes : IsSlotHash direct_config (parts two) 5 (Some 5) × IsSlotHash direct_config (parts two) 4 None
 unfolding opened
 hashes = ((refl, refl), refl)

@@ -4,23 +4,23 @@ use Rattle.std.specs.List.{range_with_len, list_all}
 use Rattle.odht_base.specs.Bytes.{overwritten_at}
 use Rattle.odht_base.specs.Format.{Format}
 use Rattle.odht_base.specs.Numbers.{le_bytes}
-use Rattle.odht_base.specs.Shown.{controls_of, counts_as_free, key_at, value_at, slot_key}
+use Rattle.odht_base.specs.Decoded.{controls_of, counts_as_free, key_at, value_at, slot_key}
 use Rattle.odht_base.specs.Table.{Pair}
 use Rattle.odht_base.specs.Writes.{with_value, with_pair, with_count}
 use Rattle.odht_base.proofs.examples.Configs.{test_config, direct_config, pair32}
-use Rattle.odht_raw.specs.Frame.{InsertFrame, PartsFrame, CountsAsFree, CountsAsFilled, HasNoFree, HasNoFreeSlot}
+use Rattle.odht_raw.specs.Frame.{InsertFrame, PartsFrame, CountsAsFree, CountsAsOccupied, HasNoFree, HasNoFreeSlot}
 use Rattle.odht_raw.specs.Refusals.{lists_differ}
 use Rattle.odht_raw.specs.declared.error.Error.{Error}
 use Rattle.odht_raw.specs.declared.error.Error.TheVariants.{Full, TooShort}
 use Rattle.odht_raw.proofs.examples.Apart.{unequal_lists, tested, untrue, neither}
 use Rattle.odht_raw.proofs.examples.Opened.{opened}
 use Rattle.odht_raw.proofs.examples.Refused.{test_bytes}
-use Rattle.odht_raw.proofs.examples.Invalid.{all_filled}
+use Rattle.odht_raw.proofs.examples.Invalid.{all_occupied}
 
 -- ---- Full
--- a free slot whose mirror is free too does not count as filled
+-- a free slot whose mirror is free too does not count as occupied
 pub free_slot_refused : (ctrl : List ℕ) (i : ℕ) → counts_as_free (slice_index ctrl i) ≡ true
-    → counts_as_free (slice_index ctrl (length ctrl - 16 + i)) ≡ true → CountsAsFilled ctrl i → ⊥
+    → counts_as_free (slice_index ctrl (length ctrl - 16 + i)) ≡ true → CountsAsOccupied ctrl i → ⊥
 free_slot_refused ctrl i own mirror (inl e) = true≢false (sym own ∙ e)
 free_slot_refused ctrl i own mirror (inr (low, e)) = true≢false (sym mirror ∙ e)
 
@@ -61,36 +61,36 @@ unadded_at_maximum p o D (InsertFrame.added i low free room) e = omega (arith, r
 pub entry_at_maximum_refused : (p : Pair) (D : List ℕ) → InsertFrame test_config at_maximum p (Ok None) D → ⊥
 entry_at_maximum_refused p D h = unadded_at_maximum p None D h refl
 
--- ---- a new entry in a filled slot
+-- ---- a new entry in an occupied slot
 -- sixteen control bytes of 0 with their mirror
-abbrev pub filled_controls : List ℕ
-filled_controls = replicate 32 0
+abbrev pub occupied_controls : List ℕ
+occupied_controls = replicate 32 0
 
 -- none of these slots counts as free
-filled_slots : (i : ℕ) → i < 16 → CountsAsFree filled_controls i → ⊥
-filled_slots i low (inl e) = untrue (λ j. counts_as_free (slice_index filled_controls j)) 16 i refl low e
-filled_slots i low (inr (small, e)) = untrue (λ j. counts_as_free (slice_index filled_controls (16 + j))) 16 i refl low e
+occupied_slots : (i : ℕ) → i < 16 → CountsAsFree occupied_controls i → ⊥
+occupied_slots i low (inl e) = untrue (λ j. counts_as_free (slice_index occupied_controls j)) 16 i refl low e
+occupied_slots i low (inr (small, e)) = untrue (λ j. counts_as_free (slice_index occupied_controls (16 + j))) 16 i refl low e
 
 -- what is answered where each slot is filled is no None
-unadded_where_filled : (p : Pair) (o : Option (List ℕ)) (D : List ℕ) → InsertFrame direct_config (all_filled 0) p (Ok o) D → o ≡ None → ⊥
+unadded_where_occupied : (p : Pair) (o : Option (List ℕ)) (D : List ℕ) → InsertFrame direct_config (all_occupied 0) p (Ok o) D → o ≡ None → ⊥
 unfolding opened
-unadded_where_filled p o D (InsertFrame.overwrote i low same) e = absurd cc
-unadded_where_filled p o D (InsertFrame.added i low free room) e = filled_slots i low free
+unadded_where_occupied p o D (InsertFrame.overwrote i low same) e = absurd cc
+unadded_where_occupied p o D (InsertFrame.added i low free room) e = occupied_slots i low free
 
 -- no entry is added where every slot is filled, though the stated count is 0
-pub entry_in_filled_slot_refused : (p : Pair) (D : List ℕ) → InsertFrame direct_config (all_filled 0) p (Ok None) D → ⊥
-entry_in_filled_slot_refused p D h = unadded_where_filled p None D h refl
+pub entry_in_occupied_slot_refused : (p : Pair) (D : List ℕ) → InsertFrame direct_config (all_occupied 0) p (Ok None) D → ⊥
+entry_in_occupied_slot_refused p D h = unadded_where_occupied p None D h refl
 
 -- nor for parts of which each slot is filled
 unadded_parts : (F : Format) (es : List ℕ) (p : Pair) (o : Option (List ℕ)) (es' ctrl' : List ℕ)
-    → PartsFrame F es filled_controls p (Ok o) es' ctrl' → o ≡ None → ⊥
+    → PartsFrame F es occupied_controls p (Ok o) es' ctrl' → o ≡ None → ⊥
 unadded_parts F es p o es' ctrl' (PartsFrame.overwrote i low same) e = absurd cc
-unadded_parts F es p o es' ctrl' (PartsFrame.added i low free) e = filled_slots i low free
+unadded_parts F es p o es' ctrl' (PartsFrame.added i low free) e = occupied_slots i low free
 
 -- nor in parts of which every slot is filled
-pub parts_entry_in_filled_slot_refused : (F : Format) (es : List ℕ) (p : Pair) (es' ctrl' : List ℕ)
-    → PartsFrame F es filled_controls p (Ok None) es' ctrl' → ⊥
-parts_entry_in_filled_slot_refused F es p es' ctrl' h = unadded_parts F es p None es' ctrl' h refl
+pub parts_entry_in_occupied_slot_refused : (F : Format) (es : List ℕ) (p : Pair) (es' ctrl' : List ℕ)
+    → PartsFrame F es occupied_controls p (Ok None) es' ctrl' → ⊥
+parts_entry_in_occupied_slot_refused F es p es' ctrl' h = unadded_parts F es p None es' ctrl' h refl
 
 -- ---- an overwrite of a key that no entry has
 absent_key : (o : Option (List ℕ)) (v D : List ℕ) → InsertFrame test_config test_bytes (pair32 1 2) (Ok o) D → o ≡ Some v → ⊥
@@ -107,26 +107,26 @@ overwrite_of_absent_key_refused v D h = absent_key (Some v) v D h refl
 -- ---- another byte
 -- the overwrite of 3 by 7, after which the bytes are D
 abbrev overwrites_three : Option (List ℕ) → List ℕ → Type 0
-overwrites_three o D = InsertFrame direct_config (all_filled 0) (pair32 3 7) (Ok o) D
+overwrites_three o D = InsertFrame direct_config (all_occupied 0) (pair32 3 7) (Ok o) D
 
 -- whether slot j has another key than 3, or its overwrite by 7 leaves other bytes than E, or its value is not v
 abbrev is_no_overwrite : List ℕ → List ℕ → ℕ → Bool
 is_no_overwrite v E j =
-    lists_differ (key_at direct_config (all_filled 0) j) (le_bytes 4 3)
-    || (lists_differ (with_value direct_config (all_filled 0) j (le_bytes 4 7)) E || lists_differ (value_at direct_config (all_filled 0) j) v)
+    lists_differ (key_at direct_config (all_occupied 0) j) (le_bytes 4 3)
+    || (lists_differ (with_value direct_config (all_occupied 0) j (le_bytes 4 7)) E || lists_differ (value_at direct_config (all_occupied 0) j) v)
 
 -- entries that no overwrite leaves are left by none of slot i
 other_overwrite : (o : Option (List ℕ)) (v D E : List ℕ) → list_all (is_no_overwrite v E) (range_with_len 0 16) ≡ true
     → overwrites_three o D → o ≡ Some v → D ≡ E → ⊥
 unfolding opened
 other_overwrite o v D E h (InsertFrame.overwrote i low same) e is =
-    let value : value_at direct_config (all_filled 0) i ≡ v = cc in
-    neither (lists_differ (key_at direct_config (all_filled 0) i) (le_bytes 4 3))
-    (lists_differ (with_value direct_config (all_filled 0) i (le_bytes 4 7)) E || lists_differ (value_at direct_config (all_filled 0) i) v)
-    (λ k. unequal_lists (key_at direct_config (all_filled 0) i) (le_bytes 4 3) k same)
-    (neither (lists_differ (with_value direct_config (all_filled 0) i (le_bytes 4 7)) E) (lists_differ (value_at direct_config (all_filled 0) i) v)
-    (λ k. unequal_lists (with_value direct_config (all_filled 0) i (le_bytes 4 7)) E k is)
-    (λ k. unequal_lists (value_at direct_config (all_filled 0) i) v k value))
+    let value : value_at direct_config (all_occupied 0) i ≡ v = cc in
+    neither (lists_differ (key_at direct_config (all_occupied 0) i) (le_bytes 4 3))
+    (lists_differ (with_value direct_config (all_occupied 0) i (le_bytes 4 7)) E || lists_differ (value_at direct_config (all_occupied 0) i) v)
+    (λ k. unequal_lists (key_at direct_config (all_occupied 0) i) (le_bytes 4 3) k same)
+    (neither (lists_differ (with_value direct_config (all_occupied 0) i (le_bytes 4 7)) E) (lists_differ (value_at direct_config (all_occupied 0) i) v)
+    (λ k. unequal_lists (with_value direct_config (all_occupied 0) i (le_bytes 4 7)) E k is)
+    (λ k. unequal_lists (value_at direct_config (all_occupied 0) i) v k value))
     (tested (is_no_overwrite v E) 16 i h low)
 other_overwrite o v D E h (InsertFrame.added i low free room) e is = absurd cc
 
@@ -136,7 +136,7 @@ left_by_none v E t h = other_overwrite (Some v) v E E t h refl refl
 
 -- the bytes with 3 overwritten by 7, and then the bytes d written from `at` on
 abbrev overwritten_and : ℕ → List ℕ → List ℕ
-overwritten_and at d = overwritten_at (overwritten_at (all_filled 0) 60 (7 ∷ [])) at d
+overwritten_and at d = overwritten_at (overwritten_at (all_occupied 0) 60 (7 ∷ [])) at d
 
 -- an overwrite changes no padding byte
 pub overwrite_of_padding_refused : (v : List ℕ) → overwrites_three (Some v) (overwritten_and 30 (1 ∷ [])) → ⊥
@@ -159,20 +159,20 @@ unfolding opened
 overwrite_of_neighbour_refused v h = left_by_none v (overwritten_and 68 (7 ∷ [])) refl h
 
 -- and it does not leave the bytes as they were, though slot 7 has the value 7
-pub unwritten_overwrite_refused : (v : List ℕ) → overwrites_three (Some v) (all_filled 0) → ⊥
+pub unwritten_overwrite_refused : (v : List ℕ) → overwrites_three (Some v) (all_occupied 0) → ⊥
 unfolding opened
-unwritten_overwrite_refused v h = left_by_none v (all_filled 0) refl h
+unwritten_overwrite_refused v h = left_by_none v (all_occupied 0) refl h
 
 -- and it does not take the slot of another key, here of 4
-pub overwrite_of_other_key_refused : (v : List ℕ) → overwrites_three (Some v) (overwritten_at (all_filled 0) 68 (7 ∷ [])) → ⊥
+pub overwrite_of_other_key_refused : (v : List ℕ) → overwrites_three (Some v) (overwritten_at (all_occupied 0) 68 (7 ∷ [])) → ⊥
 unfolding opened
-overwrite_of_other_key_refused v h = left_by_none v (overwritten_at (all_filled 0) 68 (7 ∷ [])) refl h
+overwrite_of_other_key_refused v h = left_by_none v (overwritten_at (all_occupied 0) 68 (7 ∷ [])) refl h
 
 -- and it answers the value that was there, not the new one
-pub new_value_as_former_refused : overwrites_three (Some (le_bytes 4 7)) (overwritten_at (all_filled 0) 60 (7 ∷ [])) → ⊥
+pub new_value_as_former_refused : overwrites_three (Some (le_bytes 4 7)) (overwritten_at (all_occupied 0) 60 (7 ∷ [])) → ⊥
 unfolding opened
 new_value_as_former_refused h =
-    left_by_none (le_bytes 4 7) (overwritten_at (all_filled 0) 60 (7 ∷ [])) refl h
+    left_by_none (le_bytes 4 7) (overwritten_at (all_occupied 0) 60 (7 ∷ [])) refl h
 
 -- a fresh table's bytes with 1 to 2 added in slot i and the count n
 abbrev with_one : ℕ → ℕ → List ℕ
@@ -226,11 +226,11 @@ unchanged F B p e D (InsertFrame.full full) = (refl, refl)
 unchanged F B p e D (InsertFrame.no_slot none) = (refl, refl)
 
 -- a refused insert writes nothing
-pub written_refusal_refused : InsertFrame direct_config (all_filled 13) (pair32 99 7) (Err Full) (overwritten_at (all_filled 13) 30 (1 ∷ [])) → ⊥
+pub written_refusal_refused : InsertFrame direct_config (all_occupied 13) (pair32 99 7) (Err Full) (overwritten_at (all_occupied 13) 30 (1 ∷ [])) → ⊥
 unfolding opened
 written_refusal_refused h =
-    unequal_lists (overwritten_at (all_filled 13) 30 (1 ∷ [])) (all_filled 13) refl
-    (unchanged direct_config (all_filled 13) (pair32 99 7) Full (overwritten_at (all_filled 13) 30 (1 ∷ [])) h).1
+    unequal_lists (overwritten_at (all_occupied 13) 30 (1 ∷ [])) (all_occupied 13) refl
+    (unchanged direct_config (all_occupied 13) (pair32 99 7) Full (overwritten_at (all_occupied 13) 30 (1 ∷ [])) h).1
 
 -- and answers no other error
 pub other_error_refused : (F : Format) (B : List ℕ) (p : Pair) (n : ℕ) (D : List ℕ) → InsertFrame F B p (Err (TooShort n)) D → ⊥
@@ -242,7 +242,7 @@ no_entries = replicate 128 0
 
 -- no value is overwritten where no slot has the key
 absent_from_parts : (o : Option (List ℕ)) (v es' ctrl' : List ℕ)
-    → PartsFrame test_config no_entries filled_controls (pair32 1 2) (Ok o) es' ctrl' → o ≡ Some v → ⊥
+    → PartsFrame test_config no_entries occupied_controls (pair32 1 2) (Ok o) es' ctrl' → o ≡ Some v → ⊥
 absent_from_parts o v es' ctrl' (PartsFrame.overwrote i low same) e =
     unequal_lists (slot_key test_config no_entries i) (le_bytes 4 1)
     (tested (λ j. lists_differ (slot_key test_config no_entries j) (le_bytes 4 1)) 16 i refl low) same
@@ -250,7 +250,7 @@ absent_from_parts o v es' ctrl' (PartsFrame.added i low free) e = absurd cc
 
 -- of parts too a key that no entry has is not answered with a value
 pub parts_overwrite_of_absent_key_refused : (v es' ctrl' : List ℕ)
-    → PartsFrame test_config no_entries filled_controls (pair32 1 2) (Ok (Some v)) es' ctrl' → ⊥
+    → PartsFrame test_config no_entries occupied_controls (pair32 1 2) (Ok (Some v)) es' ctrl' → ⊥
 parts_overwrite_of_absent_key_refused v es' ctrl' h = absent_from_parts (Some v) v es' ctrl' h refl
 
 -- an overwrite leaves the control bytes
@@ -261,9 +261,9 @@ kept_controls F es ctrl p o v es' ctrl' (PartsFrame.added i low free) e = absurd
 
 -- an overwrite of parts changes no control byte
 pub parts_overwrite_of_control_refused : (F : Format) (es : List ℕ) (p : Pair) (v es' : List ℕ)
-    → PartsFrame F es filled_controls p (Ok (Some v)) es' (set filled_controls 3 1) → ⊥
+    → PartsFrame F es occupied_controls p (Ok (Some v)) es' (set occupied_controls 3 1) → ⊥
 parts_overwrite_of_control_refused F es p v es' h =
-    unequal_lists (set filled_controls 3 1) filled_controls refl (kept_controls F es filled_controls p (Some v) v es' (set filled_controls 3 1) h refl)
+    unequal_lists (set occupied_controls 3 1) occupied_controls refl (kept_controls F es occupied_controls p (Some v) v es' (set occupied_controls 3 1) h refl)
 
 -- a refusal of parts is Full, and leaves them
 parts_unchanged : (F : Format) (es ctrl : List ℕ) (p : Pair) (e : Error) (es' ctrl' : List ℕ)
@@ -279,14 +279,14 @@ parts_written_refusal_refused F p ctrl ctrl' h =
 -- ---- the words for one slot and for all
 -- slot 5 alone free, by its own byte and its mirror
 abbrev pub slot_five_free : List ℕ
-slot_five_free = set (set filled_controls 5 255) 21 255
+slot_five_free = set (set occupied_controls 5 255) 21 255
 
 -- only the mirror of slot 5 free
 abbrev pub mirror_five_free : List ℕ
-mirror_five_free = set filled_controls 21 255
+mirror_five_free = set occupied_controls 21 255
 
 -- a slot counts as free by its own byte, and one below 16 by its mirror
-pub counted_as_free : CountsAsFree slot_five_free 5 × CountsAsFree (set filled_controls 5 255) 5 × CountsAsFree mirror_five_free 5
+pub counted_as_free : CountsAsFree slot_five_free 5 × CountsAsFree (set occupied_controls 5 255) 5 × CountsAsFree mirror_five_free 5
 counted_as_free = (inl refl, inl refl, inr (lit< tt, refl))
 
 -- not by the byte of another slot
@@ -294,22 +294,22 @@ pub neighbour_not_free : CountsAsFree slot_five_free 6 → ⊥
 neighbour_not_free (inl e) = true≢false (sym e)
 neighbour_not_free (inr (low, e)) = true≢false (sym e)
 
--- a slot counts as filled by its own byte, and one below 16 by its mirror
-pub counted_as_filled : CountsAsFilled slot_five_free 6 × CountsAsFilled mirror_five_free 5 × CountsAsFilled (set filled_controls 5 255) 5
-counted_as_filled = (inl refl, inl refl, inr (lit< tt, refl))
+-- a slot counts as occupied by its own byte, and one below 16 by its mirror
+pub counted_as_occupied : CountsAsOccupied slot_five_free 6 × CountsAsOccupied mirror_five_free 5 × CountsAsOccupied (set occupied_controls 5 255) 5
+counted_as_occupied = (inl refl, inl refl, inr (lit< tt, refl))
 
 -- not where both are free
-pub free_slot_not_filled : CountsAsFilled slot_five_free 5 → ⊥
-free_slot_not_filled h = free_slot_refused slot_five_free 5 refl refl h
+pub free_slot_not_occupied : CountsAsOccupied slot_five_free 5 → ⊥
+free_slot_not_occupied h = free_slot_refused slot_five_free 5 refl refl h
 
--- each of these control bytes counts as filled
-filled_bytes : (i : ℕ) → i < 16 → (b : Bool) → counts_as_free (slice_index filled_controls i) ≡ b → b ≡ false
-filled_bytes i low true e = absurd (untrue (λ j. counts_as_free (slice_index filled_controls j)) 16 i refl low e)
-filled_bytes i low false e = refl
+-- each of these control bytes counts as occupied
+occupied_bytes : (i : ℕ) → i < 16 → (b : Bool) → counts_as_free (slice_index occupied_controls i) ≡ b → b ≡ false
+occupied_bytes i low true e = absurd (untrue (λ j. counts_as_free (slice_index occupied_controls j)) 16 i refl low e)
+occupied_bytes i low false e = refl
 
 -- no byte is free where all are 0
-pub none_free : HasNoFree filled_controls 16
-none_free i low = filled_bytes i low (counts_as_free (slice_index filled_controls i)) refl
+pub none_free : HasNoFree occupied_controls 16
+none_free i low = occupied_bytes i low (counts_as_free (slice_index occupied_controls i)) refl
 
 -- one of sixteen is free
 pub one_free_refused : HasNoFree slot_five_free 16 → ⊥
@@ -325,14 +325,14 @@ pub none_of_five_free : HasNoFree slot_five_free 5
 none_of_five_free i low = first_bytes i low (counts_as_free (slice_index slot_five_free i)) refl
 
 -- no slot is free where all control bytes are 0
-pub no_free_slots : HasNoFreeSlot filled_controls 16
+pub no_free_slots : HasNoFreeSlot occupied_controls 16
 no_free_slots i low = inl (none_free i low)
 
 -- slot 5 of sixteen is free
 pub one_free_slot_refused : HasNoFreeSlot slot_five_free 16 → ⊥
-one_free_slot_refused h = free_slot_not_filled (h 5 (lit< tt))
+one_free_slot_refused h = free_slot_not_occupied (h 5 (lit< tt))
 
--- slot 16 of 32 has no mirror: free by its own byte it does not count as filled
-pub free_slot_without_mirror : CountsAsFilled (set (replicate 48 0) 16 255) 16 → ⊥
+-- slot 16 of 32 has no mirror: free by its own byte it does not count as occupied
+pub free_slot_without_mirror : CountsAsOccupied (set (replicate 48 0) 16 255) 16 → ⊥
 free_slot_without_mirror (inl e) = true≢false e
 free_slot_without_mirror (inr (low, e)) = omega (arith, low)

@@ -4,36 +4,36 @@ use Rattle.odht_base.specs.Numbers.{le_bytes, num}
 use Rattle.odht_base.specs.Bytes.{overwritten_at}
 use Rattle.odht_base.specs.Format.{Format}
 use Rattle.odht_base.specs.Image.{image}
-use Rattle.odht_base.specs.Shown.{stated_count, stated_slots}
+use Rattle.odht_base.specs.Decoded.{header_count, header_slots}
 use Rattle.odht_base.specs.Table.{Pair}
 use Rattle.odht_base.specs.Writes.{with_pair, with_count}
 use Rattle.odht_base.proofs.examples.Configs.{test_config, direct_config, pair32, view_of}
 use Rattle.odht_raw.proofs.examples.Opened.{opened}
 use Rattle.odht_raw.proofs.examples.Refused.{test_bytes}
-use Rattle.odht_raw.proofs.examples.Invalid.{count_of_five, all_filled}
+use Rattle.odht_raw.proofs.examples.Invalid.{count_of_five, all_occupied}
 use Rattle.odht_raw.specs.Frame.{InsertFrame, IsBytesFramed}
 use Rattle.odht_raw.specs.declared.error.Error.TheVariants.{Full}
 
 -- at the stated maximum of thirteen key 99 may be refused
-pub refused : InsertFrame direct_config (all_filled 13) (pair32 99 7) (Err Full) (all_filled 13)
+pub refused : InsertFrame direct_config (all_occupied 13) (pair32 99 7) (Err Full) (all_occupied 13)
 unfolding opened
 refused = InsertFrame.full (lit≤ tt)
 
 -- and 3 overwritten by 7, which changes byte 60 alone
-pub overwritten_value : InsertFrame direct_config (all_filled 0) (pair32 3 7) (Ok (Some (le_bytes 4 3))) (overwritten_at (all_filled 0) 60 (7 ∷ []))
+pub overwritten_value : InsertFrame direct_config (all_occupied 0) (pair32 3 7) (Ok (Some (le_bytes 4 3))) (overwritten_at (all_occupied 0) 60 (7 ∷ []))
 unfolding opened
 overwritten_value = InsertFrame.overwrote 3 (lit< tt) refl
 
 -- the bytes B with the pair p added in slot i
 abbrev added_bytes : Format → List ℕ → ℕ → Pair → List ℕ
-added_bytes F B i p = with_count (with_pair F (stated_slots B) B i p) (stated_count B + 1)
+added_bytes F B i p = with_count (with_pair F (header_slots B) B i p) (header_count B + 1)
 
 -- a wrong count of 5 rises to 6
 pub added_pair : InsertFrame test_config count_of_five (pair32 1 2) (Ok None) (added_bytes test_config count_of_five 5 (pair32 1 2))
 unfolding opened
 added_pair = InsertFrame.added 5 (lit< tt) (inl refl) (lit< tt)
 
-pub added_count : stated_count (added_bytes test_config count_of_five 5 (pair32 1 2)) ≡ 6
+pub added_count : header_count (added_bytes test_config count_of_five 5 (pair32 1 2)) ≡ 6
 unfolding opened
 added_count = refl
 
@@ -50,7 +50,7 @@ unfolding opened
 then_valid = refl
 
 -- the former value is told as it is decoded, here as a number
-pub decoded_value : IsBytesFramed direct_config num (all_filled 0) (pair32 3 7) (Ok (Some 3)) (overwritten_at (all_filled 0) 60 (7 ∷ []))
+pub decoded_value : IsBytesFramed direct_config num (all_occupied 0) (pair32 3 7) (Ok (Some 3)) (overwritten_at (all_occupied 0) 60 (7 ∷ []))
 unfolding opened
 decoded_value = (Ok (Some (le_bytes 4 3)), refl, overwritten_value)
 

@@ -8,7 +8,7 @@ use Rattle.odht_base.specs.Load.{factor_of}
 use Rattle.odht_base.specs.Table.{Table}
 use Rattle.odht_base.specs.Image.{image}
 use Rattle.odht_base.specs.Search.{groups_read}
-use Rattle.odht_base.specs.Shown.{shown, seen, stated_count}
+use Rattle.odht_base.specs.Decoded.{decoded_table, decoded_pairs, header_count}
 use Rattle.odht_base.proofs.examples.Configs.{my_config, test_config, direct_config, pair32, owned_of}
 use Rattle.odht_base.proofs.examples.Tables.{three_pairs}
 use Rattle.odht_base.proofs.examples.Unmade.{unmade}
@@ -35,7 +35,7 @@ free_byte_128 = refl
 abbrev pub count_of_five : List ℕ
 count_of_five = overwritten_at test_bytes 8 (5 ∷ [])
 
-pub wrong_count : (both count_of_five ≡ (None, Some (WrongItemCount 5 0))) × (stated_count count_of_five ≡ 5) × (seen test_config count_of_five ≡ [])
+pub wrong_count : (both count_of_five ≡ (None, Some (WrongItemCount 5 0))) × (header_count count_of_five ≡ 5) × (decoded_pairs test_config count_of_five ≡ [])
 unfolding opened
 wrong_count = (refl, refl, refl)
 
@@ -47,19 +47,19 @@ small_factor = (refl, refl)
 
 -- a mirror byte that its slot has not, and a padding
 pub wrong_mirror : (both (overwritten_at test_bytes 176 (5 ∷ [])) ≡ (None, Some (MirrorMismatch 0)))
-    × (seen test_config (overwritten_at test_bytes 176 (5 ∷ [])) ≡ [])
+    × (decoded_pairs test_config (overwritten_at test_bytes 176 (5 ∷ [])) ≡ [])
     × (both (overwritten_at test_bytes 31 (1 ∷ [])) ≡ (None, Some (NonZeroPadding (0 ∷ 1 ∷ []))))
 unfolding opened
 wrong_mirror = (refl, refl, refl)
 
--- sixteen filled slots of sixteen, with the count c
-abbrev pub all_filled : ℕ → List ℕ
-all_filled c = overwritten_at (image direct_config (record { factor = factor_of 87; cells = map (λ i. Some (pair32 i i)) (range_with_len 0 16) })) 8 (le_bytes 8 c)
+-- sixteen occupied slots of sixteen, with the count c
+abbrev pub all_occupied : ℕ → List ℕ
+all_occupied c = overwritten_at (image direct_config (record { factor = factor_of 87; cells = map (λ i. Some (pair32 i i)) (range_with_len 0 16) })) 8 (le_bytes 8 c)
 
-pub no_free_slot : (view_refusal direct_config (all_filled 13) ≡ None)
-    × (check_refusal direct_config (all_filled 13) ≡ Some (WrongItemCount 13 16))
-    × (check_refusal direct_config (all_filled 16) ≡ Some (TooManyItems 16 13))
-    × (groups_read direct_config (shown direct_config (all_filled 13)).cells (le_bytes 4 99) ≡ 1)
+pub no_free_slot : (view_refusal direct_config (all_occupied 13) ≡ None)
+    × (check_refusal direct_config (all_occupied 13) ≡ Some (WrongItemCount 13 16))
+    × (check_refusal direct_config (all_occupied 16) ≡ Some (TooManyItems 16 13))
+    × (groups_read direct_config (decoded_table direct_config (all_occupied 13)).cells (le_bytes 4 99) ≡ 1)
 unfolding opened
 no_free_slot = (refl, refl, refl, refl)
 

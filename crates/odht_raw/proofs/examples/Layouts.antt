@@ -1,13 +1,13 @@
 -- Worked examples: how large a new table is, and which keys bytes hold.
 use Rattle.std.proofs.Common.{refl, lit<, lit≤, arith}
 use Rattle.odht_base.specs.Numbers.{le_bytes}
-use Rattle.odht_base.specs.Shown.{key_at, HoldsKey}
+use Rattle.odht_base.specs.Decoded.{key_at, HoldsKey}
 use Rattle.odht_base.proofs.examples.Configs.{test_config, direct_config}
 use Rattle.odht_base.proofs.examples.Numbers.{least_slots}
 use Rattle.odht_raw.specs.Layouts.{IsLayout}
 use Rattle.odht_raw.specs.Refusals.{lists_differ}
 use Rattle.odht_raw.proofs.examples.Apart.{unequal_lists, tested}
-use Rattle.odht_raw.proofs.examples.Invalid.{all_filled}
+use Rattle.odht_raw.proofs.examples.Invalid.{all_occupied}
 use Rattle.odht_raw.proofs.examples.Opened.{opened}
 
 -- thirteen items at 87 percent: sixteen slots, 192 bytes
@@ -24,13 +24,13 @@ other_layouts_refused = (
 )
 
 -- bytes hold the key of an entry, also where no control byte tells of it
-pub held : HoldsKey direct_config (all_filled 0) (le_bytes 4 3)
+pub held : HoldsKey direct_config (all_occupied 0) (le_bytes 4 3)
 unfolding opened
 held = (3, lit< tt, refl)
 
 -- and none that is in no entry
-pub absent_refused : HoldsKey direct_config (all_filled 0) (le_bytes 4 99) → ⊥
+pub absent_refused : HoldsKey direct_config (all_occupied 0) (le_bytes 4 99) → ⊥
 unfolding opened
 absent_refused (i, low, same) =
-    unequal_lists (key_at direct_config (all_filled 0) i) (le_bytes 4 99)
-    (tested (λ j. lists_differ (key_at direct_config (all_filled 0) j) (le_bytes 4 99)) 16 i refl low) same
+    unequal_lists (key_at direct_config (all_occupied 0) i) (le_bytes 4 99)
+    (tested (λ j. lists_differ (key_at direct_config (all_occupied 0) j) (le_bytes 4 99)) 16 i refl low) same

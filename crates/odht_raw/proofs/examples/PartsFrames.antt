@@ -9,7 +9,7 @@ use Rattle.odht_base.proofs.examples.Configs.{test_config, pair32}
 use Rattle.odht_raw.specs.Frame.{PartsFrame}
 use Rattle.odht_raw.specs.Refusals.{lists_differ}
 use Rattle.odht_raw.proofs.examples.Apart.{unequal_lists, tested, neither}
-use Rattle.odht_raw.proofs.examples.FrameRefusals.{filled_controls, no_entries, slot_five_free}
+use Rattle.odht_raw.proofs.examples.FrameRefusals.{occupied_controls, no_entries, slot_five_free}
 use Rattle.odht_raw.proofs.examples.Opened.{opened}
 
 -- the entry of 1 in slot 5, beside a value below 256
@@ -17,12 +17,12 @@ abbrev one_beside : ℕ → List ℕ
 one_beside value = overwritten_at no_entries 40 (1 ∷ 0 ∷ 0 ∷ 0 ∷ value ∷ [])
 
 -- the value beside 1 is overwritten
-pub overwritten : PartsFrame test_config (one_beside 3) filled_controls (pair32 1 7) (Ok (Some (le_bytes 4 3))) (one_beside 7) filled_controls
+pub overwritten : PartsFrame test_config (one_beside 3) occupied_controls (pair32 1 7) (Ok (Some (le_bytes 4 3))) (one_beside 7) occupied_controls
 unfolding opened
 overwritten = PartsFrame.overwrote 5 (lit< tt) refl
 
 -- 1 to 2 goes into the free slot 5, with its tag 19 and the mirror
-pub added : PartsFrame test_config no_entries slot_five_free (pair32 1 2) (Ok None) (one_beside 2) (set (set filled_controls 5 19) 21 19)
+pub added : PartsFrame test_config no_entries slot_five_free (pair32 1 2) (Ok None) (one_beside 2) (set (set occupied_controls 5 19) 21 19)
 unfolding opened
 added = PartsFrame.added 5 (lit< tt) (inl refl)
 
@@ -45,9 +45,9 @@ left_by_none es ctrl others h = go None es ctrl h refl refl refl
         (tested (leaves_others es ctrl) 16 i others low)
 
 -- with another value, another tag or no mirror, or a second entry, they are not
-pub others_refused : (PartsFrame test_config no_entries slot_five_free (pair32 1 2) (Ok None) (one_beside 3) (set (set filled_controls 5 19) 21 19) → ⊥)
-    × (PartsFrame test_config no_entries slot_five_free (pair32 1 2) (Ok None) (one_beside 2) (set (set filled_controls 5 20) 21 20) → ⊥)
-    × (PartsFrame test_config no_entries slot_five_free (pair32 1 2) (Ok None) (one_beside 2) (set (set filled_controls 5 19) 21 255) → ⊥)
-    × (PartsFrame test_config no_entries slot_five_free (pair32 1 2) (Ok None) (overwritten_at (one_beside 2) 48 (1 ∷ [])) (set (set filled_controls 5 19) 21 19) → ⊥)
+pub others_refused : (PartsFrame test_config no_entries slot_five_free (pair32 1 2) (Ok None) (one_beside 3) (set (set occupied_controls 5 19) 21 19) → ⊥)
+    × (PartsFrame test_config no_entries slot_five_free (pair32 1 2) (Ok None) (one_beside 2) (set (set occupied_controls 5 20) 21 20) → ⊥)
+    × (PartsFrame test_config no_entries slot_five_free (pair32 1 2) (Ok None) (one_beside 2) (set (set occupied_controls 5 19) 21 255) → ⊥)
+    × (PartsFrame test_config no_entries slot_five_free (pair32 1 2) (Ok None) (overwritten_at (one_beside 2) 48 (1 ∷ [])) (set (set occupied_controls 5 19) 21 19) → ⊥)
 unfolding opened
 others_refused = (left_by_none _ _ refl, left_by_none _ _ refl, left_by_none _ _ refl, left_by_none _ _ refl)

@@ -11,15 +11,15 @@ use Rattle.odht_base.specs.Valid.{IsPartsOf, IsFullWithout}
 use Rattle.odht_base.proofs.examples.Configs.{direct_config, pair32}
 use Rattle.odht_base.proofs.lemmas.Options.{some_same}
 use Rattle.odht_base.proofs.lemmas.Placed.{IsPlaced-tests}
-use Rattle.odht_raw.specs.Answers.{answer, IsWherePlaced}
+use Rattle.odht_raw.specs.SearchResults.{answer, IsWherePlaced}
 use Rattle.odht_raw.specs.Frame.{PartsFrame, IsPartsFramed}
 use Rattle.odht_raw.specs.PartsInserts.{ArePartsPlaced, IsPlacing, IsChange}
 use Rattle.odht_raw.specs.declared.error.Error.{Error}
 use Rattle.odht_raw.specs.declared.error.Error.TheVariants.{Full, TooShort}
-use Rattle.odht_raw.specs.declared.raw_table.outcome.Search.TheVariants.{Found, Free, Neither}
+use Rattle.odht_raw.specs.declared.raw_table.search_result.SearchResult.TheVariants.{Found, Free, Neither}
 use Rattle.odht_raw.proofs.lemmas.FirstErrors.{not-true}
 use Rattle.odht_raw.proofs.examples.Apart.{told_apart, unequal_lists, tested}
-use Rattle.odht_raw.proofs.examples.FrameRefusals.{filled_controls, no_entries, no_free_slots, parts_entry_in_filled_slot_refused}
+use Rattle.odht_raw.proofs.examples.FrameRefusals.{occupied_controls, no_entries, no_free_slots, parts_entry_in_occupied_slot_refused}
 use Rattle.odht_raw.proofs.examples.Invalid.{fives_at}
 use Rattle.odht_raw.proofs.examples.Opened.{opened}
 
@@ -55,9 +55,9 @@ unfolding opened
 found_second_copy_refused (has, goes) =
     told_apart (λ o. option_map_or (λ (P : Table). option_map_or (λ (p : Pair). bytes_eq p.value []) (cell_at P.cells 6) false) o false) _ _ refl refl (sym (goes []))
 
--- a filled slot is not one that it fills
-pub filled_as_free_refused : IsWherePlaced direct_config (fives_at (5 ∷ [])) five (Free 5) → ⊥
-filled_as_free_refused (free, goes) = true≢false (sym free)
+-- an occupied slot is not one that it fills
+pub occupied_as_free_refused : IsWherePlaced direct_config (fives_at (5 ∷ [])) five (Free 5) → ⊥
+occupied_as_free_refused (free, goes) = true≢false (sym free)
 
 -- nor is another free slot
 pub other_free_refused : IsWherePlaced direct_config (fives_at []) five (Free 6) → ⊥
@@ -154,10 +154,10 @@ other_answer_refused = (λ h. let is = h.full.1 refl in absurd cc, λ h. let is 
 -- ---- an insert into any parts
 -- sixteen control bytes of 0 with their mirror, over entries of zeros: each slot is filled, and has the key 0
 abbrev changes : Result (Option (List ℕ)) Error → List ℕ → List ℕ → Type 0
-changes r es' ctrl' = IsChange direct_config (λ b. b) no_entries filled_controls (pair32 5 7) r es' ctrl'
+changes r es' ctrl' = IsChange direct_config (λ b. b) no_entries occupied_controls (pair32 5 7) r es' ctrl'
 
 -- an insert of another key answers Full and leaves them
-pub unchanged : changes (Err Full) no_entries filled_controls
+pub unchanged : changes (Err Full) no_entries occupied_controls
 unchanged = record {
   frame = (Err Full, refl, PartsFrame.no_slot no_free_slots);
   only_full = refl;
@@ -166,20 +166,20 @@ unchanged = record {
 }
 
 -- it answers no other error, and changes neither entries nor control bytes
-pub changed_refused : (changes (Err (TooShort 0)) no_entries filled_controls → ⊥)
-    × (changes (Err Full) (set no_entries 3 1) filled_controls → ⊥)
-    × (changes (Err Full) no_entries (set filled_controls 3 1) → ⊥)
+pub changed_refused : (changes (Err (TooShort 0)) no_entries occupied_controls → ⊥)
+    × (changes (Err Full) (set no_entries 3 1) occupied_controls → ⊥)
+    × (changes (Err Full) no_entries (set occupied_controls 3 1) → ⊥)
 changed_refused = (
   λ h. let is = h.only_full in absurd cc,
   λ h. unequal_lists (set no_entries 3 1) no_entries refl h.refused_entries,
-  λ h. unequal_lists (set filled_controls 3 1) filled_controls refl h.refused_control,
+  λ h. unequal_lists (set occupied_controls 3 1) occupied_controls refl h.refused_control,
 )
 
 -- nor is a new entry added there
-pub added_refused : changes (Ok None) no_entries filled_controls → ⊥
+pub added_refused : changes (Ok None) no_entries occupied_controls → ⊥
 added_refused h = refuted h.frame
   where
-    refuted : IsPartsFramed direct_config (λ b. b) no_entries filled_controls (pair32 5 7) (Ok None) no_entries filled_controls → ⊥
-    refuted (Ok None, is, frame) = parts_entry_in_filled_slot_refused direct_config no_entries (pair32 5 7) no_entries filled_controls frame
+    refuted : IsPartsFramed direct_config (λ b. b) no_entries occupied_controls (pair32 5 7) (Ok None) no_entries occupied_controls → ⊥
+    refuted (Ok None, is, frame) = parts_entry_in_occupied_slot_refused direct_config no_entries (pair32 5 7) no_entries occupied_controls frame
     refuted (Ok (Some v), is, frame) = absurd cc
     refuted (Err e, is, frame) = absurd cc

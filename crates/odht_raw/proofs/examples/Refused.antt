@@ -75,9 +75,9 @@ unfolding opened
 cuts = (refl, refl)
 
 -- a free slot that is not zero
-pub filled_free_slot : forged 32 (7 ∷ []) ≡ Some (NonZeroEmpty 0)
+pub occupied_free_slot : forged 32 (7 ∷ []) ≡ Some (NonZeroEmpty 0)
 unfolding opened
-filled_free_slot = refl
+occupied_free_slot = refl
 
 -- a table of one insert, opened with the other hash
 pub other_hash : option_map (λ P. view_refusal direct_config (image test_config P)) (view_of test_config 0 87 (pair32 1 2 ∷ [])) ≡ Some (Some (ControlMismatch 5 0 19))

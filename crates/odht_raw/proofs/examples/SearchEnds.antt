@@ -3,14 +3,14 @@ use Rattle.std.proofs.Common.{◌≡◌, ◌+◌, ◌%◌, ◌==◌, ◌||◌, �
 use Rattle.std.specs.List.{range_with_len, list_all}
 use Rattle.odht_base.specs.Bytes.{overwritten_at}
 use Rattle.odht_base.specs.Numbers.{le_bytes}
-use Rattle.odht_base.specs.Shown.{slot_key, slot_value, counts_as_free}
+use Rattle.odht_base.specs.Decoded.{slot_key, slot_value, counts_as_free}
 use Rattle.odht_base.proofs.examples.Configs.{direct_config}
 use Rattle.odht_raw.specs.Parts.{EntryBytes}
 use Rattle.odht_raw.specs.Refusals.{lists_differ}
 use Rattle.odht_raw.specs.SearchEnds.{IsEnd, IsPlainEnd, IsEndAmong, IsBesideKey}
-use Rattle.odht_raw.specs.declared.raw_table.outcome.Search.TheVariants.{Found, Free, Neither}
+use Rattle.odht_raw.specs.declared.raw_table.search_result.SearchResult.TheVariants.{Found, Free, Neither}
 use Rattle.odht_raw.proofs.examples.Apart.{unequal_lists, tested, untrue, neither}
-use Rattle.odht_raw.proofs.examples.FrameRefusals.{filled_controls, slot_five_free, mirror_five_free, counted_as_free, neighbour_not_free, no_free_slots, one_free_slot_refused, none_free, one_free_refused}
+use Rattle.odht_raw.proofs.examples.FrameRefusals.{occupied_controls, slot_five_free, mirror_five_free, counted_as_free, neighbour_not_free, no_free_slots, one_free_slot_refused, none_free, one_free_refused}
 
 -- ---- in any parts
 -- the entries of sixteen slots: 5 beside 7 in slot 3, and zeros elsewhere; and the same bytes as entries of three slots
@@ -21,15 +21,15 @@ abbrev five : List ℕ
 five = le_bytes 4 5
 
 -- a key is found in its slot
-pub found : IsEnd direct_config (five_in_three 16) filled_controls five (Found 3)
+pub found : IsEnd direct_config (five_in_three 16) occupied_controls five (Found 3)
 found = (lit< tt, refl)
 
 -- not in the slot of another
-pub found_elsewhere_refused : IsEnd direct_config (five_in_three 16) filled_controls five (Found 4) → ⊥
+pub found_elsewhere_refused : IsEnd direct_config (five_in_three 16) occupied_controls five (Found 4) → ⊥
 found_elsewhere_refused (low, same) = unequal_lists (slot_key direct_config (five_in_three 16).bytes 4) five refl same
 
 -- nor behind the last slot
-pub found_behind_refused : IsEnd direct_config (five_in_three 3) filled_controls five (Found 3) → ⊥
+pub found_behind_refused : IsEnd direct_config (five_in_three 3) occupied_controls five (Found 3) → ⊥
 found_behind_refused (low, same) = omega (arith, low)
 
 -- a free slot is one that counts as free by its own byte or by its mirror
@@ -37,15 +37,15 @@ pub free : IsEnd direct_config (five_in_three 16) slot_five_free five (Free 5) �
 free = ((lit< tt, counted_as_free.0), (lit< tt, counted_as_free.2))
 
 -- not the slot beside it
-pub filled_refused : IsEnd direct_config (five_in_three 16) slot_five_free five (Free 6) → ⊥
-filled_refused (low, is) = neighbour_not_free is
+pub occupied_refused : IsEnd direct_config (five_in_three 16) slot_five_free five (Free 6) → ⊥
+occupied_refused (low, is) = neighbour_not_free is
 
 -- nor one behind the last
 pub free_behind_refused : IsEnd direct_config (five_in_three 5) slot_five_free five (Free 5) → ⊥
 free_behind_refused (low, is) = omega (arith, low)
 
--- the search ends nowhere where each slot counts as filled
-pub nowhere : IsEnd direct_config (five_in_three 16) filled_controls five Neither
+-- the search ends nowhere where each slot counts as occupied
+pub nowhere : IsEnd direct_config (five_in_three 16) occupied_controls five Neither
 nowhere = no_free_slots
 
 -- and only there
@@ -54,9 +54,9 @@ nowhere_refused h = one_free_slot_refused h
 
 -- ---- slot by slot
 -- the end of a search slot by slot, which does not look at the mirror
-pub plain : IsPlainEnd direct_config (five_in_three 16) filled_controls five (Found 3)
+pub plain : IsPlainEnd direct_config (five_in_three 16) occupied_controls five (Found 3)
     × IsPlainEnd direct_config (five_in_three 16) slot_five_free five (Free 5)
-    × IsPlainEnd direct_config (five_in_three 16) filled_controls five Neither
+    × IsPlainEnd direct_config (five_in_three 16) occupied_controls five Neither
 plain = ((lit< tt, refl), (lit< tt, refl), none_free)
 
 -- so no slot is free by its mirror alone
@@ -64,8 +64,8 @@ pub plain_mirror_refused : IsPlainEnd direct_config (five_in_three 16) mirror_fi
 plain_mirror_refused (low, is) = true≢false (sym is)
 
 -- a key is not found in the slot of another, nor behind the last
-pub plain_elsewhere_refused : (IsPlainEnd direct_config (five_in_three 16) filled_controls five (Found 4) → ⊥)
-    × (IsPlainEnd direct_config (five_in_three 3) filled_controls five (Found 3) → ⊥)
+pub plain_elsewhere_refused : (IsPlainEnd direct_config (five_in_three 16) occupied_controls five (Found 4) → ⊥)
+    × (IsPlainEnd direct_config (five_in_three 3) occupied_controls five (Found 3) → ⊥)
 plain_elsewhere_refused =
     (λ h. unequal_lists (slot_key direct_config (five_in_three 16).bytes 4) five refl h.1, λ h. omega (arith, h.0))
 
@@ -87,8 +87,8 @@ pub free_beyond_refused : IsEndAmong direct_config (five_in_three 16) (set (repl
 free_beyond_refused (j, low, is, counts) = untrue (λ i. counts_as_free (slice_index (set (replicate 4 0) 3 255) i)) 3 j refl low counts
 
 -- nor where no byte is free
-pub filled_in_group_refused : IsEndAmong direct_config (five_in_three 16) (replicate 4 0) 14 4 five (Free 1) → ⊥
-filled_in_group_refused (j, low, is, counts) = untrue (λ i. counts_as_free (slice_index (replicate 4 0) i)) 4 j refl low counts
+pub occupied_in_group_refused : IsEndAmong direct_config (five_in_three 16) (replicate 4 0) 14 4 five (Free 1) → ⊥
+occupied_in_group_refused (j, low, is, counts) = untrue (λ i. counts_as_free (slice_index (replicate 4 0) i)) 4 j refl low counts
 
 -- and no other slot is
 pub other_in_group_refused : IsEndAmong direct_config (five_in_three 16) (replicate 4 255) 14 4 five (Free 2) → ⊥

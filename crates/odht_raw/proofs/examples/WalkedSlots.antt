@@ -5,7 +5,7 @@ use Rattle.odht_base.specs.Numbers.{le_bytes}
 use Rattle.odht_base.specs.Table.{Table}
 use Rattle.odht_base.proofs.examples.Configs.{direct_config}
 use Rattle.odht_raw.specs.Parts.{TableParts}
-use Rattle.odht_raw.specs.Walks.{Item, items_of, items_from, AreFilled}
+use Rattle.odht_raw.specs.Walks.{Item, items_of, items_from, AreOccupied}
 use Rattle.odht_raw.proofs.examples.Invalid.{fives_at}
 use Rattle.odht_raw.proofs.examples.Opened.{opened}
 
@@ -40,13 +40,13 @@ unfolding opened
 items_from_slots = (refl, refl, refl, refl)
 
 -- slots 6 and 9 are filled, counted from 4 on
-pub filled_slots : AreFilled two 4 (2 ∷ 5 ∷ [])
+pub occupied_slots : AreOccupied two 4 (2 ∷ 5 ∷ [])
 unfolding opened
-filled_slots zero d l = (lit< tt, refl)
-filled_slots (suc zero) d l = (lit< tt, refl)
-filled_slots (suc (suc k)) d l = absurd (omega (arith, l))
+occupied_slots zero d l = (lit< tt, refl)
+occupied_slots (suc zero) d l = (lit< tt, refl)
+occupied_slots (suc (suc k)) d l = absurd (omega (arith, l))
 
 -- slot 7 is not, and the mirror of slot 6 is no slot
-pub other_slots_refused : (AreFilled two 4 (2 ∷ 3 ∷ []) → ⊥) × (AreFilled two 4 (2 ∷ 18 ∷ []) → ⊥)
+pub other_slots_refused : (AreOccupied two 4 (2 ∷ 3 ∷ []) → ⊥) × (AreOccupied two 4 (2 ∷ 18 ∷ []) → ⊥)
 unfolding opened
 other_slots_refused = ((λ all. true≢false (all 1 0 (lit< tt)).1), (λ all. omega (arith, (all 1 0 (lit< tt)).0)))

@@ -12,11 +12,11 @@ use Rattle.odht_base.specs.Format.{Format, entry_len}
 use Rattle.odht_base.specs.Load.{is_power_of_two, IsSlotCount}
 use Rattle.odht_base.specs.Table.{Table, slot_count}
 use Rattle.odht_base.specs.Image.{image, image_len}
-use Rattle.odht_base.specs.Shown.{stated_slots}
+use Rattle.odht_base.specs.Decoded.{header_slots}
 use Rattle.odht_base.specs.Writes.{with_count, tagged_at}
 use Rattle.odht_base.specs.Valid.{IsValidBytes}
 use Rattle.odht_base.proofs.lemmas.Fits.{IsSized, IsSized-IsPlaced}
-use Rattle.odht_base.proofs.lemmas.Image.{stated_slots-image, length-image}
+use Rattle.odht_base.proofs.lemmas.Image.{header_slots-image, length-image}
 use Rattle.odht_base.proofs.lemmas.ByteRanges.{bytes_at-take_front, bytes_at-drop, length-overwritten_at, overwritten_at-single, take-overwritten_at, drop-overwritten_at}
 use Rattle.odht_raw.specs.Refusals.{opening_refusal, header_refusal, first_of, differs, lists_differ, ◌gives◌}
 use Rattle.odht_raw.specs.Frame.{IsAccepted}
@@ -31,8 +31,8 @@ pub record IsHeader (F : Format) (n : ℕ) (B : List ℕ) : Type 0 where
   pub key_len_is : slice_index B 5 ≡ F.key_len
   pub value_len_is : slice_index B 6 ≡ F.value_len
   pub header_len_is : slice_index B 7 ≡ 32
-  pub slots : IsSlotCount (stated_slots B)
-  pub length_is : n ≡ image_len F (stated_slots B)
+  pub slots : IsSlotCount (header_slots B)
+  pub length_is : n ≡ image_len F (header_slots B)
 
 -- nothing of the header is refused exactly where it fits
 pub IsHeader-header_refusal : (F : Format) (n : ℕ) (B : List ℕ) → header_refusal F n B ≡ None → IsHeader F n B
@@ -54,7 +54,7 @@ IsHeader-header_refusal F n B e =
       key_len_is = differs-false _ _ (gives-None _ _ d.0);
       value_len_is = differs-false _ _ (gives-None _ _ f.0);
       header_len_is = differs-false _ _ (gives-None _ _ g.0);
-      slots = record { power = not-false _ (gives-None _ _ h.0); least = ltb-false (stated_slots B) 16 (gives-None _ _ i.0) };
+      slots = record { power = not-false _ (gives-None _ _ h.0); least = ltb-false (header_slots B) 16 (gives-None _ _ i.0) };
       length_is = differs-false _ _ (gives-None _ _ j.0);
     }
 
@@ -69,7 +69,7 @@ header_refusal-IsHeader F n B h =
     (None-option_or _ _ (None-gives _ _ (false-differs _ _ h.value_len_is))
     (None-option_or _ _ (None-gives _ _ (false-differs _ _ h.header_len_is))
     (None-option_or _ _ (None-gives _ _ (ap not h.slots.power))
-    (None-option_or _ _ (None-gives _ _ (le-ltb (stated_slots B) 16 h.slots.least))
+    (None-option_or _ _ (None-gives _ _ (le-ltb (header_slots B) 16 h.slots.least))
     (None-option_or _ _ (None-gives _ _ (false-differs _ _ h.length_is)) refl))))))))
 
 -- what the opening says
@@ -129,11 +129,11 @@ module _ (F : Format) (B : List ℕ) (h : IsAccepted F B) where
   accepted_opening = IsOpening-opening_refusal F B h
 
   -- their slot count
-  pub accepted_slots : IsSlotCount (stated_slots B)
+  pub accepted_slots : IsSlotCount (header_slots B)
   accepted_slots = accepted_opening.header.slots
 
   -- and their length
-  pub accepted_len : length B ≡ image_len F (stated_slots B)
+  pub accepted_len : length B ≡ image_len F (header_slots B)
   accepted_len = accepted_opening.header.length_is
 
   -- ---- writes
@@ -161,16 +161,16 @@ module _ (F : Format) (B : List ℕ) (h : IsAccepted F B) where
 
   -- ---- entries
   -- the entry of a slot ends before the control bytes
-  pub accepted_entry : (i : ℕ) → i < stated_slots B → 32 + i * entry_len F + entry_len F + (stated_slots B + 16) ≤ length B
+  pub accepted_entry : (i : ℕ) → i < header_slots B → 32 + i * entry_len F + entry_len F + (header_slots B + 16) ≤ length B
   accepted_entry i low =
-      let most : suc i * entry_len F ≤ stated_slots B * entry_len F = mul-le-mul_right (entry_len F) low in
+      let most : suc i * entry_len F ≤ header_slots B * entry_len F = mul-le-mul_right (entry_len F) low in
       omega (arith, most, accepted_len)
 
   -- the control byte of a slot ends within the bytes, and so does its mirror, in as many bytes
-  pub accepted_control : (D : List ℕ) (i : ℕ) → length D ≡ length B → i < stated_slots B → 32 + stated_slots B * entry_len F + i < length D
+  pub accepted_control : (D : List ℕ) (i : ℕ) → length D ≡ length B → i < header_slots B → 32 + header_slots B * entry_len F + i < length D
   accepted_control D i long low = omega (arith, accepted_len)
 
-  pub accepted_mirror : (D : List ℕ) (i : ℕ) → length D ≡ length B → i < 16 → 32 + stated_slots B * entry_len F + i + stated_slots B < length D
+  pub accepted_mirror : (D : List ℕ) (i : ℕ) → length D ≡ length B → i < 16 → 32 + header_slots B * entry_len F + i + header_slots B < length D
   accepted_mirror D i long low = omega (arith, accepted_len)
 
 -- a control byte and its mirror, behind the header, leave bytes accepted
@@ -188,7 +188,7 @@ IsAccepted-tagged_at F B h at s i c low fits mirror = go (ltb i 16) refl
 pub IsAccepted-image : (F : Format) (P : Table) → IsSlotCount (slot_count P) → IsSized F P → IsAccepted F (image F P)
 unfolding image
 IsAccepted-image F P count sized =
-    let slots_are = stated_slots-image F P sized in
+    let slots_are = header_slots-image F P sized in
     let long = length-image F P sized in
     opening_refusal-IsOpening F (image F P) (record {
       long = omega (arith, long);

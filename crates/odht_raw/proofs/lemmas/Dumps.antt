@@ -9,7 +9,7 @@ use Rattle.std.specs.declared.fmt.Error.{Error}
 use Rattle.std.specs.declared.fmt.Formatter.{Formatter}
 use Rattle.odht_base.specs.Format.{Format}
 use Rattle.odht_base.specs.Load.{max_items, percent_of}
-use Rattle.odht_base.specs.Shown.{slot_key, slot_value, counts_as_free, stated_count, stated_slots, stated_factor, entries_of, controls_of}
+use Rattle.odht_base.specs.Decoded.{slot_key, slot_value, counts_as_free, header_count, header_slots, header_factor, entries_of, controls_of}
 use Rattle.odht_raw.specs.Parts.{EntryBytes, TableParts}
 use Rattle.odht_raw.specs.Dumps.{DebugText, texts_in_turn, slot_text, slots_text, parts_of, counts_text}
 
@@ -18,13 +18,13 @@ joined : (a b c : List ℕ) (o : Option (List ℕ)) → Some a ++? Some b ++? So
 joined a b c None = refl
 joined a b c (Some d) = simp append_assoc
 
--- the line of a filled slot, as its pieces are written
-pub slot_text-filled : (F : Format) (key_text value_text : DebugText) (T : TableParts) (i : ℕ) → counts_as_free (slice_index T.control i) ≡ false
+-- the line of an occupied slot, as its pieces are written
+pub slot_text-occupied : (F : Format) (key_text value_text : DebugText) (T : TableParts) (i : ℕ) → counts_as_free (slice_index T.control i) ≡ false
     → Some (codes "slot ") ++? Some (decimal i) ++? Some (codes ": key=") ++? key_text (slot_key F T.entries.bytes i)
     ++? Some (codes ", value=") ++? value_text (slot_value F T.entries.bytes i)
     ++? Some (codes ", control_byte=" ++ decimal (slice_index T.control i) ++ codes "\n")
     ≡ slot_text F key_text value_text T i
-slot_text-filled F key_text value_text T i filled = rw filled (joined (codes "slot ") (decimal i) (codes ": key=") _)
+slot_text-occupied F key_text value_text T i occupied = rw occupied (joined (codes "slot ") (decimal i) (codes ": key=") _)
 
 -- the empty text behind a text, and before it
 append-nothing : (o : Option (List ℕ)) → o ++? Some [] ≡ o
@@ -49,7 +49,7 @@ slots_text-more F key_text value_text T n =
 
 -- the parts that are cut from the bytes
 pub parts_of-cut : (F : Format) (A B ctrl : List ℕ) (E : EntryBytes) → A ≡ B
-    → ctrl ≡ controls_of F A → E.bytes ≡ entries_of F A → E.slots ≡ stated_slots A
+    → ctrl ≡ controls_of F A → E.bytes ≡ entries_of F A → E.slots ≡ header_slots A
     → record { control = ctrl; entries = E } ≡ parts_of F B
 parts_of-cut F A B ctrl E same control bytes slots =
     let whole : record { control = ctrl; entries = E } ≡ parts_of F A = λ i. record { control = control i; entries = record { slots = slots i; bytes = bytes i } } in
@@ -62,6 +62,6 @@ displayed-append took f g h r o p = displays_on_IsOk_append took f g h (Ok tt) r
 
 -- the line of the numbers, as its pieces are written
 pub counts_text-written : (B : List ℕ) (n m p : ℕ)
-    → n ≡ stated_count B → m ≡ max_items (stated_slots B) (stated_factor B) → p ≡ percent_of (stated_factor B)
+    → n ≡ header_count B → m ≡ max_items (header_slots B) (header_factor B) → p ≡ percent_of (header_factor B)
     → codes "(item_count=" ++ (decimal n ++ (codes ", max_item_count=" ++ (decimal m ++ (codes ", max_load_factor=" ++ (decimal p ++ codes "%)\n"))))) ≡ counts_text B
 counts_text-written B n m p items most percent = rw (items, most, percent) (simp append_assoc)

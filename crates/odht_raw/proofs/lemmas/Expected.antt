@@ -10,9 +10,9 @@ use Rattle.odht_base.specs.Format.{Format, IsFormat, home, tag}
 use Rattle.odht_base.specs.Groups.{IsReport, first_free}
 use Rattle.odht_base.specs.Insert.{place, place_all}
 use Rattle.odht_base.specs.Load.{IsSlotCount}
-use Rattle.odht_base.specs.Probe.{place_slot}
+use Rattle.odht_base.specs.Probe.{probe_slot}
 use Rattle.odht_base.specs.Search.{search_end, stops_at}
-use Rattle.odht_base.specs.Shown.{counts_as_free}
+use Rattle.odht_base.specs.Decoded.{counts_as_free}
 use Rattle.odht_base.specs.Table.{Pair, Table, slot_count, cell_at, is_free, has_key}
 use Rattle.odht_base.specs.Valid.{HoldsPair, IsPairOf, IsPartsOf, IsPlaced}
 use Rattle.odht_base.proofs.lemmas.ByteRanges.{length-bytes_at}
@@ -22,12 +22,12 @@ use Rattle.odht_base.proofs.lemmas.Lookups.{search_end-at}
 use Rattle.odht_base.proofs.lemmas.Options.{some_same, and_then_some}
 use Rattle.odht_base.proofs.lemmas.Orders.{find-order_some}
 use Rattle.odht_base.proofs.lemmas.Places.{written, written_here, written_other, place-written, place-IsPlaced}
-use Rattle.odht_raw.specs.Answers.{answer}
+use Rattle.odht_raw.specs.SearchResults.{answer}
 use Rattle.odht_raw.specs.Coding.{Coding, encoded}
 use Rattle.odht_raw.specs.Expected.{IsExpected, EndsIfFree, IsAhead}
 use Rattle.odht_raw.specs.Parts.{EntryBytes}
-use Rattle.odht_raw.specs.Searches.{StandsAt}
-use Rattle.odht_raw.specs.declared.raw_table.outcome.Search.TheVariants.{Found, Free, Neither}
+use Rattle.odht_raw.specs.SearchSteps.{StandsAt}
+use Rattle.odht_raw.specs.declared.raw_table.search_result.SearchResult.TheVariants.{Found, Free, Neither}
 use Rattle.odht_raw.proofs.lemmas.GroupLooks.{index-bytes_at, taken-all, look_free}
 use Rattle.odht_raw.proofs.lemmas.GroupSearches.{stands-group}
 use Rattle.odht_raw.proofs.lemmas.PartCells.{slots_are, byte_is}
@@ -44,25 +44,25 @@ no_match xs None b e is none = e
 no_match xs (Some x) b e is none = absurd (true≢false (sym is ∙ none))
 
 -- the first place of the order
-first_place : (b s : ℕ) → IsSlotCount s → place_slot (b % s) s 0 ≡ b % s
+first_place : (b s : ℕ) → IsSlotCount s → probe_slot (b % s) s 0 ≡ b % s
 first_place b s count =
     let few = count.least in
     let same : s ≡ s - 1 + 1 = omega arith in
-    ap (λ n. place_slot (b % s) n 0) same ∙ sym (at_home 16 (b % s) (s - 1) (subst IsSlotCount same count) refl (omega arith)).slot_is
+    ap (λ n. probe_slot (b % s) n 0) same ∙ sym (at_home 16 (b % s) (s - 1) (subst IsSlotCount same count) refl (omega arith)).slot_is
 
 module _ (F : Format) (P : Table) (es ctrl k : List ℕ) (f : IsFormat F) (h : IsPartsOf F P es ctrl) (count : IsSlotCount (length ctrl - 16)) where
-  abbrev shown : EntryBytes
-  shown = record { slots = length ctrl - 16; bytes = es }
+  abbrev stored : EntryBytes
+  stored = record { slots = length ctrl - 16; bytes = es }
 
   mirrored : length ctrl ≡ length ctrl - 16 + 16
   mirrored = let few = count.least in omega arith
 
   -- a search stands at the first bytes of the group at the home slot
-  stands_home : (n : ℕ) → n ≤ 16 → StandsAt F P shown k 0 (home F k (length ctrl - 16)) (bytes_at ctrl (home F k (length ctrl - 16)) n)
+  stands_home : (n : ℕ) → n ≤ 16 → StandsAt F P stored k 0 (home F k (length ctrl - 16)) (bytes_at ctrl (home F k (length ctrl - 16)) n)
   stands_home n l =
       let b : ℕ = home F k (length ctrl - 16) in
       let few = count.least in
-      let s = stands-group F P shown ctrl k f h mirrored 0 b refl (omega arith) (sym (first_place (F.hash k) (length ctrl - 16) count)) (λ q low. absurd (omega arith)) in
+      let s = stands-group F P stored ctrl k f h mirrored 0 b refl (omega arith) (sym (first_place (F.hash k) (length ctrl - 16) count)) (λ q low. absurd (omega arith)) in
       let low : b < length ctrl - 16 = omega arith in
       let long : length (bytes_at ctrl b n) ≡ n = length-bytes_at ctrl b n (omega arith) in
       let sixteen : length (bytes_at ctrl b 16) ≡ 16 = length-bytes_at ctrl b 16 (omega arith) in
@@ -81,7 +81,7 @@ module _ (F : Format) (P : Table) (es ctrl k : List ℕ) (f : IsFormat F) (h : I
   pub home_free : (n i : ℕ) (xs : List ℕ) → n ≤ 16 → IsReport (bytes_at ctrl (home F k (length ctrl - 16)) n) (tag F k) xs → None ≡ slice_get xs 0
       → first_free (bytes_at ctrl (home F k (length ctrl - 16)) n) ≡ Some i → Free ((home F k (length ctrl - 16) + i) % (length ctrl - 16)) ≡ answer F P.cells k
   home_free n i xs l report none e =
-      (look_free F P shown k 0 (home F k (length ctrl - 16)) _ f (stands_home n l) xs report
+      (look_free F P stored k 0 (home F k (length ctrl - 16)) _ f (stands_home n l) xs report
       (λ j c same. taken-all xs xs (λ x. ⊥) (record { part = λ x m. m; others = λ x m. inl m }) none j c) i e).0
 
   -- the slot count is no slot
@@ -134,8 +134,8 @@ module _ (F : Format) (P Q : Table) (k : List ℕ) (same : slot_count Q ≡ slot
   passed_still j e = let f = or_parts _ _ e in go (cell_at P.cells j) refl f.0 f.1
     where
       go : (c : Option Pair) → cell_at P.cells j ≡ c → is_none c ≡ false → has_key k c ≡ false → stops_at Q.cells k j ≡ false
-      go None is filled other = absurd (true≢false filled)
-      go (Some p) is filled other =
+      go None is occupied other = absurd (true≢false occupied)
+      go (Some p) is occupied other =
           let q = kept j p is in
           or_from _ _ (ap is_none q.1) (ap (has_key k) q.1 ∙ ap (bytes_eq k) q.2 ∙ other)
 
@@ -144,9 +144,9 @@ module _ (F : Format) (P Q : Table) (k : List ℕ) (same : slot_count Q ≡ slot
   unfolding search_end
   ends_still i e free =
       let first = find-order_some (stops_at P.cells k) (home F k (slot_count P)) (slot_count P) i e in
-      let at = λ (m : ℕ). ap (λ s. place_slot (home F k s) s m) same in
-      let here = at first.place ∙ first.stands in
-      search_end-at F Q.cells k first.place (omega (arith, first.within, same))
+      let at = λ (m : ℕ). ap (λ s. probe_slot (home F k s) s m) same in
+      let here = at first.position ∙ first.stands in
+      search_end-at F Q.cells k first.position (omega (arith, first.within, same))
       (λ m l. ap (stops_at Q.cells k) (at m) ∙ passed_still _ (first.before m l))
       (ap (stops_at Q.cells k) here ∙ ap (λ b. b || has_key k (cell_at Q.cells i)) free)
       ∙ ap Some here

@@ -6,18 +6,18 @@ use Rattle.odht_base.specs.Format.{Format, IsFormat, home, tag}
 use Rattle.odht_base.specs.Groups.{equal, first_free, IsReport}
 use Rattle.odht_base.specs.Load.{IsSlotCount}
 use Rattle.odht_base.specs.Map.{map_of}
-use Rattle.odht_base.specs.Probe.{place_slot}
-use Rattle.odht_base.specs.Shown.{slot_key}
+use Rattle.odht_base.specs.Probe.{probe_slot}
+use Rattle.odht_base.specs.Decoded.{slot_key}
 use Rattle.odht_base.specs.Table.{Table}
 use Rattle.odht_base.specs.Valid.{IsPartsOf}
 use Rattle.odht_base.proofs.lemmas.ByteRanges.{length-bytes_at}
-use Rattle.odht_base.proofs.lemmas.MarkedPlaces.{report_from_equal}
-use Rattle.odht_base.proofs.lemmas.Orders.{place_slot-group}
-use Rattle.odht_raw.specs.Answers.{answer}
+use Rattle.odht_base.proofs.lemmas.MarkedPositions.{report_from_equal}
+use Rattle.odht_base.proofs.lemmas.Orders.{probe_slot-group}
+use Rattle.odht_raw.specs.SearchResults.{answer}
 use Rattle.odht_raw.specs.FirstLooks.{home_group}
 use Rattle.odht_raw.specs.Parts.{TableParts}
-use Rattle.odht_raw.specs.Searches.{StandsAt}
-use Rattle.odht_raw.specs.declared.raw_table.outcome.Search.TheVariants.{Found}
+use Rattle.odht_raw.specs.SearchSteps.{StandsAt}
+use Rattle.odht_raw.specs.declared.raw_table.search_result.SearchResult.TheVariants.{Found}
 use Rattle.odht_raw.proofs.lemmas.GroupLooks.{look_found, look_free}
 use Rattle.odht_raw.proofs.lemmas.GroupSearches.{stands-group}
 use Rattle.odht_raw.proofs.lemmas.Lookups.{answer-Free}
@@ -42,7 +42,7 @@ module _ (F : Format) (T : TableParts) (k : List ℕ) (slots : IsSlotCount T.ent
 
   -- a match stands in the group
   pub match-lt : (i : ℕ) → Contains matches i → i < 16
-  match-lt i c = omega (arith, (report.filled i c).0, length-home_group)
+  match-lt i c = omega (arith, (report.occupied i c).0, length-home_group)
 
   module _ (P : Table) (f : IsFormat F) (h : IsPartsOf F P T.entries.bytes T.control) where
     -- the search begins at the group
@@ -50,7 +50,7 @@ module _ (F : Format) (T : TableParts) (k : List ℕ) (slots : IsSlotCount T.ent
     stands-home =
         let n = slots.least in
         let sum : home_slot + 8 * 0 * (0 + 1) + 0 ≡ home_slot = omega arith in
-        let first : place_slot home_slot T.entries.slots 0 ≡ home_slot = place_slot-group home_slot T.entries.slots 0 0 (omega arith) ∙ ap (λ x. x % T.entries.slots) sum ∙ mod-eq_of_lt {n = home_slot} {m = T.entries.slots} home-lt in
+        let first : probe_slot home_slot T.entries.slots 0 ≡ home_slot = probe_slot-group home_slot T.entries.slots 0 0 (omega arith) ∙ ap (λ x. x % T.entries.slots) sum ∙ mod-eq_of_lt {n = home_slot} {m = T.entries.slots} home-lt in
         stands-group F P T.entries T.control k f h mirrored 0 home_slot (omega arith) (omega arith) (sym first) (λ q l. absurd (omega arith))
 
     -- a match whose entry has the key ends it

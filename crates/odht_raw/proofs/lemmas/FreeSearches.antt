@@ -7,26 +7,26 @@ use Rattle.odht_base.specs.Format.{Format, IsFormat, home}
 use Rattle.odht_base.specs.Groups.{first_free}
 use Rattle.odht_base.specs.Load.{IsSlotCount}
 use Rattle.odht_base.specs.Map.{map_of}
-use Rattle.odht_base.specs.Probe.{place_slot}
+use Rattle.odht_base.specs.Probe.{probe_slot}
 use Rattle.odht_base.specs.Search.{stops_at}
-use Rattle.odht_base.specs.Shown.{counts_as_free}
+use Rattle.odht_base.specs.Decoded.{counts_as_free}
 use Rattle.odht_base.specs.Table.{Table, slot_count, is_free}
 use Rattle.odht_base.specs.Valid.{IsPartsOf}
 use Rattle.odht_base.proofs.lemmas.ByteRanges.{length-bytes_at}
 use Rattle.odht_base.proofs.lemmas.Lookups.{search_end-at}
-use Rattle.odht_base.proofs.lemmas.Orders.{place_slot-lt}
+use Rattle.odht_base.proofs.lemmas.Orders.{probe_slot-lt}
 use Rattle.odht_base.proofs.lemmas.Pairs.{has_key-None}
 use Rattle.odht_base.proofs.lemmas.Parts.{slice_index-mirror, counts_as_free-control_byte}
-use Rattle.odht_raw.specs.Answers.{answer}
-use Rattle.odht_raw.specs.Frame.{CountsAsFree, CountsAsFilled, HasNoFree, HasNoFreeSlot}
+use Rattle.odht_raw.specs.SearchResults.{answer}
+use Rattle.odht_raw.specs.Frame.{CountsAsFree, CountsAsOccupied, HasNoFree, HasNoFreeSlot}
 use Rattle.odht_raw.specs.FreeSlots.{IsFirstFree, IsFirstFreeByte}
-use Rattle.odht_raw.specs.Searches.{slot_of, Passed}
-use Rattle.odht_raw.specs.declared.raw_table.outcome.Search.TheVariants.{Free, Neither}
+use Rattle.odht_raw.specs.SearchSteps.{slot_of, Passed}
+use Rattle.odht_raw.specs.declared.raw_table.search_result.SearchResult.TheVariants.{Free, Neither}
 use Rattle.odht_raw.proofs.lemmas.GroupLooks.{index-bytes_at, no_free-more, position-None}
-use Rattle.odht_raw.proofs.lemmas.GroupSearches.{FilledBefore, group-free, group-filled}
+use Rattle.odht_raw.proofs.lemmas.GroupSearches.{OccupiedBefore, group-free, group-occupied}
 use Rattle.odht_raw.proofs.lemmas.PartCells.{slots_are, byte_is}
 use Rattle.odht_raw.proofs.lemmas.PlainSearch.{no_end}
-use Rattle.odht_raw.proofs.lemmas.ProbeSteps.{place_slot-step, at_home}
+use Rattle.odht_raw.proofs.lemmas.ProbeSteps.{probe_slot-step, at_home}
 
 -- ---- the pieces of a group
 module _ (bs : List ℕ) (n size : ℕ) (within : n * size + size ≤ length bs) (before : HasNoFree bs (n * size)) where
@@ -39,7 +39,7 @@ module _ (bs : List ℕ) (n size : ℕ) (within : n * size + size ≤ length bs)
       record {
         within = omega arith;
         free = subst (λ c. IsTrue (counts_as_free c)) (index-bytes_at bs (n * size) size i low) q.1;
-        earlier_filled = λ j l. elim (cases_lt j (n * size)) [
+        earlier_occupied = λ j l. elim (cases_lt j (n * size)) [
           | inl there ↦ before j there
           | inr here ↦
               let m : ℕ = j - n * size in
@@ -56,26 +56,26 @@ module _ (bs : List ℕ) (n size : ℕ) (within : n * size + size ≤ length bs)
 
 -- ---- the groups of a probe order
 -- the first free byte of a group is that of the first free slot, after groups without one
-pub first_in_group : (ctrl bs : List ℕ) (hash s start p i : ℕ) → length ctrl ≡ s + 16 → 16 ≤ s → p % 16 ≡ 0 → p + 16 ≤ s → start ≡ place_slot (hash % s) s p → bs ≡ bytes_at ctrl start 16
-    → FilledBefore ctrl (hash % s) s p → IsFirstFreeByte bs i → IsFirstFree ctrl hash s ((start + i) % s)
+pub first_in_group : (ctrl bs : List ℕ) (hash s start p i : ℕ) → length ctrl ≡ s + 16 → 16 ≤ s → p % 16 ≡ 0 → p + 16 ≤ s → start ≡ probe_slot (hash % s) s p → bs ≡ bytes_at ctrl start 16
+    → OccupiedBefore ctrl (hash % s) s p → IsFirstFreeByte bs i → IsFirstFree ctrl hash s ((start + i) % s)
 first_in_group ctrl bs hash s start p i len few aligned within is read before byte =
-    let low : start < s = omega (arith, is, place_slot-lt (hash % s) s p (omega arith)) in
+    let low : start < s = omega (arith, is, probe_slot-lt (hash % s) s p (omega arith)) in
     let long : length bs ≡ 16 = ap length read ∙ length-bytes_at ctrl start 16 (omega arith) in
     let here : i < 16 = omega (arith, byte.within) in
-    let step : (j : ℕ) → j < 16 → (start + j) % s ≡ place_slot (hash % s) s (p + j) = λ j l. ap (λ x. (x + j) % s) is ∙ place_slot-step (hash % s) s p j (omega arith) in
+    let step : (j : ℕ) → j < 16 → (start + j) % s ≡ probe_slot (hash % s) s (p + j) = λ j l. ap (λ x. (x + j) % s) is ∙ probe_slot-step (hash % s) s p j (omega arith) in
     record {
-      place = p + i;
+      position = p + i;
       in_order = omega arith;
       stands = sym (step i here);
       free = group-free ctrl s start i len few low here (subst (λ x. IsTrue (counts_as_free (slice_index x i))) read byte.free);
-      earlier_filled = λ q l. elim (cases_lt q p) [
+      earlier_occupied = λ q l. elim (cases_lt q p) [
         | inl there ↦ before q there
         | inr past ↦
             let j : ℕ = q - p in
             let at : p + j ≡ q = omega arith in
             let less : j < 16 = omega arith in
-            subst (CountsAsFilled ctrl) (step j less ∙ ap (place_slot (hash % s) s) at)
-            (group-filled ctrl s start j len few low less (subst (λ x. counts_as_free (slice_index x j) ≡ false) read (byte.earlier_filled j (omega arith))))
+            subst (CountsAsOccupied ctrl) (step j less ∙ ap (probe_slot (hash % s) s) at)
+            (group-occupied ctrl s start j len few low less (subst (λ x. counts_as_free (slice_index x j) ≡ false) read (byte.earlier_occupied j (omega arith))))
       ];
     }
 
@@ -84,13 +84,13 @@ pub first_at_home : (ctrl : List ℕ) (hash s : ℕ) → IsSlotCount s → Count
 first_at_home ctrl hash s count free =
     let few = count.least in
     let same : s ≡ s - 1 + 1 = omega arith in
-    let home : place_slot (hash % s) (s - 1 + 1) 0 ≡ hash % s = sym (at_home 16 (hash % s) (s - 1) (subst IsSlotCount same count) refl (omega arith)).slot_is in
+    let home : probe_slot (hash % s) (s - 1 + 1) 0 ≡ hash % s = sym (at_home 16 (hash % s) (s - 1) (subst IsSlotCount same count) refl (omega arith)).slot_is in
     record {
-      place = 0;
+      position = 0;
       in_order = omega arith;
-      stands = ap (λ n. place_slot (hash % s) n 0) same ∙ home;
+      stands = ap (λ n. probe_slot (hash % s) n 0) same ∙ home;
       free = free;
-      earlier_filled = λ q l. absurd (omega (arith, l));
+      earlier_occupied = λ q l. absurd (omega (arith, l));
     }
 
 -- ---- the parts of a placed table
@@ -110,20 +110,20 @@ module _ (F : Format) (P : Table) (k es ctrl : List ℕ) (f : IsFormat F) (h : I
   is_free_slot i l (inl own) = sym (byte_is F f P es ctrl h i l) ∙ own
   is_free_slot i l (inr mirror) = sym (mirror_is i mirror.0) ∙ mirror.1
 
-  -- and one that counts as filled is filled
-  pub is_filled_slot : (i : ℕ) → i < slot_count P → CountsAsFilled ctrl i → is_free P.cells i ≡ false
-  is_filled_slot i l (inl own) = sym (byte_is F f P es ctrl h i l) ∙ own
-  is_filled_slot i l (inr mirror) = sym (mirror_is i mirror.0) ∙ mirror.1
+  -- and one that counts as occupied is filled
+  pub is_occupied_slot : (i : ℕ) → i < slot_count P → CountsAsOccupied ctrl i → is_free P.cells i ≡ false
+  is_occupied_slot i l (inl own) = sym (byte_is F f P es ctrl h i l) ∙ own
+  is_occupied_slot i l (inr mirror) = sym (mirror_is i mirror.0) ∙ mirror.1
 
   module _ (new : map_of P k ≡ None) where
-    -- without the key a search passes the filled slots
-    passed_filled : (p : ℕ) → p ≤ s → FilledBefore ctrl (F.hash k % s) s p → Passed F P k p
-    passed_filled p l before q less =
+    -- without the key a search passes the occupied slots
+    passed_occupied : (p : ℕ) → p ≤ s → OccupiedBefore ctrl (F.hash k % s) s p → Passed F P k p
+    passed_occupied p l before q less =
         let count = slots_are F f P es ctrl h s len in
         let few = h.placed.slots.least in
-        let at : place_slot (F.hash k % s) s q ≡ slot_of F P k q = ap (λ n. place_slot (F.hash k % n) n q) count in
-        let filled = is_filled_slot (slot_of F P k q) (place_slot-lt (home F k (slot_count P)) (slot_count P) q (omega arith)) (subst (CountsAsFilled ctrl) at (before q less)) in
-        or_from _ _ filled (has_key-None P.cells k new (slot_of F P k q))
+        let at : probe_slot (F.hash k % s) s q ≡ slot_of F P k q = ap (λ n. probe_slot (F.hash k % n) n q) count in
+        let occupied = is_occupied_slot (slot_of F P k q) (probe_slot-lt (home F k (slot_count P)) (slot_count P) q (omega arith)) (subst (CountsAsOccupied ctrl) at (before q less)) in
+        or_from _ _ occupied (has_key-None P.cells k new (slot_of F P k q))
 
     -- so it ends at the first free one
     pub first_free-answer : (i : ℕ) → IsFirstFree ctrl (F.hash k) s i → Free i ≡ answer F P.cells k
@@ -131,16 +131,16 @@ module _ (F : Format) (P : Table) (k es ctrl : List ℕ) (f : IsFormat F) (h : I
     first_free-answer i first =
         let count = slots_are F f P es ctrl h s len in
         let few = h.placed.slots.least in
-        let stands : slot_of F P k first.place ≡ i = ap (λ n. place_slot (F.hash k % n) n first.place) (sym count) ∙ first.stands in
-        let low : i < slot_count P = omega (arith, stands, place_slot-lt (home F k (slot_count P)) (slot_count P) first.place (omega arith)) in
+        let stands : slot_of F P k first.position ≡ i = ap (λ n. probe_slot (F.hash k % n) n first.position) (sym count) ∙ first.stands in
+        let low : i < slot_count P = omega (arith, stands, probe_slot-lt (home F k (slot_count P)) (slot_count P) first.position (omega arith)) in
         let free = is_free_slot i low first.free in
-        let stops : stops_at P.cells k (slot_of F P k first.place) ≡ true = ap (stops_at P.cells k) stands ∙ or_left _ _ free in
-        let e = search_end-at F P.cells k first.place (omega (arith, first.in_order)) (passed_filled first.place (omega (arith, first.in_order)) first.earlier_filled) stops ∙ ap Some stands in
+        let stops : stops_at P.cells k (slot_of F P k first.position) ≡ true = ap (stops_at P.cells k) stands ∙ or_left _ _ free in
+        let e = search_end-at F P.cells k first.position (omega (arith, first.in_order)) (passed_occupied first.position (omega (arith, first.in_order)) first.earlier_occupied) stops ∙ ap Some stands in
         rw (e, free) refl
 
-    -- and nowhere where each slot counts as filled
+    -- and nowhere where each slot counts as occupied
     pub no_free-answer : HasNoFreeSlot ctrl s → Neither ≡ answer F P.cells k
     no_free-answer none =
         let few = h.placed.slots.least in
         let count = slots_are F f P es ctrl h s len in
-        no_end F P k es ctrl f h s len (passed_filled s (omega arith) (λ q l. none _ (place_slot-lt (F.hash k % s) s q (omega arith))))
+        no_end F P k es ctrl f h s len (passed_occupied s (omega arith) (λ q l. none _ (probe_slot-lt (F.hash k % s) s q (omega arith))))

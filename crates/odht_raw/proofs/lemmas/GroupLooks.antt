@@ -15,22 +15,22 @@ use Rattle.odht_base.specs.Groups.{IsReport, first_free}
 use Rattle.odht_base.specs.Image.{controls, control_byte}
 use Rattle.odht_base.specs.Load.{IsSlotCount}
 use Rattle.odht_base.specs.Search.{search_end, reach, stops_at}
-use Rattle.odht_base.specs.Shown.{counts_as_free, slot_key}
+use Rattle.odht_base.specs.Decoded.{counts_as_free, slot_key}
 use Rattle.odht_base.specs.Table.{Table, slot_count, cell_at, is_free, has_key}
 use Rattle.odht_base.specs.Valid.{IsPartsOf}
 use Rattle.odht_base.proofs.lemmas.Keys.{key_pair}
 use Rattle.odht_base.proofs.lemmas.Lookups.{AllArrive-IsPlaced, search_end-at}
 use Rattle.odht_base.proofs.lemmas.Options.{some_same}
 use Rattle.odht_base.proofs.lemmas.Pigeons.{contains_cases}
-use Rattle.odht_base.proofs.lemmas.Orders.{place_slot-apart, place_slot-lt, find-order_some, position-order}
+use Rattle.odht_base.proofs.lemmas.Orders.{probe_slot-apart, probe_slot-lt, find-order_some, position-order}
 use Rattle.odht_base.proofs.lemmas.Parts.{counts_as_free-control_byte}
-use Rattle.odht_raw.specs.Answers.{answer}
+use Rattle.odht_raw.specs.SearchResults.{answer}
 use Rattle.odht_raw.specs.Frame.{HasNoFree}
 use Rattle.odht_raw.specs.Parts.{EntryBytes}
-use Rattle.odht_raw.specs.Searches.{slot_of, Passed, StandsAt, EndsWithin, IsLook}
-use Rattle.odht_raw.specs.declared.raw_table.outcome.Search.{Search}
-use Rattle.odht_raw.specs.declared.raw_table.outcome.Search.TheVariants.{Found, Free}
-use Rattle.odht_raw.proofs.lemmas.PartCells.{byte_is as control_is, key_is, cell_filled}
+use Rattle.odht_raw.specs.SearchSteps.{slot_of, Passed, StandsAt, EndsWithin, IsLook}
+use Rattle.odht_raw.specs.declared.raw_table.search_result.SearchResult.{SearchResult}
+use Rattle.odht_raw.specs.declared.raw_table.search_result.SearchResult.TheVariants.{Found, Free}
+use Rattle.odht_raw.proofs.lemmas.PartCells.{byte_is as control_is, key_is, cell_occupied}
 
 -- byte i of some bytes at a place
 pub index-bytes_at : (bs : List ℕ) (at n i : ℕ) → i < n → slice_index (bytes_at bs at n) i ≡ slice_index bs (at + i)
@@ -92,8 +92,8 @@ module _ (F : Format) (P : Table) (k : List ℕ) (slots : IsSlotCount (slot_coun
   reach-at n l e =
       let b = home F k (slot_count P) in
       let f = find-order_some (stops_at P.cells k) b (slot_count P) (slot_of F P k n) e in
-      let same : f.place ≡ n = place_slot-apart b (slot_count P) f.place n slots f.within l f.stands in
-      position-order (stops_at P.cells k) b (slot_count P) f.place f.within (ap (stops_at P.cells k) f.stands ∙ f.passes) f.before ∙ ap Some same
+      let same : f.position ≡ n = probe_slot-apart b (slot_count P) f.position n slots f.within l f.stands in
+      position-order (stops_at P.cells k) b (slot_count P) f.position f.within (ap (stops_at P.cells k) f.stands ∙ f.passes) f.before ∙ ap Some same
 
 -- ---- a look at the places from p on
 module _ (F : Format) (P : Table) (E : EntryBytes) (k : List ℕ) (p start : ℕ) (bs : List ℕ) (f : IsFormat F) (at : StandsAt F P E k p start bs) where
@@ -104,7 +104,7 @@ module _ (F : Format) (P : Table) (E : EntryBytes) (k : List ℕ) (p start : ℕ
   slot i = slot_of F P k (p + i)
 
   slot_low : (i : ℕ) → slot i < slot_count P
-  slot_low i = place_slot-lt (home F k (slot_count P)) (slot_count P) (p + i) (let n = at.placed.slots.least in omega arith)
+  slot_low i = probe_slot-lt (home F k (slot_count P)) (slot_count P) (p + i) (let n = at.placed.slots.least in omega arith)
 
   -- a byte of a free slot is free, and no other
   byte_is : (i : ℕ) → i < length bs → counts_as_free (slice_index bs i) ≡ is_free P.cells (slot i)
@@ -131,12 +131,12 @@ module _ (F : Format) (P : Table) (E : EntryBytes) (k : List ℕ) (p start : ℕ
     pub look_found : (i : ℕ) → Contains xs i → slot_key F E.bytes ((start + i) % E.slots) ≡ k → (Found ((start + i) % E.slots) ≡ answer F P.cells k) × EndsWithin F P k p (length bs)
     unfolding answer
     look_found i c same =
-        let b = report.filled i c in
-        let filled : is_free P.cells (slot i) ≡ false = sym (byte_is i b.0) ∙ false_from_ne_true _ (λ t. let m = leb-true 128 (slice_index bs i) t in omega (arith, b.1)) in
-        let cell = cell_filled F f P E.bytes (controls F P.cells) whole (slot i) (slot_low i) (control_is F f P E.bytes (controls F P.cells) whole (slot i) (slot_low i) ∙ filled) in
+        let b = report.occupied i c in
+        let occupied : is_free P.cells (slot i) ≡ false = sym (byte_is i b.0) ∙ false_from_ne_true _ (λ t. let m = leb-true 128 (slice_index bs i) t in omega (arith, b.1)) in
+        let cell = cell_occupied F f P E.bytes (controls F P.cells) whole (slot i) (slot_low i) (control_is F f P E.bytes (controls F P.cells) whole (slot i) (slot_low i) ∙ occupied) in
         let key : slot_key F E.bytes (slot i) ≡ k = ap (slot_key F E.bytes) (sym (at.slots_are i b.0)) ∙ same in
         let e : search_end F P.cells k ≡ Some (slot i) = ap (search_end F P.cells) (sym key) ∙ AllArrive-IsPlaced F P at.placed (slot i) _ cell in
-        (rw (at.slots_are i b.0, e, filled) refl, ends i b.0 e)
+        (rw (at.slots_are i b.0, e, occupied) refl, ends i b.0 e)
 
     module _ (others : (i : ℕ) → Contains xs i → slot_key F E.bytes ((start + i) % E.slots) ≡ k → ⊥) where
       -- where no match has the key, no slot has
@@ -145,12 +145,12 @@ module _ (F : Format) (P : Table) (E : EntryBytes) (k : List ℕ) (p start : ℕ
 
       -- so the places up to a free one are passed
       passed_to : (n : ℕ) → n ≤ length bs → ((i : ℕ) → i < n → counts_as_free (slice_index bs i) ≡ false) → Passed F P k (p + n)
-      passed_to n l filled q lq = elim (cases_lt q p) [
+      passed_to n l occupied q lq = elim (cases_lt q p) [
         | inl before ↦ at.passed q before
         | inr here ↦
             let i : ℕ = q - p in
             let e : p + i ≡ q = omega arith in
-            subst (λ m. stops_at P.cells k (slot_of F P k m) ≡ false) e (or_from _ _ (sym (byte_is i (omega arith)) ∙ filled i (omega arith)) (no_key i (omega arith)))
+            subst (λ m. stops_at P.cells k (slot_of F P k m) ≡ false) e (or_from _ _ (sym (byte_is i (omega arith)) ∙ occupied i (omega arith)) (no_key i (omega arith)))
       ]
 
       -- the first free slot ends the search
@@ -202,11 +202,11 @@ stands-piece F P E k p start bs at n l s passed =
     }
 
 -- what a piece tells of the group
-pub look-piece : (F : Format) (P : Table) (k : List ℕ) (p at n : ℕ) (r : Option Search) → at + n ≤ 16 → is_some r ≡ true → IsLook F P k (p + at) n r → IsLook F P k p 16 r
+pub look-piece : (F : Format) (P : Table) (k : List ℕ) (p at n : ℕ) (r : Option SearchResult) → at + n ≤ 16 → is_some r ≡ true → IsLook F P k (p + at) n r → IsLook F P k p 16 r
 look-piece F P k p at n None l some look = absurd (true≢false (sym some))
 look-piece F P k p at n (Some a) l some look = (look.0, (look.1.0, omega (arith, look.1.1), omega (arith, look.1.2), look.1.3))
 
 -- where it tells nothing, its places are passed
-pub look-none : (F : Format) (P : Table) (k : List ℕ) (p n : ℕ) (r : Option Search) → is_some r ≡ false → IsLook F P k p n r → Passed F P k (p + n)
+pub look-none : (F : Format) (P : Table) (k : List ℕ) (p n : ℕ) (r : Option SearchResult) → is_some r ≡ false → IsLook F P k p n r → Passed F P k (p + n)
 look-none F P k p n None none look = look
 look-none F P k p n (Some a) none look = absurd (true≢false none)

@@ -6,23 +6,23 @@ use Rattle.odht_base.specs.Bytes.{bytes_at}
 use Rattle.odht_base.specs.Format.{Format, IsFormat, home}
 use Rattle.odht_base.specs.Image.{controls, control_byte}
 use Rattle.odht_base.specs.Load.{IsSlotCount}
-use Rattle.odht_base.specs.Probe.{place_slot}
+use Rattle.odht_base.specs.Probe.{probe_slot}
 use Rattle.odht_base.specs.Search.{reach, groups_read}
-use Rattle.odht_base.specs.Shown.{counts_as_free}
+use Rattle.odht_base.specs.Decoded.{counts_as_free}
 use Rattle.odht_base.specs.Table.{Table, Cells, slot_count, cell_at}
 use Rattle.odht_base.specs.Valid.{IsPartsOf}
 use Rattle.odht_base.proofs.lemmas.ByteRanges.{length-bytes_at}
-use Rattle.odht_base.proofs.lemmas.Orders.{place_slot-lt, place_slot-onto, position-order_none}
+use Rattle.odht_base.proofs.lemmas.Orders.{probe_slot-lt, probe_slot-onto, position-order_none}
 use Rattle.odht_base.proofs.lemmas.Parts.{slice_index-controls, slice_index-mirror}
-use Rattle.odht_raw.specs.Answers.{MatchSearch}
-use Rattle.odht_raw.specs.Frame.{CountsAsFree, CountsAsFilled, HasNoFree, HasNoFreeSlot}
+use Rattle.odht_raw.specs.SearchResults.{MatchSearchResult}
+use Rattle.odht_raw.specs.Frame.{CountsAsFree, CountsAsOccupied, HasNoFree, HasNoFreeSlot}
 use Rattle.odht_raw.specs.Parts.{EntryBytes}
-use Rattle.odht_raw.specs.Searches.{slot_of, Passed, StandsAt, EndsWithin}
-use Rattle.odht_raw.specs.declared.raw_table.outcome.Search.{Search}
-use Rattle.odht_raw.specs.declared.raw_table.outcome.Search.TheVariants.{Found, Free, Neither}
+use Rattle.odht_raw.specs.SearchSteps.{slot_of, Passed, StandsAt, EndsWithin}
+use Rattle.odht_raw.specs.declared.raw_table.search_result.SearchResult.{SearchResult}
+use Rattle.odht_raw.specs.declared.raw_table.search_result.SearchResult.TheVariants.{Found, Free, Neither}
 use Rattle.odht_raw.proofs.lemmas.GroupLooks.{index-bytes_at}
 use Rattle.odht_raw.proofs.lemmas.PartCells.{slots_are}
-use Rattle.odht_raw.proofs.lemmas.ProbeSteps.{place_slot-step}
+use Rattle.odht_raw.proofs.lemmas.ProbeSteps.{probe_slot-step}
 
 -- ---- sixteen control bytes, the mirror behind the last slot
 -- of a table they are those of the slots from b on, around the end
@@ -53,54 +53,54 @@ group-free ctrl s b i len few l h free =
           inr (rw is (omega arith, subst (λ c. IsTrue (counts_as_free c)) (byte ∙ ap (slice_index ctrl) behind) free))
     ]
 
--- and one that is not free is that of a slot that counts as filled
-pub group-filled : (ctrl : List ℕ) (s b i : ℕ) → length ctrl ≡ s + 16 → 16 ≤ s → b < s → i < 16 → counts_as_free (slice_index (bytes_at ctrl b 16) i) ≡ false → CountsAsFilled ctrl ((b + i) % s)
-group-filled ctrl s b i len few l h filled =
+-- and one that is not free is that of a slot that counts as occupied
+pub group-occupied : (ctrl : List ℕ) (s b i : ℕ) → length ctrl ≡ s + 16 → 16 ≤ s → b < s → i < 16 → counts_as_free (slice_index (bytes_at ctrl b 16) i) ≡ false → CountsAsOccupied ctrl ((b + i) % s)
+group-occupied ctrl s b i len few l h occupied =
     let byte = index-bytes_at ctrl b 16 i h in
     elim (cases_lt (b + i) s) [
-      | inl inside ↦ inl (rw (mod-eq_of_lt {n = b + i} {m = s} inside) (subst (λ c. counts_as_free c ≡ false) byte filled))
+      | inl inside ↦ inl (rw (mod-eq_of_lt {n = b + i} {m = s} inside) (subst (λ c. counts_as_free c ≡ false) byte occupied))
       | inr past ↦
           let x : ℕ = b + i - s in
           let turn : x + s ≡ b + i = omega arith in
           let low : x < s = omega arith in
           let is : (b + i) % s ≡ x = ap (λ y. y % s) (sym turn) ∙ add-mod_right x s ∙ mod-eq_of_lt {n = x} {m = s} low in
           let behind : b + i ≡ length ctrl - 16 + x = omega arith in
-          inr (rw is (omega arith, subst (λ c. counts_as_free c ≡ false) (byte ∙ ap (slice_index ctrl) behind) filled))
+          inr (rw is (omega arith, subst (λ c. counts_as_free c ≡ false) (byte ∙ ap (slice_index ctrl) behind) occupied))
     ]
 
--- the slots of the places before p of the order from b on count as filled
-abbrev pub FilledBefore : List ℕ → ℕ → ℕ → ℕ → Type 0
-FilledBefore ctrl b s p = (q : ℕ) → q < p → CountsAsFilled ctrl (place_slot b s q)
+-- the slots of the places before p of the order from b on count as occupied
+abbrev pub OccupiedBefore : List ℕ → ℕ → ℕ → ℕ → Type 0
+OccupiedBefore ctrl b s p = (q : ℕ) → q < p → CountsAsOccupied ctrl (probe_slot b s q)
 
 -- after one more group without a free byte
-pub filled-more : (ctrl bs : List ℕ) (b s start p : ℕ) → length ctrl ≡ s + 16 → 16 ≤ s → p % 16 ≡ 0 → start ≡ place_slot b s p → bs ≡ bytes_at ctrl start 16
-    → HasNoFree bs 16 → FilledBefore ctrl b s p → FilledBefore ctrl b s (p + 16)
-filled-more ctrl bs b s start p len few aligned is read none before q l = elim (cases_lt q p) [
+pub occupied-more : (ctrl bs : List ℕ) (b s start p : ℕ) → length ctrl ≡ s + 16 → 16 ≤ s → p % 16 ≡ 0 → start ≡ probe_slot b s p → bs ≡ bytes_at ctrl start 16
+    → HasNoFree bs 16 → OccupiedBefore ctrl b s p → OccupiedBefore ctrl b s (p + 16)
+occupied-more ctrl bs b s start p len few aligned is read none before q l = elim (cases_lt q p) [
   | inl low ↦ before q low
   | inr past ↦
       let i : ℕ = q - p in
       let at : p + i ≡ q = omega arith in
-      let low : start < s = omega (arith, is, place_slot-lt b s p (omega arith)) in
-      let stands : (start + i) % s ≡ place_slot b s q = ap (λ x. (x + i) % s) is ∙ place_slot-step b s p i (omega arith) ∙ ap (place_slot b s) at in
-      subst (CountsAsFilled ctrl) stands (group-filled ctrl s start i len few low (omega arith) (subst (λ x. counts_as_free (slice_index x i) ≡ false) read (none i (omega arith))))
+      let low : start < s = omega (arith, is, probe_slot-lt b s p (omega arith)) in
+      let stands : (start + i) % s ≡ probe_slot b s q = ap (λ x. (x + i) % s) is ∙ probe_slot-step b s p i (omega arith) ∙ ap (probe_slot b s) at in
+      subst (CountsAsOccupied ctrl) stands (group-occupied ctrl s start i len few low (omega arith) (subst (λ x. counts_as_free (slice_index x i) ≡ false) read (none i (omega arith))))
 ]
 
 -- so does each slot after the last group
-pub filled-all : (ctrl : List ℕ) (b s : ℕ) → IsSlotCount s → FilledBefore ctrl b s s → HasNoFreeSlot ctrl s
-filled-all ctrl b s count before i l = let q = place_slot-onto b s i count l in subst (CountsAsFilled ctrl) q.2 (before q.0 q.1)
+pub occupied-all : (ctrl : List ℕ) (b s : ℕ) → IsSlotCount s → OccupiedBefore ctrl b s s → HasNoFreeSlot ctrl s
+occupied-all ctrl b s count before i l = let q = probe_slot-onto b s i count l in subst (CountsAsOccupied ctrl) q.2 (before q.0 q.1)
 
 -- ---- a placed table
 module _ (F : Format) (P : Table) (E : EntryBytes) (ctrl k : List ℕ) (f : IsFormat F) (h : IsPartsOf F P E.bytes ctrl) (len : length ctrl ≡ E.slots + 16) where
   -- a search that passed the places before the first place p of a group stands there
-  pub stands-group : (p start : ℕ) → p % 16 ≡ 0 → p + 16 ≤ E.slots → start ≡ place_slot (home F k E.slots) E.slots p → Passed F P k p → StandsAt F P E k p start (bytes_at ctrl start 16)
+  pub stands-group : (p start : ℕ) → p % 16 ≡ 0 → p + 16 ≤ E.slots → start ≡ probe_slot (home F k E.slots) E.slots p → Passed F P k p → StandsAt F P E k p start (bytes_at ctrl start 16)
   stands-group p start aligned l is passed =
       let count : E.slots ≡ slot_count P = slots_are F f P E.bytes ctrl h E.slots len in
       let few = h.placed.slots.least in
-      let low : start < E.slots = omega (arith, is, place_slot-lt (home F k E.slots) E.slots p (omega arith)) in
+      let low : start < E.slots = omega (arith, is, probe_slot-lt (home F k E.slots) E.slots p (omega arith)) in
       let sixteen : length (bytes_at ctrl start 16) ≡ 16 = length-bytes_at ctrl start 16 (omega arith) in
       let step : (i : ℕ) → i < 16 → (start + i) % E.slots ≡ slot_of F P k (p + i) = λ i b.
-      ap (λ x. (x + i) % E.slots) is ∙ place_slot-step (home F k E.slots) E.slots p i (omega arith)
-      ∙ ap (λ n. place_slot (home F k n) n (p + i)) count in
+      ap (λ x. (x + i) % E.slots) is ∙ probe_slot-step (home F k E.slots) E.slots p i (omega arith)
+      ∙ ap (λ n. probe_slot (home F k n) n (p + i)) count in
       record {
         placed = h.placed;
         slots = count;
@@ -117,11 +117,11 @@ module _ (F : Format) (P : Table) (E : EntryBytes) (ctrl k : List ℕ) (f : IsFo
       }
 
   -- the same from what is known of the probe and the scan
-  pub stands-probe : (start hash b m p : ℕ) (bs ctrl' : List ℕ) → p % 16 ≡ 0 → p + 16 ≤ E.slots → start ≡ place_slot b (m + 1) p → b ≡ hash % E.slots → m + 1 ≡ E.slots → hash ≡ F.hash k
+  pub stands-probe : (start hash b m p : ℕ) (bs ctrl' : List ℕ) → p % 16 ≡ 0 → p + 16 ≤ E.slots → start ≡ probe_slot b (m + 1) p → b ≡ hash % E.slots → m + 1 ≡ E.slots → hash ≡ F.hash k
       → bs ≡ bytes_at ctrl' start 16 → ctrl' ≡ ctrl → Passed F P k p → StandsAt F P E k p start bs
   stands-probe start hash b m p bs ctrl' aligned l es eb em eh ebs ec passed =
       let first : b ≡ home F k E.slots = eb ∙ ap (λ x. x % E.slots) eh in
-      let is : start ≡ place_slot (home F k E.slots) E.slots p = es ∙ ap (λ x. place_slot x (m + 1) p) first ∙ ap (λ n. place_slot (home F k E.slots) n p) em in
+      let is : start ≡ probe_slot (home F k E.slots) E.slots p = es ∙ ap (λ x. probe_slot x (m + 1) p) first ∙ ap (λ n. probe_slot (home F k E.slots) n p) em in
       subst (StandsAt F P E k p start) (sym (ebs ∙ ap (λ c. bytes_at c start 16) ec)) (stands-group p start aligned l is passed)
 
   -- one that ends in the group of place p reads the groups up to it
@@ -136,9 +136,9 @@ module _ (F : Format) (P : Table) (E : EntryBytes) (ctrl k : List ℕ) (f : IsFo
       rw (position-order_none _ (home F k (slot_count P)) (slot_count P) (subst (Passed F P k) count passed)) (ap (λ n. n / 16) (sym count))
 
 -- what a group tells of any parts
-pub ends-free : (ctrl : List ℕ) (s start : ℕ) (A : ℕ → Type 0) (N : Type 0) (r : Search) → length ctrl ≡ s + 16 → 16 ≤ s → start < s
-    → MatchSearch r A (λ i. (j : ℕ) × (j < 16) × (i ≡ (start + j) % s) × IsTrue (counts_as_free (slice_index (bytes_at ctrl start 16) j))) ⊥
-    → MatchSearch r A (λ i. (i < s) × CountsAsFree ctrl i) N
+pub ends-free : (ctrl : List ℕ) (s start : ℕ) (A : ℕ → Type 0) (N : Type 0) (r : SearchResult) → length ctrl ≡ s + 16 → 16 ≤ s → start < s
+    → MatchSearchResult r A (λ i. (j : ℕ) × (j < 16) × (i ≡ (start + j) % s) × IsTrue (counts_as_free (slice_index (bytes_at ctrl start 16) j))) ⊥
+    → MatchSearchResult r A (λ i. (i < s) × CountsAsFree ctrl i) N
 ends-free ctrl s start A N (Found i) len few low m = m
 ends-free ctrl s start A N (Free i) len few low m = (omega (arith, m.2), subst (CountsAsFree ctrl) (sym m.2) (group-free ctrl s start m.0 len few low m.1 m.3))
 ends-free ctrl s start A N Neither len few low m = absurd m

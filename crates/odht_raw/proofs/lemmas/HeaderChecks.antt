@@ -5,7 +5,7 @@ use Rattle.std.specs.Option.{option_or}
 use Rattle.std.proofs.lemmas.List.{take-append-drop}
 use Rattle.odht_base.specs.Format.{Format}
 use Rattle.odht_base.specs.Load.{is_power_of_two}
-use Rattle.odht_base.specs.Shown.{stated_slots}
+use Rattle.odht_base.specs.Decoded.{header_slots}
 use Rattle.odht_raw.specs.declared.error.Error.{Error}
 use Rattle.odht_raw.specs.declared.error.Error.TheVariants.{SlotCountNotPowerOfTwo, SlotCountTooSmall}
 use Rattle.odht_raw.specs.Refusals.{first_of, header_refusals, header_refusal, power_refusal, few_slots_refusal}
@@ -29,8 +29,8 @@ past F n B k p = ap first_of (sym (take-append-drop k (header_refusals F n B))) 
 
 -- ---- the slot count, s in the header
 
-module _ (B : List ℕ) (s : ℕ) (is : s ≡ stated_slots B) (fits : s < 2 ^ 64) where
-  test_is : is_power_of_two (stated_slots B) ≡ (count_ones s == 1)
+module _ (B : List ℕ) (s : ℕ) (is : s ≡ header_slots B) (fits : s < 2 ^ 64) where
+  test_is : is_power_of_two (header_slots B) ≡ (count_ones s == 1)
   test_is = ap is_power_of_two (sym is) ∙ sym (same_test s fits)
 
   -- it is refused where std's test fails
@@ -40,11 +40,11 @@ module _ (B : List ℕ) (s : ℕ) (is : s ≡ stated_slots B) (fits : s < 2 ^ 64
   -- then where it is below 16
   pub few_refused : (count_ones s == 1) ≡ true → s < 16 → option_or (power_refusal B) (few_slots_refusal B) ≡ Some (SlotCountTooSmall s)
   few_refused h few =
-      let low : nat_lt (stated_slots B) 16 ≡ true = ap (λ n. nat_lt n 16) (sym is) ∙ lt-ltb s 16 few in
+      let low : nat_lt (header_slots B) 16 ≡ true = ap (λ n. nat_lt n 16) (sym is) ∙ lt-ltb s 16 few in
       rw (test_is ∙ h, low) (ap (λ n. Some (SlotCountTooSmall n)) (sym is))
 
   -- and else not
   pub slot_count_passes : (count_ones s == 1) ≡ true → 16 ≤ s → option_or (power_refusal B) (few_slots_refusal B) ≡ None
   slot_count_passes h enough =
-      let high : nat_lt (stated_slots B) 16 ≡ false = ap (λ n. nat_lt n 16) (sym is) ∙ le-ltb s 16 enough in
+      let high : nat_lt (header_slots B) 16 ≡ false = ap (λ n. nat_lt n 16) (sym is) ∙ le-ltb s 16 enough in
       rw (test_is ∙ h, high) refl

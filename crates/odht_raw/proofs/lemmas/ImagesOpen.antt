@@ -5,7 +5,7 @@ use Rattle.odht_base.specs.Format.{Format, IsFormat, tag}
 use Rattle.odht_base.specs.Table.{Pair, Table, slot_count, cell_at, is_free}
 use Rattle.odht_base.specs.Image.{control_byte, entries, controls, image}
 use Rattle.odht_base.specs.Valid.{IsPlaced, IsImage}
-use Rattle.odht_base.specs.Shown.{counts_as_free, slot_key}
+use Rattle.odht_base.specs.Decoded.{counts_as_free, slot_key}
 use Rattle.odht_base.proofs.lemmas.Fits.{HasLengths, HasLengths-HasPairsOf, IsSized-IsPlaced}
 use Rattle.odht_base.proofs.lemmas.Image.{entries_of-image, controls_of-image}
 use Rattle.odht_base.proofs.lemmas.Parts.{length-controls, slice_index-controls, counts_as_free-control_byte, slot_key-entries, slot_entry-free}
@@ -14,7 +14,7 @@ use Rattle.odht_raw.specs.Refusals.{hashes_refusal_at, hashes_refusal, view_refu
 use Rattle.odht_raw.proofs.lemmas.Accepted.{IsAccepted-image}
 use Rattle.odht_raw.proofs.lemmas.FirstErrors.{None-gives, false-differs}
 use Rattle.odht_raw.proofs.lemmas.Openings.{view_refusal-slots}
-use Rattle.odht_raw.proofs.lemmas.SlotChecks.{zero_entry_passes, filled_refusal, hashes_refusal-None}
+use Rattle.odht_raw.proofs.lemmas.SlotChecks.{zero_entry_passes, occupied_refusal, hashes_refusal-None}
 
 -- what is refused nothing is accepted
 IsOk-none : {T : Type 0} (r : Result T Error) → result_err r ≡ None → IsOk r
@@ -39,7 +39,7 @@ module _ (F : Format) (f : IsFormat F) (P : Table) (h : IsPlaced F P) where
       go None e = zero_entry_passes F (entries F P.cells) (controls F P.cells) i (counted ∙ ap is_none e) _ (slot_entry-free F P.cells i lengths low e)
       go (Some p) e =
           let same : slice_index (controls F P.cells) i ≡ tag F (slot_key F (entries F P.cells) i) = byte ∙ ap (control_byte F) e ∙ ap (tag F) (sym (slot_key-entries F P.cells i p lengths e)) in
-          filled_refusal F (entries F P.cells) (controls F P.cells) i (counted ∙ ap is_none e) ∙ None-gives _ _ (false-differs _ _ same)
+          occupied_refusal F (entries F P.cells) (controls F P.cells) i (counted ∙ ap is_none e) ∙ None-gives _ _ (false-differs _ _ same)
 
   -- so nothing of its image is
   pub view_refusal-image : view_refusal F (image F P) ≡ None

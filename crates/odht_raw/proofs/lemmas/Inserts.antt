@@ -5,7 +5,7 @@ use Rattle.odht_base.specs.Bytes.{overwritten_at}
 use Rattle.odht_base.specs.Format.{Format, entry_len, tag}
 use Rattle.odht_base.specs.Table.{Pair, Table}
 use Rattle.odht_base.specs.Valid.{IsPairOf, IsPartsOf}
-use Rattle.odht_base.specs.Shown.{slot_value}
+use Rattle.odht_base.specs.Decoded.{slot_value}
 use Rattle.odht_base.specs.Writes.{tagged}
 use Rattle.odht_base.proofs.lemmas.Fits.{HasLengths-HasPairsOf}
 use Rattle.odht_base.proofs.lemmas.Parts.{slot_value-entries}

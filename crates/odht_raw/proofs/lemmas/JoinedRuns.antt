@@ -8,7 +8,7 @@ use Rattle.odht_base.specs.Format.{Format, entry_len, tag}
 use Rattle.odht_base.specs.Image.{header_bytes, image}
 use Rattle.odht_base.specs.Load.{max_items}
 use Rattle.odht_base.specs.Numbers.{num, le_bytes}
-use Rattle.odht_base.specs.Shown.{stated_slots, stated_count, stated_factor, entries_of, controls_of, slot_key, slot_value}
+use Rattle.odht_base.specs.Decoded.{header_slots, header_count, header_factor, entries_of, controls_of, slot_key, slot_value}
 use Rattle.odht_base.specs.Table.{Pair, Table, slot_count, count}
 use Rattle.odht_base.specs.Insert.{place}
 use Rattle.odht_base.specs.Valid.{IsPairOf, IsPlaced, IsValid}
@@ -17,10 +17,10 @@ use Rattle.odht_base.proofs.lemmas.ByteRanges.{bytes_at-between, bytes_at-take_f
 use Rattle.odht_base.proofs.lemmas.Grown.{place-IsInsert, slot_count-place_all}
 use Rattle.odht_base.proofs.lemmas.Numbers.{num-le_bytes, le_bytes-num_at}
 use Rattle.odht_base.proofs.lemmas.PartsOf.{slot_within}
-use Rattle.odht_base.proofs.lemmas.Runs.{count-run, factor-run}
+use Rattle.odht_base.proofs.lemmas.InsertRuns.{count-run, factor-run}
 use Rattle.odht_base.proofs.lemmas.Writes.{with_count-append, with_value-append, with_pair-append}
 use Rattle.odht_raw.specs.Coding.{Coding, encoded}
-use Rattle.odht_raw.specs.Frame.{IsAccepted, stated_maximum, InsertFrame, PartsFrame, HasNoFreeSlot, CountsAsFree}
+use Rattle.odht_raw.specs.Frame.{IsAccepted, header_maximum, InsertFrame, PartsFrame, HasNoFreeSlot, CountsAsFree}
 use Rattle.odht_raw.specs.Runs.{IsFramedRun, IsPartsRun, ArePartsOfRun, IsPlacedBelow, count_after}
 use Rattle.odht_raw.specs.declared.error.Error.{Error}
 use Rattle.odht_raw.proofs.lemmas.NewTables.{bytes_at-overwritten_at, overwritten_at-same}
@@ -45,32 +45,32 @@ module _ (H : List ℕ) (n : ℕ) (es ctrl : List ℕ) (h : length H ≡ 32) whe
       in_header at m fits ∙ sym (bytes_at-drop (with_count H n) 16 k m at e)
       ∙ ap (λ t. bytes_at t k m) (drop-overwritten_at H 8 16 (le_bytes 8 n) (lit≤ tt) (omega (arith, h))) ∙ bytes_at-drop H 16 k m at e
 
-  pub joined-slots : stated_slots (joined H n es ctrl) ≡ stated_slots H
+  pub joined-slots : header_slots (joined H n es ctrl) ≡ header_slots H
   joined-slots = ap num (behind_count 16 8 0 (lit≤ tt) refl)
 
-  pub joined-factor : stated_factor (joined H n es ctrl) ≡ stated_factor H
+  pub joined-factor : header_factor (joined H n es ctrl) ≡ header_factor H
   joined-factor = ap num (behind_count 28 2 12 (lit≤ tt) refl)
 
-  pub joined-count : n < 2 ^ 64 → stated_count (joined H n es ctrl) ≡ n
+  pub joined-count : n < 2 ^ 64 → header_count (joined H n es ctrl) ≡ n
   joined-count small =
       ap num (in_header 8 8 (lit≤ tt) ∙ bytes_at-overwritten_at H 8 8 (le_bytes 8 n) (omega (arith, h)) refl) ∙ num-le_bytes 8 n small
 
-  pub joined-maximum : stated_maximum (joined H n es ctrl) ≡ stated_maximum H
+  pub joined-maximum : header_maximum (joined H n es ctrl) ≡ header_maximum H
   joined-maximum = λ i. max_items (joined-slots i) (joined-factor i)
 
 -- ---- its parts
-module _ (F : Format) (H : List ℕ) (n : ℕ) (es ctrl : List ℕ) (h : length H ≡ 32) (long : length es ≡ stated_slots H * entry_len F) where
+module _ (F : Format) (H : List ℕ) (n : ℕ) (es ctrl : List ℕ) (h : length H ≡ 32) (long : length es ≡ header_slots H * entry_len F) where
   pub joined-entries : entries_of F (joined H n es ctrl) ≡ es
   joined-entries =
       ap (λ s. bytes_at (joined H n es ctrl) 32 (s * entry_len F)) (joined-slots H n es ctrl h)
-      ∙ bytes_at-between (with_count H n) es ctrl 32 (stated_slots H * entry_len F) (length-with_count H n es ctrl h) long
+      ∙ bytes_at-between (with_count H n) es ctrl 32 (header_slots H * entry_len F) (length-with_count H n es ctrl h) long
 
   pub joined-controls : controls_of F (joined H n es ctrl) ≡ ctrl
   joined-controls =
-      let front : length (with_count H n ++ es) ≡ 32 + stated_slots H * entry_len F = length-append (with_count H n) es ∙ omega (arith, length-with_count H n es ctrl h, long) in
+      let front : length (with_count H n ++ es) ≡ 32 + header_slots H * entry_len F = length-append (with_count H n) es ∙ omega (arith, length-with_count H n es ctrl h, long) in
       ap (λ s. drop (32 + s * entry_len F) (joined H n es ctrl)) (joined-slots H n es ctrl h)
-      ∙ ap (drop (32 + stated_slots H * entry_len F)) (sym (append_assoc (with_count H n) es ctrl))
-      ∙ drop_at (with_count H n ++ es) ctrl (32 + stated_slots H * entry_len F) front
+      ∙ ap (drop (32 + header_slots H * entry_len F)) (sym (append_assoc (with_count H n) es ctrl))
+      ∙ drop_at (with_count H n ++ es) ctrl (32 + header_slots H * entry_len F) front
 
 -- a count over a count
 with_count-twice : (H : List ℕ) (n m : ℕ) → length H ≡ 32 → with_count (with_count H n) m ≡ with_count H m
@@ -78,34 +78,34 @@ with_count-twice H n m h =
     (λ i. take-overwritten_at H 8 8 (le_bytes 8 n) (lit≤ tt) (omega (arith, h)) i ++ le_bytes 8 m ++ drop-overwritten_at H 8 16 (le_bytes 8 n) (lit≤ tt) (omega (arith, h)) i)
 
 -- ---- one insert
-module _ (F : Format) (H : List ℕ) (h : length H ≡ 32) (small : stated_maximum H < 2 ^ 64) where
+module _ (F : Format) (H : List ℕ) (h : length H ≡ 32) (small : header_maximum H < 2 ^ 64) where
   -- what an insert into the parts may do, it does to the joined bytes
   pub frame_joined : (p : Pair) (n : ℕ) (es ctrl : List ℕ) (a : Result (Option (List ℕ)) Error) (es' ctrl' : List ℕ)
-      → IsPairOf F p → n < stated_maximum H → length es ≡ stated_slots H * entry_len F → length ctrl ≡ stated_slots H + 16
+      → IsPairOf F p → n < header_maximum H → length es ≡ header_slots H * entry_len F → length ctrl ≡ header_slots H + 16
       → PartsFrame F es ctrl p a es' ctrl' → InsertFrame F (joined H n es ctrl) p a (joined H (count_after n a) es' ctrl')
   frame_joined p n es ctrl a es' ctrl' fits room long mirrored (PartsFrame.no_slot none) =
       let slots = joined-slots H n es ctrl h in
-      let same : length ctrl - 16 ≡ stated_slots (joined H n es ctrl) = omega (arith, mirrored, slots) in
-      InsertFrame.no_slot (subst (λ c. HasNoFreeSlot c (stated_slots (joined H n es ctrl))) (sym (joined-controls F H n es ctrl h long)) (subst (HasNoFreeSlot ctrl) same none))
+      let same : length ctrl - 16 ≡ header_slots (joined H n es ctrl) = omega (arith, mirrored, slots) in
+      InsertFrame.no_slot (subst (λ c. HasNoFreeSlot c (header_slots (joined H n es ctrl))) (sym (joined-controls F H n es ctrl h long)) (subst (HasNoFreeSlot ctrl) same none))
   frame_joined p n es ctrl a es' ctrl' fits room long mirrored (PartsFrame.overwrote i low key) =
       let B = joined H n es ctrl in
       let slots = joined-slots H n es ctrl h in
       let entry = joined-entries F H n es ctrl h long in
-      let within : i < stated_slots H = omega (arith, low, mirrored) in
+      let within : i < header_slots H = omega (arith, low, mirrored) in
       let value : slot_value F (entries_of F B) i ≡ slot_value F es i = ap (λ e. slot_value F e i) entry in
       let written : with_value F B i p.value ≡ joined H n (overwritten_at es (i * entry_len F + F.key_len) p.value) ctrl =
-      with_value-append F (stated_slots H) (with_count H n) es ctrl i p.value (length-with_count H n es ctrl h) long within fits.value.len in
+      with_value-append F (header_slots H) (with_count H n) es ctrl i p.value (length-with_count H n es ctrl h) long within fits.value.len in
       subst (λ (x : List ℕ × List ℕ). InsertFrame F B p (Ok (Some x.0)) x.1) (λ j. (value j, written j))
       (InsertFrame.overwrote i (omega (arith, within, slots)) (ap (λ e. slot_key F e i) entry ∙ key))
   frame_joined p n es ctrl a es' ctrl' fits room long mirrored (PartsFrame.added i low free) =
       let B = joined H n es ctrl in
       let slots = joined-slots H n es ctrl h in
       let counted = joined-count H n es ctrl h (omega (arith, room, small)) in
-      let within : i < stated_slots H = omega (arith, low, mirrored) in
+      let within : i < header_slots H = omega (arith, low, mirrored) in
       let d = overwritten_at es (i * entry_len F) (p.key ++ p.value) ++ tagged ctrl i (tag F p.key) in
-      let written : with_count (with_pair F (stated_slots B) B i p) (stated_count B + 1) ≡ with_count H (n + 1) ++ d =
+      let written : with_count (with_pair F (header_slots B) B i p) (header_count B + 1) ≡ with_count H (n + 1) ++ d =
       (λ j. with_count (with_pair F (slots j) B i p) (counted j + 1))
-      ∙ ap (λ t. with_count t (n + 1)) (with_pair-append F (stated_slots H) (with_count H n) es ctrl i p (length-with_count H n es ctrl h) long mirrored within fits.key.len fits.value.len)
+      ∙ ap (λ t. with_count t (n + 1)) (with_pair-append F (header_slots H) (with_count H n) es ctrl i p (length-with_count H n es ctrl h) long mirrored within fits.key.len fits.value.len)
       ∙ with_count-append (with_count H n) d (n + 1) (omega (arith, length-with_count H n es ctrl h))
       ∙ ap (λ t. t ++ d) (with_count-twice H n (n + 1) h) in
       let most = joined-maximum H n es ctrl h in
@@ -148,9 +148,9 @@ frame-lengths F p es ctrl a es' ctrl' s fits long mirrored (PartsFrame.added i l
         go true = length-set (set cs j t) (j + (length cs - 16)) t ∙ length-set cs j t
         go false = length-set cs j t
 
-pub run_joined : {K V : Type 0} (c : Coding K V) (H : List ℕ) (m : ℕ) (es ctrl : List ℕ) → length H ≡ 32 → stated_maximum H < 2 ^ 64
-    → length es ≡ stated_slots H * entry_len c.format → length ctrl ≡ stated_slots H + 16
-    → (items : List (K × V)) (n : ℕ) (es' ctrl' : List ℕ) → ((x : ℕ) → x < length items → m + x < stated_maximum H)
+pub run_joined : {K V : Type 0} (c : Coding K V) (H : List ℕ) (m : ℕ) (es ctrl : List ℕ) → length H ≡ 32 → header_maximum H < 2 ^ 64
+    → length es ≡ header_slots H * entry_len c.format → length ctrl ≡ header_slots H + 16
+    → (items : List (K × V)) (n : ℕ) (es' ctrl' : List ℕ) → ((x : ℕ) → x < length items → m + x < header_maximum H)
     → IsPartsRun c es ctrl items n es' ctrl' → IsJoinedRun c H m es ctrl items n es' ctrl'
 run_joined c H m es ctrl h small long mirrored items n es' ctrl' room (IsPartsRun.start) =
     let none : m ≡ m + 0 = omega arith in
@@ -167,7 +167,7 @@ run_joined {K = K} {V = V} c H m es ctrl h small long mirrored items n es' ctrl'
     let long1 = ih.entries_len ∙ long in
     let mirrored1 = ih.control_len ∙ mirrored in
     let there = frame_joined c.format H h small p (m + x) es1 ctrl1 (Ok o) es2 ctrl2 fits (room x (omega (arith, ih.few, more))) long1 mirrored1 frame in
-    let sizes = frame-lengths c.format p es1 ctrl1 (Ok o) es2 ctrl2 (stated_slots H) fits long1 mirrored1 frame in
+    let sizes = frame-lengths c.format p es1 ctrl1 (Ok o) es2 ctrl2 (header_slots H) fits long1 mirrored1 frame in
     record {
       framed = subst (λ y. IsFramedRun c (joined H m es ctrl) (before ++ (k, v) ∷ []) (joined H y es2 ctrl2)) (count_after-add m x o)
           (IsFramedRun.accepted before k v (option_map c.value_of o) (joined H (m + x) es1 ctrl1) (joined H (count_after (m + x) (Ok o)) es2 ctrl2) ih.framed (Ok o, refl, there));
@@ -178,8 +178,8 @@ run_joined {K = K} {V = V} c H m es ctrl h small long mirrored items n es' ctrl'
 
 -- ---- the whole bytes
 -- a header that states its own count is as it is
-pub with_count-stated : (H : List ℕ) → length H ≡ 32 → All (λ x. x < 256) H → with_count H (num (bytes_at H 8 8)) ≡ H
-with_count-stated H h small =
+pub with_count-by_header : (H : List ℕ) → length H ≡ 32 → All (λ x. x < 256) H → with_count H (num (bytes_at H 8 8)) ≡ H
+with_count-by_header H h small =
     let same : le_bytes 8 (num (bytes_at H 8 8)) ≡ bytes_at H 8 8 = le_bytes-num_at 8 (bytes_at H 8 8) (length-bytes_at H 8 8 (omega (arith, h))) (All-bytes_at H 8 8 small) in
     overwritten_at-same H 8 (le_bytes 8 (num (bytes_at H 8 8))) (sym same)
 

@@ -9,15 +9,15 @@ use Rattle.odht_base.specs.Bytes.{bytes_at}
 use Rattle.odht_base.specs.Format.{Format, home, tag}
 use Rattle.odht_base.specs.Groups.{IsReport, first_free}
 use Rattle.odht_base.specs.Load.{IsSlotCount}
-use Rattle.odht_base.specs.Probe.{place_slot}
+use Rattle.odht_base.specs.Probe.{probe_slot}
 use Rattle.odht_base.specs.Search.{search_end, stops_at, is_at}
-use Rattle.odht_base.specs.Shown.{counts_as_free, slot_key, slot_value, shown_cells}
+use Rattle.odht_base.specs.Decoded.{counts_as_free, slot_key, slot_value, decoded_cells}
 use Rattle.odht_base.specs.Table.{Pair, Cells, has_key}
 use Rattle.odht_base.proofs.lemmas.Keys.{same_bytes, key_itself}
 use Rattle.odht_base.proofs.lemmas.Lookups.{search_end-at}
-use Rattle.odht_base.proofs.lemmas.Orders.{place_slot-apart, find-order_some}
+use Rattle.odht_base.proofs.lemmas.Orders.{probe_slot-apart, find-order_some}
 use Rattle.odht_raw.proofs.lemmas.GroupLooks.{index-bytes_at, position-None}
-use Rattle.odht_raw.proofs.lemmas.SlotFits.{IsMirrored, length-shown_cells, cell_at-shown_cells}
+use Rattle.odht_raw.proofs.lemmas.SlotFits.{IsMirrored, length-decoded_cells, cell_at-decoded_cells}
 
 -- ---- the cells that parts show
 module _ (F : Format) (es ctrl : List ℕ) (s : ℕ) (control : length ctrl ≡ s + 16) where
@@ -25,12 +25,12 @@ module _ (F : Format) (es ctrl : List ℕ) (s : ℕ) (control : length ctrl ≡ 
   slots = omega (arith, control)
 
   -- they are as many as the slots
-  pub slots_shown : length (shown_cells F es ctrl) ≡ s
-  slots_shown = length-shown_cells F es ctrl ∙ slots
+  pub slots_decoded : length (decoded_cells F es ctrl) ≡ s
+  slots_decoded = length-decoded_cells F es ctrl ∙ slots
 
   -- a search stops there at a byte that counts as free, or at the key
-  pub stops_at-shown_cells : (k : List ℕ) (i : ℕ) → i < s → stops_at (shown_cells F es ctrl) k i ≡ (counts_as_free (slice_index ctrl i) || bytes_eq k (slot_key F es i))
-  stops_at-shown_cells k i l = ap (λ c. is_none c || has_key k c) (cell_at-shown_cells F es ctrl i (subst (λ n. i < n) (sym slots) l)) ∙ go (counts_as_free (slice_index ctrl i))
+  pub stops_at-decoded_cells : (k : List ℕ) (i : ℕ) → i < s → stops_at (decoded_cells F es ctrl) k i ≡ (counts_as_free (slice_index ctrl i) || bytes_eq k (slot_key F es i))
+  stops_at-decoded_cells k i l = ap (λ c. is_none c || has_key k c) (cell_at-decoded_cells F es ctrl i (subst (λ n. i < n) (sym slots) l)) ∙ go (counts_as_free (slice_index ctrl i))
     where
       entry : Pair
       entry = record { key = slot_key F es i; value = slot_value F es i }
@@ -41,16 +41,16 @@ module _ (F : Format) (es ctrl : List ℕ) (s : ℕ) (control : length ctrl ≡ 
 
   module _ (k : List ℕ) (i : ℕ) (l : i < s) where
     -- so it does at a free slot
-    pub stops_free : counts_as_free (slice_index ctrl i) ≡ true → stops_at (shown_cells F es ctrl) k i ≡ true
-    stops_free e = stops_at-shown_cells k i l ∙ or_left _ _ e
+    pub stops_free : counts_as_free (slice_index ctrl i) ≡ true → stops_at (decoded_cells F es ctrl) k i ≡ true
+    stops_free e = stops_at-decoded_cells k i l ∙ or_left _ _ e
 
     -- and at the key
-    pub stops_key : slot_key F es i ≡ k → stops_at (shown_cells F es ctrl) k i ≡ true
-    stops_key e = stops_at-shown_cells k i l ∙ or_right (counts_as_free (slice_index ctrl i)) _ (ap (bytes_eq k) e ∙ key_itself k)
+    pub stops_key : slot_key F es i ≡ k → stops_at (decoded_cells F es ctrl) k i ≡ true
+    stops_key e = stops_at-decoded_cells k i l ∙ or_right (counts_as_free (slice_index ctrl i)) _ (ap (bytes_eq k) e ∙ key_itself k)
 
     -- and nowhere else
-    pub stops_not : counts_as_free (slice_index ctrl i) ≡ false → (slot_key F es i ≡ k → ⊥) → stops_at (shown_cells F es ctrl) k i ≡ false
-    stops_not e other = stops_at-shown_cells k i l ∙ or_from _ _ e (false_from_ne_true _ (λ t. other (sym (same_bytes k (slot_key F es i) t))))
+    pub stops_not : counts_as_free (slice_index ctrl i) ≡ false → (slot_key F es i ≡ k → ⊥) → stops_at (decoded_cells F es ctrl) k i ≡ false
+    stops_not e other = stops_at-decoded_cells k i l ∙ or_from _ _ e (false_from_ne_true _ (λ t. other (sym (same_bytes k (slot_key F es i) t))))
 
   -- ---- a group of sixteen slots from b on
   module _ (least : 16 ≤ s) (mirror : IsMirrored ctrl) (b : ℕ) (from : b < s) where
@@ -75,7 +75,7 @@ module _ (F : Format) (es ctrl : List ℕ) (s : ℕ) (control : length ctrl ≡ 
 
     module _ (k xs : List ℕ) (report : IsReport (bytes_at ctrl b 16) (tag F k) xs) where
       -- a free byte before place n stops the search
-      pub stopped_free : (n : ℕ) → n ≤ 16 → unwrap_or (first_free (bytes_at ctrl b 16)) 16 < n → ((j : ℕ) → j < n → stops_at (shown_cells F es ctrl) k (slot j) ≡ false) → ⊥
+      pub stopped_free : (n : ℕ) → n ≤ 16 → unwrap_or (first_free (bytes_at ctrl b 16)) 16 < n → ((j : ℕ) → j < n → stops_at (decoded_cells F es ctrl) k (slot j) ≡ false) → ⊥
       stopped_free n few before passed = go (first_free (bytes_at ctrl b 16)) refl before
         where
           go : (o : Option ℕ) → first_free (bytes_at ctrl b 16) ≡ o → unwrap_or o 16 < n → ⊥
@@ -86,24 +86,24 @@ module _ (F : Format) (es ctrl : List ℕ) (s : ℕ) (control : length ctrl ≡ 
               true≢false (sym (stops_free k (slot f) (slot_low f) free) ∙ passed f l)
 
       -- and so does a match that has the key
-      pub stopped_key : (n x : ℕ) → x < n → slot_key F es (slot x) ≡ k → ((j : ℕ) → j < n → stops_at (shown_cells F es ctrl) k (slot j) ≡ false) → ⊥
+      pub stopped_key : (n x : ℕ) → x < n → slot_key F es (slot x) ≡ k → ((j : ℕ) → j < n → stops_at (decoded_cells F es ctrl) k (slot j) ≡ false) → ⊥
       stopped_key n x l same passed = true≢false (sym (stops_key k (slot x) (slot_low x) same) ∙ passed x l)
 
       -- nothing else does, where control bytes are tags
       module _ (tags : (i : ℕ) → i < s → counts_as_free (slice_index ctrl i) ≡ false → slice_index ctrl i ≡ tag F (slot_key F es i)) (within : length (bytes_at ctrl b 16) ≡ 16) where
         passed_slot : (n j : ℕ) → n ≤ 16 → j < n → counts_as_free (slice_index (bytes_at ctrl b 16) j) ≡ false
-            → ((x : ℕ) → Contains xs x → x < n → slot_key F es (slot x) ≡ k → ⊥) → stops_at (shown_cells F es ctrl) k (slot j) ≡ false
-        passed_slot n j few l filled others =
+            → ((x : ℕ) → Contains xs x → x < n → slot_key F es (slot x) ≡ k → ⊥) → stops_at (decoded_cells F es ctrl) k (slot j) ≡ false
+        passed_slot n j few l occupied others =
             let byte = group_byte j (omega arith) in
-            let here : counts_as_free (slice_index ctrl (slot j)) ≡ false = ap counts_as_free (sym byte) ∙ filled in
+            let here : counts_as_free (slice_index ctrl (slot j)) ≡ false = ap counts_as_free (sym byte) ∙ occupied in
             stops_not k (slot j) (slot_low j) here (λ same. others j
             (report.complete j (omega arith) (byte ∙ tags (slot j) (slot_low j) here ∙ ap (tag F) same)) l same)
 
         pub passes : (n : ℕ) → n ≤ 16 → n ≤ unwrap_or (first_free (bytes_at ctrl b 16)) 16 → ((x : ℕ) → Contains xs x → x < n → slot_key F es (slot x) ≡ k → ⊥)
-            → (j : ℕ) → j < n → stops_at (shown_cells F es ctrl) k (slot j) ≡ false
+            → (j : ℕ) → j < n → stops_at (decoded_cells F es ctrl) k (slot j) ≡ false
         passes n few after others j l = go (first_free (bytes_at ctrl b 16)) refl after
           where
-            go : (o : Option ℕ) → first_free (bytes_at ctrl b 16) ≡ o → n ≤ unwrap_or o 16 → stops_at (shown_cells F es ctrl) k (slot j) ≡ false
+            go : (o : Option ℕ) → first_free (bytes_at ctrl b 16) ≡ o → n ≤ unwrap_or o 16 → stops_at (decoded_cells F es ctrl) k (slot j) ≡ false
             go None e h = passed_slot n j few l (position-None counts_as_free (bytes_at ctrl b 16) 0 e j (omega (arith, l, few, within))) others
             go (Some f) e h =
                 let q = position-Some counts_as_free (bytes_at ctrl b 16) f 0 e in
@@ -112,7 +112,7 @@ module _ (F : Format) (es ctrl : List ℕ) (s : ℕ) (control : length ctrl ≡ 
 -- ---- where a search for k among cells ends
 module _ (F : Format) (cs : Cells) (k : List ℕ) (count : IsSlotCount (length cs)) where
   abbrev pub place_of : ℕ → ℕ
-  place_of q = place_slot (home F k (length cs)) (length cs) q
+  place_of q = probe_slot (home F k (length cs)) (length cs) q
 
   -- at the slot of a place where it stops, once it passed the places before
   pub ends_there : (i n : ℕ) → n < length cs → place_of n ≡ i → ((q : ℕ) → q < n → stops_at cs k (place_of q) ≡ false) → stops_at cs k i ≡ true → is_at i (search_end F cs k) ≡ true
@@ -129,5 +129,5 @@ module _ (F : Format) (cs : Cells) (k : List ℕ) (count : IsSlotCount (length c
       go (Some j) e t =
           let same : i ≡ j = eqb-true i j t in
           let f = find-order_some (stops_at cs k) (home F k (length cs)) (length cs) j e in
-          let at : f.place ≡ n = place_slot-apart (home F k (length cs)) (length cs) f.place n count f.within l (f.stands ∙ sym same ∙ sym stands) in
+          let at : f.position ≡ n = probe_slot-apart (home F k (length cs)) (length cs) f.position n count f.within l (f.stands ∙ sym same ∙ sym stands) in
           stopped (λ q lq. f.before q (omega (arith, lq, at)))

@@ -4,8 +4,8 @@ use Rattle.std.specs.List.{filter_map}
 use Rattle.std.specs.Option.{option_or}
 use Rattle.std.proofs.lemmas.List.{take-append-drop}
 use Rattle.odht_base.specs.Format.{Format}
-use Rattle.odht_base.specs.Shown.{entries_of, controls_of, shown_cells}
-use Rattle.odht_raw.specs.Checks.{pairs_shown}
+use Rattle.odht_base.specs.Decoded.{entries_of, controls_of, decoded_cells}
+use Rattle.odht_raw.specs.Checks.{decoded_count}
 use Rattle.odht_raw.specs.Parts.{TableParts}
 use Rattle.odht_raw.specs.Refusals.{first_of, factor_refusal, padding_refusal, slots_refusal, mirror_refusal, count_refusal, room_refusal, reach_refusal, late_refusals, late_refusal}
 use Rattle.odht_raw.specs.declared.error.Error.{Error}
@@ -40,10 +40,10 @@ module _ (F : Format) (B : List ℕ) (T : TableParts) (entries : T.entries.bytes
     pub mirror_stage : (x : Error) → mirror_refusal T.control ≡ Some x → late_refusal F B ≡ Some x
     mirror_stage x e = past_late F B 3 (factor, (padding, (sym slots_same ∙ slots, tt))) ∙ option_or-first _ _ x (sym (ap mirror_refusal control) ∙ e)
 
-    module _ (mirror : mirror_refusal T.control ≡ None) (m : ℕ) (counted : m ≡ pairs_shown F T) where
+    module _ (mirror : mirror_refusal T.control ≡ None) (m : ℕ) (counted : m ≡ decoded_count F T) where
       past_mirror : late_refusal F B ≡ option_or (count_refusal m B) (option_or (room_refusal B) (option_or (reach_refusal F T.entries.bytes T.control) None))
       past_mirror =
-          let is = counted ∙ (λ i. length (filter_map (λ c. c) (shown_cells F (entries i) (control i)))) in
+          let is = counted ∙ (λ i. length (filter_map (λ c. c) (decoded_cells F (entries i) (control i)))) in
           past_late F B 4 (factor, (padding, (sym slots_same ∙ slots, (sym (ap mirror_refusal control) ∙ mirror, tt))))
           ∙ sym (λ i. option_or (count_refusal (is i) B) (option_or (room_refusal B) (option_or (reach_refusal F (entries i) (control i)) None)))
 
@@ -53,6 +53,6 @@ module _ (F : Format) (B : List ℕ) (T : TableParts) (entries : T.entries.bytes
 
       -- and what is left is the reach, whose first refusal is that of the slot o
       pub reach_stage : option_or (count_refusal m B) (room_refusal B) ≡ None → (o : Option ℕ) → option_map Unreachable o ≡ reach_refusal F T.entries.bytes T.control → late_refusal F B ≡ option_map Unreachable o
-      reach_stage e o told =
+      reach_stage e o known =
           let none = option_or-None _ _ e in
-          past_mirror ∙ option_or-second _ _ none.0 ∙ option_or-second _ _ none.1 ∙ last-first _ ∙ sym told
+          past_mirror ∙ option_or-second _ _ none.0 ∙ option_or-second _ _ none.1 ∙ last-first _ ∙ sym known

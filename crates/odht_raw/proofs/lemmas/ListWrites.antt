@@ -8,19 +8,19 @@ use Rattle.odht_base.specs.Format.{Format, entry_len}
 use Rattle.odht_base.specs.Image.{header_bytes, entries, controls, image}
 use Rattle.odht_base.specs.Load.{max_items}
 use Rattle.odht_base.specs.Numbers.{num}
-use Rattle.odht_base.specs.Shown.{stated_slots, stated_count, stated_factor, controls_of}
+use Rattle.odht_base.specs.Decoded.{header_slots, header_count, header_factor, controls_of}
 use Rattle.odht_base.specs.Table.{Table, slot_count, count}
 use Rattle.odht_base.specs.Valid.{IsImage, IsPartsOf}
 use Rattle.odht_base.specs.Writes.{with_count}
 use Rattle.odht_base.proofs.lemmas.ByteRanges.{bytes_at-take_front}
 use Rattle.odht_base.proofs.lemmas.Fits.{IsSized-IsPlaced}
-use Rattle.odht_base.proofs.lemmas.Image.{stated_count-image, stated_slots-image}
+use Rattle.odht_base.proofs.lemmas.Image.{header_count-image, header_slots-image}
 use Rattle.odht_base.proofs.lemmas.Parts.{length-header_bytes, length-entries}
 use Rattle.odht_raw.specs.Coding.{Coding, encoded}
-use Rattle.odht_raw.specs.Frame.{IsAccepted, HasNoFreeSlot, stated_maximum}
+use Rattle.odht_raw.specs.Frame.{IsAccepted, HasNoFreeSlot, header_maximum}
 use Rattle.odht_raw.specs.Runs.{encoded_all, IsFramedRun, IsPartsRun, ArePartsOfRun, IsPlacedBelow, IsStop}
 use Rattle.odht_raw.proofs.lemmas.Accepted.{accepted_len}
-use Rattle.odht_raw.proofs.lemmas.JoinedRuns.{joined, joined-slots, joined-controls, IsJoinedRun, run_joined, length-with_count, with_count-stated, accepted_joined, placed_joined}
+use Rattle.odht_raw.proofs.lemmas.JoinedRuns.{joined, joined-slots, joined-controls, IsJoinedRun, run_joined, length-with_count, with_count-by_header, accepted_joined, placed_joined}
 use Rattle.odht_raw.proofs.lemmas.PartRuns.{run_fits}
 
 pub record IsCut (F : Format) (B H es ctrl : List ℕ) : Type 0 where
@@ -28,14 +28,14 @@ pub record IsCut (F : Format) (B H es ctrl : List ℕ) : Type 0 where
   pub whole : B ≡ H ++ (es ++ ctrl)
   pub front : H ≡ take 32 B
   pub head : length H ≡ 32
-  pub slots : stated_slots H ≡ stated_slots B
-  pub count : stated_count H ≡ stated_count B
-  pub factor : stated_factor H ≡ stated_factor B
-  pub long : length es ≡ stated_slots H * entry_len F
-  pub mirrored : length ctrl ≡ stated_slots H + 16
+  pub slots : header_slots H ≡ header_slots B
+  pub count : header_count H ≡ header_count B
+  pub factor : header_factor H ≡ header_factor B
+  pub long : length es ≡ header_slots H * entry_len F
+  pub mirrored : length ctrl ≡ header_slots H + 16
 
 -- the bytes cut at the control bytes, and then behind the header
-pub cut_accepted : (F : Format) (B : List ℕ) → IsAccepted F B → (at : ℕ) → at ≡ 32 + stated_slots B * entry_len F
+pub cut_accepted : (F : Format) (B : List ℕ) → IsAccepted F B → (at : ℕ) → at ≡ 32 + header_slots B * entry_len F
     → (T C H E : List ℕ) → T ≡ take at B → C ≡ drop at B → H ≡ take 32 T → E ≡ drop 32 T → IsCut F B H E C
 cut_accepted F B is at here T C H E t c h e =
     let all = accepted_len F B is in
@@ -44,7 +44,7 @@ cut_accepted F B is at here T C H E t c h e =
     let split : T ≡ H ++ E = sym (take-append-drop 32 T) ∙ ap₂ (λ x y. x ++ y) (sym h) (sym e) in
     let field : (from n : ℕ) → from + n ≤ 32 → bytes_at H from n ≡ bytes_at B from n = λ from n fits.
     ap (λ x. bytes_at x from n) h ∙ bytes_at-take_front T from n 32 fits ∙ ap (λ x. bytes_at x from n) t ∙ bytes_at-take_front B from n at (omega (arith, here, fits)) in
-    let slots : stated_slots H ≡ stated_slots B = ap num (field 16 8 (lit≤ tt)) in
+    let slots : header_slots H ≡ header_slots B = ap num (field 16 8 (lit≤ tt)) in
     record {
       accepted = is;
       whole = whole ∙ ap (λ x. x ++ C) split ∙ append_assoc H E C;
@@ -58,7 +58,7 @@ cut_accepted F B is at here T C H E t c h e =
     }
 
 -- a cut header states the maximum of the bytes
-pub cut-maximum : (F : Format) (B H es ctrl : List ℕ) → IsCut F B H es ctrl → stated_maximum H ≡ stated_maximum B
+pub cut-maximum : (F : Format) (B H es ctrl : List ℕ) → IsCut F B H es ctrl → header_maximum H ≡ header_maximum B
 cut-maximum F B H es ctrl cut = λ i. max_items (cut.slots i) (cut.factor i)
 
 -- a table's image is cut into its header and its parts
@@ -69,7 +69,7 @@ cut-image F B H es ctrl cut P is =
     let sized = IsSized-IsPlaced F P is.valid.placed in
     let long = length-header_bytes F (slot_count P) (count P) P.factor in
     let all = length-entries F P.cells sized.lengths in
-    let slots : stated_slots H ≡ slot_count P = cut.slots ∙ ap stated_slots is.bytes ∙ stated_slots-image F P sized in
+    let slots : header_slots H ≡ slot_count P = cut.slots ∙ ap header_slots is.bytes ∙ header_slots-image F P sized in
     let behind : es ++ ctrl ≡ entries F P.cells ++ controls F P.cells =
     sym (drop_at H (es ++ ctrl) 32 cut.head) ∙ ap (drop 32) (sym cut.whole ∙ is.bytes) ∙ drop_at head (entries F P.cells ++ controls F P.cells) 32 long in
     let size : length (entries F P.cells) ≡ length es = all ∙ ap (λ s. s * entry_len F) (sym slots) ∙ sym cut.long in (
@@ -83,55 +83,55 @@ cut-image F B H es ctrl cut P is =
 
 -- what a run of inserts into the parts leaves, with the new count in the header
 module _ {K V : Type 0} (c : Coding K V) (B H es ctrl : List ℕ) (cut : IsCut c.format B H es ctrl) (items : List (K × V)) (n : ℕ) (H' es' ctrl' : List ℕ)
-    (written : H' ≡ with_count H (stated_count B + n)) (run : IsPartsRun c es ctrl items n es' ctrl')
-    (room : (x : ℕ) → x < length items → stated_count B + x < stated_maximum B) (small : stated_maximum B < 2 ^ 64) where
-  most : stated_maximum H ≡ stated_maximum B
+    (written : H' ≡ with_count H (header_count B + n)) (run : IsPartsRun c es ctrl items n es' ctrl')
+    (room : (x : ℕ) → x < length items → header_count B + x < header_maximum B) (small : header_maximum B < 2 ^ 64) where
+  most : header_maximum H ≡ header_maximum B
   most = cut-maximum c.format B H es ctrl cut
 
-  told : IsJoinedRun c H (stated_count B) es ctrl items n es' ctrl'
-  told =
+  known : IsJoinedRun c H (header_count B) es ctrl items n es' ctrl'
+  known =
       let same = most in
-      run_joined c H (stated_count B) es ctrl cut.head (omega (arith, small, same)) cut.long cut.mirrored items n es' ctrl' (λ x l. (let r = room x l in omega (arith, r, same))) run
+      run_joined c H (header_count B) es ctrl cut.head (omega (arith, small, same)) cut.long cut.mirrored items n es' ctrl' (λ x l. (let r = room x l in omega (arith, r, same))) run
 
-  now : joined H (stated_count B + n) es' ctrl' ≡ H' ++ es' ++ ctrl'
+  now : joined H (header_count B + n) es' ctrl' ≡ H' ++ es' ++ ctrl'
   now = ap (λ t. t ++ (es' ++ ctrl')) (sym written) ∙ sym (append_assoc H' es' ctrl')
 
   -- is what inserts of the items in turn may leave
   pub list_framed : All (λ x. x < 256) B → IsFramedRun c B items (H' ++ es' ++ ctrl')
   list_framed bytes =
-      let here : joined H (stated_count B) es ctrl ≡ B =
+      let here : joined H (header_count B) es ctrl ≡ B =
       ap (λ m. joined H m es ctrl) (sym cut.count)
-      ∙ ap (λ t. t ++ (es ++ ctrl)) (with_count-stated H cut.head (subst (All (λ x. x < 256)) (sym cut.front) (All-take (λ x. x < 256) 32 B bytes)))
+      ∙ ap (λ t. t ++ (es ++ ctrl)) (with_count-by_header H cut.head (subst (All (λ x. x < 256)) (sym cut.front) (All-take (λ x. x < 256) 32 B bytes)))
       ∙ sym cut.whole in
-      subst (λ b. IsFramedRun c b items (H' ++ es' ++ ctrl')) here (subst (IsFramedRun c (joined H (stated_count B) es ctrl) items) now told.framed)
+      subst (λ b. IsFramedRun c b items (H' ++ es' ++ ctrl')) here (subst (IsFramedRun c (joined H (header_count B) es ctrl) items) now known.framed)
 
   -- is accepted
   pub list_accepted : IsAccepted c.format (H' ++ es' ++ ctrl')
   list_accepted =
-      let same : length (es ++ ctrl) ≡ length (es' ++ ctrl') = omega (arith, length-append es ctrl, length-append es' ctrl', told.entries_len, told.control_len) in
+      let same : length (es ++ ctrl) ≡ length (es' ++ ctrl') = omega (arith, length-append es ctrl, length-append es' ctrl', known.entries_len, known.control_len) in
       subst (IsAccepted c.format) now
-      (accepted_joined c.format H (stated_count B + n) (es ++ ctrl) (es' ++ ctrl') cut.head same (subst (IsAccepted c.format) cut.whole cut.accepted))
+      (accepted_joined c.format H (header_count B + n) (es ++ ctrl) (es' ++ ctrl') cut.head same (subst (IsAccepted c.format) cut.whole cut.accepted))
 
   -- as long as before
   pub list_length : length (H' ++ es' ++ ctrl') ≡ length B
   list_length =
-      let head : length H' ≡ 32 = ap length written ∙ length-with_count H (stated_count B + n) es ctrl cut.head in
-      omega (arith, length-append (H' ++ es') ctrl', length-append H' es', head, told.entries_len, told.control_len, ap length cut.whole, length-append H (es ++ ctrl), length-append es ctrl, cut.head)
+      let head : length H' ≡ 32 = ap length written ∙ length-with_count H (header_count B + n) es ctrl cut.head in
+      omega (arith, length-append (H' ++ es') ctrl', length-append H' es', head, known.entries_len, known.control_len, ap length cut.whole, length-append H (es ++ ctrl), length-append es ctrl, cut.head)
 
   -- with as many control bytes
-  pub list_control : length ctrl' ≡ stated_slots B + 16
-  list_control = told.control_len ∙ cut.mirrored ∙ ap (λ s. s + 16) cut.slots
+  pub list_control : length ctrl' ≡ header_slots B + 16
+  list_control = known.control_len ∙ cut.mirrored ∙ ap (λ s. s + 16) cut.slots
 
   -- where the inserts may stop by the parts they may by the bytes
-  pub list_stop : (to i : ℕ) → IsStop ctrl' (length ctrl' - 16) to i → IsStop (controls_of c.format (H' ++ es' ++ ctrl')) (stated_slots (H' ++ es' ++ ctrl')) to i
+  pub list_stop : (to i : ℕ) → IsStop ctrl' (length ctrl' - 16) to i → IsStop (controls_of c.format (H' ++ es' ++ ctrl')) (header_slots (H' ++ es' ++ ctrl')) to i
   list_stop to i (inl e) = inl e
   list_stop to i (inr none) =
-      let m = stated_count B + n in
+      let m = header_count B + n in
       let slots = joined-slots H m es' ctrl' cut.head in
-      let controls = joined-controls c.format H m es' ctrl' cut.head (told.entries_len ∙ cut.long) in
-      let same : length ctrl' - 16 ≡ stated_slots (joined H m es' ctrl') = omega (arith, told.control_len, cut.mirrored, slots) in
-      inr (subst (λ b. HasNoFreeSlot (controls_of c.format b) (stated_slots b)) now
-      (subst (λ x. HasNoFreeSlot x (stated_slots (joined H m es' ctrl'))) (sym controls) (subst (HasNoFreeSlot ctrl') same none)))
+      let controls = joined-controls c.format H m es' ctrl' cut.head (known.entries_len ∙ cut.long) in
+      let same : length ctrl' - 16 ≡ header_slots (joined H m es' ctrl') = omega (arith, known.control_len, cut.mirrored, slots) in
+      inr (subst (λ b. HasNoFreeSlot (controls_of c.format b) (header_slots b)) now
+      (subst (λ x. HasNoFreeSlot x (header_slots (joined H m es' ctrl'))) (sym controls) (subst (HasNoFreeSlot ctrl') same none)))
 
   -- and on the image of a table that of the table with the pairs placed
   pub list_placed : (P : Table) → IsImage c.format P B → count P + length items ≤ max_items (slot_count P) P.factor
@@ -139,7 +139,7 @@ module _ {K V : Type 0} (c : Coding K V) (B H es ctrl : List ℕ) (cut : IsCut c
   list_placed P is few placed =
       let F = c.format in
       let sized = IsSized-IsPlaced F P is.valid.placed in
-      let stated : stated_count B ≡ count P = ap stated_count is.bytes ∙ stated_count-image F P sized in
+      let by_header : header_count B ≡ count P = ap header_count is.bytes ∙ header_count-image F P sized in
       let pairs : length (encoded_all c items) ≡ length items = length-map items (λ (t : K × V). encoded c t.0 t.1) in
-      subst (IsPlacedBelow F P (encoded_all c items)) (ap (λ m. joined H (m + n) es' ctrl') (sym stated) ∙ now)
+      subst (IsPlacedBelow F P (encoded_all c items)) (ap (λ m. joined H (m + n) es' ctrl') (sym by_header) ∙ now)
       (placed_joined F P (encoded_all c items) n H es' ctrl' is.valid (cut-image F B H es ctrl cut P is).0 (run_fits c es ctrl items n es' ctrl' run) (omega (arith, few, pairs)) placed)

@@ -9,12 +9,12 @@ use Rattle.odht_base.specs.Insert.{place}
 use Rattle.odht_base.specs.Map.{map_of}
 use Rattle.odht_base.specs.Valid.{HoldsPair, IsPlaced}
 use Rattle.odht_base.proofs.lemmas.Keys.{key_pair, pair_key}
-use Rattle.odht_base.proofs.lemmas.Targets.{search_end-IsTarget}
+use Rattle.odht_base.proofs.lemmas.SearchEnds.{search_end-IsTarget}
 use Rattle.odht_base.proofs.lemmas.Places.{written, place-at, place-search_end, is_free-target, map_of-holds}
 use Rattle.odht_base.proofs.lemmas.Lookups.{map_of-search_end}
-use Rattle.odht_raw.specs.Answers.{answer, IsWherePlaced}
-use Rattle.odht_raw.specs.declared.raw_table.outcome.Search.{Search}
-use Rattle.odht_raw.specs.declared.raw_table.outcome.Search.TheVariants.{Found, Free, Neither}
+use Rattle.odht_raw.specs.SearchResults.{answer, IsWherePlaced}
+use Rattle.odht_raw.specs.declared.raw_table.search_result.SearchResult.{SearchResult}
+use Rattle.odht_raw.specs.declared.raw_table.search_result.SearchResult.TheVariants.{Found, Free, Neither}
 
 -- what a found key tells: its slot's pair, the map's value, and that a pair with the key goes there
 pub record IsFoundAt (F : Format) (P : Table) (k : List ℕ) (i : ℕ) : Type 0 where
@@ -42,11 +42,11 @@ module _ (F : Format) (P : Table) (k : List ℕ) (ok : IsPlaced F P) where
   goes : (i : ℕ) → search_end F P.cells k ≡ Some i → (p : Pair) → p.key ≡ k → place F P p ≡ Some (written P i p)
   goes i e p same = place-at F P p ok i (ap (search_end F P.cells) same ∙ e)
 
-  -- a search ends at a filled slot
+  -- a search ends at an occupied slot
   found_at : (i : ℕ) → search_end F P.cells k ≡ Some i → is_free P.cells i ≡ false → IsFoundAt F P k i
-  found_at i e filled =
+  found_at i e occupied =
       let t = search_end-IsTarget F P k ok i e in
-      let q = key_pair k (cell_at P.cells i) (key_of (cell_at P.cells i) t.stops filled) in
+      let q = key_pair k (cell_at P.cells i) (key_of (cell_at P.cells i) t.stops occupied) in
       record {
         pair = q.0;
         holds = q.1;
@@ -115,7 +115,7 @@ module _ (F : Format) (P : Table) (k : List ℕ) (ok : IsPlaced F P) where
       }
 
   -- an answer is where a pair with the key is placed
-  pub answer-IsWherePlaced : (r : Search) → r ≡ answer F P.cells k → IsWherePlaced F P k r
+  pub answer-IsWherePlaced : (r : SearchResult) → r ≡ answer F P.cells k → IsWherePlaced F P k r
   answer-IsWherePlaced (Found i) e =
       let at = answer-Found i e in (pair_key k (cell_at P.cells i) at.pair at.holds (sym at.key), λ v. at.places (record { key = k; value = v }) refl)
   answer-IsWherePlaced (Free i) e =

@@ -1,7 +1,7 @@
 -- What bytes are refused for, stage by stage: when they are opened, and then by the whole check.
 use Rattle.std.proofs.Common.{◌≡◌, ◌<◌, ◌≤◌, ◌∙◌, List, ℕ, Some, None, length, lt-ltb, le-ltb}
 use Rattle.odht_base.specs.Format.{Format}
-use Rattle.odht_base.specs.Shown.{entries_of, controls_of}
+use Rattle.odht_base.specs.Decoded.{entries_of, controls_of}
 use Rattle.odht_raw.specs.declared.error.Error.{Error}
 use Rattle.odht_raw.specs.declared.error.Error.TheVariants.{TooShort}
 use Rattle.odht_raw.specs.Frame.{IsAccepted}

@@ -3,7 +3,7 @@ use Rattle.std.proofs.Common.{◌≡◌, ◌<◌, ◌∙◌, ◌+◌, ℕ, false
 use Rattle.odht_base.specs.Format.{Format, IsFormat}
 use Rattle.odht_base.specs.Table.{Pair, Table, slot_count, cell_at, is_free}
 use Rattle.odht_base.specs.Valid.{IsPartsOf}
-use Rattle.odht_base.specs.Shown.{counts_as_free, slot_key, slot_value}
+use Rattle.odht_base.specs.Decoded.{counts_as_free, slot_key, slot_value}
 use Rattle.odht_base.proofs.lemmas.Fits.{HasLengths, HasLengths-HasPairsOf}
 use Rattle.odht_base.proofs.lemmas.Parts.{length-controls, slice_index-controls, counts_as_free-control_byte, slot_key-entries, slot_value-entries}
 
@@ -21,7 +21,7 @@ module _ (F : Format) (f : IsFormat F) (P : Table) (es ctrl : List ℕ) (h : IsP
   lengths : HasLengths F P.cells
   lengths = HasLengths-HasPairsOf F P.cells h.placed.pairs
 
-  -- a filled cell's key stands in its entry
+  -- an occupied cell's key stands in its entry
   pub key_is : (i : ℕ) (p : Pair) → cell_at P.cells i ≡ Some p → slot_key F es i ≡ p.key
   key_is i p g = ap (λ e. slot_key F e i) h.entries_are ∙ slot_key-entries F P.cells i p lengths g
 
@@ -29,9 +29,9 @@ module _ (F : Format) (f : IsFormat F) (P : Table) (es ctrl : List ℕ) (h : IsP
   pub value_is : (i : ℕ) (p : Pair) → cell_at P.cells i ≡ Some p → slot_value F es i ≡ p.value
   value_is i p g = ap (λ e. slot_value F e i) h.entries_are ∙ slot_value-entries F P.cells i p lengths g
 
-  -- a control byte that counts as filled is that of a cell whose pair stands in the entry
-  pub cell_filled : (i : ℕ) → i < slot_count P → counts_as_free (slice_index ctrl i) ≡ false → cell_at P.cells i ≡ Some (record { key = slot_key F es i; value = slot_value F es i })
-  cell_filled i l e = go (cell_at P.cells i) refl (sym (byte_is i l) ∙ e)
+  -- a control byte that counts as occupied is that of a cell whose pair stands in the entry
+  pub cell_occupied : (i : ℕ) → i < slot_count P → counts_as_free (slice_index ctrl i) ≡ false → cell_at P.cells i ≡ Some (record { key = slot_key F es i; value = slot_value F es i })
+  cell_occupied i l e = go (cell_at P.cells i) refl (sym (byte_is i l) ∙ e)
     where
       go : (c : Option Pair) → cell_at P.cells i ≡ c → is_none c ≡ false → c ≡ Some (record { key = slot_key F es i; value = slot_value F es i })
       go None g t = absurd (true≢false t)

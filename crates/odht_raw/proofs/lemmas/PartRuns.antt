@@ -10,12 +10,12 @@ use Rattle.std.specs.Result.{result_map_both}
 use Rattle.odht_base.specs.Format.{Format}
 use Rattle.odht_base.specs.Insert.{place}
 use Rattle.odht_base.specs.Map.{map_of}
-use Rattle.odht_base.specs.Shown.{slot_value}
+use Rattle.odht_base.specs.Decoded.{slot_value}
 use Rattle.odht_base.specs.Table.{Pair, Table, count}
 use Rattle.odht_base.specs.Valid.{IsPairOf}
 use Rattle.odht_base.proofs.lemmas.Options.{some_same}
 use Rattle.odht_base.proofs.lemmas.Places.{count-place}
-use Rattle.odht_base.proofs.lemmas.Runs.{run-push}
+use Rattle.odht_base.proofs.lemmas.InsertRuns.{run-push}
 use Rattle.odht_raw.specs.Coding.{Coding, encoded}
 use Rattle.odht_raw.specs.Frame.{HasNoFreeSlot, PartsFrame, IsPartsFramed}
 use Rattle.odht_raw.specs.PartsInserts.{AnswersFormer, ArePartsPlaced}
@@ -96,12 +96,12 @@ pub placed_more : (F : Format) (P : Table) (ps : List Pair) (n : ℕ) (es ctrl :
     → {W : Type 0} (f : List ℕ → W) (r : Result (Option W) Error) (old : Option W) → r ≡ Ok old → AnswersFormer F f h.table p r es' ctrl'
     → ArePartsOfRun F P (ps ++ p ∷ []) (cond (is_none old) (n + 1) n) es' ctrl'
 placed_more F P ps n es ctrl h p es' ctrl' {W = W} f r old ok answers =
-    let told = subst (λ (a : Result (Option W) Error). IfOk a (λ o. (o ≡ option_map f (map_of h.table p.key)) × ArePartsPlaced F h.table p es' ctrl')) ok answers in
+    let known = subst (λ (a : Result (Option W) Error). IfOk a (λ o. (o ≡ option_map f (map_of h.table p.key)) × ArePartsPlaced F h.table p es' ctrl')) ok answers in
     record {
-      table = told.1.0;
-      placed = run-push (place F) P ps p ∙ ap (option_and_then (λ R. place F R p)) h.placed ∙ told.1.1;
-      parts = told.1.2;
-      counted = go (map_of h.table p.key) old told.0 (count-place F h.table told.1.0 p h.parts.placed told.1.1);
+      table = known.1.0;
+      placed = run-push (place F) P ps p ∙ ap (option_and_then (λ R. place F R p)) h.placed ∙ known.1.1;
+      parts = known.1.2;
+      counted = go (map_of h.table p.key) old known.0 (count-place F h.table known.1.0 p h.parts.placed known.1.1);
     }
   where
     go : {m : ℕ} (o : Option (List ℕ)) (w : Option W) → w ≡ option_map f o → m ≡ cond (is_none o) (count h.table + 1) (count h.table) → m ≡ count P + cond (is_none w) (n + 1) n

@@ -8,10 +8,10 @@ use Rattle.std.proofs.lemmas.List.Kept.{AllPairs-filter}
 use Rattle.std.proofs.lemmas.List.Sorted.{IsPermutation-refl}
 use borrow.Rule.Slice.PartMut.{put_mid}
 use Rattle.odht_base.specs.Format.{Format}
-use Rattle.odht_base.specs.Made.{filled, IsMade, IsInsertOrder}
+use Rattle.odht_base.specs.Made.{occupied, IsMade, IsInsertOrder}
 use Rattle.odht_base.specs.Ready.{IsSoFar, IsStuck}
 use Rattle.odht_base.specs.Table.{Table, slot_count, cell_at}
-use Rattle.odht_base.proofs.lemmas.Filled.{filled-Contains}
+use Rattle.odht_base.proofs.lemmas.OccupiedSlots.{occupied-Contains}
 use Rattle.odht_base.proofs.lemmas.InsertOrders.{order_if_all}
 use Rattle.odht_base.proofs.lemmas.Keys.{cell_at-within}
 use Rattle.odht_base.proofs.lemmas.MadeTables.{not_made_if_fewer}
@@ -23,18 +23,18 @@ use Rattle.odht_raw.proofs.lemmas.WaitingSlots.{slot_of-waiting}
 
 -- ---- the start
 module _ (P : Table) (small : slot_count P ≤ 2 ^ 63) where
-  -- a filled slot is one of the table
-  filled-lt : (k : ℕ) → k < length (filled P) → get_or (filled P) k 0 < slot_count P
-  filled-lt k l =
-      let h = (filled-Contains P (get_or (filled P) k 0)).0 (Contains-get_or (filled P) k 0 l) in
-      cell_at-within P.cells (get_or (filled P) k 0) h.0 h.1
+  -- an occupied slot is one of the table
+  occupied-lt : (k : ℕ) → k < length (occupied P) → get_or (occupied P) k 0 < slot_count P
+  occupied-lt k l =
+      let h = (occupied-Contains P (get_or (occupied P) k 0)).0 (Contains-get_or (occupied P) k 0 l) in
+      cell_at-within P.cells (get_or (occupied P) k 0) h.0 h.1
 
   -- so each is listed as one that waits
-  pub all_wait : All (IsWaiting (slot_count P)) (map waiting (filled P))
+  pub all_wait : All (IsWaiting (slot_count P)) (map waiting (occupied P))
   all_wait k d l =
-      let low : k < length (filled P) = omega (arith, l, length-map (filled P) waiting) in
-      let is : get_or (map waiting (filled P)) k d ≡ waiting (get_or (filled P) k 0) = get_or-map waiting (filled P) k 0 d low in
-      (omega (arith, is), omega (arith, is, filled-lt k low))
+      let low : k < length (occupied P) = omega (arith, l, length-map (occupied P) waiting) in
+      let is : get_or (map waiting (occupied P)) k d ≡ waiting (get_or (occupied P) k 0) = get_or-map waiting (occupied P) k 0 d low in
+      (omega (arith, is), omega (arith, is, occupied-lt k low))
 
   -- and its slot is itself
   slots_of_waiting : (xs : List ℕ) → ((k : ℕ) → k < length xs → get_or xs k 0 < 2 ^ 63) → map slot_of (map waiting xs) ≡ xs
@@ -42,22 +42,22 @@ module _ (P : Table) (small : slot_count P ≤ 2 ^ 63) where
   slots_of_waiting (x ∷ xs) low =
       (λ i. slot_of-waiting x (low 0 (omega arith)) i ∷ slots_of_waiting xs (λ k l. low (suc k) (omega (arith, l))) i)
 
-  -- so the slots of the list are the filled ones
-  all_slots : map slot_of (map waiting (filled P)) ≡ filled P
-  all_slots = slots_of_waiting (filled P) (λ k l. omega (arith, filled-lt k l, small))
+  -- so the slots of the list are the occupied ones
+  all_slots : map slot_of (map waiting (occupied P)) ≡ occupied P
+  all_slots = slots_of_waiting (occupied P) (λ k l. omega (arith, occupied-lt k l, small))
 
-  -- the filled slots rise
-  filled_rise : AllPairs ◌<◌ (filled P)
-  filled_rise = AllPairs-filter ◌<◌ (λ i. is_some (cell_at P.cells i)) (range_with_len 0 (slot_count P)) (λ i j d lt l.
+  -- the occupied slots rise
+  occupied_rise : AllPairs ◌<◌ (occupied P)
+  occupied_rise = AllPairs-filter ◌<◌ (λ i. is_some (cell_at P.cells i)) (range_with_len 0 (slot_count P)) (λ i j d lt l.
       let n = length-range_with_len 0 (slot_count P) in
       omega (arith, lt, l, get_or-range_with_len 0 (slot_count P) i d (omega arith), get_or-range_with_len 0 (slot_count P) j d (omega arith)))
 
   -- all of them are pending
-  pub all_pending : (F : Format) → IsPending F P [] (map waiting (filled P))
+  pub all_pending : (F : Format) → IsPending F P [] (map waiting (occupied P))
   all_pending F = record {
-    listed = subst (λ xs. IsPermutation (filled P) xs) (sym all_slots) (IsPermutation-refl (filled P));
-    rising = subst (AllPairs ◌<◌) (sym all_slots) filled_rise;
-    so_far = subst (IsSoFar F P) (sym (none_placed (map waiting (filled P)) (λ k d l. (all_wait k d l).0))) (so_far_none F P);
+    listed = subst (λ xs. IsPermutation (occupied P) xs) (sym all_slots) (IsPermutation-refl (occupied P));
+    rising = subst (AllPairs ◌<◌) (sym all_slots) occupied_rise;
+    so_far = subst (IsSoFar F P) (sym (none_placed (map waiting (occupied P)) (λ k d l. (all_wait k d l).0))) (so_far_none F P);
   }
 
 -- ---- a pass over the end of a list

@@ -1,4 +1,4 @@
--- The filled slots of a table while one pass goes through those that wait, and the list once it is sorted after the pass.
+-- The occupied slots of a table while one pass goes through those that wait, and the list once it is sorted after the pass.
 use Rattle.std.proofs.Common.{◌≡◌, ◌<◌, ◌≤◌, ◌+◌, ◌-◌, ◌*◌, ◌^◌, ◌∙◌, inl, inr, ℕ, zero, suc, Bool, true, false, not, cond, nat_lt, sym, ap, subst, refl, List, [], ◌∷◌, ◌++◌, length, get_or, take, drop, set, map, filter, arith, All, AllPairs, Contains, IsPermutation, IsSorted, below_more, ltb-true, ltb-false, lt-ltb, le-ltb}
 use Rattle.std.specs.Ordering.{nat_cmp}
 use Rattle.std.proofs.lemmas.Bool.{cases_order, not-true}
@@ -8,15 +8,15 @@ use Rattle.std.proofs.lemmas.List.Kept.{AllPairs-filter}
 use Rattle.std.proofs.lemmas.List.Sorted.{Contains-permutation, IsPermutation-append_right, IsPermutation-filter_both, IsPermutation-map, IsPermutation-sym, IsPermutation-trans}
 use Rattle.std.proofs.lemmas.Nat.{mod_low}
 use Rattle.odht_base.specs.Format.{Format}
-use Rattle.odht_base.specs.Made.{filled}
+use Rattle.odht_base.specs.Made.{occupied}
 use Rattle.odht_base.specs.Ready.{IsReady, IsSoFar, IsStuck}
 use Rattle.odht_base.specs.Table.{Pair, Table}
 use Rattle.odht_base.specs.Valid.{HoldsPair}
-use Rattle.odht_base.proofs.lemmas.Filled.{filled-Contains}
+use Rattle.odht_base.proofs.lemmas.OccupiedSlots.{occupied-Contains}
 use Rattle.odht_base.proofs.lemmas.ReadySlots.{stuck_if_none}
 use Rattle.odht_base.proofs.lemmas.SoFar.{so_far_push}
 use Rattle.odht_raw.specs.Waiting.{slot_of, placed_of, IsWaiting, AreRising, IsPending}
-use Rattle.odht_raw.proofs.lemmas.ReadyPlaces.{placed_listed, pending_apart}
+use Rattle.odht_raw.proofs.lemmas.ReadyPositions.{placed_listed, pending_apart}
 use Rattle.odht_raw.proofs.lemmas.WaitingSlots.{SlotsRise, slots_rise}
 use Rattle.odht_raw.proofs.lemmas.RisingLists.{rising_append, sorted_is}
 
@@ -105,18 +105,18 @@ module _ (ns : List ℕ) (rise : AreRising ns) (fit : All (λ n. n < 2 ^ 64) ns)
 pub waiting_below : (s : ℕ) (ns : List ℕ) → All (λ n. 2 ^ 63 ≤ n → n - 2 ^ 63 < s) ns → All (IsWaiting s) (waiting_of ns)
 waiting_below s ns below k d l = (waiting_high ns k d l, All-filter (λ n. not (nat_lt n (2 ^ 63))) (λ n. 2 ^ 63 ≤ n → n - 2 ^ 63 < s) ns below k d l (waiting_high ns k d l))
 
--- ---- filled slots of which some wait
+-- ---- occupied slots of which some wait
 module _ (F : Format) (P : Table) (done ns : List ℕ) (pending : IsPending F P done ns) where
   -- each slot of the list holds a pair
   pub pending_holds : (k : ℕ) → k < length ns → (p : Pair) × HoldsPair P (slot_of (get_or ns k 0)) p
   pending_holds k l =
-      (filled-Contains P (slot_of (get_or ns k 0))).0
-      (Contains-permutation (done ++ map slot_of ns) (filled P) (slot_of (get_or ns k 0)) (IsPermutation-sym _ _ pending.listed)
+      (occupied-Contains P (slot_of (get_or ns k 0))).0
+      (Contains-permutation (done ++ map slot_of ns) (occupied P) (slot_of (get_or ns k 0)) (IsPermutation-sym _ _ pending.listed)
       (Contains-append_right done (map slot_of ns) (slot_of (get_or ns k 0)) (k, omega (arith, l, length-map ns slot_of), get_or-map slot_of ns k 0 (slot_of (get_or ns k 0)) l)))
 
   -- a slot that holds a pair is taken before the pass, or stands in the list
   pub pending_has : (i : ℕ) (p : Pair) → HoldsPair P i p → (Contains done i → ⊥) → (k : ℕ) × (k < length ns) × (slot_of (get_or ns k 0) ≡ i)
-  pending_has i p holds out = elim (Contains-append_cases done (map slot_of ns) i (Contains-permutation (filled P) (done ++ map slot_of ns) i pending.listed ((filled-Contains P i).1 (p, holds)))) [
+  pending_has i p holds out = elim (Contains-append_cases done (map slot_of ns) i (Contains-permutation (occupied P) (done ++ map slot_of ns) i pending.listed ((occupied-Contains P i).1 (p, holds)))) [
     | inl taken ↦ absurd (out taken)
     | inr h ↦
         let l : h.0 < length ns = omega (arith, h.1, length-map ns slot_of) in
@@ -151,7 +151,7 @@ module _ (F : Format) (P : Table) (done ns : List ℕ) (pending : IsPending F P 
       let same = kept_slots ns at i l (is ∙ sym (slot_of_placed i low)) in
       let more = append_assoc done (placed_of ns) (i ∷ []) ∙ ap (λ ys. done ++ ys) (sym (placed_one ns at i l low wait)) in
       record {
-        listed = subst (λ ms. IsPermutation (filled P) (done ++ ms)) (sym same) pending.listed;
+        listed = subst (λ ms. IsPermutation (occupied P) (done ++ ms)) (sym same) pending.listed;
         rising = subst (AllPairs (λ a b. a < b)) (sym same) pending.rising;
         so_far = subst (IsSoFar F P) more (so_far_push F P (done ++ placed_of ns) i pending.so_far (not_taken at i l waits low is) ready);
       }
@@ -162,7 +162,7 @@ module _ (F : Format) (P : Table) (done ns : List ℕ) (pending : IsPending F P 
     listed =
         let parts = IsPermutation-map slot_of ns (placed_of ns ++ waiting_of ns) (placed_and_waiting ns) in
         let is = map-append slot_of (placed_of ns) (waiting_of ns) ∙ ap (λ ys. ys ++ map slot_of (waiting_of ns)) (themselves (placed_of ns) (placed_low ns)) in
-        subst (IsPermutation (filled P)) (ap (λ ys. done ++ ys) is ∙ sym (append_assoc done (placed_of ns) (map slot_of (waiting_of ns))))
+        subst (IsPermutation (occupied P)) (ap (λ ys. done ++ ys) is ∙ sym (append_assoc done (placed_of ns) (map slot_of (waiting_of ns))))
         (IsPermutation-trans _ _ _ pending.listed (IsPermutation-append_right done _ _ parts));
     rising = are_rising (waiting_of ns) (AllPairs-filter (λ a b. slot_of a < slot_of b) (λ n. not (nat_lt n (2 ^ 63))) ns (slots_rise ns pending.rising));
     so_far = subst (IsSoFar F P) (sym (append-nil _) ∙ ap (λ ys. (done ++ placed_of ns) ++ ys) (sym (none_placed (waiting_of ns) (waiting_high ns)))) pending.so_far;

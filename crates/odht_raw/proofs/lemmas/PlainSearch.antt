@@ -3,22 +3,22 @@ use Rattle.std.proofs.Common.{◌≡◌, ◌<◌, ◌∙◌, ◌+◌, ◌%◌, i
 use Rattle.std.specs.Prelude.{slice_index, is_none}
 use Rattle.std.proofs.lemmas.Bool.{cases_lt, or_left, or_right, or_from, false_from_ne_true}
 use Rattle.odht_base.specs.Format.{Format, IsFormat}
-use Rattle.odht_base.specs.Probe.{place_slot}
+use Rattle.odht_base.specs.Probe.{probe_slot}
 use Rattle.odht_base.specs.Table.{Pair, Table, slot_count, cell_at, is_free, has_key}
 use Rattle.odht_base.specs.Search.{search_end, stops_at}
 use Rattle.odht_base.specs.Valid.{IsPartsOf}
-use Rattle.odht_base.specs.Shown.{counts_as_free, slot_key}
+use Rattle.odht_base.specs.Decoded.{counts_as_free, slot_key}
 use Rattle.odht_base.proofs.lemmas.Keys.{pair_key, same_bytes}
 use Rattle.odht_base.proofs.lemmas.Lookups.{search_end-at, search_end-nowhere}
 use Rattle.odht_raw.proofs.lemmas.PartCells.{slots_are, byte_is, key_is}
-use Rattle.odht_raw.specs.Answers.{answer}
-use Rattle.odht_raw.specs.Searches.{slot_of, Passed}
-use Rattle.odht_raw.specs.declared.raw_table.outcome.Search.TheVariants.{Found, Free, Neither}
+use Rattle.odht_raw.specs.SearchResults.{answer}
+use Rattle.odht_raw.specs.SearchSteps.{slot_of, Passed}
+use Rattle.odht_raw.specs.declared.raw_table.search_result.SearchResult.TheVariants.{Found, Free, Neither}
 
 module _ (F : Format) (P : Table) (k es ctrl : List ℕ) (f : IsFormat F) (h : IsPartsOf F P es ctrl) where
-  -- a filled cell has the key that stands in its entry, and no other
+  -- an occupied cell has the key that stands in its entry, and no other
   has_key_is : (i : ℕ) → is_free P.cells i ≡ false → slot_key F es i ≡ k → has_key k (cell_at P.cells i) ≡ true
-  has_key_is i filled same = go (cell_at P.cells i) refl filled
+  has_key_is i occupied same = go (cell_at P.cells i) refl occupied
     where
       go : (c : Option Pair) → cell_at P.cells i ≡ c → is_none c ≡ false → has_key k c ≡ true
       go None g e = absurd (true≢false e)
@@ -32,12 +32,12 @@ module _ (F : Format) (P : Table) (k es ctrl : List ℕ) (f : IsFormat F) (h : I
       go (Some p) g = false_from_ne_true _ (λ t. other (key_is F f P es ctrl h i p g ∙ sym (same_bytes k p.key t)))
 
   -- the walk at place n of s slots, which is slot i of the hash x
-  module _ (s x n i : ℕ) (hash : x ≡ F.hash k) (control : length ctrl ≡ s + 16) (within : n < s) (slot : i ≡ place_slot (x % s) s n) where
+  module _ (s x n i : ℕ) (hash : x ≡ F.hash k) (control : length ctrl ≡ s + 16) (within : n < s) (slot : i ≡ probe_slot (x % s) s n) where
     low : n < slot_count P
     low = subst (λ m. n < m) (slots_are F f P es ctrl h s control) within
 
     at : slot_of F P k n ≡ i
-    at = sym (slot ∙ ap (λ m. place_slot (x % m) m n) (slots_are F f P es ctrl h s control) ∙ ap (λ y. place_slot (y % slot_count P) (slot_count P) n) hash)
+    at = sym (slot ∙ ap (λ m. probe_slot (x % m) m n) (slots_are F f P es ctrl h s control) ∙ ap (λ y. probe_slot (y % slot_count P) (slot_count P) n) hash)
 
     below : i < slot_count P
     below = subst (λ j. j < slot_count P) at (let pos = h.placed.slots.least in omega arith)
@@ -56,18 +56,18 @@ module _ (F : Format) (P : Table) (k es ctrl : List ℕ) (f : IsFormat F) (h : I
     -- and at the key
     pub key_end : Passed F P k n → counts_as_free (slice_index ctrl i) ≡ false → slot_key F es i ≡ k → Found i ≡ answer F P.cells k
     unfolding answer
-    key_end passed filled same =
-        let t : is_free P.cells i ≡ false = sym (byte_is F f P es ctrl h i below) ∙ filled in
+    key_end passed occupied same =
+        let t : is_free P.cells i ≡ false = sym (byte_is F f P es ctrl h i below) ∙ occupied in
         let e = ends passed (or_right _ _ (has_key_is i t same)) in
         rw (e, t) refl
 
     -- else it goes on
     pub passed_on : Passed F P k n → counts_as_free (slice_index ctrl i) ≡ false → (slot_key F es i ≡ k → ⊥) → Passed F P k (n + 1)
-    passed_on passed filled other m l = elim (cases_lt m n) [
+    passed_on passed occupied other m l = elim (cases_lt m n) [
       | inl before ↦ passed m before
       | inr here ↦
           let e : n ≡ m = omega arith in
-          let t : is_free P.cells i ≡ false = sym (byte_is F f P es ctrl h i below) ∙ filled in
+          let t : is_free P.cells i ≡ false = sym (byte_is F f P es ctrl h i below) ∙ occupied in
           subst (λ j. stops_at P.cells k (slot_of F P k j) ≡ false) e (subst (λ j. stops_at P.cells k j ≡ false) (sym at) (or_from _ _ t (has_key_not i other)))
     ]
 

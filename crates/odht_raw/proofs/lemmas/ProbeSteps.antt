@@ -4,8 +4,8 @@ use Rattle.std.proofs.Math.Nat.{add-mod_right, mod-add-mod, mod-mod_of_dvd, mod-
 use Rattle.std.proofs.lemmas.Nat.Gcd.{dvd_of_mod-eq-zero}
 use Rattle.std.proofs.lemmas.Bool.{cases_lt}
 use Rattle.odht_base.specs.Load.{IsSlotCount}
-use Rattle.odht_base.specs.Probe.{place_slot}
-use Rattle.odht_base.proofs.lemmas.Orders.{place_slot-group, place_slot-lt}
+use Rattle.odht_base.specs.Probe.{probe_slot}
+use Rattle.odht_base.proofs.lemmas.Orders.{probe_slot-group, probe_slot-lt}
 use Rattle.odht_base.proofs.lemmas.SlotCounts.{bit_and-slots, few_slots}
 use Rattle.odht_raw.specs.ProbeSeqs.{IsProbe}
 
@@ -14,8 +14,8 @@ pub bit_and-mask : (x m : ℕ) → IsSlotCount (m + 1) → bit_and x m ≡ x % (
 bit_and-mask x m c = let e : m ≡ m + 1 - 1 = omega arith in ap (bit_and x) e ∙ bit_and-slots x (m + 1) c
 
 -- the slots of a group follow each other, around the end
-pub place_slot-step : (b s p i : ℕ) → p % 16 + i < 16 → (place_slot b s p + i) % s ≡ place_slot b s (p + i)
-place_slot-step b s p i l =
+pub probe_slot-step : (b s p i : ℕ) → p % 16 + i < 16 → (probe_slot b s p + i) % s ≡ probe_slot b s (p + i)
+probe_slot-step b s p i l =
     let j : (p + i) / 16 ≡ p / 16 = omega arith in
     let r : (p + i) % 16 ≡ p % 16 + i = omega arith in
     mod-add-mod (b + 8 * (p / 16) * (p / 16 + 1) + p % 16) s i
@@ -26,14 +26,14 @@ place_slot-step b s p i l =
     sum x y = omega arith
 
 -- the first slot of a group
-first_slot : (b s j : ℕ) → place_slot b s (16 * j) ≡ (b + 8 * j * (j + 1)) % s
+first_slot : (b s j : ℕ) → probe_slot b s (16 * j) ≡ (b + 8 * j * (j + 1)) % s
 first_slot b s j =
     let e : 16 * j ≡ 16 * j + 0 = omega arith in
     let z : b + 8 * j * (j + 1) + 0 ≡ b + 8 * j * (j + 1) = omega arith in
-    ap (place_slot b s) e ∙ place_slot-group b s j 0 (omega arith) ∙ ap (λ x. x % s) z
+    ap (probe_slot b s) e ∙ probe_slot-group b s j 0 (omega arith) ∙ ap (λ x. x % s) z
 
 -- and that of the next group
-pub next_group : (b s j : ℕ) → (place_slot b s (16 * j) + (16 * j + 16)) % s ≡ place_slot b s (16 * (j + 1))
+pub next_group : (b s j : ℕ) → (probe_slot b s (16 * j) + (16 * j + 16)) % s ≡ probe_slot b s (16 * (j + 1))
 next_group b s j =
     ap (λ x. (x + (16 * j + 16)) % s) (first_slot b s j)
     ∙ mod-add-mod (b + 8 * j * (j + 1)) s (16 * j + 16)
@@ -59,7 +59,7 @@ divisor_pos (suc g) e = omega arith
 pub at_home : (g h m : ℕ) → IsSlotCount (m + 1) → 16 % g ≡ 0 → h < m + 1 → IsProbe g h m 0 h h 0 0
 at_home g h m slots divides l =
     let zero_mod : 0 % g ≡ 0 = zero-mod g in
-    let here : h ≡ place_slot h (m + 1) 0 = sym (first_slot h (m + 1) 0 ∙ ap (λ x. x % (m + 1)) (let e : h + 8 * 0 * (0 + 1) ≡ h = omega arith in e) ∙ mod-eq_of_lt {n = h} {m = m + 1} l) in
+    let here : h ≡ probe_slot h (m + 1) 0 = sym (first_slot h (m + 1) 0 ∙ ap (λ x. x % (m + 1)) (let e : h + 8 * 0 * (0 + 1) ≡ h = omega arith in e) ∙ mod-eq_of_lt {n = h} {m = m + 1} l) in
     record {
       slots = slots;
       divides = divides;
@@ -79,11 +79,11 @@ module _ (g h m p i b c s : ℕ) (at : IsProbe g h m p i b c s) where
 
   -- and so is the first of its group
   pub base_low : b < m + 1
-  base_low = omega (arith, at.base_is, place_slot-lt h (m + 1) (16 * (p / 16)) (omega arith))
+  base_low = omega (arith, at.base_is, probe_slot-lt h (m + 1) (16 * (p / 16)) (omega arith))
 
   -- the slot is one of the table
   pub slot_low : i < m + 1
-  slot_low = omega (arith, at.slot_is, place_slot-lt h (m + 1) p (omega arith))
+  slot_low = omega (arith, at.slot_is, probe_slot-lt h (m + 1) p (omega arith))
 
   -- the sums of a step fit
   pub stride_fits : b + (s + 16) < 2 ^ 64
@@ -98,12 +98,12 @@ module _ (g h m p i b c s : ℕ) (at : IsProbe g h m p i b c s) where
   to_next_group l full =
       let j : (p + g) / 16 ≡ p / 16 + 1 = omega arith in
       let first : 16 * ((p + g) / 16) ≡ p + g = omega arith in
-      let base : bit_and (b + (s + 16)) m ≡ place_slot h (m + 1) (16 * ((p + g) / 16)) =
+      let base : bit_and (b + (s + 16)) m ≡ probe_slot h (m + 1) (16 * ((p + g) / 16)) =
       bit_and-mask (b + (s + 16)) m at.slots
       ∙ ap (λ x. (x + (s + 16)) % (m + 1)) at.base_is
-      ∙ ap (λ x. (place_slot h (m + 1) (16 * (p / 16)) + (x + 16)) % (m + 1)) at.stride_is
+      ∙ ap (λ x. (probe_slot h (m + 1) (16 * (p / 16)) + (x + 16)) % (m + 1)) at.stride_is
       ∙ next_group h (m + 1) (p / 16)
-      ∙ ap (λ x. place_slot h (m + 1) (16 * x)) (sym j) in
+      ∙ ap (λ x. probe_slot h (m + 1) (16 * x)) (sym j) in
       record {
         slots = at.slots;
         divides = at.divides;
@@ -111,9 +111,9 @@ module _ (g h m p i b c s : ℕ) (at : IsProbe g h m p i b c s) where
         home_within = at.home_within;
         within = l;
         slot_is = bit_and-mask (bit_and (b + (s + 16)) m + 0) m at.slots
-            ∙ mod-eq_of_lt {n = bit_and (b + (s + 16)) m + 0} {m = m + 1} (omega (arith, base, place_slot-lt h (m + 1) (16 * ((p + g) / 16)) (omega arith)))
+            ∙ mod-eq_of_lt {n = bit_and (b + (s + 16)) m + 0} {m = m + 1} (omega (arith, base, probe_slot-lt h (m + 1) (16 * ((p + g) / 16)) (omega arith)))
             ∙ (let e : bit_and (b + (s + 16)) m + 0 ≡ bit_and (b + (s + 16)) m = omega arith in e)
-            ∙ base ∙ ap (place_slot h (m + 1)) first;
+            ∙ base ∙ ap (probe_slot h (m + 1)) first;
         base_is = base;
         chunk_is = omega arith;
         stride_is = omega (arith, at.stride_is);
@@ -124,7 +124,7 @@ module _ (g h m p i b c s : ℕ) (at : IsProbe g h m p i b c s) where
   to_next_piece l more =
       let j : (p + g) / 16 ≡ p / 16 = omega arith in
       let r : c + g ≡ (p + g) % 16 = omega (arith, at.chunk_is) in
-      let base : b ≡ place_slot h (m + 1) (16 * ((p + g) / 16)) = at.base_is ∙ ap (λ x. place_slot h (m + 1) (16 * x)) (sym j) in
+      let base : b ≡ probe_slot h (m + 1) (16 * ((p + g) / 16)) = at.base_is ∙ ap (λ x. probe_slot h (m + 1) (16 * x)) (sym j) in
       let whole : 16 * ((p + g) / 16) + (p + g) % 16 ≡ p + g = omega arith in
       record {
         slots = at.slots;
@@ -134,9 +134,9 @@ module _ (g h m p i b c s : ℕ) (at : IsProbe g h m p i b c s) where
         within = l;
         slot_is = bit_and-mask (b + (c + g)) m at.slots
             ∙ ap (λ x. (x + (c + g)) % (m + 1)) base
-            ∙ ap (λ x. (place_slot h (m + 1) (16 * ((p + g) / 16)) + x) % (m + 1)) r
-            ∙ place_slot-step h (m + 1) (16 * ((p + g) / 16)) ((p + g) % 16) (omega arith)
-            ∙ ap (place_slot h (m + 1)) whole;
+            ∙ ap (λ x. (probe_slot h (m + 1) (16 * ((p + g) / 16)) + x) % (m + 1)) r
+            ∙ probe_slot-step h (m + 1) (16 * ((p + g) / 16)) ((p + g) % 16) (omega arith)
+            ∙ ap (probe_slot h (m + 1)) whole;
         base_is = base;
         chunk_is = r;
         stride_is = omega (arith, at.stride_is);

@@ -6,18 +6,18 @@ use Rattle.odht_base.specs.Table.{Pair, Table, slot_count, count}
 use Rattle.odht_base.specs.Valid.{IsPairOf, IsPartsOf, IsValid}
 use Rattle.odht_base.proofs.lemmas.Counts.{free_cell}
 use Rattle.odht_base.proofs.lemmas.Grown.{slot_count-place_all}
-use Rattle.odht_base.proofs.lemmas.Rooms.{max_items-lt}
+use Rattle.odht_base.proofs.lemmas.FreeSlots.{max_items-lt}
 use Rattle.odht_base.proofs.lemmas.SlotCounts.{slots_pos}
 use Rattle.odht_raw.specs.Frame.{HasNoFreeSlot}
 use Rattle.odht_raw.specs.Runs.{ArePartsOfRun, IsStop}
-use Rattle.odht_raw.proofs.lemmas.FreeSearches.{is_filled_slot}
+use Rattle.odht_raw.proofs.lemmas.FreeSearches.{is_occupied_slot}
 
 -- where a table has fewer pairs than slots, some slot counts as free
 pub has_free_slot : (F : Format) (P : Table) (es ctrl : List ℕ) → IsFormat F → IsPartsOf F P es ctrl → length ctrl ≡ slot_count P + 16 → count P < slot_count P
     → HasNoFreeSlot ctrl (length ctrl - 16) → ⊥
 has_free_slot F P es ctrl f h long below none =
     let free = free_cell P.cells below in
-    true≢false (sym free.2 ∙ is_filled_slot F P [] es ctrl f h (slot_count P) long free.0 free.1 (none free.0 (omega (arith, free.1, long))))
+    true≢false (sym free.2 ∙ is_occupied_slot F P [] es ctrl f h (slot_count P) long free.0 free.1 (none free.0 (omega (arith, free.1, long))))
 
 -- so inserts that stay at or below the maximum of a valid table go on to the last item
 pub goes_on : (F : Format) (P : Table) (ps : List Pair) (n : ℕ) (es' ctrl' : List ℕ) (to i : ℕ) → IsFormat F → IsValid F P → All (IsPairOf F) ps → ArePartsOfRun F P ps n es' ctrl'

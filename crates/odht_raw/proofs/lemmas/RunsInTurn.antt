@@ -7,7 +7,7 @@ use Rattle.std.specs.Prelude.{option_and_then}
 use Rattle.odht_base.specs.Format.{Format}
 use Rattle.odht_base.specs.Insert.{place, place_all}
 use Rattle.odht_base.specs.Table.{Pair, Table}
-use Rattle.odht_base.proofs.lemmas.Runs.{run-append}
+use Rattle.odht_base.proofs.lemmas.InsertRuns.{run-append}
 use Rattle.odht_raw.specs.Coding.{Coding, encoded}
 use Rattle.odht_raw.specs.Runs.{encoded_all, count_after, IsPartsRun, ArePartsOfRun}
 use Rattle.odht_raw.proofs.lemmas.JoinedRuns.{count_after-add}

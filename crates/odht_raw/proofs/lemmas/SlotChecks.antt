@@ -5,7 +5,7 @@ use Rattle.std.proofs.lemmas.Bool.{and_parts, false_from_ne_true}
 use Rattle.std.proofs.lemmas.List.{take-append-drop}
 use Rattle.std.proofs.lemmas.List.Folds.{list_all-append}
 use Rattle.odht_base.specs.Format.{Format, entry_len, tag}
-use Rattle.odht_base.specs.Shown.{slot_entry, slot_key, slot_value, counts_as_free}
+use Rattle.odht_base.specs.Decoded.{slot_entry, slot_key, slot_value, counts_as_free}
 use Rattle.odht_base.proofs.lemmas.PartsOf.{length-slot_entry}
 use Rattle.odht_raw.specs.declared.error.Error.{Error}
 use Rattle.odht_raw.specs.declared.error.Error.TheVariants.{NonZeroEmpty, ControlMismatch}
@@ -39,8 +39,8 @@ module _ (F : Format) (es ctrl : List ℕ) (i : ℕ) where
   refusal_is = by_tests (counts_as_free (slice_index ctrl i)) (list_all is_zero (slot_entry F es i)) (slice_index ctrl i == tag F (slot_key F es i)) _ _
 
   -- a slot that does not count as free is refused where its control byte is not its key's tag
-  pub filled_refusal : counts_as_free (slice_index ctrl i) ≡ false → hashes_refusal_at F es ctrl i ≡ (differs (slice_index ctrl i) (tag F (slot_key F es i)) gives ControlMismatch i (tag F (slot_key F es i)) (slice_index ctrl i))
-  filled_refusal h = refusal_is ∙ rw h refl
+  pub occupied_refusal : counts_as_free (slice_index ctrl i) ≡ false → hashes_refusal_at F es ctrl i ≡ (differs (slice_index ctrl i) (tag F (slot_key F es i)) gives ControlMismatch i (tag F (slot_key F es i)) (slice_index ctrl i))
+  occupied_refusal h = refusal_is ∙ rw h refl
 
   -- any other is not refused where its entry is zeros
   pub zero_entry_passes : counts_as_free (slice_index ctrl i) ≡ true → (n : ℕ) → slot_entry F es i ≡ replicate n 0 → hashes_refusal_at F es ctrl i ≡ None

@@ -3,7 +3,7 @@
 --     IsSlotFit F es ctrl i   slot i is as an image has it
 --     AllFit F es ctrl        so is each slot
 --     IsMirrored ctrl         the sixteen bytes behind those of the slots are the first sixteen again
---     AllFound F es ctrl      each filled slot is where the search for its key ends
+--     AllFound F es ctrl      each occupied slot is where the search for its key ends
 use Rattle.std.proofs.Common.{◌≡◌, ◌<◌, ◌≤◌, ◌∙◌, ◌+◌, ◌-◌, ◌*◌, ◌++◌, ◌==◌, ℕ, zero, suc, Bool, true, false, cond, not, is_none, sym, ap, ap₂, subst, refl, List, Some, None, map, take, drop, replicate, length, get_or, slice_index, arith, zero-add, zero-mul, eq-eqb, drop-drop, length-drop, length-take-le, take-append-drop}
 use Rattle.std.specs.List.{flat_map, list_all, range_with_len}
 use Rattle.std.proofs.lemmas.List.{length-map, get_or-map, get_or-take, get_or-drop, ext_get_or, nil_from_length}
@@ -12,7 +12,7 @@ use Rattle.std.proofs.lemmas.List.FromFn.{length-map-range_with_len, get_or-map-
 use Rattle.odht_base.specs.Format.{Format, entry_len, tag}
 use Rattle.odht_base.specs.Image.{entry_bytes, control_byte, entries, controls}
 use Rattle.odht_base.specs.Search.{search_end, is_at}
-use Rattle.odht_base.specs.Shown.{slot_entry, slot_key, slot_value, counts_as_free, shown_cell, shown_cells}
+use Rattle.odht_base.specs.Decoded.{slot_entry, slot_key, slot_value, counts_as_free, decoded_cell, decoded_cells}
 use Rattle.odht_base.specs.Table.{Pair, cell_at, is_free}
 use Rattle.odht_base.proofs.lemmas.ByteRanges.{bytes_at-take}
 use Rattle.odht_base.proofs.lemmas.PartsOf.{length-slot_entry}
@@ -25,7 +25,7 @@ use Rattle.odht_raw.proofs.lemmas.SlotChecks.{zeros-list_all}
 pub record IsSlotFit (F : Format) (es ctrl : List ℕ) (i : ℕ) : Type 0 where
   pub free_zeros : counts_as_free (slice_index ctrl i) ≡ true → list_all (λ x. x == 0) (slot_entry F es i) ≡ true
   pub free_byte : counts_as_free (slice_index ctrl i) ≡ true → slice_index ctrl i ≡ 255
-  pub filled_tag : counts_as_free (slice_index ctrl i) ≡ false → slice_index ctrl i ≡ tag F (slot_key F es i)
+  pub occupied_tag : counts_as_free (slice_index ctrl i) ≡ false → slice_index ctrl i ≡ tag F (slot_key F es i)
 
 abbrev pub AllFit : Format → List ℕ → List ℕ → Type 0
 AllFit F es ctrl = (i : ℕ) → i < length ctrl - 16 → IsSlotFit F es ctrl i
@@ -35,7 +35,7 @@ IsMirrored ctrl = (i : ℕ) → i < 16 → slice_index ctrl (length ctrl - 16 + 
 
 abbrev pub AllFound : Format → List ℕ → List ℕ → Type 0
 AllFound F es ctrl =
-    (i : ℕ) → i < length ctrl - 16 → counts_as_free (slice_index ctrl i) ≡ false → search_end F (shown_cells F es ctrl) (slot_key F es i) ≡ Some i
+    (i : ℕ) → i < length ctrl - 16 → counts_as_free (slice_index ctrl i) ≡ false → search_end F (decoded_cells F es ctrl) (slot_key F es i) ≡ Some i
 
 -- nothing is refused of the mirror exactly where it is one
 pub IsMirrored-mirror_refusal : (ctrl : List ℕ) → mirror_refusal ctrl ≡ None → IsMirrored ctrl
@@ -58,7 +58,7 @@ module _ (F : Format) (es ctrl : List ℕ) where
       record {
         free_zeros = λ f. not-false _ (gives_both-None _ _ (NonZeroEmpty i) a.0 f);
         free_byte = λ f. differs-false _ _ (gives_both-None _ _ (BadFreeControl i _) b.0 f);
-        filled_tag = λ f. differs-false _ _ (gives_both-None _ _ (ControlMismatch i _ _) c.0 (ap not f));
+        occupied_tag = λ f. differs-false _ _ (gives_both-None _ _ (ControlMismatch i _ _) c.0 (ap not f));
       }
 
   -- and the other way round
@@ -66,7 +66,7 @@ module _ (F : Format) (es ctrl : List ℕ) where
   slot_refusal_at-IsSlotFit i h =
       None-option_or _ _ (None-gives_both _ _ _ (λ f. ap not (h.free_zeros f)))
       (None-option_or _ _ (None-gives_both _ _ _ (λ f. false-differs _ _ (h.free_byte f)))
-      (None-option_or _ _ (None-gives_both _ _ _ (λ f. false-differs _ _ (h.filled_tag (not-true _ f)))) refl))
+      (None-option_or _ _ (None-gives_both _ _ _ (λ f. false-differs _ _ (h.occupied_tag (not-true _ f)))) refl))
 
   -- and of all exactly where each fits
   pub AllFit-slots_refusal : slots_refusal F es ctrl ≡ None → AllFit F es ctrl
@@ -81,11 +81,11 @@ module _ (F : Format) (es ctrl : List ℕ) where
   -- ---- where a search for a slot's key ends
   -- a slot is not refused for it exactly where the search for its key ends there, or it counts as free
   pub search_end-unreachable : (i : ℕ) → unreachable F es ctrl i ≡ None → counts_as_free (slice_index ctrl i) ≡ false
-      → search_end F (shown_cells F es ctrl) (slot_key F es i) ≡ Some i
+      → search_end F (decoded_cells F es ctrl) (slot_key F es i) ≡ Some i
   search_end-unreachable i e f = is_at-true i _ (not-false _ (gives_both-None _ _ _ e (ap not f)))
 
   -- and the other way round
-  pub unreachable-search_end : (i : ℕ) → (counts_as_free (slice_index ctrl i) ≡ false → search_end F (shown_cells F es ctrl) (slot_key F es i) ≡ Some i)
+  pub unreachable-search_end : (i : ℕ) → (counts_as_free (slice_index ctrl i) ≡ false → search_end F (decoded_cells F es ctrl) (slot_key F es i) ≡ Some i)
       → unreachable F es ctrl i ≡ None
   unreachable-search_end i h = None-gives_both _ _ _ (λ f. ap not (ap (is_at i) (h (not-true _ f)) ∙ eq-eqb i i refl))
 
@@ -101,43 +101,43 @@ module _ (F : Format) (es ctrl : List ℕ) where
 
   -- ---- the cells that are shown
   -- there is one for each slot
-  pub length-shown_cells : length (shown_cells F es ctrl) ≡ length ctrl - 16
-  unfolding shown_cells
-  length-shown_cells = length-map-range_with_len (shown_cell F es ctrl) 0 (length ctrl - 16)
+  pub length-decoded_cells : length (decoded_cells F es ctrl) ≡ length ctrl - 16
+  unfolding decoded_cells
+  length-decoded_cells = length-map-range_with_len (decoded_cell F es ctrl) 0 (length ctrl - 16)
 
   -- and it is what the slot shows
-  pub cell_at-shown_cells : (i : ℕ) → i < length ctrl - 16 → cell_at (shown_cells F es ctrl) i ≡ shown_cell F es ctrl i
-  unfolding shown_cells
-  cell_at-shown_cells i l = get_or-map-range_with_len (shown_cell F es ctrl) 0 (length ctrl - 16) i i None l (zero-add i)
+  pub cell_at-decoded_cells : (i : ℕ) → i < length ctrl - 16 → cell_at (decoded_cells F es ctrl) i ≡ decoded_cell F es ctrl i
+  unfolding decoded_cells
+  cell_at-decoded_cells i l = get_or-map-range_with_len (decoded_cell F es ctrl) 0 (length ctrl - 16) i i None l (zero-add i)
 
   -- which is nothing where the slot counts as free
-  pub is_free-shown_cells : (i : ℕ) → i < length ctrl - 16 → is_free (shown_cells F es ctrl) i ≡ counts_as_free (slice_index ctrl i)
-  is_free-shown_cells i l = ap (is_none {T = Pair}) (cell_at-shown_cells i l) ∙ go (counts_as_free (slice_index ctrl i))
+  pub is_free-decoded_cells : (i : ℕ) → i < length ctrl - 16 → is_free (decoded_cells F es ctrl) i ≡ counts_as_free (slice_index ctrl i)
+  is_free-decoded_cells i l = ap (is_none {T = Pair}) (cell_at-decoded_cells i l) ∙ go (counts_as_free (slice_index ctrl i))
     where
       go : (b : Bool) → is_none {T = Pair} (cond b None (Some (record { key = slot_key F es i; value = slot_value F es i }))) ≡ b
       go true = refl
       go false = refl
 
   -- by whether it does
-  shown_cell-at : (i : ℕ) (b : Bool) → counts_as_free (slice_index ctrl i) ≡ b
-      → shown_cell F es ctrl i ≡ cond b None (Some (record { key = slot_key F es i; value = slot_value F es i }))
-  shown_cell-at i b e = ap (λ c. cond c None (Some (record { key = slot_key F es i; value = slot_value F es i }))) e
+  decoded_cell-at : (i : ℕ) (b : Bool) → counts_as_free (slice_index ctrl i) ≡ b
+      → decoded_cell F es ctrl i ≡ cond b None (Some (record { key = slot_key F es i; value = slot_value F es i }))
+  decoded_cell-at i b e = ap (λ c. cond c None (Some (record { key = slot_key F es i; value = slot_value F es i }))) e
 
   -- a fit slot has the entry of its cell
-  entry_bytes-shown_cell : (i : ℕ) → IsSlotFit F es ctrl i → length (slot_entry F es i) ≡ entry_len F → entry_bytes F (shown_cell F es ctrl i) ≡ slot_entry F es i
-  entry_bytes-shown_cell i fit n = go (counts_as_free (slice_index ctrl i)) refl
+  entry_bytes-decoded_cell : (i : ℕ) → IsSlotFit F es ctrl i → length (slot_entry F es i) ≡ entry_len F → entry_bytes F (decoded_cell F es ctrl i) ≡ slot_entry F es i
+  entry_bytes-decoded_cell i fit n = go (counts_as_free (slice_index ctrl i)) refl
     where
-      go : (b : Bool) → counts_as_free (slice_index ctrl i) ≡ b → entry_bytes F (shown_cell F es ctrl i) ≡ slot_entry F es i
-      go true e = ap (entry_bytes F) (shown_cell-at i true e) ∙ sym (zeros-list_all (slot_entry F es i) (fit.free_zeros e) ∙ ap (λ m. replicate m 0) n)
-      go false e = ap (entry_bytes F) (shown_cell-at i false e) ∙ take-append-drop F.key_len (slot_entry F es i)
+      go : (b : Bool) → counts_as_free (slice_index ctrl i) ≡ b → entry_bytes F (decoded_cell F es ctrl i) ≡ slot_entry F es i
+      go true e = ap (entry_bytes F) (decoded_cell-at i true e) ∙ sym (zeros-list_all (slot_entry F es i) (fit.free_zeros e) ∙ ap (λ m. replicate m 0) n)
+      go false e = ap (entry_bytes F) (decoded_cell-at i false e) ∙ take-append-drop F.key_len (slot_entry F es i)
 
   -- and its control byte
-  control_byte-shown_cell : (i : ℕ) → IsSlotFit F es ctrl i → control_byte F (shown_cell F es ctrl i) ≡ slice_index ctrl i
-  control_byte-shown_cell i fit = go (counts_as_free (slice_index ctrl i)) refl
+  control_byte-decoded_cell : (i : ℕ) → IsSlotFit F es ctrl i → control_byte F (decoded_cell F es ctrl i) ≡ slice_index ctrl i
+  control_byte-decoded_cell i fit = go (counts_as_free (slice_index ctrl i)) refl
     where
-      go : (b : Bool) → counts_as_free (slice_index ctrl i) ≡ b → control_byte F (shown_cell F es ctrl i) ≡ slice_index ctrl i
-      go true e = ap (control_byte F) (shown_cell-at i true e) ∙ sym (fit.free_byte e)
-      go false e = ap (control_byte F) (shown_cell-at i false e) ∙ sym (fit.filled_tag e)
+      go : (b : Bool) → counts_as_free (slice_index ctrl i) ≡ b → control_byte F (decoded_cell F es ctrl i) ≡ slice_index ctrl i
+      go true e = ap (control_byte F) (decoded_cell-at i true e) ∙ sym (fit.free_byte e)
+      go false e = ap (control_byte F) (decoded_cell-at i false e) ∙ sym (fit.occupied_tag e)
 
 -- pieces of one length, cut out of a list, give it again
 pieces_again : (w : ℕ) (g : ℕ → List ℕ) (es : List ℕ) (a n : ℕ) → length es ≡ n * w
@@ -156,30 +156,30 @@ pieces_again w g es a (suc n) l h =
 module _ (F : Format) (es ctrl : List ℕ) (fits : AllFit F es ctrl) where
   -- ---- fit slots, and a mirror, show their parts
   -- the entries
-  pub entries-shown_cells : length es ≡ (length ctrl - 16) * entry_len F → entries F (shown_cells F es ctrl) ≡ es
-  unfolding entries shown_cells
-  entries-shown_cells long =
-      flat_map-map (entry_bytes F) (shown_cell F es ctrl) (range_with_len 0 (length ctrl - 16))
-      ∙ pieces_again (entry_len F) (λ j. entry_bytes F (shown_cell F es ctrl j)) es 0 (length ctrl - 16) long at
+  pub entries-decoded_cells : length es ≡ (length ctrl - 16) * entry_len F → entries F (decoded_cells F es ctrl) ≡ es
+  unfolding entries decoded_cells
+  entries-decoded_cells long =
+      flat_map-map (entry_bytes F) (decoded_cell F es ctrl) (range_with_len 0 (length ctrl - 16))
+      ∙ pieces_again (entry_len F) (λ j. entry_bytes F (decoded_cell F es ctrl j)) es 0 (length ctrl - 16) long at
     where
-      at : (i j : ℕ) → i < length ctrl - 16 → 0 + i ≡ j → entry_bytes F (shown_cell F es ctrl j) ≡ take (entry_len F) (drop (i * entry_len F) es)
+      at : (i j : ℕ) → i < length ctrl - 16 → 0 + i ≡ j → entry_bytes F (decoded_cell F es ctrl j) ≡ take (entry_len F) (drop (i * entry_len F) es)
       at i j l e =
           let same : i ≡ j = omega arith in
-          subst (λ k. entry_bytes F (shown_cell F es ctrl k) ≡ take (entry_len F) (drop (i * entry_len F) es)) same
-          (entry_bytes-shown_cell F es ctrl i (fits i l) (length-slot_entry F es (length ctrl - 16) i long l) ∙ bytes_at-take es (i * entry_len F) (entry_len F))
+          subst (λ k. entry_bytes F (decoded_cell F es ctrl k) ≡ take (entry_len F) (drop (i * entry_len F) es)) same
+          (entry_bytes-decoded_cell F es ctrl i (fits i l) (length-slot_entry F es (length ctrl - 16) i long l) ∙ bytes_at-take es (i * entry_len F) (entry_len F))
 
   module _ (enough : 16 ≤ length ctrl - 16) (mirrored : IsMirrored ctrl) where
-    front : map (control_byte F) (shown_cells F es ctrl) ≡ take (length ctrl - 16) ctrl
+    front : map (control_byte F) (decoded_cells F es ctrl) ≡ take (length ctrl - 16) ctrl
     front =
-        let n = length-map (shown_cells F es ctrl) (control_byte F) ∙ length-shown_cells F es ctrl in
+        let n = length-map (decoded_cells F es ctrl) (control_byte F) ∙ length-decoded_cells F es ctrl in
         let t = length-take-le (length ctrl - 16) ctrl (omega arith) in
         ext_get_or 0 _ _ (n ∙ sym t) (λ i l. at i (subst (λ k. i < k) n l))
       where
-        at : (i : ℕ) → i < length ctrl - 16 → get_or (map (control_byte F) (shown_cells F es ctrl)) i 0 ≡ get_or (take (length ctrl - 16) ctrl) i 0
+        at : (i : ℕ) → i < length ctrl - 16 → get_or (map (control_byte F) (decoded_cells F es ctrl)) i 0 ≡ get_or (take (length ctrl - 16) ctrl) i 0
         at i l =
-            get_or-map (control_byte F) (shown_cells F es ctrl) i None 0 (subst (λ k. i < k) (sym (length-shown_cells F es ctrl)) l)
-            ∙ ap (control_byte F) (cell_at-shown_cells F es ctrl i l)
-            ∙ control_byte-shown_cell F es ctrl i (fits i l)
+            get_or-map (control_byte F) (decoded_cells F es ctrl) i None 0 (subst (λ k. i < k) (sym (length-decoded_cells F es ctrl)) l)
+            ∙ ap (control_byte F) (cell_at-decoded_cells F es ctrl i l)
+            ∙ control_byte-decoded_cell F es ctrl i (fits i l)
             ∙ sym (get_or-take (length ctrl - 16) ctrl i 0 l)
 
     back : take 16 (take (length ctrl - 16) ctrl) ≡ drop (length ctrl - 16) ctrl
@@ -196,9 +196,9 @@ module _ (F : Format) (es ctrl : List ℕ) (fits : AllFit F es ctrl) where
             ∙ sym (get_or-drop (length ctrl - 16) ctrl i 0 ∙ mirrored i l)
 
     -- and the control bytes
-    pub controls-shown_cells : controls F (shown_cells F es ctrl) ≡ ctrl
+    pub controls-decoded_cells : controls F (decoded_cells F es ctrl) ≡ ctrl
     unfolding controls
-    controls-shown_cells =
+    controls-decoded_cells =
         ap (λ xs. xs ++ take 16 xs) front
         ∙ ap (λ ys. take (length ctrl - 16) ctrl ++ ys) back
         ∙ take-append-drop (length ctrl - 16) ctrl

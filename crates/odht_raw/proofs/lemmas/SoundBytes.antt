@@ -10,7 +10,7 @@ use Rattle.odht_base.specs.Image.{header_bytes, parts, image}
 use Rattle.odht_base.specs.Load.{max_items, IsSlotCount}
 use Rattle.odht_base.specs.Numbers.{num, le_bytes, IsBytes}
 use Rattle.odht_base.specs.Search.{search_end}
-use Rattle.odht_base.specs.Shown.{stated_count, stated_slots, stated_factor, entries_of, controls_of, slot_entry, slot_key, slot_value, counts_as_free, shown_cell, shown_cells, shown}
+use Rattle.odht_base.specs.Decoded.{header_count, header_slots, header_factor, entries_of, controls_of, slot_entry, slot_key, slot_value, counts_as_free, decoded_cell, decoded_cells, decoded_table}
 use Rattle.odht_base.specs.Table.{Pair, Table, cell_at, slot_count, count}
 use Rattle.odht_base.specs.Valid.{HasPairsOf, IsPlaced, IsValid, IsValidBytes}
 use Rattle.odht_base.proofs.lemmas.ByteRanges.{length-bytes_at, drop-bytes_at, All-bytes_at}
@@ -23,16 +23,16 @@ use Rattle.odht_raw.specs.Frame.{IsAccepted}
 use Rattle.odht_raw.specs.Refusals.{factor_refusal, padding_refusal, slots_refusal, mirror_refusal, count_refusal, room_refusal, reach_refusal, late_refusal}
 use Rattle.odht_raw.proofs.lemmas.Accepted.{accepted_opening, accepted_slots, accepted_len}
 use Rattle.odht_raw.proofs.lemmas.FirstErrors.{option_or-None, None-option_or, gives-None, None-gives, differs-false, false-differs, lists_differ-false, false-lists_differ}
-use Rattle.odht_raw.proofs.lemmas.SlotFits.{AllFit, IsMirrored, AllFound, AllFit-slots_refusal, slots_refusal-AllFit, IsMirrored-mirror_refusal, mirror_refusal-IsMirrored, search_end-unreachable, unreachable-search_end, unreachable-reach_refusal, reach_refusal-unreachable, length-shown_cells, cell_at-shown_cells, entries-shown_cells, controls-shown_cells}
+use Rattle.odht_raw.proofs.lemmas.SlotFits.{AllFit, IsMirrored, AllFound, AllFit-slots_refusal, slots_refusal-AllFit, IsMirrored-mirror_refusal, mirror_refusal-IsMirrored, search_end-unreachable, unreachable-search_end, unreachable-reach_refusal, reach_refusal-unreachable, length-decoded_cells, cell_at-decoded_cells, entries-decoded_cells, controls-decoded_cells}
 
 pub record IsSound (F : Format) (B : List ℕ) : Type 0 where
   pub accepted : IsAccepted F B
-  pub factor_low : 655 ≤ stated_factor B
+  pub factor_low : 655 ≤ header_factor B
   pub padding_is : bytes_at B 30 2 ≡ 0 ∷ 0 ∷ []
   pub slots_fit : AllFit F (entries_of F B) (controls_of F B)
   pub mirrored : IsMirrored (controls_of F B)
-  pub count_is : stated_count B ≡ count (shown F B)
-  pub room : stated_count B ≤ max_items (stated_slots B) (stated_factor B)
+  pub count_is : header_count B ≡ count (decoded_table F B)
+  pub room : header_count B ≤ max_items (header_slots B) (header_factor B)
   pub found : AllFound F (entries_of F B) (controls_of F B)
 
 -- of accepted bytes nothing more is refused exactly where they are sound
@@ -45,7 +45,7 @@ IsSound-late_refusal F B accepted e =
     let b = option_or-None (padding_refusal B) _ a.1 in
     let c = option_or-None (slots_refusal F es ctrl) _ b.1 in
     let d = option_or-None (mirror_refusal ctrl) _ c.1 in
-    let f = option_or-None (count_refusal (count (shown F B)) B) _ d.1 in
+    let f = option_or-None (count_refusal (count (decoded_table F B)) B) _ d.1 in
     let g = option_or-None (room_refusal B) _ f.1 in
     let h = option_or-None (reach_refusal F es ctrl) None g.1 in
     record {
@@ -76,9 +76,9 @@ late_refusal-IsSound F B h =
 -- ---- the cells that parts show
 module _ (F : Format) (es ctrl : List ℕ) where
   -- a slot that shows a pair is filled, and the pair is its entry
-  shown_cell-Some : (i : ℕ) (p : Pair) → shown_cell F es ctrl i ≡ Some p
+  decoded_cell-Some : (i : ℕ) (p : Pair) → decoded_cell F es ctrl i ≡ Some p
       → (counts_as_free (slice_index ctrl i) ≡ false) × (p ≡ record { key = slot_key F es i; value = slot_value F es i })
-  shown_cell-Some i p e = go (counts_as_free (slice_index ctrl i)) e
+  decoded_cell-Some i p e = go (counts_as_free (slice_index ctrl i)) e
     where
       go : (b : Bool) → cond b None (Some (record { key = slot_key F es i; value = slot_value F es i })) ≡ Some p
           → (b ≡ false) × (p ≡ record { key = slot_key F es i; value = slot_value F es i })
@@ -86,21 +86,21 @@ module _ (F : Format) (es ctrl : List ℕ) where
       go false g = (refl, sym (some_same _ p g))
 
   -- what a cell with a pair tells of its slot
-  record IsFilledBy (i : ℕ) (p : Pair) : Type 0 where
+  record IsOccupiedBy (i : ℕ) (p : Pair) : Type 0 where
     within : i < length ctrl - 16
-    filled : counts_as_free (slice_index ctrl i) ≡ false
+    occupied : counts_as_free (slice_index ctrl i) ≡ false
     pair_is : p ≡ record { key = slot_key F es i; value = slot_value F es i }
 
-  IsFilledBy-Some : (i : ℕ) (p : Pair) → cell_at (shown_cells F es ctrl) i ≡ Some p → IsFilledBy i p
-  IsFilledBy-Some i p e =
-      let within = subst (λ n. i < n) (length-shown_cells F es ctrl) (cell_at-within (shown_cells F es ctrl) i p e) in
-      let is = shown_cell-Some i p (sym (cell_at-shown_cells F es ctrl i within) ∙ e) in
-      record { within = within; filled = is.0; pair_is = is.1 }
+  IsOccupiedBy-Some : (i : ℕ) (p : Pair) → cell_at (decoded_cells F es ctrl) i ≡ Some p → IsOccupiedBy i p
+  IsOccupiedBy-Some i p e =
+      let within = subst (λ n. i < n) (length-decoded_cells F es ctrl) (cell_at-within (decoded_cells F es ctrl) i p e) in
+      let is = decoded_cell-Some i p (sym (cell_at-decoded_cells F es ctrl i within) ∙ e) in
+      record { within = within; occupied = is.0; pair_is = is.1 }
 
   -- each pair is of the format
-  HasPairsOf-shown_cells : length es ≡ (length ctrl - 16) * entry_len F → All (λ x. x < 256) es → HasPairsOf F (shown_cells F es ctrl)
-  HasPairsOf-shown_cells long small i p e =
-      let t = IsFilledBy-Some i p e in
+  HasPairsOf-decoded_cells : length es ≡ (length ctrl - 16) * entry_len F → All (λ x. x < 256) es → HasPairsOf F (decoded_cells F es ctrl)
+  HasPairsOf-decoded_cells long small i p e =
+      let t = IsOccupiedBy-Some i p e in
       let entry = slot_entry F es i in
       let n = length-slot_entry F es (length ctrl - 16) i long t.within in
       let all = All-bytes_at es (i * entry_len F) (entry_len F) small in
@@ -115,17 +115,17 @@ module _ (F : Format) (es ctrl : List ℕ) where
         });
       }
 
-  -- where each filled slot is found, they are those of a placed table
-  IsPlaced-shown_cells : (f : ℕ) → IsSlotCount (length ctrl - 16) → length es ≡ (length ctrl - 16) * entry_len F → All (λ x. x < 256) es → AllFound F es ctrl
-      → IsPlaced F (record { factor = f; cells = shown_cells F es ctrl })
-  IsPlaced-shown_cells f slots long small found =
-      let P : Table = record { factor = f; cells = shown_cells F es ctrl } in
-      IsPlaced-AllArrive F P (subst IsSlotCount (sym (length-shown_cells F es ctrl)) slots) (HasPairsOf-shown_cells long small) arrives
+  -- where each occupied slot is found, they are those of a placed table
+  IsPlaced-decoded_cells : (f : ℕ) → IsSlotCount (length ctrl - 16) → length es ≡ (length ctrl - 16) * entry_len F → All (λ x. x < 256) es → AllFound F es ctrl
+      → IsPlaced F (record { factor = f; cells = decoded_cells F es ctrl })
+  IsPlaced-decoded_cells f slots long small found =
+      let P : Table = record { factor = f; cells = decoded_cells F es ctrl } in
+      IsPlaced-AllArrive F P (subst IsSlotCount (sym (length-decoded_cells F es ctrl)) slots) (HasPairsOf-decoded_cells long small) arrives
     where
-      arrives : AllArrive F (record { factor = f; cells = shown_cells F es ctrl })
+      arrives : AllArrive F (record { factor = f; cells = decoded_cells F es ctrl })
       arrives i p e =
-          let t = IsFilledBy-Some i p e in
-          ap (λ (q : Pair). search_end F (shown_cells F es ctrl) q.key) t.pair_is ∙ found i t.within t.filled
+          let t = IsOccupiedBy-Some i p e in
+          ap (λ (q : Pair). search_end F (decoded_cells F es ctrl) q.key) t.pair_is ∙ found i t.within t.occupied
 
 -- a list that begins with xs, whose rest begins with zs
 glue : (xs ys zs ws : List ℕ) → ys ≡ xs ++ zs → zs ≡ ws → ys ≡ xs ++ ws
@@ -136,28 +136,28 @@ module _ (F : Format) (B : List ℕ) (small : All (λ x. x < 256) B) (h : IsSoun
   long : 32 ≤ length B
   long = (accepted_opening F B h.accepted).long
 
-  entries_long : length (entries_of F B) ≡ stated_slots B * entry_len F
-  entries_long = length-bytes_at B 32 (stated_slots B * entry_len F) (omega (arith, accepted_len F B h.accepted))
+  entries_long : length (entries_of F B) ≡ header_slots B * entry_len F
+  entries_long = length-bytes_at B 32 (header_slots B * entry_len F) (omega (arith, accepted_len F B h.accepted))
 
-  slots_are : length (controls_of F B) - 16 ≡ stated_slots B
-  slots_are = omega (arith, length-drop (32 + stated_slots B * entry_len F) B, accepted_len F B h.accepted)
+  slots_are : length (controls_of F B) - 16 ≡ header_slots B
+  slots_are = omega (arith, length-drop (32 + header_slots B * entry_len F) B, accepted_len F B h.accepted)
 
   parts_long : length (entries_of F B) ≡ (length (controls_of F B) - 16) * entry_len F
   parts_long = entries_long ∙ ap (λ s. s * entry_len F) (sym slots_are)
 
-  slot_count-shown : slot_count (shown F B) ≡ stated_slots B
-  slot_count-shown = length-shown_cells F (entries_of F B) (controls_of F B) ∙ slots_are
+  slot_count-decoded_table : slot_count (decoded_table F B) ≡ header_slots B
+  slot_count-decoded_table = length-decoded_cells F (entries_of F B) (controls_of F B) ∙ slots_are
 
   -- they show a valid table
-  IsValid-shown : IsValid F (shown F B)
-  IsValid-shown = record {
-    placed = IsPlaced-shown_cells F (entries_of F B) (controls_of F B) (stated_factor B) (subst IsSlotCount (sym slots_are) (accepted_slots F B h.accepted))
-        parts_long (All-bytes_at B 32 (stated_slots B * entry_len F) small) h.found;
+  IsValid-decoded_table : IsValid F (decoded_table F B)
+  IsValid-decoded_table = record {
+    placed = IsPlaced-decoded_cells F (entries_of F B) (controls_of F B) (header_factor B) (subst IsSlotCount (sym slots_are) (accepted_slots F B h.accepted))
+        parts_long (All-bytes_at B 32 (header_slots B * entry_len F) small) h.found;
     factor_low = h.factor_low;
     factor_high =
         let below = num-lt 2 (bytes_at B 28 2) (record { len = length-bytes_at B 28 2 (omega (arith, long)); each = All-bytes_at B 28 2 small }) in
         omega (arith, below);
-    room = subst₂ (λ n m. n ≤ max_items m (stated_factor B)) h.count_is (sym slot_count-shown) h.room;
+    room = subst₂ (λ n m. n ≤ max_items m (header_factor B)) h.count_is (sym slot_count-decoded_table) h.room;
   }
 
   -- a field's bytes are those of its number
@@ -171,7 +171,7 @@ module _ (F : Format) (B : List ℕ) (small : All (λ x. x < 256) B) (h : IsSoun
   field_then : (at n : ℕ) (xs : List ℕ) → bytes_at B at n ≡ xs → drop at B ≡ xs ++ drop (at + n) B
   field_then at n xs e = drop-bytes_at B at n ∙ ap (λ ys. ys ++ drop (at + n) B) e
 
-  header_again : B ≡ header_bytes F (stated_slots B) (stated_count B) (stated_factor B) ++ drop 32 B
+  header_again : B ≡ header_bytes F (header_slots B) (header_count B) (header_factor B) ++ drop 32 B
   header_again =
       let header = (accepted_opening F B h.accepted).header in
       glue (79 ∷ 68 ∷ 72 ∷ 84 ∷ []) _ _ _ (field_then 0 4 _ header.tag_is)
@@ -179,27 +179,27 @@ module _ (F : Format) (B : List ℕ) (small : All (λ x. x < 256) B) (h : IsSoun
       (glue (F.key_len ∷ []) _ _ _ (byte_then 5 F.key_len (omega (arith, long)) header.key_len_is)
       (glue (F.value_len ∷ []) _ _ _ (byte_then 6 F.value_len (omega (arith, long)) header.value_len_is)
       (glue (32 ∷ []) _ _ _ (byte_then 7 32 (omega (arith, long)) header.header_len_is)
-      (glue (le_bytes 8 (stated_count B)) _ _ _ (field_then 8 8 _ (field_again 8 8 (omega (arith, long))))
-      (glue (le_bytes 8 (stated_slots B)) _ _ _ (field_then 16 8 _ (field_again 16 8 (omega (arith, long))))
+      (glue (le_bytes 8 (header_count B)) _ _ _ (field_then 8 8 _ (field_again 8 8 (omega (arith, long))))
+      (glue (le_bytes 8 (header_slots B)) _ _ _ (field_then 16 8 _ (field_again 16 8 (omega (arith, long))))
       (glue (0 ∷ 0 ∷ 0 ∷ 2 ∷ []) _ _ _ (field_then 24 4 _ header.version_is)
-      (glue (le_bytes 2 (stated_factor B)) _ _ _ (field_then 28 2 _ (field_again 28 2 (omega (arith, long))))
+      (glue (le_bytes 2 (header_factor B)) _ _ _ (field_then 28 2 _ (field_again 28 2 (omega (arith, long))))
       (field_then 30 2 _ h.padding_is)))))))))
 
-  parts_again : drop 32 B ≡ parts F (shown F B).cells
+  parts_again : drop 32 B ≡ parts F (decoded_table F B).cells
   parts_again =
       let enough : 16 ≤ length (controls_of F B) - 16 = omega (arith, slots_are, (accepted_slots F B h.accepted).least) in
-      drop-bytes_at B 32 (stated_slots B * entry_len F)
-      ∙ sym (ap₂ (λ xs ys. xs ++ ys) (entries-shown_cells F (entries_of F B) (controls_of F B) h.slots_fit parts_long)
-      (controls-shown_cells F (entries_of F B) (controls_of F B) h.slots_fit enough h.mirrored))
+      drop-bytes_at B 32 (header_slots B * entry_len F)
+      ∙ sym (ap₂ (λ xs ys. xs ++ ys) (entries-decoded_cells F (entries_of F B) (controls_of F B) h.slots_fit parts_long)
+      (controls-decoded_cells F (entries_of F B) (controls_of F B) h.slots_fit enough h.mirrored))
 
   -- and are its image
-  image-shown : B ≡ image F (shown F B)
+  image-decoded_table : B ≡ image F (decoded_table F B)
   unfolding image
-  image-shown =
+  image-decoded_table =
       header_again
-      ∙ ap₂ (λ s c. header_bytes F s c (stated_factor B) ++ drop 32 B) (sym slot_count-shown) h.count_is
-      ∙ ap (λ xs. header_bytes F (slot_count (shown F B)) (count (shown F B)) (stated_factor B) ++ xs) parts_again
+      ∙ ap₂ (λ s c. header_bytes F s c (header_factor B) ++ drop 32 B) (sym slot_count-decoded_table) h.count_is
+      ∙ ap (λ xs. header_bytes F (slot_count (decoded_table F B)) (count (decoded_table F B)) (header_factor B) ++ xs) parts_again
 
   -- so they are valid
   pub IsValidBytes-IsSound : IsValidBytes F B
-  IsValidBytes-IsSound = (shown F B, record { valid = IsValid-shown; bytes = image-shown })
+  IsValidBytes-IsSound = (decoded_table F B, record { valid = IsValid-decoded_table; bytes = image-decoded_table })

@@ -1,4 +1,4 @@
--- Slots that wait to be placed, as they are listed: the list of all filled slots as it is made, and the place of one slot in a
+-- Slots that wait to be placed, as they are listed: the list of all occupied slots as it is made, and the place of one slot in a
 -- list that rises.
 use Rattle.std.proofs.Common.{◌≡◌, ◌<◌, ◌≤◌, ◌+◌, ◌^◌, ◌∙◌, ◌⊎◌, inl, inr, ℕ, zero, suc, Bool, true, false, true≢false, not, cond, sym, ap, ap₂, subst, refl, List, [], ◌∷◌, ◌++◌, Option, Some, None, map, filter, length, take, AllPairs, slice_index, ltb, arith, Contains, ◌==◌, Bor}
 use Rattle.std.specs.Prelude.{is_some, is_none}
@@ -14,13 +14,13 @@ use Rattle.std.proofs.lemmas.List.FromFn.{filter_of_map_range_with_len_more}
 use Rattle.std.proofs.Math.ListN.{set}
 use Rattle.std.proofs.Math.Nat.{add-mod_left, mod-eq_of_lt}
 use Rattle.std.proofs.Math.Seq.{take-nil}
-use Rattle.odht_base.specs.Made.{filled}
-use Rattle.odht_base.specs.Shown.{counts_as_free}
+use Rattle.odht_base.specs.Made.{occupied}
+use Rattle.odht_base.specs.Decoded.{counts_as_free}
 use Rattle.odht_base.specs.Table.{Pair, Table, slot_count, cell_at, is_free, count}
-use Rattle.odht_base.proofs.lemmas.Filled.{length-filled}
+use Rattle.odht_base.proofs.lemmas.OccupiedSlots.{length-occupied}
 use Rattle.odht_raw.specs.Waiting.{waiting, slot_of, AreRising}
 
--- ---- a list of the filled slots, as it is made
+-- ---- a list of the occupied slots, as it is made
 -- tests that agree below a + n keep the same numbers of the n from a on
 filter_agree_below : (p q : ℕ → Bool) (a n : ℕ) → ((i : ℕ) → i < a + n → p i ≡ q i) → filter p (range_with_len a n) ≡ filter q (range_with_len a n)
 filter_agree_below p q a zero h = refl
@@ -116,25 +116,25 @@ module _ (ctrl : List ℕ) where
       → ((i : ℕ) → i < slot_count P → counts_as_free (slice_index ctrl i) ≡ is_free P.cells i)
       → length out ≡ count P
       → IsListedBelow ctrl (slot_count P) out m
-      → out ≡ map waiting (filled P)
+      → out ≡ map waiting (occupied P)
   listed_all P out m same room h =
       sym (take_all m out (omega (arith, whole)))
       ∙ h.listed
       ∙ ap (λ xs. take (length out) (map waiting xs)) all
-      ∙ take_all (length out) (map waiting (filled P)) (omega (arith, long))
+      ∙ take_all (length out) (map waiting (occupied P)) (omega (arith, long))
     where
       ws : List ℕ
-      ws = map waiting (filled P)
+      ws = map waiting (occupied P)
 
       agree : (c : Option Pair) (b : Bool) → b ≡ is_none c → not b ≡ is_some c
       agree None b e = ap not e
       agree (Some p) b e = ap not e
 
-      all : taken_below ctrl (slot_count P) ≡ filled P
+      all : taken_below ctrl (slot_count P) ≡ occupied P
       all = filter_agree_below _ _ 0 (slot_count P) (λ i l. agree (cell_at P.cells i) _ (same i (omega (arith, l))))
 
       long : length ws ≡ length out
-      long = length-map (filled P) waiting ∙ length-filled P ∙ sym room
+      long = length-map (occupied P) waiting ∙ length-occupied P ∙ sym room
 
       whole : m ≡ length out
       whole =

@@ -12,14 +12,14 @@ use Rattle.std.proofs.lemmas.List.FromFn.{length-range_with_len, get_or-range_wi
 use Rattle.odht_base.specs.Format.{Format, IsFormat, format_of}
 use Rattle.odht_base.specs.SlotWalks.{numbered, slots_from}
 use Rattle.odht_base.specs.Table.{Pair, Cells, Table, walk}
-use Rattle.odht_base.specs.Shown.{counts_as_free, shown_cell, shown_cells, shown, entries_of, controls_of, seen}
+use Rattle.odht_base.specs.Decoded.{counts_as_free, decoded_cell, decoded_cells, decoded_table, entries_of, controls_of, decoded_pairs}
 use Rattle.odht_base.specs.Valid.{IsImage, IsPairOf, IsPlaced}
-use Rattle.odht_base.specs.Groups.{filled}
-use Rattle.odht_base.proofs.lemmas.Apart.{walk-IsPairOf}
-use Rattle.odht_base.proofs.lemmas.Image.{shown-image}
-use Rattle.odht_base.proofs.lemmas.MarkedPlaces.{places_of, filled-places}
+use Rattle.odht_base.specs.Groups.{occupied}
+use Rattle.odht_base.proofs.lemmas.DistinctKeys.{walk-IsPairOf}
+use Rattle.odht_base.proofs.lemmas.Image.{decoded_table-image}
+use Rattle.odht_base.proofs.lemmas.MarkedPositions.{positions_of, occupied-places}
 use Rattle.odht_raw.specs.Parts.{TableParts, entry_format}
-use Rattle.odht_raw.specs.Walks.{Item, item, slot_item, slot_numbered, items_of, items_from, numbered_of, numbered_from, AreFilled, decoded_items, decoded_numbered}
+use Rattle.odht_raw.specs.Walks.{Item, item, slot_item, slot_numbered, items_of, items_from, numbered_of, numbered_from, AreOccupied, decoded_items, decoded_numbered}
 
 -- ---- slots by groups
 -- a list without a first item
@@ -48,33 +48,33 @@ drop-range (suc m) a (suc n) =
     drop-range m (a + 1) n ∙ (λ i. range_with_len (next i) (less i))
 
 -- places that are counted from another start
-places-shift : (a i : ℕ) (bs : List Bool) → map (λ j. a + j) (places_of i bs) ≡ places_of (a + i) bs
+places-shift : (a i : ℕ) (bs : List Bool) → map (λ j. a + j) (positions_of i bs) ≡ positions_of (a + i) bs
 places-shift a i [] = refl
 places-shift a i (b ∷ bs) =
     let e : a + (i + 1) ≡ a + i + 1 = omega arith in
-    go b (places-shift a (i + 1) bs ∙ ap (λ n. places_of n bs) e)
+    go b (places-shift a (i + 1) bs ∙ ap (λ n. positions_of n bs) e)
   where
-    go : (x : Bool) → map (λ j. a + j) (places_of (i + 1) bs) ≡ places_of (a + i + 1) bs → map (λ j. a + j) (places_of i (x ∷ bs)) ≡ places_of (a + i) (x ∷ bs)
+    go : (x : Bool) → map (λ j. a + j) (positions_of (i + 1) bs) ≡ positions_of (a + i + 1) bs → map (λ j. a + j) (positions_of i (x ∷ bs)) ≡ positions_of (a + i) (x ∷ bs)
     go true r = ap (λ xs. (a + i) ∷ xs) r
     go false r = r
 
 -- each place of a filled byte is one of the list's, and filled
-pub filled-All : (T : TableParts) (a : ℕ) (bs : List ℕ) → a + length bs ≤ T.entries.slots → ((k : ℕ) → k < length bs → slice_index T.control (a + k) ≡ slice_index bs k) → AreFilled T a (filled bs)
-filled-All T a bs fits are k d l =
+pub occupied-All : (T : TableParts) (a : ℕ) (bs : List ℕ) → a + length bs ≤ T.entries.slots → ((k : ℕ) → k < length bs → slice_index T.control (a + k) ≡ slice_index bs k) → AreOccupied T a (occupied bs)
+occupied-All T a bs fits are k d l =
     let within = All-filter (λ i. nat_lt (slice_index bs i) 128) (λ i. i < length bs) (range_with_len 0 (length bs)) (λ j e h. let n = length-range_with_len 0 (length bs) in let m : j < length bs = omega arith in subst (λ x. x < length bs) (sym (get_or-range_with_len 0 (length bs) j e m ∙ (let z : 0 + j ≡ j = omega arith in z))) m) k d l in
     let passes = filter_passes (λ i. nat_lt (slice_index bs i) 128) (range_with_len 0 (length bs)) k d l in
-    let low = ltb-true (slice_index bs (slice_index_or (filled bs) k d)) 128 passes in
-    (omega (arith, within), ap counts_as_free (are _ within) ∙ lt-leb 128 (slice_index bs (slice_index_or (filled bs) k d)) low)
+    let low = ltb-true (slice_index bs (slice_index_or (occupied bs) k d)) 128 passes in
+    (omega (arith, within), ap counts_as_free (are _ within) ∙ lt-leb 128 (slice_index bs (slice_index_or (occupied bs) k d)) low)
 
 module _ {K V : Type 0} (f : List ℕ → K) (g : List ℕ → V) (F : Format) (T : TableParts) where
-  -- the items of slots whose control bytes are these are those of the filled ones
-  numbered_of-filled : (a : ℕ) (bs : List ℕ) → ((k : ℕ) → k < length bs → slice_index T.control (a + k) ≡ slice_index bs k)
-      → numbered_of f g F T (range_with_len a (length bs)) ≡ numbered_of f g F T (places_of a (map (λ x. nat_lt x 128) bs))
-  numbered_of-filled a [] are = refl
-  numbered_of-filled a (x ∷ bs) are =
+  -- the items of slots whose control bytes are these are those of the occupied ones
+  numbered_of-occupied : (a : ℕ) (bs : List ℕ) → ((k : ℕ) → k < length bs → slice_index T.control (a + k) ≡ slice_index bs k)
+      → numbered_of f g F T (range_with_len a (length bs)) ≡ numbered_of f g F T (positions_of a (map (λ x. nat_lt x 128) bs))
+  numbered_of-occupied a [] are = refl
+  numbered_of-occupied a (x ∷ bs) are =
       let first : a ≡ a + 0 = omega arith in
       let here : slice_index T.control a ≡ x = ap (slice_index T.control) first ∙ are 0 (omega arith) in
-      let rest = numbered_of-filled (a + 1) bs (λ k l. let behind : a + 1 + k ≡ a + suc k = omega arith in ap (slice_index T.control) behind ∙ are (suc k) (omega arith)) in
+      let rest = numbered_of-occupied (a + 1) bs (λ k l. let behind : a + 1 + k ≡ a + suc k = omega arith in ap (slice_index T.control) behind ∙ are (suc k) (omega arith)) in
       elim (dec_lt x 128) [
         | yes p ↦ rw (lt-ltb x 128 p) (ap (cons_option (slot_numbered f g F T a)) rest)
         | no p ↦
@@ -82,17 +82,17 @@ module _ {K V : Type 0} (f : List ℕ → K) (g : List ℕ → V) (F : Format) (
             rw (le-ltb x 128 (omega arith), free) rest
       ]
 
-  -- the items from a slot on are those of the filled ones of the next n, and those behind these
+  -- the items from a slot on are those of the occupied ones of the next n, and those behind these
   pub numbered_from-group : (a n : ℕ) (bs : List ℕ) → length bs ≡ n → a + n ≤ T.entries.slots → ((k : ℕ) → k < length bs → slice_index T.control (a + k) ≡ slice_index bs k)
-      → numbered_from f g F T a ≡ numbered_of f g F T (map (λ i. a + i) (filled bs)) ++ numbered_from f g F T (a + n)
+      → numbered_from f g F T a ≡ numbered_of f g F T (map (λ i. a + i) (occupied bs)) ++ numbered_from f g F T (a + n)
   numbered_from-group a n bs len fits are =
       let split : T.entries.slots - a ≡ n + (T.entries.slots - (a + n)) = omega arith in
       let zero : a + 0 ≡ a = omega arith in
-      let slots : map (λ i. a + i) (filled bs) ≡ places_of a (map (λ x. nat_lt x 128) bs) = ap (map (λ i. a + i)) (filled-places bs) ∙ places-shift a 0 (map (λ x. nat_lt x 128) bs) ∙ ap (λ m. places_of m (map (λ x. nat_lt x 128) bs)) zero in
+      let slots : map (λ i. a + i) (occupied bs) ≡ positions_of a (map (λ x. nat_lt x 128) bs) = ap (map (λ i. a + i)) (occupied-places bs) ∙ places-shift a 0 (map (λ x. nat_lt x 128) bs) ∙ ap (λ m. positions_of m (map (λ x. nat_lt x 128) bs)) zero in
       ap (λ m. numbered_of f g F T (range_with_len a m)) split
       ∙ ap (numbered_of f g F T) (range-append a n (T.entries.slots - (a + n)))
       ∙ filter_map-append (slot_numbered f g F T) (range_with_len a n) (range_with_len (a + n) (T.entries.slots - (a + n)))
-      ∙ ap (λ xs. xs ++ numbered_from f g F T (a + n)) (sym (ap (λ m. numbered_of f g F T (range_with_len a m)) len) ∙ numbered_of-filled a bs are ∙ ap (numbered_of f g F T) (sym slots))
+      ∙ ap (λ xs. xs ++ numbered_from f g F T (a + n)) (sym (ap (λ m. numbered_of f g F T (range_with_len a m)) len) ∙ numbered_of-occupied a bs are ∙ ap (numbered_of f g F T) (sym slots))
 
   -- the items of numbered slots
   items-numbered_of : (is : List ℕ) → map (λ (x : ℕ × Item K V). x.1) (numbered_of f g F T is) ≡ items_of f g F T is
@@ -137,33 +137,33 @@ module _ {EK EV K V : Type 0} (f : List ℕ → EK) (g : List ℕ → EV) (decod
 
   -- the items of slots, decoded, are the pairs that these show, decoded
   decoded_items-slots : (F : Format) (T : TableParts) (is : List ℕ)
-      → decoded_items decode_key decode_value (filter_map (slot_item f g F T) is) ≡ map pair_of (filter_map (λ c. c) (map (shown_cell F T.entries.bytes T.control) is))
+      → decoded_items decode_key decode_value (filter_map (slot_item f g F T) is) ≡ map pair_of (filter_map (λ c. c) (map (decoded_cell F T.entries.bytes T.control) is))
   decoded_items-slots F T [] = refl
-  decoded_items-slots F T (i ∷ is) = go (shown_cell F T.entries.bytes T.control i) (decoded_items-slots F T is)
+  decoded_items-slots F T (i ∷ is) = go (decoded_cell F T.entries.bytes T.control i) (decoded_items-slots F T is)
     where
       go : (c : Option Pair)
-          → decoded_items decode_key decode_value (filter_map (slot_item f g F T) is) ≡ map pair_of (filter_map (λ c. c) (map (shown_cell F T.entries.bytes T.control) is))
+          → decoded_items decode_key decode_value (filter_map (slot_item f g F T) is) ≡ map pair_of (filter_map (λ c. c) (map (decoded_cell F T.entries.bytes T.control) is))
           → decoded_items decode_key decode_value (cons_option (option_map (item f g (slice_index T.control i)) c) (filter_map (slot_item f g F T) is))
-          ≡ map pair_of (cons_option c (filter_map (λ c. c) (map (shown_cell F T.entries.bytes T.control) is)))
+          ≡ map pair_of (cons_option c (filter_map (λ c. c) (map (decoded_cell F T.entries.bytes T.control) is)))
       go None e = e
       go (Some p) e = ap (λ xs. pair_of p ∷ xs) e
 
   -- a walk over all slots, decoded, gives the pairs that the parts show
-  pub decoded_items-shown_cells : (key_len value_len : ℕ) (hash : List ℕ → ℕ) (T : TableParts) → length T.control ≡ T.entries.slots + 16
+  pub decoded_items-decoded_cells : (key_len value_len : ℕ) (hash : List ℕ → ℕ) (T : TableParts) → length T.control ≡ T.entries.slots + 16
       → decoded_items decode_key decode_value (items_from f g (entry_format key_len value_len) T 0)
-      ≡ map pair_of (filter_map (λ c. c) (shown_cells (format_of key_len value_len hash) T.entries.bytes T.control))
-  unfolding shown_cells
-  decoded_items-shown_cells key_len value_len hash T long =
+      ≡ map pair_of (filter_map (λ c. c) (decoded_cells (format_of key_len value_len hash) T.entries.bytes T.control))
+  unfolding decoded_cells
+  decoded_items-decoded_cells key_len value_len hash T long =
       let slots : T.entries.slots - 0 ≡ length T.control - 16 = omega (arith, long) in
       decoded_items-slots (entry_format key_len value_len) T (range_with_len 0 (T.entries.slots - 0))
-      ∙ ap (λ n. map pair_of (filter_map (λ c. c) (map (shown_cell (entry_format key_len value_len) T.entries.bytes T.control) (range_with_len 0 n)))) slots
+      ∙ ap (λ n. map pair_of (filter_map (λ c. c) (map (decoded_cell (entry_format key_len value_len) T.entries.bytes T.control) (range_with_len 0 n)))) slots
 
   -- numbered items, decoded, are the numbered pairs of the cells that the slots show
   numbered-cells : (F : Format) (T : TableParts) (i n : ℕ)
       → decoded_numbered decode_key decode_value (filter_map (slot_numbered f g F T) (range_with_len i n))
-      ≡ map (λ (x : ℕ × Pair). (x.0, pair_of x.1)) (numbered i (map (shown_cell F T.entries.bytes T.control) (range_with_len i n)))
+      ≡ map (λ (x : ℕ × Pair). (x.0, pair_of x.1)) (numbered i (map (decoded_cell F T.entries.bytes T.control) (range_with_len i n)))
   numbered-cells F T i zero = refl
-  numbered-cells F T i (suc n) = go (map (shown_cell F T.entries.bytes T.control) (range_with_len (i + 1) n)) (shown_cell F T.entries.bytes T.control i) (numbered-cells F T (i + 1) n)
+  numbered-cells F T i (suc n) = go (map (decoded_cell F T.entries.bytes T.control) (range_with_len (i + 1) n)) (decoded_cell F T.entries.bytes T.control i) (numbered-cells F T (i + 1) n)
     where
       go : (rest : Cells) (c : Option Pair)
           → decoded_numbered decode_key decode_value (filter_map (slot_numbered f g F T) (range_with_len (i + 1) n))
@@ -175,28 +175,28 @@ module _ {EK EV K V : Type 0} (f : List ℕ → EK) (g : List ℕ → EV) (decod
       go rest (Some p) e = ap (λ xs. (i, pair_of p) ∷ xs) e
 
   -- so a walk from a slot on, decoded, gives the pairs that the bytes show from there on
-  pub decoded_numbered-shown : (key_len value_len : ℕ) (hash : List ℕ → ℕ) (T : TableParts) (B : List ℕ) (i : ℕ) → length T.control ≡ T.entries.slots + 16
+  pub decoded_numbered-decoded_table : (key_len value_len : ℕ) (hash : List ℕ → ℕ) (T : TableParts) (B : List ℕ) (i : ℕ) → length T.control ≡ T.entries.slots + 16
       → T.entries.bytes ≡ entries_of (format_of key_len value_len hash) B → T.control ≡ controls_of (format_of key_len value_len hash) B
       → decoded_numbered decode_key decode_value (numbered_from f g (entry_format key_len value_len) T i)
-      ≡ map (λ (x : ℕ × Pair). (x.0, pair_of x.1)) (slots_from (shown (format_of key_len value_len hash) B) i)
-  unfolding shown_cells
-  decoded_numbered-shown key_len value_len hash T B i long entries control =
+      ≡ map (λ (x : ℕ × Pair). (x.0, pair_of x.1)) (slots_from (decoded_table (format_of key_len value_len hash) B) i)
+  unfolding decoded_cells
+  decoded_numbered-decoded_table key_len value_len hash T B i long entries control =
       let slots : T.entries.slots ≡ length T.control - 16 = omega (arith, long) in
-      let cell = shown_cell (entry_format key_len value_len) T.entries.bytes T.control in
+      let cell = decoded_cell (entry_format key_len value_len) T.entries.bytes T.control in
       let here : map cell (range_with_len i (T.entries.slots - i)) ≡ drop i (map cell (range_with_len 0 (length T.control - 16))) =
       sym (ap (map cell) (drop-range i 0 T.entries.slots ∙ ap (λ a. range_with_len a (T.entries.slots - i)) (zero_add i)))
       ∙ sym (drop-map cell i (range_with_len 0 T.entries.slots)) ∙ ap (λ n. drop i (map cell (range_with_len 0 n))) slots in
       numbered-cells (entry_format key_len value_len) T i (T.entries.slots - i)
       ∙ ap (λ cs. map (λ (x : ℕ × Pair). (x.0, pair_of x.1)) (numbered i cs)) here
-      ∙ (λ j. map (λ (x : ℕ × Pair). (x.0, pair_of x.1)) (numbered i (drop i (shown_cells (format_of key_len value_len hash) (entries j) (control j)))))
+      ∙ (λ j. map (λ (x : ℕ × Pair). (x.0, pair_of x.1)) (numbered i (drop i (decoded_cells (format_of key_len value_len hash) (entries j) (control j)))))
 
 -- the bytes of a valid table show its pairs
-pub seen-image : (F : Format) (P : Table) (B : List ℕ) → IsFormat F → IsImage F P B → seen F B ≡ walk P
-seen-image F P B f is = ap (seen F) is.bytes ∙ ap walk (shown-image F P f is.valid)
+pub decoded_pairs-image : (F : Format) (P : Table) (B : List ℕ) → IsFormat F → IsImage F P B → decoded_pairs F B ≡ walk P
+decoded_pairs-image F P B f is = ap (decoded_pairs F) is.bytes ∙ ap walk (decoded_table-image F P f is.valid)
 
 -- and from each slot on those of its slots
-pub slots-image : (F : Format) (P : Table) (B : List ℕ) (i : ℕ) → IsFormat F → IsImage F P B → slots_from (shown F B) i ≡ slots_from P i
-slots-image F P B i f is = ap (λ b. slots_from (shown F b) i) is.bytes ∙ ap (λ T. slots_from T i) (shown-image F P f is.valid)
+pub slots-image : (F : Format) (P : Table) (B : List ℕ) (i : ℕ) → IsFormat F → IsImage F P B → slots_from (decoded_table F B) i ≡ slots_from P i
+slots-image F P B i f is = ap (λ b. slots_from (decoded_table F b) i) is.bytes ∙ ap (λ T. slots_from T i) (decoded_table-image F P f is.valid)
 
 -- ---- the items as pairs of bytes
 module _ {EK EV : Type 0} (key_bytes : EK → List ℕ) (value_bytes : EV → List ℕ) where
@@ -209,26 +209,26 @@ module _ {EK EV : Type 0} (key_bytes : EK → List ℕ) (value_bytes : EV → Li
     stored-item : (i : ℕ) (p : Pair) → IsPairOf (format_of key_len value_len hash) p → stored (item f g i p) ≡ p
     stored-item i p is = λ j. record { key = key_kept p.key is.key.len j; value = value_kept p.value is.value.len j }
 
-    stored-slots : (F : Format) (T : TableParts) (is : List ℕ) → All (IsPairOf (format_of key_len value_len hash)) (filter_map (λ c. c) (map (shown_cell F T.entries.bytes T.control) is))
-        → map stored (filter_map (slot_item f g F T) is) ≡ filter_map (λ c. c) (map (shown_cell F T.entries.bytes T.control) is)
+    stored-slots : (F : Format) (T : TableParts) (is : List ℕ) → All (IsPairOf (format_of key_len value_len hash)) (filter_map (λ c. c) (map (decoded_cell F T.entries.bytes T.control) is))
+        → map stored (filter_map (slot_item f g F T) is) ≡ filter_map (λ c. c) (map (decoded_cell F T.entries.bytes T.control) is)
     stored-slots F T [] fit = refl
-    stored-slots F T (i ∷ is) fit = go (shown_cell F T.entries.bytes T.control i) (stored-slots F T is) fit
+    stored-slots F T (i ∷ is) fit = go (decoded_cell F T.entries.bytes T.control i) (stored-slots F T is) fit
       where
         go : (c : Option Pair)
-            → (All (IsPairOf (format_of key_len value_len hash)) (filter_map (λ c. c) (map (shown_cell F T.entries.bytes T.control) is)) → map stored (filter_map (slot_item f g F T) is) ≡ filter_map (λ c. c) (map (shown_cell F T.entries.bytes T.control) is))
-            → All (IsPairOf (format_of key_len value_len hash)) (cons_option c (filter_map (λ c. c) (map (shown_cell F T.entries.bytes T.control) is)))
+            → (All (IsPairOf (format_of key_len value_len hash)) (filter_map (λ c. c) (map (decoded_cell F T.entries.bytes T.control) is)) → map stored (filter_map (slot_item f g F T) is) ≡ filter_map (λ c. c) (map (decoded_cell F T.entries.bytes T.control) is))
+            → All (IsPairOf (format_of key_len value_len hash)) (cons_option c (filter_map (λ c. c) (map (decoded_cell F T.entries.bytes T.control) is)))
             → map stored (cons_option (option_map (item f g (slice_index T.control i)) c) (filter_map (slot_item f g F T) is))
-            ≡ cons_option c (filter_map (λ c. c) (map (shown_cell F T.entries.bytes T.control) is))
+            ≡ cons_option c (filter_map (λ c. c) (map (decoded_cell F T.entries.bytes T.control) is))
         go None rest h = rest h
         go (Some p) rest h = λ j. stored-item (slice_index T.control i) p (All-head (IsPairOf (format_of key_len value_len hash)) p _ h) j ∷ rest (All-tail (IsPairOf (format_of key_len value_len hash)) p _ h) j
 
     pub stored-walk : (P : Table) (T : TableParts) → IsPlaced (format_of key_len value_len hash) P → length T.control ≡ T.entries.slots + 16
-        → filter_map (λ c. c) (shown_cells (format_of key_len value_len hash) T.entries.bytes T.control) ≡ walk P
+        → filter_map (λ c. c) (decoded_cells (format_of key_len value_len hash) T.entries.bytes T.control) ≡ walk P
         → map stored (items_from f g (entry_format key_len value_len) T 0) ≡ walk P
-    unfolding shown_cells
-    stored-walk P T ok long shown =
+    unfolding decoded_cells
+    stored-walk P T ok long decoded_table =
         let F = format_of key_len value_len hash in
         let slots : T.entries.slots - 0 ≡ length T.control - 16 = omega (arith, long) in
-        let same : filter_map (λ c. c) (map (shown_cell (entry_format key_len value_len) T.entries.bytes T.control) (range_with_len 0 (T.entries.slots - 0))) ≡ walk P =
-        ap (λ n. filter_map (λ c. c) (map (shown_cell (entry_format key_len value_len) T.entries.bytes T.control) (range_with_len 0 n))) slots ∙ shown in
+        let same : filter_map (λ c. c) (map (decoded_cell (entry_format key_len value_len) T.entries.bytes T.control) (range_with_len 0 (T.entries.slots - 0))) ≡ walk P =
+        ap (λ n. filter_map (λ c. c) (map (decoded_cell (entry_format key_len value_len) T.entries.bytes T.control) (range_with_len 0 n))) slots ∙ decoded_table in
         stored-slots (entry_format key_len value_len) T (range_with_len 0 (T.entries.slots - 0)) (subst (All (IsPairOf F)) (sym same) (walk-IsPairOf F P ok)) ∙ same

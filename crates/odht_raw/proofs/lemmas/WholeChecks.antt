@@ -6,20 +6,20 @@ use Rattle.odht_base.specs.Format.{Format, IsFormat, entry_len, tag}
 use Rattle.odht_base.specs.Image.{control_byte, image}
 use Rattle.odht_base.specs.Load.{max_items}
 use Rattle.odht_base.specs.Search.{search_end}
-use Rattle.odht_base.specs.Shown.{slot_entry, slot_key, counts_as_free, shown_cells, entries_of, controls_of}
+use Rattle.odht_base.specs.Decoded.{slot_entry, slot_key, counts_as_free, decoded_cells, entries_of, controls_of}
 use Rattle.odht_base.specs.Table.{Pair, Table, slot_count, count, cell_at}
 use Rattle.odht_base.specs.Valid.{IsPartsOf, IsValid, IsValidBytes}
 use Rattle.odht_base.proofs.lemmas.Fits.{HasLengths-IsPlaced, IsSized-IsPlaced}
-use Rattle.odht_base.proofs.lemmas.Image.{stated_slots-image, stated_count-image, stated_factor-image, entries_of-image, controls_of-image, shown-image}
+use Rattle.odht_base.proofs.lemmas.Image.{header_slots-image, header_count-image, header_factor-image, entries_of-image, controls_of-image, decoded_table-image}
 use Rattle.odht_base.proofs.lemmas.Lookups.{AllArrive-IsPlaced}
-use Rattle.odht_base.proofs.lemmas.Parts.{length-controls, slice_index-controls, slice_index-mirror, slot_entry-free, shown_cells-parts}
+use Rattle.odht_base.proofs.lemmas.Parts.{length-controls, slice_index-controls, slice_index-mirror, slot_entry-free, decoded_cells-parts}
 use Rattle.odht_raw.specs.Frame.{IsAccepted}
 use Rattle.odht_raw.specs.Refusals.{view_refusal, late_refusal, check_refusal}
 use Rattle.odht_raw.proofs.lemmas.Accepted.{IsAccepted-image}
 use Rattle.odht_raw.proofs.lemmas.FirstErrors.{option_or-None}
 use Rattle.odht_raw.proofs.lemmas.ImagesOpen.{view_refusal-image}
 use Rattle.odht_raw.proofs.lemmas.Openings.{view_refusal-accepted, check_refusal-late}
-use Rattle.odht_raw.proofs.lemmas.PartCells.{byte_is, key_is, cell_filled}
+use Rattle.odht_raw.proofs.lemmas.PartCells.{byte_is, key_is, cell_occupied}
 use Rattle.odht_raw.proofs.lemmas.SlotChecks.{list_all-zeros}
 use Rattle.odht_raw.proofs.lemmas.SlotFits.{IsSlotFit, AllFit, IsMirrored, AllFound}
 use Rattle.odht_raw.proofs.lemmas.SoundBytes.{IsSound, IsSound-late_refusal, late_refusal-IsSound, IsValidBytes-IsSound}
@@ -52,12 +52,12 @@ module _ (F : Format) (f : IsFormat F) (P : Table) (es ctrl : List ℕ) (h : IsP
         free_zeros = λ t. ap (λ b. list_all (λ x. x == 0) (slot_entry F b i)) h.entries_are
             ∙ ap (list_all (λ x. x == 0)) (slot_entry-free F P.cells i (HasLengths-IsPlaced F P h.placed) within e) ∙ list_all-zeros (entry_len F);
         free_byte = λ t. byte ∙ ap (control_byte F) e;
-        filled_tag = λ t. absurd (true≢false (sym (counted None e) ∙ t));
+        occupied_tag = λ t. absurd (true≢false (sym (counted None e) ∙ t));
       }
       go (Some p) e = record {
         free_zeros = λ t. absurd (true≢false (sym t ∙ counted (Some p) e));
         free_byte = λ t. absurd (true≢false (sym t ∙ counted (Some p) e));
-        filled_tag = λ t. byte ∙ ap (control_byte F) e ∙ ap (tag F) (sym (key_is F f P es ctrl h i p e));
+        occupied_tag = λ t. byte ∙ ap (control_byte F) e ∙ ap (tag F) (sym (key_is F f P es ctrl h i p e));
       }
 
   -- the mirror is one
@@ -67,20 +67,20 @@ module _ (F : Format) (f : IsFormat F) (P : Table) (es ctrl : List ℕ) (h : IsP
       ap₂ (λ c n. slice_index c (n + i)) h.controls_are slots ∙ slice_index-mirror F P.cells i l below
       ∙ sym (ap (λ c. slice_index c i) h.controls_are ∙ slice_index-controls F P.cells i below)
 
-  -- and each filled slot is where the search for its key ends
+  -- and each occupied slot is where the search for its key ends
   AllFound-IsPartsOf : AllFound F es ctrl
   AllFound-IsPartsOf i l t =
-      let cells : shown_cells F es ctrl ≡ P.cells = ap₂ (shown_cells F) h.entries_are h.controls_are ∙ shown_cells-parts F P.cells f h.placed.pairs h.placed.slots.least in
+      let cells : decoded_cells F es ctrl ≡ P.cells = ap₂ (decoded_cells F) h.entries_are h.controls_are ∙ decoded_cells-parts F P.cells f h.placed.pairs h.placed.slots.least in
       ap (λ cs. search_end F cs (slot_key F es i)) cells
-      ∙ AllArrive-IsPlaced F P h.placed i _ (cell_filled F f P es ctrl h i (subst (λ n. i < n) slots l) t)
+      ∙ AllArrive-IsPlaced F P h.placed i _ (cell_occupied F f P es ctrl h i (subst (λ n. i < n) slots l) t)
 
 -- so the image of a valid table is sound
 IsSound-image : (F : Format) (f : IsFormat F) (P : Table) → IsValid F P → IsSound F (image F P)
 IsSound-image F f P h =
     let sized = IsSized-IsPlaced F P h.placed in
-    let s = stated_slots-image F P sized in
-    let n = stated_count-image F P sized in
-    let l = stated_factor-image F P h.factor_high in
+    let s = header_slots-image F P sized in
+    let n = header_count-image F P sized in
+    let l = header_factor-image F P h.factor_high in
     let es = entries_of F (image F P) in
     let ctrl = controls_of F (image F P) in
     let is : IsPartsOf F P es ctrl = record { placed = h.placed; entries_are = entries_of-image F P sized; controls_are = controls_of-image F P sized } in
@@ -90,7 +90,7 @@ IsSound-image F f P h =
       padding_is = padding-image F P;
       slots_fit = AllFit-IsPartsOf F f P es ctrl is;
       mirrored = IsMirrored-IsPartsOf F f P es ctrl is;
-      count_is = n ∙ sym (ap count (shown-image F P f h));
+      count_is = n ∙ sym (ap count (decoded_table-image F P f h));
       room = subst₂ (λ a b. a ≤ b) (sym n) (sym (ap₂ max_items s l)) h.room;
       found = AllFound-IsPartsOf F f P es ctrl is;
     }

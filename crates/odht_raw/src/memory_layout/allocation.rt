@@ -5,7 +5,7 @@ ghost use Rattle.odht_base.specs.Format.{format_of};
 ghost use Rattle.odht_base.specs.Table.{Table};
 ghost use Rattle.odht_base.specs.Image.{image_len};
 ghost use Rattle.odht_base.specs.Valid.{IsImage, IsPartsOf};
-ghost use Rattle.odht_base.specs.Shown.{stated_slots, entries_of, controls_of};
+ghost use Rattle.odht_base.specs.Decoded.{header_slots, entries_of, controls_of};
 ghost use Rattle.std.specs.Result.{result_err};
 ghost use Rattle.odht_raw.specs.Frame.{IsAccepted};
 ghost use Rattle.odht_raw.specs.Refusals.{opening_refusal, view_refusal};
@@ -121,7 +121,7 @@ impl<C: Config, M: ByteStore> Allocation<C, M> {
         ensures bytes { result ≡ M.bytes self.now }
         ensures accepted { IsAccepted ⟦<C as Coded>⟧.coding.format (M.bytes self.now) }
         ensures len { let B = M.bytes self.now
-            in length B ≡ image_len ⟦<C as Coded>⟧.coding.format (stated_slots B) }
+            in length B ≡ image_len ⟦<C as Coded>⟧.coding.format (header_slots B) }
         ensures fits { length (M.bytes self.now) < 2 ^ 64 }
     {
         Header::of(self.store.bytes())
@@ -137,7 +137,7 @@ impl<C: Config, M: ByteStore> Allocation<C, M> {
     )
         ensures control { result.0.now ≡ controls_of ⟦<C as Coded>⟧.coding.format (M.bytes self.now) }
         ensures entries { result.1.bytes ≡ entries_of ⟦<C as Coded>⟧.coding.format (M.bytes self.now) }
-        ensures slots { result.1.slots ≡ stated_slots (M.bytes self.now) }
+        ensures slots { result.1.slots ≡ header_slots (M.bytes self.now) }
         ensures count { IsSlotCount result.1.slots }
         ensures len { length result.0.now ≡ result.1.slots + 16 }
         ensures parts { (P : Table)

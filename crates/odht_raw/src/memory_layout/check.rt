@@ -26,10 +26,10 @@ pub fn check_all<C: Config>(bytes: &[u8]) -> Result<(), Error>
 impl<C: Config, M: ByteStore> Allocation<C, M> {
     /// Looks at what opening leaves out, and answers the first refusal: `LoadFactorTooSmall`, `NonZeroPadding`; of the
     /// slots in order `NonZeroEmpty`, `BadFreeControl` or `ControlMismatch`; `MirrorMismatch`, `WrongItemCount`,
-    /// `TooManyItems`; and `Unreachable` of the first filled slot that is not where a search slot by slot for its key ends.
+    /// `TooManyItems`; and `Unreachable` of the first occupied slot that is not where a search slot by slot for its key ends.
     /// Ok exactly for valid bytes.
     ///
-    /// Each slot is read once, in slot order, and for each filled slot the control bytes of its key's probe order up to it,
+    /// Each slot is read once, in slot order, and for each occupied slot the control bytes of its key's probe order up to it,
     /// sixteen at a time. A key is compared only where an earlier place has its tag.
     pub fn check_rest(&self) -> Result<(), Error>
         ensures first { result ≡ checked (late_refusal ⟦<C as Coded>⟧.coding.format (M.bytes self.now)) }
@@ -50,10 +50,10 @@ impl<C: Config, M: ByteStore> Allocation<C, M> {
         let table: RawTable<'_, C::EncodedKey, C::EncodedValue, C::H> = RawTable::new(
             control, entries,
         );
-        let seen = table.check_slots()?;
+        let summary = table.check_slots()?;
         table.check_mirror()?;
-        header.check_item_count(seen.filled)?;
-        match seen.unreachable {
+        header.check_item_count(summary.occupied)?;
+        match summary.unreachable {
             Some(slot) => Err(Error::Unreachable { slot }),
             None => Ok(()),
         }

@@ -4,7 +4,7 @@
 ghost use Rattle.std.specs.Prelude.{◌≡◌, ◌+◌, ◌-◌, ◌*◌, ◌<◌, ◌≤◌, length};
 ghost use Rattle.odht_base.specs.Bytes.{bytes_at};
 ghost use Rattle.odht_base.specs.Image.{header_bytes};
-ghost use Rattle.odht_base.specs.Shown.{stated_count, stated_slots, stated_factor};
+ghost use Rattle.odht_base.specs.Decoded.{header_count, header_slots, header_factor};
 ghost use Rattle.std.specs.Option.{option_or};
 ghost use Rattle.odht_raw.specs.Refusals.{checked, tag_refusal, version_refusal, wrong_size, power_refusal, few_slots_refusal, length_refusal, header_refusal, factor_refusal, padding_refusal, count_refusal, room_refusal};
 
@@ -221,7 +221,7 @@ impl<'a> Header<'a> {
     /// How many items the header states.
     #[inline]
     pub fn item_count(&self) -> usize
-        ensures { result ≡ stated_count self.now }
+        ensures { result ≡ header_count self.now }
     {
         let bytes = self.bytes;
         read_u64(bytes, ITEM_COUNT_AT) as usize
@@ -230,7 +230,7 @@ impl<'a> Header<'a> {
     /// How many slots the header states.
     #[inline]
     pub fn slot_count(&self) -> usize
-        ensures { result ≡ stated_slots self.now }
+        ensures { result ≡ header_slots self.now }
     {
         let bytes = self.bytes;
         read_u64(bytes, SLOT_COUNT_AT) as usize
@@ -239,7 +239,7 @@ impl<'a> Header<'a> {
     /// The load factor that the header states.
     #[inline]
     pub fn max_load_factor(&self) -> Factor
-        ensures { result.0 ≡ stated_factor self.now }
+        ensures { result.0 ≡ header_factor self.now }
     {
         let bytes = self.bytes;
         Factor(u16::from_le_bytes([bytes[LOAD_FACTOR_AT], bytes[LOAD_FACTOR_AT + 1]]))

@@ -30,7 +30,7 @@ pub fn init_in_place<C: Config, M: ByteStoreMut>(
     requires len { length (M.bytes «data») ≡ image_len ⟦<C as Coded>⟧.coding.format slot_count }
     ensures bytes { let F = ⟦<C as Coded>⟧.coding.format
         in M.bytes result ≡ with_count (image F (empty slot_count max_load_factor.0)) item_count }
-    ensures place { result ≡ M.holding «data» (M.bytes result) }
+    ensures same_store { result ≡ M.holding «data» (M.bytes result) }
 {
     let control = data.bytes().len() - (slot_count + REFERENCE_GROUP_SIZE);
     fill(&mut data, HEADER_SIZE, control, 0);
@@ -50,7 +50,7 @@ fn init_zeroed<C: Config, M: ByteStoreMut>(
         in bytes_at (M.bytes «data») 32 n ≡ replicate n 0 }
     ensures bytes { let F = ⟦<C as Coded>⟧.coding.format
         in M.bytes result ≡ with_count (image F (empty slot_count max_load_factor.0)) item_count }
-    ensures place { result ≡ M.holding «data» (M.bytes result) }
+    ensures same_store { result ≡ M.holding «data» (M.bytes result) }
 {
     let len = data.bytes().len();
     let control = len - (slot_count + REFERENCE_GROUP_SIZE);
@@ -89,7 +89,7 @@ fn fill<M: ByteStoreMut>(data: &mut M, from: usize, to: usize, byte: u8)
     requires fits { to ≤ length (M.bytes «data».old) }
     ensures bytes { M.bytes «data».new ≡ overwritten_at (M.bytes «data».old) from (replicate (to - from) byte) }
     ensures len { length (M.bytes «data».new) ≡ length (M.bytes «data».old) }
-    ensures place { «data».new ≡ M.holding «data».old (M.bytes «data».new) }
+    ensures same_store { «data».new ≡ M.holding «data».old (M.bytes «data».new) }
 {
     let chunk = [byte; FILL_CHUNK];
     let mut at = from;

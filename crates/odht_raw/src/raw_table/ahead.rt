@@ -4,7 +4,7 @@ ghost use Rattle.odht_base.specs.Load.{IsSlotCount};
 ghost use Rattle.odht_base.specs.Format.{format_of};
 ghost use Rattle.odht_base.specs.Table.{Pair, Table};
 ghost use Rattle.odht_base.specs.Valid.{IsPartsOf};
-ghost use Rattle.odht_raw.specs.Answers.{answer};
+ghost use Rattle.odht_raw.specs.SearchResults.{answer};
 ghost use Rattle.odht_raw.specs.Expected.{EndsIfFree, IsAhead};
 ghost use Rattle.odht_raw.specs.PartLengths.{ArePairLengths, ArePartLengths};
 ghost use Rattle.odht_raw.specs.Parts.{EntryBytes};
@@ -12,7 +12,9 @@ ghost use Rattle.odht_raw.specs.PartsInserts.{IsPlacing, IsChange};
 ghost use Rattle.odht_raw.specs.SearchEnds.{IsEnd};
 
 use super::writes::insert_at;
-use super::{Entries, EntryMetadata, Scan, Search, is_empty_or_deleted, search_hashed, tag_of};
+use super::{
+    Entries, EntryMetadata, Scan, SearchResult, is_empty_or_deleted, search_hashed, tag_of,
+};
 use crate::bytes::ByteArray;
 use crate::error::Error;
 use crate::hash::HashFn;
@@ -78,19 +80,19 @@ fn expected_end<K: ByteArray, V: ByteArray, H: HashFn>(
     key: &K,
     hash: u32,
     slot: usize,
-) -> Search
+) -> SearchResult
     requires lengths { ArePartLengths H.MIN_LEN K.LEN V.LEN (length entries.now) (length control.now) }
     requires hash { hash ≡ H.hash (K.bytes key.now) }
     ensures placed { (P : Table)
         → IsPartsOf (format_of K.LEN V.LEN H.hash) P entries.now control.now
         → EndsIfFree (format_of K.LEN V.LEN H.hash) P (K.bytes key.now) slot
         → result ≡ answer (format_of K.LEN V.LEN H.hash) P.cells (K.bytes key.now) }
-    ensures any { let shown : EntryBytes = record { slots = length control.now - 16; bytes = entries.now }
-        in IsEnd (format_of K.LEN V.LEN H.hash) shown control.now (K.bytes key.now) result }
+    ensures any { let stored : EntryBytes = record { slots = length control.now - 16; bytes = entries.now }
+        in IsEnd (format_of K.LEN V.LEN H.hash) stored control.now (K.bytes key.now) result }
 {
     if slot < control.len() - REFERENCE_GROUP_SIZE {
         if is_empty_or_deleted(control[slot]) {
-            return Search::Free(slot);
+            return SearchResult::Free(slot);
         }
     }
     whole_search::<K, V, H>(control, entries, key, hash)
@@ -103,17 +105,17 @@ fn whole_search<K: ByteArray, V: ByteArray, H: HashFn>(
     entries: &[u8],
     key: &K,
     hash: u32,
-) -> Search
+) -> SearchResult
     requires lengths { ArePartLengths H.MIN_LEN K.LEN V.LEN (length entries.now) (length control.now) }
     requires hash { hash ≡ H.hash (K.bytes key.now) }
     ensures placed { (P : Table)
         → IsPartsOf (format_of K.LEN V.LEN H.hash) P entries.now control.now
         → result ≡ answer (format_of K.LEN V.LEN H.hash) P.cells (K.bytes key.now) }
-    ensures any { let shown : EntryBytes = record { slots = length control.now - 16; bytes = entries.now }
-        in IsEnd (format_of K.LEN V.LEN H.hash) shown control.now (K.bytes key.now) result }
+    ensures any { let stored : EntryBytes = record { slots = length control.now - 16; bytes = entries.now }
+        in IsEnd (format_of K.LEN V.LEN H.hash) stored control.now (K.bytes key.now) result }
 {
     let slots = control.len() - REFERENCE_GROUP_SIZE;
-    let shown: Entries<'_, K, V> = Entries::new(entries, slots);
+    let stored: Entries<'_, K, V> = Entries::new(entries, slots);
     let mut scan = Scan::new(control, slots);
-    search_hashed::<K, V, H, GroupQuery>(&mut scan, &shown, key, hash)
+    search_hashed::<K, V, H, GroupQuery>(&mut scan, &stored, key, hash)
 }

@@ -3,8 +3,8 @@ ghost use Rattle.std.specs.Prelude.{◌≡◌, ◌<◌, ◌≤◌, ◌↔◌, sl
 ghost use Rattle.std.specs.Result.{result_err};
 ghost use Rattle.odht_base.specs.Format.{format_of, tag as key_tag};
 ghost use Rattle.odht_base.specs.Search.{search_end, is_at};
-ghost use Rattle.odht_base.specs.Shown.{counts_as_free, slot_key};
-ghost use Rattle.odht_raw.specs.Checks.{cells_of, pairs_shown, IsFitting, ArePassed};
+ghost use Rattle.odht_base.specs.Decoded.{counts_as_free, slot_key};
+ghost use Rattle.odht_raw.specs.Checks.{cells_of, decoded_count, IsFitting, ArePassed};
 ghost use Rattle.odht_raw.specs.Refusals.{checked, bad_free_control, slots_refusal, mirror_refusal, reach_refusal};
 
 use super::{FREE, ProbeSeq, RawTable, tag_of};
@@ -16,10 +16,10 @@ use crate::swisstable_group_query::{Group, REFERENCE_GROUP_SIZE};
 
 /// What a look at all slots tells, where none is refused.
 #[derive(Clone, Copy)]
-pub(crate) struct SlotsSeen {
+pub(crate) struct SlotSummary {
     /// How many slots are filled.
-    pub filled: usize,
-    /// The first filled slot that is not where the search for its key ends.
+    pub occupied: usize,
+    /// The first occupied slot that is not where the search for its key ends.
     pub unreachable: Option<usize>,
 }
 
@@ -30,29 +30,29 @@ impl<'a, K: ByteArray, V: ByteArray, H: HashFn> RawTable<'a, K, V, H> {
     /// Where none is refused and the mirror is right, it tells which slot is the first that its key's search misses.
     // Inlined beside an opening, it would keep the first ten control bytes in registers.
     #[inline(never)]
-    pub(crate) fn check_slots(&self) -> Result<SlotsSeen, Error>
+    pub(crate) fn check_slots(&self) -> Result<SlotSummary, Error>
         ensures err { let F = format_of K.LEN V.LEN H.hash
             in result_err result ≡ slots_refusal F self.now.entries.bytes self.now.control }
-        ensures filled { IfOk result (λ seen. seen.filled ≡ pairs_shown (format_of K.LEN V.LEN H.hash) self.now) }
+        ensures occupied { IfOk result (λ summary. summary.occupied ≡ decoded_count (format_of K.LEN V.LEN H.hash) self.now) }
         ensures reached { let reach = reach_refusal (format_of K.LEN V.LEN H.hash) self.now.entries.bytes self.now.control
             in mirror_refusal self.now.control ≡ None
-            → IfOk result (λ seen. option_map Error.Unreachable seen.unreachable ≡ reach) }
+            → IfOk result (λ summary. option_map Error.Unreachable summary.unreachable ≡ reach) }
     {
-        let mut filled = 0;
+        let mut occupied = 0;
         let mut unreachable = None;
         for slot in 0..self.entries.len() {
             match self.check_slot(slot)? {
                 None => self.check_free_control(slot)?,
                 Some(hash) => {
-                    filled += 1;
+                    occupied += 1;
                     if unreachable.is_none() && !self.is_reached(slot, hash) {
                         unreachable = Some(slot);
                     }
                 }
             }
         }
-        Ok(SlotsSeen {
-            filled,
+        Ok(SlotSummary {
+            occupied,
             unreachable,
         })
     }
@@ -72,12 +72,12 @@ impl<'a, K: ByteArray, V: ByteArray, H: HashFn> RawTable<'a, K, V, H> {
         }
     }
 
-    // Whether the search for the key of a filled slot, slot by slot along the probe order, ends there. A key is compared
+    // Whether the search for the key of an occupied slot, slot by slot along the probe order, ends there. A key is compared
     // only where an earlier place has its tag.
     #[inline]
     fn is_reached(&self, slot: usize, hash: u32) -> bool
         requires slot { slot < self.now.entries.slots }
-        requires filled { IsFalse (counts_as_free (slice_index self.now.control slot)) }
+        requires occupied { IsFalse (counts_as_free (slice_index self.now.control slot)) }
         requires hash { hash ≡ H.hash (slot_key (format_of K.LEN V.LEN H.hash) self.now.entries.bytes slot) }
         ensures { let F = format_of K.LEN V.LEN H.hash
             in IsFitting F self.now

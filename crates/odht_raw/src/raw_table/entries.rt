@@ -1,6 +1,6 @@
 //! The entries of a table, and how one is read in its bytes.
 ghost use Rattle.std.specs.Prelude.{◌≡◌, ◌+◌, ◌*◌, ◌<◌, ◌≤◌, length};
-ghost use Rattle.odht_base.specs.Shown.{slot_key, slot_value};
+ghost use Rattle.odht_base.specs.Decoded.{slot_key, slot_value};
 ghost use Rattle.odht_raw.specs.Parts.{entry_format};
 
 use crate::bytes::ByteArray;

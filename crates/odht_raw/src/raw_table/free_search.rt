@@ -8,7 +8,7 @@ use super::{EntryMetadata, ProbeSeq, is_empty_or_deleted, tag_of};
 use crate::swisstable_group_query::{Group, REFERENCE_GROUP_SIZE};
 
 /// The first slot of the probe order of a hash that counts as free, by its control byte or its mirror; none where each
-/// slot counts as filled. No match of a tag is asked for, and no key is compared.
+/// slot counts as occupied. No match of a tag is asked for, and no key is compared.
 ///
 /// The home slot's own byte is looked at first: a load of sixteen bytes waits for one that was just written, that of the
 /// byte alone does not. Then at most each group is looked at once. All this holds of every group search.

@@ -5,13 +5,13 @@ ghost use Rattle.odht_base.specs.Format.{format_of, tag as key_tag};
 ghost use Rattle.odht_base.specs.Table.{Table};
 ghost use Rattle.odht_base.specs.Search.{groups_read};
 ghost use Rattle.odht_base.specs.Valid.{IsPartsOf};
-ghost use Rattle.odht_raw.specs.Answers.{answer, IsWherePlaced};
+ghost use Rattle.odht_raw.specs.SearchResults.{answer, IsWherePlaced};
 ghost use Rattle.odht_raw.specs.Frame.{HasNoFree};
 ghost use Rattle.odht_raw.specs.PartLengths.{ArePairLengths, AreSearchLengths};
 ghost use Rattle.odht_raw.specs.SearchEnds.{IsEnd, IsEndAmong};
-ghost use Rattle.odht_raw.specs.Searches.{StandsAt, IsLook};
+ghost use Rattle.odht_raw.specs.SearchSteps.{StandsAt, IsLook};
 
-use super::{Entries, EntryMetadata, ProbeSeq, Scan, Search, tag_of};
+use super::{Entries, EntryMetadata, ProbeSeq, Scan, SearchResult, tag_of};
 use crate::bytes::ByteArray;
 use crate::hash::HashFn;
 use crate::swisstable_group_query::{Group, REFERENCE_GROUP_SIZE};
@@ -28,7 +28,7 @@ pub fn search<K: ByteArray, V: ByteArray, H: HashFn, Q: Group>(
     scan: &mut Scan<'_>,
     entries: &Entries<'_, K, V>,
     key: &K,
-) -> Search
+) -> SearchResult
     requires { AreSearchLengths H.MIN_LEN K.LEN V.LEN entries.now.slots (length scan.old.control) }
     ensures on_placed { (P : Table)
         → IsPartsOf (format_of K.LEN V.LEN H.hash) P entries.now.bytes scan.old.control
@@ -55,7 +55,7 @@ pub fn search_hashed<K: ByteArray, V: ByteArray, H: HashFn, Q: Group>(
     entries: &Entries<'_, K, V>,
     key: &K,
     hash: u32,
-) -> Search
+) -> SearchResult
     requires lengths { AreSearchLengths H.MIN_LEN K.LEN V.LEN entries.now.slots (length scan.old.control) }
     requires hash { hash ≡ H.hash (K.bytes key.now) }
     ensures on_placed { (P : Table)
@@ -82,7 +82,7 @@ pub fn search_hashed<K: ByteArray, V: ByteArray, H: HashFn, Q: Group>(
             return end;
         }
         if probe.is_last() {
-            return Search::Neither;
+            return SearchResult::Neither;
         }
         probe.advance(mask);
     }
@@ -96,7 +96,7 @@ fn look_at_group<K: ByteArray, V: ByteArray, H: HashFn, Q: Group>(
     entries: &Entries<'_, K, V>,
     key: &K,
     tag: u8,
-) -> Option<Search>
+) -> Option<SearchResult>
     requires len { length bytes.now ≡ 16 }
     requires slots { IsSlotCount entries.now.slots }
     requires start { start < entries.now.slots }
@@ -105,7 +105,7 @@ fn look_at_group<K: ByteArray, V: ByteArray, H: HashFn, Q: Group>(
     requires lengths { ArePairLengths H.MIN_LEN K.LEN V.LEN }
     ensures slot { IfSome result
         (IsEndAmong (format_of K.LEN V.LEN H.hash) entries.now bytes.now start 16 (K.bytes key.now)) }
-    ensures filled { IsNone result → HasNoFree bytes.now 16 }
+    ensures occupied { IsNone result → HasNoFree bytes.now 16 }
     ensures on_placed { (P : Table) (p : ℕ)
         → StandsAt (format_of K.LEN V.LEN H.hash) P entries.now (K.bytes key.now) p start bytes.now
         → IsLook (format_of K.LEN V.LEN H.hash) P (K.bytes key.now) p 16 result }
@@ -134,7 +134,7 @@ fn look_at_piece<K: ByteArray, V: ByteArray, H: HashFn, Q: Group>(
     entries: &Entries<'_, K, V>,
     key: &K,
     tag: u8,
-) -> Option<Search>
+) -> Option<SearchResult>
     requires len { length bytes.now ≡ Q.SIZE }
     requires slots { IsSlotCount entries.now.slots }
     requires start { start + Q.SIZE ≤ entries.now.slots + 16 }
@@ -143,7 +143,7 @@ fn look_at_piece<K: ByteArray, V: ByteArray, H: HashFn, Q: Group>(
     requires lengths { ArePairLengths H.MIN_LEN K.LEN V.LEN }
     ensures slot { IfSome result
         (IsEndAmong (format_of K.LEN V.LEN H.hash) entries.now bytes.now start Q.SIZE (K.bytes key.now)) }
-    ensures filled { IsNone result → HasNoFree bytes.now Q.SIZE }
+    ensures occupied { IsNone result → HasNoFree bytes.now Q.SIZE }
     ensures on_placed { (P : Table) (p : ℕ)
         → StandsAt (format_of K.LEN V.LEN H.hash) P entries.now (K.bytes key.now) p start bytes.now
         → IsLook (format_of K.LEN V.LEN H.hash) P (K.bytes key.now) p Q.SIZE result }
@@ -153,12 +153,12 @@ fn look_at_piece<K: ByteArray, V: ByteArray, H: HashFn, Q: Group>(
     'matches: while let Some(index) = group.first_match() {
         let slot = (start + index) & mask;
         if entries.get(slot).key.equals(key) {
-            return Some(Search::Found(slot));
+            return Some(SearchResult::Found(slot));
         }
         group.drop_match();
     }
     match group.first_empty() {
-        Some(index) => Some(Search::Free((start + index) & mask)),
+        Some(index) => Some(SearchResult::Free((start + index) & mask)),
         None => None,
     }
 }

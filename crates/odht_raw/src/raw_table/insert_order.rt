@@ -1,9 +1,9 @@
 //! An order of inserts that makes a table, found in the place that it is written to.
 ghost use Rattle.std.specs.Prelude.{◌≡◌, ◌≤◌, ◌<◌, ◌+◌, ◌^◌, ◌↔◌, ℕ, List, ◌++◌, slice_index, length, map, take, drop, IsTrue, All, Contains};
 ghost use Rattle.odht_base.specs.Format.{format_of};
-ghost use Rattle.odht_base.specs.Made.{filled, IsMade, IsInsertOrder};
+ghost use Rattle.odht_base.specs.Made.{occupied, IsMade, IsInsertOrder};
 ghost use Rattle.odht_base.specs.Ready.{IsReady, IsStuck};
-ghost use Rattle.odht_base.specs.Shown.{counts_as_free};
+ghost use Rattle.odht_base.specs.Decoded.{counts_as_free};
 ghost use Rattle.odht_base.specs.Table.{Table, Pair, count, slot_count as slots_of, is_free};
 ghost use Rattle.odht_base.specs.Valid.{HoldsPair, IsPartsOf};
 ghost use Rattle.odht_raw.specs.Waiting.{waiting, placed_of, IsWaiting, AreRising, IsPending, AreWholeParts};
@@ -16,7 +16,7 @@ use crate::hash::HashFn;
 const WAITING: usize = 1 << 63;
 
 impl<'a, K: ByteArray, V: ByteArray, H: HashFn> RawTable<'a, K, V, H> {
-    /// Whether inserts can make the table, and an order of its filled slots in which they do: their pairs, inserted in
+    /// Whether inserts can make the table, and an order of its occupied slots in which they do: their pairs, inserted in
     /// this order into an empty table of as many slots, leave this very table. Where no inserts make it, `out` holds
     /// numbers that say nothing. The parts are those of a valid table, and `out` has a place for each of its pairs.
     ///
@@ -37,7 +37,7 @@ impl<'a, K: ByteArray, V: ByteArray, H: HashFn> RawTable<'a, K, V, H> {
             → AreWholeParts F P self.now (length out.old)
             → (IsTrue result ↔ IsMade F P) }
     {
-        list_filled(self.control, self.entries.len(), out);
+        list_occupied(self.control, self.entries.len(), out);
         let mut placed = 0;
         while placed < out.len() {
             let ready = self.place_ready(&mut out[placed..]);
@@ -115,21 +115,21 @@ fn is_waiting(slot: usize, slots: &[usize]) -> bool
     slots.get(place) == Some(&(WAITING + slot))
 }
 
-// Lists the filled slots, as far as there is room, each as one that waits.
-fn list_filled(control: &[EntryMetadata], slot_count: usize, out: &mut [usize])
+// Lists the occupied slots, as far as there is room, each as one that waits.
+fn list_occupied(control: &[EntryMetadata], slot_count: usize, out: &mut [usize])
     requires slots { slot_count ≤ 2 ^ 63 }
     requires control { slot_count ≤ length control.now }
     ensures { (P : Table)
         → slots_of P ≡ slot_count
         → ((i : ℕ) → i < slot_count → counts_as_free (slice_index control.now i) ≡ is_free P.cells i)
         → length out.old ≡ count P
-        → out.new ≡ map waiting (filled P) }
+        → out.new ≡ map waiting (occupied P) }
 {
-    let mut filled = 0;
+    let mut occupied = 0;
     for slot in 0..slot_count {
-        if filled < out.len() && !is_empty_or_deleted(control[slot]) {
-            out[filled] = WAITING + slot;
-            filled += 1;
+        if occupied < out.len() && !is_empty_or_deleted(control[slot]) {
+            out[occupied] = WAITING + slot;
+            occupied += 1;
         }
     }
 }

@@ -2,17 +2,17 @@
 ghost use Rattle.std.specs.Prelude.{◌≡◌, ◌%◌, ◌<◌, length, option_map, IfSome};
 ghost use Rattle.odht_base.specs.Load.{IsSlotCount};
 ghost use Rattle.odht_base.specs.Format.{format_of};
-ghost use Rattle.odht_base.specs.Probe.{place_slot};
+ghost use Rattle.odht_base.specs.Probe.{probe_slot};
 ghost use Rattle.odht_base.specs.Table.{Pair, Table};
 ghost use Rattle.odht_base.specs.Map.{map_of};
 ghost use Rattle.odht_base.specs.Valid.{IsPartsOf};
-ghost use Rattle.odht_raw.specs.Answers.{answer};
+ghost use Rattle.odht_raw.specs.SearchResults.{answer};
 ghost use Rattle.odht_raw.specs.PartLengths.{AreSearchLengths, ArePartLengths};
 ghost use Rattle.odht_raw.specs.PartsInserts.{IsPlacing, IsChange};
 ghost use Rattle.odht_raw.specs.SearchEnds.{IsPlainEnd, IsBesideKey};
 
 use super::writes::insert_at;
-use super::{Entries, EntryMetadata, Search, is_empty_or_deleted, tag_of};
+use super::{Entries, EntryMetadata, SearchResult, is_empty_or_deleted, tag_of};
 use crate::bytes::ByteArray;
 use crate::error::Error;
 use crate::hash::HashFn;
@@ -37,9 +37,9 @@ pub fn plain_find<K: ByteArray, V: ByteArray, H: HashFn>(
 {
     let hash = H::hash(key.as_slice());
     match plain_search::<K, V, H>(control, entries, key, hash) {
-        Search::Found(slot) => Some(entries.get(slot).value),
-        Search::Free(_) => None,
-        Search::Neither => None,
+        SearchResult::Found(slot) => Some(entries.get(slot).value),
+        SearchResult::Free(_) => None,
+        SearchResult::Neither => None,
     }
 }
 
@@ -65,8 +65,8 @@ pub fn plain_insert<K: ByteArray, V: ByteArray, H: HashFn>(
 {
     let slots = control.len() - REFERENCE_GROUP_SIZE;
     let hash = H::hash(key.as_slice());
-    let shown: Entries<'_, K, V> = Entries::new(entries, slots);
-    let end = plain_search::<K, V, H>(control, &shown, &key, hash);
+    let stored: Entries<'_, K, V> = Entries::new(entries, slots);
+    let end = plain_search::<K, V, H>(control, &stored, &key, hash);
     insert_at::<K, V, H>(control, entries, key, value, tag_of(hash), end)
 }
 
@@ -78,7 +78,7 @@ fn plain_search<K: ByteArray, V: ByteArray, H: HashFn>(
     entries: &Entries<'_, K, V>,
     key: &K,
     hash: u32,
-) -> Search
+) -> SearchResult
     requires slots { IsSlotCount entries.now.slots }
     requires lengths { AreSearchLengths H.MIN_LEN K.LEN V.LEN entries.now.slots (length control.now) }
     requires hash { hash ≡ H.hash (K.bytes key.now) }
@@ -88,27 +88,27 @@ fn plain_search<K: ByteArray, V: ByteArray, H: HashFn>(
         → result ≡ answer (format_of K.LEN V.LEN H.hash) P.cells (K.bytes key.now) }
 {
     let slots = entries.len();
-    for place in 0..slots {
-        let slot = slot_at(hash, slots, place);
+    for position in 0..slots {
+        let slot = slot_at(hash, slots, position);
         if is_empty_or_deleted(control[slot]) {
-            return Search::Free(slot);
+            return SearchResult::Free(slot);
         }
         if entries.get(slot).key.equals(key) {
-            return Search::Found(slot);
+            return SearchResult::Found(slot);
         }
     }
-    Search::Neither
+    SearchResult::Neither
 }
 
 // The slot at a place of the probe order of a hash.
 #[inline]
-fn slot_at(hash: u32, slots: usize, place: usize) -> usize
+fn slot_at(hash: u32, slots: usize, position: usize) -> usize
     requires slots { IsSlotCount slots }
-    requires place { place < slots }
-    ensures value { result ≡ place_slot (hash % slots) slots place }
+    requires position { position < slots }
+    ensures value { result ≡ probe_slot (hash % slots) slots position }
     ensures below { result < slots }
 {
-    let group = (place / REFERENCE_GROUP_SIZE) as u128;
-    let from_home = 8 * group * (group + 1) + (place % REFERENCE_GROUP_SIZE) as u128;
+    let group = (position / REFERENCE_GROUP_SIZE) as u128;
+    let from_home = 8 * group * (group + 1) + (position % REFERENCE_GROUP_SIZE) as u128;
     ((hash as u128 + from_home) & (slots as u128 - 1)) as usize
 }

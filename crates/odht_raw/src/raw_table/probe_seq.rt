@@ -2,7 +2,7 @@
 ghost use Rattle.std.specs.Prelude.{◌≡◌, ◌+◌, ◌%◌, ◌<◌, ◌↔◌, IfOk, OnErr, IsPermutation, IsTrue};
 ghost use Rattle.std.specs.List.{range_with_len};
 ghost use Rattle.odht_base.specs.Load.{IsSlotCount};
-ghost use Rattle.odht_base.specs.Probe.{place_slot, order};
+ghost use Rattle.odht_base.specs.Probe.{probe_slot, order};
 
 use crate::error::Error;
 use crate::swisstable_group_query::REFERENCE_GROUP_SIZE;
@@ -18,7 +18,7 @@ use std::marker::Model;
 pub struct ProbeSeq<const GROUP_SIZE: usize> {
     home: usize,
     mask: usize,
-    place: usize,
+    position: usize,
     index: usize,
     base: usize,
     chunk_index: usize,
@@ -26,13 +26,13 @@ pub struct ProbeSeq<const GROUP_SIZE: usize> {
 }
 
 impl<const GROUP_SIZE: usize> Model for ProbeSeq<GROUP_SIZE> {
-    ghost use Rattle.odht_raw.specs.ProbeSeqs.{ProbePlace, IsProbe};
+    ghost use Rattle.odht_raw.specs.ProbeSeqs.{ProbePosition, IsProbe};
 
-    ghost Value = { ProbePlace };
+    ghost Value = { ProbePosition };
 
-    ghost view = { λ q. record { home = q.home; mask = q.mask; place = q.place } };
+    ghost view = { λ q. record { home = q.home; mask = q.mask; position = q.position } };
 
-    ghost invariant = { λ q. IsProbe GROUP_SIZE q.home q.mask q.place q.index q.base q.chunk_index q.stride };
+    ghost invariant = { λ q. IsProbe GROUP_SIZE q.home q.mask q.position q.index q.base q.chunk_index q.stride };
 }
 
 impl<const GROUP_SIZE: usize> ProbeSeq<GROUP_SIZE> {
@@ -41,13 +41,13 @@ impl<const GROUP_SIZE: usize> ProbeSeq<GROUP_SIZE> {
     pub fn new(h1: usize, mask: usize) -> Self
         requires slots { IsSlotCount (mask + 1) }
         requires divides { 16 % GROUP_SIZE ≡ 0 }
-        ensures { result ≡ record { home = h1 % (mask + 1); mask = mask; place = 0 } }
+        ensures { result ≡ record { home = h1 % (mask + 1); mask = mask; position = 0 } }
     {
         let initial_index = h1 & mask;
         ProbeSeq {
             home: initial_index,
             mask,
-            place: 0,
+            position: 0,
             index: initial_index,
             base: initial_index,
             chunk_index: 0,
@@ -59,8 +59,8 @@ impl<const GROUP_SIZE: usize> ProbeSeq<GROUP_SIZE> {
     #[inline]
     pub fn advance(&mut self, mask: usize)
         requires mask { mask ≡ self.old.mask }
-        requires within { self.old.place + GROUP_SIZE < mask + 1 }
-        ensures { self.new ≡ record { home = self.old.home; mask = self.old.mask; place = self.old.place + GROUP_SIZE } }
+        requires within { self.old.position + GROUP_SIZE < mask + 1 }
+        ensures { self.new ≡ record { home = self.old.home; mask = self.old.mask; position = self.old.position + GROUP_SIZE } }
     {
         self.chunk_index += GROUP_SIZE;
         if self.chunk_index == REFERENCE_GROUP_SIZE {
@@ -69,13 +69,13 @@ impl<const GROUP_SIZE: usize> ProbeSeq<GROUP_SIZE> {
             self.base = (self.base + self.stride) & mask;
         }
         self.index = (self.base + self.chunk_index) & mask;
-        self.place += GROUP_SIZE;
+        self.position += GROUP_SIZE;
     }
 
     /// The slot at the place.
     #[inline]
     pub fn index(&self) -> usize
-        ensures slot { result ≡ place_slot self.now.home (self.now.mask + 1) self.now.place }
+        ensures slot { result ≡ probe_slot self.now.home (self.now.mask + 1) self.now.position }
         ensures below { result < self.now.mask + 1 }
     {
         self.index
@@ -84,9 +84,9 @@ impl<const GROUP_SIZE: usize> ProbeSeq<GROUP_SIZE> {
     /// Whether no place comes after the `GROUP_SIZE` ones from here on.
     #[inline]
     pub fn is_last(&self) -> bool
-        ensures { IsTrue result ↔ (self.now.mask < self.now.place + GROUP_SIZE) }
+        ensures { IsTrue result ↔ (self.now.mask < self.now.position + GROUP_SIZE) }
     {
-        self.mask - self.place < GROUP_SIZE
+        self.mask - self.position < GROUP_SIZE
     }
 }
 
@@ -103,9 +103,9 @@ pub fn probe_order(alloc: Global, start: usize, slots: usize) -> Result<Vec<usiz
     let mut list = Vec::with_capacity(alloc, slots)?;
     let mask = slots - 1;
     let mut probe = ProbeSeq::<1>::new(start, mask);
-    for place in 0..slots {
+    for position in 0..slots {
         list.push_reserved(probe.index());
-        if place + 1 < slots {
+        if position + 1 < slots {
             probe.advance(mask);
         }
     }

@@ -20,9 +20,9 @@ pub struct Scan<'a> {
 impl<'a> Model for Scan<'a> {
     ghost use Rattle.std.specs.Prelude.{◌≡◌, ◌+◌, length};
     ghost use Rattle.odht_base.specs.Load.{IsSlotCount};
-    ghost use Rattle.odht_raw.specs.Parts.{ShownGroups};
+    ghost use Rattle.odht_raw.specs.Parts.{DecodedGroups};
 
-    ghost Value = { ShownGroups };
+    ghost Value = { DecodedGroups };
 
     ghost view = { λ s. record { control = s.control.now; groups = s.groups } };
 

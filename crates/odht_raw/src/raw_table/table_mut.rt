@@ -34,8 +34,8 @@ pub struct RawTableMut<'c, 'e, K: ByteArray, V: ByteArray, H: HashFn> {
 }
 
 impl<'c, 'e, K: ByteArray, V: ByteArray, H: HashFn> RawTableMut<'c, 'e, K, V, H> {
-    ghost use Rattle.odht_raw.specs.LentParts.{mut_control, mut_entries, control_loan, entries_loan};
-    ghost use Rattle.odht_raw.specs.LentParts.{IsLentInsert, IsLentPlacing};
+    ghost use Rattle.odht_raw.specs.PartsMut.{mut_control, mut_entries, control_loan, entries_loan};
+    ghost use Rattle.odht_raw.specs.PartsMut.{IsMutInsert, IsMutPlacing};
 
     /// The table of these parts, of which nothing is looked at or written.
     #[inline]
@@ -59,10 +59,10 @@ impl<'c, 'e, K: ByteArray, V: ByteArray, H: HashFn> RawTableMut<'c, 'e, K, V, H>
     /// On the parts of a table whose keys are all reached it leaves those of the table with the pair placed, and answers
     /// `Full`, with nothing changed, exactly where there is no place: where each slot is filled, and none with the key. On
     /// any parts one value beside an equal key changes, or one entry is written with its tag into a slot that counted as
-    /// free, and nothing else; `Full` comes only where each slot counts as filled. At most each group is looked at once.
+    /// free, and nothing else; `Full` comes only where each slot counts as occupied. At most each group is looked at once.
     #[inline(always)]
     pub fn insert(&mut self, key: K, value: V) -> Result<Option<V>, Error>
-        ensures { IsLentInsert self.old key value result self.new }
+        ensures { IsMutInsert self.old key value result self.new }
     {
         insert_parts::<K, V, H>(self.control, self.entries, key, value)
     }
@@ -73,10 +73,10 @@ impl<'c, 'e, K: ByteArray, V: ByteArray, H: HashFn> RawTableMut<'c, 'e, K, V, H>
     /// On the parts of a table whose keys are all reached, and none of which is this key, it leaves those of the table
     /// with the pair placed, and answers `Full`, with nothing changed, exactly where each slot is filled. On any parts
     /// the entry is written with its tag into the first slot of the order that counted as free, and nothing else;
-    /// `Full` comes only where each slot counts as filled. At most each group is looked at once.
+    /// `Full` comes only where each slot counts as occupied. At most each group is looked at once.
     #[inline(always)]
     pub fn place(&mut self, key: K, value: V) -> Result<(), Error>
-        ensures { IsLentPlacing self.old key value result self.new }
+        ensures { IsMutPlacing self.old key value result self.new }
     {
         place_parts::<K, V, H>(self.control, self.entries, key, value)
     }
@@ -100,9 +100,9 @@ fn insert_parts<K: ByteArray, V: ByteArray, H: HashFn>(
 {
     let slots = control.len() - REFERENCE_GROUP_SIZE;
     let hash = H::hash(key.as_slice());
-    let shown: Entries<'_, K, V> = Entries::new(entries, slots);
+    let stored: Entries<'_, K, V> = Entries::new(entries, slots);
     let mut scan = Scan::new(control, slots);
-    let end = search_hashed::<K, V, H, GroupQuery>(&mut scan, &shown, &key, hash);
+    let end = search_hashed::<K, V, H, GroupQuery>(&mut scan, &stored, &key, hash);
     insert_at::<K, V, H>(control, entries, key, value, tag_of(hash), end)
 }
 
@@ -134,7 +134,7 @@ fn place_parts<K: ByteArray, V: ByteArray, H: HashFn>(
 impl<'c, 'e, K: ByteArray, V: ByteArray, H: HashFn> fmt::Debug for RawTableMut<'c, 'e, K, V, H> {
     ghost use Rattle.odht_raw.specs.Parts.{entry_format};
     ghost use Rattle.odht_raw.specs.Dumps.{dump_text};
-    ghost use Rattle.odht_raw.specs.LentParts.{mut_parts};
+    ghost use Rattle.odht_raw.specs.PartsMut.{mut_parts};
 
     ghost debug_output = { λ t. dump_text (entry_format K.LEN V.LEN)
         (λ b. K.debug_output (K.of_bytes b)) (λ b. V.debug_output (V.of_bytes b))

@@ -1,4 +1,4 @@
-//! A walk over the filled slots.
+//! A walk over the occupied slots.
 ghost use Rattle.std.specs.Prelude.{◌≡◌, ◌+◌, ◌≤◌, length};
 ghost use Rattle.std.specs.Iterator.{YieldsFirst, item_count};
 ghost use Rattle.odht_raw.specs.Parts.{TableParts, entry_format};
@@ -6,7 +6,7 @@ ghost use Rattle.odht_raw.specs.Walks.{items_from, numbered_from};
 
 use super::{Entries, Entry, EntryMetadata};
 use crate::bytes::ByteArray;
-use crate::swisstable_group_query::{FilledQuery, REFERENCE_GROUP_SIZE};
+use crate::swisstable_group_query::{OccupiedQuery, REFERENCE_GROUP_SIZE};
 use std::iter::FusedIterator;
 use std::marker::Model;
 
@@ -20,26 +20,26 @@ pub struct RawSlots<'a, K: ByteArray, V: ByteArray> {
     control: &'a [EntryMetadata],
     entries: Entries<'a, K, V>,
     base: usize,
-    filled: FilledQuery,
+    occupied: OccupiedQuery,
     next_slot: usize,
 }
 
 impl<'a, K: ByteArray, V: ByteArray> Model for RawSlots<'a, K, V> {
     ghost use Rattle.std.specs.Prelude.{◌≡◌, ◌+◌, ◌≤◌, ◌++◌, ℕ, List, length, map};
     ghost use Rattle.odht_raw.specs.Parts.{TableParts, entry_format};
-    ghost use Rattle.odht_raw.specs.Walks.{Item, numbered_of, numbered_from, AreFilled};
+    ghost use Rattle.odht_raw.specs.Walks.{Item, numbered_of, numbered_from, AreOccupied};
 
     ghost Value = { List (ℕ × Item K V) };
 
     ghost view = { λ w.
         let T : TableParts = record { control = w.control.now; entries = w.entries }
         in let F = entry_format K.LEN V.LEN
-        in numbered_of K.of_bytes V.of_bytes F T (map (λ i. w.base + i) w.filled)
+        in numbered_of K.of_bytes V.of_bytes F T (map (λ i. w.base + i) w.occupied)
         ++ numbered_from K.of_bytes V.of_bytes F T w.next_slot };
 
     ghost invariant = { λ w. (length w.control.now ≡ w.entries.slots + 16)
         × (w.next_slot ≤ w.entries.slots)
-        × AreFilled (record { control = w.control.now; entries = w.entries }) w.base w.filled };
+        × AreOccupied (record { control = w.control.now; entries = w.entries }) w.base w.occupied };
 }
 
 impl<'a, K: ByteArray, V: ByteArray> RawSlots<'a, K, V> {
@@ -57,7 +57,7 @@ impl<'a, K: ByteArray, V: ByteArray> RawSlots<'a, K, V> {
             control,
             entries,
             base: first,
-            filled: FilledQuery::none(),
+            occupied: OccupiedQuery::none(),
             next_slot: first,
         }
     }
@@ -73,7 +73,7 @@ impl<'a, K: ByteArray, V: ByteArray> Iterator for RawSlots<'a, K, V> {
     #[inline]
     fn next(&mut self) -> Option<(usize, (EntryMetadata, Entry<K, V>))> {
         'groups: loop {
-            if let Some(index) = self.filled.next_filled() {
+            if let Some(index) = self.occupied.next_occupied() {
                 let slot = self.base + index;
                 return Some((slot, (self.control[slot], self.entries.get(slot))));
             }
@@ -83,7 +83,7 @@ impl<'a, K: ByteArray, V: ByteArray> Iterator for RawSlots<'a, K, V> {
             self.base = self.next_slot;
             let size = (self.entries.len() - self.base).min(REFERENCE_GROUP_SIZE);
             let control = self.control;
-            self.filled = FilledQuery::of(
+            self.occupied = OccupiedQuery::of(
                 &control[self.base..self.base + REFERENCE_GROUP_SIZE],
                 size,
             );

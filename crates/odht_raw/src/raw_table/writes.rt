@@ -6,13 +6,13 @@ ghost use Rattle.odht_base.specs.Numbers.{IsBytes};
 ghost use Rattle.odht_base.specs.Table.{Pair, Table};
 ghost use Rattle.odht_base.specs.Valid.{IsPartsOf};
 ghost use Rattle.odht_base.specs.Writes.{tagged};
-ghost use Rattle.odht_raw.specs.Answers.{answer};
+ghost use Rattle.odht_raw.specs.SearchResults.{answer};
 ghost use Rattle.odht_raw.specs.PartLengths.{ArePartLengths};
 ghost use Rattle.odht_raw.specs.Parts.{EntryBytes};
 ghost use Rattle.odht_raw.specs.PartsInserts.{IsPlacing, IsChange};
 ghost use Rattle.odht_raw.specs.SearchEnds.{IsEnd};
 
-use super::{Entries, EntryMetadata, Search};
+use super::{Entries, EntryMetadata, SearchResult};
 use crate::bytes::{BorrowedMut, ByteArray, ByteStoreMut};
 use crate::error::Error;
 use crate::hash::HashFn;
@@ -28,12 +28,12 @@ pub(crate) fn insert_at<K: ByteArray, V: ByteArray, H: HashFn>(
     key: K,
     value: V,
     tag: u8,
-    end: Search,
+    end: SearchResult,
 ) -> Result<Option<V>, Error>
     requires lengths { ArePartLengths H.MIN_LEN K.LEN V.LEN (length entries.old) (length control.old) }
     requires tag { tag ≡ key_tag (format_of K.LEN V.LEN H.hash) (K.bytes key) }
-    requires end { let shown : EntryBytes = record { slots = length control.old - 16; bytes = entries.old }
-        in IsEnd (format_of K.LEN V.LEN H.hash) shown control.old (K.bytes key) end }
+    requires end { let stored : EntryBytes = record { slots = length control.old - 16; bytes = entries.old }
+        in IsEnd (format_of K.LEN V.LEN H.hash) stored control.old (K.bytes key) end }
     ensures placed { let p : Pair = record { key = K.bytes key; value = V.bytes value }
         in (P : Table)
         → IsPartsOf (format_of K.LEN V.LEN H.hash) P entries.old control.old
@@ -43,19 +43,19 @@ pub(crate) fn insert_at<K: ByteArray, V: ByteArray, H: HashFn>(
         in IsChange (format_of K.LEN V.LEN H.hash) V.of_bytes entries.old control.old p result entries.new control.new }
 {
     let slots = control.len() - REFERENCE_GROUP_SIZE;
-    let shown: Entries<'_, K, V> = Entries::new(entries, slots);
+    let stored: Entries<'_, K, V> = Entries::new(entries, slots);
     match end {
-        Search::Found(slot) => {
-            let old = shown.get(slot).value;
-            let mut place = BorrowedMut::new(entries);
-            place.write_at(slot * (K::LEN + V::LEN) + K::LEN, value.as_slice());
+        SearchResult::Found(slot) => {
+            let old = stored.get(slot).value;
+            let mut store = BorrowedMut::new(entries);
+            store.write_at(slot * (K::LEN + V::LEN) + K::LEN, value.as_slice());
             Ok(Some(old))
         }
-        Search::Free(slot) => {
+        SearchResult::Free(slot) => {
             write_entry::<K, V, H>(control, entries, &key, &value, tag, slot);
             Ok(None)
         }
-        Search::Neither => Err(Error::Full),
+        SearchResult::Neither => Err(Error::Full),
     }
 }
 
@@ -79,8 +79,8 @@ pub(crate) fn write_entry<K: ByteArray, V: ByteArray, H: HashFn>(
     ensures value { IsBytes V.LEN (V.bytes value.now) }
 {
     let slots = control.len() - REFERENCE_GROUP_SIZE;
-    let mut place = BorrowedMut::new(entries);
-    write_pair(&mut place, slot * (K::LEN + V::LEN), key, value);
+    let mut store = BorrowedMut::new(entries);
+    write_pair(&mut store, slot * (K::LEN + V::LEN), key, value);
     let mut tags = BorrowedMut::new(control);
     write_tag(&mut tags, 0, slots, slot, tag);
 }

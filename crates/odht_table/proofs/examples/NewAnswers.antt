@@ -8,7 +8,7 @@ use Rattle.odht_base.specs.Load.{factor_of}
 use Rattle.odht_base.specs.Table.{empty}
 use Rattle.odht_base.specs.Valid.{IsImage}
 use Rattle.odht_base.proofs.lemmas.Options.{some_same}
-use Rattle.odht_base.proofs.lemmas.Rooms.{fresh-IsValid}
+use Rattle.odht_base.proofs.lemmas.FreeSlots.{fresh-IsValid}
 use Rattle.odht_base.proofs.examples.Configs.{my_config}
 use Rattle.odht_base.proofs.examples.Opened.{opened}
 use Rattle.odht_raw.specs.Refusals.{IsTooLarge}

@@ -18,7 +18,7 @@ enum Change {
     // these, the item count and the load factor
     Header,
     // free control bytes become 0, and when none is left the item count is changed
-    Filled,
+    Occupied,
     // keys of slots past those that opening looks at, with the tag in the mirror, and any bytes
     Mirror,
 }
@@ -47,7 +47,7 @@ impl Changed {
     fn control_from(&mut self, slot: usize) -> usize {
         let places = self.reading().slots().wrapping_add(16).wrapping_sub(slot);
         let skipped = self.random.below(places);
-        self.reading().control_place(slot).wrapping_add(skipped)
+        self.reading().control_offset(slot).wrapping_add(skipped)
     }
 
     // A place past the header.
@@ -62,7 +62,7 @@ impl Changed {
             _ => {
                 let slots = self.reading().slots().wrapping_sub(10);
                 let skipped = self.random.below(slots.wrapping_mul(ENTRY));
-                self.reading().entry_place(10).wrapping_add(skipped)
+                self.reading().entry_offset(10).wrapping_add(skipped)
             }
         }
     }
@@ -124,7 +124,7 @@ impl Changed {
 
     fn fill(&mut self) {
         let start = self.control_from(0);
-        let first = self.reading().control_place(0);
+        let first = self.reading().control_offset(0);
         match self.free_from(start).or(self.free_from(first)) {
             Some(place) => self.write(place, 0),
             None => self.change_count(),
@@ -133,12 +133,12 @@ impl Changed {
 
     fn change_mirror<C: Numbers>(&mut self) {
         let slot = self.random.below(6).wrapping_add(10);
-        let entry = self.reading().entry_place(slot);
+        let entry = self.reading().entry_offset(slot);
         let byte = self.random.byte();
         self.write(entry, byte);
         let tag = C::second_tag(self.reading().key(slot));
         let mirror = self.reading().slots().wrapping_add(slot);
-        let place = self.reading().control_place(mirror);
+        let place = self.reading().control_offset(mirror);
         self.write(place, tag);
     }
 
@@ -146,7 +146,7 @@ impl Changed {
         match change {
             Change::Bytes => self.change_any(),
             Change::Header => self.change_header(),
-            Change::Filled => self.fill(),
+            Change::Occupied => self.fill(),
             Change::Mirror => {
                 if self.random.below(2) == 0 {
                     self.change_mirror::<C>()
@@ -342,7 +342,7 @@ fn try_tables<C: Numbers>(rt: &impl Abort, alloc: Global, tables: u64) -> Result
     for seed in 0..tables {
         try_table::<C>(rt, alloc, &mut cases, seed, Change::Bytes)?;
         try_table::<C>(rt, alloc, &mut cases, seed, Change::Header)?;
-        try_table::<C>(rt, alloc, &mut cases, seed, Change::Filled)?;
+        try_table::<C>(rt, alloc, &mut cases, seed, Change::Occupied)?;
         try_table::<C>(rt, alloc, &mut cases, seed, Change::Mirror)?;
     }
     Ok(cases)
@@ -366,7 +366,7 @@ fn calls_stay_in_the_frame_where_keys_are_hashes(rt: HostRuntime) -> Result<(), 
     Ok(())
 }
 
-// The mirror of slot 0 counts as filled, and the slot as free: a search by groups and one slot by slot may differ here.
+// The mirror of slot 0 counts as occupied, and the slot as free: a search by groups and one slot by slot may differ here.
 #[test]
 fn a_mirror_that_hides_a_free_slot(rt: HostRuntime) -> Result<(), Error> {
     let alloc = rt.alloc();

@@ -15,7 +15,7 @@ pub struct Cases {
     pub accepted: usize,
     pub overwritten: usize,
     pub added: usize,
-    pub added_over_a_filled_slot: usize,
+    pub added_over_a_occupied_slot: usize,
     pub full_by_count: usize,
     pub full_by_slots: usize,
     pub found_in_a_free_slot: usize,
@@ -32,7 +32,7 @@ impl Cases {
             accepted: 0,
             overwritten: 0,
             added: 0,
-            added_over_a_filled_slot: 0,
+            added_over_a_occupied_slot: 0,
             full_by_count: 0,
             full_by_slots: 0,
             found_in_a_free_slot: 0,
@@ -47,7 +47,10 @@ impl Cases {
         let counts = [
             ("overwritten", self.overwritten),
             ("added", self.added),
-            ("added over a filled slot", self.added_over_a_filled_slot),
+            (
+                "added over an occupied slot",
+                self.added_over_a_occupied_slot,
+            ),
             ("full by the count", self.full_by_count),
             ("full by the slots", self.full_by_slots),
             ("found in a free slot", self.found_in_a_free_slot),
@@ -75,11 +78,11 @@ fn check_value(rt: &impl Abort, reading: Reading<'_>, key: u32, found: Option<u3
     }
 }
 
-// Counts a value that no filled slot has.
+// Counts a value that no occupied slot has.
 fn count_found(cases: &mut Cases, reading: Reading<'_>, key: u32, found: Option<u32>) {
     if let Some(value) = found {
-        let is_filled = reading.stores_filled(key, value);
-        count_case(&mut cases.found_in_a_free_slot, !is_filled);
+        let is_occupied = reading.stores_occupied(key, value);
+        count_case(&mut cases.found_in_a_free_slot, !is_occupied);
     }
 }
 
@@ -140,7 +143,7 @@ fn count_missed<C: Numbers, D: ByteStore>(
     }
 }
 
-// The walk gives the filled slots.
+// The walk gives the occupied slots.
 fn check_walk<C: Numbers, D: ByteStore>(
     rt: &impl Abort,
     alloc: Global,
@@ -185,7 +188,7 @@ fn over(start: usize, data: &[u8], at: usize, other: u8) -> u8 {
 
 // Whether the value in this slot became the new one and nothing else changed.
 fn is_value_written(before: Reading<'_>, after: Reading<'_>, slot: usize, value: u32) -> bool {
-    let start = before.entry_place(slot).wrapping_add(4);
+    let start = before.entry_offset(slot).wrapping_add(4);
     let value = value.to_le_bytes();
     for at in 0..before.bytes.len() {
         if after.byte(at) != over(start, &value, at, before.byte(at)) {
@@ -219,17 +222,17 @@ struct Added {
 impl Added {
     // The byte at a place once the pair stands in this slot.
     fn byte(self, before: Reading<'_>, slot: usize, at: usize) -> u8 {
-        let entry = before.entry_place(slot);
+        let entry = before.entry_offset(slot);
         let byte = over(entry, &self.key.to_le_bytes(), at, before.byte(at));
         let byte = over(entry.wrapping_add(4), &self.value.to_le_bytes(), at, byte);
         let count = before.count().wrapping_add(1).to_le_bytes();
         let byte = over(8, &count, at, byte);
-        let byte = over(before.control_place(slot), &[self.tag], at, byte);
+        let byte = over(before.control_offset(slot), &[self.tag], at, byte);
         if slot >= 16 {
             return byte;
         }
         let mirror = before.slots().wrapping_add(slot);
-        over(before.control_place(mirror), &[self.tag], at, byte)
+        over(before.control_offset(mirror), &[self.tag], at, byte)
     }
 
     // Whether the pair was written to this slot and nothing else changed.
@@ -266,7 +269,10 @@ fn check_added(
         panic!(rt; "no slot took the pair")
     };
     count_case(&mut cases.added, true);
-    count_case(&mut cases.added_over_a_filled_slot, before.is_filled(slot));
+    count_case(
+        &mut cases.added_over_a_occupied_slot,
+        before.is_occupied(slot),
+    );
 }
 
 // Demands that nothing changed, at the maximum or where no slot is free for each search.

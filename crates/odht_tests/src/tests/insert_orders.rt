@@ -1,4 +1,4 @@
-//! Orders of inserts of tables of lists that look random: one is found, it lists the filled slots, and its inserts make
+//! Orders of inserts of tables of lists that look random: one is found, it lists the occupied slots, and its inserts make
 //! the table again. Single tables, and tables that no inserts make, are in vectors/insert_orders.txt.
 use crate::tests::checks::{same, same_bytes};
 use crate::tests::second_reading::Reading;
@@ -28,15 +28,15 @@ impl<'a> Bytes<'a> {
         self.0.len().wrapping_sub(16).wrapping_sub(self.slots())
     }
 
-    // The slots whose control byte is that of a filled one, rising.
-    fn filled_slots(&self, alloc: Global) -> Result<Vec<usize>, AllocError> {
-        let mut filled = Vec::new(alloc);
+    // The slots whose control byte is that of an occupied one, rising.
+    fn occupied_slots(&self, alloc: Global) -> Result<Vec<usize>, AllocError> {
+        let mut occupied = Vec::new(alloc);
         for slot in 0..self.slots() {
             if self.byte(self.controls().wrapping_add(slot)) < 128 {
-                filled.push(slot)?;
+                occupied.push(slot)?;
             }
         }
-        Ok(filled)
+        Ok(occupied)
     }
 
     // The array that begins at a place.
@@ -73,7 +73,7 @@ fn items_of<C: Config>(
 }
 
 /// Demands that an order of inserts is found of a table that was made for so many items at 87 percent, that it lists
-/// each filled slot once, and that inserts in this order into a new table for as many leave its bytes.
+/// each occupied slot once, and that inserts in this order into a new table for as many leave its bytes.
 pub fn check_insert_order<C: Config>(
     rt: &impl Abort,
     alloc: Global,
@@ -90,12 +90,12 @@ pub fn check_insert_order<C: Config>(
     let bytes = Bytes(table.raw_bytes());
     let mut rising = order.as_slice().to_vec(alloc)?;
     rising.as_mut_slice().sort_unstable();
-    let filled = bytes.filled_slots(alloc)?;
+    let occupied = bytes.occupied_slots(alloc)?;
     same(
         rt,
         "slots of the order",
         rising.as_slice(),
-        filled.as_slice(),
+        occupied.as_slice(),
     );
     let items = items_of::<C>(rt, alloc, bytes, order.as_slice())?;
     let again: HashTableOwned<C> = rebuilt(alloc, items.as_slice(), max_item_count, 87)?;

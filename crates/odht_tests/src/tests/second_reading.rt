@@ -84,47 +84,47 @@ impl<'a> Reading<'a> {
     }
 
     /// Where the entry of a slot stands.
-    pub fn entry_place(&self, slot: usize) -> usize {
+    pub fn entry_offset(&self, slot: usize) -> usize {
         slot.wrapping_mul(ENTRY).wrapping_add(ENTRIES)
     }
 
     /// Where the control byte of a slot stands. The mirror's follow that of the last slot.
-    pub fn control_place(&self, slot: usize) -> usize {
-        self.entry_place(self.slots()).wrapping_add(slot)
+    pub fn control_offset(&self, slot: usize) -> usize {
+        self.entry_offset(self.slots()).wrapping_add(slot)
     }
 
     /// The key in the entry of a slot.
     pub fn key(&self, slot: usize) -> u32 {
-        self.word(self.entry_place(slot))
+        self.word(self.entry_offset(slot))
     }
 
     /// The value in the entry of a slot.
     pub fn value(&self, slot: usize) -> u32 {
-        self.word(self.entry_place(slot).wrapping_add(4))
+        self.word(self.entry_offset(slot).wrapping_add(4))
     }
 
-    /// Whether the own control byte of a slot is that of a filled one.
-    pub fn is_filled(&self, slot: usize) -> bool {
-        self.byte(self.control_place(slot)) < 128
+    /// Whether the own control byte of a slot is that of an occupied one.
+    pub fn is_occupied(&self, slot: usize) -> bool {
+        self.byte(self.control_offset(slot)) < 128
     }
 
     // Whether the mirror of a slot counts as free, or the slot where it has none.
     fn is_free_in_mirror(&self, slot: usize) -> bool {
         if slot >= 16 {
-            return !self.is_filled(slot);
+            return !self.is_occupied(slot);
         }
-        self.byte(self.control_place(self.slots().wrapping_add(slot))) >= 128
+        self.byte(self.control_offset(self.slots().wrapping_add(slot))) >= 128
     }
 
     /// Whether the control byte of a slot or its mirror counts as free.
     pub fn can_be_free(&self, slot: usize) -> bool {
-        !self.is_filled(slot) || self.is_free_in_mirror(slot)
+        !self.is_occupied(slot) || self.is_free_in_mirror(slot)
     }
 
     /// Whether a slot is free by its control byte and by its mirror, so that each search that comes by meets it.
     pub fn has_free(&self) -> bool {
         for slot in 0..self.slots() {
-            if !self.is_filled(slot) && self.is_free_in_mirror(slot) {
+            if !self.is_occupied(slot) && self.is_free_in_mirror(slot) {
                 return true;
             }
         }
@@ -151,21 +151,21 @@ impl<'a> Reading<'a> {
         false
     }
 
-    /// Whether that of a filled slot is.
-    pub fn stores_filled(&self, key: u32, value: u32) -> bool {
+    /// Whether that of an occupied slot is.
+    pub fn stores_occupied(&self, key: u32, value: u32) -> bool {
         for slot in 0..self.slots() {
-            if self.is_filled(slot) && self.key(slot) == key && self.value(slot) == value {
+            if self.is_occupied(slot) && self.key(slot) == key && self.value(slot) == value {
                 return true;
             }
         }
         false
     }
 
-    /// The entries of the filled slots, in slot order.
+    /// The entries of the occupied slots, in slot order.
     pub fn pairs(&self, alloc: Global) -> Result<Vec<(u32, u32)>, AllocError> {
         let mut pairs = Vec::new(alloc);
         for slot in 0..self.slots() {
-            if self.is_filled(slot) {
+            if self.is_occupied(slot) {
                 pairs.push((self.key(slot), self.value(slot)))?;
             }
         }
@@ -174,8 +174,8 @@ impl<'a> Reading<'a> {
 
     // Whether opening finds nothing in a slot.
     fn is_slot_opened<C: Numbers>(&self, slot: usize) -> bool {
-        if self.is_filled(slot) {
-            self.byte(self.control_place(slot)) == C::second_tag(self.key(slot))
+        if self.is_occupied(slot) {
+            self.byte(self.control_offset(slot)) == C::second_tag(self.key(slot))
         } else {
             self.key(slot) == 0 && self.value(slot) == 0
         }

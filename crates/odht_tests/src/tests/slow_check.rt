@@ -73,7 +73,7 @@ impl<'a> SlowTable<'a> {
         self.reading.byte(first.wrapping_add(slot))
     }
 
-    fn is_filled(&self, slot: usize) -> bool {
+    fn is_occupied(&self, slot: usize) -> bool {
         self.control(slot) < 128
     }
 
@@ -101,7 +101,7 @@ impl<'a> SlowTable<'a> {
     fn search_end(&self, key: u64) -> Option<usize> {
         for place in 0..self.slots() {
             let slot = self.slot_at(key, place);
-            if !self.is_filled(slot) || self.key(slot) == key {
+            if !self.is_occupied(slot) || self.key(slot) == key {
                 return Some(slot);
             }
         }
@@ -174,7 +174,7 @@ impl<'a> SlowTable<'a> {
     }
 
     fn check_slot(&self, slot: usize) -> Result<(), Error> {
-        if !self.is_filled(slot) {
+        if !self.is_occupied(slot) {
             return self.check_empty(slot);
         }
         let (expected, found) = (tag_of(self.shape.hash, self.key(slot)), self.control(slot));
@@ -229,19 +229,19 @@ impl<'a> SlowTable<'a> {
         Ok(())
     }
 
-    fn filled(&self) -> usize {
-        let mut filled: usize = 0;
+    fn occupied(&self) -> usize {
+        let mut occupied: usize = 0;
         for slot in 0..self.slots() {
-            if self.is_filled(slot) {
-                filled = filled.wrapping_add(1);
+            if self.is_occupied(slot) {
+                occupied = occupied.wrapping_add(1);
             }
         }
-        filled
+        occupied
     }
 
     fn check_count(&self) -> Result<(), Error> {
         let stated = self.reading.number(8, 8) as usize;
-        let found = self.filled();
+        let found = self.occupied();
         if stated != found {
             return Err(Error::WrongItemCount { stated, found });
         }
@@ -255,7 +255,7 @@ impl<'a> SlowTable<'a> {
 
     fn check_reach(&self) -> Result<(), Error> {
         for slot in 0..self.slots() {
-            if self.is_filled(slot) && self.search_end(self.key(slot)) != Some(slot) {
+            if self.is_occupied(slot) && self.search_end(self.key(slot)) != Some(slot) {
                 return Err(Error::Unreachable { slot });
             }
         }

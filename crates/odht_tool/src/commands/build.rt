@@ -1,10 +1,10 @@
 //! `odht build` and `odht put`: tables of the lines of standard input.
 ghost use Rattle.std.specs.Prelude.{◌≡◌, ◌≤◌, OnOk, IfOk, length};
 ghost use Rattle.odht_base.specs.Table.{Table};
-ghost use Rattle.odht_base.specs.Insert.{put_owned};
+ghost use Rattle.odht_base.specs.Insert.{insert_owned};
 ghost use Rattle.odht_base.specs.Valid.{IsImage};
 ghost use Rattle.odht.specs.Inserts.{IsFresh};
-ghost use Rattle.odht.specs.Lists.{encoded_all, IsFilled};
+ghost use Rattle.odht.specs.Lists.{encoded_all, IsAfterInserts};
 
 use super::DONE;
 use super::check::shape_of;
@@ -65,7 +65,7 @@ where
     let capacity = options.capacity.unwrap_or(12) as usize;
     let percent = options.percent.unwrap_or(87).clamp(1, 100);
     let table = make_table::<C>(alloc, capacity, percent)?;
-    fill_file(rt, file, options, table, input, errors)
+    insert_into_file(rt, file, options, table, input, errors)
 }
 
 fn make_table<C: Config>(
@@ -111,7 +111,7 @@ where
 {
     let alloc: Global = rt.alloc();
     let table = copy_table::<C>(alloc, bytes)?;
-    fill_file(rt, file, options, table, input, errors)
+    insert_into_file(rt, file, options, table, input, errors)
 }
 
 fn copy_table<C: Config>(alloc: Global, bytes: Vec<u8>) -> Result<HashTableOwned<C>, Failure>
@@ -124,7 +124,7 @@ fn copy_table<C: Config>(alloc: Global, bytes: Vec<u8>) -> Result<HashTableOwned
 }
 
 // Adds the lines to the table, and stores it as the file.
-fn fill_file<C: Config, R: Files + AllocGlobal + Clock, I: BufRead, E: Write>(
+fn insert_into_file<C: Config, R: Files + AllocGlobal + Clock, I: BufRead, E: Write>(
     rt: &R,
     file: &str,
     options: Options,
@@ -183,10 +183,10 @@ fn insert_batch<C: Config>(
     table: &mut HashTableOwned<C>,
     pairs: &mut Vec<(C::Key, C::Value)>,
 ) -> Result<(), Failure>
-    ensures filled { let c = ⟦<C as Coded>⟧.coding
+    ensures inserted { let c = ⟦<C as Coded>⟧.coding
         in (P : Table)
         → IsImage c.format P table.old
-        → OnOk result (IsFilled c.format (put_owned c.format) P (encoded_all c pairs.old.items) table.new) }
+        → OnOk result (IsAfterInserts c.format (insert_owned c.format) P (encoded_all c pairs.old.items) table.new) }
     ensures empty { length pairs.new.items ≡ 0 }
 {
     let (_, inserted) = table.insert_all(pairs.as_slice());

@@ -52,7 +52,7 @@ pub fn write_checked<O: Write>(checked: &Result<(), Error>, output: &mut O) -> i
 /// The ready shape of these bytes, by the sizes that they state. Bytes that are refused for what stands before the sizes
 /// have any shape.
 pub fn shape_of(bytes: &[u8], hash: Option<Hash>) -> Result<Shape, Failure> {
-    let Some((key_size, value_size)) = stated_sizes(bytes) else {
+    let Some((key_size, value_size)) = header_sizes(bytes) else {
         return Ok(Shape::U64ToU32);
     };
     match Shape::of_sizes(key_size, value_size, hash) {
@@ -74,6 +74,6 @@ pub fn shape_of(bytes: &[u8], hash: Option<Hash>) -> Result<Shape, Failure> {
 }
 
 // The key size and the value size that a header states.
-fn stated_sizes(bytes: &[u8]) -> Option<(u8, u8)> {
+fn header_sizes(bytes: &[u8]) -> Option<(u8, u8)> {
     Some((*bytes.get(5)?, *bytes.get(6)?))
 }

@@ -104,7 +104,7 @@ where
     }
 }
 
-// Each filled slot on a line: its number, its control byte, how many groups find it, and its pair.
+// Each occupied slot on a line: its number, its control byte, how many groups find it, and its pair.
 fn write_slots<C: Config, O: Write>(
     allocation: &Allocation<C, Borrowed<'_>>,
     output: &mut O,

@@ -1,6 +1,6 @@
 //! What is told of words and of files that are refused.
 use super::tables::WRONG_TAG;
-use super::{case_of, told, write_hex};
+use super::{case_of, printed, write_hex};
 use crate::commands::run;
 use std::alloc::Global;
 use std::fs;
@@ -122,18 +122,18 @@ fn refusals(rt: HostRuntime) -> Result<(), Fail> {
     write_hex(&rt, "wrong_tag.odht", WRONG_TAG)?;
     write_hex(&rt, "odd_sizes.odht", case_of("odd_sizes")?.bytes)?;
     for (words, status, output, errors) in REFUSED {
-        let told = told(&rt, words, b"")?;
+        let printed = printed(&rt, words, b"")?;
         assert!(&rt;
-            told.output.as_str().starts_with(output),
+            printed.output.as_str().starts_with(output),
             "{words}: {}",
-            told.output
+            printed.output
         );
         assert!(&rt;
-            told.errors.as_str().starts_with(errors),
+            printed.errors.as_str().starts_with(errors),
             "{words}: {}",
-            told.errors
+            printed.errors
         );
-        assert_eq!(&rt; told.status, status, "{words}");
+        assert_eq!(&rt; printed.status, status, "{words}");
     }
     fs::remove_file(&rt, "wrong_tag.odht")?;
     fs::remove_file(&rt, "odd_sizes.odht")?;
@@ -145,13 +145,16 @@ fn helps(rt: HostRuntime) -> Result<(), Fail> {
     let alloc: Global = rt.alloc();
     for name in ["info", "check", "get", "dump", "build", "put"] {
         let words = format!(in alloc; "{name} --help")?;
-        let told = told(&rt, words.as_str(), b"")?;
-        assert_eq!(&rt; told.status, 0);
+        let printed = printed(&rt, words.as_str(), b"")?;
+        assert_eq!(&rt; printed.status, 0);
         let start = format!(in alloc; "odht {name} FILE")?;
-        assert!(&rt; told.output.as_str().starts_with(start.as_str()), "{name}");
+        assert!(&rt;
+            printed.output.as_str().starts_with(start.as_str()),
+            "{name}"
+        );
     }
-    let told = told(&rt, "--help", b"")?;
-    assert!(&rt; told.output.as_str().starts_with("odht info FILE"));
+    let printed = printed(&rt, "--help", b"")?;
+    assert!(&rt; printed.output.as_str().starts_with("odht info FILE"));
     Ok(())
 }
 
@@ -159,21 +162,21 @@ fn helps(rt: HostRuntime) -> Result<(), Fail> {
 fn absent_keys(rt: HostRuntime) -> Result<(), Fail> {
     write_hex(&rt, "keys.odht", case_of("u64_u32")?.bytes)?;
     let answers = "3\t4\n2\n1\t2\n";
-    let of_words = told(&rt, "get keys.odht 3 2 1", b"")?;
+    let of_words = printed(&rt, "get keys.odht 3 2 1", b"")?;
     assert_eq!(&rt; of_words.output.as_str(), answers);
     assert_eq!(&rt; of_words.status, 1);
     assert_eq!(&rt; of_words.errors.as_str(), "");
-    let of_lines = told(&rt, "get keys.odht -", b"3\r\n2\n1")?;
+    let of_lines = printed(&rt, "get keys.odht -", b"3\r\n2\n1")?;
     assert_eq!(&rt; of_lines.output.as_str(), answers);
     assert_eq!(&rt; of_lines.status, 1);
-    let wrong = told(&rt, "get keys.odht -", b"3\n2\nx\n1\n")?;
+    let wrong = printed(&rt, "get keys.odht -", b"3\n2\nx\n1\n")?;
     assert_eq!(&rt; wrong.output.as_str(), "3\t4\n2\n");
     assert_eq!(&rt;
         wrong.errors.as_str(),
         "odht: keys.odht: standard input, line 3: not a key of the table's shape\n"
     );
     assert_eq!(&rt; wrong.status, 1);
-    let wrong = told(&rt, "get keys.odht 1 -1", b"")?;
+    let wrong = printed(&rt, "get keys.odht 1 -1", b"")?;
     assert_eq!(&rt;
         wrong.errors.as_str(),
         "odht: keys.odht: \"-1\" is not a key of the table's shape\n"
@@ -198,7 +201,7 @@ impl Write for Broken {
     }
 }
 
-fn told_to<R: Files + AllocGlobal + Clock + Abort>(
+fn printed_to<R: Files + AllocGlobal + Clock + Abort>(
     rt: &R,
     kind: ErrorKind,
 ) -> Result<String, Fail> {
@@ -221,11 +224,12 @@ fn told_to<R: Files + AllocGlobal + Clock + Abort>(
 #[test]
 fn broken_outputs(rt: HostRuntime) -> Result<(), Fail> {
     write_hex(&rt, "pipe.odht", case_of("u64_u32")?.bytes)?;
-    let told = told_to(&rt, ErrorKind::BrokenPipe)?;
-    assert_eq!(&rt; told.as_str(), "");
-    let told = told_to(&rt, ErrorKind::StorageFull)?;
+    let printed = printed_to(&rt, ErrorKind::BrokenPipe)?;
+    assert_eq!(&rt; printed.as_str(), "");
+    let printed = printed_to(&rt, ErrorKind::StorageFull)?;
     assert!(&rt;
-        told.as_str()
+        printed
+            .as_str()
             .starts_with("odht: pipe.odht: standard output cannot be written: ")
     );
     fs::remove_file(&rt, "pipe.odht")?;

@@ -1,6 +1,6 @@
 //! Files that are made, added to, and left as they were.
 use super::tables::{CASES, Case};
-use super::{case_of, check_told, told, write_hex};
+use super::{case_of, check_printed, printed, write_hex};
 use std::alloc::Global;
 use std::fs;
 use std::process::Abort;
@@ -30,7 +30,7 @@ fn tables_are_built(rt: HostRuntime) -> Result<(), Fail> {
     for case in CASES {
         if !case.words.is_empty() {
             let words = format!(in alloc; "build built.odht {}", case.words)?;
-            check_told(&rt, words.as_str(), case.pairs.as_bytes(), "")?;
+            check_printed(&rt, words.as_str(), case.pairs.as_bytes(), "")?;
             check_file(&rt, "built.odht", case)?;
         }
     }
@@ -40,15 +40,15 @@ fn tables_are_built(rt: HostRuntime) -> Result<(), Fail> {
 // A table of no pairs, to which the pairs are added: those of the first lines, then the others, with lines of both ends.
 #[test]
 fn pairs_are_added(rt: HostRuntime) -> Result<(), Fail> {
-    check_told(
+    check_printed(
         &rt,
         "build put.odht --key u64 --value u32 --percent 95 --capacity 3",
         b"",
         "",
     )?;
-    check_told(&rt, "put put.odht", b"1\t7\r\n1\t2\r\n", "")?;
-    check_told(&rt, "put put.odht --progress", b"3\t4\n5\t4294967295", "")?;
-    check_told(&rt, "put put.odht", b"", "")?;
+    check_printed(&rt, "put put.odht", b"1\t7\r\n1\t2\r\n", "")?;
+    check_printed(&rt, "put put.odht --progress", b"3\t4\n5\t4294967295", "")?;
+    check_printed(&rt, "put put.odht", b"", "")?;
     check_file(&rt, "put.odht", case_of("u64_u32")?)
 }
 
@@ -81,9 +81,9 @@ fn wrong_lines_leave_the_file(rt: HostRuntime) -> Result<(), Fail> {
     for (lines, fault) in WRONG_LINES {
         let expected = format!(in alloc; "odht: kept.odht: standard input, {fault}\n")?;
         for words in ["put kept.odht", "build kept.odht --key u64 --value u32"] {
-            let told = told(&rt, words, lines)?;
-            assert_eq!(&rt; told.errors.as_str(), expected.as_str());
-            assert_eq!(&rt; told.status, 1);
+            let printed = printed(&rt, words, lines)?;
+            assert_eq!(&rt; printed.errors.as_str(), expected.as_str());
+            assert_eq!(&rt; printed.status, 1);
         }
     }
     assert!(&rt; !fs::exists(&rt, "kept.odht.new")?);
@@ -96,10 +96,11 @@ fn another_run_at_work(rt: HostRuntime) -> Result<(), Fail> {
     let case = case_of("u64_u32")?;
     write_hex(&rt, "work.odht", case.bytes)?;
     fs::write(&rt, "work.odht.new", "of another run")?;
-    let told = told(&rt, "put work.odht", b"9\t9\n")?;
-    assert_eq!(&rt; told.status, 1);
+    let printed = printed(&rt, "put work.odht", b"9\t9\n")?;
+    assert_eq!(&rt; printed.status, 1);
     assert!(&rt;
-        told.errors
+        printed
+            .errors
             .as_str()
             .starts_with("odht: work.odht: cannot be written: ")
     );

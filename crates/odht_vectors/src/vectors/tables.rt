@@ -186,7 +186,7 @@ fn made<C: Config>(alloc: Global, made: Result<HashTableOwned<C>, Error>) -> Res
     }
 }
 
-// Whether inserts make the table, and then its filled slots, in an order in which they do or rising.
+// Whether inserts make the table, and then its occupied slots, in an order in which they do or rising.
 fn insert_order<C: Config>(
     alloc: Global,
     bytes: Vec<u8>,

@@ -2,7 +2,7 @@ use Rattle.std.proofs.Common.{◌≡◌, ◌<◌, ◌*◌, ◌^◌, ◌∙◌, s
 use Rattle.std.proofs.Math.Nat.{max_comm}
 use Rattle.std.specs.Prelude.{max}
 use Rattle.odht_base.specs.Format.{Format, format_of}
-use Rattle.odht_base.specs.Shown.{stated_count}
+use Rattle.odht_base.specs.Decoded.{header_count}
 use Rattle.odht.proofs.lemmas.GrownBytes.{none_at_zero, none_of_many, asked_layout}
 use Rattle.odht.proofs.growth.grown_layout.Goals as goal
 
@@ -22,6 +22,6 @@ returns-then-factor-eq0 g c =
 pub returns : goal.returns
 returns g c =
     let F : Format = format_of g.C.EncodedKey.ByteArray.LEN g.C.EncodedValue.ByteArray.LEN g.C.H.HashFn.hash in
-    let items : c.max.result ≡ max 1 (2 * stated_count c.args.header.now) =
+    let items : c.max.result ≡ max 1 (2 * header_count c.args.header.now) =
     c.max.ensures ∙ max_comm c.in_ok-twice.twice 1 ∙ ap (max 1) (let is = c.in_ok-twice.ensures.1 in let of = c.item_count.ensures in omega (arith, is, of)) in
     asked_layout F c.args.header.now c.max.result c.max_load_factor-factor.result.0 items c.max_load_factor-factor.ensures c.layout_for.result c.layout_for.ensures.some c.layout_for.ensures.none.0

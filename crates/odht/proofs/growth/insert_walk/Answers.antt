@@ -24,19 +24,19 @@ loop-entry-preserved g c =
     let pair = stored g.K.ByteArray.bytes g.V.ByteArray.bytes in
     let here : Item g.row.K.Denot g.row.V.Denot = (c.in-Some.field-0-0, c.in-Some.entry) in
     let left : List (Item g.row.K.Denot g.row.V.Denot) = c.next.new.self in
-    let told = c.place.ensures in
+    let known = c.place.ensures in
     let es = c.loop-entry.table.entries.now in
     let ctrl = c.loop-entry.table.control.now in
     record {
-      control_loan = told.control_loan ∙ c.loop-entry.invariant.control_loan;
-      entries_loan = told.entries_loan ∙ c.loop-entry.invariant.entries_loan;
+      control_loan = known.control_loan ∙ c.loop-entry.invariant.control_loan;
+      entries_loan = known.entries_loan ∙ c.loop-entry.invariant.entries_loan;
       placed = λ P Q parts apart new all. (
           let at : LeadsTo F Q (pair here ∷ map pair left) es ctrl = subst (λ xs. LeadsTo F Q (map pair xs) es ctrl) c.in-Some.ensures.steps (c.loop-entry.invariant.placed P Q parts apart new all) in
           let fresh = leads_new F Q (pair here) (map pair left) es ctrl at in
           let fits = leads_fits F Q (pair here) (map pair left) es ctrl at in
-          let put = accepted_holds (ArePartsPlaced F at.table (pair here) c.place.new.self.entries.now c.place.new.self.control.now) c.place.result told.only_full
-          (λ full. fits ((told.full at.table at.parts fresh).0 full)) (told.ok at.table at.parts fresh) in
-          leads_on F Q (pair here) (map pair left) es ctrl at _ _ put);
+          let insert = accepted_holds (ArePartsPlaced F at.table (pair here) c.place.new.self.entries.now c.place.new.self.control.now) c.place.result known.only_full
+          (λ full. fits ((known.full at.table at.parts fresh).0 full)) (known.ok at.table at.parts fresh) in
+          leads_on F Q (pair here) (map pair left) es ctrl at _ _ insert);
     }
 
 pub returns : goal.returns

@@ -6,7 +6,7 @@ use Rattle.odht_base.specs.Valid.{IsPartsOf}
 use Rattle.odht_base.proofs.lemmas.ByteRanges.{bytes_at-take}
 use Rattle.odht_base.proofs.lemmas.Image.{entries-empty, controls-empty}
 use Rattle.odht_base.proofs.lemmas.Parts.{length-header_bytes}
-use Rattle.odht_base.proofs.lemmas.Rooms.{map_of-empty, empty-IsPlaced}
+use Rattle.odht_base.proofs.lemmas.FreeSlots.{map_of-empty, empty-IsPlaced}
 use Rattle.odht.proofs.growth.write_table.Goals as goal
 
 pub returns-clause-placed : goal.returns-clause-placed

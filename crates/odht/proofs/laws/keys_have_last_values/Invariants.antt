@@ -1,6 +1,6 @@
 use Rattle.std.proofs.Common.{All, take}
 use Rattle.odht_raw.specs.Coding.{coding_of}
-use Rattle.odht.proofs.lemmas.Kept.{IsKept}
+use Rattle.odht.proofs.lemmas.LosslessPairs.{IsKept}
 use Rattle.odht.proofs.laws.keys_have_last_values.Given as goal
 
 abbrev pub invariant-loop-k : goal.invariant-loop-k

@@ -1,8 +1,8 @@
 use Rattle.std.proofs.Common.{◌≡◌, sym, subst, refl, take, List, IsOk, arith}
 use Rattle.std.proofs.lemmas.List.{take_all}
-use Rattle.odht_base.specs.Insert.{put_owned}
+use Rattle.odht_base.specs.Insert.{insert_owned}
 use Rattle.odht_raw.specs.Coding.{coding_of}
-use Rattle.odht.specs.Lists.{encoded_all, IsFilled}
+use Rattle.odht.specs.Lists.{encoded_all, IsAfterInserts}
 use Rattle.odht.proofs.lemmas.Rebuilding.{rebuilt-IsImage}
 use Rattle.odht.proofs.laws.rebuilt.Goals as goal
 
@@ -13,5 +13,5 @@ returns-clause-ok g c P ok in_order size =
     let made = c.in_ok-rebuilt.ensures.ok in
     let all = c.insert_all.ensures.all.0 (subst IsOk (sym c.in_ok-insert_all.was) refl) in
     let taken : take c.insert_all.result.0 items ≡ items = take_all c.insert_all.result.0 items (omega (arith, all)) in
-    let filled = subst (λ (xs : List (g.row.C-Key.Denot × g.row.C-Value.Denot)). IsFilled K.format (put_owned K.format) made.table (encoded_all K xs) c.insert_all.new.self) taken (c.insert_all.ensures.filled made.table made.image) in
-    rebuilt-IsImage K items c.args.max_item_count c.args.max_load_factor_percent made.table made.new c.insert_all.new.self filled P ok in_order size
+    let inserted = subst (λ (xs : List (g.row.C-Key.Denot × g.row.C-Value.Denot)). IsAfterInserts K.format (insert_owned K.format) made.table (encoded_all K xs) c.insert_all.new.self) taken (c.insert_all.ensures.inserted made.table made.image) in
+    rebuilt-IsImage K items c.args.max_item_count c.args.max_load_factor_percent made.table made.new c.insert_all.new.self inserted P ok in_order size

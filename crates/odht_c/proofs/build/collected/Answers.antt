@@ -4,7 +4,7 @@ use Rattle.std.proofs.lemmas.Slice.Zip.{length-zip}
 use Rattle.odht_base.specs.Image.{image_len}
 use Rattle.odht_base.specs.Load.{factor_of, slots_for}
 use Rattle.odht_base.specs.Table.{empty}
-use Rattle.odht_base.proofs.lemmas.Rooms.{slot_count-empty}
+use Rattle.odht_base.proofs.lemmas.FreeSlots.{slot_count-empty}
 use Rattle.odht_raw.specs.Coding.{Coding, coding_of}
 use Rattle.odht_c.proofs.lemmas.NewBuilds.{fresh_empty, new_exists}
 use Rattle.odht_c.proofs.build.collected.Given.{Over}

@@ -7,7 +7,7 @@ use Rattle.odht_base.specs.Table.{Pair}
 use Rattle.odht_base.specs.Valid.{IsPairOf}
 use Rattle.odht_raw.specs.Coding.{Coding, coding_of, encoded}
 use Rattle.odht_raw.specs.Runs.{encoded_all}
-use Rattle.odht.proofs.lemmas.Fillings.{encoded_all-more}
+use Rattle.odht.proofs.lemmas.ListInserts.{encoded_all-more}
 use Rattle.odht_c.proofs.build.hold_pairs.Given.{Over}
 use Rattle.odht_c.proofs.build.hold_pairs.Goals as goal
 

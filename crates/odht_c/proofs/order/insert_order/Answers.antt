@@ -28,14 +28,14 @@ module _ (g : Over) (c : After-insert_order g) where
   none = Ok-checked _ c.in_default.ensures.first
 
   module _ (P : Table) (is : IsImage (format g) P c.args.bytes.now) where
-    seen : IsImage (format g) P c.from_raw_bytes_unchecked-table.result.0.now
-    seen = subst (IsImage (format g) P) (sym (ap (λ t. t.0.now) c.from_raw_bytes_unchecked-table.ensures ∙ c.new.ensures)) is
+    reads : IsImage (format g) P c.from_raw_bytes_unchecked-table.result.0.now
+    reads = subst (IsImage (format g) P) (sym (ap (λ t. t.0.now) c.from_raw_bytes_unchecked-table.ensures ∙ c.new.ensures)) is
 
     long : length c.args.out.now ≡ count P
-    long = c.if-out-len.false ∙ c.len.ensures.on_valid P seen
+    long = c.if-out-len.false ∙ c.len.ensures.on_valid P reads
 
     whole : AreWholeParts (format g) P c.as_raw.result (length c.args.out.now)
-    whole = record { valid = is.valid; parts = c.as_raw.ensures.parts P seen; counted = long }
+    whole = record { valid = is.valid; parts = c.as_raw.ensures.parts P reads; counted = long }
 
 pub returns-then-insert_order : goal.returns-then-insert_order
 returns-then-insert_order g c =

@@ -1,6 +1,6 @@
 use Rattle.std.proofs.Common.{◌≡◌, ◌∙◌, sym, ap, subst, refl, slice_get, IfSome}
 use Rattle.std.proofs.lemmas.Option.{slice_get_within}
-use Rattle.odht_base.specs.Shown.{entries_of, stated_slots}
+use Rattle.odht_base.specs.Decoded.{entries_of, header_slots}
 use Rattle.odht_base.specs.Valid.{IsImage}
 use Rattle.odht_raw.specs.Coding.{coding_of, HasStored}
 use Rattle.odht_c.specs.Reads.{IsGotAt}
@@ -15,7 +15,7 @@ pub returns : goal.returns
 returns g c =
     let K = coding_of g.C.EncodedKey.ByteArray.LEN g.C.EncodedKey.ByteArray.bytes g.C.EncodedKey.ByteArray.of_bytes g.C.EncodedValue.ByteArray.LEN g.C.EncodedValue.ByteArray.bytes g.C.EncodedValue.ByteArray.of_bytes g.C.H.HashFn.hash g.C.Config.encode_key g.C.Config.encode_value g.C.Config.decode_key g.C.Config.decode_value in
     let entries : c.as_raw.result.entries.bytes ≡ entries_of K.format c.args.bytes.now = c.as_raw.ensures.entries ∙ ap (entries_of K.format) c.in-Ok.ensures.ok in
-    let slots : c.as_raw.result.entries.slots ≡ stated_slots c.args.bytes.now = c.as_raw.ensures.slots ∙ ap stated_slots c.in-Ok.ensures.ok in
+    let slots : c.as_raw.result.entries.slots ≡ header_slots c.args.bytes.now = c.as_raw.ensures.slots ∙ ap header_slots c.in-Ok.ensures.ok in
     record {
       lengths = λ other. absurd (other (c.requires.values, c.requires.found));
       refused = λ e long is. not_none _ e is (sym c.in-Ok.ensures.err);

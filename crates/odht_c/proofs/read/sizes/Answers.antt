@@ -1,6 +1,6 @@
 use Rattle.std.proofs.Common.{◌∙◌, ap, sym, arith}
 use Rattle.odht_base.specs.Format.{Format, format_of}
-use Rattle.odht_base.specs.Shown.{stated_slots, stated_factor}
+use Rattle.odht_base.specs.Decoded.{header_slots, header_factor}
 use Rattle.odht_raw.proofs.lemmas.Accepted.{accepted_len}
 use Rattle.odht_c.proofs.lemmas.Refused.{refused_sizes}
 use Rattle.odht_c.proofs.lemmas.Sizes.{read_sizes}
@@ -20,5 +20,5 @@ returns g c =
     let F : Format = format_of g.C.EncodedKey.ByteArray.LEN g.C.EncodedValue.ByteArray.LEN g.C.H.HashFn.hash in
     let header = c.of-header.ensures in
     read_sizes F c.args.bytes.now _ _ _ _ _ _ _ (sym c.in_default.ensures.err)
-    (c.slot_count-slots.ensures ∙ ap stated_slots header) (c.max_load_factor-factor.ensures ∙ ap stated_factor header)
+    (c.slot_count-slots.ensures ∙ ap header_slots header) (c.max_load_factor-factor.ensures ∙ ap header_factor header)
     c.max_item_count_for.ensures.value c.to_percent.ensures

@@ -1,6 +1,6 @@
 use Rattle.std.proofs.Common.{◌∙◌, ◌+◌, ◌++◌, ◌<◌, ℕ, [], ◌∷◌, sym, ap, arith, length, append_assoc, length-append}
 use Rattle.odht_base.specs.Format.{format_of}
-use Rattle.odht_base.specs.Shown.{stated_slots}
+use Rattle.odht_base.specs.Decoded.{header_slots}
 use Rattle.odht_raw.proofs.lemmas.Accepted.{accepted_opening}
 use Rattle.odht_c.proofs.lemmas.Arrays.{set-next_of}
 use Rattle.odht_c.proofs.lemmas.Refused.{refused_walk}
@@ -39,4 +39,4 @@ returns g c =
     let v = c.loop-slot.invariant in
     accepted_walk _ _ _ _ _ _ _ _ _ _ _ _ _ c.requires c.in-Ok.ensures.err c.in-Ok.ensures.ok c.iter_from-slot-items.ensures.on_valid c.iter_from-slot-items.ensures.on_any
     (λ P is slots. walked_all _ P _ _ _ _ _ _ _ _ _ is (sym c.into_iter-slot-iterator.ensures.into_iter_gives ∙ v.walk) v.written v.within v.keys v.values
-    c.in-None.ensures.steps.0 c.slot_count.result (c.slot_count.ensures ∙ ap stated_slots c.of.ensures ∙ sym slots))
+    c.in-None.ensures.steps.0 c.slot_count.result (c.slot_count.ensures ∙ ap header_slots c.of.ensures ∙ sym slots))

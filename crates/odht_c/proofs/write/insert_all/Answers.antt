@@ -3,14 +3,14 @@ use Rattle.std.specs.Result.{is_ok}
 use Rattle.std.specs.List.{zip}
 use Rattle.std.proofs.lemmas.Slice.Zip.{length-zip}
 use Rattle.odht_base.specs.Format.{Format, format_of}
-use Rattle.odht_base.specs.Insert.{put_view}
+use Rattle.odht_base.specs.Insert.{insert_view}
 use Rattle.odht_base.specs.Table.{Table}
 use Rattle.odht_base.specs.Valid.{IsImage}
 use Rattle.odht_raw.specs.Coding.{Coding, coding_of}
 use Rattle.odht_raw.specs.Refusals.{opening_refusal}
 use Rattle.odht_raw.specs.declared.error.Error.{Error}
 use Rattle.odht_raw.specs.declared.error.Error.TheVariants.{Full}
-use Rattle.odht.specs.Lists.{encoded_all, IsFilled, IsFramedRun, IsRefusedAt, IsStoppedAt}
+use Rattle.odht.specs.Lists.{encoded_all, IsAfterInserts, IsFramedRun, IsRefusedAt, IsStoppedAt}
 use Rattle.odht_c.specs.Writes.{InsertAllAnswers}
 use Rattle.odht_c.specs.Statuses.{status_of}
 use Rattle.odht_c.proofs.lemmas.Refused.{refused_insert_all}
@@ -35,7 +35,7 @@ coding g =
 
 -- what the inserts leave, of the pairs
 framed_here : (g : Over) (c : After-insert_items-count g)
-    → IsFramedRun (coding g) (g.M.ByteStore.bytes c.args.place.now) (take c.insert_items-count.result.0 (zip c.args.keys.now c.args.values.now)) (g.M.ByteStore.bytes c.insert_items-count.new.self.now)
+    → IsFramedRun (coding g) (g.M.ByteStore.bytes c.args.store.now) (take c.insert_items-count.result.0 (zip c.args.keys.now c.args.values.now)) (g.M.ByteStore.bytes c.insert_items-count.new.self.now)
 framed_here g c =
     let n = c.insert_items-count.result.0 in
     let now = g.M.ByteStore.bytes c.insert_items-count.new.self.now in
@@ -44,15 +44,15 @@ framed_here g c =
     (subst (λ (xs : List (g.row.C-Key.Denot × g.row.C-Value.Denot)). IsFramedRun (coding g) (g.M.ByteStore.bytes c.from_raw_bytes_unchecked-table.result.now) (take n xs) now) c.new.ensures c.insert_items-count.ensures.framed)
 
 -- and on valid bytes
-filled_here : (g : Over) (c : After-insert_items-count g) (P : Table) → IsImage (coding g).format P (g.M.ByteStore.bytes c.args.place.now)
-    → IsFilled (coding g).format (put_view (coding g).format) P (encoded_all (coding g) (take c.insert_items-count.result.0 (zip c.args.keys.now c.args.values.now))) (g.M.ByteStore.bytes c.insert_items-count.new.self.now)
-filled_here g c P is =
+inserted_here : (g : Over) (c : After-insert_items-count g) (P : Table) → IsImage (coding g).format P (g.M.ByteStore.bytes c.args.store.now)
+    → IsAfterInserts (coding g).format (insert_view (coding g).format) P (encoded_all (coding g) (take c.insert_items-count.result.0 (zip c.args.keys.now c.args.values.now))) (g.M.ByteStore.bytes c.insert_items-count.new.self.now)
+inserted_here g c P is =
     let K = coding g in
     let n = c.insert_items-count.result.0 in
     let now = g.M.ByteStore.bytes c.insert_items-count.new.self.now in
     let opened = ap (λ s. s.now) c.from_raw_bytes_unchecked-table.ensures in
-    subst (λ (xs : List (g.row.C-Key.Denot × g.row.C-Value.Denot)). IsFilled K.format (put_view K.format) P (encoded_all K (take n xs)) now) c.new.ensures
-    (c.insert_items-count.ensures.filled P (subst (λ s. IsImage K.format P (g.M.ByteStore.bytes s)) (sym opened) is))
+    subst (λ (xs : List (g.row.C-Key.Denot × g.row.C-Value.Denot)). IsAfterInserts K.format (insert_view K.format) P (encoded_all K (take n xs)) now) c.new.ensures
+    (c.insert_items-count.ensures.inserted P (subst (λ s. IsImage K.format P (g.M.ByteStore.bytes s)) (sym opened) is))
 
 pub returns-in-Ok-clause-answer : goal.returns-in-Ok-clause-answer
 returns-in-Ok-clause-answer g c =
@@ -63,10 +63,10 @@ returns-in-Ok-clause-answer g c =
     let n = c.insert_items-count.result.0 in
     let here = (goal.at.returns-in-Ok-clause-answer g c).After-insert_items-count in
     let every : n ≡ length keys = c.insert_items-count.ensures.all.0 (rw c.in-Ok.is refl) ∙ ap length c.new.ensures ∙ omega (arith, length-zip keys values, c.requires) in
-    subst (λ s. InsertAllAnswers K (bytes c.args.place.now) keys values c.args.accepted.now 0 (bytes s) n)
-    (sym (search (rules, c.into_data-place.ensures.data, c.insert_items-count.ensures.place, c.from_raw_bytes_unchecked-table.ensures)))
-    (subst (InsertAllAnswers K (bytes c.args.place.now) keys values c.args.accepted.now 0 (bytes c.insert_items-count.new.self.now)) (sym every)
-    (accepted_insert_all K (bytes c.args.place.now) (bytes c.insert_items-count.new.self.now) keys values c.args.accepted.now n (c.in_default.ensures.err ∙ ap (opening_refusal K.format) c.bytes.ensures) c.requires (framed_here g here) (filled_here g here) every))
+    subst (λ s. InsertAllAnswers K (bytes c.args.store.now) keys values c.args.accepted.now 0 (bytes s) n)
+    (sym (search (rules, c.into_data-store.ensures.data, c.insert_items-count.ensures.same_store, c.from_raw_bytes_unchecked-table.ensures)))
+    (subst (InsertAllAnswers K (bytes c.args.store.now) keys values c.args.accepted.now 0 (bytes c.insert_items-count.new.self.now)) (sym every)
+    (accepted_insert_all K (bytes c.args.store.now) (bytes c.insert_items-count.new.self.now) keys values c.args.accepted.now n (c.in_default.ensures.err ∙ ap (opening_refusal K.format) c.bytes.ensures) c.requires (framed_here g here) (inserted_here g here) every))
 
 pub returns-in-Err-answer-clause-answer : goal.returns-in-Err-answer-clause-answer
 returns-in-Err-answer-clause-answer g c =
@@ -77,14 +77,14 @@ returns-in-Err-answer-clause-answer g c =
     let n = c.insert_items-count.result.0 in
     let now = bytes c.insert_items-count.new.self.now in
     let here = (goal.at.returns-in-Err-answer-clause-answer g c).After-insert_items-count in
-    let told = c.insert_items-count.ensures in
+    let known = c.insert_items-count.ensures in
     let is = c.in-Err-answer.is in
-    let only : c.in-Err-answer.refused ≡ Full = (let both = subst (λ (r : Result (Unit {0}) Error). OnErr r (r ≡ Err Full)) is told.only_full in cc) in
+    let only : c.in-Err-answer.refused ≡ Full = (let both = subst (λ (r : Result (Unit {0}) Error). OnErr r (r ≡ Err Full)) is known.only_full in cc) in
     let long = ap length c.new.ensures ∙ length-zip keys values in
-    let less : n < length keys = (let ne : n ≡ length c.new.result → ⊥ = λ e. true≢false (sym (told.all.1 e) ∙ ap is_ok is) in omega (arith, told.bound, ne, long, c.requires)) in
-    subst (λ s. InsertAllAnswers K (bytes c.args.place.now) keys values c.args.accepted.now c.status_of-in-Err-answer.result (bytes s) n)
-    (sym (search (rules, c.into_data-place.ensures.data, c.insert_items-count.ensures.place, c.from_raw_bytes_unchecked-table.ensures)))
-    (full_insert_all K (bytes c.args.place.now) now keys values c.args.accepted.now n (c.in_default.ensures.err ∙ ap (opening_refusal K.format) c.bytes.ensures) c.requires (framed_here g here) (filled_here g here)
+    let less : n < length keys = (let ne : n ≡ length c.new.result → ⊥ = λ e. true≢false (sym (known.all.1 e) ∙ ap is_ok is) in omega (arith, known.bound, ne, long, c.requires)) in
+    subst (λ s. InsertAllAnswers K (bytes c.args.store.now) keys values c.args.accepted.now c.status_of-in-Err-answer.result (bytes s) n)
+    (sym (search (rules, c.into_data-store.ensures.data, c.insert_items-count.ensures.same_store, c.from_raw_bytes_unchecked-table.ensures)))
+    (full_insert_all K (bytes c.args.store.now) now keys values c.args.accepted.now n (c.in_default.ensures.err ∙ ap (opening_refusal K.format) c.bytes.ensures) c.requires (framed_here g here) (inserted_here g here)
     now c.status_of-in-Err-answer.result refl less (c.status_of-in-Err-answer.ensures ∙ ap status_of only)
-    (λ P image. subst (λ (xs : List (g.row.C-Key.Denot × g.row.C-Value.Denot)). IsRefusedAt K P xs n) c.new.ensures (subst (λ (r : Result (Unit {0}) Error). OnErr r (IsRefusedAt K P c.new.result n)) is (told.at_maximum P image)))
-    (subst (λ (xs : List (g.row.C-Key.Denot × g.row.C-Value.Denot)). IsStoppedAt K xs n now) c.new.ensures (subst (λ (r : Result (Unit {0}) Error). OnErr r (IsStoppedAt K c.new.result n now)) is told.stopped)))
+    (λ P image. subst (λ (xs : List (g.row.C-Key.Denot × g.row.C-Value.Denot)). IsRefusedAt K P xs n) c.new.ensures (subst (λ (r : Result (Unit {0}) Error). OnErr r (IsRefusedAt K P c.new.result n)) is (known.at_maximum P image)))
+    (subst (λ (xs : List (g.row.C-Key.Denot × g.row.C-Value.Denot)). IsStoppedAt K xs n now) c.new.ensures (subst (λ (r : Result (Unit {0}) Error). OnErr r (IsStoppedAt K c.new.result n now)) is known.stopped)))

@@ -115,19 +115,19 @@ fn insert_batch<C: Config, I: Items<C::Key, C::Value>>(
 {
     let ahead = look_ahead::<C, I>(control, items, from);
     let mut added = 0;
-    for place in 0..BATCH {
-        let (key, value) = items.at(from + place);
+    for offset in 0..BATCH {
+        let (key, value) = items.at(from + offset);
         let key = C::encode_key(key);
         let value = C::encode_value(value);
         // Each has as many bytes as its type says.
         let _ = key.as_slice();
         let _ = value.as_slice();
-        let (hash, slot) = ahead[place];
+        let (hash, slot) = ahead[offset];
         let answer = insert_expected::<C::EncodedKey, C::EncodedValue, C::H>(
             control, entries, key, value, hash, slot,
         );
         let Ok(former) = answer else {
-            return (from + place, added);
+            return (from + offset, added);
         };
         if former.is_none() {
             added += 1;
@@ -150,10 +150,10 @@ fn look_ahead<C: Config, I: Items<C::Key, C::Value>>(
     ensures { AreAhead ⟦<C as Coded>⟧.coding control.now (I.items items.now) from result }
 {
     let mut ahead = [(0, 0); 8];
-    for place in 0..BATCH {
-        let (key, _) = items.at(from + place);
+    for offset in 0..BATCH {
+        let (key, _) = items.at(from + offset);
         let key = C::encode_key(key);
-        ahead[place] = expected_slot::<C::EncodedKey, C::EncodedValue, C::H, GroupQuery>(
+        ahead[offset] = expected_slot::<C::EncodedKey, C::EncodedValue, C::H, GroupQuery>(
             control, &key,
         );
     }

@@ -1,12 +1,12 @@
 //! Lists of items that are inserted into the bytes of a table: the header is read once, and the item count written once.
 ghost use Rattle.std.specs.Prelude.{◌≡◌, ◌+◌, ◌-◌, ◌≤◌, length};
 ghost use Rattle.std.specs.List.{slice_range};
-ghost use Rattle.odht_base.specs.Shown.{stated_slots, controls_of};
+ghost use Rattle.odht_base.specs.Decoded.{header_slots, controls_of};
 ghost use Rattle.odht_base.specs.Table.{Table};
 ghost use Rattle.odht_base.specs.Valid.{IsImage, IsPartsOf};
 ghost use Rattle.odht_raw.specs.Frame.{IsAccepted};
 ghost use Rattle.odht_raw.specs.PartLengths.{ArePartLengths};
-ghost use Rattle.odht_raw.specs.Runs.{encoded_all, IsFramedRun, IsPartsRun, ArePartsOfRun, IsPlacedBelow, IsStop, room_end, stated_end};
+ghost use Rattle.odht_raw.specs.Runs.{encoded_all, IsFramedRun, IsPartsRun, ArePartsOfRun, IsPlacedBelow, IsStop, room_end, header_end};
 
 use super::Allocation;
 use super::batches::insert_by_size;
@@ -22,7 +22,7 @@ use crate::raw_table::RawTableMut;
 impl<C: Config, M: ByteStoreMut> Allocation<C, M> {
     /// Inserts the items from index `from` on in their order, as many as the table has room for below its maximum, and
     /// answers the index of the first that was not inserted. On valid bytes these are all that are left, or as many as the
-    /// maximum is above the count before. On any bytes it stops before that only where each slot counts as filled.
+    /// maximum is above the count before. On any bytes it stops before that only where each slot counts as occupied.
     ///
     /// The header is read once and the item count written once. At most each group is looked at once for an item; that at
     /// the home slot once more in tables of 2^20 slots and above, whose groups are looked at ahead, for eight keys at once.
@@ -41,15 +41,15 @@ impl<C: Config, M: ByteStoreMut> Allocation<C, M> {
             → result ≡ room_end P from (length (I.items items.now)) }
         ensures number_on_any { let F = ⟦<C as Coded>⟧.coding.format
             in let B = M.bytes self.new
-            in let all = stated_end (M.bytes self.old) from (length (I.items items.now))
-            in IsStop (controls_of F B) (stated_slots B) all result }
+            in let all = header_end (M.bytes self.old) from (length (I.items items.now))
+            in IsStop (controls_of F B) (header_slots B) all result }
         ensures placed { let c = ⟦<C as Coded>⟧.coding
             in (P : Table)
             → IsImage c.format P (M.bytes self.old)
             → IsPlacedBelow c.format P (encoded_all c (slice_range (I.items items.now) from result)) (M.bytes self.new) }
         ensures framed { let c = ⟦<C as Coded>⟧.coding
             in IsFramedRun c (M.bytes self.old) (slice_range (I.items items.now) from result) (M.bytes self.new) }
-        ensures place { self.new ≡ M.holding self.old (M.bytes self.new) }
+        ensures same_store { self.new ≡ M.holding self.old (M.bytes self.new) }
         ensures accepted { IsAccepted ⟦<C as Coded>⟧.coding.format (M.bytes self.new) }
     {
         let store = &mut self.store;
@@ -74,15 +74,15 @@ fn insert_into_store<C: Config, M: ByteStoreMut, I: Items<C::Key, C::Value>>(
         → result ≡ room_end P from (length (I.items items.now)) }
     ensures number_on_any { let F = ⟦<C as Coded>⟧.coding.format
         in let B = M.bytes store.new
-        in let all = stated_end (M.bytes store.old) from (length (I.items items.now))
-        in IsStop (controls_of F B) (stated_slots B) all result }
+        in let all = header_end (M.bytes store.old) from (length (I.items items.now))
+        in IsStop (controls_of F B) (header_slots B) all result }
     ensures placed { let c = ⟦<C as Coded>⟧.coding
         in (P : Table)
         → IsImage c.format P (M.bytes store.old)
         → IsPlacedBelow c.format P (encoded_all c (slice_range (I.items items.now) from result)) (M.bytes store.new) }
     ensures framed { let c = ⟦<C as Coded>⟧.coding
         in IsFramedRun c (M.bytes store.old) (slice_range (I.items items.now) from result) (M.bytes store.new) }
-    ensures place { store.new ≡ M.holding store.old (M.bytes store.new) }
+    ensures same_store { store.new ≡ M.holding store.old (M.bytes store.new) }
     ensures accepted { IsAccepted ⟦<C as Coded>⟧.coding.format (M.bytes store.new) }
     ensures len { length (M.bytes store.new) ≡ length (M.bytes store.old) }
 {
@@ -106,8 +106,8 @@ fn insert_into_bytes<C: Config, I: Items<C::Key, C::Value>>(
         → result ≡ room_end P from (length (I.items items.now)) }
     ensures number_on_any { let F = ⟦<C as Coded>⟧.coding.format
         in let B = bytes.new
-        in let all = stated_end bytes.old from (length (I.items items.now))
-        in IsStop (controls_of F B) (stated_slots B) all result }
+        in let all = header_end bytes.old from (length (I.items items.now))
+        in IsStop (controls_of F B) (header_slots B) all result }
     ensures placed { let c = ⟦<C as Coded>⟧.coding
         in (P : Table)
         → IsImage c.format P bytes.old

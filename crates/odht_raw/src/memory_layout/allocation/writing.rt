@@ -3,7 +3,7 @@ ghost use Rattle.std.specs.Prelude.{◌≡◌, ◌<◌};
 ghost use Rattle.odht_base.specs.Numbers.{IsBytes};
 ghost use Rattle.odht_base.specs.Table.{Pair};
 ghost use Rattle.odht_base.specs.Valid.{IsPairOf};
-ghost use Rattle.odht_base.specs.Shown.{stated_slots};
+ghost use Rattle.odht_base.specs.Decoded.{header_slots};
 ghost use Rattle.odht_base.specs.Writes.{with_count, with_entry, with_tag, with_value};
 ghost use Rattle.odht_raw.specs.Frame.{IsAccepted};
 
@@ -19,7 +19,7 @@ impl<C: Config, M: ByteStoreMut> Allocation<C, M> {
     #[inline]
     pub fn set_item_count(&mut self, item_count: usize)
         ensures bytes { M.bytes self.new ≡ with_count (M.bytes self.old) item_count }
-        ensures place { self.new ≡ M.holding self.old (M.bytes self.new) }
+        ensures same_store { self.new ≡ M.holding self.old (M.bytes self.new) }
         ensures accepted { IsAccepted ⟦<C as Coded>⟧.coding.format (M.bytes self.new) }
     {
         let store = &mut self.store;
@@ -35,12 +35,12 @@ impl<C: Config, M: ByteStoreMut> Allocation<C, M> {
         value: &C::EncodedValue,
         tag: EntryMetadata,
     )
-        requires { slot < stated_slots (M.bytes self.old) }
+        requires { slot < header_slots (M.bytes self.old) }
         ensures bytes { let F = ⟦<C as Coded>⟧.coding.format
             in let p : Pair = record { key = C.EncodedKey.bytes key.now; value = C.EncodedValue.bytes value.now }
             in let B = M.bytes self.old
-            in M.bytes self.new ≡ with_tag F (stated_slots B) (with_entry F B slot p) slot tag }
-        ensures place { self.new ≡ M.holding self.old (M.bytes self.new) }
+            in M.bytes self.new ≡ with_tag F (header_slots B) (with_entry F B slot p) slot tag }
+        ensures same_store { self.new ≡ M.holding self.old (M.bytes self.new) }
         ensures accepted { IsAccepted ⟦<C as Coded>⟧.coding.format (M.bytes self.new) }
         ensures pair { IsPairOf ⟦<C as Coded>⟧.coding.format
             (record { key = C.EncodedKey.bytes key.now; value = C.EncodedValue.bytes value.now }) }
@@ -54,10 +54,10 @@ impl<C: Config, M: ByteStoreMut> Allocation<C, M> {
     /// Writes the value alone into the entry of a slot.
     #[inline(always)]
     pub fn write_value(&mut self, slot: usize, value: &C::EncodedValue)
-        requires { slot < stated_slots (M.bytes self.old) }
+        requires { slot < header_slots (M.bytes self.old) }
         ensures bytes { let F = ⟦<C as Coded>⟧.coding.format
             in M.bytes self.new ≡ with_value F (M.bytes self.old) slot (C.EncodedValue.bytes value.now) }
-        ensures place { self.new ≡ M.holding self.old (M.bytes self.new) }
+        ensures same_store { self.new ≡ M.holding self.old (M.bytes self.new) }
         ensures accepted { IsAccepted ⟦<C as Coded>⟧.coding.format (M.bytes self.new) }
         ensures value { IsBytes C.EncodedValue.LEN (C.EncodedValue.bytes value.now) }
     {

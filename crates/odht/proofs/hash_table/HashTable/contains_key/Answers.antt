@@ -3,7 +3,7 @@ use Rattle.std.specs.Prelude.{◌↔◌, option_map, IfSome, IsSome, IsTrue}
 use Rattle.std.specs.Option.{is_some}
 use Rattle.odht_base.specs.Format.{Format, format_of}
 use Rattle.odht_base.specs.Map.{map_of}
-use Rattle.odht_base.specs.Shown.{stated_slots, entries_of, slot_key, HoldsKey}
+use Rattle.odht_base.specs.Decoded.{header_slots, entries_of, slot_key, HoldsKey}
 use Rattle.odht_raw.specs.Parts.{EntryBytes}
 use Rattle.odht_raw.specs.SearchEnds.{IsBesideKey}
 use Rattle.odht.proofs.hash_table.HashTable.contains_key.Goals as goal
@@ -15,7 +15,7 @@ there f (Some b) = (λ h. h, λ h. h)
 
 -- and where one is there that is stored beside the key, the bytes hold the key
 held : {V : Type 0} (F : Format) (B : List ℕ) (f : List ℕ → V) (E : EntryBytes) (k : List ℕ) (r : Option V)
-    → E.bytes ≡ entries_of F B → E.slots ≡ stated_slots B → IfSome r (IsBesideKey F f E k) → IsTrue (is_some r)
+    → E.bytes ≡ entries_of F B → E.slots ≡ header_slots B → IfSome r (IsBesideKey F f E k) → IsTrue (is_some r)
     → HoldsKey F B k
 held F B f E k None entries slots h t = absurd (true≢false (sym t))
 held F B f E k (Some v) entries slots h t =

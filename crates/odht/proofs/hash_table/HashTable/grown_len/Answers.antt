@@ -4,8 +4,8 @@ use Rattle.odht.specs.Growths.{grown_len}
 use Rattle.odht.proofs.lemmas.GrownBytes.{grown_len-layout, grown_len-image}
 use Rattle.odht.proofs.hash_table.HashTable.grown_len.Goals as goal
 
-pub returns-in_err-len-clause-stated : goal.returns-in_err-len-clause-stated
-returns-in_err-len-clause-stated g c =
+pub returns-in_err-len-clause-by_header : goal.returns-in_err-len-clause-by_header
+returns-in_err-len-clause-by_header g c =
     let F = format_of g.C.EncodedKey.ByteArray.LEN g.C.EncodedValue.ByteArray.LEN g.C.H.HashFn.hash in
     let none : grown_len F c.header.result ≡ None = c.in_err-len.ensures in
     c.from_residual.ensures ∙ sym none ∙ ap (grown_len F) (c.header.ensures.bytes ∙ ap g.D.ByteStore.bytes c.allocation.ensures)
@@ -13,10 +13,10 @@ returns-in_err-len-clause-stated g c =
 pub returns-in_err-len-clause-on_valid : goal.returns-in_err-len-clause-on_valid
 returns-in_err-len-clause-on_valid g c P is =
     let F = format_of g.C.EncodedKey.ByteArray.LEN g.C.EncodedValue.ByteArray.LEN g.C.H.HashFn.hash in
-    returns-in_err-len-clause-stated g c ∙ grown_len-image F P _ is
+    returns-in_err-len-clause-by_header g c ∙ grown_len-image F P _ is
 
-pub returns-clause-stated : goal.returns-clause-stated
-returns-clause-stated g c =
+pub returns-clause-by_header : goal.returns-clause-by_header
+returns-clause-by_header g c =
     let F = format_of g.C.EncodedKey.ByteArray.LEN g.C.EncodedValue.ByteArray.LEN g.C.H.HashFn.hash in
     sym (grown_len-layout F c.header.result _ c.in_ok-len.len c.in_ok-len.ensures)
     ∙ ap (grown_len F) (c.header.ensures.bytes ∙ ap g.D.ByteStore.bytes c.allocation.ensures)
@@ -24,4 +24,4 @@ returns-clause-stated g c =
 pub returns-clause-on_valid : goal.returns-clause-on_valid
 returns-clause-on_valid g c P is =
     let F = format_of g.C.EncodedKey.ByteArray.LEN g.C.EncodedValue.ByteArray.LEN g.C.H.HashFn.hash in
-    returns-clause-stated g c ∙ grown_len-image F P _ is
+    returns-clause-by_header g c ∙ grown_len-image F P _ is

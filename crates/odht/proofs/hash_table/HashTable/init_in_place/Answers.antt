@@ -5,7 +5,7 @@ use Rattle.odht_base.specs.Load.{factor_of}
 use Rattle.odht_base.specs.Table.{empty}
 use Rattle.odht_base.specs.Image.{image}
 use Rattle.odht_base.specs.Writes.{with_count}
-use Rattle.odht_base.proofs.lemmas.Rooms.{empty-IsValid}
+use Rattle.odht_base.proofs.lemmas.FreeSlots.{empty-IsValid}
 use Rattle.odht_raw.specs.Layouts.{IsLayout}
 use Rattle.odht_raw.specs.Refusals.{IsTooLarge}
 use Rattle.odht_raw.proofs.lemmas.NewTables.{with_count-new}

@@ -3,13 +3,13 @@ use Rattle.odht_base.specs.Load.{IsSlotCount}
 use Rattle.odht_base.specs.Map.{map_of}
 use Rattle.odht_base.specs.Table.{Pair, Table}
 use Rattle.odht_base.specs.Valid.{IsImage, IsPartsOf}
-use Rattle.odht_base.proofs.lemmas.Puts.{HasRoom}
+use Rattle.odht_base.proofs.lemmas.TableInserts.{HasRoom}
 use Rattle.odht_raw.specs.Coding.{Coding, coding_of, encoded}
 use Rattle.odht_raw.specs.Frame.{IsAccepted}
-use Rattle.odht_raw.specs.Parts.{ShownGroups}
+use Rattle.odht_raw.specs.Parts.{DecodedGroups}
 use Rattle.odht_raw.proofs.lemmas.Lookups.{answer-Found, answer-Free, answer-Neither}
 use Rattle.odht.proofs.lemmas.ViewInserts.{read_full, read_room, room_not_full, found_not_full, never_nowhere, held_twice}
-use Rattle.odht.proofs.lemmas.ViewInserts.{found_inserted, found_framed, free_inserted, free_framed, full_framed, nowhere_framed, stated_full, stated_room}
+use Rattle.odht.proofs.lemmas.ViewInserts.{found_inserted, found_framed, free_inserted, free_framed, full_framed, nowhere_framed, header_full, header_room}
 use Rattle.odht.proofs.hash_table.HashTable.insert.Given.{Over}
 use Rattle.odht.proofs.hash_table.HashTable.insert.Goals as goal
 use Rattle.odht.proofs.hash_table.HashTable.insert.Goals.{After-max_item_count_for-max}
@@ -51,10 +51,10 @@ has_room g c P is low =
     c.item_count-count.ensures c.slot_count.ensures c.max_load_factor.ensures c.max_item_count_for-max.ensures.value low
 
 -- and their parts, as they are scanned
-scanned : (g : Over) (P : Table) (es ctrl : List ℕ) (scan : ShownGroups) → scan ≡ record { control = ctrl; groups = 0 }
+scanned : (g : Over) (P : Table) (es ctrl : List ℕ) (scan : DecodedGroups) → scan ≡ record { control = ctrl; groups = 0 }
     → IsPartsOf (coding g).format P es ctrl → IsPartsOf (coding g).format P es scan.control
 scanned g P es ctrl scan new parts =
-    subst (λ (t : ShownGroups). IsPartsOf (coding g).format P es t.control) (sym new) parts
+    subst (λ (t : DecodedGroups). IsPartsOf (coding g).format P es t.control) (sym new) parts
 
 pub new-scan-requires-clause-slots : goal.new-scan-requires-clause-slots
 new-scan-requires-clause-slots g c = subst IsSlotCount (sym c.len.ensures) c.data_slices-entries.ensures.count
@@ -137,7 +137,7 @@ returns-in-Neither-clause-full g c P is =
 pub returns-then-count-max-clause-frame : goal.returns-then-count-max-clause-frame
 returns-then-count-max-clause-frame g c =
     full_framed (coding g) _ _ c.args.key.now c.args.value.now (ap g.D.ByteStore.bytes c.self.view_is)
-    (stated_full c.header-header.ensures.bytes c.item_count-count.ensures c.slot_count.ensures c.max_load_factor.ensures
+    (header_full c.header-header.ensures.bytes c.item_count-count.ensures c.slot_count.ensures c.max_load_factor.ensures
     c.max_item_count_for-max.ensures.value c.if-count-max.true)
 
 pub returns-in-Found-clause-frame : goal.returns-in-Found-clause-frame
@@ -159,34 +159,34 @@ returns-else-count-max-clause-frame g c =
     c.item_count-count.ensures c.header-header.ensures.bytes c.hash-hash.ensures c.as_slice.ensures.value c.tag_of.ensures
     c.write_entry.ensures.bytes c.set_item_count.ensures.bytes
     _ (ap g.D.ByteStore.bytes c.self.view_is) c.new-scan.result.control
-    (ap (λ (t : ShownGroups). t.control) c.new-scan.ensures ∙ c.data_slices-entries.ensures.control)
+    (ap (λ (t : DecodedGroups). t.control) c.new-scan.ensures ∙ c.data_slices-entries.ensures.control)
     _ c.data_slices-entries.ensures.slots c.in-Free.ensures.slot.0 c.in-Free.ensures.slot.1
-    (stated_room c.header-header.ensures.bytes c.item_count-count.ensures c.slot_count.ensures c.max_load_factor.ensures
+    (header_room c.header-header.ensures.bytes c.item_count-count.ensures c.slot_count.ensures c.max_load_factor.ensures
     c.max_item_count_for-max.ensures.value c.if-count-max.false)
 
 pub returns-in-Neither-clause-frame : goal.returns-in-Neither-clause-frame
 returns-in-Neither-clause-frame g c =
     nowhere_framed (coding g) _ _ c.args.key.now c.args.value.now (ap g.D.ByteStore.bytes c.self.view_is) c.new-scan.result.control
-    (ap (λ (t : ShownGroups). t.control) c.new-scan.ensures ∙ c.data_slices-entries.ensures.control)
+    (ap (λ (t : DecodedGroups). t.control) c.new-scan.ensures ∙ c.data_slices-entries.ensures.control)
     _ c.data_slices-entries.ensures.slots c.in-Neither.ensures.slot
 
-pub returns-then-count-max-clause-place : goal.returns-then-count-max-clause-place
-returns-then-count-max-clause-place g c = sym (g.met.D.ByteStoreMut.held_same c.args.self.now)
+pub returns-then-count-max-clause-same_store : goal.returns-then-count-max-clause-same_store
+returns-then-count-max-clause-same_store g c = sym (g.met.D.ByteStoreMut.held_same c.args.self.now)
 
-pub returns-in-Found-clause-place : goal.returns-in-Found-clause-place
-returns-in-Found-clause-place g c =
+pub returns-in-Found-clause-same_store : goal.returns-in-Found-clause-same_store
+returns-in-Found-clause-same_store g c =
     let b = g.D.ByteStore.bytes c.write_value.new.self in
-    c.write_value.ensures.place ∙ ap (λ s. g.D.ByteStoreMut.holding s b) c.self.view_is
+    c.write_value.ensures.same_store ∙ ap (λ s. g.D.ByteStoreMut.holding s b) c.self.view_is
 
-pub returns-else-count-max-clause-place : goal.returns-else-count-max-clause-place
-returns-else-count-max-clause-place g c =
+pub returns-else-count-max-clause-same_store : goal.returns-else-count-max-clause-same_store
+returns-else-count-max-clause-same_store g c =
     let b = g.D.ByteStore.bytes c.set_item_count.new.self in
     let e = g.D.ByteStore.bytes c.write_entry.new.self in
     held_twice g.D.ByteStoreMut.holding g.met.D.ByteStoreMut.held_last _ _ _ e b
-    (c.write_entry.ensures.place ∙ ap (λ s. g.D.ByteStoreMut.holding s e) c.self.view_is) c.set_item_count.ensures.place
+    (c.write_entry.ensures.same_store ∙ ap (λ s. g.D.ByteStoreMut.holding s e) c.self.view_is) c.set_item_count.ensures.same_store
 
-pub returns-in-Neither-clause-place : goal.returns-in-Neither-clause-place
-returns-in-Neither-clause-place g c = sym (g.met.D.ByteStoreMut.held_same c.args.self.now)
+pub returns-in-Neither-clause-same_store : goal.returns-in-Neither-clause-same_store
+returns-in-Neither-clause-same_store g c = sym (g.met.D.ByteStoreMut.held_same c.args.self.now)
 
 pub returns-then-count-max-clause-accepted : goal.returns-then-count-max-clause-accepted
 returns-then-count-max-clause-accepted g c =

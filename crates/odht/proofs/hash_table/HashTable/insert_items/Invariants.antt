@@ -1,9 +1,9 @@
 use Rattle.std.proofs.Common.{◌≡◌, ◌-◌, ◌≤◌, take, length}
-use Rattle.odht_base.specs.Insert.{put_view}
+use Rattle.odht_base.specs.Insert.{insert_view}
 use Rattle.odht_base.specs.Table.{Table}
 use Rattle.odht_base.specs.Valid.{IsImage}
 use Rattle.odht_raw.specs.Coding.{coding_of}
-use Rattle.odht.specs.Lists.{encoded_all, IsFilled, IsFramedRun}
+use Rattle.odht.specs.Lists.{encoded_all, IsAfterInserts, IsFramedRun}
 use Rattle.odht.proofs.hash_table.HashTable.insert_items.Given as goal
 
 abbrev pub invariant-rounds : goal.invariant-rounds
@@ -13,9 +13,9 @@ invariant-rounds g l =
     let items = g.I.Items.items l.items in
     record {
       within : l.accepted ≤ length items;
-      filled : (P : Table) → IsImage c.format P (g.D.ByteStore.bytes l.fn.self) → IsFilled c.format (put_view c.format) P (encoded_all c (take l.accepted items)) B;
+      inserted : (P : Table) → IsImage c.format P (g.D.ByteStore.bytes l.fn.self) → IsAfterInserts c.format (insert_view c.format) P (encoded_all c (take l.accepted items)) B;
       framed : IsFramedRun c (g.D.ByteStore.bytes l.fn.self) (take l.accepted items) B;
-      place : l.self ≡ g.D.ByteStoreMut.holding l.fn.self B;
+      same_store : l.self ≡ g.D.ByteStoreMut.holding l.fn.self B;
     }
 
 abbrev pub decreases-rounds : goal.decreases-rounds

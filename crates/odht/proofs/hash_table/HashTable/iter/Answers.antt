@@ -1,10 +1,10 @@
 use Rattle.std.proofs.Common.{◌∙◌, ap, map}
 use Rattle.std.specs.List.{filter_map}
-use Rattle.odht_base.specs.Shown.{seen, shown_cells}
+use Rattle.odht_base.specs.Decoded.{decoded_pairs, decoded_cells}
 use Rattle.odht_raw.specs.Walks.{decoded, decoded_items}
 use Rattle.odht_raw.specs.Coding.{Coding, coding_of}
 use Rattle.odht_raw.proofs.lemmas.Formats.{IsFormat-format_of}
-use Rattle.odht_raw.proofs.lemmas.Walks.{decoded_items-shown_cells, seen-image}
+use Rattle.odht_raw.proofs.lemmas.Walks.{decoded_items-decoded_cells, decoded_pairs-image}
 use Rattle.odht.proofs.hash_table.HashTable.iter.Given.{Over}
 use Rattle.odht.proofs.hash_table.HashTable.iter.Goals as goal
 
@@ -16,14 +16,14 @@ pub returns-clause-on_any : goal.returns-clause-on_any
 returns-clause-on_any g c =
     let F = (coding g).format in
     let parts = c.data_slices-entries.ensures in
-    let decodes = decoded_items-shown_cells g.C.EncodedKey.ByteArray.of_bytes g.C.EncodedValue.ByteArray.of_bytes g.C.Config.decode_key g.C.Config.decode_value F.key_len F.value_len F.hash in
+    let decodes = decoded_items-decoded_cells g.C.EncodedKey.ByteArray.of_bytes g.C.EncodedValue.ByteArray.of_bytes g.C.Config.decode_key g.C.Config.decode_value F.key_len F.value_len F.hash in
     c.new-2.ensures.items
     ∙ ap (decoded_items g.C.Config.decode_key g.C.Config.decode_value) c.new.ensures.items
     ∙ decodes (record { control = c.data_slices-entries.result.0.now; entries = c.data_slices-entries.result.1 }) parts.len
-    ∙ (λ j. map (decoded (coding g)) (filter_map (λ c. c) (shown_cells F (parts.entries j) (parts.control j))))
-    ∙ ap (λ B. map (decoded (coding g)) (seen F B)) (ap g.D.ByteStore.bytes c.self.view_is)
+    ∙ (λ j. map (decoded (coding g)) (filter_map (λ c. c) (decoded_cells F (parts.entries j) (parts.control j))))
+    ∙ ap (λ B. map (decoded (coding g)) (decoded_pairs F B)) (ap g.D.ByteStore.bytes c.self.view_is)
 
 pub returns-clause-on_valid : goal.returns-clause-on_valid
 returns-clause-on_valid g c P is =
     let fits = IsFormat-format_of _ _ _ _ g.met.C.Config.key_fits g.met.C.Config.value_fits g.met.C.Config.key_hashes g.met.C.H.HashFn.fits in
-    returns-clause-on_any g c ∙ ap (map (decoded (coding g))) (seen-image (coding g).format P _ fits is)
+    returns-clause-on_any g c ∙ ap (map (decoded (coding g))) (decoded_pairs-image (coding g).format P _ fits is)

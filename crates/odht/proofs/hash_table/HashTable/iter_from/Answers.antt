@@ -1,9 +1,9 @@
 use Rattle.std.proofs.Common.{◌∙◌, ap}
-use Rattle.odht_base.specs.Shown.{entries_of, controls_of}
+use Rattle.odht_base.specs.Decoded.{entries_of, controls_of}
 use Rattle.odht_raw.specs.Walks.{decoded_numbered, decoded_slots}
 use Rattle.odht_raw.specs.Coding.{Coding, coding_of}
 use Rattle.odht_raw.proofs.lemmas.Formats.{IsFormat-format_of}
-use Rattle.odht_raw.proofs.lemmas.Walks.{decoded_numbered-shown, slots-image}
+use Rattle.odht_raw.proofs.lemmas.Walks.{decoded_numbered-decoded_table, slots-image}
 use Rattle.odht.proofs.hash_table.HashTable.iter_from.Given.{Over}
 use Rattle.odht.proofs.hash_table.HashTable.iter_from.Goals as goal
 
@@ -16,7 +16,7 @@ returns-clause-on_any g c =
     let F = (coding g).format in
     let parts = c.data_slices-entries.ensures in
     let same = ap g.D.ByteStore.bytes c.self.view_is in
-    let decodes = decoded_numbered-shown g.C.EncodedKey.ByteArray.of_bytes g.C.EncodedValue.ByteArray.of_bytes g.C.Config.decode_key g.C.Config.decode_value F.key_len F.value_len F.hash in
+    let decodes = decoded_numbered-decoded_table g.C.EncodedKey.ByteArray.of_bytes g.C.EncodedValue.ByteArray.of_bytes g.C.Config.decode_key g.C.Config.decode_value F.key_len F.value_len F.hash in
     c.new-2.ensures.items
     ∙ ap (decoded_numbered g.C.Config.decode_key g.C.Config.decode_value) c.new.ensures.items
     ∙ decodes (record { control = c.data_slices-entries.result.0.now; entries = c.data_slices-entries.result.1 }) (g.D.ByteStore.bytes c.args.self.now) c.args.from parts.len

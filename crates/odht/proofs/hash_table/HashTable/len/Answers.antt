@@ -1,11 +1,11 @@
 use Rattle.std.proofs.Common.{◌∙◌, ap}
 use Rattle.odht_base.specs.Format.{format_of}
-use Rattle.odht_base.specs.Shown.{stated_count}
+use Rattle.odht_base.specs.Decoded.{header_count}
 use Rattle.odht_base.proofs.lemmas.Fits.{IsSized-IsPlaced}
-use Rattle.odht_base.proofs.lemmas.Image.{stated_count-image}
+use Rattle.odht_base.proofs.lemmas.Image.{header_count-image}
 use Rattle.odht.proofs.hash_table.HashTable.len.Goals as goal
 
 pub returns-clause-on_valid : goal.returns-clause-on_valid
 returns-clause-on_valid g c P is =
     let F = format_of g.C.EncodedKey.ByteArray.LEN g.C.EncodedValue.ByteArray.LEN g.C.H.HashFn.hash in
-    c.item_count.ensures ∙ ap stated_count (c.header.ensures.bytes ∙ (ap g.D.ByteStore.bytes c.self.view_is) ∙ is.bytes) ∙ stated_count-image F P (IsSized-IsPlaced F P is.valid.placed)
+    c.item_count.ensures ∙ ap header_count (c.header.ensures.bytes ∙ (ap g.D.ByteStore.bytes c.self.view_is) ∙ is.bytes) ∙ header_count-image F P (IsSized-IsPlaced F P is.valid.placed)

@@ -2,7 +2,7 @@ use Rattle.std.proofs.Common.{◌∙◌, ap, cond, bytes_eq, sym, Some, []}
 use Rattle.std.specs.Prelude.{option_map}
 use Rattle.odht_base.specs.Format.{Format, format_of}
 use Rattle.odht_base.specs.Table.{Pair}
-use Rattle.odht.proofs.lemmas.Growths.{put_owned-grown, grown_below, grown_maps}
+use Rattle.odht.proofs.lemmas.Growths.{insert_owned-grown, grown_below, grown_maps}
 use Rattle.odht.proofs.hash_table_owned.HashTableOwned.insert_grown.Goals as goal
 
 pub unreachable-requires : goal.unreachable-requires
@@ -19,20 +19,20 @@ invariant_of-self g c =
     let P = c.self.invariant.0 in
     let is = c.self.invariant.1 in
     let grown = c.in_ok-grown.ensures.ok P (record { valid = is.valid; bytes = sym c.self.view_is ∙ is.bytes }) in
-    let put = c.in-Ok.ensures.ok grown.0 grown.2 in
-    (put.table, put.image)
+    let insert = c.in-Ok.ensures.ok grown.0 grown.2 in
+    (insert.table, insert.image)
 
 pub returns-clause-ok : goal.returns-clause-ok
 returns-clause-ok g c P is full =
     let F : Format = format_of g.C.EncodedKey.ByteArray.LEN g.C.EncodedValue.ByteArray.LEN g.C.H.HashFn.hash in
     let p : Pair = record { key = g.C.EncodedKey.ByteArray.bytes (g.C.Config.encode_key c.args.key.now); value = g.C.EncodedValue.ByteArray.bytes (g.C.Config.encode_value c.args.value.now) } in
     let grown = c.in_ok-grown.ensures.ok P is in
-    let put = c.in-Ok.ensures.ok grown.0 grown.2 in
+    let insert = c.in-Ok.ensures.ok grown.0 grown.2 in
     let maps = grown_maps F P p is.valid grown.0 grown.1 in
     record {
-      former = put.former ∙ ap (option_map (λ b. g.C.Config.decode_value (g.C.EncodedValue.ByteArray.of_bytes b))) (maps p.key);
-      table = put.table;
-      inserted = put_owned-grown F P p is.valid grown.0 full grown.1 ∙ put.inserted;
-      image = put.image;
-      maps = λ q. put.maps q ∙ ap (cond (bytes_eq q p.key) (Some p.value)) (maps q);
+      former = insert.former ∙ ap (option_map (λ b. g.C.Config.decode_value (g.C.EncodedValue.ByteArray.of_bytes b))) (maps p.key);
+      table = insert.table;
+      inserted = insert_owned-grown F P p is.valid grown.0 full grown.1 ∙ insert.inserted;
+      image = insert.image;
+      maps = λ q. insert.maps q ∙ ap (cond (bytes_eq q p.key) (Some p.value)) (maps q);
     }

@@ -1,15 +1,15 @@
 use Rattle.std.proofs.Common.{◌<◌, ◌∙◌, sym, subst, take, length, List, arith}
 use Rattle.std.specs.List.{slice_range}
-use Rattle.odht_base.specs.Insert.{put_owned}
+use Rattle.odht_base.specs.Insert.{insert_owned}
 use Rattle.odht_base.specs.Table.{Pair, Table}
 use Rattle.odht_base.specs.Valid.{IsImage}
-use Rattle.odht_base.proofs.lemmas.FreshRuns.{put_owned-PlacesBelow}
-use Rattle.odht_base.proofs.lemmas.Puts.{put_owned-IsInsert}
+use Rattle.odht_base.proofs.lemmas.FreshRuns.{insert_owned-PlacesBelow}
+use Rattle.odht_base.proofs.lemmas.TableInserts.{insert_owned-IsInsert}
 use Rattle.odht_raw.specs.Coding.{Coding, coding_of}
 use Rattle.odht_raw.proofs.lemmas.PartRuns.{read_item}
-use Rattle.odht.specs.Lists.{encoded_all, IsFilled}
-use Rattle.odht.proofs.lemmas.Fillings.{filled_none, filled_more, filled_placed, filled_all, fresh_filled, encoded_all-more, encoded_all-range, refused_at}
-use Rattle.odht.proofs.lemmas.Kept.{filled-HasLastValues}
+use Rattle.odht.specs.Lists.{encoded_all, IsAfterInserts}
+use Rattle.odht.proofs.lemmas.ListInserts.{inserted_none, inserted_more, inserted_placed, inserted_all, fresh_inserted, encoded_all-more, encoded_all-range, refused_at}
+use Rattle.odht.proofs.lemmas.LosslessPairs.{inserted-HasLastValues}
 use Rattle.odht.proofs.hash_table_owned.HashTableOwned.insert_items.Given.{Over}
 use Rattle.odht.proofs.hash_table_owned.HashTableOwned.insert_items.Goals as goal
 use Rattle.odht.proofs.hash_table_owned.HashTableOwned.insert_items.Goals.{After-insert_below_maximum-accepted}
@@ -25,36 +25,36 @@ coding g =
 pub rounds-init : goal.rounds-init
 rounds-init g c = record {
   within = omega arith;
-  filled = λ P is. filled_none (coding g).format (put_owned (coding g).format) P _ is;
+  inserted = λ P is. inserted_none (coding g).format (insert_owned (coding g).format) P _ is;
 }
 
 -- the table after the items below the maximum
-filled_here : (g : Over) (c : After-insert_below_maximum-accepted g) (P : Table) → IsImage (coding g).format P c.args.self.now
-    → IsFilled (coding g).format (put_owned (coding g).format) P (encoded_all (coding g) (take c.insert_below_maximum-accepted.result (g.I.Items.items c.args.items.now))) c.insert_below_maximum-accepted.new.self
-filled_here g c P is =
+inserted_here : (g : Over) (c : After-insert_below_maximum-accepted g) (P : Table) → IsImage (coding g).format P c.args.self.now
+    → IsAfterInserts (coding g).format (insert_owned (coding g).format) P (encoded_all (coding g) (take c.insert_below_maximum-accepted.result (g.I.Items.items c.args.items.now))) c.insert_below_maximum-accepted.new.self
+inserted_here g c P is =
     let K = coding g in
-    let put = put_owned K.format in
+    let insert = insert_owned K.format in
     let items = g.I.Items.items c.args.items.now in
     let a = c.rounds.accepted in
     let b = c.insert_below_maximum-accepted.result in
     let now = c.insert_below_maximum-accepted.new.self in
-    let told = c.insert_below_maximum-accepted.ensures in
-    let h = c.rounds.invariant.filled P is in
+    let known = c.insert_below_maximum-accepted.ensures in
+    let h = c.rounds.invariant.inserted P is in
     let image : IsImage K.format h.table c.self.inside.table = record { valid = h.image.valid; bytes = c.self.view_is ∙ h.image.bytes } in
-    subst (λ (ps : List Pair). IsFilled K.format put P ps now) (encoded_all-range K items a b told.from)
-    (filled_placed K.format put (put_owned-IsInsert K.format) (put_owned-PlacesBelow K.format) P (encoded_all K (take a items)) (encoded_all K (slice_range items a b)) _ now h (told.placed h.table image))
+    subst (λ (ps : List Pair). IsAfterInserts K.format insert P ps now) (encoded_all-range K items a b known.from)
+    (inserted_placed K.format insert (insert_owned-IsInsert K.format) (insert_owned-PlacesBelow K.format) P (encoded_all K (take a items)) (encoded_all K (slice_range items a b)) _ now h (known.placed h.table image))
 
-pub returns-then-accepted-count-clause-filled : goal.returns-then-accepted-count-clause-filled
-returns-then-accepted-count-clause-filled g c P is =
-    filled_here g (goal.at.returns-then-accepted-count-clause-filled g c).After-insert_below_maximum-accepted P is
+pub returns-then-accepted-count-clause-inserted : goal.returns-then-accepted-count-clause-inserted
+returns-then-accepted-count-clause-inserted g c P is =
+    inserted_here g (goal.at.returns-then-accepted-count-clause-inserted g c).After-insert_below_maximum-accepted P is
 
 pub returns-then-accepted-count-clause-fresh : goal.returns-then-accepted-count-clause-fresh
 returns-then-accepted-count-clause-fresh g c p made =
     let K = coding g in
     let items = g.I.Items.items c.args.items.now in
     let here = (goal.at.returns-then-accepted-count-clause-fresh g c).After-insert_below_maximum-accepted in
-    fresh_filled K p items c.insert_below_maximum-accepted.new.self made.table made.new
-    (filled_all K (put_owned K.format) made.table items c.insert_below_maximum-accepted.result c.insert_below_maximum-accepted.new.self (omega (arith, c.if-accepted-count.true, c.count.ensures)) (filled_here g here made.table made.image))
+    fresh_inserted K p items c.insert_below_maximum-accepted.new.self made.table made.new
+    (inserted_all K (insert_owned K.format) made.table items c.insert_below_maximum-accepted.result c.insert_below_maximum-accepted.new.self (omega (arith, c.if-accepted-count.true, c.count.ensures)) (inserted_here g here made.table made.image))
 
 pub returns-then-accepted-count-clause-last_values :
     goal.returns-then-accepted-count-clause-last_values
@@ -62,14 +62,14 @@ returns-then-accepted-count-clause-last_values g c n p made =
     let K = coding g in
     let items = g.I.Items.items c.args.items.now in
     let here = (goal.at.returns-then-accepted-count-clause-last_values g c).After-insert_below_maximum-accepted in
-    filled-HasLastValues K (put_owned K.format) n p made.table items c.insert_below_maximum-accepted.new.self made.new
-    (filled_all K (put_owned K.format) made.table items c.insert_below_maximum-accepted.result c.insert_below_maximum-accepted.new.self (omega (arith, c.if-accepted-count.true, c.count.ensures)) (filled_here g here made.table made.image))
+    inserted-HasLastValues K (insert_owned K.format) n p made.table items c.insert_below_maximum-accepted.new.self made.new
+    (inserted_all K (insert_owned K.format) made.table items c.insert_below_maximum-accepted.result c.insert_below_maximum-accepted.new.self (omega (arith, c.if-accepted-count.true, c.count.ensures)) (inserted_here g here made.table made.image))
 
-pub returns-in-Err-clause-filled : goal.returns-in-Err-clause-filled
-returns-in-Err-clause-filled g c P is =
+pub returns-in-Err-clause-inserted : goal.returns-in-Err-clause-inserted
+returns-in-Err-clause-inserted g c P is =
     let K = coding g in
-    let filled = IsFilled K.format (put_owned K.format) P (encoded_all K (take c.insert_below_maximum-accepted.result (g.I.Items.items c.args.items.now))) in
-    subst filled (sym c.in-Err.ensures.refused) (filled_here g (goal.at.returns-in-Err-clause-filled g c).After-insert_below_maximum-accepted P is)
+    let inserted = IsAfterInserts K.format (insert_owned K.format) P (encoded_all K (take c.insert_below_maximum-accepted.result (g.I.Items.items c.args.items.now))) in
+    subst inserted (sym c.in-Err.ensures.refused) (inserted_here g (goal.at.returns-in-Err-clause-inserted g c).After-insert_below_maximum-accepted P is)
 
 pub returns-in-Err-clause-at_maximum : goal.returns-in-Err-clause-at_maximum
 returns-in-Err-clause-at_maximum g c P is =
@@ -84,7 +84,7 @@ returns-in-Err-clause-at_maximum g c P is =
 pub rounds-preserved : goal.rounds-preserved
 rounds-preserved g c =
     let K = coding g in
-    let put = put_owned K.format in
+    let insert = insert_owned K.format in
     let items = g.I.Items.items c.args.items.now in
     let n = c.insert_below_maximum-accepted.result in
     let item : g.row.C-Key.Denot × g.row.C-Value.Denot = (c.at.result.0.now, c.at.result.1.now) in
@@ -93,9 +93,9 @@ rounds-preserved g c =
     let here = (goal.at.rounds-preserved g c).After-insert_below_maximum-accepted in
     record {
       within = omega (arith, low);
-      filled = λ P is. (
-          let h = filled_here g here P is in
+      inserted = λ P is. (
+          let h = inserted_here g here P is in
           let done = c.in_default.ensures.ok h.table h.image in
-          subst (λ (ps : List Pair). IsFilled K.format put P ps c.insert.new.self) (sym (encoded_all-more K items n item low at))
-          (filled_more K.format put (put_owned-IsInsert K.format) (put_owned-PlacesBelow K.format) P (encoded_all K (take n items)) _ _ c.insert.new.self h done.table done.inserted done.image));
+          subst (λ (ps : List Pair). IsAfterInserts K.format insert P ps c.insert.new.self) (sym (encoded_all-more K items n item low at))
+          (inserted_more K.format insert (insert_owned-IsInsert K.format) (insert_owned-PlacesBelow K.format) P (encoded_all K (take n items)) _ _ c.insert.new.self h done.table done.inserted done.image));
     }

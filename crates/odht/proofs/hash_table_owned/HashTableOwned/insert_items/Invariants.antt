@@ -1,9 +1,9 @@
 use Rattle.std.proofs.Common.{◌-◌, ◌≤◌, take, length}
-use Rattle.odht_base.specs.Insert.{put_owned}
+use Rattle.odht_base.specs.Insert.{insert_owned}
 use Rattle.odht_base.specs.Table.{Table}
 use Rattle.odht_base.specs.Valid.{IsImage}
 use Rattle.odht_raw.specs.Coding.{coding_of}
-use Rattle.odht.specs.Lists.{encoded_all, IsFilled}
+use Rattle.odht.specs.Lists.{encoded_all, IsAfterInserts}
 use Rattle.odht.proofs.hash_table_owned.HashTableOwned.insert_items.Given as goal
 
 abbrev pub invariant-rounds : goal.invariant-rounds
@@ -12,7 +12,7 @@ invariant-rounds g l =
     let items = g.I.Items.items l.items in
     record {
       within : l.accepted ≤ length items;
-      filled : (P : Table) → IsImage c.format P l.fn.self → IsFilled c.format (put_owned c.format) P (encoded_all c (take l.accepted items)) l.self;
+      inserted : (P : Table) → IsImage c.format P l.fn.self → IsAfterInserts c.format (insert_owned c.format) P (encoded_all c (take l.accepted items)) l.self;
     }
 
 abbrev pub decreases-rounds : goal.decreases-rounds

@@ -1,7 +1,7 @@
 use Rattle.std.proofs.Common.{◌∙◌, ap}
 use Rattle.std.proofs.Output.{has_written_of_eq}
 use Rattle.odht_base.specs.Load.{max_items, percent_of}
-use Rattle.odht_base.specs.Shown.{stated_count, stated_slots, stated_factor}
+use Rattle.odht_base.specs.Decoded.{header_count, header_slots, header_factor}
 use Rattle.odht_raw.specs.Dumps.{counts_text}
 use Rattle.odht_raw.proofs.lemmas.Dumps.{counts_text-written}
 use Rattle.odht.proofs.hash_table_owned.HashTableOwned.write_counts.Goals as goal
@@ -9,9 +9,9 @@ use Rattle.odht.proofs.hash_table_owned.HashTableOwned.write_counts.Goals as goa
 pub returns : goal.returns
 returns g c plain ok =
     let header = c.header-header.ensures.bytes ∙ c.allocation.ensures ∙ c.self.view_is in
-    let items = c.item_count-item_count.ensures ∙ ap stated_count header in
-    let slots = c.slot_count.ensures ∙ ap stated_slots header in
-    let factor = c.max_load_factor-factor.ensures ∙ ap stated_factor header in
+    let items = c.item_count-item_count.ensures ∙ ap header_count header in
+    let slots = c.slot_count.ensures ∙ ap header_slots header in
+    let factor = c.max_load_factor-factor.ensures ∙ ap header_factor header in
     let most = c.max_item_count_for-max_item_count.ensures.value ∙ (λ i. max_items (slots i) (factor i)) in
     let percent = c.to_percent-percent.ensures ∙ ap percent_of factor in
     has_written_of_eq g.W.Write.write_str_gives c.args.f.now _ (counts_text c.args.self.now) c.writeln.new.self

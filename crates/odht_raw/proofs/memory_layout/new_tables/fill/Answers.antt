@@ -28,7 +28,7 @@ chunks-preserved g c =
           ∙ fill-step B c.args.from c.chunks.at c.args.byte c.chunks.invariant.1 size 4096 small fits,
       omega (arith, c.chunks.invariant.1),
       omega (arith, c.min-size.ensures, c.chunks-test.true),
-      c.write_at.ensures.place
+      c.write_at.ensures.same_store
           ∙ ap (λ s. g.M.ByteStoreMut.holding s (g.M.ByteStore.bytes c.write_at.new.self)) c.chunks.invariant.3
           ∙ g.met.M.ByteStoreMut.held_last c.args.data.now (g.M.ByteStore.bytes c.chunks.data) (g.M.ByteStore.bytes c.write_at.new.self),
     )

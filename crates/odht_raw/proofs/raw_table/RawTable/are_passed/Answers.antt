@@ -3,7 +3,7 @@ use Rattle.std.specs.Option.{unwrap_or}
 use Rattle.odht_base.specs.Bytes.{bytes_at}
 use Rattle.odht_base.specs.Format.{Format, format_of, tag}
 use Rattle.odht_base.specs.Groups.{IsReport, first_free}
-use Rattle.odht_base.specs.Shown.{counts_as_free, slot_key}
+use Rattle.odht_base.specs.Decoded.{counts_as_free, slot_key}
 use Rattle.odht_base.proofs.lemmas.ByteRanges.{length-bytes_at}
 use Rattle.odht_base.proofs.lemmas.SlotCounts.{bit_and-slots}
 use Rattle.odht_raw.specs.Checks.{IsFitting, ArePassed}
@@ -83,7 +83,7 @@ returns g c =
     (taken-all _ _ _ c.matches.invariant c.in_default.ensures) in
     subst (Says F c.args.slot c.args.start c.args.count true) c.self.view_is (λ fitting.
     let mirror = IsMirrored-mirror_refusal ctrl fitting.mirror in
-    let tags : (i : ℕ) → i < s → counts_as_free (slice_index ctrl i) ≡ false → slice_index ctrl i ≡ tag F (slot_key F es i) = λ i l. (AllFit-slots_refusal F es ctrl fitting.slots i (omega (arith, l, c.self.invariant.mirrored))).filled_tag in
+    let tags : (i : ℕ) → i < s → counts_as_free (slice_index ctrl i) ≡ false → slice_index ctrl i ≡ tag F (slot_key F es i) = λ i l. (AllFit-slots_refusal F es ctrl fitting.slots i (omega (arith, l, c.self.invariant.mirrored))).occupied_tag in
     let within : length (bytes_at ctrl c.args.start 16) ≡ 16 = length-bytes_at ctrl c.args.start 16 (omega (arith, from, c.self.invariant.mirrored)) in
     let after : c.args.count ≤ unwrap_or (first_free (bytes_at ctrl c.args.start 16)) 16 = subst (λ n. c.args.count ≤ n) (c.unwrap_or.ensures ∙ ap (λ o. unwrap_or o 16) (c.first_empty.ensures ∙ c.of-group.ensures.free)) c.if-unwrap_or-count.false in (
       λ t. passes F es ctrl s c.self.invariant.mirrored c.self.invariant.slots.least mirror c.args.start from k _ report tags within c.args.count c.requires.count after others,

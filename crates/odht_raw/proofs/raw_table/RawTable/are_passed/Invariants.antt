@@ -1,6 +1,6 @@
 use Rattle.std.proofs.Common.{◌≡◌, ◌<◌, ◌+◌, ◌%◌, length}
 use Rattle.odht_base.specs.Format.{format_of}
-use Rattle.odht_base.specs.Shown.{slot_key}
+use Rattle.odht_base.specs.Decoded.{slot_key}
 use Rattle.odht_raw.proofs.lemmas.GroupLooks.{IsTaken}
 use Rattle.odht_raw.proofs.raw_table.RawTable.are_passed.Given as goal
 

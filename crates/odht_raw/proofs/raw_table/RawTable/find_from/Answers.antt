@@ -2,7 +2,7 @@ use Rattle.std.proofs.Common.{◌≡◌, ◌∙◌, ◌+◌, ◌-◌, ◌%◌, �
 use Rattle.odht_base.specs.Format.{Format, IsFormat, format_of, home, tag}
 use Rattle.odht_base.specs.Groups.{first_free}
 use Rattle.odht_base.specs.Load.{IsSlotCount}
-use Rattle.odht_base.specs.Shown.{slot_key, slot_value}
+use Rattle.odht_base.specs.Decoded.{slot_key, slot_value}
 use Rattle.std.specs.Prelude.{option_map, is_some}
 use Rattle.odht_base.proofs.lemmas.SlotCounts.{bit_and-slots, few_slots}
 use Rattle.odht_raw.specs.FirstLooks.{FirstLookOf, first_look_of, home_group}
@@ -39,11 +39,11 @@ module _ (g : Over) (c : After-first_match g) where
       let v = c.self.invariant in
       IsFormat-format_of _ _ _ _ v.fitting.key_short v.fitting.value_short v.hashes g.met.H.HashFn.fits
 
-  seen : record { hash = c.look.inside.hash; matches = c.look.inside.group.matches; free = c.look.inside.group.free } ≡ first_look_of (format g) T k
-  seen = c.look.view_is ∙ c.requires
+  looked : record { hash = c.look.inside.hash; matches = c.look.inside.group.matches; free = c.look.inside.group.free } ≡ first_look_of (format g) T k
+  looked = c.look.view_is ∙ c.requires
 
   hash : c.look.inside.hash ≡ (format g).hash k
-  hash = ap (λ (l : FirstLookOf). l.hash) seen
+  hash = ap (λ (l : FirstLookOf). l.hash) looked
 
   small : tag (format g) k < 128
   small = omega (arith, hash)
@@ -59,10 +59,10 @@ module _ (g : Over) (c : After-first_match g) where
   masked i = ap (λ n. bit_and (n + i) (c.len-mask.result - 1)) at_home ∙ ap (λ n. bit_and (home (format g) k T.entries.slots + i) (n - 1)) slots ∙ bit_and-slots (home (format g) k T.entries.slots + i) T.entries.slots count
 
   listed : c.look.inside.group.matches ≡ matches (format g) T k count mirrored small
-  listed = ap (λ (l : FirstLookOf). l.matches) seen
+  listed = ap (λ (l : FirstLookOf). l.matches) looked
 
   free : c.look.inside.group.free ≡ first_free (home_group (format g) T k)
-  free = ap (λ (l : FirstLookOf). l.free) seen
+  free = ap (λ (l : FirstLookOf). l.free) looked
 
   -- the match that comes next
   next : (i : ℕ) → Some i ≡ slice_get c.matches.group.matches 0 → Contains (matches (format g) T k count mirrored small) i

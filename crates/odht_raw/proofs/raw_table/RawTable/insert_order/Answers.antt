@@ -2,8 +2,8 @@ use Rattle.std.proofs.Common.{◌≡◌, ◌∙◌, ◌+◌, ◌-◌, ◌^◌, �
 use Rattle.std.proofs.lemmas.List.{take_all, length-drop}
 use borrow.Rule.Slice.PartMut.{put_mid}
 use Rattle.odht_base.specs.Format.{Format, IsFormat, format_of}
-use Rattle.odht_base.specs.Made.{filled}
-use Rattle.odht_base.specs.Shown.{counts_as_free}
+use Rattle.odht_base.specs.Made.{occupied}
+use Rattle.odht_base.specs.Decoded.{counts_as_free}
 use Rattle.odht_base.specs.Table.{Table, slot_count, is_free}
 use Rattle.odht_base.proofs.lemmas.MadeTables.{IsMade-IsInsertOrder}
 use Rattle.odht_base.proofs.lemmas.SlotCounts.{few_slots}
@@ -13,14 +13,14 @@ use Rattle.odht_raw.proofs.lemmas.Formats.{IsFormat-format_of}
 use Rattle.odht_raw.proofs.lemmas.PartCells.{slots_are, byte_is}
 use Rattle.odht_raw.proofs.lemmas.PendingSlots.{all_wait, all_pending, ended-length, ended-take, ended-drop, order_found, order_missing}
 use Rattle.odht_raw.proofs.raw_table.RawTable.insert_order.Given.{Over}
-use Rattle.odht_raw.proofs.raw_table.RawTable.insert_order.Goals.{After-list_filled}
+use Rattle.odht_raw.proofs.raw_table.RawTable.insert_order.Goals.{After-list_occupied}
 use Rattle.odht_raw.proofs.raw_table.RawTable.insert_order.Goals as goal
 
 abbrev format : Over → Format
 format g = format_of g.K.ByteArray.LEN g.V.ByteArray.LEN g.H.HashFn.hash
 
--- what the list of filled slots is
-module _ (g : Over) (c : After-list_filled g) where
+-- what the list of occupied slots is
+module _ (g : Over) (c : After-list_occupied g) where
   fits : IsFormat (format g)
   fits =
       let v = c.self.invariant in
@@ -39,21 +39,21 @@ module _ (g : Over) (c : After-list_filled g) where
     small : slot_count P ≤ 2 ^ 63
     small = few_slots (slot_count P) whole.valid.placed.slots
 
-    list : c.list_filled.new.out ≡ map waiting (filled P)
-    list = c.list_filled.ensures P (sym as_many ∙ sym slots)
+    list : c.list_occupied.new.out ≡ map waiting (occupied P)
+    list = c.list_occupied.ensures P (sym as_many ∙ sym slots)
         (subst (λ (t : TableParts). (i : ℕ) → i < c.len.result → counts_as_free (slice_index t.control i) ≡ is_free P.cells i) (sym c.self.view_is)
         (λ i l. byte_is (format g) fits P _ _ whole.parts i (omega (arith, l, slots, as_many))))
         whole.counted
 
 pub loop-placed-init : goal.loop-placed-init
 loop-placed-init g c =
-    let at = (goal.at.loop-placed-init g c).After-list_filled in
+    let at = (goal.at.loop-placed-init g c).After-list_occupied in
     let P = c.requires.whole.0 in
     let whole = c.requires.whole.1 in
     let waits = subst (All (IsWaiting (slot_count P))) (sym (list g at P whole)) (all_wait P (small g at P whole)) in
     record {
       within = omega arith;
-      waits = subst (λ s. All (IsWaiting s) c.list_filled.new.out) (sym (as_many g at P whole)) waits;
+      waits = subst (λ s. All (IsWaiting s) c.list_occupied.new.out) (sym (as_many g at P whole)) waits;
       pending = λ Q is. subst (IsPending (format g) Q []) (sym (list g at Q is)) (all_pending Q (small g at Q is) (format g));
     }
 
@@ -82,7 +82,7 @@ returns-then-ready-eq0-clause-made g c P whole =
     let pending = subst (IsPending (format g) P (take n out)) (sym (rest out n)) (c.loop-placed.invariant.pending P whole) in
     let stuck = c.place_ready-ready.ensures.stuck P (take n out) whole.parts pending c.if-ready-eq0.true in (
       λ t. absurd (true≢false (sym t)),
-      λ made. absurd (order_missing (format g) P c.args.self.now out _ (c.loop-placed.auto.out ∙ c.list_filled.auto.out) whole n c.loop-placed-test.true stuck made),
+      λ made. absurd (order_missing (format g) P c.args.self.now out _ (c.loop-placed.auto.out ∙ c.list_occupied.auto.out) whole n c.loop-placed-test.true stuck made),
     )
 
 pub loop-placed-preserved : goal.loop-placed-preserved
@@ -104,14 +104,14 @@ loop-placed-preserved g c =
 
 pub returns-clause-order : goal.returns-clause-order
 returns-clause-order g c P whole t =
-    order_found (format g) P c.args.self.now c.loop-placed.out _ (c.loop-placed.auto.out ∙ c.list_filled.auto.out) whole c.loop-placed.placed
+    order_found (format g) P c.args.self.now c.loop-placed.out _ (c.loop-placed.auto.out ∙ c.list_occupied.auto.out) whole c.loop-placed.placed
     (omega (arith, c.loop-placed-test.false)) (c.loop-placed.invariant.pending P whole)
 
 pub returns-clause-made : goal.returns-clause-made
 returns-clause-made g c P whole = (
   λ t.
       let out = c.loop-placed.out in
-      let order = order_found (format g) P c.args.self.now out _ (c.loop-placed.auto.out ∙ c.list_filled.auto.out) whole c.loop-placed.placed
+      let order = order_found (format g) P c.args.self.now out _ (c.loop-placed.auto.out ∙ c.list_occupied.auto.out) whole c.loop-placed.placed
       (omega (arith, c.loop-placed-test.false)) (c.loop-placed.invariant.pending P whole) in
       (IsMade-IsInsertOrder (format g) P whole.valid).1 (out, order),
   λ made. refl,

@@ -1,9 +1,9 @@
 use Rattle.std.proofs.Common.{◌≡◌, ◌<◌, ◌≤◌, ◌+◌, ◌-◌, ◌%◌, ℕ}
 use Rattle.std.specs.Prelude.{IsFalse}
 use Rattle.odht_base.specs.Format.{format_of}
-use Rattle.odht_base.specs.Probe.{place_slot}
+use Rattle.odht_base.specs.Probe.{probe_slot}
 use Rattle.odht_base.specs.Search.{stops_at}
-use Rattle.odht_base.specs.Shown.{slot_key}
+use Rattle.odht_base.specs.Decoded.{slot_key}
 use Rattle.odht_raw.specs.Checks.{cells_of, IsFitting}
 use Rattle.odht_raw.proofs.raw_table.RawTable.is_reached.Given as goal
 
@@ -15,12 +15,12 @@ invariant-groups g l =
     record {
       home : l.probe.home ≡ l.hash % s;
       mask : l.probe.mask + 1 ≡ s;
-      aligned : l.probe.place % 16 ≡ 0;
-      within : l.probe.place + 16 ≤ s;
-      others : (q : ℕ) → q < l.probe.place → place_slot (l.hash % s) s q ≡ l.fn.slot → ⊥;
-      passed : IsFitting F l.self → (q : ℕ) → q < l.probe.place
-          → IsFalse (stops_at (cells_of F l.self) (slot_key F l.self.entries.bytes l.fn.slot) (place_slot (l.hash % s) s q));
+      aligned : l.probe.position % 16 ≡ 0;
+      within : l.probe.position + 16 ≤ s;
+      others : (q : ℕ) → q < l.probe.position → probe_slot (l.hash % s) s q ≡ l.fn.slot → ⊥;
+      passed : IsFitting F l.self → (q : ℕ) → q < l.probe.position
+          → IsFalse (stops_at (cells_of F l.self) (slot_key F l.self.entries.bytes l.fn.slot) (probe_slot (l.hash % s) s q));
     }
 
 abbrev pub decreases-groups : goal.decreases-groups
-decreases-groups g l = l.self.entries.slots - l.probe.place
+decreases-groups g l = l.self.entries.slots - l.probe.position

@@ -1,7 +1,7 @@
 use Rattle.std.proofs.Common.{◌≡◌, ◌<◌, ◌+◌, ◌-◌, ◌%◌, ℕ, Contains}
 use Rattle.odht_base.specs.Format.{format_of}
-use Rattle.odht_base.specs.Probe.{place_slot}
-use Rattle.odht_base.specs.Shown.{slot_key}
+use Rattle.odht_base.specs.Probe.{probe_slot}
+use Rattle.odht_base.specs.Decoded.{slot_key}
 use Rattle.odht_raw.specs.Waiting.{waiting, AreRising}
 use Rattle.odht_raw.proofs.raw_table.RawTable.is_ready.Given as goal
 
@@ -14,10 +14,10 @@ invariant-loop-probe g l =
     record {
       home : l.probe.home ≡ b;
       mask : l.probe.mask + 1 ≡ s;
-      within : l.probe.place < s;
-      others : (q : ℕ) → q < l.probe.place → place_slot b s q ≡ l.fn.slot → ⊥;
-      passed : AreRising l.fn.slots → (q : ℕ) → q < l.probe.place → Contains l.fn.slots (waiting (place_slot b s q)) → ⊥;
+      within : l.probe.position < s;
+      others : (q : ℕ) → q < l.probe.position → probe_slot b s q ≡ l.fn.slot → ⊥;
+      passed : AreRising l.fn.slots → (q : ℕ) → q < l.probe.position → Contains l.fn.slots (waiting (probe_slot b s q)) → ⊥;
     }
 
 abbrev pub decreases-loop-probe : goal.decreases-loop-probe
-decreases-loop-probe g l = l.fn.self.entries.slots - l.probe.place
+decreases-loop-probe g l = l.fn.self.entries.slots - l.probe.position

@@ -1,16 +1,16 @@
 use Rattle.std.proofs.Common.{◌≡◌, ◌+◌, ◌-◌, ◌%◌, ◌≤◌}
-use Rattle.odht_raw.proofs.lemmas.GroupSearches.{FilledBefore}
+use Rattle.odht_raw.proofs.lemmas.GroupSearches.{OccupiedBefore}
 use Rattle.odht_raw.proofs.raw_table.free_search.first_free_by_groups.Given as goal
 
--- the probe stands at the first place of a group, and the slots before it count as filled
+-- the probe stands at the first place of a group, and the slots before it count as occupied
 abbrev pub invariant-groups : goal.invariant-groups
 invariant-groups g l = record {
   home : l.probe.home ≡ l.hash % (l.mask + 1);
   mask : l.probe.mask ≡ l.mask;
-  aligned : l.probe.place % 16 ≡ 0;
-  within : l.probe.place + 16 ≤ l.mask + 1;
-  filled : FilledBefore l.control (l.hash % (l.mask + 1)) (l.mask + 1) l.probe.place;
+  aligned : l.probe.position % 16 ≡ 0;
+  within : l.probe.position + 16 ≤ l.mask + 1;
+  occupied : OccupiedBefore l.control (l.hash % (l.mask + 1)) (l.mask + 1) l.probe.position;
 }
 
 abbrev pub decreases-groups : goal.decreases-groups
-decreases-groups g l = l.mask + 1 - l.probe.place
+decreases-groups g l = l.mask + 1 - l.probe.position

@@ -3,7 +3,7 @@ use Rattle.odht_base.specs.Format.{Format, format_of}
 use Rattle.odht_base.proofs.lemmas.SlotCounts.{few_slots}
 use Rattle.odht_base.specs.Bytes.{bytes_at}
 use Rattle.odht_raw.specs.Frame.{HasNoFree}
-use Rattle.odht_raw.specs.Searches.{IsLook, Passed}
+use Rattle.odht_raw.specs.SearchSteps.{IsLook, Passed}
 use Rattle.odht_raw.proofs.lemmas.GroupLooks.{piece-fits, pieces-all, stands-piece, look-piece, look-none, no_free-more}
 use Rattle.odht_raw.proofs.raw_table.group_search.look_at_group.Goals as goal
 
@@ -21,15 +21,15 @@ returns-then-is_some-clause-on_placed g c P p at =
     let n : ℕ = c.loop-piece.piece * g.Q.Group.SIZE in
     let fits = piece-fits g.Q.Group.SIZE c.loop-piece.piece (omega (arith, c.loop-piece-test.true, ap (λ n. 16 / n) c.SIZE-piece-end.ensures)) in
     let there = stands-piece F P c.args.entries.now k p c.args.start c.args.bytes.now n g.Q.Group.SIZE (omega (arith, c.requires.len, fits)) at (c.loop-piece.invariant.passed P p at) in
-    let told : IsLook F P k (p + n) g.Q.Group.SIZE c.look_at_piece-end.result = c.look_at_piece-end.ensures.on_placed P (p + n) (rw (c.SIZE.ensures, c.SIZE-in-loop-piece.ensures) there) in
-    look-piece F P k p n g.Q.Group.SIZE c.look_at_piece-end.result fits (sym c.is_some.ensures ∙ c.if-is_some.true) told
+    let known : IsLook F P k (p + n) g.Q.Group.SIZE c.look_at_piece-end.result = c.look_at_piece-end.ensures.on_placed P (p + n) (rw (c.SIZE.ensures, c.SIZE-in-loop-piece.ensures) there) in
+    look-piece F P k p n g.Q.Group.SIZE c.look_at_piece-end.result fits (sym c.is_some.ensures ∙ c.if-is_some.true) known
 
 pub loop-piece-init : goal.loop-piece-init
 loop-piece-init g c =
     let F : Format = format_of g.K.ByteArray.LEN g.V.ByteArray.LEN g.H.HashFn.hash in
     let k : List ℕ = g.K.ByteArray.bytes c.args.key.now in
     record {
-      filled = λ i l. absurd (omega (arith, l));
+      occupied = λ i l. absurd (omega (arith, l));
       passed = λ P p at. (let same : p ≡ p + 0 * g.Q.Group.SIZE = omega arith in subst (Passed F P k) same at.passed);
     }
 
@@ -42,23 +42,23 @@ loop-piece-preserved g c =
     let missed = sym c.is_some.ensures ∙ c.if-is_some.false in
     let bytes = c.args.bytes.now in
     let piece = c.loop-piece.piece in
-    let filled : HasNoFree (bytes_at bytes n g.Q.Group.SIZE) g.Q.Group.SIZE =
+    let occupied : HasNoFree (bytes_at bytes n g.Q.Group.SIZE) g.Q.Group.SIZE =
     subst (λ m. HasNoFree (bytes_at bytes (piece * m) g.Q.Group.SIZE) g.Q.Group.SIZE) c.SIZE.ensures
-    (subst (λ m. HasNoFree (bytes_at bytes (piece * c.SIZE.result) m) g.Q.Group.SIZE) c.SIZE-in-loop-piece.ensures (c.look_at_piece-end.ensures.filled missed)) in
+    (subst (λ m. HasNoFree (bytes_at bytes (piece * c.SIZE.result) m) g.Q.Group.SIZE) c.SIZE-in-loop-piece.ensures (c.look_at_piece-end.ensures.occupied missed)) in
     record {
-      filled = no_free-more c.args.bytes.now c.loop-piece.piece g.Q.Group.SIZE c.loop-piece.invariant.filled filled;
+      occupied = no_free-more c.args.bytes.now c.loop-piece.piece g.Q.Group.SIZE c.loop-piece.invariant.occupied occupied;
       passed = λ P p at. (
           let there = stands-piece F P c.args.entries.now k p c.args.start c.args.bytes.now n g.Q.Group.SIZE (omega (arith, c.requires.len, fits)) at (c.loop-piece.invariant.passed P p at) in
-          let told : IsLook F P k (p + n) g.Q.Group.SIZE c.look_at_piece-end.result = c.look_at_piece-end.ensures.on_placed P (p + n) (rw (c.SIZE.ensures, c.SIZE-in-loop-piece.ensures) there) in
-          let passed = look-none F P k (p + n) g.Q.Group.SIZE c.look_at_piece-end.result missed told in
+          let known : IsLook F P k (p + n) g.Q.Group.SIZE c.look_at_piece-end.result = c.look_at_piece-end.ensures.on_placed P (p + n) (rw (c.SIZE.ensures, c.SIZE-in-loop-piece.ensures) there) in
+          let passed = look-none F P k (p + n) g.Q.Group.SIZE c.look_at_piece-end.result missed known in
           let sum : p + n + g.Q.Group.SIZE ≡ p + (c.loop-piece.piece + 1) * g.Q.Group.SIZE = omega arith in
           subst (Passed F P k) sum passed);
     }
 
-pub returns-clause-filled : goal.returns-clause-filled
-returns-clause-filled g c none =
+pub returns-clause-occupied : goal.returns-clause-occupied
+returns-clause-occupied g c none =
     let all = pieces-all g.Q.Group.SIZE c.loop-piece.piece g.met.Q.Group.divides (omega (arith, c.loop-piece-test.false, c.loop-piece.auto.piece-end, ap (λ n. 16 / n) c.SIZE-piece-end.ensures)) in
-    subst (HasNoFree c.args.bytes.now) all c.loop-piece.invariant.filled
+    subst (HasNoFree c.args.bytes.now) all c.loop-piece.invariant.occupied
 
 pub returns-clause-on_placed : goal.returns-clause-on_placed
 returns-clause-on_placed g c P p at =

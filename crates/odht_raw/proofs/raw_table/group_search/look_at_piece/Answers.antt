@@ -2,10 +2,10 @@ use Rattle.std.proofs.Common.{rules, arith, ◌∙◌, ℕ, ◌+◌, ◌-◌, sy
 use Rattle.std.proofs.lemmas.List.Quantifiers.{position-Some}
 use Rattle.odht_base.specs.Format.{Format, format_of}
 use Rattle.odht_base.specs.Groups.{IsReport}
-use Rattle.odht_base.specs.Shown.{counts_as_free, slot_key}
+use Rattle.odht_base.specs.Decoded.{counts_as_free, slot_key}
 use Rattle.odht_base.proofs.lemmas.SlotCounts.{bit_and-slots, few_slots}
-use Rattle.odht_raw.specs.Searches.{EndsWithin, Passed}
-use Rattle.odht_raw.specs.declared.raw_table.outcome.Search.TheVariants.{Found, Free}
+use Rattle.odht_raw.specs.SearchSteps.{EndsWithin, Passed}
+use Rattle.odht_raw.specs.declared.raw_table.search_result.SearchResult.TheVariants.{Found, Free}
 use Rattle.odht_raw.proofs.lemmas.Formats.{IsFormat-format_of}
 use Rattle.odht_raw.proofs.lemmas.GroupLooks.{taken-first, taken-next, taken-all, position-None, look_found, look_free, look_on}
 use Rattle.odht_raw.proofs.raw_table.group_search.look_at_piece.Goals as goal
@@ -14,7 +14,7 @@ pub overflow_add-slot : goal.overflow_add-slot
 overflow_add-slot g c =
     let few = few_slots c.args.entries.now.slots c.requires.slots in
     let match = taken-first _ _ _ c.in-Some.index c.matches.invariant.taken c.in-Some.ensures in
-    let low = (c.of-group.ensures.matches.filled c.in-Some.index match).0 in
+    let low = (c.of-group.ensures.matches.occupied c.in-Some.index match).0 in
     let n = c.requires.len in
     let l = c.requires.start in
     search rules
@@ -69,8 +69,8 @@ returns-in-Some-first_empty-clause-on_placed g c P p at =
     let free = look_free F P c.args.entries.now k p c.args.start c.args.bytes.now f at _ report (taken-all _ _ _ c.matches.invariant.taken c.in_default.ensures) c.in-Some-first_empty.index first in
     (ap Free masked ∙ free.0, subst (EndsWithin F P k p) c.requires.len free.1)
 
-pub returns-clause-filled : goal.returns-clause-filled
-returns-clause-filled g c none i l =
+pub returns-clause-occupied : goal.returns-clause-occupied
+returns-clause-occupied g c none i l =
     let first = sym (c.in-None.ensures ∙ c.matches.invariant.same ∙ c.of-group.ensures.free) in
     position-None counts_as_free c.args.bytes.now 0 first i (omega (arith, l, c.requires.len))
 

@@ -5,11 +5,11 @@ use Rattle.odht_base.specs.Load.{IsSlotCount}
 use Rattle.odht_base.specs.Table.{Table}
 use Rattle.odht_base.specs.Valid.{IsPartsOf}
 use Rattle.odht_base.proofs.lemmas.SlotCounts.{sixteens}
-use Rattle.odht_base.specs.Probe.{place_slot}
+use Rattle.odht_base.specs.Probe.{probe_slot}
 use Rattle.odht_raw.specs.Frame.{HasNoFree}
-use Rattle.odht_raw.specs.Searches.{Passed}
+use Rattle.odht_raw.specs.SearchSteps.{Passed}
 use Rattle.odht_raw.proofs.lemmas.Formats.{IsFormat-format_of}
-use Rattle.odht_raw.proofs.lemmas.GroupSearches.{stands-probe, reads-to, reads-all, ends-free, FilledBefore, filled-more, filled-all}
+use Rattle.odht_raw.proofs.lemmas.GroupSearches.{stands-probe, reads-to, reads-all, ends-free, OccupiedBefore, occupied-more, occupied-all}
 use Rattle.odht_raw.proofs.lemmas.Lookups.{answer-IsWherePlaced}
 use Rattle.odht_raw.proofs.lemmas.PlainSearch.{no_end}
 use Rattle.odht_raw.proofs.raw_table.group_search.search_hashed.Given.{Over}
@@ -26,16 +26,16 @@ pub groups-init : goal.groups-init
 groups-init g c =
     let pos = c.slots-mask.ensures.count.least in
     let slots : c.slots-mask.result - 1 + 1 ≡ c.args.entries.now.slots = omega (arith, c.slots-mask.ensures.control, c.requires.lengths.mirrored) in
-    let place : c.new-probe.result.place ≡ 0 = ap (λ q. q.place) c.new-probe.ensures in
+    let place : c.new-probe.result.position ≡ 0 = ap (λ q. q.position) c.new-probe.ensures in
     record {
       control = refl;
-      shown = omega (arith, place);
+      stored = omega (arith, place);
       few = omega (arith, place);
       home = ap (λ q. q.home) c.new-probe.ensures ∙ ap (λ n. c.args.hash % n) slots;
       mask = ap (λ q. q.mask + 1) c.new-probe.ensures ∙ slots;
       aligned = omega (arith, place);
       within = omega (arith, place, slots);
-      filled = λ q l. absurd (omega (arith, l, place));
+      occupied = λ q l. absurd (omega (arith, l, place));
       passed = λ P h q l. absurd (omega (arith, place));
     }
 
@@ -45,7 +45,7 @@ returns-in-Some-clause-on_placed g c P h =
     let k : List ℕ = g.K.ByteArray.bytes c.args.key.now in
     let f = IsFormat-format_of _ _ _ _ c.requires.lengths.pair.key c.requires.lengths.pair.value c.requires.lengths.pair.hashes g.met.H.HashFn.fits in
     let v = c.groups.invariant in
-    let p : ℕ = c.groups.probe.place in
+    let p : ℕ = c.groups.probe.position in
     let at = stands-probe F P c.args.entries.now c.args.scan.now.control k f h c.requires.lengths.mirrored c.index-start.result c.args.hash c.groups.probe.home c.groups.probe.mask p c.group-bytes.result.now c.groups.scan.control
     v.aligned v.within c.index-start.ensures.slot v.home v.mask c.requires.hash c.group-bytes.ensures.bytes v.control (v.passed P h) in
     (c.in-Some.ensures.on_placed P p at).0
@@ -61,11 +61,11 @@ returns-in-Some-clause-groups g c P h =
     let k : List ℕ = g.K.ByteArray.bytes c.args.key.now in
     let f = IsFormat-format_of _ _ _ _ c.requires.lengths.pair.key c.requires.lengths.pair.value c.requires.lengths.pair.hashes g.met.H.HashFn.fits in
     let v = c.groups.invariant in
-    let p : ℕ = c.groups.probe.place in
+    let p : ℕ = c.groups.probe.position in
     let at = stands-probe F P c.args.entries.now c.args.scan.now.control k f h c.requires.lengths.mirrored c.index-start.result c.args.hash c.groups.probe.home c.groups.probe.mask p c.group-bytes.result.now c.groups.scan.control
     v.aligned v.within c.index-start.ensures.slot v.home v.mask c.requires.hash c.group-bytes.ensures.bytes v.control (v.passed P h) in
     let reads = reads-to F P c.args.entries.now c.args.scan.now.control k f h c.requires.lengths.mirrored p v.aligned (c.in-Some.ensures.on_placed P p at).1 in
-    rw reads (omega (arith, ap (λ s. s.groups) c.group-bytes.ensures.shows, v.shown))
+    rw reads (omega (arith, ap (λ s. s.groups) c.group-bytes.ensures.shows, v.stored))
 
 pub returns-in-Some-clause-slot : goal.returns-in-Some-clause-slot
 returns-in-Some-clause-slot g c =
@@ -80,7 +80,7 @@ returns-then-is_last-clause-on_placed g c P h =
     let k : List ℕ = g.K.ByteArray.bytes c.args.key.now in
     let f = IsFormat-format_of _ _ _ _ c.requires.lengths.pair.key c.requires.lengths.pair.value c.requires.lengths.pair.hashes g.met.H.HashFn.fits in
     let v = c.groups.invariant in
-    let p : ℕ = c.groups.probe.place in
+    let p : ℕ = c.groups.probe.position in
     let at = stands-probe F P c.args.entries.now c.args.scan.now.control k f h c.requires.lengths.mirrored c.index-start.result c.args.hash c.groups.probe.home c.groups.probe.mask p c.group-bytes.result.now c.groups.scan.control
     v.aligned v.within c.index-start.ensures.slot v.home v.mask c.requires.hash c.group-bytes.ensures.bytes v.control (v.passed P h) in
     let all : p + 16 ≡ c.args.entries.now.slots = omega (arith, v.within, v.mask, c.is_last.ensures.0 c.if-is_last.true) in
@@ -97,57 +97,57 @@ returns-then-is_last-clause-groups g c P h =
     let k : List ℕ = g.K.ByteArray.bytes c.args.key.now in
     let f = IsFormat-format_of _ _ _ _ c.requires.lengths.pair.key c.requires.lengths.pair.value c.requires.lengths.pair.hashes g.met.H.HashFn.fits in
     let v = c.groups.invariant in
-    let p : ℕ = c.groups.probe.place in
+    let p : ℕ = c.groups.probe.position in
     let at = stands-probe F P c.args.entries.now c.args.scan.now.control k f h c.requires.lengths.mirrored c.index-start.result c.args.hash c.groups.probe.home c.groups.probe.mask p c.group-bytes.result.now c.groups.scan.control
     v.aligned v.within c.index-start.ensures.slot v.home v.mask c.requires.hash c.group-bytes.ensures.bytes v.control (v.passed P h) in
     let all : p + 16 ≡ c.args.entries.now.slots = omega (arith, v.within, v.mask, c.is_last.ensures.0 c.if-is_last.true) in
     let reads = reads-all F P c.args.entries.now c.args.scan.now.control k f h c.requires.lengths.mirrored (subst (Passed F P k) all (c.in_default.ensures.on_placed P p at)) in
-    rw reads (omega (arith, ap (λ s. s.groups) c.group-bytes.ensures.shows, v.shown, all))
+    rw reads (omega (arith, ap (λ s. s.groups) c.group-bytes.ensures.shows, v.stored, all))
 
 -- the group at the probe, without a free byte, after those before it
 passed_group : (g : Over) (c : After-look_at_group g) → HasNoFree c.group-bytes.result.now 16
-    → FilledBefore c.args.scan.now.control (c.args.hash % c.args.entries.now.slots) c.args.entries.now.slots (c.groups.probe.place + 16)
+    → OccupiedBefore c.args.scan.now.control (c.args.hash % c.args.entries.now.slots) c.args.entries.now.slots (c.groups.probe.position + 16)
 passed_group g c none =
     let v = c.groups.invariant in
     let few = c.slots-mask.ensures.count.least in
     let slots : c.slots-mask.result ≡ c.args.entries.now.slots = omega (arith, c.slots-mask.ensures.control, c.requires.lengths.mirrored) in
-    let start = c.index-start.ensures.slot ∙ (λ i. place_slot (v.home i) (v.mask i) c.groups.probe.place) in
-    filled-more c.args.scan.now.control c.group-bytes.result.now (c.args.hash % c.args.entries.now.slots) c.args.entries.now.slots c.index-start.result c.groups.probe.place
-    c.requires.lengths.mirrored (omega (arith, few, slots)) v.aligned start (c.group-bytes.ensures.bytes ∙ ap (λ ctrl. bytes_at ctrl c.index-start.result 16) v.control) none v.filled
+    let start = c.index-start.ensures.slot ∙ (λ i. probe_slot (v.home i) (v.mask i) c.groups.probe.position) in
+    occupied-more c.args.scan.now.control c.group-bytes.result.now (c.args.hash % c.args.entries.now.slots) c.args.entries.now.slots c.index-start.result c.groups.probe.position
+    c.requires.lengths.mirrored (omega (arith, few, slots)) v.aligned start (c.group-bytes.ensures.bytes ∙ ap (λ ctrl. bytes_at ctrl c.index-start.result 16) v.control) none v.occupied
 
 pub returns-then-is_last-clause-slot : goal.returns-then-is_last-clause-slot
 returns-then-is_last-clause-slot g c =
     let v = c.groups.invariant in
     let slots : c.slots-mask.result ≡ c.args.entries.now.slots = omega (arith, c.slots-mask.ensures.control, c.requires.lengths.mirrored) in
-    let all : c.groups.probe.place + 16 ≡ c.args.entries.now.slots = omega (arith, v.within, v.mask, c.is_last.ensures.0 c.if-is_last.true) in
-    let before = passed_group g (goal.at.returns-then-is_last-clause-slot g c).After-look_at_group (c.in_default.ensures.filled refl) in
-    filled-all c.args.scan.now.control _ c.args.entries.now.slots (subst IsSlotCount slots c.slots-mask.ensures.count) (subst (FilledBefore _ _ _) all before)
+    let all : c.groups.probe.position + 16 ≡ c.args.entries.now.slots = omega (arith, v.within, v.mask, c.is_last.ensures.0 c.if-is_last.true) in
+    let before = passed_group g (goal.at.returns-then-is_last-clause-slot g c).After-look_at_group (c.in_default.ensures.occupied refl) in
+    occupied-all c.args.scan.now.control _ c.args.entries.now.slots (subst IsSlotCount slots c.slots-mask.ensures.count) (subst (OccupiedBefore _ _ _) all before)
 
 pub groups-preserved : goal.groups-preserved
 groups-preserved g c =
     let v = c.groups.invariant in
     let shows : c.group-bytes.new.self.groups ≡ min (c.groups.scan.groups + 1) 18446744073709551615 = ap (λ s. s.groups) c.group-bytes.ensures.shows in
-    let place : c.advance.new.self.place ≡ c.groups.probe.place + 16 = ap (λ q. q.place) c.advance.ensures in
+    let place : c.advance.new.self.position ≡ c.groups.probe.position + 16 = ap (λ q. q.position) c.advance.ensures in
     let sixteen = sixteens c.slots-mask.result c.slots-mask.ensures.count in
     let slots : c.slots-mask.result ≡ c.args.entries.now.slots = omega (arith, c.slots-mask.ensures.control, c.requires.lengths.mirrored) in
-    let more : c.groups.probe.mask < c.groups.probe.place + 16 → ⊥ = λ l. true≢false (sym (c.is_last.ensures.1 l) ∙ c.if-is_last.false) in
+    let more : c.groups.probe.mask < c.groups.probe.position + 16 → ⊥ = λ l. true≢false (sym (c.is_last.ensures.1 l) ∙ c.if-is_last.false) in
     let passed = λ (P : Table) (h : IsPartsOf (format_of g.K.ByteArray.LEN g.V.ByteArray.LEN g.H.HashFn.hash) P c.args.entries.now.bytes c.args.scan.now.control). (
     let F : Format = format_of g.K.ByteArray.LEN g.V.ByteArray.LEN g.H.HashFn.hash in
     let k : List ℕ = g.K.ByteArray.bytes c.args.key.now in
     let f = IsFormat-format_of _ _ _ _ c.requires.lengths.pair.key c.requires.lengths.pair.value c.requires.lengths.pair.hashes g.met.H.HashFn.fits in
-    let p : ℕ = c.groups.probe.place in
+    let p : ℕ = c.groups.probe.position in
     let at = stands-probe F P c.args.entries.now c.args.scan.now.control k f h c.requires.lengths.mirrored c.index-start.result c.args.hash c.groups.probe.home c.groups.probe.mask p c.group-bytes.result.now c.groups.scan.control
     v.aligned v.within c.index-start.ensures.slot v.home v.mask c.requires.hash c.group-bytes.ensures.bytes v.control (v.passed P h) in
-    let next : p + 16 ≡ c.advance.new.self.place = omega (arith, place) in
+    let next : p + 16 ≡ c.advance.new.self.position = omega (arith, place) in
     subst (Passed F P k) next (c.in_default.ensures.on_placed P p at)) in
     record {
       control = ap (λ s. s.control) c.group-bytes.ensures.shows ∙ v.control;
-      shown = omega (arith, shows, v.shown, place);
+      stored = omega (arith, shows, v.stored, place);
       few = omega (arith, shows, v.few, place);
       home = ap (λ q. q.home) c.advance.ensures ∙ v.home;
       mask = ap (λ q. q.mask + 1) c.advance.ensures ∙ v.mask;
       aligned = omega (arith, place, v.aligned);
       within = omega (arith, place, v.aligned, v.mask, sixteen.2, slots, more);
-      filled = subst (FilledBefore _ _ _) (sym place) (passed_group g (goal.at.groups-preserved g c).After-look_at_group (c.in_default.ensures.filled refl));
+      occupied = subst (OccupiedBefore _ _ _) (sym place) (passed_group g (goal.at.groups-preserved g c).After-look_at_group (c.in_default.ensures.occupied refl));
       passed = passed;
     }

@@ -2,8 +2,8 @@ use Rattle.std.proofs.Common.{◌≡◌, ◌+◌, ◌-◌, ◌/◌, ◌%◌, ◌
 use Rattle.odht_base.specs.Format.{format_of}
 use Rattle.odht_base.specs.Table.{Table}
 use Rattle.odht_base.specs.Valid.{IsPartsOf}
-use Rattle.odht_raw.specs.Searches.{Passed}
-use Rattle.odht_raw.proofs.lemmas.GroupSearches.{FilledBefore}
+use Rattle.odht_raw.specs.SearchSteps.{Passed}
+use Rattle.odht_raw.proofs.lemmas.GroupSearches.{OccupiedBefore}
 use Rattle.odht_raw.proofs.raw_table.group_search.search_hashed.Given as goal
 
 -- the probe stands at the first place of a group, and each group before it was shown, had no free byte and was passed
@@ -13,15 +13,15 @@ invariant-groups g l =
     let k = g.K.ByteArray.bytes l.key in
     record {
       control : l.scan.control ≡ l.fn.scan.control;
-      shown : min l.scan.groups 18446744073709551615 ≡ min (l.fn.scan.groups + l.probe.place / 16) 18446744073709551615;
-      few : l.scan.groups ≤ l.fn.scan.groups + l.probe.place / 16;
+      stored : min l.scan.groups 18446744073709551615 ≡ min (l.fn.scan.groups + l.probe.position / 16) 18446744073709551615;
+      few : l.scan.groups ≤ l.fn.scan.groups + l.probe.position / 16;
       home : l.probe.home ≡ l.hash % l.entries.slots;
       mask : l.probe.mask + 1 ≡ l.entries.slots;
-      aligned : l.probe.place % 16 ≡ 0;
-      within : l.probe.place + 16 ≤ l.entries.slots;
-      filled : FilledBefore l.fn.scan.control (l.hash % l.entries.slots) l.entries.slots l.probe.place;
-      passed : (P : Table) → IsPartsOf F P l.entries.bytes l.fn.scan.control → Passed F P k l.probe.place;
+      aligned : l.probe.position % 16 ≡ 0;
+      within : l.probe.position + 16 ≤ l.entries.slots;
+      occupied : OccupiedBefore l.fn.scan.control (l.hash % l.entries.slots) l.entries.slots l.probe.position;
+      passed : (P : Table) → IsPartsOf F P l.entries.bytes l.fn.scan.control → Passed F P k l.probe.position;
     }
 
 abbrev pub decreases-groups : goal.decreases-groups
-decreases-groups g l = l.entries.slots - l.probe.place
+decreases-groups g l = l.entries.slots - l.probe.position

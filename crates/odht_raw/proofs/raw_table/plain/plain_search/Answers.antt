@@ -1,9 +1,9 @@
 use Rattle.std.proofs.Common.{◌≡◌, ◌∙◌, ◌%◌, inl, inr, sym, ap, subst, true≢false, false, arith}
 use Rattle.std.specs.Prelude.{slice_index}
 use Rattle.std.proofs.lemmas.Bool.{cases_lt}
-use Rattle.odht_base.specs.Probe.{place_slot}
-use Rattle.odht_base.specs.Shown.{counts_as_free}
-use Rattle.odht_base.proofs.lemmas.Orders.{place_slot-onto}
+use Rattle.odht_base.specs.Probe.{probe_slot}
+use Rattle.odht_base.specs.Decoded.{counts_as_free}
+use Rattle.odht_base.proofs.lemmas.Orders.{probe_slot-onto}
 use Rattle.odht_raw.proofs.lemmas.Formats.{IsFormat-format_of}
 use Rattle.odht_raw.proofs.lemmas.PlainSearch.{free_end, key_end, passed_on, no_end}
 use Rattle.odht_raw.proofs.raw_table.plain.plain_search.Goals as goal
@@ -11,7 +11,7 @@ use Rattle.odht_raw.proofs.raw_table.plain.plain_search.Goals as goal
 pub returns-then-is_empty_or_deleted-clause-on_placed : goal.returns-then-is_empty_or_deleted-clause-on_placed
 returns-then-is_empty_or_deleted-clause-on_placed g c P h =
     let f = IsFormat-format_of _ _ _ _ c.requires.lengths.pair.key c.requires.lengths.pair.value c.requires.lengths.pair.hashes g.met.H.HashFn.fits in
-    free_end _ P _ _ _ f h _ _ _ _ c.requires.hash (omega arith) c.loop-place-test.true c.slot_at-slot.ensures.value (c.loop-place.invariant.passed P h) (sym c.is_empty_or_deleted.ensures ∙ c.if-is_empty_or_deleted.true)
+    free_end _ P _ _ _ f h _ _ _ _ c.requires.hash (omega arith) c.loop-position-test.true c.slot_at-slot.ensures.value (c.loop-position.invariant.passed P h) (sym c.is_empty_or_deleted.ensures ∙ c.if-is_empty_or_deleted.true)
 
 pub returns-then-equals-clause-slot : goal.returns-then-equals-clause-slot
 returns-then-equals-clause-slot g c = (omega arith, sym c.get.ensures.key_bytes ∙ c.equals.ensures.0 c.if-equals.true)
@@ -19,33 +19,33 @@ returns-then-equals-clause-slot g c = (omega arith, sym c.get.ensures.key_bytes 
 pub returns-then-equals-clause-on_placed : goal.returns-then-equals-clause-on_placed
 returns-then-equals-clause-on_placed g c P h =
     let f = IsFormat-format_of _ _ _ _ c.requires.lengths.pair.key c.requires.lengths.pair.value c.requires.lengths.pair.hashes g.met.H.HashFn.fits in
-    key_end _ P _ _ _ f h _ _ _ _ c.requires.hash (omega arith) c.loop-place-test.true c.slot_at-slot.ensures.value (c.loop-place.invariant.passed P h) (sym c.is_empty_or_deleted.ensures ∙ c.if-is_empty_or_deleted.false)
+    key_end _ P _ _ _ f h _ _ _ _ c.requires.hash (omega arith) c.loop-position-test.true c.slot_at-slot.ensures.value (c.loop-position.invariant.passed P h) (sym c.is_empty_or_deleted.ensures ∙ c.if-is_empty_or_deleted.false)
     (sym c.get.ensures.key_bytes ∙ c.equals.ensures.0 c.if-equals.true)
 
-pub loop-place-preserved : goal.loop-place-preserved
-loop-place-preserved g c = record {
-  filled = λ q l. (
-      let filled = sym c.is_empty_or_deleted.ensures ∙ c.if-is_empty_or_deleted.false in
-      let slot = c.slot_at-slot.ensures.value ∙ ap (λ s. place_slot (c.args.hash % s) s c.loop-place.place) c.len-slots.ensures in
-      elim (cases_lt q c.loop-place.place) [
-        | inl low ↦ c.loop-place.invariant.filled q low
+pub loop-position-preserved : goal.loop-position-preserved
+loop-position-preserved g c = record {
+  occupied = λ q l. (
+      let occupied = sym c.is_empty_or_deleted.ensures ∙ c.if-is_empty_or_deleted.false in
+      let slot = c.slot_at-slot.ensures.value ∙ ap (λ s. probe_slot (c.args.hash % s) s c.loop-position.position) c.len-slots.ensures in
+      elim (cases_lt q c.loop-position.position) [
+        | inl low ↦ c.loop-position.invariant.occupied q low
         | inr past ↦
-            let last : c.loop-place.place ≡ q = omega arith in
-            subst (λ n. counts_as_free (slice_index c.args.control.now (place_slot (c.args.hash % c.args.entries.now.slots) c.args.entries.now.slots n)) ≡ false) last
-            (subst (λ i. counts_as_free (slice_index c.args.control.now i) ≡ false) slot filled)
+            let last : c.loop-position.position ≡ q = omega arith in
+            subst (λ n. counts_as_free (slice_index c.args.control.now (probe_slot (c.args.hash % c.args.entries.now.slots) c.args.entries.now.slots n)) ≡ false) last
+            (subst (λ i. counts_as_free (slice_index c.args.control.now i) ≡ false) slot occupied)
       ]);
   passed = λ P h. (
       let f = IsFormat-format_of _ _ _ _ c.requires.lengths.pair.key c.requires.lengths.pair.value c.requires.lengths.pair.hashes g.met.H.HashFn.fits in
-      passed_on _ P _ _ _ f h _ _ _ _ c.requires.hash (omega arith) c.loop-place-test.true c.slot_at-slot.ensures.value (c.loop-place.invariant.passed P h) (sym c.is_empty_or_deleted.ensures ∙ c.if-is_empty_or_deleted.false)
+      passed_on _ P _ _ _ f h _ _ _ _ c.requires.hash (omega arith) c.loop-position-test.true c.slot_at-slot.ensures.value (c.loop-position.invariant.passed P h) (sym c.is_empty_or_deleted.ensures ∙ c.if-is_empty_or_deleted.false)
       (λ e. true≢false (sym (c.equals.ensures.1 (c.get.ensures.key_bytes ∙ e)) ∙ c.if-equals.false)));
 }
 
 pub returns-clause-slot : goal.returns-clause-slot
 returns-clause-slot g c i l =
-    let q = place_slot-onto (c.args.hash % c.args.entries.now.slots) c.args.entries.now.slots i c.requires.slots l in
-    subst (λ j. counts_as_free (slice_index c.args.control.now j) ≡ false) q.2 (c.loop-place.invariant.filled q.0 (omega (arith, q.1, c.len-slots.ensures, c.loop-place-test.false)))
+    let q = probe_slot-onto (c.args.hash % c.args.entries.now.slots) c.args.entries.now.slots i c.requires.slots l in
+    subst (λ j. counts_as_free (slice_index c.args.control.now j) ≡ false) q.2 (c.loop-position.invariant.occupied q.0 (omega (arith, q.1, c.len-slots.ensures, c.loop-position-test.false)))
 
 pub returns-clause-on_placed : goal.returns-clause-on_placed
 returns-clause-on_placed g c P h =
     let f = IsFormat-format_of _ _ _ _ c.requires.lengths.pair.key c.requires.lengths.pair.value c.requires.lengths.pair.hashes g.met.H.HashFn.fits in
-    no_end _ P _ _ _ f h c.len-slots.result (omega arith) (λ m l. c.loop-place.invariant.passed P h m (omega arith))
+    no_end _ P _ _ _ f h c.len-slots.result (omega arith) (λ m l. c.loop-position.invariant.passed P h m (omega arith))

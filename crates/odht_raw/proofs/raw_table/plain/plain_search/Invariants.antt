@@ -1,17 +1,17 @@
 use Rattle.std.proofs.Common.{ℕ, ◌<◌, ◌%◌}
 use Rattle.std.specs.Prelude.{slice_index, IsFalse}
 use Rattle.odht_base.specs.Format.{format_of}
-use Rattle.odht_base.specs.Probe.{place_slot}
-use Rattle.odht_base.specs.Shown.{counts_as_free}
+use Rattle.odht_base.specs.Probe.{probe_slot}
+use Rattle.odht_base.specs.Decoded.{counts_as_free}
 use Rattle.odht_base.specs.Table.{Table}
 use Rattle.odht_base.specs.Valid.{IsPartsOf}
-use Rattle.odht_raw.specs.Searches.{Passed}
+use Rattle.odht_raw.specs.SearchSteps.{Passed}
 use Rattle.odht_raw.proofs.raw_table.plain.plain_search.Given as goal
 
-abbrev pub invariant-loop-place : goal.invariant-loop-place
-invariant-loop-place g l =
+abbrev pub invariant-loop-position : goal.invariant-loop-position
+invariant-loop-position g l =
     let F = format_of g.K.ByteArray.LEN g.V.ByteArray.LEN g.H.HashFn.hash in
     record {
-      filled : (q : ℕ) → q < l.place → IsFalse (counts_as_free (slice_index l.control (place_slot (l.hash % l.entries.slots) l.entries.slots q)));
-      passed : (P : Table) → IsPartsOf F P l.entries.bytes l.control → Passed F P (g.K.ByteArray.bytes l.key) l.place;
+      occupied : (q : ℕ) → q < l.position → IsFalse (counts_as_free (slice_index l.control (probe_slot (l.hash % l.entries.slots) l.entries.slots q)));
+      passed : (P : Table) → IsPartsOf F P l.entries.bytes l.control → Passed F P (g.K.ByteArray.bytes l.key) l.position;
     }

@@ -2,5 +2,5 @@ use Rattle.odht_raw.proofs.raw_table.table_mut.insert_parts.Goals as goal
 
 pub returns-clause-placed : goal.returns-clause-placed
 returns-clause-placed g c P h =
-    let told = rw c.new-shown.ensures at (rw c.new-scan.ensures at c.search_hashed-end.ensures) in
-    c.insert_at.ensures.placed P h (told.on_placed P h)
+    let known = rw c.new-stored.ensures at (rw c.new-scan.ensures at c.search_hashed-end.ensures) in
+    c.insert_at.ensures.placed P h (known.on_placed P h)

@@ -6,13 +6,13 @@ use Rattle.odht_base.specs.Table.{Pair}
 use Rattle.odht_base.specs.Valid.{IsPartsOf, IsPairOf}
 use Rattle.odht_base.proofs.lemmas.Places.{written, place-None}
 use Rattle.odht_base.proofs.lemmas.PartsOf.{slot_within}
-use Rattle.odht_base.specs.Shown.{slot_value}
+use Rattle.odht_base.specs.Decoded.{slot_value}
 use Rattle.odht_raw.specs.Frame.{PartsFrame}
 use Rattle.odht_raw.specs.Parts.{EntryBytes}
 use Rattle.odht_raw.specs.SearchEnds.{IsEnd}
 use Rattle.odht_raw.specs.declared.error.Error.TheVariants.{Full}
-use Rattle.odht_raw.specs.declared.raw_table.outcome.Search.{Search}
-use Rattle.odht_raw.specs.declared.raw_table.outcome.Search.TheVariants.{Found, Free}
+use Rattle.odht_raw.specs.declared.raw_table.search_result.SearchResult.{SearchResult}
+use Rattle.odht_raw.specs.declared.raw_table.search_result.SearchResult.TheVariants.{Found, Free}
 use Rattle.odht_raw.proofs.lemmas.Lookups.{answer-Found, answer-Free, answer-Neither}
 use Rattle.odht_raw.proofs.lemmas.Inserts.{found_value, found_key, found_parts, free_parts}
 use Rattle.odht_raw.proofs.raw_table.writes.insert_at.Goals as goal
@@ -23,14 +23,14 @@ within : (F : Format) (es ctrl : List ℕ) (i : ℕ) → length es ≡ (length c
 within F es ctrl i long low = omega (arith, long, slot_within i (length ctrl - 16) (entry_len F) low)
 
 -- a found slot is one of the slots
-found_low : (F : Format) (es ctrl k : List ℕ) (r : Search) (i : ℕ) → r ≡ Found i
+found_low : (F : Format) (es ctrl k : List ℕ) (r : SearchResult) (i : ℕ) → r ≡ Found i
     → IsEnd F (record { slots = length ctrl - 16; bytes = es }) ctrl k r → i < length ctrl - 16
-found_low F es ctrl k r i is told = (subst (IsEnd F (record { slots = length ctrl - 16; bytes = es }) ctrl k) is told).0
+found_low F es ctrl k r i is known = (subst (IsEnd F (record { slots = length ctrl - 16; bytes = es }) ctrl k) is known).0
 
 -- and so is a free one
-free_low : (F : Format) (es ctrl k : List ℕ) (r : Search) (i : ℕ) → r ≡ Free i
+free_low : (F : Format) (es ctrl k : List ℕ) (r : SearchResult) (i : ℕ) → r ≡ Free i
     → IsEnd F (record { slots = length ctrl - 16; bytes = es }) ctrl k r → i < length ctrl - 16
-free_low F es ctrl k r i is told = (subst (IsEnd F (record { slots = length ctrl - 16; bytes = es }) ctrl k) is told).0
+free_low F es ctrl k r i is known = (subst (IsEnd F (record { slots = length ctrl - 16; bytes = es }) ctrl k) is known).0
 
 pub overflow_mul-slot : goal.overflow_mul-slot
 overflow_mul-slot g c =
@@ -55,7 +55,7 @@ write_at-requires g c =
     let ctrl = c.args.control.now in
     let low = found_low F es ctrl (g.K.ByteArray.bytes c.args.key) c.args.end c.in-Found.slot c.in-Found.is c.requires.end in
     rw (c.LEN.ensures, c.LEN-in-Found.ensures, c.LEN-in-Found-2.ensures)
-    (omega (arith, within F es ctrl c.in-Found.slot c.requires.lengths.entries low, ap length c.new-place.ensures.bytes, ap length c.as_slice.ensures.value, c.as_slice.ensures.bytes.len))
+    (omega (arith, within F es ctrl c.in-Found.slot c.requires.lengths.entries low, ap length c.new-store.ensures.bytes, ap length c.as_slice.ensures.value, c.as_slice.ensures.bytes.len))
 
 pub write_entry-requires-clause-slot : goal.write_entry-requires-clause-slot
 write_entry-requires-clause-slot g c κs within =
@@ -66,11 +66,11 @@ pub returns-in-Found-clause-placed : goal.returns-in-Found-clause-placed
 returns-in-Found-clause-placed g c P h e =
     let F : Format = format_of g.K.ByteArray.LEN g.V.ByteArray.LEN g.H.HashFn.hash in
     let p : Pair = record { key = g.K.ByteArray.bytes c.args.key; value = g.V.ByteArray.bytes c.args.value } in
-    let old = rw c.new-shown.ensures at c.get-old.ensures.value in
+    let old = rw c.new-stored.ensures at c.get-old.ensures.value in
     let at = answer-Found F P p.key h.placed c.in-Found.slot (sym c.in-Found.is ∙ e) in
     let fits : IsPairOf F p = record { key = found_key F P _ _ h p.key _ at; value = c.as_slice.ensures.bytes } in
     let parts : IsPartsOf F (written P c.in-Found.slot p) c.write_at.new.self.0.now c.args.control.now =
-    rw (c.write_at.ensures.bytes, c.new-place.ensures.bytes, c.LEN.ensures, c.LEN-in-Found.ensures, c.LEN-in-Found-2.ensures, c.as_slice.ensures.value) (found_parts F P _ _ h p.key c.in-Found.slot p refl fits at) in
+    rw (c.write_at.ensures.bytes, c.new-store.ensures.bytes, c.LEN.ensures, c.LEN-in-Found.ensures, c.LEN-in-Found-2.ensures, c.as_slice.ensures.value) (found_parts F P _ _ h p.key c.in-Found.slot p refl fits at) in
     let some = at.places p refl in
     let former = ap Some (old ∙ ap g.V.ByteArray.of_bytes (found_value F P _ _ h p.key c.in-Found.slot at)) ∙ sym (ap (option_map g.V.ByteArray.of_bytes) at.value) in
     record {
@@ -110,11 +110,11 @@ returns-in-Found-clause-any g c =
     let es = c.args.entries.now in
     let ctrl = c.args.control.now in
     let slot = c.in-Found.slot in
-    let shown : EntryBytes = record { slots = length ctrl - 16; bytes = es } in
-    let told = subst (IsEnd F shown ctrl p.key) c.in-Found.is c.requires.end in
-    let old = rw c.new-shown.ensures at c.get-old.ensures.value in
+    let decoded_table : EntryBytes = record { slots = length ctrl - 16; bytes = es } in
+    let known = subst (IsEnd F decoded_table ctrl p.key) c.in-Found.is c.requires.end in
+    let old = rw c.new-stored.ensures at c.get-old.ensures.value in
     let framed : PartsFrame F es ctrl p (Ok (Some (slot_value F es slot))) c.write_at.new.self.0.now ctrl =
-    rw (c.write_at.ensures.bytes, c.new-place.ensures.bytes, c.LEN.ensures, c.LEN-in-Found.ensures, c.LEN-in-Found-2.ensures, c.as_slice.ensures.value) (PartsFrame.overwrote slot told.0 told.1) in
+    rw (c.write_at.ensures.bytes, c.new-store.ensures.bytes, c.LEN.ensures, c.LEN-in-Found.ensures, c.LEN-in-Found-2.ensures, c.as_slice.ensures.value) (PartsFrame.overwrote slot known.0 known.1) in
     record {
       frame = (Ok (Some (slot_value F es slot)), ap (λ o. Ok (Some o)) old, search (rules, framed));
       only_full = tt;
@@ -129,16 +129,16 @@ returns-in-Free-clause-any g c =
     let es = c.args.entries.now in
     let ctrl = c.args.control.now in
     let slot = c.in-Free.slot in
-    let shown : EntryBytes = record { slots = length ctrl - 16; bytes = es } in
-    let told = subst (IsEnd F shown ctrl p.key) c.in-Free.is c.requires.end in
+    let decoded_table : EntryBytes = record { slots = length ctrl - 16; bytes = es } in
+    let known = subst (IsEnd F decoded_table ctrl p.key) c.in-Free.is c.requires.end in
     let framed : PartsFrame F es ctrl p (Ok None) c.write_entry.new.entries c.write_entry.new.control =
-    rw (c.write_entry.ensures.control, c.write_entry.ensures.entries) (PartsFrame.added slot told.0 told.1) in
+    rw (c.write_entry.ensures.control, c.write_entry.ensures.entries) (PartsFrame.added slot known.0 known.1) in
     record { frame = (Ok None, refl, search (rules, framed)); only_full = tt; refused_control = tt; refused_entries = tt }
 
 pub returns-in-Neither-clause-any : goal.returns-in-Neither-clause-any
 returns-in-Neither-clause-any g c =
     let F : Format = format_of g.K.ByteArray.LEN g.V.ByteArray.LEN g.H.HashFn.hash in
     let ctrl = c.args.control.now in
-    let shown : EntryBytes = record { slots = length ctrl - 16; bytes = c.args.entries.now } in
-    let told = subst (IsEnd F shown ctrl (g.K.ByteArray.bytes c.args.key)) c.in-Neither.is c.requires.end in
-    record { frame = (Err Full, refl, PartsFrame.no_slot told); only_full = refl; refused_control = refl; refused_entries = refl }
+    let decoded_table : EntryBytes = record { slots = length ctrl - 16; bytes = c.args.entries.now } in
+    let known = subst (IsEnd F decoded_table ctrl (g.K.ByteArray.bytes c.args.key)) c.in-Neither.is c.requires.end in
+    record { frame = (Err Full, refl, PartsFrame.no_slot known); only_full = refl; refused_control = refl; refused_entries = refl }

@@ -1,7 +1,7 @@
 use Rattle.std.proofs.Common.{◌≡◌, sym, ap, ◌∙◌, take}
 use Rattle.std.proofs.Math.Seq.{take-length}
 use Rattle.odht_base.specs.Groups.{equal}
-use Rattle.odht_base.proofs.lemmas.MarkedPlaces.{report_from_equal}
+use Rattle.odht_base.proofs.lemmas.MarkedPositions.{report_from_equal}
 use Rattle.odht_base.proofs.swisstable_group_query.lanes.GroupQueryGroup.of.Goals as goal
 
 pub returns-clause-matches : goal.returns-clause-matches

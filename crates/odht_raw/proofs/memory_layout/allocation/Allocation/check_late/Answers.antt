@@ -1,7 +1,7 @@
 use Rattle.std.proofs.Common.{rules, ◌≡◌, ◌∙◌, ℕ, List, sym, ap, Err, None, option_map}
 use Rattle.std.specs.Option.{option_or}
 use Rattle.odht_base.specs.Format.{Format, format_of}
-use Rattle.odht_base.specs.Shown.{entries_of, controls_of}
+use Rattle.odht_base.specs.Decoded.{entries_of, controls_of}
 use Rattle.odht_raw.specs.Parts.{TableParts}
 use Rattle.odht_raw.specs.Refusals.{checked, factor_refusal, padding_refusal, count_refusal, room_refusal}
 use Rattle.odht_raw.specs.declared.error.Error.TheVariants.{Unreachable}
@@ -49,41 +49,41 @@ module _ (g : Over) (c : After-new-table g) where
   control : c.new-table.result.control ≡ controls_of (format g) B
   control = ap (λ (t : TableParts). t.control) c.new-table.ensures ∙ c.data_slices-entries.ensures.control
 
-pub returns-in_err-seen : goal.returns-in_err-seen
-returns-in_err-seen g c =
-    let at = (goal.at.returns-in_err-seen g c).After-new-table in
-    let refusal : c.from_residual-in_err-seen.result ≡ Err c.in_err-seen.field-0.0 = search rules in
-    refusal ∙ sym (ap checked (slots_stage (format g) (B g at) c.new-table.result (entries g at) (control g at) (factor_passed g at) (padding g at) _ (sym c.in_err-seen.ensures.err)))
+pub returns-in_err-summary : goal.returns-in_err-summary
+returns-in_err-summary g c =
+    let at = (goal.at.returns-in_err-summary g c).After-new-table in
+    let refusal : c.from_residual-in_err-summary.result ≡ Err c.in_err-summary.field-0.0 = search rules in
+    refusal ∙ sym (ap checked (slots_stage (format g) (B g at) c.new-table.result (entries g at) (control g at) (factor_passed g at) (padding g at) _ (sym c.in_err-summary.ensures.err)))
 
 pub returns-in_err-check_mirror : goal.returns-in_err-check_mirror
 returns-in_err-check_mirror g c =
     let at = (goal.at.returns-in_err-check_mirror g c).After-new-table in
     let refusal : c.from_residual-in_err-check_mirror.result ≡ Err c.in_err-check_mirror.field-0.0 = search rules in
-    refusal ∙ sym (ap checked (mirror_stage (format g) (B g at) c.new-table.result (entries g at) (control g at) (factor_passed g at) (padding g at) (sym c.in_ok-seen.ensures.err) _
+    refusal ∙ sym (ap checked (mirror_stage (format g) (B g at) c.new-table.result (entries g at) (control g at) (factor_passed g at) (padding g at) (sym c.in_ok-summary.ensures.err) _
     (Err-checked _ c.in_err-check_mirror.field-0.0 (sym c.in_err-check_mirror.was ∙ c.check_mirror.ensures))))
 
 pub returns-in_err-check_item_count : goal.returns-in_err-check_item_count
 returns-in_err-check_item_count g c =
     let at = (goal.at.returns-in_err-check_item_count g c).After-new-table in
     let refusal : c.from_residual-in_err-check_item_count.result ≡ Err c.in_err-check_item_count.field-0.0 = search rules in
-    refusal ∙ sym (ap checked (count_stage (format g) (B g at) c.new-table.result (entries g at) (control g at) (factor_passed g at) (padding g at) (sym c.in_ok-seen.ensures.err)
-    (Ok-checked _ (sym c.in_ok-check_mirror.was ∙ c.check_mirror.ensures)) c.in_ok-seen.seen.filled c.in_ok-seen.ensures.filled _
-    (Err-checked _ c.in_err-check_item_count.field-0.0 (sym c.in_err-check_item_count.was ∙ c.check_item_count.ensures ∙ ap (λ b. checked (option_or (count_refusal c.in_ok-seen.seen.filled b) (room_refusal b))) c.header-header.ensures.bytes))))
+    refusal ∙ sym (ap checked (count_stage (format g) (B g at) c.new-table.result (entries g at) (control g at) (factor_passed g at) (padding g at) (sym c.in_ok-summary.ensures.err)
+    (Ok-checked _ (sym c.in_ok-check_mirror.was ∙ c.check_mirror.ensures)) c.in_ok-summary.summary.occupied c.in_ok-summary.ensures.occupied _
+    (Err-checked _ c.in_err-check_item_count.field-0.0 (sym c.in_err-check_item_count.was ∙ c.check_item_count.ensures ∙ ap (λ b. checked (option_or (count_refusal c.in_ok-summary.summary.occupied b) (room_refusal b))) c.header-header.ensures.bytes))))
 
 pub returns-in-Some : goal.returns-in-Some
 returns-in-Some g c =
     let at = (goal.at.returns-in-Some g c).After-new-table in
     let mirror = Ok-checked _ (sym c.in_ok-check_mirror.was ∙ c.check_mirror.ensures) in
-    sym (ap checked (reach_stage (format g) (B g at) c.new-table.result (entries g at) (control g at) (factor_passed g at) (padding g at) (sym c.in_ok-seen.ensures.err)
-    mirror c.in_ok-seen.seen.filled c.in_ok-seen.ensures.filled
-    (Ok-checked _ (sym c.in_ok-check_item_count.was ∙ c.check_item_count.ensures ∙ ap (λ b. checked (option_or (count_refusal c.in_ok-seen.seen.filled b) (room_refusal b))) c.header-header.ensures.bytes))
-    c.in_ok-seen.seen.unreachable (c.in_ok-seen.ensures.reached mirror) ∙ ap (option_map Unreachable) c.in-Some.is))
+    sym (ap checked (reach_stage (format g) (B g at) c.new-table.result (entries g at) (control g at) (factor_passed g at) (padding g at) (sym c.in_ok-summary.ensures.err)
+    mirror c.in_ok-summary.summary.occupied c.in_ok-summary.ensures.occupied
+    (Ok-checked _ (sym c.in_ok-check_item_count.was ∙ c.check_item_count.ensures ∙ ap (λ b. checked (option_or (count_refusal c.in_ok-summary.summary.occupied b) (room_refusal b))) c.header-header.ensures.bytes))
+    c.in_ok-summary.summary.unreachable (c.in_ok-summary.ensures.reached mirror) ∙ ap (option_map Unreachable) c.in-Some.is))
 
 pub returns-in-None : goal.returns-in-None
 returns-in-None g c =
     let at = (goal.at.returns-in-None g c).After-new-table in
     let mirror = Ok-checked _ (sym c.in_ok-check_mirror.was ∙ c.check_mirror.ensures) in
-    sym (ap checked (reach_stage (format g) (B g at) c.new-table.result (entries g at) (control g at) (factor_passed g at) (padding g at) (sym c.in_ok-seen.ensures.err)
-    mirror c.in_ok-seen.seen.filled c.in_ok-seen.ensures.filled
-    (Ok-checked _ (sym c.in_ok-check_item_count.was ∙ c.check_item_count.ensures ∙ ap (λ b. checked (option_or (count_refusal c.in_ok-seen.seen.filled b) (room_refusal b))) c.header-header.ensures.bytes))
-    c.in_ok-seen.seen.unreachable (c.in_ok-seen.ensures.reached mirror) ∙ ap (option_map Unreachable) c.in-None.is))
+    sym (ap checked (reach_stage (format g) (B g at) c.new-table.result (entries g at) (control g at) (factor_passed g at) (padding g at) (sym c.in_ok-summary.ensures.err)
+    mirror c.in_ok-summary.summary.occupied c.in_ok-summary.ensures.occupied
+    (Ok-checked _ (sym c.in_ok-check_item_count.was ∙ c.check_item_count.ensures ∙ ap (λ b. checked (option_or (count_refusal c.in_ok-summary.summary.occupied b) (room_refusal b))) c.header-header.ensures.bytes))
+    c.in_ok-summary.summary.unreachable (c.in_ok-summary.ensures.reached mirror) ∙ ap (option_map Unreachable) c.in-None.is))

@@ -2,7 +2,7 @@ use Rattle.std.proofs.Common.{rules, ◌≡◌, ◌+◌, ◌*◌, ◌-◌, ◌�
 use Rattle.std.proofs.lemmas.List.{length-drop, take_all}
 use Rattle.odht_base.specs.Format.{format_of, entry_len}
 use Rattle.odht_base.specs.Load.{IsSlotCount}
-use Rattle.odht_base.specs.Shown.{stated_slots, entries_of, controls_of}
+use Rattle.odht_base.specs.Decoded.{header_slots, entries_of, controls_of}
 use Rattle.odht_base.proofs.lemmas.Fits.{IsSized-IsPlaced}
 use Rattle.odht_base.proofs.lemmas.Image.{entries_of-image, controls_of-image}
 use Rattle.odht_raw.proofs.lemmas.Accepted.{accepted_opening, accepted_len, accepted_slots}
@@ -43,7 +43,7 @@ pub returns-clause-control : goal.returns-clause-control
 returns-clause-control g c =
     let b = c.bytes-bytes.result.now in
     let at = c.entry_at-control.result in
-    let slots : c.slot_count-slots.result ≡ stated_slots (g.M.ByteStore.bytes c.args.self.now) = c.slot_count-slots.ensures ∙ ap stated_slots (c.of.ensures ∙ c.bytes-bytes.ensures ∙ (ap g.M.ByteStore.bytes c.self.view_is)) in
+    let slots : c.slot_count-slots.result ≡ header_slots (g.M.ByteStore.bytes c.args.self.now) = c.slot_count-slots.ensures ∙ ap header_slots (c.of.ensures ∙ c.bytes-bytes.ensures ∙ (ap g.M.ByteStore.bytes c.self.view_is)) in
     let rest = length-drop at b in
     take_all (length b - at) (drop at b) (omega (arith, rest))
     ∙ (λ i. drop ((c.entry_at-control.ensures ∙ ap (λ n. 32 + n * entry_len (format_of g.C.EncodedKey.ByteArray.LEN g.C.EncodedValue.ByteArray.LEN g.C.H.HashFn.hash)) slots) i) ((c.bytes-bytes.ensures ∙ (ap g.M.ByteStore.bytes c.self.view_is)) i))
@@ -57,16 +57,16 @@ returns-clause-slots g c = search rules
 pub returns-clause-count : goal.returns-clause-count
 returns-clause-count g c =
     let F = format_of g.C.EncodedKey.ByteArray.LEN g.C.EncodedValue.ByteArray.LEN g.C.H.HashFn.hash in
-    subst IsSlotCount (ap stated_slots (ap g.M.ByteStore.bytes c.self.view_is) ∙ sym (returns-clause-slots g c)) (accepted_slots F (g.M.ByteStore.bytes c.self.inside.store) c.self.invariant.0)
+    subst IsSlotCount (ap header_slots (ap g.M.ByteStore.bytes c.self.view_is) ∙ sym (returns-clause-slots g c)) (accepted_slots F (g.M.ByteStore.bytes c.self.inside.store) c.self.invariant.0)
 
 pub returns-clause-len : goal.returns-clause-len
 returns-clause-len g c =
     let F = format_of g.C.EncodedKey.ByteArray.LEN g.C.EncodedValue.ByteArray.LEN g.C.H.HashFn.hash in
     let B = g.M.ByteStore.bytes c.self.inside.store in
     let long = accepted_len F B c.self.invariant.0 in
-    let slots = returns-clause-slots g c ∙ ap stated_slots (sym (ap g.M.ByteStore.bytes c.self.view_is)) in
+    let slots = returns-clause-slots g c ∙ ap header_slots (sym (ap g.M.ByteStore.bytes c.self.view_is)) in
     ap length (returns-clause-control g c ∙ ap (controls_of F) (sym (ap g.M.ByteStore.bytes c.self.view_is)))
-    ∙ length-drop (32 + stated_slots B * entry_len F) B ∙ omega (arith, long, slots)
+    ∙ length-drop (32 + header_slots B * entry_len F) B ∙ omega (arith, long, slots)
 
 pub returns-clause-parts : goal.returns-clause-parts
 returns-clause-parts g c P is =

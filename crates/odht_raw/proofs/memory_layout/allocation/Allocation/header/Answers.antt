@@ -1,7 +1,7 @@
 use Rattle.std.proofs.Common.{◌≡◌, ◌<◌, ◌^◌, ap, subst, length}
 use Rattle.odht_base.specs.Format.{format_of}
 use Rattle.odht_base.specs.Image.{image_len}
-use Rattle.odht_base.specs.Shown.{stated_slots}
+use Rattle.odht_base.specs.Decoded.{header_slots}
 use Rattle.odht_raw.specs.Frame.{IsAccepted}
 use Rattle.odht_raw.proofs.lemmas.Accepted.{accepted_opening, accepted_len}
 use Rattle.odht_raw.proofs.memory_layout.allocation.Allocation.header.Goals as goal
@@ -15,7 +15,7 @@ of-requires g c =
 pub returns-clause-len : goal.returns-clause-len
 returns-clause-len g c =
     let F = format_of g.C.EncodedKey.ByteArray.LEN g.C.EncodedValue.ByteArray.LEN g.C.H.HashFn.hash in
-    subst (λ b. length b ≡ image_len F (stated_slots b)) (ap g.M.ByteStore.bytes c.self.view_is) (accepted_len F (g.M.ByteStore.bytes c.self.inside.store) c.self.invariant.0)
+    subst (λ b. length b ≡ image_len F (header_slots b)) (ap g.M.ByteStore.bytes c.self.view_is) (accepted_len F (g.M.ByteStore.bytes c.self.inside.store) c.self.invariant.0)
 
 pub returns-clause-fits : goal.returns-clause-fits
 returns-clause-fits g c = subst (λ b. length b < 2 ^ 64) (ap g.M.ByteStore.bytes c.self.view_is) c.self.invariant.1

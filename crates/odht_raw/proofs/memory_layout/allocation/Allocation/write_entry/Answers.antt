@@ -1,7 +1,7 @@
 use Rattle.std.proofs.Common.{◌≡◌, ◌+◌, ◌*◌, ◌≤◌, ◌∙◌, ◌++◌, ap, sym, subst, arith, length, length-append}
 use Rattle.odht_base.specs.Bytes.{overwritten_at}
 use Rattle.odht_base.specs.Format.{format_of, entry_len}
-use Rattle.odht_base.specs.Shown.{stated_slots}
+use Rattle.odht_base.specs.Decoded.{header_slots}
 use Rattle.odht_base.specs.Writes.{tagged_at}
 use Rattle.odht_base.proofs.lemmas.ByteRanges.{length-overwritten_at}
 use Rattle.odht_raw.specs.Frame.{IsAccepted}
@@ -18,16 +18,16 @@ accepted g c =
     let slot = c.args.slot in
     let d = g.C.EncodedKey.ByteArray.bytes c.args.key.now ++ g.C.EncodedValue.ByteArray.bytes c.args.value.now in
     let long = length-append (g.C.EncodedKey.ByteArray.bytes c.args.key.now) (g.C.EncodedValue.ByteArray.bytes c.args.value.now) in
-    let slots : c.slot_count-slots.result ≡ stated_slots B = c.slot_count-slots.ensures ∙ ap stated_slots c.header.ensures.bytes in
+    let slots : c.slot_count-slots.result ≡ header_slots B = c.slot_count-slots.ensures ∙ ap header_slots c.header.ensures.bytes in
     let fits : 32 + slot * entry_len F + length d ≤ length B = omega (arith, accepted_entry F B is slot c.requires, long, c.write_pair.ensures.key.len, c.write_pair.ensures.value.len) in
     let D = overwritten_at B (32 + slot * entry_len F) d in
     let same : length D ≡ length B = length-overwritten_at B (32 + slot * entry_len F) d fits in
     let entry : g.M.ByteStore.bytes c.write_pair.new.store ≡ D =
     c.write_pair.ensures.bytes ∙ (λ i. overwritten_at (g.M.ByteStore.bytes (c.self.view_is i)) (c.entry_at.ensures i) d) in
-    let tag : g.M.ByteStore.bytes c.write_tag.new.store ≡ tagged_at D (32 + stated_slots B * entry_len F + slot) (stated_slots B) slot c.args.tag =
+    let tag : g.M.ByteStore.bytes c.write_tag.new.store ≡ tagged_at D (32 + header_slots B * entry_len F + slot) (header_slots B) slot c.args.tag =
     c.write_tag.ensures.bytes ∙ (λ i. tagged_at (entry i) ((c.entry_at-2.ensures ∙ ap (λ n. 32 + n * entry_len F) slots) i + slot) (slots i) slot c.args.tag) in
     subst (IsAccepted F) (sym tag)
-    (IsAccepted-tagged_at F D (IsAccepted-overwritten_at F B is (32 + slot * entry_len F) d (omega arith) fits) (32 + stated_slots B * entry_len F + slot) (stated_slots B) slot c.args.tag
+    (IsAccepted-tagged_at F D (IsAccepted-overwritten_at F B is (32 + slot * entry_len F) d (omega arith) fits) (32 + header_slots B * entry_len F + slot) (header_slots B) slot c.args.tag
     (omega arith) (accepted_control F B is D slot same c.requires) (accepted_mirror F B is D slot same))
 
 pub invariant_of-self : goal.invariant_of-self

@@ -1,6 +1,6 @@
 use Rattle.std.proofs.Common.{◌≡◌, ◌∙◌, ap, ◌+◌, ◌*◌, ◌<◌, ◌≤◌, sym, subst, arith, length}
 use Rattle.odht_base.specs.Format.{format_of, entry_len}
-use Rattle.odht_base.specs.Shown.{stated_slots}
+use Rattle.odht_base.specs.Decoded.{header_slots}
 use Rattle.odht_raw.specs.Frame.{IsAccepted}
 use Rattle.odht_raw.proofs.lemmas.Accepted.{accepted_entry, IsAccepted-overwritten_at}
 use Rattle.odht_raw.proofs.memory_layout.allocation.Allocation.write_value.Given.{Over}
@@ -10,7 +10,7 @@ use Rattle.odht_raw.proofs.memory_layout.allocation.Allocation.write_value.Goals
 -- the entry of the slot, and the control bytes behind it, lie within the bytes
 entry_within : (g : Over) (c : After-self g) → 32 + c.args.slot * entry_len (format_of g.C.EncodedKey.ByteArray.LEN g.C.EncodedValue.ByteArray.LEN g.C.H.HashFn.hash) + entry_len (format_of g.C.EncodedKey.ByteArray.LEN g.C.EncodedValue.ByteArray.LEN g.C.H.HashFn.hash) + 16 ≤ length (g.M.ByteStore.bytes c.self.inside.store)
 entry_within g c =
-    let within = accepted_entry (format_of g.C.EncodedKey.ByteArray.LEN g.C.EncodedValue.ByteArray.LEN g.C.H.HashFn.hash) (g.M.ByteStore.bytes c.self.inside.store) c.self.invariant.0 c.args.slot (subst (λ s. c.args.slot < stated_slots (g.M.ByteStore.bytes s)) (sym c.self.view_is) c.requires) in
+    let within = accepted_entry (format_of g.C.EncodedKey.ByteArray.LEN g.C.EncodedValue.ByteArray.LEN g.C.H.HashFn.hash) (g.M.ByteStore.bytes c.self.inside.store) c.self.invariant.0 c.args.slot (subst (λ s. c.args.slot < header_slots (g.M.ByteStore.bytes s)) (sym c.self.view_is) c.requires) in
     omega (arith, within)
 
 pub entry_at-requires-after_bounds : goal.entry_at-requires-after_bounds

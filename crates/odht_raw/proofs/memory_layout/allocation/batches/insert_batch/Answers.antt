@@ -13,7 +13,7 @@ use Rattle.odht_raw.proofs.lemmas.Expected.{expected_run}
 use Rattle.odht_raw.proofs.lemmas.PartRuns.{range_more, range_none, encoded_push, is_none-not, run_more, placed_more, refused_full, run_fits}
 use Rattle.odht_raw.proofs.memory_layout.allocation.batches.insert_batch.Given.{Over}
 use Rattle.odht_raw.proofs.memory_layout.allocation.batches.insert_batch.Goals as goal
-use Rattle.odht_raw.proofs.memory_layout.allocation.batches.insert_batch.Goals.{After-as_slice-in-loop-place, then-is_none, else-is_none}
+use Rattle.odht_raw.proofs.memory_layout.allocation.batches.insert_batch.Goals.{After-as_slice-in-loop-offset, then-is_none, else-is_none}
 
 -- the coding of the configuration
 abbrev coding : (g : Over) → Coding g.row.C-Key.Denot g.row.C-Value.Denot
@@ -23,8 +23,8 @@ coding g =
     coding_of key.LEN key.bytes key.of_bytes value.LEN value.bytes value.of_bytes g.C.H.HashFn.hash
     g.C.Config.encode_key g.C.Config.encode_value g.C.Config.decode_key g.C.Config.decode_value
 
-pub loop-place-init : goal.loop-place-init
-loop-place-init g c =
+pub loop-offset-init : goal.loop-offset-init
+loop-offset-init g c =
     let K = coding g in
     let start : c.args.from + 0 ≡ c.args.from = omega arith in
     let none = ap (slice_range (g.I.Items.items c.args.items.now) c.args.from) start ∙ range_none (g.I.Items.items c.args.items.now) c.args.from in
@@ -39,70 +39,70 @@ loop-place-init g c =
     }
 
 -- what was looked up for the item at a place
-looked_up : (g : Over) (c : After-as_slice-in-loop-place g) → let K = coding g in
-    IsAhead K.format c.args.control.now (encoded K c.at.result.0.now c.at.result.1.now).key (get_or c.look_ahead-ahead.result c.loop-place.place (0, 0))
+looked_up : (g : Over) (c : After-as_slice-in-loop-offset g) → let K = coding g in
+    IsAhead K.format c.args.control.now (encoded K c.at.result.0.now c.at.result.1.now).key (get_or c.look_ahead-ahead.result c.loop-offset.offset (0, 0))
 looked_up g c =
-    c.look_ahead-ahead.ensures c.loop-place.place c.at.result.0.now c.at.result.1.now _ c.at.ensures
-    (slice_get-get_or c.look_ahead-ahead.result c.loop-place.place (0, 0) (omega (arith, c.loop-place-test.true, c.look_ahead-ahead.type_inv)))
+    c.look_ahead-ahead.ensures c.loop-offset.offset c.at.result.0.now c.at.result.1.now _ c.at.ensures
+    (slice_get-get_or c.look_ahead-ahead.result c.loop-offset.offset (0, 0) (omega (arith, c.loop-offset-test.true, c.look_ahead-ahead.type_inv)))
 
 pub insert_expected-answer-requires-clause-hash : goal.insert_expected-answer-requires-clause-hash
 insert_expected-answer-requires-clause-hash g c κs within =
-    (looked_up g (goal.at.insert_expected-answer-requires-clause-hash g c).After-as_slice-in-loop-place).hash
+    (looked_up g (goal.at.insert_expected-answer-requires-clause-hash g c).After-as_slice-in-loop-offset).hash
     ∙ ap (λ k. g.C.H.HashFn.hash (g.C.EncodedKey.ByteArray.bytes k)) (sym c.encode_key-key.ensures)
 
-pub loop-place-preserved : goal.loop-place-preserved
-loop-place-preserved g c =
+pub loop-offset-preserved : goal.loop-offset-preserved
+loop-offset-preserved g c =
     let K = coding g in
     let items = g.I.Items.items c.args.items.now in
     let k = c.at.result.0.now in
     let v = c.at.result.1.now in
-    let n : ℕ = c.args.from + c.loop-place.place in
+    let n : ℕ = c.args.from + c.loop-offset.offset in
     let es0 = c.args.entries.now in
     let ctrl0 = c.args.control.now in
-    let es = c.loop-place.entries in
-    let ctrl = c.loop-place.control in
+    let es = c.loop-offset.entries in
+    let ctrl = c.loop-offset.control in
     let es' = c.insert_expected-answer.new.entries in
     let ctrl' = c.insert_expected-answer.new.control in
     let before = slice_range items c.args.from n in
-    let low : n < length items = omega (arith, c.loop-place-test.true, c.requires.within) in
-    let next : c.args.from + (c.loop-place.place + 1) ≡ n + 1 = omega arith in
-    let more : slice_range items c.args.from (c.args.from + (c.loop-place.place + 1)) ≡ before ++ (k, v) ∷ [] =
+    let low : n < length items = omega (arith, c.loop-offset-test.true, c.requires.within) in
+    let next : c.args.from + (c.loop-offset.offset + 1) ≡ n + 1 = omega arith in
+    let more : slice_range items c.args.from (c.args.from + (c.loop-offset.offset + 1)) ≡ before ++ (k, v) ∷ [] =
     ap (slice_range items c.args.from) next ∙ range_more items c.args.from n (k, v) (omega arith) low c.at.ensures in
     let written : Pair = record { key = g.C.EncodedKey.ByteArray.bytes c.encode_key-key.result; value = g.C.EncodedValue.ByteArray.bytes c.encode_value-value.result } in
     let same : written ≡ encoded K k v = λ i. record {
       key = g.C.EncodedKey.ByteArray.bytes (c.encode_key-key.ensures i);
       value = g.C.EncodedValue.ByteArray.bytes (c.encode_value-value.ensures i);
     } in
-    let fits : IsPairOf K.format (encoded K k v) = subst (IsPairOf K.format) same (record { key = c.as_slice.ensures.bytes; value = c.as_slice-in-loop-place.ensures.bytes }) in
+    let fits : IsPairOf K.format (encoded K k v) = subst (IsPairOf K.format) same (record { key = c.as_slice.ensures.bytes; value = c.as_slice-in-loop-offset.ensures.bytes }) in
     let former = c.in-Ok.former in
-    let counted : c.if-is_none.added ≡ cond (is_none former) (c.loop-place.added + 1) c.loop-place.added =
+    let counted : c.if-is_none.added ≡ cond (is_none former) (c.loop-offset.added + 1) c.loop-offset.added =
     elim c.if-is_none.branch [
-      | then-is_none w ↦ w.added-is ∙ ap (λ b. cond b (c.loop-place.added + 1) c.loop-place.added) (sym (is_none-not former c.is_none.result c.is_none.ensures ∙ w.if-is_none.true))
-      | else-is_none w ↦ w.added-is ∙ ap (λ b. cond b (c.loop-place.added + 1) c.loop-place.added) (sym (is_none-not former c.is_none.result c.is_none.ensures ∙ w.if-is_none.false))
+      | then-is_none w ↦ w.added-is ∙ ap (λ b. cond b (c.loop-offset.added + 1) c.loop-offset.added) (sym (is_none-not former c.is_none.result c.is_none.ensures ∙ w.if-is_none.true))
+      | else-is_none w ↦ w.added-is ∙ ap (λ b. cond b (c.loop-offset.added + 1) c.loop-offset.added) (sym (is_none-not former c.is_none.result c.is_none.ensures ∙ w.if-is_none.false))
     ] in
     let value_of = g.C.EncodedValue.ByteArray.of_bytes in
     let answer = c.insert_expected-answer in
     let framed = subst (λ (p : Pair). IsPartsFramed K.format value_of es ctrl p answer.result es' ctrl') same answer.ensures.any.frame in
-    let ahead = looked_up g (goal.at.loop-place-preserved g c).After-as_slice-in-loop-place in
-    let slot : ℕ = (get_or c.look_ahead-ahead.result c.loop-place.place (0, 0)).1 in
-    let run = c.loop-place.invariant.run in
+    let ahead = looked_up g (goal.at.loop-offset-preserved g c).After-as_slice-in-loop-offset in
+    let slot : ℕ = (get_or c.look_ahead-ahead.result c.loop-offset.offset (0, 0)).1 in
+    let run = c.loop-offset.invariant.run in
     record {
       few = (elim c.if-is_none.branch [
-        | then-is_none w ↦ omega (arith, w.added-is, c.loop-place.invariant.few)
-        | else-is_none w ↦ omega (arith, w.added-is, c.loop-place.invariant.few)
+        | then-is_none w ↦ omega (arith, w.added-is, c.loop-offset.invariant.few)
+        | else-is_none w ↦ omega (arith, w.added-is, c.loop-offset.invariant.few)
       ]);
       run =
-          subst (λ m. IsPartsRun K es0 ctrl0 (slice_range items c.args.from (c.args.from + (c.loop-place.place + 1))) m es' ctrl') (sym counted)
-          (subst (λ (xs : List (g.row.C-Key.Denot × g.row.C-Value.Denot)). IsPartsRun K es0 ctrl0 xs (cond (is_none former) (c.loop-place.added + 1) c.loop-place.added) es' ctrl') (sym more)
-          (run_more K es0 ctrl0 before k v c.loop-place.added es ctrl es' ctrl' run fits value_of answer.result former c.in-Ok.is framed));
+          subst (λ m. IsPartsRun K es0 ctrl0 (slice_range items c.args.from (c.args.from + (c.loop-offset.offset + 1))) m es' ctrl') (sym counted)
+          (subst (λ (xs : List (g.row.C-Key.Denot × g.row.C-Value.Denot)). IsPartsRun K es0 ctrl0 xs (cond (is_none former) (c.loop-offset.added + 1) c.loop-offset.added) es' ctrl') (sym more)
+          (run_more K es0 ctrl0 before k v c.loop-offset.added es ctrl es' ctrl' run fits value_of answer.result former c.in-Ok.is framed));
       placed = λ P parts. (
-          let h = c.loop-place.invariant.placed P parts in
-          let ends = expected_run K.format P h.table (encoded_all K before) (encoded K k v).key slot parts.placed (run_fits K es0 ctrl0 before c.loop-place.added es ctrl run) h.placed (ahead.expected P es0 parts) in
+          let h = c.loop-offset.invariant.placed P parts in
+          let ends = expected_run K.format P h.table (encoded_all K before) (encoded K k v).key slot parts.placed (run_fits K es0 ctrl0 before c.loop-offset.added es ctrl run) h.placed (ahead.expected P es0 parts) in
           let here = subst (λ x. EndsIfFree K.format h.table x slot) (sym (ap (λ (p : Pair). p.key) same)) ends in
           let answers = subst (λ (p : Pair). AnswersFormer K.format value_of h.table p answer.result es' ctrl') same (answer.ensures.placed h.table h.parts here).ok in
-          subst (λ m. ArePartsOfRun K.format P (encoded_all K (slice_range items c.args.from (c.args.from + (c.loop-place.place + 1)))) m es' ctrl') (sym counted)
-          (subst (λ (ps : List Pair). ArePartsOfRun K.format P ps (cond (is_none former) (c.loop-place.added + 1) c.loop-place.added) es' ctrl') (sym (ap (encoded_all K) more ∙ encoded_push K before k v))
-          (placed_more K.format P (encoded_all K before) c.loop-place.added es ctrl h (encoded K k v) es' ctrl' value_of answer.result former c.in-Ok.is answers)));
+          subst (λ m. ArePartsOfRun K.format P (encoded_all K (slice_range items c.args.from (c.args.from + (c.loop-offset.offset + 1)))) m es' ctrl') (sym counted)
+          (subst (λ (ps : List Pair). ArePartsOfRun K.format P ps (cond (is_none former) (c.loop-offset.added + 1) c.loop-offset.added) es' ctrl') (sym (ap (encoded_all K) more ∙ encoded_push K before k v))
+          (placed_more K.format P (encoded_all K before) c.loop-offset.added es ctrl h (encoded K k v) es' ctrl' value_of answer.result former c.in-Ok.is answers)));
     }
 
 pub returns-in_default-clause-stop : goal.returns-in_default-clause-stop

@@ -6,10 +6,10 @@ use Rattle.odht_raw.proofs.memory_layout.allocation.lists.insert_into_store.Goal
 use Rattle.odht_raw.proofs.memory_layout.allocation.lists.insert_into_store.Goals.{After-insert_into_bytes}
 
 -- the place ends with the bytes that were left in what it lent
-same : (g : Over) (c : After-insert_into_bytes g) → g.M.ByteStore.bytes (g.M.ByteStoreMut.lent c.args.store.now c.insert_into_bytes.new.bytes) ≡ c.insert_into_bytes.new.bytes
+same : (g : Over) (c : After-insert_into_bytes g) → g.M.ByteStore.bytes (g.M.ByteStoreMut.after_borrow c.args.store.now c.insert_into_bytes.new.bytes) ≡ c.insert_into_bytes.new.bytes
 same g c =
     let B = c.insert_into_bytes.new.bytes in
-    ap g.M.ByteStore.bytes (g.met.M.ByteStoreMut.lent_fits c.args.store.now B (c.insert_into_bytes.ensures.len ∙ ap length c.bytes_mut.ensures.value))
+    ap g.M.ByteStore.bytes (g.met.M.ByteStoreMut.after_borrow_fits c.args.store.now B (c.insert_into_bytes.ensures.len ∙ ap length c.bytes_mut.ensures.value))
     ∙ g.met.M.ByteStoreMut.held c.args.store.now B
 
 pub returns-clause-number_on_any : goal.returns-clause-number_on_any

@@ -23,7 +23,7 @@ invariant_of-self g c =
     let at = c.self.invariant in
     let r = room _ _ _ _ _ _ _ _ at in
     let m : c.args.mask ≡ q.mask = c.requires.mask ∙ sym (ap (λ v. v.mask) c.self.view_is) in
-    let l : q.place + g.row.GROUP_SIZE < q.mask + 1 = omega (arith, m, ap (λ v. v.place) c.self.view_is, c.requires.within) in
+    let l : q.position + g.row.GROUP_SIZE < q.mask + 1 = omega (arith, m, ap (λ v. v.position) c.self.view_is, c.requires.within) in
     elim c.if-self-eq-REFERENCE_GROUP_SIZE.branch [
       | then-self-eq-REFERENCE_GROUP_SIZE w ↦ rw w.self-inside-is (rw m (to_next_group _ _ _ _ _ _ _ _ at l (omega (arith, at.chunk_is, w.if-self-eq-REFERENCE_GROUP_SIZE))))
       | else-self-eq-REFERENCE_GROUP_SIZE w ↦ rw w.self-inside-is (rw m (to_next_piece _ _ _ _ _ _ _ _ at l (omega (arith, at.chunk_is, r, w.if-self-eq-REFERENCE_GROUP_SIZE))))

@@ -6,4 +6,4 @@ pub invariant_of-result : goal.invariant_of-result
 invariant_of-result g c = at_home g.row.GROUP_SIZE (bit_and c.args.h1 c.args.mask) c.args.mask c.requires.slots c.requires.divides (omega (arith, bit_and-mask c.args.h1 c.args.mask c.requires.slots))
 
 pub returns : goal.returns
-returns g c = λ i. record { home = bit_and-mask c.args.h1 c.args.mask c.requires.slots i; mask = c.args.mask; place = 0 }
+returns g c = λ i. record { home = bit_and-mask c.args.h1 c.args.mask c.requires.slots i; mask = c.args.mask; position = 0 }

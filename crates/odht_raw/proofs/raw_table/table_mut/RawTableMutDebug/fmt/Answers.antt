@@ -2,7 +2,7 @@ use Rattle.std.proofs.Common.{◌≡◌, ◌∙◌, ◌-◌, length, subst}
 use Rattle.std.specs.Fmt.{DisplaysOnOk}
 use Rattle.odht_raw.specs.Parts.{TableParts, entry_format}
 use Rattle.odht_raw.specs.Dumps.{dump_text}
-use Rattle.odht_raw.specs.LentParts.{mut_control, mut_entries}
+use Rattle.odht_raw.specs.PartsMut.{mut_control, mut_entries}
 use Rattle.odht_raw.proofs.raw_table.table_mut.RawTableMutDebug.fmt.Goals as goal
 
 pub returns : goal.returns

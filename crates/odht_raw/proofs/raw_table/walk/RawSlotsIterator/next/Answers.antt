@@ -3,9 +3,9 @@ use Rattle.odht_base.specs.Bytes.{bytes_at}
 use Rattle.odht_base.specs.Format.{Format}
 use Rattle.odht_base.proofs.lemmas.ByteRanges.{length-bytes_at}
 use Rattle.odht_raw.specs.Parts.{TableParts, entry_format}
-use Rattle.odht_raw.specs.Walks.{numbered_of, numbered_from, AreFilled}
+use Rattle.odht_raw.specs.Walks.{numbered_of, numbered_from, AreOccupied}
 use Rattle.odht_raw.proofs.lemmas.GroupLooks.{index-bytes_at}
-use Rattle.odht_raw.proofs.lemmas.Walks.{list-none, filled-All, numbered_from-group}
+use Rattle.odht_raw.proofs.lemmas.Walks.{list-none, occupied-All, numbered_from-group}
 use Rattle.odht_raw.proofs.raw_table.walk.RawSlotsIterator.next.Goals as goal
 
 pub groups-preserved : goal.groups-preserved
@@ -22,12 +22,12 @@ groups-preserved g c =
     let len : length (take n B) ≡ n = omega (arith, length-take n B, sixteen, size) in
     let fits : at + n ≤ T.entries.slots = omega (arith, size, v.within) in
     let are = λ (k : ℕ) (l : k < length (take n B)). (let e : slice_index T.control (at + k) ≡ slice_index (take n B) k = sym (get_or-take n B k 0 (omega (arith, l, len)) ∙ index-bytes_at T.control at 16 k (omega (arith, l, len, size))) in e) in
-    let none : c.groups.self-inside.filled ≡ [] = list-none _ c.in_default.ensures.next in
+    let none : c.groups.self-inside.occupied ≡ [] = list-none _ c.in_default.ensures.next in
     record {
       control = v.control;
       entries = v.entries;
       within = fits;
-      filled = subst (AreFilled T at) (sym c.of-self-inside.ensures) (filled-All T at (take n B) (omega (arith, len, fits)) are);
+      occupied = subst (AreOccupied T at) (sym c.of-self-inside.ensures) (occupied-All T at (take n B) (omega (arith, len, fits)) are);
       left =
           ap (λ xs. numbered_of g.K.ByteArray.of_bytes g.V.ByteArray.of_bytes F T (map (λ i. at + i) xs) ++ numbered_from g.K.ByteArray.of_bytes g.V.ByteArray.of_bytes F T (at + n)) c.of-self-inside.ensures
           ∙ sym (numbered_from-group g.K.ByteArray.of_bytes g.V.ByteArray.of_bytes F T at n (take n B) len fits are)

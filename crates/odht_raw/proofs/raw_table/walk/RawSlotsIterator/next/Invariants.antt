@@ -1,9 +1,9 @@
 use Rattle.std.proofs.Common.{◌≡◌, ◌+◌, ◌-◌, ◌≤◌, ◌++◌, map}
 use Rattle.odht_raw.specs.Parts.{TableParts, entry_format}
-use Rattle.odht_raw.specs.Walks.{numbered_of, numbered_from, AreFilled}
+use Rattle.odht_raw.specs.Walks.{numbered_of, numbered_from, AreOccupied}
 use Rattle.odht_raw.proofs.raw_table.walk.RawSlotsIterator.next.Given as goal
 
--- the parts are those at the start, and as many items are left: those of the filled slots of the group, and of the slots behind it
+-- the parts are those at the start, and as many items are left: those of the occupied slots of the group, and of the slots behind it
 abbrev pub invariant-groups : goal.invariant-groups
 invariant-groups g l =
     let F = entry_format g.K.ByteArray.LEN g.V.ByteArray.LEN in
@@ -13,9 +13,9 @@ invariant-groups g l =
       control : l.self-inside.control ≡ l.initial.self-inside.control;
       entries : l.self-inside.entries ≡ l.initial.self-inside.entries;
       within : l.self-inside.next_slot ≤ l.self-inside.entries.slots;
-      filled : AreFilled T l.self-inside.base l.self-inside.filled;
-      left : numbered_of g.K.ByteArray.of_bytes g.V.ByteArray.of_bytes F T (map (λ i. l.self-inside.base + i) l.self-inside.filled) ++ numbered_from g.K.ByteArray.of_bytes g.V.ByteArray.of_bytes F T l.self-inside.next_slot
-          ≡ numbered_of g.K.ByteArray.of_bytes g.V.ByteArray.of_bytes F S (map (λ i. l.initial.self-inside.base + i) l.initial.self-inside.filled) ++ numbered_from g.K.ByteArray.of_bytes g.V.ByteArray.of_bytes F S l.initial.self-inside.next_slot;
+      occupied : AreOccupied T l.self-inside.base l.self-inside.occupied;
+      left : numbered_of g.K.ByteArray.of_bytes g.V.ByteArray.of_bytes F T (map (λ i. l.self-inside.base + i) l.self-inside.occupied) ++ numbered_from g.K.ByteArray.of_bytes g.V.ByteArray.of_bytes F T l.self-inside.next_slot
+          ≡ numbered_of g.K.ByteArray.of_bytes g.V.ByteArray.of_bytes F S (map (λ i. l.initial.self-inside.base + i) l.initial.self-inside.occupied) ++ numbered_from g.K.ByteArray.of_bytes g.V.ByteArray.of_bytes F S l.initial.self-inside.next_slot;
     }
 
 abbrev pub decreases-groups : goal.decreases-groups

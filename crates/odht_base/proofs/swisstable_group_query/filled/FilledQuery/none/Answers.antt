@@ -1,5 +1,0 @@
-use Rattle.odht_base.proofs.lemmas.MaskBits.{no_bits}
-use Rattle.odht_base.proofs.swisstable_group_query.filled.FilledQuery.none.Goals as goal
-
-pub returns : goal.returns
-returns c = no_bits 64 0

@@ -1,0 +1,202 @@
+-- A look at the slots in turn: what is known of those before slot n, and at the end of all.
+use Rattle.std.proofs.Common.{◌≡◌, ◌<◌, ◌≤◌, ◌∙◌, ◌+◌, ◌-◌, ◌==◌, ◌&&◌, inl, inr, ℕ, zero, suc, Bool, true, false, true≢false, not, sym, ap, subst, refl, List, [], ◌∷◌, Option, Some, None, map, length, slice_index, arith, option_map}
+use Rattle.std.specs.List.{range_with_len, filter_map, cons_option, list_all}
+use Rattle.std.specs.Option.{option_or}
+use Rattle.std.specs.Prelude.{MatchOption, is_some}
+use Rattle.std.proofs.lemmas.Bool.{cases_lt}
+use Rattle.odht_base.specs.Format.{Format, tag}
+use Rattle.odht_base.specs.Search.{search_end, is_at}
+use Rattle.odht_base.specs.Decoded.{counts_as_free, decoded_cell, decoded_cells, slot_entry, slot_key, slot_value}
+use Rattle.odht_base.specs.Table.{Pair}
+use Rattle.odht_raw.specs.Checks.{cells_of, decoded_count, IsFitting}
+use Rattle.odht_raw.specs.Parts.{TableParts}
+use Rattle.odht_raw.specs.declared.error.Error.{Error}
+use Rattle.odht_raw.specs.declared.error.Error.TheVariants.{NonZeroEmpty, BadFreeControl, ControlMismatch, Unreachable}
+use Rattle.odht_raw.specs.Refusals.{◌gives◌, differs, first_of, hashes_refusal_at, bad_free_control, slot_refusal_at, slots_refusal, mirror_refusal, unreachable, reach_refusal}
+use Rattle.odht_raw.proofs.lemmas.FirstErrors.{option_or-first, option_or-second, None-option_or, None-gives, gives-Some, None-first_slot, first_slot-at}
+use Rattle.odht_raw.proofs.lemmas.SlotChecks.{is_zero}
+
+-- ---- one slot
+by_tests : (free zeros stray same : Bool) (e h f : Error)
+    → first_of ((free && not zeros gives e) ∷ (free && stray gives h) ∷ (not free && not same gives f) ∷ [])
+    ≡ option_or (first_of ((free && not zeros gives e) ∷ (not free && not same gives f) ∷ [])) (free && stray gives h)
+by_tests true true true same e h f = refl
+by_tests true true false same e h f = refl
+by_tests true false stray same e h f = refl
+by_tests false zeros stray true e h f = refl
+by_tests false zeros stray false e h f = refl
+
+-- it is refused what a view refuses it for, and then for a stray control byte
+pub slot_refusal_at-is : (F : Format) (es ctrl : List ℕ) (i : ℕ) → slot_refusal_at F es ctrl i ≡ option_or (hashes_refusal_at F es ctrl i) (bad_free_control ctrl i)
+slot_refusal_at-is F es ctrl i =
+    by_tests (counts_as_free (slice_index ctrl i)) (list_all is_zero (slot_entry F es i)) (differs (slice_index ctrl i) 255) (slice_index ctrl i == tag F (slot_key F es i))
+    (NonZeroEmpty i) (BadFreeControl i (slice_index ctrl i)) (ControlMismatch i (tag F (slot_key F es i)) (slice_index ctrl i))
+
+-- an occupied slot has none
+bad_free_control-occupied : (ctrl : List ℕ) (i : ℕ) → counts_as_free (slice_index ctrl i) ≡ false → bad_free_control ctrl i ≡ None
+bad_free_control-occupied ctrl i e = None-gives _ _ (ap (λ b. b && differs (slice_index ctrl i) 255) e)
+
+-- ---- how many cells hold a pair
+abbrev one : Option Pair → ℕ
+one None = 0
+one (Some p) = 1
+
+count_cons : (c : Option Pair) (ps : List Pair) → length (cons_option c ps) ≡ one c + length ps
+count_cons None ps = omega arith
+count_cons (Some p) ps = omega arith
+
+-- one cell more
+count_next : (f : ℕ → Option Pair) (a n : ℕ) → length (filter_map (λ c. c) (map f (range_with_len a (suc n)))) ≡ length (filter_map (λ c. c) (map f (range_with_len a n))) + one (f (a + n))
+count_next f a zero =
+    let at : a ≡ a + 0 = omega arith in
+    let here = count_cons (f a) [] in
+    let same = ap (λ x. one (f x)) at in
+    omega (arith, here, same)
+count_next f a (suc n) =
+    let at : a + 1 + n ≡ a + suc n = omega arith in
+    let h = count_next f (a + 1) n in
+    let here = count_cons (f a) (filter_map (λ c. c) (map f (range_with_len (a + 1) (suc n)))) in
+    let rest = count_cons (f a) (filter_map (λ c. c) (map f (range_with_len (a + 1) n))) in
+    let last = ap (λ x. one (f x)) at in
+    omega (arith, h, here, rest, last)
+
+-- ---- the slots before n: none is refused, m of them are filled, and o is the first of these that is unreachable
+module _ (F : Format) (T : TableParts) where
+  abbrev es : List ℕ
+  es = T.entries.bytes
+
+  abbrev ctrl : List ℕ
+  ctrl = T.control
+
+  abbrev occupied_before : ℕ → ℕ
+  occupied_before n = length (filter_map (λ c. c) (map (decoded_cell F es ctrl) (range_with_len 0 n)))
+
+  abbrev IsFirstUnreachable : ℕ → Option ℕ → Type 0
+  IsFirstUnreachable n o =
+      MatchOption o
+      ((i : ℕ) → i < n → unreachable F es ctrl i ≡ None)
+      (λ j. (j < n) × ((i : ℕ) → i < j → unreachable F es ctrl i ≡ None) × (unreachable F es ctrl j ≡ Some (Unreachable j)))
+
+  pub record IsSummary (n m : ℕ) (o : Option ℕ) : Type 0 where
+    pub passed : (i : ℕ) → i < n → slot_refusal_at F es ctrl i ≡ None
+    pub counted : m ≡ occupied_before n
+    pub reached : IsFitting F T → IsFirstUnreachable n o
+
+  occupied_next : (n : ℕ) → occupied_before (n + 1) ≡ occupied_before n + one (decoded_cell F es ctrl (0 + n))
+  occupied_next n = let next : n + 1 ≡ suc n = omega arith in ap occupied_before next ∙ count_next (decoded_cell F es ctrl) 0 n
+
+  -- of no slot
+  pub summary_none : IsSummary 0 0 None
+  summary_none = record { passed = λ i l. absurd (omega (arith, l)); counted = refl; reached = λ fitting i l. absurd (omega (arith, l)) }
+
+  one_more : (X : ℕ → Type 0) (n : ℕ) → ((i : ℕ) → i < n → X i) → X n → (i : ℕ) → i < n + 1 → X i
+  one_more X n before here i l = elim (cases_lt i n) [
+    | inl low ↦ before i low
+    | inr past ↦ let same : n ≡ i = omega arith in subst X same here
+  ]
+
+  -- it is not refused where neither look refuses it
+  passes : (i : ℕ) → hashes_refusal_at F es ctrl i ≡ None → bad_free_control ctrl i ≡ None → slot_refusal_at F es ctrl i ≡ None
+  passes i e f = slot_refusal_at-is F es ctrl i ∙ None-option_or _ _ e f
+
+  -- after a free slot
+  pub summary_free : (n m : ℕ) (o : Option ℕ) → IsSummary n m o → hashes_refusal_at F es ctrl n ≡ None → counts_as_free (slice_index ctrl n) ≡ true → bad_free_control ctrl n ≡ None → IsSummary (n + 1) m o
+  summary_free n m o summary e free right = record {
+    passed = one_more (λ i. slot_refusal_at F es ctrl i ≡ None) n summary.passed (passes n e right);
+    counted = let more = occupied_next n in let none = ap one shows in omega (arith, summary.counted, more, none);
+    reached = λ fitting. go o (summary.reached fitting);
+  }
+    where
+      shows : decoded_cell F es ctrl (0 + n) ≡ None
+      shows = let at : 0 + n ≡ n = omega arith in ap (decoded_cell F es ctrl) at ∙ (rw free refl)
+
+      reaches : unreachable F es ctrl n ≡ None
+      reaches = None-gives _ _ (ap (λ b. not b && not (is_at n (search_end F (decoded_cells F es ctrl) (slot_key F es n)))) free)
+
+      go : (o : Option ℕ) → IsFirstUnreachable n o → IsFirstUnreachable (n + 1) o
+      go None all = one_more (λ i. unreachable F es ctrl i ≡ None) n all reaches
+      go (Some j) first = (omega (arith, first.0), first.1, first.2)
+
+  -- after an occupied one
+  module _ (n m : ℕ) (o : Option ℕ) (summary : IsSummary n m o) (e : hashes_refusal_at F es ctrl n ≡ None) (occupied : counts_as_free (slice_index ctrl n) ≡ false) where
+    occupied_passed : (i : ℕ) → i < n + 1 → slot_refusal_at F es ctrl i ≡ None
+    occupied_passed = one_more (λ i. slot_refusal_at F es ctrl i ≡ None) n summary.passed (passes n e (bad_free_control-occupied ctrl n occupied))
+
+    occupied_counted : m + 1 ≡ occupied_before (n + 1)
+    occupied_counted = let more = occupied_next n in let some = ap one shows in omega (arith, summary.counted, more, some)
+      where
+        shows : decoded_cell F es ctrl (0 + n) ≡ Some (record { key = slot_key F es n; value = slot_value F es n })
+        shows = let at : 0 + n ≡ n = omega arith in ap (decoded_cell F es ctrl) at ∙ (rw occupied refl)
+
+    abbrev ends : Bool
+    ends = is_at n (search_end F (cells_of F T) (slot_key F es n))
+
+    -- which is reached, or stands behind one that is not
+    pub summary_occupied : (is_some o ≡ false → IsFitting F T → true ≡ ends) → IsSummary (n + 1) (m + 1) o
+    summary_occupied known = record { passed = occupied_passed; counted = occupied_counted; reached = λ fitting. go o (λ h. known h fitting) (summary.reached fitting) }
+      where
+        go : (o : Option ℕ) → (is_some o ≡ false → true ≡ ends) → IsFirstUnreachable n o → IsFirstUnreachable (n + 1) o
+        go None known all = one_more (λ i. unreachable F es ctrl i ≡ None) n all (None-gives _ _ (ap (λ b. not (counts_as_free (slice_index ctrl n)) && not b) (sym (known refl)) ∙ ends_false (not (counts_as_free (slice_index ctrl n)))))
+          where
+            ends_false : (b : Bool) → (b && false) ≡ false
+            ends_false true = refl
+            ends_false false = refl
+        go (Some j) known first = (omega (arith, first.0), first.1, first.2)
+
+    -- or is the first that is not reached
+    pub summary_unreachable : is_some o ≡ false → (IsFitting F T → false ≡ ends) → IsSummary (n + 1) (m + 1) (Some n)
+    summary_unreachable none known = record { passed = occupied_passed; counted = occupied_counted; reached = λ fitting. (omega arith, go o none (summary.reached fitting), gives-Some _ _ (here fitting)) }
+      where
+        go : (o : Option ℕ) → is_some o ≡ false → IsFirstUnreachable n o → (i : ℕ) → i < n → unreachable F es ctrl i ≡ None
+        go None h all = all
+        go (Some j) h first = absurd (true≢false h)
+
+        here : IsFitting F T → (not (counts_as_free (slice_index ctrl n)) && not ends) ≡ true
+        here fitting = rw (occupied, sym (known fitting)) refl
+
+  -- ---- at the first slot that is refused
+  module _ (n m : ℕ) (o : Option ℕ) (summary : IsSummary n m o) (low : n < length ctrl - 16) (x : Error) where
+    refused : slot_refusal_at F es ctrl n ≡ Some x → slots_refusal F es ctrl ≡ Some x
+    unfolding slots_refusal
+    refused here = first_slot-at (slot_refusal_at F es ctrl) (length ctrl - 16) n x low summary.passed here
+
+    -- for what a view refuses it
+    pub summary_refused : hashes_refusal_at F es ctrl n ≡ Some x → slots_refusal F es ctrl ≡ Some x
+    summary_refused e = refused (slot_refusal_at-is F es ctrl n ∙ option_or-first _ _ x e)
+
+    -- or for a stray control byte
+    pub summary_stray : hashes_refusal_at F es ctrl n ≡ None → bad_free_control ctrl n ≡ Some x → slots_refusal F es ctrl ≡ Some x
+    summary_stray e f = refused (slot_refusal_at-is F es ctrl n ∙ option_or-second _ _ e ∙ f)
+
+  -- ---- at the end
+  module _ (n m : ℕ) (o : Option ℕ) (summary : IsSummary n m o) (all : length ctrl - 16 ≡ n) where
+    -- no slot is refused
+    pub all_passed : slots_refusal F es ctrl ≡ None
+    unfolding slots_refusal
+    all_passed = None-first_slot (slot_refusal_at F es ctrl) (length ctrl - 16) (subst (λ k. (i : ℕ) → i < k → slot_refusal_at F es ctrl i ≡ None) (sym all) summary.passed)
+
+    -- all pairs are counted
+    pub all_counted : m ≡ decoded_count F T
+    unfolding decoded_cells
+    all_counted = summary.counted ∙ ap occupied_before (sym all)
+
+    -- and the first unreachable slot is known
+    pub all_reached : mirror_refusal ctrl ≡ None → option_map Unreachable o ≡ reach_refusal F es ctrl
+    unfolding reach_refusal
+    all_reached mirror = go o (summary.reached (record { slots = all_passed; mirror = mirror }))
+      where
+        go : (o : Option ℕ) → IsFirstUnreachable n o → option_map Unreachable o ≡ reach_refusal F es ctrl
+        go None none = sym (None-first_slot (unreachable F es ctrl) (length ctrl - 16) (subst (λ k. (i : ℕ) → i < k → unreachable F es ctrl i ≡ None) (sym all) none))
+        go (Some j) first = sym (first_slot-at (unreachable F es ctrl) (length ctrl - 16) j (Unreachable j) (subst (λ k. j < k) (sym all) first.0) first.1 first.2)
+
+  -- no more are filled than were looked at
+  pub summary_few : (n m : ℕ) (o : Option ℕ) → IsSummary n m o → m ≤ n
+  summary_few n m o summary = omega (arith, summary.counted, few n)
+    where
+      at_most : (c : Option Pair) → one c ≤ 1
+      at_most None = omega arith
+      at_most (Some p) = omega arith
+
+      few : (n : ℕ) → occupied_before n ≤ n
+      few zero = omega arith
+      few (suc n) = let h = count_next (decoded_cell F es ctrl) 0 n in let l = at_most (decoded_cell F es ctrl (0 + n)) in omega (arith, h, l, few n)

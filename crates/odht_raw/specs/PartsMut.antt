@@ -1,0 +1,90 @@
+-- The parts of a table which can be written, of a `RawTableMut`: two slices that are lent to it.
+--     mut_control t        the control bytes with their mirror
+--     mut_entries t        the bytes of the entries
+--     mut_parts t          both, as parts of as many slots as there are control bytes without the mirror
+--     control_loan t       the loan of the control bytes: what is written goes to the slice of this loan
+--     entries_loan t       the loan of the entries
+--     table_format t       the format of the table's keys, values and hash
+--     IsParts P t          the parts are those of the placed table P
+--     pair_of t k v        the key k and the value v, in bytes
+--     IsMutInsert t k v r t'  an insert of k and v through t answers r and leaves t': what an insert into parts does, and
+--                          both slices are lent as they were
+--     IsMutPlacing t k v r t'  placing k and v through t answers r and leaves t': what placing a new key into parts does, and
+--                          both slices are lent as they were
+use Rattle.std.specs.Prelude.{◌≡◌, ℕ, ◌-◌, ◌↔◌, List, length, None, Option, Result, Err, OnOk, OnErr}
+use Rattle.std.specs.Borrow.{GName}
+use Rattle.std.specs.declared.cmp.PartialEq.{Ghosts as PartialEqOf}
+use Rattle.std.specs.declared.fmt.Debug.{Ghosts as DebugOf}
+use Rattle.odht_base.specs.declared.bytes.arrays.ByteArray.{Ghosts as ByteArrayOf}
+use Rattle.odht_base.specs.declared.hash.HashFn.{Ghosts as HashFnOf}
+use Rattle.odht_base.specs.Format.{Format, format_of}
+use Rattle.odht_base.specs.Insert.{place}
+use Rattle.odht_base.specs.Table.{Pair, Table}
+use Rattle.odht_base.specs.Valid.{IsPartsOf, IsFullWithout}
+use Rattle.odht_raw.specs.Frame.{IsPartsFramed}
+use Rattle.odht_raw.specs.Parts.{TableParts}
+use Rattle.odht_raw.specs.PartsInserts.{AnswersFormer, ArePartsPlaced, IsFullUnplaced, IsFullNoRoom}
+use Rattle.odht_raw.specs.PartsPlacings.{IsNewTo, PlacingFrame}
+use Rattle.odht_raw.specs.declared.error.Error.{Error}
+use Rattle.odht_raw.specs.declared.error.Error.TheVariants.{Full}
+use Rattle.odht_raw.specs.declared.raw_table.table_mut.RawTableMut.{RawTableMut}
+
+module _ {K V H : Type 0} {key : ByteArrayOf K} {key_eq : PartialEqOf K} {key_debug : DebugOf K}
+    {value : ByteArrayOf V} {value_eq : PartialEqOf V} {value_debug : DebugOf V}
+    {hash : HashFnOf H} {hash_eq : PartialEqOf H} where
+  abbrev pub mut_control : RawTableMut K V H key key_eq key_debug value value_eq value_debug hash hash_eq → List ℕ
+  mut_control t = t.control.now
+
+  abbrev pub mut_entries : RawTableMut K V H key key_eq key_debug value value_eq value_debug hash hash_eq → List ℕ
+  mut_entries t = t.entries.now
+
+  abbrev pub mut_parts : RawTableMut K V H key key_eq key_debug value value_eq value_debug hash hash_eq → TableParts
+  mut_parts t = record { control = mut_control t; entries = record { slots = length (mut_control t) - 16; bytes = mut_entries t } }
+
+  abbrev pub control_loan : RawTableMut K V H key key_eq key_debug value value_eq value_debug hash hash_eq → GName
+  control_loan t = t.control.ghost_name
+
+  abbrev pub entries_loan : RawTableMut K V H key key_eq key_debug value value_eq value_debug hash hash_eq → GName
+  entries_loan t = t.entries.ghost_name
+
+  abbrev pub table_format : RawTableMut K V H key key_eq key_debug value value_eq value_debug hash hash_eq → Format
+  table_format t = format_of key.LEN value.LEN hash.hash
+
+  abbrev pub IsParts : Table → RawTableMut K V H key key_eq key_debug value value_eq value_debug hash hash_eq → Type 0
+  IsParts P t = IsPartsOf (table_format t) P (mut_entries t) (mut_control t)
+
+  abbrev pub pair_of : RawTableMut K V H key key_eq key_debug value value_eq value_debug hash hash_eq → K → V → Pair
+  pair_of t k v = record { key = key.bytes k; value = value.bytes v }
+
+  pub record IsMutInsert
+      (t : RawTableMut K V H key key_eq key_debug value value_eq value_debug hash hash_eq)
+      (k : K) (v : V) (r : Result (Option V) Error)
+      (t' : RawTableMut K V H key key_eq key_debug value value_eq value_debug hash hash_eq) : Type 0 where
+    pub ok : (P : Table) → IsParts P t
+        → AnswersFormer (table_format t) value.of_bytes P (pair_of t k v) r (mut_entries t') (mut_control t')
+    pub full : (P : Table) → IsParts P t → IsFullUnplaced (table_format t) P (pair_of t k v) r
+    pub no_room : (P : Table) → IsParts P t → IsFullNoRoom P (pair_of t k v) r
+    pub frame : IsPartsFramed (table_format t) value.of_bytes (mut_entries t) (mut_control t) (pair_of t k v) r
+        (mut_entries t') (mut_control t')
+    pub only_full : OnErr r (r ≡ Err Full)
+    pub refused_control : OnErr r (mut_control t' ≡ mut_control t)
+    pub refused_entries : OnErr r (mut_entries t' ≡ mut_entries t)
+    pub control_loan : control_loan t' ≡ control_loan t
+    pub entries_loan : entries_loan t' ≡ entries_loan t
+
+  pub record IsMutPlacing
+      (t : RawTableMut K V H key key_eq key_debug value value_eq value_debug hash hash_eq)
+      (k : K) (v : V) (r : Result (Unit {0}) Error)
+      (t' : RawTableMut K V H key key_eq key_debug value value_eq value_debug hash hash_eq) : Type 0 where
+    pub ok : (P : Table) → IsParts P t → IsNewTo P (pair_of t k v)
+        → OnOk r (ArePartsPlaced (table_format t) P (pair_of t k v) (mut_entries t') (mut_control t'))
+    pub full : (P : Table) → IsParts P t → IsNewTo P (pair_of t k v)
+        → ((r ≡ Err Full) ↔ (place (table_format t) P (pair_of t k v) ≡ None))
+    pub no_room : (P : Table) → IsParts P t → IsNewTo P (pair_of t k v)
+        → ((r ≡ Err Full) ↔ IsFullWithout P (pair_of t k v).key)
+    pub frame : PlacingFrame (table_format t) (mut_entries t) (mut_control t) (pair_of t k v) r (mut_entries t') (mut_control t')
+    pub only_full : OnErr r (r ≡ Err Full)
+    pub refused_control : OnErr r (mut_control t' ≡ mut_control t)
+    pub refused_entries : OnErr r (mut_entries t' ≡ mut_entries t)
+    pub control_loan : control_loan t' ≡ control_loan t
+    pub entries_loan : entries_loan t' ≡ entries_loan t

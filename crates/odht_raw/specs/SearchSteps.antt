@@ -1,0 +1,38 @@
+-- A search for a key k among the parts of a placed table P, at a place of the probe order of k.
+--     slot_of F P k p        the slot at place p of the order
+--     Passed F P k p         no slot before place p is free or holds k
+--     StandsAt F P E k p start bs   the search came to place p: it passed the places before, E are the entries, and bs are
+--                            the control bytes of the places from p on, which are the slots from `start` on around the end
+--     EndsWithin F P k p n   the search ends at one of the n places from p on
+--     IsLook F P k p n r     r is what a look at these n places tells: the answer where the search ends among them, else none
+use Rattle.std.specs.Prelude.{◌≡◌, ℕ, ◌+◌, ◌%◌, ◌<◌, ◌≤◌, false, List, length, slice_index, Option, Some, MatchOption}
+use Rattle.odht_base.specs.Format.{Format, home}
+use Rattle.odht_base.specs.Image.{entries, control_byte}
+use Rattle.odht_base.specs.Probe.{probe_slot}
+use Rattle.odht_base.specs.Search.{stops_at, reach}
+use Rattle.odht_base.specs.Table.{Table, slot_count, cell_at}
+use Rattle.odht_base.specs.Valid.{IsPlaced}
+use Rattle.odht_raw.specs.SearchResults.{answer}
+use Rattle.odht_raw.specs.Parts.{EntryBytes}
+use Rattle.odht_raw.specs.declared.raw_table.search_result.SearchResult.{SearchResult}
+
+abbrev pub slot_of : Format → Table → List ℕ → ℕ → ℕ
+slot_of F P k p = probe_slot (home F k (slot_count P)) (slot_count P) p
+
+abbrev pub Passed : Format → Table → List ℕ → ℕ → Type 0
+Passed F P k p = (q : ℕ) → q < p → stops_at P.cells k (slot_of F P k q) ≡ false
+
+pub record StandsAt (F : Format) (P : Table) (E : EntryBytes) (k : List ℕ) (p start : ℕ) (bs : List ℕ) : Type 0 where
+  pub placed : IsPlaced F P
+  pub slots : E.slots ≡ slot_count P
+  pub entries_are : E.bytes ≡ entries F P.cells
+  pub passed : Passed F P k p
+  pub within : p + length bs ≤ slot_count P
+  pub slots_are : (i : ℕ) → i < length bs → (start + i) % E.slots ≡ slot_of F P k (p + i)
+  pub bytes_are : (i : ℕ) → i < length bs → slice_index bs i ≡ control_byte F (cell_at P.cells (slot_of F P k (p + i)))
+
+abbrev pub EndsWithin : Format → Table → List ℕ → ℕ → ℕ → Type 0
+EndsWithin F P k p n = (q : ℕ) × (p ≤ q) × (q < p + n) × (reach F P.cells k ≡ Some q)
+
+abbrev pub IsLook : Format → Table → List ℕ → ℕ → ℕ → Option SearchResult → Type 0
+IsLook F P k p n r = MatchOption r (Passed F P k (p + n)) (λ a. (a ≡ answer F P.cells k) × EndsWithin F P k p n)
