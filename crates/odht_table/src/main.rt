@@ -8,13 +8,12 @@ ghost use Rattle.std.specs.Io.KnownBytes.{IsAtEnd, Appends};
 ghost use Rattle.odht_table.specs.Scripts.{IsAnsweredBy};
 ghost use Rattle.odht_table.specs.declared.script.Fault.{Fault};
 
-mod my_config;
 mod script;
 #[cfg(test)]
 mod tests;
 
-use my_config::MyConfig;
 use odht::config::Coded;
+use odht::configs::U64ToU32;
 use script::{Fault, run};
 use std::alloc::Global;
 use std::io::{BufWriter, Read, Write};
@@ -37,7 +36,7 @@ fn run_buffered<R: Read, W: Write + Drop>(
     input: &mut R,
     output: W,
 ) -> Result<W, Fault>
-    ensures answers { IfOk result (λ writer. IfSome (R.remaining input.old) (λ script. (text : List ℕ) × IsAnsweredBy ⟦<MyConfig as Coded>⟧.coding script text × Appends (W.contents output) (W.contents writer) text)) }
+    ensures answers { IfOk result (λ writer. IfSome (R.remaining input.old) (λ script. (text : List ℕ) × IsAnsweredBy ⟦<U64ToU32 as Coded>⟧.coding script text × Appends (W.contents output) (W.contents writer) text)) }
     ensures end { OnOk result (IsAtEnd (R.remaining input.new)) }
     ensures write { IsErrOf result Fault.Write → IsAtEnd (R.remaining input.new) }
 {

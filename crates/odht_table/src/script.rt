@@ -12,10 +12,10 @@ ghost use Rattle.odht_table.specs.Scripts.{ends_line, script_lines, IsHeld, IsLi
 mod check;
 mod command;
 
-use crate::my_config::MyConfig;
 use check::answer_check;
 use command::{Command, Request, parse};
 use odht::config::Coded;
+use odht::configs::U64ToU32;
 use odht::error::Error;
 use odht::load::{Factor, max_item_count_for, slots_needed};
 use odht::{HashTableOwned, Iter};
@@ -24,7 +24,7 @@ use std::fmt;
 use std::io::{self, ErrorKind, Read, Write};
 
 /// The table that a script works on.
-type Table = HashTableOwned<MyConfig>;
+type Table = HashTableOwned<U64ToU32>;
 
 /// Why a run stopped before its script was answered.
 #[derive(Clone, Copy, Debug, PartialEq, Eq)]
@@ -70,7 +70,7 @@ impl std::error::Error for Fault {}
 /// Any other line is `malformed`. Before the first table each line but `new` and `check` is answered with `no table`. A
 /// `new` or a `put` that is refused leaves the table as it was, and so does each `check`, whose digits may be none.
 pub fn run<R: Read, W: Write>(alloc: Global, input: &mut R, output: &mut W) -> Result<(), Fault>
-    ensures answers { OnOk result (IfSome (R.remaining input.old) (λ script. (text : List ℕ) × IsAnsweredBy ⟦<MyConfig as Coded>⟧.coding script text × Appends (W.contents output.old) (W.contents output.new) text)) }
+    ensures answers { OnOk result (IfSome (R.remaining input.old) (λ script. (text : List ℕ) × IsAnsweredBy ⟦<U64ToU32 as Coded>⟧.coding script text × Appends (W.contents output.old) (W.contents output.new) text)) }
     ensures end { OnOk result (IsAtEnd (R.remaining input.new)) }
     ensures write { IsErrOf result Fault.Write → IsAtEnd (R.remaining input.new) }
     ensures silent { IsErrOf result Fault.Read ⊎ IsErrOf result Fault.Memory → output.new ≡ output.old }
@@ -93,7 +93,7 @@ fn read_script<R: Read>(alloc: Global, input: &mut R) -> Result<Vec<u8>, Fault>
 }
 
 fn answer_lines<W: Write>(alloc: Global, script: &[u8], output: &mut W) -> io::Result<()>
-    ensures { OnOk result ((text : List ℕ) × IsAnsweredBy ⟦<MyConfig as Coded>⟧.coding script.now text × Appends (W.contents output.old) (W.contents output.new) text) }
+    ensures { OnOk result ((text : List ℕ) × IsAnsweredBy ⟦<U64ToU32 as Coded>⟧.coding script.now text × Appends (W.contents output.old) (W.contents output.new) text) }
 {
     let mut table = None;
     let mut rest = script;
@@ -129,8 +129,8 @@ fn answer<W: Write>(
     table: &mut Option<Table>,
     output: &mut W,
 ) -> io::Result<()>
-    ensures { IsHeld ⟦<MyConfig as Coded>⟧.coding.format table.old
-        → (text : List ℕ) × IsLineAnswered ⟦<MyConfig as Coded>⟧.coding line.now table.old text table.new × OnOk result (Appends (W.contents output.old) (W.contents output.new) text) }
+    ensures { IsHeld ⟦<U64ToU32 as Coded>⟧.coding.format table.old
+        → (text : List ℕ) × IsLineAnswered ⟦<U64ToU32 as Coded>⟧.coding line.now table.old text table.new × OnOk result (Appends (W.contents output.old) (W.contents output.new) text) }
 {
     let Some(command) = parse(line) else {
         return answer_check(alloc, line, output);
@@ -149,8 +149,8 @@ fn answer<W: Write>(
 
 fn serve<W: Write>(table: &mut Table, request: Request, output: &mut W) -> io::Result<()>
     ensures answered { (P : Plain)
-        → IsImage ⟦<MyConfig as Coded>⟧.coding.format P table.old
-        → (Q : Plain) × (text : List ℕ) × IsAnswered ⟦<MyConfig as Coded>⟧.coding P request text Q × IsImage ⟦<MyConfig as Coded>⟧.coding.format Q table.new × OnOk result (Appends (W.contents output.old) (W.contents output.new) text) }
+        → IsImage ⟦<U64ToU32 as Coded>⟧.coding.format P table.old
+        → (Q : Plain) × (text : List ℕ) × IsAnswered ⟦<U64ToU32 as Coded>⟧.coding P request text Q × IsImage ⟦<U64ToU32 as Coded>⟧.coding.format Q table.new × OnOk result (Appends (W.contents output.old) (W.contents output.new) text) }
     ensures kept { ¬ (MayChange request) → table.new ≡ table.old }
 {
     match request {
@@ -202,7 +202,7 @@ fn renew<W: Write>(
     percent: u64,
     output: &mut W,
 ) -> io::Result<()>
-    ensures { (text : List ℕ) × IsRenewed ⟦<MyConfig as Coded>⟧.coding.format max_item_count percent text table.old table.new × OnOk result (Appends (W.contents output.old) (W.contents output.new) (line_of text)) }
+    ensures { (text : List ℕ) × IsRenewed ⟦<U64ToU32 as Coded>⟧.coding.format max_item_count percent text table.old table.new × OnOk result (Appends (W.contents output.old) (W.contents output.new) (line_of text)) }
 {
     match make_fresh(alloc, max_item_count, percent) {
         Ok(fresh) => {
@@ -219,8 +219,8 @@ fn renew<W: Write>(
 
 fn make_fresh(alloc: Global, max_item_count: usize, percent: u64) -> Result<Fresh, Refusal>
     ensures bad_percent { IsErrOf result Refusal.BadPercent ↔ ((percent < 1) ⊎ (100 < percent)) }
-    ensures capacity { 1 ≤ percent → percent ≤ 100 → (IsErrOf result Refusal.Capacity ↔ IsTooLarge ⟦<MyConfig as Coded>⟧.coding.format max_item_count (factor_of percent)) }
-    ensures table { IfOk result (λ made. (P : Plain) × (fresh max_item_count percent ≡ Some P) × IsImage ⟦<MyConfig as Coded>⟧.coding.format P made.table) }
+    ensures capacity { 1 ≤ percent → percent ≤ 100 → (IsErrOf result Refusal.Capacity ↔ IsTooLarge ⟦<U64ToU32 as Coded>⟧.coding.format max_item_count (factor_of percent)) }
+    ensures table { IfOk result (λ made. (P : Plain) × (fresh max_item_count percent ≡ Some P) × IsImage ⟦<U64ToU32 as Coded>⟧.coding.format P made.table) }
     ensures slots { IfOk result (λ made. slots_for max_item_count (factor_of percent) ≡ Some made.slot_count) }
     ensures most { IfOk result (λ made. made.max_item_count ≡ max_items made.slot_count (factor_of percent)) }
 {
@@ -245,8 +245,8 @@ fn make_fresh(alloc: Global, max_item_count: usize, percent: u64) -> Result<Fres
 // Answers what stood at the key. The table is as it was where the memory for its growth was refused.
 fn put<W: Write>(table: &mut Table, key: u64, value: u32, output: &mut W) -> io::Result<()>
     ensures { (P : Plain)
-        → IsImage ⟦<MyConfig as Coded>⟧.coding.format P table.old
-        → (Q : Plain) × (text : List ℕ) × IsPutAnswered ⟦<MyConfig as Coded>⟧.coding P key value text Q × IsImage ⟦<MyConfig as Coded>⟧.coding.format Q table.new × OnOk result (Appends (W.contents output.old) (W.contents output.new) text) }
+        → IsImage ⟦<U64ToU32 as Coded>⟧.coding.format P table.old
+        → (Q : Plain) × (text : List ℕ) × IsPutAnswered ⟦<U64ToU32 as Coded>⟧.coding P key value text Q × IsImage ⟦<U64ToU32 as Coded>⟧.coding.format Q table.new × OnOk result (Appends (W.contents output.old) (W.contents output.new) text) }
 {
     match table.insert(&key, &value) {
         Ok(None) => writeln!(output, "none"),
@@ -265,7 +265,7 @@ fn write_value<W: Write>(value: Option<u32>, output: &mut W) -> io::Result<()>
 }
 
 // Each pair on a line, and then the end.
-fn write_walk<W: Write>(walk: Iter<'_, MyConfig>, output: &mut W) -> io::Result<()>
+fn write_walk<W: Write>(walk: Iter<'_, U64ToU32>, output: &mut W) -> io::Result<()>
     ensures { OnOk result (Appends (W.contents output.old) (W.contents output.new) (walk_text walk.entry)) }
 {
     for (key, value) in walk {

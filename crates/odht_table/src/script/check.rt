@@ -8,15 +8,15 @@ ghost use Rattle.odht_table.specs.Answers.{line_of, check_text};
 ghost use Rattle.odht_table.specs.Commands.{IsHexText, IsCheckText};
 ghost use Rattle.odht_table.specs.Scripts.{IsOtherAnswered};
 
-use crate::my_config::MyConfig;
 use odht::config::Coded;
+use odht::configs::U64ToU32;
 use odht::memory_layout::check_all;
 use std::alloc::{AllocError, Global};
 use std::io::{self, Write};
 
 /// Answers a line that is no command: with what the whole check says of the bytes that it writes, or as malformed.
 pub fn answer_check<W: Write>(alloc: Global, line: &[u8], output: &mut W) -> io::Result<()>
-    ensures { (text : List ℕ) × IsOtherAnswered ⟦<MyConfig as Coded>⟧.coding.format line.now text × OnOk result (Appends (W.contents output.old) (W.contents output.new) (line_of text)) }
+    ensures { (text : List ℕ) × IsOtherAnswered ⟦<U64ToU32 as Coded>⟧.coding.format line.now text × OnOk result (Appends (W.contents output.old) (W.contents output.new) (line_of text)) }
 {
     let Some(digits) = digits_of(line) else {
         return writeln!(output, "malformed");
@@ -79,9 +79,9 @@ fn digit_value(digit: u8) -> u8
 }
 
 fn write_checked<W: Write>(bytes: &[u8], output: &mut W) -> io::Result<()>
-    ensures { OnOk result (Appends (W.contents output.old) (W.contents output.new) (line_of (check_text ⟦<MyConfig as Coded>⟧.coding.format bytes.now))) }
+    ensures { OnOk result (Appends (W.contents output.old) (W.contents output.new) (line_of (check_text ⟦<U64ToU32 as Coded>⟧.coding.format bytes.now))) }
 {
-    match check_all::<MyConfig>(bytes) {
+    match check_all::<U64ToU32>(bytes) {
         Ok(()) => writeln!(output, "valid"),
         Err(refused) => writeln!(output, "{refused}"),
     }
