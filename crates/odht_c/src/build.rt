@@ -118,7 +118,7 @@ fn insert_into_store<C: Config, M: ByteStoreMut>(
     make::<C, M>(store, slot_count, factor);
     let mut table = HashTable::<C, &mut M>::from_raw_bytes_unchecked(store);
     let _ = table.insert_items(&Zipped::new(keys, values));
-    let _place = table.into_data();
+    let _store = table.into_data();
 }
 
 /// The table of the pairs, which starts with sixteen slots at 87 percent and grows.

@@ -72,7 +72,7 @@ pub(crate) fn make<C: Config, M: ByteStoreMut>(
     ensures same_store { store.new ≡ M.holding store.old (M.bytes store.new) }
 {
     let table = memory_layout::init_in_place::<C, &mut M>(store, slot_count, 0, max_load_factor);
-    let _place = table.into_store();
+    let _store = table.into_store();
 }
 
 /// Gives the key this value, and writes its former one to `former`, where it had one.
@@ -94,7 +94,7 @@ pub(crate) fn insert<C: Config, M: ByteStoreMut>(
     }
     let mut table = HashTable::<C, &mut M>::from_raw_bytes_unchecked(store);
     let answer = table.insert(key, value);
-    let _place = table.into_data();
+    let _store = table.into_data();
     match answer {
         Ok(Some(old)) => {
             *former = old;
@@ -125,7 +125,7 @@ pub(crate) fn insert_all<C: Config, M: ByteStoreMut>(
     }
     let mut table = HashTable::<C, &mut M>::from_raw_bytes_unchecked(store);
     let (count, answer) = table.insert_items(&Zipped::new(keys, values));
-    let _place = table.into_data();
+    let _store = table.into_data();
     *accepted = count;
     match answer {
         Ok(()) => OK,

@@ -18,7 +18,7 @@ returns-in-Ok-Some-clause-answer g c =
     let bytes = g.M.ByteStore.bytes in
     let accepted : None ≡ opening_refusal F (bytes c.args.store.now) = c.in_default.ensures.err ∙ ap (opening_refusal F) c.bytes.ensures in
     let reads : bytes c.from_raw_bytes_unchecked-table.result.now ≡ bytes c.args.store.now = ap (λ s. bytes s.now) c.from_raw_bytes_unchecked-table.ensures in
-    accepted_insert _ _ _ _ _ _ _ _ _ _ accepted reads (ap bytes (search (rules, c.into_data-place.ensures.data, c.insert-answer.ensures.same_store, c.from_raw_bytes_unchecked-table.ensures)))
+    accepted_insert _ _ _ _ _ _ _ _ _ _ accepted reads (ap bytes (search (rules, c.into_data-store.ensures.data, c.insert-answer.ensures.same_store, c.from_raw_bytes_unchecked-table.ensures)))
     c.in-Ok-Some.field-0 (rw c.in-Ok-Some.field-0-is (refl, refl)) c.in-Ok-Some.ensures.ok c.in-Ok-Some.ensures.frame
 
 pub returns-in-Ok-None-clause-answer : goal.returns-in-Ok-None-clause-answer
@@ -27,7 +27,7 @@ returns-in-Ok-None-clause-answer g c =
     let bytes = g.M.ByteStore.bytes in
     let accepted : None ≡ opening_refusal F (bytes c.args.store.now) = c.in_default.ensures.err ∙ ap (opening_refusal F) c.bytes.ensures in
     let reads : bytes c.from_raw_bytes_unchecked-table.result.now ≡ bytes c.args.store.now = ap (λ s. bytes s.now) c.from_raw_bytes_unchecked-table.ensures in
-    accepted_insert _ _ _ _ _ _ _ _ _ _ accepted reads (ap bytes (search (rules, c.into_data-place.ensures.data, c.insert-answer.ensures.same_store, c.from_raw_bytes_unchecked-table.ensures)))
+    accepted_insert _ _ _ _ _ _ _ _ _ _ accepted reads (ap bytes (search (rules, c.into_data-store.ensures.data, c.insert-answer.ensures.same_store, c.from_raw_bytes_unchecked-table.ensures)))
     c.in-Ok-None.field-0 (rw c.in-Ok-None.field-0-is (refl, refl)) c.in-Ok-None.ensures.ok c.in-Ok-None.ensures.frame
 
 pub returns-in-Err-answer-clause-answer : goal.returns-in-Err-answer-clause-answer
@@ -38,6 +38,6 @@ returns-in-Err-answer-clause-answer g c =
     let reads : bytes c.from_raw_bytes_unchecked-table.result.now ≡ bytes c.args.store.now = ap (λ s. bytes s.now) c.from_raw_bytes_unchecked-table.ensures in
     let full : c.insert-answer.result ≡ Err Full = c.in-Err-answer.is ∙ c.in-Err-answer.ensures.only_full in
     let only : c.in-Err-answer.refused ≡ Full = (let both = c.in-Err-answer.ensures.only_full in cc) in
-    full_insert _ _ _ _ _ _ _ _ _ _ accepted reads (ap bytes (search (rules, c.into_data-place.ensures.data, c.insert-answer.ensures.same_store, c.from_raw_bytes_unchecked-table.ensures)))
+    full_insert _ _ _ _ _ _ _ _ _ _ accepted reads (ap bytes (search (rules, c.into_data-store.ensures.data, c.insert-answer.ensures.same_store, c.from_raw_bytes_unchecked-table.ensures)))
     c.insert-answer.result full (ap (λ s. bytes s.now) c.in-Err-answer.ensures.refused) (c.status_of-in-Err-answer.ensures ∙ ap status_of only) refl
     c.insert-answer.ensures.full c.insert-answer.ensures.frame

@@ -64,7 +64,7 @@ returns-in-Ok-clause-answer g c =
     let here = (goal.at.returns-in-Ok-clause-answer g c).After-insert_items-count in
     let every : n ≡ length keys = c.insert_items-count.ensures.all.0 (rw c.in-Ok.is refl) ∙ ap length c.new.ensures ∙ omega (arith, length-zip keys values, c.requires) in
     subst (λ s. InsertAllAnswers K (bytes c.args.store.now) keys values c.args.accepted.now 0 (bytes s) n)
-    (sym (search (rules, c.into_data-place.ensures.data, c.insert_items-count.ensures.same_store, c.from_raw_bytes_unchecked-table.ensures)))
+    (sym (search (rules, c.into_data-store.ensures.data, c.insert_items-count.ensures.same_store, c.from_raw_bytes_unchecked-table.ensures)))
     (subst (InsertAllAnswers K (bytes c.args.store.now) keys values c.args.accepted.now 0 (bytes c.insert_items-count.new.self.now)) (sym every)
     (accepted_insert_all K (bytes c.args.store.now) (bytes c.insert_items-count.new.self.now) keys values c.args.accepted.now n (c.in_default.ensures.err ∙ ap (opening_refusal K.format) c.bytes.ensures) c.requires (framed_here g here) (inserted_here g here) every))
 
@@ -83,7 +83,7 @@ returns-in-Err-answer-clause-answer g c =
     let long = ap length c.new.ensures ∙ length-zip keys values in
     let less : n < length keys = (let ne : n ≡ length c.new.result → ⊥ = λ e. true≢false (sym (known.all.1 e) ∙ ap is_ok is) in omega (arith, known.bound, ne, long, c.requires)) in
     subst (λ s. InsertAllAnswers K (bytes c.args.store.now) keys values c.args.accepted.now c.status_of-in-Err-answer.result (bytes s) n)
-    (sym (search (rules, c.into_data-place.ensures.data, c.insert_items-count.ensures.same_store, c.from_raw_bytes_unchecked-table.ensures)))
+    (sym (search (rules, c.into_data-store.ensures.data, c.insert_items-count.ensures.same_store, c.from_raw_bytes_unchecked-table.ensures)))
     (full_insert_all K (bytes c.args.store.now) now keys values c.args.accepted.now n (c.in_default.ensures.err ∙ ap (opening_refusal K.format) c.bytes.ensures) c.requires (framed_here g here) (inserted_here g here)
     now c.status_of-in-Err-answer.result refl less (c.status_of-in-Err-answer.ensures ∙ ap status_of only)
     (λ P image. subst (λ (xs : List (g.row.C-Key.Denot × g.row.C-Value.Denot)). IsRefusedAt K P xs n) c.new.ensures (subst (λ (r : Result (Unit {0}) Error). OnErr r (IsRefusedAt K P c.new.result n)) is (known.at_maximum P image)))
