@@ -1,6 +1,6 @@
 //! Tests over several crates: what neither a contract nor a vector says. The vectors share its probe orders.
 #![tactic(auto)]
 
-pub mod probe_slots;
+pub mod group_starts;
 #[cfg(test)]
 mod tests;

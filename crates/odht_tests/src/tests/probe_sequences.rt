@@ -2,7 +2,7 @@
 ghost use Rattle.std.specs.Prelude.{◌≡◌, ◌%◌};
 ghost use Rattle.odht_base.specs.Load.{IsSlotCount};
 
-use crate::probe_slots::probe_slots;
+use crate::group_starts::group_starts;
 use odht::load::{Factor, slots_needed};
 use std::alloc::{AllocError, Global};
 use std::process::Abort;
@@ -36,7 +36,7 @@ fn check<const SIZE: usize>(rt: &impl Abort, alloc: Global, slots: usize) -> Res
     requires divides { 16 % SIZE ≡ 0 }
 {
     let mut order = Vec::new(alloc);
-    for index in probe_slots::<SIZE>(alloc, 0, slots)?.as_slice() {
+    for index in group_starts::<SIZE>(alloc, 0, slots)?.as_slice() {
         for place in 0..SIZE {
             order.push(index.wrapping_add(place) & slots.wrapping_sub(1))?;
         }

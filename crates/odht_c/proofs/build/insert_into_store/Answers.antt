@@ -61,7 +61,7 @@ returns-clause-inserted g c =
     let now = bytes c.insert_items.new.self.now in
     let n = c.insert_items.result.0 in
     subst (λ s. IsFreshAfterInserts K p items (bytes s))
-    (sym (search (rules, c.into_data-store.ensures.data, known.store, c.from_raw_bytes_unchecked-table.ensures)))
+    (sym (search (rules, c.into_data-store.ensures.data, known.same_store, c.from_raw_bytes_unchecked-table.ensures)))
     (new_inserted K p items c.requires.low c.requires.high P new c.requires.pairs n c.insert_items.result.1 now
     (subst (λ (xs : List (g.row.C-Key.Denot × g.row.C-Value.Denot)). n ≤ length xs) c.new.ensures known.bound)
     (subst (λ (xs : List (g.row.C-Key.Denot × g.row.C-Value.Denot)). IsOk c.insert_items.result.1 ↔ (n ≡ length xs)) c.new.ensures known.all)
