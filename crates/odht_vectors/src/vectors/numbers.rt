@@ -8,7 +8,7 @@ use super::words::{Words, number, percent};
 use odht::load::{Factor, max_item_count_for, slots_needed};
 use odht::raw_table::probe_order;
 use odht::swisstable_group_query::{Group, lanes, no_simd};
-use odht_tests::probe_slots::probe_slots;
+use odht_tests::group_starts::group_starts;
 use std::alloc::Global;
 
 /// The answer to a call.
@@ -18,7 +18,7 @@ pub fn answer(words: &Words<'_>, call: &str, args: &[&str]) -> Result<Answer, Fa
         "factor" | "to_percent" | "apply" | "apply_inverse" => load_factor(alloc, call, args),
         "slots_needed" | "max_item_count" => slots(alloc, call, args),
         "probe_order" => order(alloc, args),
-        "probe_slots" => places(alloc, args),
+        "probe_places" => places(alloc, args),
         "words" | "lanes" => group(words, call, args),
         _ => Err(Fault::Unread),
     }
@@ -109,14 +109,14 @@ fn places(alloc: Global, args: &[&str]) -> Result<Answer, Fault> {
     let home = number(*home)?;
     let slots = slot_count(number(*slots)?)?;
     match *size {
-        "4" => positions_of::<4>(alloc, home, slots),
-        "8" => positions_of::<8>(alloc, home, slots),
-        "16" => positions_of::<16>(alloc, home, slots),
+        "4" => starts_of::<4>(alloc, home, slots),
+        "8" => starts_of::<8>(alloc, home, slots),
+        "16" => starts_of::<16>(alloc, home, slots),
         _ => Err(Fault::Unread),
     }
 }
 
-fn positions_of<const SIZE: usize>(
+fn starts_of<const SIZE: usize>(
     alloc: Global,
     home: usize,
     slots: usize,
@@ -125,7 +125,7 @@ fn positions_of<const SIZE: usize>(
     requires divides { 16 % SIZE ≡ 0 }
 {
     let mut text = String::new(alloc);
-    for slot in probe_slots::<SIZE>(alloc, home, slots)?.as_slice() {
+    for slot in group_starts::<SIZE>(alloc, home, slots)?.as_slice() {
         add_word(&mut text, slot)?;
     }
     Ok(Answer::words(text))
