@@ -1,12 +1,12 @@
-//! Where a probe sequence goes.
+//! The slots of a probe sequence.
 ghost use Rattle.std.specs.Prelude.{◌≡◌, ◌%◌};
 ghost use Rattle.odht_base.specs.Load.{IsSlotCount};
 
 use odht::raw_table::ProbeSeq;
 use std::alloc::{AllocError, Global};
 
-/// The slots at which a probe sequence of groups of `SIZE` stands, one for each group, from the home on.
-/// An error where memory was refused.
+/// The slots at which the groups of a probe sequence begin, in probe order from the home on; a group has `SIZE` slots.
+/// An error when memory is exhausted.
 pub fn probe_slots<const SIZE: usize>(
     alloc: Global,
     home: usize,

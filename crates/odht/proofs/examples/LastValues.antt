@@ -39,7 +39,7 @@ pub without_second : HasNoKey items 3 → ⊥
 without_second h = h 1 (0, 0) (lit< tt) refl
 
 -- ---- last items
--- an item of the same key stands before
+-- an item of the same key comes before
 pub a_last_item : IsLastItem in_turn 1 5
 a_last_item = record {
   before = (1, 2) ∷ (3, 4) ∷ [];
@@ -58,7 +58,7 @@ one_of_two x y k v [] after e = inl (cc, cc, cc)
 one_of_two x y k v (a ∷ []) after e = inr (cc, cc)
 one_of_two x y k v (a ∷ b ∷ before) after e = absurd (omega (arith, ap length e, length-append before ((k, v) ∷ after)))
 
--- a value that the key has not
+-- a value that the key does not have
 pub other_value : IsLastItem items 1 4 → ⊥
 other_value h = go h.after (one_of_two _ _ _ _ h.before h.after h.stands)
   where
@@ -79,7 +79,7 @@ earlier_value h = go h.after h.latest (one_of_two _ _ _ _ h.before h.after h.sta
 pub last_values : IsLastValue in_turn 1 (Some 5) × IsLastValue items 2 None
 last_values = (a_last_item, without_key)
 
--- a value of another key, one that is not the last, and none for a key that is there
+-- a value of another key, one that is not the last, and none for a present key
 pub no_last_values : (IsLastValue items 1 (Some 4) → ⊥)
     × (IsLastValue twice 1 (Some 2) → ⊥)
     × (IsLastValue items 3 None → ⊥)

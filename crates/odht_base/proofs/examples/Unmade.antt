@@ -1,5 +1,5 @@
--- A worked example: a valid table of 64 slots that no list of inserts makes, since each of the keys 0 and 1 stands
--- behind the other one.
+-- A worked example: a valid table of 64 slots that no list of inserts makes, since each of the keys 0 and 1 is in the
+-- slot that a search for the other one looks at first.
 use Rattle.std.proofs.Common.{◌≡◌, ◌<◌, ◌++◌, ◌∙◌, ◌||◌, ◌==◌, inl, inr, ℕ, Bool, true, false, true≢false, refl, sym, ap, subst, arith, eqb, eqb-true, List, ◌∷◌, get_or, Some, None, is_none, map, replicate, Contains, lit≤, lit<}
 use Rattle.std.specs.List.{range_with_len, list_any, list_all}
 use Rattle.std.proofs.lemmas.Bool.{or_cases}
@@ -60,12 +60,12 @@ all_told = refl
 not_taken : (i : ℕ) → list_any (eqb i) taken ≡ false → Contains taken i → ⊥
 not_taken i e h = true≢false (sym ((is_member-Decides Decides-eqb taken i).1 h) ∙ e)
 
--- slot 0 has the key 1, which looks at slot 1 first
+-- slot 0 has the key 1, whose search looks at slot 1 first
 zero_not_ready : IsReady direct_config unmade taken 0 → ⊥
 unfolding opened
 zero_not_ready r = not_ready direct_config unmade taken 0 (pair32 1 1) refl 0 (λ q l. absurd (omega arith)) (λ e. omega arith) (not_taken 1 refl) r
 
--- and slot 1 the key 0, which looks at slot 0 first
+-- and slot 1 the key 0, whose search looks at slot 0 first
 one_not_ready : IsReady direct_config unmade taken 1 → ⊥
 unfolding opened
 one_not_ready r = not_ready direct_config unmade taken 1 (pair32 0 0) refl 0 (λ q l. absurd (omega arith)) (λ e. omega arith) (not_taken 0 refl) r

@@ -19,7 +19,7 @@ equal_lanes g h l =
     ∙ bits_mask 64 0 (map (λ x. nat_eq x h) g) (omega (arith, length-map g (λ x. nat_eq x h)))
     ∙ sym (equal-places g h)
 
--- a lane's highest bit tells its answer
+-- a lane's highest bit is its answer
 top_byte : (b : Bool) → top 7 (cond b 255 0) ≡ b
 top_byte true = refl
 top_byte false = refl
@@ -53,7 +53,7 @@ next-mask b bs n rest half low whole =
     pow-pos zero = omega arith
     pow-pos (suc k) = omega (arith, pow-pos k, pow-suc 2 k)
 
--- the mask of the first answers is what is left of a mask by a power of two
+-- the mask of the first n answers is the mask modulo 2 ^ n
 mask_l-take : (bs : List Bool) (n : ℕ) → mask_l bs % 2 ^ n ≡ mask_l (take n bs)
 mask_l-take [] zero = omega arith
 mask_l-take [] (suc n) = zero-mod (2 ^ suc n)

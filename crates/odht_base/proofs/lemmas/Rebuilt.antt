@@ -1,4 +1,4 @@
--- The pairs of slots that are each ready in turn, placed in an empty table, fill just these slots.
+-- The pairs of slots that are each ready in turn, placed in an empty table, occupy just these slots.
 use Rattle.std.proofs.Common.{◌≡◌, ◌<◌, ◌≤◌, ◌+◌, ◌∙◌, ◌++◌, inl, inr, ℕ, zero, suc, false, sym, ap, subst, refl, List, [], ◌∷◌, Option, Some, None, length, take, slice_index, arith, Contains, length-set}
 use Rattle.std.specs.Prelude.{is_none, option_and_then}
 use Rattle.std.specs.List.{cons_option}
@@ -24,7 +24,7 @@ use Rattle.odht_base.proofs.lemmas.InsertRuns.{run-push}
 use Rattle.odht_base.proofs.lemmas.SoFar.{so_far_holds, so_far_new, Contains-take}
 use Rattle.odht_base.proofs.lemmas.SearchEnds.{has_key-holds, has_key-one}
 
--- R is P with only the slots xs filled
+-- R is P with only the slots xs occupied
 pub record IsPart (P R : Table) (xs : List ℕ) : Type 0 where
   pub factor : R.factor ≡ P.factor
   pub slots : slot_count R ≡ slot_count P
@@ -74,14 +74,14 @@ module _ (F : Format) (P : Table) (ok : IsPlaced F P) where
       → place F R r.pair ≡ Some (written R i r.pair)
   ready_place R xs i part placed held out r = place-at F R r.pair placed i ends
     where
-      -- the slot at a place of its order, in P and in R
+      -- the slot at a position of its order, in P and in R
       slot : ℕ → ℕ
       slot q = probe_slot (home F r.pair.key (slot_count P)) (slot_count P) q
 
       in_part : (q : ℕ) → probe_slot (home F r.pair.key (slot_count R)) (slot_count R) q ≡ slot q
       in_part q = ap (λ s. probe_slot (home F r.pair.key s) s q) part.slots
 
-      -- an earlier place is taken, and by another key
+      -- an earlier position is taken, and by another key
       passed : (q : ℕ) → q < r.position → stops_at R.cells r.pair.key (slot q) ≡ false
       passed q l =
           let there = r.earlier_taken q l in

@@ -68,7 +68,7 @@ module _ (F : Format) (P : Table) (k : List ℕ) (ok : IsPlaced F P) where
             ];
       }
 
-  -- no slot is free or has the key where a search doesn't end
+  -- no slot is free or has the key where a search does not end
   pub search_end-None : search_end F P.cells k ≡ None → (i : ℕ) → i < slot_count P → stops_at P.cells k i ≡ false
   unfolding search_end
   search_end-None e i l =

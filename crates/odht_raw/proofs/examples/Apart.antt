@@ -1,4 +1,4 @@
--- What a test tells of the things that it looks at.
+-- What a test says about the things that it looks at.
 --     told_apart               two things, of which one passes a test and the other not
 --     unequal, unequal_lists   two numbers, and two lists of numbers
 --     some_unequal_lists       two such lists, of which one might have been missing
@@ -27,7 +27,7 @@ unequal_lists xs ys h e = true≢false (sym h ∙ false-lists_differ xs ys e)
 pub some_unequal_lists : (xs ys : List ℕ) → lists_differ xs ys ≡ true → Some xs ≡ Some ys → ⊥
 some_unequal_lists xs ys h e = unequal_lists xs ys h cc
 
--- what a test tells of each of the first n numbers
+-- a test of each of the first n numbers
 pub tested : (f : ℕ → Bool) (n i : ℕ) → list_all f (range_with_len 0 n) ≡ true → i < n → f i ≡ true
 tested f n i h low =
     subst (λ j. f j ≡ true) (get_or-range_with_len 0 n i 0 low ∙ zero-add i)

@@ -22,7 +22,7 @@ use Rattle.odht_raw.proofs.examples.FrameRefusals.{occupied_controls, no_entries
 use Rattle.odht_raw.proofs.examples.Opened.{opened}
 
 -- ---- the first free slot
--- slots 3 and 4 are filled
+-- slots 3 and 4 are occupied
 occupied_before : (q : ℕ) → q < 2 → CountsAsOccupied slot_five_free (probe_slot 3 16 q)
 occupied_before q l = inl (not-true _ (tested (λ p. not (counts_as_free (slice_index slot_five_free (probe_slot 3 16 p)))) 2 q refl l))
 

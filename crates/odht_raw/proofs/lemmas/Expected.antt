@@ -43,7 +43,7 @@ pub no_match : (xs : List ℕ) (o : Option ℕ) (b : Bool) → o ≡ slice_get x
 no_match xs None b e is none = e
 no_match xs (Some x) b e is none = absurd (true≢false (sym is ∙ none))
 
--- the first place of the order
+-- the first position of the order
 first_place : (b s : ℕ) → IsSlotCount s → probe_slot (b % s) s 0 ≡ b % s
 first_place b s count =
     let few = count.least in
@@ -57,7 +57,7 @@ module _ (F : Format) (P : Table) (es ctrl k : List ℕ) (f : IsFormat F) (h : I
   mirrored : length ctrl ≡ length ctrl - 16 + 16
   mirrored = let few = count.least in omega arith
 
-  -- a search stands at the first bytes of the group at the home slot
+  -- a search begins at the first bytes of the group at the home slot
   stands_home : (n : ℕ) → n ≤ 16 → StandsAt F P stored k 0 (home F k (length ctrl - 16)) (bytes_at ctrl (home F k (length ctrl - 16)) n)
   stands_home n l =
       let b : ℕ = home F k (length ctrl - 16) in
@@ -96,7 +96,7 @@ module _ (F : Format) (P : Table) (es ctrl k : List ℕ) (f : IsFormat F) (h : I
       ends low (sym (byte_is F f P es ctrl h i low) ∙ free)
 
 -- ---- after other keys
--- the pairs of P stand in Q with their keys, whatever their values
+-- the pairs of P are in the same slots of Q by their keys, whatever their values
 abbrev pub IsKeptIn : Table → Table → Type 0
 IsKeptIn P Q = (i : ℕ) (p : Pair) → HoldsPair P i p → (q : Pair) × HoldsPair Q i q × (q.key ≡ p.key)
 

@@ -1,4 +1,4 @@
--- The first look of a search: what it tells of where the search ends.
+-- The first look of a search: what its answer says about where the search ends.
 use Rattle.std.proofs.Common.{◌≡◌, ◌∙◌, ◌+◌, ◌*◌, ◌%◌, ◌<◌, ℕ, sym, ap, arith, refl, List, length, Option, Some, None, Contains, true, true≢false}
 use Rattle.std.specs.Prelude.{is_some}
 use Rattle.std.proofs.Math.Nat.{mod-lt, mod-eq_of_lt}
@@ -40,7 +40,7 @@ module _ (F : Format) (T : TableParts) (k : List ℕ) (slots : IsSlotCount T.ent
   abbrev pub matches : List ℕ
   matches = equal (home_group F T k) (tag F k)
 
-  -- a match stands in the group
+  -- a match is in the group
   pub match-lt : (i : ℕ) → Contains matches i → i < 16
   match-lt i c = omega (arith, (report.occupied i c).0, length-home_group)
 

@@ -1,4 +1,4 @@
--- A search for the first free slot: what a group tells, and what its end tells of a placed table without the key.
+-- A search for the first free slot: what a group reports, and where it ends in a placed table without the key.
 use Rattle.std.proofs.Common.{false, true, ◌≡◌, ℕ, ◌+◌, ◌-◌, ◌*◌, ◌%◌, ◌<◌, ◌≤◌, inl, inr, sym, ap, ◌∙◌, subst, refl, arith, List, length, slice_index, IsTrue, Some, None}
 use Rattle.std.proofs.lemmas.Bool.{cases_lt, or_from, or_left}
 use Rattle.std.proofs.lemmas.List.Quantifiers.{position-Some}
@@ -95,7 +95,7 @@ first_at_home ctrl hash s count free =
 
 -- ---- the parts of a placed table
 module _ (F : Format) (P : Table) (k es ctrl : List ℕ) (f : IsFormat F) (h : IsPartsOf F P es ctrl) (s : ℕ) (len : length ctrl ≡ s + 16) where
-  -- the mirror of a slot tells of it what its own byte tells
+  -- the mirror of a slot counts as free where its own byte does
   mirror_is : (i : ℕ) → i < 16 → counts_as_free (slice_index ctrl (length ctrl - 16 + i)) ≡ is_free P.cells i
   mirror_is i l =
       let few = h.placed.slots.least in
@@ -110,7 +110,7 @@ module _ (F : Format) (P : Table) (k es ctrl : List ℕ) (f : IsFormat F) (h : I
   is_free_slot i l (inl own) = sym (byte_is F f P es ctrl h i l) ∙ own
   is_free_slot i l (inr mirror) = sym (mirror_is i mirror.0) ∙ mirror.1
 
-  -- and one that counts as occupied is filled
+  -- and one that counts as occupied is occupied
   pub is_occupied_slot : (i : ℕ) → i < slot_count P → CountsAsOccupied ctrl i → is_free P.cells i ≡ false
   is_occupied_slot i l (inl own) = sym (byte_is F f P es ctrl h i l) ∙ own
   is_occupied_slot i l (inr mirror) = sym (mirror_is i mirror.0) ∙ mirror.1

@@ -38,7 +38,7 @@ has_answer F n p text old now (IsRenewed.memory same good small) = inr (inr (inl
 has_answer F n p text old now (IsRenewed.made same s P bytes good slots new image) =
     inr (inr (inr (s, P, bytes, refl, refl, good, slots, new, image)))
 
--- the text of a new table begins with another letter than a refusal's
+-- the text of a new table begins with another letter than an error's
 made_letter : (F : Format) (n p : ℕ) (text : List ℕ) (now : Option (List ℕ)) → (slice_index text 0 == 115) ≡ false
     → IsMade F n p text now → ⊥
 made_letter F n p text now other h = told_apart (λ t. slice_index t 0 == 115) _ text refl other (sym h.3)

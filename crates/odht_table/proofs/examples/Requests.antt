@@ -14,7 +14,7 @@ use Rattle.odht_table.proofs.examples.PutAnswers.{old_key, other_text}
 use Rattle.odht.proofs.examples.SmallTables.{no_pairs, one_pair}
 use Rattle.odht_table.proofs.examples.Tests.{has_pairs}
 
--- the answer t to a request of the table of 1 and 2, after which there is Q
+-- the answer t to a request of the table of 1 and 2, after which the table is Q
 abbrev Answers : Request → List ℕ → Table → Type 0
 Answers r t Q = IsAnswered my_coding (one_pair 2) r t Q
 
@@ -32,12 +32,12 @@ pub no_put : Answers (Put 1 3) (codes "was 3\n") (one_pair 3) → ⊥
 no_put = other_text
 
 -- ---- get
--- a key that is there
+-- a present key
 pub a_get : Answers (Get 1) (codes "2\n") (one_pair 2)
 unfolding opened digits
 a_get = (refl, refl)
 
--- a key that is not there
+-- an absent key
 pub a_missing_get : Answers (Get 2) (codes "none\n") (one_pair 2)
 unfolding opened digits
 a_missing_get = (refl, refl)
