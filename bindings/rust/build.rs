@@ -1,5 +1,5 @@
 //! Finds the archive `libodht.a`: in the folder that ODHT_LIB_DIR names; else in build/ of the repository; else in the
-//! folder that pkg-config knows. Where there is none it says what to do.
+//! folder that pkg-config reports. Where there is none it says what to do.
 
 use std::path::{Path, PathBuf};
 use std::process::{exit, Command};
@@ -26,7 +26,7 @@ fn find_folder() -> PathBuf {
         give_up(&format!("ODHT_LIB_DIR is {}, and {ARCHIVE} is not there.", named.display()));
     }
     let built = repository_build();
-    // Once the archive is made there, this is to run again.
+    // This script runs again once the archive is there.
     println!("cargo:rerun-if-changed={}", built.join(ARCHIVE).display());
     if has_archive(&built) {
         return built;

@@ -1,7 +1,7 @@
 #!/bin/sh
-# Refuses each request for memory in turn, and compares all that is told with `expected`:
+# Lets each request for memory fail in turn, and compares all that is printed with `expected`:
 # of the calls (cases/), of the program on each of scripts/, and of the tests of the builds for C. At the last request
-# of each nothing is left to be refused.
+# of each nothing is left to fail.
 cd "$(dirname "$0")" || exit 1
 found=$(mktemp -d) || exit 1
 trap 'rm -rf "$found"' EXIT
@@ -21,7 +21,7 @@ for request in 1 2 3 4; do
 done
 wait
 cat "$found"/parts/* > "$found/all"
-# the lines of a source are no part of what is told
+# source locations, and lines of the tool itself, are left out
 grep -v '^rt: \|^    src/' "$found/all" > "$found/told"
 if diff expected "$found/told"; then
     echo 'memory: each request was refused in turn, and told as it must be'

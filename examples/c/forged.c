@@ -1,8 +1,8 @@
 /*
- * A program that reads a table of somebody else without a whole check: it opens the bytes and walks, a few pairs at a
- * time. It does not ask how many there are, which is a claim of the header. Here that is forged; all pairs are found,
- * and nothing is read or written outside of the arrays. A program that does ask, and allocates for all pairs at once, has
- * to hold the number to the length of the bytes first.
+ * A program that reads an untrusted table without the whole check: it opens the bytes and walks, a few pairs at a time.
+ * It does not use the header's item count, which is forged here; all pairs are found, and nothing is read or written
+ * outside of the arrays. A program that does use it, and allocates for all pairs at once, has to compare the count with
+ * the length of the bytes first.
  */
 #include <inttypes.h>
 #include <stdint.h>
@@ -43,8 +43,8 @@ static uint32_t add_up_keys(const uint8_t *bytes, size_t length, uint64_t *sum)
 }
 
 /*
- * The same by one walk. A slot takes more than one byte, so a table that states more items than it has bytes is forged;
- * with fewer the products below stay far below 2^64, since the bytes are there.
+ * The same by one walk. A slot takes more than one byte, so a table whose header's count is above its length in bytes
+ * is forged; for smaller counts the products below are far below 2^64.
  */
 static uint32_t add_up_keys_at_once(const uint8_t *bytes, size_t length, uint64_t *sum)
 {
@@ -68,7 +68,7 @@ static uint32_t add_up_keys_at_once(const uint8_t *bytes, size_t length, uint64_
     return status;
 }
 
-/* The item count of the header is bytes 8 to 15, its lowest byte first. */
+/* The item count in the header is bytes 8 to 15, in little-endian order. */
 static void state(uint8_t *bytes, uint64_t count)
 {
     for (size_t index = 0; index < 8; index++)

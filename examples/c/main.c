@@ -1,6 +1,6 @@
 /*
  * Makes tables, stores one of them in the file that is named by the only argument, maps it, looks
- * keys up, and shows what is refused. examples/expected holds what it must print, and
+ * keys up, and prints what is rejected. examples/expected holds what it must print, and
  * examples/README.md says why.
  */
 #define _POSIX_C_SOURCE 200809L
@@ -131,7 +131,7 @@ static void walk(const uint8_t *bytes, size_t length)
     printf(", %zu pair, %" PRIu64 " to %" PRIu32 "\n", count, keys[0], values[0]);
 }
 
-/* Builds the stored table at once, of the pairs that it holds. */
+/* Builds the stored table by one call, from the pairs that it holds. */
 static void build(const uint8_t *bytes)
 {
     uint64_t keys[PAIRS];
@@ -273,7 +273,7 @@ static void byte_keys(void)
     say_line("check where byte 369 is 255", odht_b16_u32_check(bytes, sizeof bytes));
 }
 
-/* ---- Refusals ---- */
+/* ---- Errors ---- */
 
 static void open_damaged(const uint8_t *bytes, size_t length)
 {
@@ -294,7 +294,7 @@ static void open_damaged(const uint8_t *bytes, size_t length)
     }
 }
 
-/* Opening sees nothing of these changes. */
+/* Opening finds none of these changes. */
 static void check_damaged(const uint8_t *bytes, size_t length)
 {
     static const struct { size_t index; uint8_t byte; } changes[] = {

@@ -1,4 +1,4 @@
-/* Calls each function with NULL wherever it is taken, and compares the answers with what they must be. */
+/* Calls each function with NULL wherever it is allowed, and compares the answers with what they must be. */
 #include <stdint.h>
 #include <stdio.h>
 #include <stdlib.h>
@@ -38,7 +38,7 @@ static const uint8_t hashes[] = "the first key 16the other key 16";
 #define LENGTH 384
 #include "null_calls.h"
 
-/* A table of no pairs has 16 slots, so 256 bytes. */
+/* A table without pairs has 16 slots, so 256 bytes. */
 static void null_builds(void)
 {
     uint8_t out[256];
@@ -57,7 +57,7 @@ static void null_builds(void)
     EXPECT(odht_u64_u32_check(out, 256), ODHT_OK);
 }
 
-/* A pointer to a function is one to the function that takes NULL. */
+/* A pointer to a function points to the inline function, which takes NULL. */
 static void null_through_pointer(void)
 {
     uint32_t (*open)(const uint8_t *, size_t) = odht_u64_u32_open;

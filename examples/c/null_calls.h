@@ -1,5 +1,5 @@
 /*
- * Each call of one kind of table, with NULL wherever it is taken. null.c includes this once for each kind, with
+ * Each call of one kind of table, with NULL wherever it is allowed. null.c includes this once for each kind, with
  * CALL(name), the call of that name; TEST, the name for this function; KEY and OTHER_KEY, two keys;
  * KEYS, an array that begins with KEY; VALUE, the type of values; LENGTH, the bytes of 16 slots.
  */
@@ -12,7 +12,7 @@ static void TEST(void)
     size_t cursor = 0;
     odht_view view;
 
-    /* No bytes are too short, and nothing is told. */
+    /* An empty slice is too short, and nothing is written. */
     EXPECT(CALL(open)(NULL, 0), ODHT_TOO_SHORT);
     EXPECT(CALL(check)(NULL, 0), ODHT_TOO_SHORT);
     EXPECT(CALL(len)(NULL, 0, NULL), ODHT_TOO_SHORT);
@@ -60,7 +60,7 @@ static void TEST(void)
     EXPECT(CALL(walk)(bytes, LENGTH, &cursor, NULL, 0, values, 1, NULL), ODHT_BAD_LENGTHS);
     EXPECT(CALL(insert_order)(bytes, LENGTH, NULL, 0), ODHT_BAD_LENGTHS);
 
-    /* The view had no value before, and a refusal leaves it. */
+    /* The view had no value before, and an error leaves it unchanged. */
     EXPECT(CALL(open_view)(bytes, LENGTH, &view), ODHT_OK);
     EXPECT(CALL(open_view)(NULL, 0, &view), ODHT_TOO_SHORT);
     EXPECT(CALL(view_len)(&view), 1);

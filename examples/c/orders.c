@@ -8,7 +8,7 @@
 #include "orders.h"
 #include "say.h"
 
-/* Puts the keys into an empty table of 16 slots, and says whether it is as that of `bytes`. */
+/* Inserts the keys into an empty table of 16 slots, and returns whether its bytes are `bytes`. */
 static void insert_again(const char *what, const uint64_t *keys, const uint32_t *values,
                          const uint8_t *bytes)
 {
@@ -19,7 +19,7 @@ static void insert_again(const char *what, const uint64_t *keys, const uint32_t 
     printf("%s: %s bytes\n", what, memcmp(again, bytes, sizeof again) == 0 ? "same" : "other");
 }
 
-/* The place of a slot's pair in the walk, which is in slot order: behind those of the smaller slots. */
+/* The index of a slot's pair in the walk, which is in slot order: after those of the smaller slots. */
 static size_t place_in_walk(size_t slot, const size_t *slots)
 {
     size_t place = 0;
@@ -57,7 +57,7 @@ void order_of_inserts(void)
              odht_u64_u32_insert_order(bytes, sizeof bytes, slots, 2));
 }
 
-/* Each key stands in its home, and then two of them in each other's. */
+/* Each key is in its home, and then two of them are in each other's. */
 void unmade_table(void)
 {
     uint8_t bytes[1392];

@@ -22,7 +22,7 @@ static inline void say_line(const char *what, uint32_t status)
     printf("\n");
 }
 
-/* Stops the program where a call that cannot be refused is. */
+/* Stops the program where a call that cannot fail has failed. */
 static inline void must_be_ok(uint32_t status)
 {
     if (status != ODHT_OK) {

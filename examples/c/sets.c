@@ -1,4 +1,4 @@
-/* Sets of hashes: what is in them, a walk by a few places, a growth, and builds. */
+/* Sets of hashes: what is in them, a walk by two keys at a time, a growth, and builds. */
 #include <stdint.h>
 #include <stdio.h>
 #include <stdlib.h>
@@ -32,7 +32,7 @@ static void fills(uint8_t *bytes)
     EXPECT(odht_b16_check(bytes, LENGTH), ODHT_OK);
 }
 
-/* A walk by two places gives each hash once. */
+/* A walk by two keys at a time gives each hash once. */
 static void walks(const uint8_t *bytes)
 {
     uint8_t keys[2 * HASH];

@@ -13,7 +13,7 @@ static void say_view_value(uint64_t key, uint32_t status, uint32_t value)
     say_value(key, status, value);
 }
 
-/* The second opening is refused, and leaves the view. */
+/* The second opening has an error, and leaves the view unchanged. */
 void look_up_in_view(const uint8_t *bytes, size_t length)
 {
     static const uint64_t together[] = {41, 7, 40};

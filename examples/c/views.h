@@ -1,4 +1,4 @@
-/* What the example shows of opened tables. */
+/* What the example prints about opened tables. */
 #ifndef VIEWS_H
 #define VIEWS_H
 

@@ -1,5 +1,5 @@
-//! Makes tables, stores one of them in the file that is named by the only argument, reads it, looks keys up, and shows
-//! what is refused. It prints the same as examples/c.
+//! Makes tables, stores one of them in the file that is named by the only argument, reads it, looks keys up, and
+//! prints what is rejected. It prints the same as examples/c.
 
 mod refusals;
 mod say;
@@ -42,7 +42,7 @@ fn look_up(bytes: &[u8]) -> Result<(), Error> {
     Ok(())
 }
 
-/// What C calls a view is what a `Table` is: opened once, it looks at no header again.
+/// A `Table` is what a view is in C: it is opened once, and does not check the header again.
 fn look_up_in_view(bytes: &[u8]) -> Result<(), Error> {
     let table = told("open_view", Table::<U64U32>::open(bytes))?;
     say("open_view without the last byte", Table::<U64U32>::open(&bytes[..LENGTH - 1]));
@@ -72,7 +72,7 @@ fn walk(bytes: &[u8]) -> Result<(), Error> {
     Ok(())
 }
 
-/// Builds the stored table at once, of the pairs that it holds.
+/// Builds the stored table by one call, from the pairs that it holds.
 fn build(bytes: &[u8]) -> Result<(), Error> {
     let (keys, mut values) = pairs(PAIRS);
     values[7 - 1] = 1000;
@@ -104,7 +104,7 @@ fn fill_to_the_maximum() -> Result<(), Error> {
     Ok(())
 }
 
-/// Puts the pairs into an empty table of 16 slots, and says whether it is as that of `bytes`.
+/// Inserts the pairs into an empty table of 16 slots, and returns whether its bytes are `bytes`.
 fn insert_again(what: &str, pairs: impl Iterator<Item = (u64, u32)>, bytes: &[u8]) -> Result<(), Error> {
     let mut again = empty_table::<U64U32>(13, PERCENT)?;
     let mut table = TableMut::<U64U32>::open(&mut again)?;
@@ -154,7 +154,7 @@ fn look_up_bytes(table: Table<B16U32>, keys: &[[u8; 16]]) {
     say::sums(&pairs);
 }
 
-/// A table to look up in borrows the bytes, so an insert needs another one behind it.
+/// A table to look up in borrows the bytes, so after an insert another one is needed.
 fn insert_between_views(bytes: &mut [u8], key: &[u8; 16]) -> Result<(), Error> {
     let view = told("open_view", Table::<B16U32>::open(bytes))?;
     say::value("view_get 6", view.get(key));
@@ -186,7 +186,7 @@ fn byte_keys() -> Result<(), Error> {
     Ok(())
 }
 
-/// Each key stands in its home, and then two of them in each other's.
+/// Each key is in its home, and then two of them are in each other's.
 fn unmade_table() -> Result<(), Error> {
     let mut bytes = [0; 1392];
     println!("\na valid table that no inserts make");

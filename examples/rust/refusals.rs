@@ -1,4 +1,4 @@
-//! What is refused: damaged tables, and arguments that do not fit.
+//! Errors: damaged tables, and arguments that do not fit.
 
 use odht::{bytes_needed, Error, Table, TableMut, U64U32};
 
@@ -22,7 +22,7 @@ pub fn open_damaged(bytes: &[u8]) {
     }
 }
 
-/// Opening sees nothing of these changes.
+/// Opening finds none of these changes.
 pub fn check_damaged(bytes: &[u8]) {
     println!("\nthe whole check of such copies");
     say("none", Table::<U64U32>::checked(bytes));

@@ -7,7 +7,7 @@ const ABSENT: &str = "32 absent";
 const REPLACED: &str = "33 replaced";
 const UNMADE: &str = "37 unmade";
 
-/// The status that an answer stands for.
+/// The status of a result.
 pub fn status<T>(answer: &Result<T, Error>) -> String {
     match answer {
         Ok(_) => OK.to_string(),
@@ -19,13 +19,13 @@ pub fn say<T>(what: &str, answer: Result<T, Error>) {
     println!("{what}: {}", status(&answer));
 }
 
-/// Prints an answer, and hands it back.
+/// Prints a result, and returns it.
 pub fn told<T>(what: &str, answer: Result<T, Error>) -> Result<T, Error> {
     println!("{what}: {}", status(&answer));
     answer
 }
 
-/// Prints an answer with a number, such as a count of items.
+/// Prints a result with a number, such as a count of items.
 pub fn number(what: &str, answer: Result<usize, Error>, unit: &str) {
     match answer {
         Ok(number) => println!("{what}: {OK}, {number} {unit}"),
@@ -58,7 +58,7 @@ pub fn found(what: &str, answer: Result<(), Error>, found: &[u8], values: &[u32]
     println!("{what}: {}, found {}, values {}", status(&answer), found.join(" "), values.join(" "));
 }
 
-/// Prints what the answer to the question for an order of inserts is.
+/// Prints the result of a call for an order of inserts.
 pub fn order(what: &str, answer: &Result<Option<Vec<usize>>, Error>) {
     match answer {
         Ok(Some(slots)) => {

@@ -1,14 +1,14 @@
-//! Tables that are built of pairs.
+//! Tables that are built from pairs.
 
 use crate::calls::Calls;
 use crate::error::Error;
 use crate::shape::Shape;
 use crate::{bytes_needed, zeros};
 
-/// The load factor of tables that grow from nothing.
+/// The load factor, in percent of slots, of tables that grow from 16 slots.
 pub const DEFAULT_PERCENT: u8 = 87;
 
-/// Collects pairs, and builds a table of them. Of equal keys the last value counts.
+/// Collects pairs, and builds a table from them. Of equal keys the last value counts.
 ///
 /// ```
 /// # fn main() -> Result<(), odht::Error> {
@@ -26,18 +26,18 @@ pub struct Builder<S: Shape> {
 }
 
 impl<S: Shape> Builder<S> {
-    /// No pairs yet, for tables that are filled to at most so many percent of their slots, 1 to 100.
+    /// A builder without pairs, of tables with at most so many percent of their slots occupied, 1 to 100.
     pub fn new(percent: u8) -> Self {
         Builder { keys: Vec::new(), values: Vec::new(), percent }
     }
 
-    /// One pair more.
+    /// Adds a pair.
     pub fn push(&mut self, key: S::Key, value: S::Value) {
         self.keys.push(key);
         self.values.push(value);
     }
 
-    /// How many pairs there are, those of equal keys each.
+    /// How many pairs there are. Pairs with equal keys count each.
     pub fn len(&self) -> usize {
         self.keys.len()
     }
@@ -47,7 +47,7 @@ impl<S: Shape> Builder<S> {
         self.keys.is_empty()
     }
 
-    /// How many bytes the table of [`Builder::build`] has: it is made for as many items as there are pairs.
+    /// The length in bytes of the table of [`Builder::build`], which has slots for as many items as there are pairs.
     ///
     /// # Errors
     ///
@@ -56,7 +56,7 @@ impl<S: Shape> Builder<S> {
         bytes_needed::<S>(self.len(), self.percent)
     }
 
-    /// The bytes of a table for exactly these pairs, inserted one after the other.
+    /// The bytes of a table with slots for as many items as there are pairs, which are inserted one after the other.
     ///
     /// # Errors
     ///
@@ -67,27 +67,27 @@ impl<S: Shape> Builder<S> {
         Ok(bytes)
     }
 
-    /// Builds the table at the front of `out`, the rest of which stays, and asks for no memory. The answer is its
-    /// length.
+    /// Builds the table at the front of `out`, the rest of which is unchanged, and returns its length in bytes.
+    /// Allocates nothing.
     ///
     /// # Errors
     ///
-    /// As of [`Builder::bytes_needed`]; [`Error::TooSmall`] where `out` is shorter than that. Then `out` stays.
+    /// As of [`Builder::bytes_needed`]; [`Error::TooSmall`] where `out` is shorter than that. Then `out` is unchanged.
     pub fn build_into(&self, out: &mut [u8]) -> Result<usize, Error> {
         let mut len = 0;
         let status = S::Calls::build(&self.keys, &self.values, self.percent, out, &mut len);
         Error::unless_ok(status, len)
     }
 
-    /// The bytes of the table that one gets who does not know the number of pairs before: it has 16 slots at 87
-    /// percent at first, whatever percentage was given here, and grows whenever it is full. The order of the slots can
-    /// differ from that of [`Builder::build`].
+    /// The bytes of the table that results where the number of pairs is not known before: it has 16 slots at 87 percent
+    /// at first, whatever percentage was given here, and grows whenever it is full. The order of the slots can differ
+    /// from that of [`Builder::build`].
     ///
     /// # Errors
     ///
     /// [`Error::Memory`], also where no table is large enough.
     pub fn build_growing(&self) -> Result<Vec<u8>, Error> {
-        // Where no key stands twice the table has just this length, and else no more.
+        // Where the keys differ the table has exactly this length, and otherwise no more.
         let most = bytes_needed::<S>(self.len(), DEFAULT_PERCENT).map_err(|_| Error::Memory)?;
         let mut bytes = zeros(most)?;
         let len = self.build_growing_into(&mut bytes)?;
@@ -96,12 +96,12 @@ impl<S: Shape> Builder<S> {
         Ok(bytes)
     }
 
-    /// As [`Builder::build_growing`], at the front of `out`, the rest of which stays. The answer is the table's
-    /// length. It asks for memory for the table while it grows.
+    /// As [`Builder::build_growing`], at the front of `out`, the rest of which is unchanged. Returns the table's length
+    /// in bytes. It allocates memory for the table while that grows.
     ///
     /// # Errors
     ///
-    /// [`Error::Memory`]; [`Error::TooSmall`] where `out` is shorter than the table. Then `out` stays.
+    /// [`Error::Memory`]; [`Error::TooSmall`] where `out` is shorter than the table. Then `out` is unchanged.
     pub fn build_growing_into(&self, out: &mut [u8]) -> Result<usize, Error> {
         let mut len = 0;
         let status = S::Calls::build_growing(&self.keys, &self.values, out, &mut len);
@@ -110,7 +110,7 @@ impl<S: Shape> Builder<S> {
 }
 
 impl<S: Shape> Default for Builder<S> {
-    /// No pairs yet, at 87 percent.
+    /// A builder without pairs, at 87 percent.
     fn default() -> Self {
         Builder::new(DEFAULT_PERCENT)
     }
@@ -125,7 +125,7 @@ impl<S: Shape> Extend<(S::Key, S::Value)> for Builder<S> {
 }
 
 impl<S: Shape> FromIterator<(S::Key, S::Value)> for Builder<S> {
-    /// These pairs, at 87 percent.
+    /// A builder with these pairs, at 87 percent.
     fn from_iter<I: IntoIterator<Item = (S::Key, S::Value)>>(pairs: I) -> Self {
         let mut builder = Builder::default();
         builder.extend(pairs);

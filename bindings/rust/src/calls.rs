@@ -1,11 +1,11 @@
-//! The calls of the archive with slices and references in place of pointers, the same for every shape. All that is said
-//! of them in include/odht.h holds here too; each answers a status.
+//! The calls of the archive with slices and references instead of pointers, the same for every shape. The comments on
+//! them in include/odht.h hold here too; each returns a status.
 //!
-//! Of all calls but three this makes safe functions, for the reason that [`crate::sys`] asks for no more than slices
-//! and references uphold by themselves. Their pointers are aligned and not null, also those of empty slices. They may
+//! All calls but three are safe functions here, since [`crate::sys`] requires no more than slices and references
+//! guarantee by themselves. Their pointers are aligned and not null, also those of empty slices. They may
 //! be read for their whole length, and written where they are `mut`. What is borrowed for writing overlaps nothing
 //! else, and nobody else reads or writes it meanwhile; what is borrowed for reading nobody writes. The archive keeps
-//! no pointer, but for a view in the place that it is given.
+//! no pointer, but for a view in the out-parameter that it is given.
 
 use crate::sys::{self, View};
 use crate::{B16, B16U32, B16U64, B20U64, B32, B32U64, U32U32, U64U32, U64U64};
@@ -34,15 +34,15 @@ pub trait Calls {
     fn build(keys: &[Self::Key], values: &[Self::Value], percent: u8, out: &mut [u8], len: &mut usize) -> u32;
     fn build_growing(keys: &[Self::Key], values: &[Self::Value], out: &mut [u8], len: &mut usize) -> u32;
 
-    /// The status, and the view: of the bytes where the status is `OK`, or else of none.
+    /// The status, and the view: of the bytes where the status is `OK`, otherwise of none.
     fn open_view(bytes: &[u8]) -> (u32, View);
 
     /// # Safety
     ///
-    /// The view is that of an [`Calls::open_view`] of this shape which has answered `OK`, or the pointer and the
-    /// length of bytes that [`Calls::open`] or [`Calls::init`] of this shape has answered `OK` of. Nobody writes the
-    /// bytes until this returns, and since that answer nothing but [`Calls::insert`] and [`Calls::insert_all`] of this
-    /// shape has.
+    /// The view is that of a [`Calls::open_view`] of this shape which returned `OK`, or the pointer and the length of
+    /// bytes for which [`Calls::open`] or [`Calls::init`] of this shape returned `OK`. Nobody writes the bytes until
+    /// this call returns, and since that status nothing but [`Calls::insert`] and [`Calls::insert_all`] of this shape
+    /// has written them.
     unsafe fn view_get(view: &View, key: &Self::Key, value: &mut Self::Value) -> u32;
 
     /// # Safety
@@ -56,7 +56,7 @@ pub trait Calls {
     unsafe fn view_len(view: &View) -> usize;
 }
 
-/// `$key => $passed` says how a single key is handed over, and `$value => $given` a single value: a set's is not.
+/// `$key => $passed` says how a single key is passed, and `$value => $given` a single value: a set's is not passed.
 macro_rules! calls {
     ($shape:ty, $module:ident, $key_type:ty, $value_type:ty, $key:ident => $passed:expr,
      $value:pat => $($given:expr)?) => {
@@ -131,7 +131,7 @@ macro_rules! calls {
                 count: &mut usize,
             ) -> u32 {
                 // SAFETY: of slices and references; those that are borrowed for writing are apart from all others.
-                // Whatever bytes the call writes into a key or a value, it is one.
+                // Any bytes that the call writes are a valid key or value.
                 unsafe {
                     sys::$module::walk(
                         bytes.as_ptr(), bytes.len(), cursor, keys.as_mut_ptr(), keys.len(),
@@ -199,7 +199,7 @@ macro_rules! calls {
 
             #[inline]
             unsafe fn view_get(view: &View, $key: &$key_type, value: &mut $value_type) -> u32 {
-                // SAFETY: what is said of this function is what the call demands; the rest are references.
+                // SAFETY: the safety section of this function is what the call requires; the rest are references.
                 unsafe { sys::$module::view_get(view, $passed, value) }
             }
 
@@ -210,8 +210,8 @@ macro_rules! calls {
                 values: &mut [$value_type],
                 found: &mut [u8],
             ) -> u32 {
-                // SAFETY: what is said of this function is what the call demands; the rest are slices, and those for
-                // writing are apart from all others.
+                // SAFETY: the safety section of this function is what the call requires; the rest are slices, and those
+                // for writing are apart from all others.
                 unsafe {
                     sys::$module::view_get_all(
                         view, keys.as_ptr(), keys.len(), values.as_mut_ptr(), values.len(),
@@ -222,7 +222,7 @@ macro_rules! calls {
 
             #[inline]
             unsafe fn view_len(view: &View) -> usize {
-                // SAFETY: what is said of this function is what the call demands.
+                // SAFETY: the safety section of this function is what the call requires.
                 unsafe { sys::$module::view_len(view) }
             }
         }

@@ -1,27 +1,27 @@
-//! Why a call was refused.
+//! Why a call failed.
 
 use std::fmt;
 
 /// The status of success.
 pub(crate) const OK: u32 = 0;
-/// A key has no value. Nothing that went wrong.
+/// A key has no value. Not an error.
 pub(crate) const ABSENT: u32 = 32;
-/// A key had a value. Nothing that went wrong.
+/// A key had a value. Not an error.
 pub(crate) const REPLACED: u32 = 33;
-/// No list of inserts makes the table. Nothing that went wrong.
+/// No list of inserts makes the table. Not an error.
 pub(crate) const UNMADE: u32 = 37;
 
 macro_rules! errors {
     ($($(#[$comment:meta])* $name:ident = $number:literal $text:literal,)*) => {
-        /// Why a call was refused: each status of the library that stands for an error.
+        /// Why a call failed: each status of the library that is an error.
         ///
-        /// Those from 1 to 16 are about the bytes of a table. Opening looks in their order and tells the first that
-        /// applies, 1 to 9; the whole check goes on as docs/FORMAT.md of the repository tells.
+        /// Those from 1 to 16 are about the bytes of a table. Opening checks in this order and returns the first that
+        /// applies, 1 to 9; the whole check continues as docs/FORMAT.md of the repository describes.
         #[non_exhaustive]
         #[derive(Clone, Copy, Debug, PartialEq, Eq, Hash)]
         pub enum Error {
             $($(#[$comment])* $name,)*
-            /// A number that this version of the crate has no name for. No call of this version answers it.
+            /// A number that this version of the crate has no name for. No call of this version returns it.
             Unknown(u32),
         }
 
@@ -42,7 +42,7 @@ macro_rules! errors {
                 }
             }
 
-            /// A short text, as that of `odht_status_name`.
+            /// A short text, the same as that of `odht_status_name`.
             pub fn name(self) -> &'static str {
                 match self {
                     $(Error::$name => $text,)*
@@ -80,30 +80,30 @@ errors! {
     BadFreeControl = 12 "bad free control",
     /// The last 16 bytes do not repeat the first control bytes.
     MirrorMismatch = 13 "mirror mismatch",
-    /// There are not as many items as the header states.
+    /// There are not as many items as the header says.
     WrongItemCount = 14 "wrong item count",
     /// There are more items than the load factor allows.
     TooManyItems = 15 "too many items",
-    /// A key stands behind a free slot of its probe order, or is there a second time.
+    /// A key is after a free slot of its probe order, or is stored a second time.
     Unreachable = 16 "unreachable",
     /// The bytes to initialize are not as many as the table needs.
     InitLength = 17 "wrong length to initialize",
-    /// The key is new, and the table has as many items as it takes.
+    /// The key is new, and the table is at its maximum.
     Full = 18 "full",
-    /// Memory was refused.
+    /// An allocation failed.
     Memory = 19 "no memory",
     /// No table takes so many items.
     Capacity = 20 "capacity",
     /// The load factor is 0 percent, or more than 100.
     BadPercent = 34 "bad percent",
-    /// Slices have different lengths, or not a place for each item.
+    /// Slices have different lengths, or not one element for each item.
     BadLengths = 35 "bad lengths",
-    /// There is more than there is room for.
+    /// An output buffer is too short for the result.
     TooSmall = 36 "too small",
 }
 
 impl Error {
-    /// `answer` where the status is that of success, or else its error.
+    /// `answer` where the status is that of success, otherwise the error with its number.
     pub(crate) fn unless_ok<T>(status: u32, answer: T) -> Result<T, Error> {
         match status {
             OK => Ok(answer),

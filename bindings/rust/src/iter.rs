@@ -10,25 +10,25 @@ use crate::shape::Shape;
 /// How many pairs are read at once.
 const BLOCK: usize = 64;
 
-/// The pairs of a table in slot order. It reads them in blocks, asks for no memory, and ends behind the last slot,
-/// whatever the header states.
+/// The pairs of a table in slot order. It reads them in blocks, allocates nothing, and ends after the last slot,
+/// whatever the header's count.
 #[derive(Clone)]
 pub struct Iter<'a, S: Shape> {
     bytes: &'a [u8],
     slots: usize,
-    /// The slot to go on at.
+    /// The slot to continue at.
     cursor: usize,
     /// Whether there may be pairs from there on.
     more: bool,
     keys: [S::Key; BLOCK],
     values: [S::Value; BLOCK],
-    /// The places of the block that are not given yet.
+    /// The indices of the block's pairs that were not returned yet.
     next: usize,
     end: usize,
 }
 
 impl<'a, S: Shape> Iter<'a, S> {
-    /// Of the bytes of an opened table, which has so many slots.
+    /// The pairs in the bytes of an opened table, which has so many slots.
     pub(crate) fn new(bytes: &'a [u8], slots: usize) -> Self {
         Iter {
             bytes,
@@ -42,7 +42,7 @@ impl<'a, S: Shape> Iter<'a, S> {
         }
     }
 
-    /// Reads the next block, once this one is given.
+    /// Reads the next block, once all pairs of this one were returned.
     #[cold]
     fn read(&mut self) {
         let mut count = 0;
@@ -72,8 +72,8 @@ impl<S: Shape> Iterator for Iter<'_, S> {
         Some((self.keys[place], self.values[place]))
     }
 
-    /// At least the rest of the block, at most that and one for each slot behind it. The item count of the header is
-    /// not in it, since it need not be true.
+    /// At least the rest of the block, at most that and one for each slot after it. It does not use the header's item
+    /// count, which need not be true.
     fn size_hint(&self) -> (usize, Option<usize>) {
         let read = self.end - self.next;
         let unread = if self.more { self.slots.saturating_sub(self.cursor) } else { 0 };

@@ -24,7 +24,7 @@ pub fn version() -> u32 {
     sys::odht_version()
 }
 
-/// So many zeros, or [`Error::Memory`] where there is no memory for them.
+/// So many zeros, or [`Error::Memory`] where the allocation fails.
 fn zeros<T: Copy + Default>(count: usize) -> Result<Vec<T>, Error> {
     let mut all = Vec::new();
     all.try_reserve_exact(count).map_err(|_| Error::Memory)?;

@@ -1,4 +1,4 @@
-//! What is shorter to say where there are no values.
+//! Shorter calls for tables without values.
 
 use crate::builder::Builder;
 use crate::error::Error;
@@ -6,7 +6,7 @@ use crate::shape::Shape;
 use crate::table_mut::TableMut;
 
 impl<S: Shape<Value = ()>> TableMut<'_, S> {
-    /// Puts a key into the set. The answer is whether it is new there.
+    /// Inserts a key into the set, and returns whether it is new there.
     ///
     /// # Errors
     ///
@@ -27,25 +27,25 @@ impl<S: Shape<Value = ()>> TableMut<'_, S> {
         self.insert(key, ()).map(|former| former.is_none())
     }
 
-    /// Puts keys into the set, up to the first that is refused. The answer is how many were accepted, and whether all
-    /// were.
+    /// Inserts keys into the set, in order, up to the first that does not fit. Returns how many were inserted, and
+    /// whether all were.
     ///
     /// # Errors
     ///
     /// [`Error::Full`] as of an insert: the keys before that one are in the set.
     pub fn add_all(&mut self, keys: &[S::Key]) -> (usize, Result<(), Error>) {
-        // Values that take no bytes ask for no memory.
+        // Values of no bytes need no allocation.
         self.insert_all(keys, &vec![(); keys.len()])
     }
 }
 
 impl<S: Shape<Value = ()>> Builder<S> {
-    /// One key more.
+    /// Adds a key.
     pub fn add(&mut self, key: S::Key) {
         self.push(key, ());
     }
 
-    /// More keys.
+    /// Adds keys.
     pub fn add_all(&mut self, keys: impl IntoIterator<Item = S::Key>) {
         self.extend(keys.into_iter().map(|key| (key, ())));
     }

@@ -5,10 +5,10 @@ use std::hash::Hash;
 
 use crate::calls::Calls;
 
-/// What a table's keys and values are. The types of this crate that have it are all that there are.
+/// What a table's keys and values are. Only types of this crate implement it.
 ///
-/// Numbers are stored lowest byte first, and hashed by `FxHashFn`. Keys of bytes are hashes already, as of contents:
-/// their last four bytes should vary, since these alone choose the slots (`UnHashFn`).
+/// Numbers are stored in little-endian order, and hashed by `FxHashFn`. Keys of bytes are hashes already, as of
+/// contents: their last four bytes should vary, since these alone determine the probe order (`UnHashFn`).
 pub trait Shape: sealed::Sealed + Copy + Debug + Default + Eq + Hash + Send + Sync + 'static {
     /// The type of the keys.
     type Key: Copy + Debug + Default + Eq + Ord + Hash + Send + Sync + 'static;

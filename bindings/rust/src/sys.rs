@@ -1,19 +1,19 @@
-//! The calls of the archive by their symbols, one module for each shape of table. include/odht.h tells what each does.
+//! The calls of the archive by their symbols, one module for each shape of table. include/odht.h says what each does.
 //!
-//! A slice is a pointer and, behind it, a length: in bytes of bytes, in items of arrays. Each call answers a status,
-//! but `view_len` and `odht_version`.
+//! A slice is a pointer and, after it, a length: of bytes in bytes, of arrays in items. Each call returns a status, but
+//! `view_len` and `odht_version`.
 //!
 //! # Safety
 //!
-//! What a caller of these functions upholds:
+//! What a caller of these functions ensures:
 //!
 //! - No pointer is null, also where the length beside it is 0. Pointers to numbers are aligned; keys that are bytes,
 //!   and a table's bytes, may begin at any address.
-//! - A pointer and its length are a slice that may be read, and may be written where the pointer is `*mut`; a place
-//!   that a call writes overlaps no other of that call.
+//! - A pointer and its length are a slice that may be read, and may be written where the pointer is `*mut`; a slice or
+//!   out-parameter that a call writes overlaps no other of that call.
 //! - Nobody writes the bytes while a call reads them, and nobody reads or writes them while a call writes them.
-//! - A view that is looked up in was filled by `open_view` of the same shape, or by hand with bytes that `open` of that
-//!   shape has accepted. Its bytes are still there, and nothing has written their header since but `insert`,
+//! - A view that is looked up in was written by `open_view` of the same shape, or by hand with bytes that `open` of
+//!   that shape has accepted. Its bytes are still there, and nothing has written their header since but `insert`,
 //!   `insert_all` and `init` of that shape, on exactly these bytes.
 
 const _: () = assert!(size_of::<usize>() == 8, "the library is built for 64 bits");
@@ -24,25 +24,25 @@ const _: () = assert!(size_of::<usize>() == 8, "the library is built for 64 bits
 pub struct View {
     /// All bytes of the table.
     pub bytes: *const u8,
-    /// How many they are.
+    /// The number of these bytes.
     pub len: usize,
 }
 
 unsafe extern "C" {
-    /// The version of the archive: 10000 times the major number, 100 times the minor one, and the patch. Asks nothing
-    /// of its caller.
+    /// The version of the archive: 10000 times the major number, 100 times the minor one, and the patch. It requires
+    /// nothing of its caller.
     pub safe fn odht_version() -> u32;
 }
 
-/// `$passed` is how a single key is handed over, and the words after `insert` are the single value of an insert: a
-/// set's has none.
+/// `$passed` is how a single key is passed, and the words after `insert` are the single value of an insert: a set has
+/// none.
 macro_rules! shape {
     ($(#[$comment:meta])* $shape:ident, $key:ty, $passed:ty, $value:ty, insert($($word:ident: $type:ty)?)) => {
         $(#[$comment])*
         pub mod $shape {
             use super::View;
 
-            // A set's values are `()`: of those the calls take pointers alone, and never read or write behind them.
+            // A set's values are `()`: the calls take pointers to these, and never read or write through them.
             #[allow(improper_ctypes)]
             unsafe extern "C" {
                 /// How many bytes a new table has.
@@ -71,7 +71,7 @@ macro_rules! shape {
                     percent: *mut u8,
                 ) -> u32;
 
-                /// The number of items that the header states.
+                /// The header's item count.
                 #[link_name = concat!("odht_", stringify!($shape), "_len")]
                 pub fn len(bytes: *const u8, bytes_len: usize, count: *mut usize) -> u32;
 
@@ -92,7 +92,7 @@ macro_rules! shape {
                     found_len: usize,
                 ) -> u32;
 
-                /// Gives a key a value.
+                /// Inserts a key with its value, or gives a key that is there another value.
                 #[link_name = concat!("odht_", stringify!($shape), "_insert")]
                 pub fn insert(
                     bytes: *mut u8,
@@ -102,7 +102,7 @@ macro_rules! shape {
                     former: *mut $value,
                 ) -> u32;
 
-                /// Gives keys their values, up to the first that is refused.
+                /// Inserts keys with their values, up to the first that does not fit.
                 #[link_name = concat!("odht_", stringify!($shape), "_insert_all")]
                 pub fn insert_all(
                     bytes: *mut u8,
@@ -127,7 +127,7 @@ macro_rules! shape {
                     count: *mut usize,
                 ) -> u32;
 
-                /// The filled slots in an order of inserts that makes the table.
+                /// The occupied slots in an order of inserts that makes the table.
                 #[link_name = concat!("odht_", stringify!($shape), "_insert_order")]
                 pub fn insert_order(
                     bytes: *const u8,
@@ -136,7 +136,7 @@ macro_rules! shape {
                     out_len: usize,
                 ) -> u32;
 
-                /// The table as it grows at its maximum.
+                /// The table that this one grows into at its maximum.
                 #[link_name = concat!("odht_", stringify!($shape), "_grow")]
                 pub fn grow(
                     bytes: *const u8,
@@ -146,7 +146,7 @@ macro_rules! shape {
                     len: *mut usize,
                 ) -> u32;
 
-                /// A table for exactly these pairs.
+                /// A table with slots for as many items as there are pairs.
                 #[link_name = concat!("odht_", stringify!($shape), "_build")]
                 pub fn build(
                     keys: *const $key,
@@ -159,7 +159,7 @@ macro_rules! shape {
                     len: *mut usize,
                 ) -> u32;
 
-                /// The table that grows as these pairs are inserted.
+                /// A table that grows as these pairs are inserted.
                 #[link_name = concat!("odht_", stringify!($shape), "_build_growing")]
                 pub fn build_growing(
                     keys: *const $key,
@@ -191,7 +191,7 @@ macro_rules! shape {
                     found_len: usize,
                 ) -> u32;
 
-                /// The number of items that the header of an opened table states.
+                /// The item count in the header of an opened table.
                 #[link_name = concat!("odht_", stringify!($shape), "_view_len")]
                 pub fn view_len(view: *const View) -> usize;
             }

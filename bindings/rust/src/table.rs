@@ -10,19 +10,19 @@ use crate::shape::Shape;
 use crate::sys::View;
 use crate::zeros;
 
-/// A table in borrowed bytes, to look up in: its header and its length are looked at once.
+/// A table in borrowed bytes, to look up in: its header and its length are checked once.
 ///
 /// It copies nothing and has nothing to free. The bytes may begin at any address, as those of a mapped file or of a
-/// part of one. (Who maps a file as a slice sees to it that no program writes the file meanwhile.) Any number of
+/// part of one. (Whoever maps a file as a slice ensures that no program writes the file meanwhile.) Any number of
 /// threads may read one table.
 ///
-/// What is said of answers holds for valid bytes: those that this library has made, and all others that the whole
-/// check passes ([`Table::checked`]). [`Table::open`] does not find out whether bytes are valid, for it looks at ten
-/// slots. On other bytes that it accepts every call is safe, and ends, but [`Table::get`] may miss a key or find a
-/// value that stands beside it in a free slot, and [`Table::len`] tells what the header states. docs/FORMAT.md of the
-/// repository has the frame.
+/// The comments on results hold for valid bytes: those that this library has made, and all others that the whole check
+/// accepts ([`Table::checked`]). [`Table::open`] does not find out whether bytes are valid, since it reads ten slots.
+/// On other bytes that it accepts every call is safe, and ends, but [`Table::get`] may miss a key or find a value that
+/// is stored beside it in a free slot, and [`Table::len`] is the header's count. docs/FORMAT.md of the repository has
+/// the details.
 ///
-/// While a table is there nobody can write its bytes:
+/// While a table exists nobody can write its bytes:
 ///
 /// ```compile_fail,E0506
 /// # let mut bytes = odht::Builder::<odht::U64U32>::new(87).build().unwrap();
@@ -31,14 +31,14 @@ use crate::zeros;
 /// table.get(&7);
 /// ```
 pub struct Table<'a, S: Shape> {
-    /// Of `bytes`, which open has accepted.
+    /// The view of `bytes`, which `open` has accepted.
     view: View,
     bytes: &'a [u8],
     shape: PhantomData<S>,
 }
 
-// SAFETY: the pointer of the view is that of `bytes`, behind which everybody only reads while the table is there. So a
-// table is no more than the slice, which may be sent to other threads and used by many.
+// SAFETY: the pointer of the view is that of `bytes`, which nobody writes while the table exists. So a table is no more
+// than the slice, which may be sent to other threads and used by many.
 unsafe impl<S: Shape> Send for Table<'_, S> {}
 // SAFETY: as above.
 unsafe impl<S: Shape> Sync for Table<'_, S> {}
@@ -51,7 +51,7 @@ impl<S: Shape> Clone for Table<'_, S> {
 
 impl<S: Shape> Copy for Table<'_, S> {}
 
-/// What the header of a table says of its slots.
+/// The numbers in the header of a table that are about its slots.
 #[derive(Clone, Copy, Debug, PartialEq, Eq)]
 pub struct Sizes {
     /// How many slots there are.
@@ -65,14 +65,14 @@ pub struct Sizes {
 /// What a step of [`Table::walk`] has written.
 #[derive(Clone, Copy, Debug, PartialEq, Eq)]
 pub struct Walked {
-    /// How many pairs, from the front of the slices on.
+    /// How many pairs, at the front of the slices.
     pub count: usize,
     /// Whether the slices are full and there are more pairs.
     pub more: bool,
 }
 
 impl<'a, S: Shape> Table<'a, S> {
-    /// Opens bytes: looks at the header, the length and the first ten slots, equally long for every table.
+    /// Opens bytes: checks the header, the length and the first ten slots. The cost is the same for every table.
     ///
     /// # Errors
     ///
@@ -85,7 +85,7 @@ impl<'a, S: Shape> Table<'a, S> {
 
     /// Opens bytes that are valid, to the last one: makes the whole check, which goes over all slots. It is for bytes
     /// of unknown origin. For tables whose keys vary it takes about as long as looking each key up; where many keys
-    /// have one hash it grows as the square of the number of slots, so bound the length of bytes from strangers.
+    /// have one hash the time grows as the square of the number of slots, so bound the length of untrusted bytes.
     ///
     /// # Errors
     ///
@@ -97,8 +97,8 @@ impl<'a, S: Shape> Table<'a, S> {
 
     /// # Safety
     ///
-    /// `open` or `init` of this shape has answered `OK` of the bytes, and nothing but inserts of this shape has written
-    /// them since.
+    /// `open` or `init` of this shape has returned `OK` for the bytes, and nothing but inserts of this shape has
+    /// written them since.
     pub(crate) unsafe fn of_accepted(bytes: &'a [u8]) -> Self {
         let view = View { bytes: bytes.as_ptr(), len: bytes.len() };
         Table { view, bytes, shape: PhantomData }
@@ -138,8 +138,8 @@ impl<'a, S: Shape> Table<'a, S> {
         self.get(key).is_some()
     }
 
-    /// The value of each key, in their order. It is faster than as many [`Table::get`], and asks for memory for the
-    /// answers.
+    /// The value of each key, in their order. It is faster than as many calls of [`Table::get`], and allocates the
+    /// result.
     pub fn get_all(&self, keys: &[S::Key]) -> Vec<Option<S::Value>> {
         let mut values = vec![S::Value::default(); keys.len()];
         let mut found = vec![0; keys.len()];
@@ -154,31 +154,30 @@ impl<'a, S: Shape> Table<'a, S> {
         self.get_all(keys).iter().map(Option::is_some).collect()
     }
 
-    /// As [`Table::get_all`], and asks for no memory: at each index `found` becomes 1 and `values` the value, or
-    /// `found` becomes 0 and `values` stays.
+    /// As [`Table::get_all`], and allocates nothing: at each index `found` becomes 1 and `values` the value, or `found`
+    /// becomes 0 and `values` is unchanged.
     ///
     /// # Errors
     ///
-    /// [`Error::BadLengths`] where the slices are not equally long; then both stay.
+    /// [`Error::BadLengths`] where the slices are not equally long; then both are unchanged.
     pub fn get_all_into(&self, keys: &[S::Key], values: &mut [S::Value], found: &mut [u8]) -> Result<(), Error> {
         // SAFETY: the view was opened, and `bytes` is borrowed since, so that nobody has written or writes them.
         Error::unless_ok(unsafe { S::Calls::view_get_all(&self.view, keys, values, found) }, ())
     }
 
-    /// The number of items, as the header states it. Of bytes that are not valid it may be any number: do not ask for
-    /// memory by it.
+    /// The header's item count. For bytes that are not valid it may be any number: do not allocate by it.
     #[inline]
     pub fn len(&self) -> usize {
         // SAFETY: the view was opened, and `bytes` is borrowed since, so that nobody has written or writes them.
         unsafe { S::Calls::view_len(&self.view) }
     }
 
-    /// Whether the header states no items.
+    /// Whether the header's item count is 0.
     pub fn is_empty(&self) -> bool {
         self.len() == 0
     }
 
-    /// What the header says of the slots.
+    /// The numbers in the header that are about the slots.
     pub fn sizes(&self) -> Sizes {
         let mut sizes = Sizes { slots: 0, max_items: 0, percent: 0 };
         let Sizes { slots, max_items, percent } = &mut sizes;
@@ -187,18 +186,18 @@ impl<'a, S: Shape> Table<'a, S> {
         sizes
     }
 
-    /// The pairs in slot order. Each slot that counts as filled gives one, whatever the header states.
+    /// The pairs in slot order: one for each occupied slot, whatever the header's count.
     pub fn iter(&self) -> Iter<'a, S> {
         Iter::new(self.bytes, self.sizes().slots)
     }
 
-    /// The keys in slot order, as [`Table::iter`].
+    /// The keys in slot order, as of [`Table::iter`].
     pub fn keys(&self) -> impl Iterator<Item = S::Key> + 'a {
         self.iter().map(|(key, _)| key)
     }
 
     /// Writes the pairs from slot `cursor` on, in slot order, to the front of the slices, and moves `cursor` to the
-    /// slot to go on at. It is 0 at first. The rest of the slices stays.
+    /// slot to continue at. It is 0 at first. The rest of the slices is unchanged.
     ///
     /// # Errors
     ///
@@ -213,28 +212,28 @@ impl<'a, S: Shape> Table<'a, S> {
         }
     }
 
-    /// An order of inserts that makes these very bytes, of an empty table of as many slots and the same load factor:
-    /// the slots that hold a pair, each once. `None` where no list of inserts makes them. It makes the whole check
+    /// An order of inserts that makes exactly these bytes, from an empty table of as many slots and the same load
+    /// factor: the occupied slots, each once. `None` where no list of inserts makes them. It makes the whole check
     /// first.
     ///
     /// # Errors
     ///
     /// As of [`Table::checked`]; [`Error::Memory`].
     pub fn insert_order(&self) -> Result<Option<Vec<usize>>, Error> {
-        // Where the header states more items than there are slots, the check refuses: no memory is asked for by that.
+        // Where the header's count exceeds the slots the check returns an error: nothing is allocated by that count.
         let count = self.len();
         let places = if count <= self.sizes().slots { count } else { 0 };
         let mut order = zeros(places)?;
         Ok(self.insert_order_into(&mut order)?.then_some(order))
     }
 
-    /// As [`Table::insert_order`], and asks for no memory: whether there is an order, which is then in `out`. Where
-    /// there is none, what `out` holds says nothing.
+    /// As [`Table::insert_order`], and allocates nothing: whether there is an order, which is then in `out`. Where
+    /// there is none, what `out` holds is unspecified.
     ///
     /// # Errors
     ///
-    /// As of [`Table::checked`]; [`Error::BadLengths`] where the bytes are valid and `out` has not a place for each
-    /// item. Then `out` stays.
+    /// As of [`Table::checked`]; [`Error::BadLengths`] where the bytes are valid and the length of `out` is not the
+    /// number of items. Then `out` is unchanged.
     pub fn insert_order_into(&self, out: &mut [usize]) -> Result<bool, Error> {
         match S::Calls::insert_order(self.bytes, out) {
             UNMADE => Ok(false),
@@ -242,12 +241,12 @@ impl<'a, S: Shape> Table<'a, S> {
         }
     }
 
-    /// The table as it grows at its maximum: the pairs in slot order in a table for twice as many, and for one at
-    /// least, at the same load factor.
+    /// The table that this one grows into at its maximum: its pairs, placed in slot order in a table for twice as many
+    /// items, and for one at least, at the same load factor.
     ///
     /// # Errors
     ///
-    /// [`Error::LoadFactorTooSmall`]; [`Error::TooManyItems`] where the header states more items than the maximum;
+    /// [`Error::LoadFactorTooSmall`]; [`Error::TooManyItems`] where the header's count exceeds its maximum;
     /// [`Error::Capacity`], [`Error::Memory`].
     pub fn grown(&self) -> Result<Vec<u8>, Error> {
         let mut larger = zeros(self.grown_len()?)?;
@@ -255,14 +254,14 @@ impl<'a, S: Shape> Table<'a, S> {
         Ok(larger)
     }
 
-    /// How many bytes the grown table has. Where the table has room for an item that is about twice as many as now.
+    /// The length in bytes of the grown table: about twice that of this one, where its maximum is at least one.
     ///
     /// # Errors
     ///
     /// As of [`Table::grown`], but [`Error::Memory`].
     pub fn grown_len(&self) -> Result<usize, Error> {
         if self.len() > self.sizes().max_items {
-            // So nobody asks for memory by a number that is not true.
+            // So nothing is allocated by a number that is not true.
             return Err(Error::TooManyItems);
         }
         let mut len = 0;
@@ -272,12 +271,12 @@ impl<'a, S: Shape> Table<'a, S> {
         }
     }
 
-    /// Writes the grown table to the front of `out`, the rest of which stays. The answer is its length.
+    /// Writes the grown table to the front of `out`, the rest of which is unchanged, and returns its length in bytes.
     ///
     /// # Errors
     ///
     /// [`Error::TooSmall`] where `out` is shorter than [`Table::grown_len`]; [`Error::LoadFactorTooSmall`],
-    /// [`Error::Capacity`]. Then `out` stays.
+    /// [`Error::Capacity`]. Then `out` is unchanged.
     pub fn grow_into(&self, out: &mut [u8]) -> Result<usize, Error> {
         let mut len = 0;
         let status = S::Calls::grow(self.bytes, out, &mut len);

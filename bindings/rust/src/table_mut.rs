@@ -12,21 +12,21 @@ use crate::zeros;
 /// A table in borrowed bytes, to insert into. It cannot grow there: [`TableMut::grow_into`] makes a larger one.
 ///
 /// What [`Table`] says of bytes that are not valid holds here too: an insert into them is safe, and changes one value
-/// beside an equal key, or adds one entry below the maximum that the header states, or is refused.
+/// beside an equal key, or adds one entry below the header's maximum, or returns [`Error::Full`].
 pub struct TableMut<'a, S: Shape> {
-    /// Bytes that `open` or `init` has accepted, and that only inserts have written since.
+    /// Bytes that `open` has accepted or `init` has written, and that only inserts have written since.
     bytes: &'a mut [u8],
     shape: PhantomData<S>,
 }
 
 impl<'a, S: Shape> TableMut<'a, S> {
     /// Makes an empty table in the bytes, whatever they hold. They have to be as many as [`crate::bytes_needed`]
-    /// answers for the same numbers.
+    /// returns for the same numbers.
     ///
     /// # Errors
     ///
     /// [`Error::BadPercent`]; [`Error::Capacity`]; [`Error::InitLength`] where there are more bytes or fewer. Then they
-    /// stay.
+    /// are unchanged.
     pub fn init(bytes: &'a mut [u8], max_items: usize, percent: u8) -> Result<Self, Error> {
         let status = S::Calls::init(bytes, max_items, percent);
         Error::unless_ok(status, TableMut { bytes, shape: PhantomData })
@@ -52,11 +52,11 @@ impl<'a, S: Shape> TableMut<'a, S> {
         TableMut::open(bytes)
     }
 
-    /// Gives a key this value. The answer is the value that it had, or `None` where it is new.
+    /// Gives a key this value, and returns the value that it had, or `None` where it is new.
     ///
     /// # Errors
     ///
-    /// [`Error::Full`] where the key is new and the table has as many items as it takes. Then nothing changes.
+    /// [`Error::Full`] where the key is new and the table is at its maximum. Then nothing changes.
     #[inline]
     pub fn insert(&mut self, key: &S::Key, value: S::Value) -> Result<Option<S::Value>, Error> {
         let mut former = S::Value::default();
@@ -66,13 +66,13 @@ impl<'a, S: Shape> TableMut<'a, S> {
         }
     }
 
-    /// Gives each key the value at its index, in their order, up to the first that is refused. The answer is how many
-    /// were accepted, and whether all were. It is faster than as many [`TableMut::insert`].
+    /// Gives each key the value at its index, in order, up to the first pair that does not fit. Returns how many were
+    /// inserted, and whether all were. It is faster than as many calls of [`TableMut::insert`].
     ///
     /// # Errors
     ///
     /// [`Error::Full`] as of an insert: the pairs before that one are in the table. [`Error::BadLengths`] where there
-    /// are more keys than values, or fewer; then none is.
+    /// are more keys than values, or fewer; then nothing changes.
     pub fn insert_all(&mut self, keys: &[S::Key], values: &[S::Value]) -> (usize, Result<(), Error>) {
         let mut accepted = 0;
         let status = S::Calls::insert_all(self.bytes, keys, values, &mut accepted);
@@ -82,8 +82,8 @@ impl<'a, S: Shape> TableMut<'a, S> {
     /// The table, to look up in.
     #[inline]
     pub fn as_table(&self) -> Table<'_, S> {
-        // SAFETY: the bytes were accepted when this was made. They are borrowed for writing since, and this writes them
-        // by inserts alone.
+        // SAFETY: the bytes were accepted when this was made. They are borrowed for writing since, and only inserts of
+        // this write them.
         unsafe { Table::of_accepted(self.bytes) }
     }
 
@@ -93,12 +93,12 @@ impl<'a, S: Shape> TableMut<'a, S> {
         unsafe { Table::of_accepted(self.bytes) }
     }
 
-    /// Makes the table that this one grows to, as [`Table::grown`] tells, in place of what `larger` holds.
+    /// Makes the table that this one grows into, as [`Table::grown`] does, in `larger`, and replaces what that holds.
     ///
     /// # Errors
     ///
     /// As of [`Table::grown`]; where these bytes are not valid also [`Error::NonZeroEmpty`] or
-    /// [`Error::ControlMismatch`]. Then `larger` stays.
+    /// [`Error::ControlMismatch`]. Then `larger` is unchanged.
     pub fn grow_into<'b>(&self, larger: &'b mut Vec<u8>) -> Result<TableMut<'b, S>, Error> {
         let grown = self.as_table().grown()?;
         Table::<S>::open(&grown)?;
@@ -116,7 +116,7 @@ impl<S: Shape> fmt::Debug for TableMut<'_, S> {
     }
 }
 
-/// How many bytes a table for so many items has, that is filled to at most so many percent of its slots, 1 to 100.
+/// The length in bytes of a table for so many items, with at most so many percent of its slots occupied, 1 to 100.
 ///
 /// # Errors
 ///
@@ -127,7 +127,7 @@ pub fn bytes_needed<S: Shape>(max_items: usize, percent: u8) -> Result<usize, Er
     Error::unless_ok(status, len)
 }
 
-/// The bytes of an empty table for so many items, that is filled to at most so many percent of its slots.
+/// The bytes of an empty table for so many items, with at most so many percent of its slots occupied, 1 to 100.
 ///
 /// # Errors
 ///
@@ -138,14 +138,15 @@ pub fn empty_table<S: Shape>(max_items: usize, percent: u8) -> Result<Vec<u8>, E
     Ok(bytes)
 }
 
-/// Gives a key this value in a table that grows where it has to: the bytes then are those of a larger table. The
-/// answer is the value that the key had.
+/// Gives a key this value in a table that grows where it has to: the bytes are then those of a larger table. Returns
+/// the value that the key had.
 ///
-/// It opens the bytes each time. Where many inserts follow one another, keep a [`TableMut`] until [`Error::Full`].
+/// It opens the bytes on each call. For many inserts in a row, keep a [`TableMut`] until [`Error::Full`].
 ///
 /// # Errors
 ///
-/// As of [`TableMut::open`] and [`Table::grown`]; where the bytes are not valid also [`Error::Full`]. Then they stay.
+/// As of [`TableMut::open`] and [`Table::grown`]; where the bytes are not valid also [`Error::Full`]. Then they
+/// are unchanged.
 ///
 /// ```
 /// # fn main() -> Result<(), odht::Error> {

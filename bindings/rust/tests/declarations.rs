@@ -1,12 +1,12 @@
-//! The declarations of src/sys.rs beside those of include/odht.h: every call of every shape has the same parameters in
-//! the same order, as far as a machine can tell them apart.
+//! The declarations of src/sys.rs are compared with those of include/odht.h: every call of every shape has the same
+//! parameters in the same order, as far as their types at the machine level differ.
 
 use std::collections::BTreeMap;
 
 /// What a parameter is to the machine: `*const`, `*mut`, or a number of so many bits.
 type Kinds = Vec<String>;
 
-/// The header without its comments; nothing outside of the repository.
+/// The header without its comments; `None` outside of the repository.
 fn header() -> Option<String> {
     let path = concat!(env!("CARGO_MANIFEST_DIR"), "/../../include/odht.h");
     let text = std::fs::read_to_string(path).ok()?;
@@ -28,14 +28,14 @@ fn kind_in_c(parameter: &str) -> String {
     kind.to_string()
 }
 
-/// The symbols that the header declares, without `odht_`: what the parameters are, and at the end the answer.
+/// The symbols that the header declares, without `odht_`: the kinds of the parameters, and at the end of the result.
 fn declared_in_c(header: &str) -> BTreeMap<String, Kinds> {
     let mut symbols = BTreeMap::new();
     let mut before = "";
     for piece in header.split("odht_symbol_") {
         let (name, behind) = piece.split_once('(').unwrap();
         let (parameters, behind) = behind.split_once(')').unwrap();
-        // Else it is a call, in the body of a function.
+        // Otherwise it is a call, in the body of a function.
         if behind.trim_start().starts_with("ODHT_SYMBOL") {
             let answer = before.split_whitespace().last().unwrap();
             let kinds = parameters.split(',').map(kind_in_c).chain([kind_in_c(answer)]);

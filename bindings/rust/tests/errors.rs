@@ -71,7 +71,7 @@ fn refused(bytes: &[u8], error: Error) {
     assert_eq!(copy, bytes);
 }
 
-/// Opening sees these changes.
+/// Changes that opening finds.
 #[test]
 fn opening_refuses() {
     let whole = worked_example();
@@ -101,7 +101,7 @@ fn other_shapes_refuse() {
     assert_eq!(Table::<B16>::open(&bytes).map(|_| ()), Err(Error::WrongSize));
 }
 
-/// Opening does not see these changes; the whole check does.
+/// Changes that opening does not find, and the whole check does.
 fn refused_by_check(changes: &[(usize, u8)], error: Error) {
     let bytes = changed(changes);
     let table = Table::<U64U32>::open(&bytes).unwrap();
@@ -122,7 +122,7 @@ fn the_whole_check_refuses() {
     refused_by_check(&[(8, 4)], Error::WrongItemCount);
     // 951 * 16 / 65536 is 0.
     refused_by_check(&[(28, 0xb7), (29, 3)], Error::TooManyItems);
-    // Key 1 in slot 6, behind its home 5, which is free.
+    // Key 1 in slot 6, after its home 5, which is free.
     let moved = [(92, 0), (100, 0), (104, 1), (112, 2), (229, 255), (230, 0x13), (245, 255), (246, 0x13)];
     refused_by_check(&moved, Error::Unreachable);
 }
@@ -194,7 +194,7 @@ fn slices_can_be_too_short() {
     assert_eq!(out, [9; 255]);
 }
 
-/// The lines of include/odht.h that have a word, each from behind it on.
+/// The lines of include/odht.h that begin with a word, each without it.
 fn lines_with<'a>(header: &'a str, word: &'a str) -> impl Iterator<Item = &'a str> {
     header.lines().filter_map(move |line| line.trim().strip_prefix(word))
 }
@@ -209,7 +209,7 @@ fn the_header_has_the_same_statuses() {
     let names = lines_with(&header, "ODHT_").filter_map(|line| line.split_once(" = "));
     let number = |text: &str| text.split([',', ' ', '\n']).next().unwrap().parse::<u32>().ok();
     let numbers: Vec<(&str, u32)> = names.filter_map(|(name, text)| Some((name, number(text)?))).collect();
-    // Those that stand for no error.
+    // The statuses that are no error.
     let others = ["OK", "ABSENT", "REPLACED", "UNMADE"];
     assert_eq!(numbers.len(), ERRORS.len() + others.len());
     for (name, number) in numbers {

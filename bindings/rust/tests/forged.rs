@@ -1,5 +1,5 @@
-//! Tables whose header states an item count that is not true: nothing is asked for by it, and nothing overflows. And
-//! tables with bytes that chance has changed.
+//! Tables whose header has an item count that is not true: nothing is allocated by it, and nothing overflows. And
+//! tables with bytes that were changed at random.
 
 mod common;
 
@@ -71,7 +71,7 @@ fn inserts_of_new_keys_are_refused() {
     }
 }
 
-/// An insert of the pair `key` to `value` into bytes that are not valid, as docs/FORMAT.md frames it.
+/// An insert of the pair `key` to `value` into bytes that are not valid changes no more than docs/FORMAT.md allows.
 fn insert_into_changed<S: Shape>(bytes: &mut [u8], key: &S::Key, value: S::Value) {
     let before = bytes.to_vec();
     let mut table = TableMut::<S>::open(bytes).unwrap();
@@ -87,8 +87,8 @@ fn insert_into_changed<S: Shape>(bytes: &mut [u8], key: &S::Key, value: S::Value
     }
 }
 
-/// Whatever was changed: where the bytes open each call ends, gives no more pairs than slots, and finds what stands
-/// there.
+/// Whatever was changed: where the bytes open, each call ends, returns no more pairs than slots, and finds what is
+/// stored there.
 fn read_changed<S: Shape>(bytes: &[u8], key: &S::Key) {
     let Ok(table) = Table::<S>::open(bytes) else { return };
     let slots = table.sizes().slots;

@@ -59,7 +59,7 @@ fn pairs_come_in_slot_order() {
     let bytes = worked_example();
     let table = Table::<U64U32>::open(&bytes).unwrap();
     assert_eq!(table.iter().collect::<Vec<_>>(), [(1, 2), (5, 6), (3, 4)]);
-    // Each key stands in its home, so every order of inserts makes the table.
+    // Each key is in its home, so every order of inserts makes the table.
     let mut order = table.insert_order().unwrap().unwrap();
     order.sort_unstable();
     assert_eq!(order, [5, 9, 15]);
@@ -73,7 +73,7 @@ fn the_header_is_told() {
     assert_eq!(Table::<U64U32>::open(&bytes).unwrap().sizes(), sizes);
 }
 
-/// The table of docs/FORMAT.md: slots for items at a percentage.
+/// The table in docs/FORMAT.md of the slots that so many items need at a percentage.
 #[test]
 fn lengths_follow_from_slots() {
     let lengths = [(0, 87, 16), (13, 87, 16), (14, 87, 32), (40, 87, 64), (3, 95, 16), (15, 100, 16), (16, 100, 32)];
@@ -84,8 +84,8 @@ fn lengths_follow_from_slots() {
     }
 }
 
-/// Keys 15 and 47 have the home 15 in 16 and in 32 slots. In 16 slots, 15 stands in slot 15 and 47 in slot 0, which is
-/// walked first: so in the grown table 47 stands in slot 15 and 15 in slot 16.
+/// Keys 15 and 47 have the home 15 in 16 and in 32 slots. In 16 slots, 15 is in slot 15 and 47 in slot 0, whose pair is
+/// placed first: so in the grown table 47 is in slot 15 and 15 in slot 16.
 #[test]
 fn growth_places_pairs_in_slot_order() {
     let key = |number: u8| {

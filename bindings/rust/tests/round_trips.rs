@@ -1,4 +1,4 @@
-//! Every shape beside the standard library's map.
+//! Every shape is compared with the standard library's map.
 
 mod common;
 
@@ -15,7 +15,7 @@ const PERCENTS: [u8; 3] = [50, 87, 100];
 type Pairs<S> = Vec<(<S as Shape>::Key, <S as Shape>::Value)>;
 type Map<S> = HashMap<<S as Shape>::Key, <S as Shape>::Value>;
 
-/// Pairs of which about one in four has a key that stood before.
+/// Pairs of which about one in four has the key of an earlier one.
 fn some_pairs<S: Shape>(random: &mut Random, count: usize) -> Pairs<S>
 where
     S::Key: Chance,
@@ -34,7 +34,7 @@ fn unzip<S: Shape>(pairs: &Pairs<S>) -> (Vec<S::Key>, Vec<S::Value>) {
     pairs.iter().copied().unzip()
 }
 
-/// Looks at the bytes in every way in which they can be read.
+/// Reads the bytes by each call that reads.
 fn read<S: Shape>(bytes: &[u8], map: &Map<S>, random: &mut Random)
 where
     S::Key: Chance,
@@ -56,7 +56,7 @@ where
     }
 }
 
-/// The pairs by walks into slices of so many places.
+/// The pairs by walks into slices of so many elements.
 fn walk_in_blocks<S: Shape>(table: &Table<S>, block: usize) -> Pairs<S> {
     let (mut keys, mut values) = (vec![S::Key::default(); block], vec![S::Value::default(); block]);
     let (mut cursor, mut pairs) = (0, Vec::new());
@@ -70,7 +70,7 @@ fn walk_in_blocks<S: Shape>(table: &Table<S>, block: usize) -> Pairs<S> {
     }
 }
 
-/// Inserts one after the other answer as those into the map.
+/// Inserts one after the other return the same as those into the map.
 fn insert<S: Shape>(pairs: &Pairs<S>, percent: u8) -> (Vec<u8>, Map<S>) {
     let mut bytes = odht::empty_table::<S>(pairs.len(), percent).unwrap();
     let mut table = TableMut::<S>::open(&mut bytes).unwrap();
@@ -83,7 +83,7 @@ fn insert<S: Shape>(pairs: &Pairs<S>, percent: u8) -> (Vec<u8>, Map<S>) {
     (bytes, map)
 }
 
-/// Inserts of the pairs in the order that is told make the very bytes.
+/// Inserts of the pairs in the order that `insert_order` returns make the same bytes.
 fn insert_in_order<S: Shape>(bytes: &[u8], made_for: usize, percent: u8) {
     let table = Table::<S>::open(bytes).unwrap();
     let order = table.insert_order().unwrap().expect("inserts have made the table");
@@ -100,7 +100,7 @@ fn insert_in_order<S: Shape>(bytes: &[u8], made_for: usize, percent: u8) {
     assert_eq!(again, bytes);
 }
 
-/// Builds are as inserts one after the other.
+/// Builds make the same as inserts one after the other.
 fn build<S: Shape>(pairs: &Pairs<S>, percent: u8, bytes: &[u8]) {
     let mut builder = Builder::<S>::new(percent);
     builder.extend(pairs.iter().copied());
@@ -125,7 +125,7 @@ fn grow<S: Shape>(pairs: &Pairs<S>) -> Vec<u8> {
     bytes
 }
 
-/// A table that takes no more: what it grows to has the same pairs, and takes one.
+/// A table at its maximum: the one that it grows into has the same pairs, and takes another one.
 fn grow_a_full_table<S: Shape>(random: &mut Random)
 where
     S::Key: Chance,

@@ -1,5 +1,5 @@
 //! The conformance vectors of the repository, vectors/*.txt, of those configurations and calls that this crate has.
-//! vectors/README.md tells what a line says.
+//! vectors/README.md describes the lines.
 
 use std::collections::HashMap;
 use std::path::Path;
@@ -37,7 +37,7 @@ fn hex(digits: &str) -> Vec<u8> {
     places.map(|place| u8::from_str_radix(&digits[place..place + 2], 16).unwrap()).collect()
 }
 
-/// The bytes that a word stands for.
+/// The bytes that a word means.
 fn read_bytes(word: &str, names: &Names) -> Vec<u8> {
     let mut pieces = word.split(',');
     let first = pieces.next().unwrap();
@@ -83,7 +83,7 @@ fn refusal(text: &str) -> Option<Error> {
     found.or(text.starts_with("Header states").then_some(counts))
 }
 
-/// What a call answers: words, and the bytes of a table behind them.
+/// The answer of a call: words, and the bytes of a table after them.
 struct Answer(Vec<String>, Option<Vec<u8>>);
 
 fn words<T: ToString>(words: impl IntoIterator<Item = T>) -> Result<Answer, Error> {
@@ -228,7 +228,7 @@ where
     let args: Vec<&str> = call.split(' ').collect();
     let (call, args) = (args[0], &args[1..]);
     if call == "get" {
-        // How many groups were looked at is not told here.
+        // This crate does not report how many groups were read.
         let bytes = read_bytes(args[0], names);
         let answer = Table::<S>::open(&bytes)
             .and_then(|table| words([written_or(table.get(&S::Key::read(&hex(args[1]))), "none")]));
@@ -241,7 +241,7 @@ where
     answer.map(|answer| compare(answer, expected, names, line)).is_some()
 }
 
-/// Lines with those that `each` stands for.
+/// The lines, with each `each` replaced by the lines that it means.
 fn lines(text: &str) -> Vec<String> {
     let mut all = Vec::new();
     for line in text.lines().filter(|line| !line.is_empty() && !line.starts_with('#')) {

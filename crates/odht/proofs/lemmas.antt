@@ -1,5 +1,5 @@
--- Laws of the tables over bytes; those of plain tables stand in `odht_base`, those of parts and of bytes in `odht_raw`.
--- what bytes for a new table are refused for
+-- Laws of the tables over bytes; those of plain tables are in `odht_base`, those of parts and of bytes in `odht_raw`.
+-- the errors of a new table
 pub mod NewRefusals
 -- what an insert leaves on the bytes of a valid table below its maximum
 pub mod ViewInserts

@@ -1,8 +1,7 @@
 -- What a table grows into, and how long that is.
---     table_len F o        how many bytes a table of these slots has; None where there are none, or the length passes
---                          64 bits
---     grown_slots_of B     the slots for twice as many items as the header of the bytes B states, and for one at least,
---                          at the header's load factor
+--     table_len F o        how many bytes a table of o slots has; None where o is None, or the length passes 64 bits
+--     grown_slots_of B     the slots for twice the item count of the header of B, and for one item at least, at the
+--                          header's load factor
 --     grown_len F B        how many bytes the table has that the bytes B grow into
 --     IsGrownImage F P T   T is the image of the grown table of P
 use Rattle.std.specs.Prelude.{◌≡◌, ℕ, ◌*◌, ◌^◌, max, nat_lt, List, Option, Some, option_and_then}

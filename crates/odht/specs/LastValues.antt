@@ -16,7 +16,7 @@ HasNoKey items k = All (λ item. item.0 ≢ k) items
 pub record IsLastItem {K V : Type 0} (items : List (K × V)) (k : K) (v : V) : Type 0 where
   pub before : List (K × V)
   pub after : List (K × V)
-  pub stands : items ≡ before ++ (k, v) ∷ after
+  pub items_are : items ≡ before ++ (k, v) ∷ after
   pub latest : HasNoKey after k
 
 abbrev pub IsLastValue : {K V : Type 0} → List (K × V) → K → Option V → Type 0

@@ -1,4 +1,4 @@
--- The words that speak of lists of items; those of tables stand in `odht_base`, those of their bytes in `odht_raw`.
+-- The definitions of lists of items; those of tables are in `odht_base`, those of their bytes in `odht_raw`.
 -- what a new table is, and what an insert leaves
 pub mod Inserts
 -- lists of keys and values that are inserted in turn

@@ -1,11 +1,12 @@
 -- Lists of keys and values that are inserted in turn.
---     IsAfterInserts F put P ps B  B are the bytes of the table after the inserts `put` of the pairs ps into P, which has their
---                          last values over those of P; where all have room below its maximum, its size stays
+--     IsAfterInserts F put P ps B  B are the bytes of the table after the inserts `put` of the pairs ps into P; its map
+--                          is that of P with the last values of ps over it; where all have room below the maximum of P,
+--                          its size stays
 --     HasSizeOf P Q        Q has the slot count and the load factor of P
 --     IsRefusedAt c P items n    P is full for the key of item n
---     IsStoppedAt c items n B    on the bytes B, accepted, an insert of item n may be refused
---     IsFreshAfterInserts c p items B  B are the bytes of the fresh table for as many items at p percent, after these are put into
---                          it by the owned table; it has not grown
+--     IsStoppedAt c items n B    on the bytes B an insert of item n may return `Full`
+--     IsFreshAfterInserts c p items B  B are the bytes of the fresh table for as many items at p percent, after the
+--                          inserts of the items into it by the owned table; it has not grown
 use Rattle.std.specs.Prelude.{◌≡◌, ℕ, ◌+◌, ◌≤◌, List, length, Option, Some, Err, slice_get}
 use Rattle.odht_base.specs.Format.{Format}
 use Rattle.odht_base.specs.Insert.{run, insert_owned, IsFullFor}

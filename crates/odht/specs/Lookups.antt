@@ -1,9 +1,9 @@
--- Lookups of many keys among the parts T of a table, each of them a first look and what ends it.
+-- Lookups of many keys in the parts T of a table, each of them a first look and the search that continues it.
 --     IsLookAt c T ks i l     l is the first look of the search for key i of ks
---     IsLookup c T k o        o is what the lookup of the key k answers: in a placed table the value for k, and in any parts
---                             only one that stands beside this very key
---     AreLookups c T ks os n  the first n of os are what the lookups of the first n of ks answer
---     HaveStored c B ks os    each value of os is stored in the bytes B beside the key of ks at its index
+--     IsLookup c T k o        o is the result of the lookup of the key k: in a placed table the value for k, and in any
+--                             parts only one that is stored with this very key
+--     AreLookups c T ks os n  the first n of os are the results of the lookups of the first n of ks
+--     HaveStored c B ks os    each value of os is stored in the bytes B with the key of ks at its index
 use Rattle.std.specs.Prelude.{◌≡◌, ◌<◌, ℕ, List, Option, Some, IfSome, slice_get}
 use Rattle.odht_base.specs.Table.{Table}
 use Rattle.odht_base.specs.Valid.{IsPartsOf}

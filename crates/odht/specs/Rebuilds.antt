@@ -1,6 +1,6 @@
 -- Making a table again by inserts.
 --     IsNewSizeOf P n p    a new table for n items at p percent has the slots of P, and its load factor
---     AreInOrder c P items the items are, as bytes, the pairs of the slots `order`, an insert order of P
+--     AreInOrder c P items the items, encoded, are the pairs of the slots `order`, an insert order of P
 use Rattle.std.specs.Prelude.{◌≡◌, ℕ, List, Some}
 use Rattle.odht_base.specs.Made.{IsInsertOrder, pairs_of}
 use Rattle.odht_base.specs.Table.{Table, slot_count, empty, fresh}

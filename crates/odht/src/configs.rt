@@ -1,6 +1,6 @@
 //! Ready configurations: integers, keys that are hashes already, and bytes as they are.
 //!
-//! docs/FORMAT.md says how a key is hashed and where its probe order begins.
+//! docs/FORMAT.md says in "Hashes" how a key is hashed, and in "Probe order" where its probe order begins.
 ghost use Rattle.std.specs.Prelude.{◌≤◌};
 ghost use Rattle.std.specs.Int.{w32, to_le_bytes, from_le_bytes};
 ghost use Rattle.std.proofs.Common.{lit≤, zero-le};
@@ -18,7 +18,7 @@ use std::marker::PhantomData;
 mod hashed;
 mod numbers;
 
-/// From u32 to u32, both lowest byte first.
+/// From u32 to u32, both little-endian.
 pub struct U32ToU32;
 
 impl Config for U32ToU32 {
@@ -74,7 +74,7 @@ impl Lossless for U32ToU32 {
     }
 }
 
-/// From u32 to u32, both lowest byte first. The hash of a key is the key.
+/// From u32 to u32, both little-endian. The hash of a key is the key.
 pub struct DirectU32ToU32;
 
 impl Config for DirectU32ToU32 {
@@ -130,7 +130,7 @@ impl Lossless for DirectU32ToU32 {
     }
 }
 
-/// A byte array that may be a key or a value.
+/// A byte array that may be a key or a value: of at most 255 bytes.
 pub trait Short: ByteArray {
     ghost short: { Self.LEN ≤ 255 };
 }

@@ -23,12 +23,12 @@ use crate::memory_layout::{self, HEADER_SIZE, Header};
 use crate::raw_table::{FREE, RawIter, RawTableMut};
 
 impl<C: Config, D: ByteStore> HashTable<C, D> {
-    /// How many bytes the table has that this one grows into: that of the slots for twice as many items as the header
-    /// states, and for one at least, at the same load factor. None exactly where no slot count is enough, or the length
-    /// passes `usize`.
+    /// The length in bytes of the table that this one grows into: with the slots for twice the header's item count, and
+    /// for one item at least, at the same load factor. None exactly where no slot count is enough, or the length passes
+    /// `usize`. docs/FORMAT.md, "Growth", has the rule.
     ///
-    /// Valid bytes state a load factor of at least one percent, 655. A smaller one is taken as it is: 0 has no slot
-    /// count that is enough, so the answer is None.
+    /// The load factor of valid bytes is at least 655 65536ths of the slots, one percent. A smaller one is taken as it
+    /// is: for 0 no slot count is enough, so the result is None.
     pub fn grown_len(&self) -> Option<usize>
         ensures by_header { result ≡ grown_len ⟦<C as Coded>⟧.coding.format (D.bytes self.now) }
         ensures on_valid { let F = ⟦<C as Coded>⟧.coding.format
@@ -40,14 +40,14 @@ impl<C: Config, D: ByteStore> HashTable<C, D> {
         Some(len)
     }
 
-    /// Writes the table that this one grows into, whatever stood in `out`, which has [`HashTable::grown_len`] bytes:
-    /// the pairs in slot order, in the slots for twice as many items, and for one at least, at the same load factor.
-    /// The owned table grows so at its maximum.
+    /// Writes the table that this one grows into to `out`, whatever its bytes were. `out` has [`HashTable::grown_len`]
+    /// bytes. The pairs are placed in slot order into the slots for twice as many items, and for one at least, at the
+    /// same load factor. The owned table grows in this way at its maximum (docs/FORMAT.md, "Growth").
     ///
-    /// One pass over `out`, and over the slots of this table; each item is hashed once. No key is compared.
+    /// One pass over `out`, and one over the slots of this table; each item is hashed once. No key is compared.
     ///
-    /// On any bytes the new header states the item count and the load factor of this one, and the pairs that the walk
-    /// gives are placed as long as a slot is free.
+    /// On any bytes the new header has the item count and the load factor of this one, and the pairs of the walk are
+    /// placed as long as a slot is free.
     pub fn grow_into(&self, out: &mut [u8])
         requires { grown_len ⟦<C as Coded>⟧.coding.format (D.bytes self.now) ≡ Some (length out.old) }
         ensures on_valid { let F = ⟦<C as Coded>⟧.coding.format
@@ -68,8 +68,8 @@ impl<C: Config, D: ByteStore> HashTable<C, D> {
     }
 }
 
-/// The slots and the length of the table that the one of this header grows into. None exactly where no slot count is
-/// enough, or the length passes `usize`.
+/// The slot count and the length in bytes of the table that the one with this header grows into. None exactly where no
+/// slot count is enough, or the length passes `usize`.
 pub(crate) fn grown_layout<C: Config>(header: &Header<'_>) -> Option<(usize, usize)>
     ensures { let F = ⟦<C as Coded>⟧.coding.format
         in let B = header.now
@@ -84,7 +84,7 @@ pub(crate) fn grown_layout<C: Config>(header: &Header<'_>) -> Option<(usize, usi
     memory_layout::layout_for::<C>(twice.max(1), factor)
 }
 
-/// Writes the grown table of so many slots into bytes whose entries are zeros.
+/// Writes the grown table with so many slots into bytes whose entries are zeros.
 pub(crate) fn write_grown<C: Config, D: ByteStore>(
     table: &HashTable<C, D>,
     slot_count: usize,
@@ -110,8 +110,8 @@ pub(crate) fn write_grown<C: Config, D: ByteStore>(
     write_table::<C>(out, slot_count, item_count, factor, walk);
 }
 
-// Writes the table of so many slots with the items of the walk, whose keys are apart, into bytes whose entries are
-// zeros. As many items are counted as are stated.
+// Writes the table of so many slots with the items of the walk, whose keys are pairwise distinct, into bytes whose
+// entries are zeros. The new header gets `item_count`, whatever the walk gives.
 fn write_table<C: Config>(
     bytes: &mut [u8],
     slot_count: usize,
@@ -141,8 +141,7 @@ fn write_table<C: Config>(
     insert_walk::<C::EncodedKey, C::EncodedValue, C::H>(control, entries, walk);
 }
 
-// Places the items of a walk in turn into the parts of a table; their keys are apart and new to it. The slices then
-// hold what that left.
+// Places the items of a walk in turn into the parts of a table; their keys are pairwise distinct and new to it.
 fn insert_walk<K: ByteArray, V: ByteArray, H: HashFn>(
     control: &mut [u8],
     entries: &mut [u8],

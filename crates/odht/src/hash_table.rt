@@ -35,8 +35,8 @@ use std::marker::Model;
 mod lists;
 mod walks;
 
-/// How many bytes a new table for `max_item_count` items has. None exactly where no slot count is enough, or the length
-/// passes `usize`.
+/// The length in bytes of a new table for `max_item_count` items, at a load factor in percent of the slots. None
+/// exactly where no slot count is enough, or the length passes `usize`. docs/FORMAT.md, "Load factors", has the rule.
 pub fn bytes_needed<C: Config>(max_item_count: usize, max_load_factor_percent: u8) -> Option<usize>
     requires low { 1 ≤ max_load_factor_percent }
     requires high { max_load_factor_percent ≤ 100 }
@@ -51,8 +51,9 @@ pub fn bytes_needed<C: Config>(max_item_count: usize, max_load_factor_percent: u
     Some(len)
 }
 
-/// A table in the bytes of a store. A contract speaks of it as of this store: `D.bytes` are the table's bytes, and the
-/// clauses named `place` say that it stays the store that it was made over, so what was lent holds the table.
+/// A table in the bytes of a store: a view. It cannot grow. A contract speaks of it as of this store: `D.bytes` are the
+/// table's bytes, and the clauses named `same_store` say that it stays the store that was passed in, so bytes that were
+/// borrowed hold the table.
 #[derive(Drop)]
 pub struct HashTable<C: Config, D: ByteStore> {
     allocation: Allocation<C, D>,
@@ -65,11 +66,12 @@ impl<C: Config, D: ByteStore> Model for HashTable<C, D> {
 }
 
 impl<C: Config, D: ByteStore> HashTable<C, D> {
-    /// Opens bytes as a table, and answers the first refusal where there is one: of too few bytes, of the header, of the
-    /// length, of the first ten slots. Then the data is dropped.
+    /// Opens bytes as a table, or returns the first error: of too few bytes, of the header, of the length, of the first
+    /// ten slots. On an error the store is dropped. docs/FORMAT.md, "What is refused, and in which order", has the
+    /// order.
     ///
-    /// Nothing else is looked at: a view of bytes that are accepted and not valid is safe to use, but what it answers is
-    /// within a frame only, which the calls state.
+    /// Nothing else is checked. A view of bytes that are accepted and not valid is safe to use, but its calls keep only
+    /// what their clauses say of any bytes.
     #[inline(always)]
     pub fn from_raw_bytes(data: D) -> Result<Self, Error>
         ensures ok { IfOk result (λ t. t ≡ «data») }
@@ -80,11 +82,12 @@ impl<C: Config, D: ByteStore> HashTable<C, D> {
         Ok(HashTable { allocation })
     }
 
-    /// Opens bytes as a table by their header and their length alone, and answers the first refusal where there is one: of
-    /// too few bytes, of the header, of the length. Then the data is dropped.
+    /// Opens bytes as a table by their header and their length alone, or returns the first error: of too few bytes, of
+    /// the header, of the length. On an error the store is dropped. docs/FORMAT.md, "What is refused, and in which
+    /// order", has the order.
     ///
-    /// No slot is looked at. A view of bytes that are not valid is safe to use, but what it answers is within a frame only,
-    /// which the calls state. The order of the refusals is in docs/FORMAT.md, "What is refused, and in which order".
+    /// No slot is checked. A view of bytes that are not valid is safe to use, but its calls keep only what their
+    /// clauses say of any bytes.
     #[inline(always)]
     pub fn from_raw_bytes_by_header(data: D) -> Result<Self, Error>
         ensures ok { IfOk result (λ t. t ≡ «data») }
@@ -94,7 +97,7 @@ impl<C: Config, D: ByteStore> HashTable<C, D> {
         Ok(HashTable { allocation })
     }
 
-    /// Takes the bytes as those of a table, which the caller knows them to be: nothing is looked at.
+    /// Takes the bytes as those of a table, without a check: the caller knows that their header and length fit.
     #[inline]
     pub fn from_raw_bytes_unchecked(data: D) -> Self
         requires { IsAccepted ⟦<C as Coded>⟧.coding.format (D.bytes «data») }
@@ -105,10 +108,10 @@ impl<C: Config, D: ByteStore> HashTable<C, D> {
         }
     }
 
-    /// The value of a key: on valid bytes that of the key's last insert, and on any bytes one that is stored beside this
-    /// very key.
+    /// The value of a key, or None. On valid bytes it is the value of the key's last insert; on any bytes it is one
+    /// that is stored with this very key.
     ///
-    /// At most each group of control bytes is looked at once.
+    /// Each group of control bytes is read at most once.
     #[inline]
     pub fn get(&self, key: &C::Key) -> Option<C::Value>
         ensures on_valid { (P : Table)
@@ -127,8 +130,8 @@ impl<C: Config, D: ByteStore> HashTable<C, D> {
     /// `get` of many keys: the value of each key is written to its index. The loads of eight keys overlap, so that many
     /// lookups in a large table are faster than one `get` after the other.
     ///
-    /// Each key is encoded twice, and hashed once. At most each group of control bytes is looked at once, but that at the
-    /// key's home twice where it has neither the key nor a free byte.
+    /// Each key is encoded twice, and hashed once. For each key, a group of control bytes is read at most once, but the
+    /// group at the key's home twice where it has neither the key nor a free control byte.
     #[inline]
     pub fn get_all(&self, keys: &[C::Key], values: &mut [Option<C::Value>])
         requires { length values.old ≡ length keys.now }
@@ -140,9 +143,9 @@ impl<C: Config, D: ByteStore> HashTable<C, D> {
         lookups::get_all::<C>(&self.as_raw(), keys, values);
     }
 
-    /// `get`, and how many groups of control bytes were looked at: on valid bytes those up to the first slot of the key's
-    /// probe order that is free or holds the key, and on any bytes no more than there are. docs/FORMAT.md, "Search", counts
-    /// them.
+    /// `get`, and how many groups of control bytes it read: on valid bytes those up to the first slot of the key's
+    /// probe order that is free or holds the key, and on any bytes at most one for sixteen slots. docs/FORMAT.md,
+    /// "Search", counts them.
     #[inline]
     pub fn get_counted(&self, key: &C::Key) -> (Option<C::Value>, usize)
         ensures on_valid { (P : Table)
@@ -163,9 +166,9 @@ impl<C: Config, D: ByteStore> HashTable<C, D> {
         }
     }
 
-    /// Whether the key has a value: on any bytes only where some slot's entry holds this very key.
+    /// Whether the key has a value. On any bytes it is true only where the entry of some slot holds this very key.
     ///
-    /// At most each group of control bytes is looked at once.
+    /// Each group of control bytes is read at most once.
     #[inline]
     pub fn contains_key(&self, key: &C::Key) -> bool
         ensures on_valid { (P : Table)
@@ -179,8 +182,8 @@ impl<C: Config, D: ByteStore> HashTable<C, D> {
         table.find(&key).is_some()
     }
 
-    /// The keys and values of the slots whose own control byte does not count as free, in slot order: on valid bytes each
-    /// pair of the table once.
+    /// The keys and values of the slots whose own control byte is below 128, in slot order: on valid bytes each pair of
+    /// the table once.
     #[inline]
     pub fn iter(&self) -> Iter<'_, C>
         ensures on_valid { (P : Table)
@@ -194,7 +197,7 @@ impl<C: Config, D: ByteStore> HashTable<C, D> {
         Iter::new(RawIter::new(control, entries))
     }
 
-    /// How many items the header states: of valid bytes, how many there are.
+    /// The item count of the header. On valid bytes it is the number of items.
     #[inline]
     pub fn len(&self) -> usize
         ensures by_header { result ≡ header_count (D.bytes self.now) }
@@ -205,18 +208,18 @@ impl<C: Config, D: ByteStore> HashTable<C, D> {
         self.allocation.header().item_count()
     }
 
-    /// Whether the bytes are valid: those of a table that the format allows, to the last byte. On valid bytes each call
-    /// answers as a map does.
+    /// Whether the bytes are valid: those of a table that the format allows, to the last byte (docs/FORMAT.md, "Valid
+    /// bytes"). On valid bytes each lookup returns what a map would.
     ///
-    /// All of the bytes are looked at, as [`memory_layout::check_all`] does, which tells what is refused. It takes no
-    /// memory.
+    /// All of the bytes are checked. It takes no memory, and costs what [`memory_layout::check_all`] does, which
+    /// returns the error.
     pub fn verify(&self) -> bool
         ensures { IsTrue result ↔ IsValidBytes ⟦<C as Coded>⟧.coding.format (D.bytes self.now) }
     {
         self.allocation.check_rest().is_ok()
     }
 
-    /// All bytes. Their header and length fit, so [`HashTable::from_raw_bytes_unchecked`] takes them.
+    /// All bytes. Their header and length fit, so [`HashTable::from_raw_bytes_unchecked`] accepts them.
     #[inline]
     pub fn raw_bytes(&self) -> &[u8]
         ensures bytes { result.now ≡ D.bytes self.now }
@@ -225,8 +228,8 @@ impl<C: Config, D: ByteStore> HashTable<C, D> {
         self.allocation.raw_bytes()
     }
 
-    /// The data, with the bytes as they are now. Header and length fit, so [`HashTable::from_raw_bytes_unchecked`] takes
-    /// it again.
+    /// The store, with the bytes as they are now. Their header and length fit, so
+    /// [`HashTable::from_raw_bytes_unchecked`] accepts it again.
     #[inline]
     pub fn into_data(self) -> D
         ensures data { result ≡ self }
@@ -236,7 +239,7 @@ impl<C: Config, D: ByteStore> HashTable<C, D> {
         allocation.into_store()
     }
 
-    /// The raw table of these bytes: who looks up many keys takes it once.
+    /// The raw table of these bytes. A caller that looks up many keys calls this once.
     #[inline]
     pub fn as_raw(&self) -> RawTable<'_, C::EncodedKey, C::EncodedValue, C::H>
         ensures control { result.control ≡ controls_of ⟦<C as Coded>⟧.coding.format (D.bytes self.now) }
@@ -268,10 +271,12 @@ impl<C: Config, D: ByteStore> HashTable<C, D> {
 }
 
 impl<C: Config, D: ByteStoreMut> HashTable<C, D> {
-    /// Makes an empty table for `max_item_count` items in `data`, whatever stood there.
+    /// Makes an empty table for `max_item_count` items in `data`, whatever its bytes were. The load factor is in
+    /// percent of the slots.
     ///
-    /// `Capacity` where no slot count is enough, or its length passes `usize`; otherwise `InitLength` where `data` has
-    /// another length. On a refusal `data` is dropped.
+    /// `Capacity` where no slot count is enough, or the length passes `usize`; otherwise `InitLength` where `data` has
+    /// another length than [`bytes_needed`]. On an error `data` is dropped. docs/FORMAT.md, "Load factors", has the
+    /// rule.
     pub fn init_in_place(
         data: D,
         max_item_count: usize,
@@ -300,17 +305,19 @@ impl<C: Config, D: ByteStoreMut> HashTable<C, D> {
         })
     }
 
-    /// Gives the key this value, and answers its former one: on valid bytes that of its last insert.
+    /// Gives the key this value, and returns its former one: on valid bytes that of its last insert.
     ///
-    /// `Full` where the search does not find the key and the header states the maximum item count or more, or where it
-    /// meets neither the key nor a free slot: then nothing changes. On valid bytes it comes exactly at the maximum where
-    /// the key is absent: a key that is there is always given its value.
+    /// `Full` where the search does not find the key and the header's count is the maximum item count or more, or where
+    /// it finds neither the key nor a free slot: then nothing changes. On valid bytes it comes exactly where the table
+    /// is at its maximum and the key is absent: a present key is always given its value. docs/FORMAT.md, "Insert" and
+    /// "At the maximum", has the rules.
     ///
-    /// The key is hashed once, and at most each group of control bytes is looked at once.
+    /// The key is hashed once, and each group of control bytes is read at most once.
     ///
-    /// On any bytes one value beside an equal key changes, or, below the maximum that the header states, one entry is
-    /// written with its tag into a slot that counted as free and the count rises by one; no other byte changes. `Full`
-    /// comes only at the stated maximum, or where each slot counts as occupied.
+    /// On any bytes either one value that is stored with an equal key changes; or, where the header's count is below
+    /// its maximum, one entry and its tag are written to a slot that counted as free and the count rises by one. No
+    /// other byte changes. `Full` comes only where the header's count is its maximum or more, or where each slot counts
+    /// as occupied.
     #[inline(always)]
     pub fn insert(&mut self, key: &C::Key, value: &C::Value) -> Result<Option<C::Value>, Error>
         ensures ok { let c = ⟦<C as Coded>⟧.coding

@@ -32,8 +32,8 @@ mod get_all;
 mod insert_order;
 mod lists;
 
-/// A table in memory of its own, which grows as it fills. Its bytes are always valid, and a contract speaks of it as of
-/// these bytes.
+/// A table in memory of its own, which grows where an absent key is inserted at the maximum. Its bytes are always
+/// valid, and a contract speaks of it as of these bytes.
 #[derive(Drop)]
 pub struct HashTableOwned<C: Config> {
     table: HashTable<C, OwnedBytes>,
@@ -53,10 +53,11 @@ impl<C: Config> Model for HashTableOwned<C> {
 }
 
 impl<C: Config> HashTableOwned<C> {
-    /// An empty table that takes `max_item_count` items before it grows.
+    /// An empty table that takes at least `max_item_count` items before it grows. The load factor is in percent of the
+    /// slots; docs/FORMAT.md, "Load factors", has the rule.
     ///
-    /// `Capacity` exactly where no slot count is enough, or its length passes `usize`; `Memory` where the memory was
-    /// refused.
+    /// `Capacity` exactly where no slot count is enough, or its length passes `usize`; `Memory` when memory is
+    /// exhausted.
     pub fn with_capacity(
         alloc: Global,
         max_item_count: usize,
@@ -74,9 +75,10 @@ impl<C: Config> HashTableOwned<C> {
         Ok(HashTableOwned { table, alloc })
     }
 
-    /// An empty table that takes twelve items before it grows: sixteen slots at a load factor of 87 percent.
+    /// An empty table made for twelve items: sixteen slots at a load factor of 87 percent, whose maximum is thirteen
+    /// items.
     ///
-    /// `Memory` where the memory was refused.
+    /// `Memory` when memory is exhausted.
     pub fn default(alloc: Global) -> Result<Self, Error>
         ensures ok { IfOk result (IsFresh ⟦<C as Coded>⟧.coding.format 12 87) }
         ensures memory { OnErr result (result ≡ Err Error.Memory) }
@@ -84,11 +86,11 @@ impl<C: Config> HashTableOwned<C> {
         Self::with_capacity(alloc, 12, 87)
     }
 
-    /// A table of the items, which are collected first: made for as many as there are, so it never grows. An item with the
-    /// key of an earlier one gives it its value.
+    /// A table of the items, which are collected first: made for as many as there are, so it never grows. An item with
+    /// the key of an earlier one overwrites its value. The load factor is in percent of the slots.
     ///
-    /// `Capacity` only where no slot count is enough for so many items, or its length passes `usize`; `Memory` where memory
-    /// was refused.
+    /// `Capacity` only where no slot count is enough for so many items, or its length passes `usize`; `Memory` when
+    /// memory is exhausted.
     pub fn from_iterator<I: Iterator<Item = (C::Key, C::Value)> + Drop>(
         alloc: Global,
         items: I,
@@ -112,9 +114,9 @@ impl<C: Config> HashTableOwned<C> {
         Ok(table)
     }
 
-    /// The value of a key: that of its last insert.
+    /// The value of a key, or None: that of its last insert.
     ///
-    /// At most each group of control bytes is looked at once.
+    /// Each group of control bytes is read at most once.
     #[inline]
     pub fn get(&self, key: &C::Key) -> Option<C::Value>
         ensures { (P : Table)
@@ -124,8 +126,8 @@ impl<C: Config> HashTableOwned<C> {
         self.table.get(key)
     }
 
-    /// `get`, and how many groups of control bytes were looked at: those up to the first slot of the key's probe order that
-    /// is free or holds the key. docs/FORMAT.md, "Search", counts them.
+    /// `get`, and how many groups of control bytes it read: those up to the first slot of the key's probe order that is
+    /// free or holds the key. docs/FORMAT.md, "Search", counts them.
     #[inline]
     pub fn get_counted(&self, key: &C::Key) -> (Option<C::Value>, usize)
         ensures value { (P : Table)
@@ -141,7 +143,7 @@ impl<C: Config> HashTableOwned<C> {
 
     /// Whether the key has a value.
     ///
-    /// At most each group of control bytes is looked at once.
+    /// Each group of control bytes is read at most once.
     #[inline]
     pub fn contains_key(&self, key: &C::Key) -> bool
         ensures { (P : Table)
@@ -170,7 +172,7 @@ impl<C: Config> HashTableOwned<C> {
         self.table.len()
     }
 
-    /// All bytes.
+    /// All bytes. They are valid.
     #[inline]
     pub fn raw_bytes(&self) -> &[u8]
         ensures bytes { result.now ≡ self.now }
@@ -179,10 +181,10 @@ impl<C: Config> HashTableOwned<C> {
         self.table.raw_bytes()
     }
 
-    /// A copy of the bytes, once all of them were looked at. The first refusal that [`memory_layout::check_all`]
-    /// answers is answered before memory is asked for; valid bytes are never refused. It costs what that call does.
+    /// A copy of the bytes, after all of them were checked. The error that [`memory_layout::check_all`] returns comes
+    /// before memory is requested; valid bytes are never rejected. The check costs what that call does.
     ///
-    /// `Memory` where the memory was refused.
+    /// `Memory` when memory is exhausted.
     pub fn from_raw_bytes(alloc: Global, raw_bytes: &[u8]) -> Result<Self, Error>
         ensures ok { IfOk result (λ t. t ≡ raw_bytes.now) }
         ensures refused { (e : Error)
@@ -195,9 +197,9 @@ impl<C: Config> HashTableOwned<C> {
         Self::from_raw_bytes_unchecked(alloc, raw_bytes)
     }
 
-    /// A copy of the bytes, which the caller knows to be valid: nothing is looked at.
+    /// A copy of the bytes without a check: the caller knows that they are valid.
     ///
-    /// `Memory` where the memory was refused.
+    /// `Memory` when memory is exhausted.
     pub fn from_raw_bytes_unchecked(alloc: Global, raw_bytes: &[u8]) -> Result<Self, Error>
         requires { IsValidBytes ⟦<C as Coded>⟧.coding.format raw_bytes.now }
         ensures ok { IfOk result (λ t. t ≡ raw_bytes.now) }
@@ -212,7 +214,7 @@ impl<C: Config> HashTableOwned<C> {
 
     /// A table of the same bytes.
     ///
-    /// `Memory` where the memory was refused.
+    /// `Memory` when memory is exhausted.
     pub fn clone(&self) -> Result<Self, Error>
         ensures ok { IfOk result (λ t. t ≡ self.now) }
         ensures memory { OnErr result (result ≡ Err Error.Memory) }
@@ -220,13 +222,14 @@ impl<C: Config> HashTableOwned<C> {
         Self::from_raw_bytes_unchecked(self.alloc, self.table.raw_bytes())
     }
 
-    /// Gives the key this value, and answers its former one: that of its last insert. At the maximum the table grows for a
-    /// key that is absent; a key that is there is given its value in place, which takes no memory.
+    /// Gives the key this value, and returns its former one: that of its last insert. At the maximum the table grows
+    /// for an absent key; a present key is given its value in place, which takes no memory. docs/FORMAT.md, "Insert"
+    /// and "Growth", has the rules.
     ///
-    /// `Memory` only at the maximum and for an absent key, where the memory for the grown table was refused, or no slot
-    /// count or no length in `usize` is enough for it. Then nothing changes.
+    /// `Memory` only at the maximum and for an absent key, when memory is exhausted, or no slot count or no length in
+    /// `usize` is enough for the grown table. Then nothing changes.
     ///
-    /// The key is hashed once, and once more at a growth, which places each item again.
+    /// The key is hashed once, and once more at a growth, which hashes and places each item again.
     #[inline(always)]
     pub fn insert(&mut self, key: &C::Key, value: &C::Value) -> Result<Option<C::Value>, Error>
         ensures ok { let c = ⟦<C as Coded>⟧.coding
@@ -267,7 +270,8 @@ impl<C: Config> HashTableOwned<C> {
         Ok(old)
     }
 
-    // The pairs of this table, in slot order, in a table with the slots for twice as many, and for one at least.
+    // The pairs of this table, placed in slot order into a table with the slots for twice as many, and for one at
+    // least.
     #[inline(never)]
     fn grown(&self) -> Result<HashTable<C, OwnedBytes>, Error>
         ensures ok { let F = ⟦<C as Coded>⟧.coding.format
@@ -285,7 +289,7 @@ impl<C: Config> HashTableOwned<C> {
     }
 }
 
-// An empty table of the slots for so many items at this load factor.
+// An empty table with the slots for so many items at this load factor.
 fn empty_table<C: Config>(
     alloc: Global,
     max_item_count: usize,

@@ -1,6 +1,7 @@
-//! Laws of whole tables that no call carries by itself: a table of a `Lossless` configuration is a map of the keys to
-//! the values themselves, valid bytes are accepted, and an order of inserts makes its table again. Each function is
-//! a few calls at most, and its contract, kept by this very body, is the law.
+//! Laws of whole tables that are the contract of no single call: a table of a `Lossless` configuration is a map of the
+//! keys to the values themselves, valid bytes are accepted, and an order of inserts makes its table again. Each
+//! function is a few calls at most, and its contract is the law. docs/PROOFS.md lists them in "Configurations",
+//! "Opening bytes" and "Orders of inserts".
 ghost use Rattle.std.specs.Prelude.{◌≡◌, ℕ, List, ◌≤◌, ◌↔◌, ◌⊎◌, length, IfOk, OnErr};
 ghost use Rattle.odht_base.specs.Load.{factor_of};
 ghost use Rattle.odht.specs.LastValues.{IsLastValue, HasLastValues};
@@ -16,16 +17,17 @@ use crate::error::Error;
 use crate::hash_table_owned::HashTableOwned;
 use std::alloc::Global;
 
-/// Header and length of a valid table's bytes fit: who has such bytes calls this and then `from_raw_bytes_unchecked`.
+/// The header and length of a valid table's bytes fit. A caller that has such bytes calls this, and then
+/// [`HashTable::from_raw_bytes_unchecked`](crate::HashTable::from_raw_bytes_unchecked).
 pub fn valid_bytes_are_accepted<C: Config>()
     ensures { let F = ⟦<C as Coded>⟧.coding.format
         in (B : List ℕ) → IsValidBytes F B → IsAccepted F B }
 {}
 
-/// What a table that has the last values of the items has for a key is the value of the last item with this very key,
-/// and nothing where no item has it.
+/// A table that has the last values of the items has for a key the value of the last item with this very key, and no
+/// value where no item has it.
 ///
-/// It does nothing, but looks at each item once.
+/// It has no effect, but costs a pass over the items.
 pub fn keys_have_last_values<C: Lossless>(items: &[(C::Key, C::Value)], key: &C::Key)
     ensures { let c = ⟦<C as Coded>⟧.coding
         in (B : List ℕ) (h : HasLastValues c items.now B)
@@ -38,9 +40,9 @@ pub fn keys_have_last_values<C: Lossless>(items: &[(C::Key, C::Value)], key: &C:
     C::key_kept(key);
 }
 
-/// The value of a key in a table of the items: that of the last item with this very key, and none where no item has it.
+/// The value of a key in a table of the items: that of the last item with this very key, and None where no item has it.
 ///
-/// Each item is looked at once, and each slot at most once.
+/// It costs a pass over the items, and a `get`.
 pub fn last_value<C: Lossless>(
     table: &HashTableOwned<C>,
     items: &[(C::Key, C::Value)],
@@ -54,10 +56,10 @@ pub fn last_value<C: Lossless>(
 }
 
 /// The value of a key in the table that is built from empty by inserting the items in turn: that of the last item with
-/// this very key, and none where no item has it.
+/// this very key, and None where no item has it. The load factor is in percent of the slots.
 ///
-/// `Capacity` exactly where no slot count is enough for so many items, or its length passes `usize`; `Memory` where the
-/// memory was refused.
+/// `Capacity` exactly where no slot count is enough for so many items, or its length passes `usize`; `Memory` when
+/// memory is exhausted.
 pub fn built_from_empty<C: Lossless>(
     alloc: Global,
     items: &[(C::Key, C::Value)],
@@ -81,11 +83,11 @@ pub fn built_from_empty<C: Lossless>(
 }
 
 /// A table made again: its pairs, in an order that [`HashTableOwned::insert_order`] finds, are inserted in turn into
-/// a new table, and leave the bytes of this very table. So it is of each valid table `P` of which the items are the
+/// a new table, and leave the bytes of this very table. This holds of each valid table `P` of which the items are the
 /// pairs in an insert order, and whose slot count and load factor are those of the new table.
 ///
-/// `Capacity` exactly where no slot count is enough for `max_item_count`, or its length passes `usize`; `Memory` where
-/// the memory was refused.
+/// `Capacity` exactly where no slot count is enough for `max_item_count`, or its length passes `usize`; `Memory` when
+/// memory is exhausted.
 pub fn rebuilt<C: Config>(
     alloc: Global,
     items: &[(C::Key, C::Value)],

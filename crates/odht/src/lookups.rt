@@ -1,15 +1,16 @@
-//! Lookups of many keys. The first looks of eight are taken before the first search is ended, so that the control bytes of
-//! all are on their way from memory at once.
+//! Lookups of many keys. A first look hashes a key and reads the group of control bytes at its home. The first looks of
+//! eight keys are taken before any of their searches goes on, so that the loads from memory overlap.
 ghost use Rattle.std.specs.Prelude.{◌≡◌, ◌+◌, ◌≤◌, ◌<◌, length, slice_get, Some};
 ghost use Rattle.odht.specs.Lookups.{IsLookAt, IsLookup, AreLookups};
 
 use crate::config::{Coded, Config};
 use crate::raw_table::{FirstLook, RawTable};
 
-/// How many first looks are taken at once.
+/// How many first looks are taken before the searches go on, in keys.
 pub const BATCH: usize = 8;
 
-/// The first look of the search for the key at an index, which [`find_at`] goes on with.
+/// The first look of the search for the key at an index, which [`find_at`] continues. It reads one group of control
+/// bytes.
 #[inline(always)]
 pub fn look_at<C: Config>(
     raw: &RawTable<'_, C::EncodedKey, C::EncodedValue, C::H>,
@@ -22,7 +23,7 @@ pub fn look_at<C: Config>(
     raw.first_look(&C::encode_key(&keys[index]))
 }
 
-/// The value of the key at an index, whose first look was taken. The key is encoded once more.
+/// The value of the key at an index, from its first look by [`look_at`]. The key is encoded once more.
 #[inline(always)]
 pub fn find_at<C: Config>(
     raw: &RawTable<'_, C::EncodedKey, C::EncodedValue, C::H>,
@@ -41,7 +42,7 @@ pub fn find_at<C: Config>(
     }
 }
 
-/// Writes the value of each key to its index, eight lookups at a time and then the rest.
+/// Writes the value of each key to its index, eight lookups at a time, and then the rest one by one.
 #[inline]
 pub(crate) fn get_all<C: Config>(
     raw: &RawTable<'_, C::EncodedKey, C::EncodedValue, C::H>,
@@ -58,7 +59,7 @@ pub(crate) fn get_all<C: Config>(
     }
 }
 
-// Writes the values of as many keys as fill batches, and answers how many these are.
+// Writes the values of the keys of the full batches, and returns how many keys these are.
 #[inline(always)]
 fn get_batches<C: Config>(
     raw: &RawTable<'_, C::EncodedKey, C::EncodedValue, C::H>,
@@ -76,7 +77,7 @@ fn get_batches<C: Config>(
     batches * BATCH
 }
 
-// Writes the values of the eight keys from an index on. Written out, the looks stay in registers.
+// Writes the values of the eight keys from an index on. It has no loop, so that the first looks stay in registers.
 #[inline(always)]
 fn get_eight<C: Config>(
     raw: &RawTable<'_, C::EncodedKey, C::EncodedValue, C::H>,
@@ -107,7 +108,7 @@ fn get_eight<C: Config>(
     get_one::<C>(raw, eighth, keys, from + 7, values);
 }
 
-// Writes the value of the key at an index, whose first look was taken.
+// Writes the value of the key at an index, from its first look.
 #[inline(always)]
 fn get_one<C: Config>(
     raw: &RawTable<'_, C::EncodedKey, C::EncodedValue, C::H>,

@@ -4,9 +4,9 @@
 pub mod Options
 -- the first item of a list that passes a test
 pub mod FirstMatch
--- different items that all stand in a list no longer than theirs are that list in another order
+-- different items, all of them in a list no longer than theirs, are that list in another order
 pub mod Pigeons
--- what is read and written at a place between two lists
+-- bytes read and written at an offset between two lists
 pub mod ByteRanges
 -- ---- Numbers, slot counts and the probe order
 -- numbers and their bytes
@@ -21,7 +21,7 @@ pub mod SlotCounts
 pub mod Least
 -- and the next power of two is that
 pub mod NextPower
--- two places of an order are two slots
+-- two positions of an order are two slots
 pub mod Distinct
 -- an order lists each slot once; the first of its slots that passes a test
 pub mod Orders
@@ -30,16 +30,16 @@ pub mod Orders
 pub mod Keys
 -- how many pairs cells hold, and how many after a cell is set
 pub mod Counts
--- tables that tests show to be placed
+-- tests that decide whether a table is placed
 pub mod Placed
 -- cells whose pairs are of the format, after a cell is set or taken away
 pub mod Fits
 -- ---- Bytes: parts, images and writes to them
--- the two parts of any bytes
+-- slot entries within any bytes
 pub mod PartsOf
--- the parts of cells: how long they are, what stands where, and that they show the cells
+-- the parts of cells: their lengths, their contents, and that they decode to the cells
 pub mod Parts
--- the image of a table: what its header says and what it shows
+-- the image of a table: what its header says and what it decodes to
 pub mod Image
 -- a pair written to a slot of the parts, and of an image
 pub mod Writes
@@ -66,7 +66,7 @@ pub mod CountRules
 pub mod FreshRuns
 -- the inserts that ask the count alone
 pub mod CountedInserts
--- what a search in a placed table tells of its map
+-- where a search in a placed table ends, and the map's value there
 pub mod Lookups
 -- ---- Tables that inserts make, and insert orders
 -- the occupied slots of a table
@@ -75,7 +75,7 @@ pub mod OccupiedSlots
 pub mod ReadySlots
 -- the slots taken so far in the search for an insert order
 pub mod SoFar
--- their pairs, placed in turn, fill just these slots
+-- their pairs, placed in turn, occupy just these slots
 pub mod Rebuilt
 -- inserts leave an order in which each slot is ready
 pub mod OrdersKept
@@ -86,7 +86,7 @@ pub mod MadeTables
 -- a walk that goes on where another stopped
 pub mod SlotWalks
 -- ---- Masks of a group of control bytes
--- the places of what is true
+-- the positions of true answers
 pub mod MarkedPositions
 -- the set bits of a mask
 pub mod MaskBits

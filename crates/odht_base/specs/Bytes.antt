@@ -1,4 +1,4 @@
--- A list of bytes B: a piece of it, and a write to it.
+-- A list of bytes B: a range of it, and a write to it.
 --     bytes_at B at n          the n bytes from `at` on
 --     overwritten_at B at d    B with the bytes d from `at` on
 use Rattle.std.specs.Prelude.{ℕ, ◌+◌, List, ◌++◌, length, take, drop, slice_range}

@@ -1,9 +1,10 @@
--- The rule of inserts that asks the count alone, as the Rust crate's do: where a table is full, the owned one grows and a
--- view refuses (there it panics), whatever the key. It is here to compare the tables that this rule and the other make.
+-- The rule of inserts by which the item count alone decides, as in the Rust crate: at the maximum the owned table grows
+-- and a view answers None (in the Rust crate it panics), whatever the key. It is here to compare the tables that both
+-- rules make.
 --     insert_owned_by_count F P p   an insert of the owned table by this rule
 --     insert_view_by_count F P p    an insert of a view by this rule
---     OverwritesFull P p         P is full, and has the key of p
---     NoneOverwritesFull put P ps  no pair of ps overwrites in a full table when its turn comes
+--     OverwritesFull P p            P is full, and has the key of p
+--     NoneOverwritesFull insert P ps  no pair of ps overwrites a value in a full table when its turn comes
 use Rattle.std.specs.Prelude.{⊤, List, [], ◌∷◌, Option, None, IfSome, IsSome, IsTrue, option_and_then, if◌then◌else◌}
 use Rattle.odht_base.specs.Format.{Format}
 use Rattle.odht_base.specs.Insert.{place, grown, is_full}

@@ -1,16 +1,16 @@
--- What bytes show as a table, also bytes that are no valid table.
+-- What bytes decode to as a table, also bytes that are no valid table.
 --     Of parts, es the entries' bytes and ctrl the control bytes with their mirror:
 --     slot_entry F es i      the entry of slot i; slot_key and slot_value are its two ends
 --     counts_as_free c       the control byte c is 128 or more
---     decoded_cell F es ctrl i what slot i shows: free where its own control byte counts as free, else its key and value
---     decoded_cells F es ctrl  the same of each slot
---     Of a whole list of bytes B that is as long as its header states, at the offsets of that slot count:
---     header_count B, header_slots B, header_factor B      the header's numbers
+--     decoded_cell F es ctrl i   slot i decoded: free where its own control byte counts as free, else its key and value
+--     decoded_cells F es ctrl    the same of each slot
+--     Of all bytes B of a table, as long as the header says, at the offsets of the header's slot count:
+--     header_count B, header_slots B, header_factor B      the header's item count, slot count and load factor
 --     entries_of F B, controls_of F B                      the two parts
 --     control_at F B i     control byte i; the mirror is control bytes s to s + 15
 --     key_at F B i, value_at F B i    the two ends of the entry of slot i
---     shown F B            the table of the cells that the parts show
---     seen F B             the pairs of that table: the entries whose own control byte is below 128, in slot order
+--     decoded_table F B    the table of the header's load factor and the decoded cells
+--     decoded_pairs F B    the pairs of that table: the entries whose own control byte is below 128, in slot order
 --     HoldsKey F B k       some slot's entry has the key k, whatever its control byte
 --     Stores F B k v       some slot's entry is the key k and the value v, whatever its control byte
 use Rattle.std.specs.Prelude.{◌≡◌, ℕ, ◌+◌, ◌-◌, ◌*◌, ◌<◌, Bool, nat_le, List, length, take, drop, map, slice_index, Option, Some, None, if◌then◌else◌}

@@ -1,10 +1,10 @@
 -- A group of control bytes, and what a search of it for the byte h may report.
 --     equal g h              the indices of the bytes h, rising
 --     first_free g           the least index of a byte of 128 or more, if any
---     filled g               the indices of the bytes below 128, rising
---     IsReport g h xs        the indices xs rise, each index of h is among them, and none of a free byte
---     IsWordReport g h xs    what the search by a word reports: any other index than of h has the neighbour h xor 1, and
---                            the index one below it is reported too
+--     occupied g             the indices of the bytes below 128, rising
+--     IsReport g h xs        the indices xs rise, each index of h is among them, and none of a byte of 128 or more
+--     IsWordReport g h xs    what the word search reports: a byte other than h only where it is h xor 1 and the index
+--                            before it is reported too
 --     GroupMatches           what a search of a group holds: the matches not taken yet, and the first free index
 use Rattle.std.specs.Prelude.{◌≡◌, ℕ, ◌+◌, ◌<◌, ◌==◌, nat_lt, ◌⊎◌, List, length, filter, position, slice_index, bit_xor, Option, Contains}
 use Rattle.std.specs.List.{range_with_len}

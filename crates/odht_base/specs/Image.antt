@@ -1,5 +1,5 @@
 -- The bytes of a plain table.
---     header_bytes F s c f   the 32 bytes of header of s slots, c items and the factor f
+--     header_bytes F s c f   the 32 bytes of the header for s slots, c items and the load factor f
 --     entry_bytes F c        the bytes of the cell c: key and value, or zeros
 --     control_byte F c       its control byte: the key's tag, or 255
 --     entries F cs           the bytes of the cells in turn

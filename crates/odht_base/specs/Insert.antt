@@ -1,7 +1,7 @@
--- Inserts into a plain table. An answer `None` is a refusal, after which the table is as before.
---     target F cs k        the slot that holds k, or else the first free one of its order
+-- Inserts into a plain table. An answer `None` is an error, which leaves the table unchanged.
+--     target F cs k        the slot that holds k, or else the first free one of its probe order
 --     place_in F cs p      the pair p in its key's target; place F P p the same of a table
---     run put P ps         the inserts `put` of the pairs in turn, None as soon as one is refused
+--     run insert P ps      the inserts `insert` of the pairs in turn, None as soon as one answers None
 --     place_all F P ps     the same of `place`
 --     grown_slots P        the slots for twice as many pairs, and for one at least
 --     grown F P            the pairs of P, in slot order, in so many slots
@@ -9,7 +9,7 @@
 --     is_full_for P k      P is full, and none of its pairs has the key k
 --     IsFullFor P k        the same as a statement
 --     insert_owned F P p      an insert of the owned table, which grows where P is full for the key of p
---     insert_view F P p       an insert of a view, which refuses there
+--     insert_view F P p       an insert of a view, which answers None there
 use Rattle.std.specs.Prelude.{◌≡◌, ℕ, ◌*◌, max, Bool, ◌==◌, ◌&&◌, List, [], ◌∷◌, set, position, find, Option, Some, None, is_none, option_map, option_and_then, if◌then◌else◌}
 use Rattle.std.specs.Option.{option_or}
 use Rattle.odht_base.specs.Format.{Format}

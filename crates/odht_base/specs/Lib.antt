@@ -1,23 +1,23 @@
 -- The vocabulary of all contracts, from numbers up to tables and their bytes.
 -- numbers as bytes
 pub mod Numbers
--- lists of bytes: a piece of them, and a write to them
+-- lists of bytes: a range of them, and a write to them
 pub mod Bytes
--- room of a fixed length that is filled with other bytes
+-- the bytes of a store after a borrow of them
 pub mod AfterBorrow
 -- the hash functions
 pub mod Hashes
--- their law: a hash has 32 bits
+-- the law of the hash functions: a hash has 32 bits
 pub mod HashLaws
 -- load factors and slot counts
 pub mod Load
 -- what a configuration fixes of a table's bytes
 pub mod Format
--- the order in which a search looks at the slots
+-- the order in which a search goes through the slots
 pub mod Probe
 -- plain tables: a load factor and a list of cells
 pub mod Table
--- walks over them that begin at a slot
+-- walks over plain tables that begin at a slot
 pub mod SlotWalks
 -- plain tables as finite maps
 pub mod Map
@@ -25,7 +25,7 @@ pub mod Map
 pub mod Search
 -- inserts into plain tables, growth included
 pub mod Insert
--- the rule of inserts that asks the count alone
+-- the rule of inserts by which the item count alone decides
 pub mod CountRule
 -- the bytes of a plain table
 pub mod Image
@@ -35,7 +35,7 @@ pub mod Valid
 pub mod Made
 -- one step of the search for such an order
 pub mod Ready
--- what any bytes show as a table
+-- what any bytes decode to as a table
 pub mod Decoded
 -- the writes of an insert
 pub mod Writes

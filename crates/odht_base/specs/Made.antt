@@ -1,10 +1,10 @@
 -- Tables that inserts make, and the orders of inserts that make them.
---     IsMadeBy F put P       inserts by `put` of pairs of F, in turn, into an empty table of P's load factor leave P
+--     IsMadeBy F insert P    inserts by `insert` of pairs of F, in turn, into an empty table of P's load factor leave P
 --     IsMade F P             so do those of the owned table or of a view, by either rule at the maximum
---     filled P               the slots that hold a pair, rising
+--     occupied P             the slots that hold a pair, rising
 --     pairs_of P out         the pairs of the slots `out`, in their order
---     IsInsertOrder F P out  `out` is the occupied slots of P, each once, and their pairs, placed in this order into an empty
---                            table of as many slots, give P
+--     IsInsertOrder F P out  `out` is the occupied slots of P, each once, and their pairs, placed in this order into an
+--                            empty table of as many slots, give P
 use Rattle.std.specs.Prelude.{◌≡◌, ◌⊎◌, ℕ, List, filter, filter_map, Option, Some, is_some, All, IsPermutation}
 use Rattle.std.specs.List.{range_with_len}
 use Rattle.odht_base.specs.CountRule.{insert_owned_by_count, insert_view_by_count}

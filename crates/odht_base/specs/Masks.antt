@@ -1,7 +1,7 @@
--- A mask of 64 bits, as a list of the places that are set, rising.
---     bits_from k i n      the set bits among the k lowest of n, the lowest of which has the place i
---     set_bits n           the places of the set bits of n
---     set_bytes n          for each set bit the place of its byte
+-- A mask of 64 bits, as the list of the indices of its set bits, rising.
+--     bits_from k i n      the set bits among the k lowest of n, the lowest of which has the index i
+--     set_bits n           the indices of the set bits of n
+--     set_bytes n          for each set bit the index of its byte
 use Rattle.std.specs.Prelude.{ℕ, zero, suc, ◌+◌, ◌/◌, ◌%◌, ◌==◌, List, [], ◌∷◌, map, if◌then◌else◌}
 
 unfoldable pub bits_from : ℕ → ℕ → ℕ → List ℕ

@@ -1,7 +1,8 @@
--- The order in which a search from the slot b looks at the s slots of a table.
---     probe_slot b s p     the slot at place p of the order
---     order b s            the slots at places 0 to s - 1
--- Group j is the sixteen places from 16 * j on: sixteen neighbouring slots modulo s, 16 * j slots further on than group j - 1.
+-- The order in which a search from the home slot b goes through the s slots of a table.
+--     probe_slot b s p     the slot at position p of the order
+--     order b s            the slots at positions 0 to s - 1
+-- Group j is the sixteen positions from 16 * j on. Its slots are adjacent modulo s, and its first slot is 16 * j slots
+-- after the first slot of group j - 1.
 use Rattle.std.specs.Prelude.{ℕ, ◌+◌, ◌*◌, ◌/◌, ◌%◌, List, map}
 use Rattle.std.specs.List.{range_with_len}
 

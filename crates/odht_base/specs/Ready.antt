@@ -1,5 +1,5 @@
 -- The search for an insert order of a table takes one slot after the other, each as soon as it is ready.
---     IsReady F P xs i     slot i holds a pair, and in the probe order of its key each place before slot i is among xs
+--     IsReady F P xs i     slot i holds a pair, and in the probe order of its key each slot before slot i is among xs
 --     IsSoFar F P xs       the slots xs are all different, and each is ready after those before it in the list
 --     IsStuck F P xs       no slot is ready after xs but those of xs
 use Rattle.std.specs.Prelude.{◌≡◌, ◌≢◌, ℕ, ◌<◌, List, length, take, slice_index, Contains, AllPairs}
@@ -13,7 +13,7 @@ pub record IsReady (F : Format) (P : Table) (xs : List ℕ) (i : ℕ) : Type 0 w
   pub holds : HoldsPair P i pair
   pub position : ℕ
   pub in_order : position < slot_count P
-  pub stands : probe_slot (home F pair.key (slot_count P)) (slot_count P) position ≡ i
+  pub slot_is : probe_slot (home F pair.key (slot_count P)) (slot_count P) position ≡ i
   pub earlier_taken : (q : ℕ) → q < position → Contains xs (probe_slot (home F pair.key (slot_count P)) (slot_count P) q)
 
 pub record IsSoFar (F : Format) (P : Table) (xs : List ℕ) : Type 0 where

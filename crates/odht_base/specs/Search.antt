@@ -4,7 +4,7 @@
 --     search_order F cs k    the slots in the order of k
 --     search_end F cs k      the slot where the search ends, if there is one
 --     is_at i o              the answer o is the slot i
---     reach F cs k           the place in the order where the search ends
+--     reach F cs k           the position in the order where the search ends
 --     groups_read F cs k     how many groups of sixteen the search reads
 use Rattle.std.specs.Prelude.{ℕ, ◌+◌, ◌/◌, Bool, false, ◌||◌, ◌==◌, List, length, position, find, Option, Some, None}
 use Rattle.std.specs.Option.{option_map_or}

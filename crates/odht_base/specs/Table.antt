@@ -1,7 +1,7 @@
 -- A plain table: a load factor, and a cell for each slot, which is free or holds a pair of a key and its value.
 --     slot_count P         how many cells P has
 --     empty s f            s free cells at the factor f
---     fresh n p            the fresh table for n items at p percent, if there are slots enough
+--     fresh n p            the fresh table for n items at p percent, if some slot count is large enough
 --     cell_at cs i         cell i, free past the end
 --     is_free cs i         cell i holds nothing
 --     has_key k c          the cell c holds the key k

@@ -1,11 +1,11 @@
 -- Which plain tables, and which bytes, are valid.
---     IsPairOf F p         key and value of p are bytes of the lengths that F says
---     HasPairsOf F cs      so is each pair of the cells
+--     IsPairOf F p         key and value of p are bytes of the lengths of F
+--     HasPairsOf F cs      the same of each pair of the cells
 --     HoldsPair P i p      slot i holds the pair p
---     IsReached F P k i    slot i stands in the probe order of k, and each earlier place of the order is filled
---     IsPlaced F P         the slot count is a power of two from 16 to 2 ^ 63, each pair is one of F and stands in a slot
---                          that is reached for its key, and no key stands twice
---     IsFullWithout P k    each slot of P is filled, and none with the key k
+--     IsReached F P k i    slot i is in the probe order of k, and each earlier slot of the order is occupied
+--     IsPlaced F P         the slot count is a power of two from 16 to 2 ^ 63, each pair is one of F and is in a slot
+--                          that is reached for its key, and no key is in two slots
+--     IsFullWithout P k    each slot of P is occupied, and none with the key k
 --     IsValid F P          P is placed, its load factor is from 655 to 65535, and it holds at most max_items pairs
 --     IsImage F P B        B is the image of P, which is valid
 --     IsValidBytes F B     B is the image of some valid table
@@ -31,7 +31,7 @@ HoldsPair P i p = cell_at P.cells i ≡ Some p
 pub record IsReached (F : Format) (P : Table) (k : List ℕ) (i : ℕ) : Type 0 where
   pub position : ℕ
   pub in_order : position < slot_count P
-  pub stands : probe_slot (home F k (slot_count P)) (slot_count P) position ≡ i
+  pub slot_is : probe_slot (home F k (slot_count P)) (slot_count P) position ≡ i
   pub earlier_occupied : (q : ℕ) → q < position → IsFalse (is_free P.cells (probe_slot (home F k (slot_count P)) (slot_count P) q))
 
 pub record IsPlaced (F : Format) (P : Table) : Type 0 where

@@ -1,6 +1,6 @@
 -- The writes of an insert, for a pair p of the format F and a slot i below the slot count.
 --     Of any bytes B:
---     tagged_at B at s i c     the control byte c of slot i at the place `at`, and for a slot below 16 its mirror, s further on
+--     tagged_at B at s i c     the control byte c of slot i at `at`, and for a slot below 16 its mirror, s bytes after
 --     Of bytes B with s slots:
 --     with_value F B i v       the value v in slot i
 --     with_entry F B i p       the pair p in slot i

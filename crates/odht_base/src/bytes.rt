@@ -1,4 +1,4 @@
-//! Byte arrays of a fixed length, which keys and values are encoded to, and stores of bytes, which tables live in.
+//! Byte arrays of a fixed length, which keys and values are encoded to, and stores of bytes, which hold tables.
 
 mod arrays;
 mod stores;

@@ -19,11 +19,11 @@ pub trait HashFn: Eq {
 
     ghost hash: { List ℕ → ℕ };
 
-    /// `NAME`, in the form in which a contract knows its text: it cannot read a constant that is a reference.
+    /// `NAME` as a function, since a contract cannot read a constant that is a reference.
     fn hash_name() -> &'static str
         ensures { result.now ≡ hash_name };
 
-    /// The hash of `bytes`.
+    /// The hash of `bytes`, which are at least `MIN_LEN`.
     fn hash(bytes: &[u8]) -> u32
         requires { MIN_LEN ≤ length bytes.now }
         ensures { result ≡ hash bytes.now };

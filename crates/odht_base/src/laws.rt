@@ -1,6 +1,7 @@
-//! Laws of the definitions that no call carries by itself. Each function does nothing: its contract is the law.
+//! Laws of the definitions that are not part of the contract of any call. Each function does nothing: its contract is
+//! the law.
 //!
-//! They are said for every format `F`: every pair of lengths up to 255 and every hash of 32 bits.
+//! They hold for every format `F`: every pair of lengths up to 255 and every hash of 32 bits.
 ghost use Rattle.std.specs.Prelude.{◌≡◌, ℕ, ◌+◌, ◌*◌, ◌%◌, ◌<◌, ◌≤◌, ◌^◌, ◌++◌, ◌↔◌, List, [], ◌∷◌, length, drop, map, All, Some, IsTrue, IsPermutation, bytes_eq, if◌then◌else◌};
 ghost use Rattle.std.specs.List.{range_with_len};
 ghost use Rattle.odht_base.specs.Numbers.{num, le_bytes, IsBytes};
@@ -23,23 +24,23 @@ pub fn numbers_are_their_bytes()
     ensures bytes { (w : ℕ) (b : List ℕ) → IsBytes w b → le_bytes w (num b) ≡ b }
 {}
 
-/// The probe order from any home lists each slot exactly once; place `16 * j + i` of it is slot
+/// The probe order from any home lists each slot exactly once; position `16 * j + i` of it is slot
 /// `(b + 8 * j * (j + 1) + i) mod s`.
 pub fn orders_list_each_slot_once()
     ensures slot { (b s j i : ℕ) → i < 16 → probe_slot b s (16 * j + i) ≡ (b + 8 * j * (j + 1) + i) % s }
     ensures each_once { (b s : ℕ) → IsSlotCount s → IsPermutation (order b s) (range_with_len 0 s) }
 {}
 
-/// The image of a valid table has the length of its slot count and shows the table, so different valid tables have
-/// different images.
+/// The image of a valid table has the length of its slot count and decodes to the table, so different valid tables
+/// have different images.
 pub fn images_determine_tables()
     ensures len { (F : Format) (P : Table) → IsValid F P → length (image F P) ≡ image_len F (slot_count P) }
     ensures decoded { (F : Format) (P : Table) → IsFormat F → IsValid F P → decoded_table F (image F P) ≡ P }
     ensures one { (F : Format) (P Q : Table) → IsFormat F → IsValid F P → IsValid F Q → image F P ≡ image F Q → P ≡ Q }
 {}
 
-/// A valid table has a free slot, so it takes any pair; a fresh table for `n` items takes its first `n` items, by
-/// either insert, without growth or refusal.
+/// A valid table has a free slot, so any pair can be placed in it. A fresh table for `n` items accepts its first `n`
+/// items, by either insert, without growth or error.
 pub fn valid_tables_have_room()
     ensures free { (F : Format) (P : Table) → IsValid F P → (i : ℕ) × (i < slot_count P) × IsTrue (is_free P.cells i) }
     ensures takes { (F : Format) (P : Table) (p : Pair) → IsValid F P → (Q : Table) × (place F P p ≡ Some Q) }
@@ -51,8 +52,8 @@ pub fn valid_tables_have_room()
         → (Q : Table) × (run (insert_view F) P ps ≡ Some Q) × (slot_count Q ≡ slot_count P) }
 {}
 
-/// A walk may begin at any slot. At the slot of a pair that another walk came to it gives that pair and those behind it, and
-/// past the last slot none.
+/// A walk may begin at any slot. From the slot of a pair that another walk reached it gives that pair and those after
+/// it; past the last slot it gives none.
 pub fn walks_go_on_from_any_slot()
     ensures start { (P : Table) → walk_from P 0 ≡ walk P }
     ensures pairs { (P : Table) (i : ℕ) → map (λ x. x.1) (slots_from P i) ≡ walk_from P i }
@@ -77,7 +78,8 @@ pub fn growth_keeps_the_map()
     ensures maps { (F : Format) (P Q : Table) → IsValid F P → grown F P ≡ Some Q → (k : List ℕ) → map_of Q k ≡ map_of P k }
 {}
 
-/// Inserts in turn keep a table valid, and have the map of the last values over the former one.
+/// Inserts in turn keep a table valid. Then each inserted key has its last value, and every other key the value that it
+/// had before.
 pub fn runs_have_the_last_values()
     ensures owned { (F : Format) (P Q : Table) (ps : List Pair)
         → IsValid F P → All (IsPairOf F) ps → run (insert_owned F) P ps ≡ Some Q
@@ -87,9 +89,9 @@ pub fn runs_have_the_last_values()
         → IsValid F Q × ((k : List ℕ) → map_of Q k ≡ overwritten (map_of P) (last ps) k) }
 {}
 
-/// An insert into a full table asks whether the key is there; by the other rule, the Rust crate's, it asks the count alone.
-/// Both make the same table of a list, unless some pair of it overwrites in a full table; so they do of pairs whose keys
-/// are all different and new.
+/// In a table at its maximum item count an insert depends on whether the key is present; by the other rule, that of the
+/// Rust crate, on the item count alone. Both rules make the same table of a list, unless some pair of it overwrites a
+/// value in a table at its maximum. So they agree on pairs whose keys are all different and new.
 pub fn rules_at_the_maximum_agree()
     ensures owned { (F : Format) (P : Table) (ps : List Pair)
         → NoneOverwritesFull (insert_owned F) P ps → run (insert_owned F) P ps ≡ run (insert_owned_by_count F) P ps }

@@ -4,9 +4,9 @@
 ghost use Rattle.std.specs.Prelude.{◌≡◌, ℕ, ◌*◌, ◌<◌, ◌≤◌, IfSome};
 ghost use Rattle.odht_base.specs.Load.{factor_of, percent_of, max_items, slots_for, IsLeastSlots};
 
-/// A load factor in units of 1/65536: of `s` slots at most `s * factor / 65536`, rounded down, are filled.
+/// A load factor in units of 1/65536: of `s` slots at most `s * factor / 65536`, rounded down, are occupied.
 ///
-/// 100 percent is 65535, so a full table always has a free slot.
+/// 100 percent is 65535, so a table at its maximum item count always has a free slot.
 #[derive(Debug, Clone, Copy, PartialEq, Eq)]
 pub struct Factor(pub u16);
 
@@ -23,7 +23,7 @@ impl Factor {
         Factor((percent as usize * Self::BASE / 100) as u16)
     }
 
-    /// The percentage, rounded down. It may be one below that which the factor was made from.
+    /// The percentage, rounded down. It may be one less than the percentage that the factor was made from.
     #[inline]
     pub fn to_percent(self) -> usize
         ensures { result ≡ percent_of self.0 }
@@ -31,7 +31,7 @@ impl Factor {
         self.0 as usize * 100 / Self::BASE
     }
 
-    /// The most items that `x` slots may hold.
+    /// The most items that `x` slots may hold: `x * self / 65536`, rounded down.
     ///
     /// The divisor is 65536 here and 65535 in `apply_inverse`.
     #[inline]

@@ -1,8 +1,8 @@
 //! Searches of a group of control bytes.
 //!
-//! A group is looked at for a tag, and for the first byte that counts as free. [`Group`] is what a search of a table needs
-//! of it. Two forms stand here, [`no_simd::GroupQuery`] and [`lanes::GroupQuery`]; the one that is named below is the one
-//! that tables use, and nothing that they state depends on which it is.
+//! A group is searched for a tag, and for the first byte that counts as free. [`Group`] is what a search of a table
+//! needs of it. There are two forms, [`no_simd::GroupQuery`] and [`lanes::GroupQuery`]. Tables use the one that is
+//! named below; what they promise does not depend on the choice.
 ghost use Rattle.std.specs.Prelude.{◌≡◌, ℕ, ◌%◌, ◌<◌, List, Option, length, drop, slice_get, is_some};
 ghost use Rattle.odht_base.specs.Groups.{IsReport, first_free};
 
@@ -14,13 +14,13 @@ mod occupied;
 pub use lanes::{GROUP_SIZE, GroupQuery};
 pub use occupied::OccupiedQuery;
 
-/// How many control bytes count as one group in the probe order, however many are looked at at once.
+/// How many control bytes count as one group in the probe order, however many are searched at once.
 pub const REFERENCE_GROUP_SIZE: usize = 16;
 
 /// A search of [`SIZE`](Group::SIZE) control bytes for a tag.
 ///
-/// Its matches are indices of the group. Each byte that is the tag is among them, no byte of 128 or more is; others may be,
-/// so that a key has to be compared. docs/FORMAT.md, "Search", tells how it is used.
+/// Its matches are indices into the group. Each byte that is the tag is among them, and no byte of 128 or more. Other
+/// bytes may be among them, so the key has to be compared. How it is used: docs/FORMAT.md, "Search".
 pub trait Group: Sized + Drop {
     ghost SIZE: { ℕ };
 
@@ -28,10 +28,10 @@ pub trait Group: Sized + Drop {
 
     ghost free: { Self → Option ℕ };
 
-    /// How many control bytes are looked at at once.
+    /// How many control bytes are searched at once.
     const SIZE: usize;
 
-    /// Looks at a group, `SIZE` bytes, for a tag, which is below 128.
+    /// Searches a group, `SIZE` bytes, for a tag, which is below 128.
     fn of(bytes: &[u8], h2: u8) -> Self
         requires size { length bytes.now ≡ SIZE }
         requires tag { h2 < 128 }

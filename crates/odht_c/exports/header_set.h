@@ -1,26 +1,26 @@
-/* These are made of the calls of a map without values, so compilers without ODHT_TAKES_NULL have none. */
+/* These are inline functions around the calls of a map without values, so where ODHT_TAKES_NULL is 0 there are none. */
 #if ODHT_TAKES_NULL
-/* OK: the key is there. ABSENT, or a refusal, 1 to 7. */
+/* OK: the key is there. ABSENT, or an error, 1 to 7. */
 ODHT_CALL uint32_t odht_@S@_contains(const uint8_t *bytes, size_t bytes_len, @KEY@)
     ODHT_INLINE(@S@_contains);
 
-/* OK: found[i] is 1 where keys[i] is there, else 0. BAD_LENGTHS, or a refusal, 1 to 7: found stays. */
+/* OK: found[i] is 1 where keys[i] is there, else 0. BAD_LENGTHS, or an error, 1 to 7: found is unchanged. */
 ODHT_CALL uint32_t odht_@S@_contains_all(
     const uint8_t *bytes, size_t bytes_len, const @KEYS@ *keys, size_t keys_len,
     uint8_t *found, size_t found_len)
     ODHT_INLINE(@S@_contains_all);
 
-/* OK: the key was new. REPLACED: it was there. FULL, or a refusal, 1 to 7: nothing changes. */
+/* OK: the key was new. REPLACED: it was there. FULL, or an error, 1 to 7: nothing changes. */
 ODHT_CALL uint32_t odht_@S@_insert(uint8_t *bytes, size_t bytes_len, @KEY@)
     ODHT_INLINE(@S@_insert);
 
-/* OK or FULL: *accepted keys are inserted. A refusal, 1 to 7: nothing changes. */
+/* OK or FULL: *accepted keys are inserted. An error, 1 to 7: nothing changes. */
 ODHT_CALL uint32_t odht_@S@_insert_all(
     uint8_t *bytes, size_t bytes_len, const @KEYS@ *keys, size_t keys_len, size_t *accepted)
     ODHT_INLINE(@S@_insert_all);
 
 /* OK: the last *count keys, from slot *cursor on. TOO_SMALL: the array is full, there are more, and
-   *cursor is where to go on. A refusal, 1 to 7: nothing is written. */
+   *cursor is where to continue. An error, 1 to 7: nothing is written. */
 ODHT_CALL uint32_t odht_@S@_walk(
     const uint8_t *bytes, size_t bytes_len, size_t *cursor, @KEYS@ *keys, size_t keys_len,
     size_t *count)
@@ -30,18 +30,18 @@ ODHT_CALL uint32_t odht_@S@_walk(
 ODHT_CALL uint32_t odht_@S@_view_contains(const odht_view *view, @KEY@)
     ODHT_INLINE(@S@_view_contains);
 
-/* OK: found[i] is 1 where keys[i] is there, else 0. BAD_LENGTHS: found stays. */
+/* OK: found[i] is 1 where keys[i] is there, else 0. BAD_LENGTHS: found is unchanged. */
 ODHT_CALL uint32_t odht_@S@_view_contains_all(
     const odht_view *view, const @KEYS@ *keys, size_t keys_len, uint8_t *found, size_t found_len)
     ODHT_INLINE(@S@_view_contains_all);
 
-/* OK: the set is the first *len bytes of out. TOO_SMALL: out_len is below *len, the length that it
-   has. CAPACITY, BAD_PERCENT: *len stays. With all but OK out stays. */
+/* OK: the set is the first *len bytes of out. TOO_SMALL: out_len is below *len, the length of the
+   set. CAPACITY, BAD_PERCENT: *len is unchanged. With all but OK out is unchanged. */
 ODHT_CALL uint32_t odht_@S@_build(
     const @KEYS@ *keys, size_t keys_len, uint8_t percent, uint8_t *out, size_t out_len, size_t *len)
     ODHT_INLINE(@S@_build);
 
-/* OK and TOO_SMALL as there. MEMORY: out and *len stay. */
+/* OK and TOO_SMALL as of build. MEMORY: out and *len are unchanged. */
 ODHT_CALL uint32_t odht_@S@_build_growing(
     const @KEYS@ *keys, size_t keys_len, uint8_t *out, size_t out_len, size_t *len)
     ODHT_INLINE(@S@_build_growing);

@@ -1,49 +1,49 @@
 /* ---- odht_@S@_*: @WORDS@ ---- */
 
-/* OK: *len is the length in bytes of a table for so many items. BAD_PERCENT. CAPACITY. */
+/* OK: *len is the length in bytes of a table for so many items. BAD_PERCENT, CAPACITY: *len is unchanged. */
 ODHT_CALL uint32_t odht_@S@_bytes_needed(size_t max_item_count, uint8_t percent, size_t *len)
     ODHT_INLINE(@S@_bytes_needed);
 
-/* OK: the bytes are an empty table. BAD_PERCENT, CAPACITY, INIT_LENGTH: they stay. */
+/* OK: the bytes are an empty table. BAD_PERCENT, CAPACITY, INIT_LENGTH: they are unchanged. */
 ODHT_CALL uint32_t odht_@S@_init(
     uint8_t *bytes, size_t bytes_len, size_t max_item_count, uint8_t percent)
     ODHT_INLINE(@S@_init);
 
-/* OK: calls can be made on the bytes. A refusal, 1 to 9. Takes equally long for every table. */
+/* OK: calls can be made on the bytes. An error, 1 to 9. Takes equally long for every table. */
 ODHT_CALL uint32_t odht_@S@_open(const uint8_t *bytes, size_t bytes_len)
     ODHT_INLINE(@S@_open);
 
-/* OK: the bytes are valid to the last one. A refusal, 1 to 16. Goes over all slots. */
+/* OK: the bytes are valid to the last one. An error, 1 to 16. Goes over all slots. */
 ODHT_CALL uint32_t odht_@S@_check(const uint8_t *bytes, size_t bytes_len)
     ODHT_INLINE(@S@_check);
 
-/* OK: *count is the number of items that the header states. A refusal, 1 to 7: it stays. */
+/* OK: *count is the header's count of items. An error, 1 to 7: it is unchanged. */
 ODHT_CALL uint32_t odht_@S@_len(const uint8_t *bytes, size_t bytes_len, size_t *count)
     ODHT_INLINE(@S@_len);
 
 /* OK: the numbers of the header: how many slots, how many items these take at most, and the load
-   factor in percent, rounded down. A refusal, 1 to 7: they stay. */
+   factor in percent, rounded down. An error, 1 to 7: they are unchanged. */
 ODHT_CALL uint32_t odht_@S@_sizes(
     const uint8_t *bytes, size_t bytes_len, size_t *slots, size_t *max_item_count, uint8_t *percent)
     ODHT_INLINE(@S@_sizes);
 
-/* OK: the slots that hold a pair, in an order of inserts. UNMADE: no inserts make the table, and
-   the numbers in slots say nothing. BAD_LENGTHS, or a refusal, 1 to 16: slots stay. */
+/* OK: the occupied slots, in an order of inserts. UNMADE: no inserts make the table, and what slots
+   holds is unspecified. BAD_LENGTHS, or an error, 1 to 16: slots is unchanged. */
 ODHT_CALL uint32_t odht_@S@_insert_order(
     const uint8_t *bytes, size_t bytes_len, size_t *slots, size_t slots_len)
     ODHT_INLINE(@S@_insert_order);
 
 /* OK: the first *len bytes of out are the grown table. TOO_SMALL: out_len is below *len, and out
-   stays. A refusal, 1 to 7, LOAD_FACTOR_TOO_SMALL, CAPACITY: *len stays too. */
+   is unchanged. An error, 1 to 7, LOAD_FACTOR_TOO_SMALL, CAPACITY: *len is unchanged too. */
 ODHT_CALL uint32_t odht_@S@_grow(
     const uint8_t *bytes, size_t bytes_len, uint8_t *out, size_t out_len, size_t *len)
     ODHT_INLINE(@S@_grow);
 
-/* OK: *view is the view of the bytes. A refusal, 1 to 9: it stays. */
+/* OK: *view is the view of the bytes. An error, 1 to 9: it is unchanged. */
 ODHT_CALL uint32_t odht_@S@_open_view(const uint8_t *bytes, size_t bytes_len, odht_view *view)
     ODHT_INLINE(@S@_open_view);
 
-/* The number of items that the header states. */
+/* The header's count of items. */
 ODHT_CALL size_t odht_@S@_view_len(const odht_view *view)
     ODHT_INLINE(@S@_view_len);
 

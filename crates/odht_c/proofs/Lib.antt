@@ -1,4 +1,4 @@
 -- laws that several proofs use
 mod lemmas
--- worked examples of the words that contracts use
+-- worked examples of the definitions that contracts use
 mod examples

@@ -1,5 +1,5 @@
--- Worked examples of the words that speak of the calls of C, each a closed theorem.
--- the number of each status, and what calls demand of their arguments
+-- Worked examples of the definitions for the calls of C, each a closed theorem.
+-- the number of each status, and what calls require of their arguments
 pub mod Statuses
 -- the coding, the tables and the bytes of the examples
 pub mod Tables
@@ -7,7 +7,7 @@ pub mod Tables
 pub mod Gets
 -- what lookups of many keys answer
 pub mod GetAlls
--- what is answered of opened tables
+-- what the calls on opened tables answer
 pub mod Views
 -- the item count, and walks
 pub mod Walks

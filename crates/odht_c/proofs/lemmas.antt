@@ -4,11 +4,11 @@ pub mod Opened
 pub mod Arrays
 -- lookups of many keys
 pub mod Got
--- refusals are not done
+-- no error has the status `done`
 pub mod Statuses
--- the status of a refusal
+-- the status of an error
 pub mod Refused
--- what a header states
+-- the numbers in a header
 pub mod Sizes
 -- iterators that are called until they end
 pub mod Drained
@@ -22,5 +22,5 @@ pub mod Inserted
 pub mod Ordered
 -- a new table for as many pairs as there are
 pub mod NewBuilds
--- what a growth is refused for, and what the call answers
+-- the errors of a growth, and what the call answers
 pub mod Grown

@@ -1,12 +1,12 @@
--- What the calls answer that build a table of pairs for the caller: in its bytes, or in memory of its own and copied there.
--- The status is s; `out` and `len` stand in the places before the call, and out' and len' after it.
---     IsHandedOut IsTable out s out' len'   bytes that are a table, as `IsTable` tells, were copied to the front of
---                          `out` and the rest of it stays, or they are longer than it and all of it stays; len' is
---                          their length
---     IsGrownAfterInserts c items B  B are the bytes of the table that starts with sixteen slots at 87 percent, after the
---                          items are put into it by the owned table, which grows where it must
---     Each of the calls, of bytes that the coding c reads and of the key and the value at each index:
---     BuildAnswers c keys values p out len s out' len'   a table made at p percent for as many pairs as there are
+-- What the calls answer that build a table from pairs: in the caller's bytes, or in memory of its own and then copied.
+-- The status is s; the buffers hold `out` and `len` before the call, and out' and len' after it.
+--     IsHandedOut IsTable out s out' len'   bytes that satisfy `IsTable` were copied to the front of `out` and the rest
+--                          of it is unchanged, or they are longer than it and all of it is unchanged; len' is their
+--                          length
+--     IsGrownAfterInserts c items B  B are the bytes of the table that starts with sixteen slots at 87 percent, after
+--                          the items are inserted by the owned table, which grows where it has to
+--     Each of the calls, with the coding c and the pairs of the key and the value at each index:
+--     BuildAnswers c keys values p out len s out' len'   a table made at p percent for as many items as there are pairs
 --     BuildGrowingAnswers c keys values out len s out' len'   a table that grows
 -- Where the arrays are not equally long, or p is no load factor in percent, nothing is written.
 use Rattle.std.specs.Prelude.{◌≡◌, ◌≤◌, ◌<◌, ℕ, List, length, take, drop, Some}

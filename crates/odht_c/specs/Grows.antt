@@ -1,10 +1,10 @@
--- What the call answers that writes the table into which another one grows, and what it leaves in bytes of the caller.
--- The status is s; `out` and `len` stand in the places before the call, and out' and len' after it.
---     growth_refusal F B   what a growth of the bytes B is refused for: what their header or length is, then a load
---                          factor below 1 percent, then that no slot count is enough or the length passes 64 bits
---     IsGrownFrom F B T    T are accepted bytes that state the item count and the load factor of B; and where B is the
---                          image of a table, T is the image of the one that it grows into
---     IsGrownInto F B n out out'   the first n bytes of out' are grown from B, and behind them stands what stood there
+-- What the call answers that writes the table into which another one grows, and what it leaves in the caller's bytes.
+-- The status is s; the buffers hold `out` and `len` before the call, and out' and len' after it.
+--     growth_refusal F B   the error of a growth of the bytes B: that of their header or length, then of a load factor
+--                          below 1 percent, then that no slot count is enough or the length does not fit 64 bits
+--     IsGrownFrom F B T    T are accepted bytes whose header has the item count and the load factor of B; and where B
+--                          is the image of a table, T is the image of the one that it grows into
+--     IsGrownInto F B n out out'   the first n bytes of out' are grown from B, and those after them are as in out
 --     GrowAnswers c B out len s out' len'   the call, in bytes B that the coding c reads
 use Rattle.std.specs.Prelude.{◌≡◌, ◌≤◌, ◌<◌, ℕ, List, [], ◌∷◌, length, take, drop, Option, Some, None, is_none}
 use Rattle.odht_base.specs.Format.{Format}

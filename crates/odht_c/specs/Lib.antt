@@ -1,9 +1,9 @@
--- The words that speak of the calls of C: what each answers, and what it leaves in the places that its caller lends.
--- the statuses, and what calls demand of their arguments
+-- Definitions for the calls of C: what each answers, and what it leaves in the buffers that its caller passes.
+-- the statuses, and what calls require of their arguments
 pub mod Statuses
 -- the calls that read a table
 pub mod Reads
--- the call that walks into arrays
+-- the call that walks over a table and writes its pairs to arrays
 pub mod Walks
 -- lookups of many keys
 pub mod Lookups
@@ -13,7 +13,7 @@ pub mod Views
 pub mod Orders
 -- the calls that make a table in bytes, and those that write to one
 pub mod Writes
--- the calls that build a table in memory of its own
+-- the calls that build a table from pairs
 pub mod Builds
 -- the call that writes the table into which another one grows
 pub mod Grows

@@ -1,6 +1,6 @@
--- Lookups of many keys ks among the parts T of a table, into arrays that their caller lends.
---     AreGot c T ks old vs fs n  the first n keys are looked up: each value of vs stands where its key is found, and else
---                          the one of old, which is as fs tells; the values from n on are those of old
+-- Lookups of many keys ks among the parts T of a table, with the answers written to arrays of the caller.
+--     AreGot c T ks old vs fs n  the first n keys are looked up: fs says whether a key is found, and vs has its value
+--                          where it is, and otherwise the value of old; the values from n on are those of old
 use Rattle.std.specs.Prelude.{◌≡◌, ◌<◌, ◌≤◌, ℕ, List, Option, Some, slice_get}
 use Rattle.odht_raw.specs.Coding.{Coding}
 use Rattle.odht_raw.specs.Parts.{TableParts}

@@ -1,9 +1,9 @@
--- What the call answers that looks for an order of inserts, and what it leaves in the array that its caller lends.
--- The status is s; `out` stands in the array before the call, and out' after it.
+-- What the call answers that looks for an order of inserts, and what it leaves in the array that its caller passes.
+-- The status is s; the array holds `out` before the call, and out' after it.
 --     OrderAnswers c B out s out'   an order of inserts that makes the table in the bytes B, which the coding c reads
--- Bytes that the whole check refuses change nothing, and neither does an array that has not a place for each item. Of
--- the others the answer is `done` exactly where inserts make the table, and `unmade` exactly where none do; out' is the
--- order where it is `done`.
+-- For bytes that the whole check rejects nothing is written, and neither for an array whose length is not the number of
+-- items. For the others the answer is `done` exactly where inserts make the table, and `unmade` exactly where none do;
+-- out' is the order where it is `done`.
 use Rattle.std.specs.Prelude.{◌≡◌, ◌↔◌, ℕ, List, length, Some}
 use Rattle.odht_base.specs.Made.{IsMade, IsInsertOrder}
 use Rattle.odht_base.specs.Table.{Table, count}

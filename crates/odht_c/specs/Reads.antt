@@ -1,15 +1,15 @@
--- What the calls answer that read a table, and what they leave in the places that their caller lends.
--- The status is s; `old`, vs and fs stand in the places before the call, and `new`, vs' and fs' after.
---     IsGot o old s new    a lookup that finds o answers the status s, and leaves `new` where `old` stood
---     IsGotAt o old f new  the same of one key among many: f is 1 where it is found, else 0
+-- What the calls answer that read a table, and what they leave in the buffers that their caller passes.
+-- The status is s; the buffers hold `old`, vs and fs before the call, and `new`, vs' and fs' after it.
+--     IsGot o old s new    a lookup that finds o answers the status s, and leaves `new` in the buffer that held `old`
+--     IsGotAt o old f new  the same for one key among many: f is 1 where it is found, else 0
 --     Each of the calls in bytes B, which the coding c reads:
 --     GetAnswers c B k old s new              the value of the key k
 --     GetAllAnswers c B keys vs fs s vs' fs'  the values of keys, and which of them were found
---     LenAnswers c B old s new                how many items the header states
---     SizesAnswers F B n m p s n' m' p'       how many slots the header states, how many items these take, and the load
---                                             factor in percent
--- Bytes whose header or length is refused change no place, and neither do arrays that are not equally long. A clause
--- `on_valid` speaks of the bytes of a valid table, and `on_any` of all that a view of the header and length accepts.
+--     LenAnswers c B old s new                the header's item count
+--     SizesAnswers F B n m p s n' m' p'       the header's slot count, how many items these slots take at most, and the
+--                                             load factor in percent
+-- Where the header or length is rejected nothing is written, and neither where arrays are not equally long. A clause
+-- `on_valid` applies to the bytes of a valid table, and `on_any` to all whose header and length are accepted.
 use Rattle.std.specs.Prelude.{◌≡◌, ℕ, Option, Some, None, IfSome, List, length, slice_get}
 use Rattle.odht_base.specs.Format.{Format}
 use Rattle.odht_base.specs.Load.{max_items, percent_of}

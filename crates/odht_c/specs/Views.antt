@@ -1,14 +1,14 @@
--- What the calls answer that read an opened table, and what they leave in the places that their caller lends.
--- An opened table is a view of bytes B whose header and length are accepted, which its caller upholds; so no call
--- refuses the bytes.
--- The status is s; `old`, vs and fs stand in the places before the call, and `new`, vs' and fs' after.
---     OpenViewAnswers F bytes old s new   an opening of bytes as the format F; `old` and `new` are the slice of the view,
---                                         which is the very slice that was opened, or stays where the bytes are refused
+-- What the calls answer that read an opened table, and what they leave in the buffers that their caller passes.
+-- An opened table is a view of bytes B whose header and length are accepted, which its caller ensures; so no call
+-- answers an error of the bytes.
+-- The status is s; the buffers hold `old`, vs and fs before the call, and `new`, vs' and fs' after it.
+--     OpenViewAnswers F bytes old s new   an opening of bytes with the format F; `old` and `new` are the slice of the
+--                                         view: the very slice that was opened, or unchanged after an error
 --     ViewGetAnswers c B k old s new      the value of the key k
---     ViewGetAllAnswers c B keys vs fs s vs' fs'   the values of keys, and which of them were found; arrays that are not
---                                         equally long change no place
---     ViewLenAnswers c B n                how many items the header states
--- The coding c reads the bytes. A clause `on_valid` speaks of the bytes of a valid table, and `on_any` of all that are
+--     ViewGetAllAnswers c B keys vs fs s vs' fs'   the values of keys, and which of them were found; where arrays are
+--                                         not equally long nothing is written
+--     ViewLenAnswers c B n                the header's item count
+-- The coding c reads the bytes. A clause `on_valid` applies to the bytes of a valid table, and `on_any` to all that are
 -- accepted.
 use Rattle.std.specs.Prelude.{◌≡◌, ℕ, Option, Some, IfSome, List, length, slice_get}
 use Rattle.std.specs.Borrow.{Bor}

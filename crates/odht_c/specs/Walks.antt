@@ -1,12 +1,12 @@
--- What a call answers that walks over a table into arrays, and what it leaves in the places that its caller lends.
--- The status is s; at, ks, vs and n stand in the places before the call, and at', ks', vs' and n' after.
---     IsWalked c P at ks vs s at' ks' vs' n'   a walk over the table P from slot `at` on, into arrays that held ks and vs,
---                          answers the status s and tells n': as many pairs as the arrays take, from the first on. Those
---                          that are left are the pairs from slot at' on: the slot of the first of them, or else the count
---                          of all slots
+-- What a call answers that walks over a table into arrays, and what it leaves in the buffers that its caller passes.
+-- The status is s; the buffers hold at, ks, vs and n before the call, and at', ks', vs' and n' after it.
+--     IsWalked c P at ks vs s at' ks' vs' n'   a walk over the table P from slot `at` on, into arrays that held ks and
+--                          vs, answers the status s and writes n' pairs: as many as fit, from the first on. The pairs
+--                          that are left are those from slot at' on, which is the slot of the first of them, or the
+--                          slot count where none is left
 --     WalkAnswers c B at ks vs n s at' ks' vs' n'   the same in bytes B, which the coding c reads
--- Bytes whose header or length is refused change no place, and neither do arrays that are not equally long. The clause
--- `on_valid` speaks of the bytes of a valid table, and `on_any` of the table that bytes show which a view accepts.
+-- Where the header or length is rejected nothing is written, and neither where arrays are not equally long. The clause
+-- `on_valid` applies to the bytes of a valid table, and `on_any` to the table to which any accepted bytes decode.
 use Rattle.std.specs.Prelude.{◌≡◌, ◌≤◌, ◌<◌, ℕ, min, Some, IsFalse, List, ◌++◌, length, map, take, drop}
 use Rattle.odht_base.specs.Decoded.{decoded_table}
 use Rattle.odht_base.specs.SlotWalks.{walk_from}

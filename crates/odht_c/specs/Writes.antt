@@ -1,17 +1,18 @@
--- What the calls answer that make a table in bytes or write to one, and what they leave in the places of their caller.
--- The status is s; B, `old` and n stand in the places before the call, and B', `new` and n' after it.
---     IsFormer o old s new an insert over the former value o answers the status s, and leaves `new` where `old` stood
---     IsAnswered r old s new   the same of an insert that may be refused
---     IsAfterInsert c P k v B' old s new   an insert of k with v into the table P leaves the bytes B' of the table after it, or
---                          is refused where P is full for the key and leaves all as it was
+-- What the calls answer that make a table in bytes or write to one, and what they leave in the caller's buffers.
+-- The status is s; the buffers hold B, `old` and n before the call, and B', `new` and n' after it.
+--     IsFormer o old s new an insert over the former value o answers the status s, and leaves `new` in the buffer that
+--                          held `old`
+--     IsAnswered r old s new   the same for an insert that may return an error
+--     IsAfterInsert c P k v B' old s new   an insert of k with v into the table P leaves the bytes B' of the table
+--                          after it, or answers Full where P is full for the key and leaves all unchanged
 --     Each of the calls, of bytes that the coding c reads:
 --     BytesNeededAnswers c m p old s new      how many bytes a new table for m items at p percent has
 --     InitAnswers c m p B s B'                an empty table for m items at p percent
 --     InsertAnswers c B k v old s B' new      an insert of the key k with the value v, and the value that k had
---     InsertAllAnswers c B keys values n s B' n'   inserts of pairs in turn, up to the first that is refused, and how
---                          many were accepted
--- What is refused before the first insert changes no place. A clause `on_valid` speaks of the bytes of a valid table,
--- and `on_any` of all whose header and length are accepted.
+--     InsertAllAnswers c B keys values n s B' n'   inserts of pairs in order, up to the first that is answered with
+--                          Full, and how many were inserted
+-- An error before the first insert leaves all buffers unchanged. A clause `on_valid` applies to the bytes of a valid
+-- table, and `on_any` to all whose header and length are accepted.
 use Rattle.std.specs.Prelude.{◌≡◌, ◌≤◌, ◌<◌, ◌^◌, ℕ, List, length, take}
 use Rattle.std.specs.Prelude.{Option, Some, None, MatchOption, Result, Ok, Err}
 use Rattle.std.specs.List.{zip}

@@ -1,4 +1,4 @@
-//! Tables that are built of pairs: in bytes of the caller, or in memory of their own and then copied there.
+//! Tables that are built from pairs: in the caller's bytes, or in memory of their own and then copied to the caller's.
 ghost use Rattle.std.specs.Prelude.{◌≡◌, ◌≤◌, ◌⊎◌, Some, length, All};
 ghost use Rattle.std.specs.List.{zip};
 ghost use Rattle.odht_base.specs.Image.{image_len};
@@ -18,7 +18,8 @@ use odht::load::Factor;
 use odht::{HashTable, HashTableOwned, memory_layout};
 use std::alloc::Global;
 
-/// The table of the pairs, made for as many as there are: it is built where the caller wants it. No memory is asked for.
+/// Builds a table of the pairs at the front of `out`, with slots for as many items as there are pairs, and writes its
+/// length in bytes to `len`. CAPACITY leaves both unchanged, TOO_SMALL leaves `out` unchanged. Allocates nothing.
 #[inline]
 pub(crate) fn collected<C: Config>(
     keys: &[C::Key],
@@ -52,7 +53,7 @@ pub(crate) fn collected<C: Config>(
     OK
 }
 
-// What the keys and values are as bytes, for the proof: it changes nothing.
+// Encodes each key and value and drops the bytes. It changes nothing: only the clause matters, which the proof needs.
 #[inline(always)]
 fn hold_pairs<C: Config>(keys: &[C::Key], values: &[C::Value])
     requires { length values.now ≡ length keys.now }
@@ -66,7 +67,7 @@ fn hold_pairs<C: Config>(keys: &[C::Key], values: &[C::Value])
     }
 }
 
-// Makes the table for the pairs in the bytes, whatever stood there, and inserts them in turn: there is room for each.
+// Makes an empty table in the bytes, whatever they hold, and inserts the pairs in order: there is room for each.
 #[inline(always)]
 fn insert_into_new<C: Config>(
     bytes: &mut [u8],
@@ -94,7 +95,7 @@ fn insert_into_new<C: Config>(
     )
 }
 
-// The same in a place of bytes.
+// The same in a store.
 #[inline(always)]
 fn insert_into_store<C: Config, M: ByteStoreMut>(
     store: &mut M,
@@ -121,7 +122,8 @@ fn insert_into_store<C: Config, M: ByteStoreMut>(
     let _store = table.into_data();
 }
 
-/// The table of the pairs, which starts with sixteen slots at 87 percent and grows.
+/// Builds a table of the pairs in memory of its own, which starts with sixteen slots at 87 percent of slots and grows,
+/// and copies it to the front of `out`. MEMORY leaves `out` and `len` unchanged, TOO_SMALL leaves `out` unchanged.
 #[inline]
 pub(crate) fn grown<C: Config>(
     alloc: Global,
@@ -143,7 +145,7 @@ pub(crate) fn grown<C: Config>(
     hand_out(table.raw_bytes(), out, len)
 }
 
-// Copies the table to the front of `out`, if it has the room, and tells its length.
+// Copies the table to the front of `out`, if it fits, and writes its length in bytes to `len`.
 fn hand_out(table: &[u8], out: &mut [u8], len: &mut usize) -> u32
     ensures told { len.new ≡ length table.now }
     ensures copied { IsHandedOut (λ B. B ≡ table.now) out.old result out.new len.new }

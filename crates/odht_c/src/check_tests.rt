@@ -1,12 +1,12 @@
-//! The whole check of two tables that were worked out by hand from docs/FORMAT.md, whole and with changes that opening
-//! does not see.
+//! The whole check of two tables that were worked out by hand from docs/FORMAT.md, unchanged and with changes that
+//! opening does not find.
 
 use crate::shapes::b16_u32::{odht_b16_u32_check, odht_b16_u32_open};
 use crate::shapes::u64_u32::{odht_u64_u32_check, odht_u64_u32_open};
 use crate::status::OK;
 use std::process::Abort;
 
-// Writes the byte of each change in its place.
+// Writes the byte of each change at its index.
 fn change(rt: &impl Abort, bytes: &mut [u8], changes: &[(usize, u8)]) {
     for (at, byte) in changes {
         assert!(rt; *at < bytes.len(), "where a change is");
@@ -60,7 +60,7 @@ fn byte_table(rt: &impl Abort) -> [u8; 384] {
     bytes
 }
 
-// Demands this number of the table with the changes, which opening does not see.
+// Asserts this number for the table with the changes, which opening does not find.
 fn check_numbers(rt: &impl Abort, changes: &[(usize, u8)], expected: u32) {
     let mut bytes = number_table(rt);
     change(rt, &mut bytes, changes);
@@ -68,7 +68,7 @@ fn check_numbers(rt: &impl Abort, changes: &[(usize, u8)], expected: u32) {
     assert_eq!(rt; odht_u64_u32_check(&bytes), expected, "check");
 }
 
-// The same of the table of keys of 16 bytes.
+// The same for the table of keys of 16 bytes.
 fn check_bytes(rt: &impl Abort, changes: &[(usize, u8)], expected: u32) {
     let mut bytes = byte_table(rt);
     change(rt, &mut bytes, changes);
@@ -89,7 +89,7 @@ fn changed_tables_of_numbers(rt: HostRuntime) {
     check_numbers(&rt, &[(8, 4)], 14);
     // the load factor is 655, and 16 * 655 is below 65536
     check_numbers(&rt, &[(28, 0x8f), (29, 2)], 15);
-    // 5 to 6 stands in slot 10, and slot 9 is free
+    // 5 to 6 is in slot 10, and slot 9 is free
     let moved = [
         (140, 0),
         (148, 0),
@@ -101,7 +101,7 @@ fn changed_tables_of_numbers(rt: HostRuntime) {
         (250, 0x61),
     ];
     check_numbers(&rt, &moved, 16);
-    // 5 to 6 stands in slots 9 and 10, and there are 4 items
+    // 5 to 6 is in slots 9 and 10, and there are 4 items
     check_numbers(
         &rt,
         &[(152, 5), (160, 6), (234, 0x61), (250, 0x61), (8, 4)],

@@ -1,4 +1,4 @@
-//! The table that another one grows into, in bytes of the caller, for every configuration.
+//! Growth of a table into the caller's bytes, for every configuration.
 ghost use Rattle.odht_c.specs.Grows.{GrowAnswers};
 
 use crate::read::view;
@@ -6,10 +6,11 @@ use crate::status::{CAPACITY, LOAD_FACTOR_TOO_SMALL, OK, TOO_SMALL, status_of};
 use odht::config::{Coded, Config};
 use odht::memory_layout::Header;
 
-// The load factor of one percent, which is the least.
+// One percent in 65536ths, rounded down: the least load factor.
 const LEAST_FACTOR: u16 = 655;
 
-/// Writes the table that the one in `bytes` grows into to the front of `out`, if it has the room, and tells its length.
+/// Writes the table that the one in `bytes` grows into to the front of `out`, and its length in bytes to `len`.
+/// TOO_SMALL leaves `out` unchanged, any other error leaves both unchanged.
 #[inline]
 pub(crate) fn grow<C: Config>(bytes: &[u8], out: &mut [u8], len: &mut usize) -> u32
     ensures { GrowAnswers ⟦<C as Coded>⟧.coding bytes.now out.old len.old result out.new len.new }

@@ -1,5 +1,5 @@
-//! Growth into bytes of the caller: of full tables whose growth was worked out by docs/FORMAT.md outside the library,
-//! and refused.
+//! Growth into the caller's bytes: of full tables whose growth was worked out by docs/FORMAT.md outside the library,
+//! and with an error.
 
 use crate::shapes::b16_u32::{
     odht_b16_u32_check, odht_b16_u32_get, odht_b16_u32_grow, odht_b16_u32_init, odht_b16_u32_insert,
@@ -10,17 +10,18 @@ use crate::shapes::u64_u32::{
 use crate::status::{CAPACITY, LOAD_FACTOR_TOO_SMALL, OK, TOO_SMALL};
 use std::process::Abort;
 
-// The header's tag is another.
+// The header has another tag.
 const WRONG_TAG: u32 = 2;
 
 // The table is full, and the key absent.
 const FULL: u32 = 18;
 
-// How many bytes 32 slots of twelve bytes have.
+// The length in bytes of a table of 32 slots with entries of twelve bytes.
 const GROWN_LEN: usize = 464;
 
 // Slot, key and tag of each item of the full table in 32 slots. 35 and 3 have the last slot as their home, as in 16
-// slots, where 3 came first and 35 stood behind it, in slot 0. So in slot order 35 is placed before 3.
+// slots, where 3 came first and 35 went to the next slot of the probe order, slot 0. So in slot order 35 is placed
+// before 3.
 const GROWN: [(usize, u8, u8); 13] = [
     (0, 3, 58),
     (7, 11, 87),
@@ -37,17 +38,17 @@ const GROWN: [(usize, u8, u8); 13] = [
     (31, 35, 44),
 ];
 
-// Demands this status.
+// Asserts this status.
 fn same_status(rt: &impl Abort, what: &str, found: u32, expected: u32) {
     assert_eq!(rt; found, expected, "{what}");
 }
 
-// Demands that what is named so is as expected.
+// Asserts that the number is as expected.
 fn same(rt: &impl Abort, what: &str, found: usize, expected: usize) {
     assert_eq!(rt; found, expected, "{what}");
 }
 
-// Demands these bytes.
+// Asserts these bytes.
 fn same_bytes(rt: &impl Abort, found: &[u8], expected: &[u8]) {
     assert_eq!(rt; found.len(), expected.len(), "length");
     for at in 0..expected.len() {
@@ -55,7 +56,7 @@ fn same_bytes(rt: &impl Abort, found: &[u8], expected: &[u8]) {
     }
 }
 
-// Demands that the bytes begin with these.
+// Asserts that the bytes begin with these.
 fn same_front(rt: &impl Abort, found: &[u8], expected: &[u8]) {
     assert!(rt; found.len() >= expected.len(), "length");
     for at in 0..expected.len() {
@@ -63,7 +64,7 @@ fn same_front(rt: &impl Abort, found: &[u8], expected: &[u8]) {
     }
 }
 
-// Demands that each byte from there on is this one.
+// Asserts that each byte from there on is this one.
 fn same_rest(rt: &impl Abort, found: &[u8], from: usize, expected: u8) {
     for at in from..found.len() {
         assert_eq!(rt; found[at], expected, "the byte at {at}");
@@ -83,7 +84,7 @@ fn insert(rt: &impl Abort, bytes: &mut [u8], key: u8) {
     same_status(rt, "insert", status, OK);
 }
 
-// 13 items in 16 slots at 87 percent, which take no more: 3, behind it 35, and 1 to 12.
+// 13 items in 16 slots at 87 percent, which take no more: 3, after it 35, and 1 to 12.
 fn full_table(rt: &impl Abort) -> [u8; 256] {
     let mut bytes = [0; 256];
     same_status(rt, "init", odht_u64_u32_init(&mut bytes, 13, 87), OK);
@@ -164,7 +165,7 @@ fn too_few_bytes_tell_the_grown_length(rt: HostRuntime) {
     same_bytes(&rt, &out, &[7; 463]);
 }
 
-// Demands this refusal of the growth, which leaves both places.
+// Asserts this error of the growth, which leaves both buffers unchanged.
 fn refused(rt: &impl Abort, what: &str, bytes: &[u8], expected: u32) {
     let (mut out, mut len) = ([7; 464], 5);
     let status = odht_u64_u32_grow(bytes, &mut out, &mut len);
@@ -187,7 +188,7 @@ fn refused_growths(rt: HostRuntime) {
     refused(&rt, "the factor 654", &bytes, LOAD_FACTOR_TOO_SMALL);
     bytes[28] = 0xff;
     bytes[29] = 0xff;
-    // 2^63 items, of which twice as many pass 64 bits, and then 2^62, for which 2^63 slots are too few
+    // 2^63 items, twice which does not fit 64 bits, and then 2^62, for which 2^63 slots are too few
     bytes[15] = 0x80;
     refused(&rt, "2^63 items", &bytes, CAPACITY);
     bytes[15] = 0x40;

@@ -1,4 +1,4 @@
-//! Lookups of many keys into the arrays of a caller, eight at a time.
+//! Lookups of many keys, eight at a time, with the answers written to the caller's arrays.
 ghost use Rattle.std.specs.Prelude.{◌≡◌, ◌+◌, ◌≤◌, ◌<◌, List, length};
 ghost use Rattle.odht.specs.Lookups.{IsLookAt};
 ghost use Rattle.odht_c.specs.Lookups.{AreGot};
@@ -7,7 +7,7 @@ use odht::config::{Coded, Config};
 use odht::lookups::{BATCH, find_at, look_at};
 use odht::raw_table::{FirstLook, RawTable};
 
-/// Looks up all keys: eight at a time and then the rest.
+/// Looks up all keys: whole batches of eight, and then the rest one by one.
 #[inline(always)]
 pub(crate) fn look_up_all<C: Config>(
     raw: &RawTable<'_, C::EncodedKey, C::EncodedValue, C::H>,
@@ -26,7 +26,7 @@ pub(crate) fn look_up_all<C: Config>(
     }
 }
 
-// Looks up as many keys as fill batches, and answers how many these are.
+// Looks up as many keys as fill whole batches, and returns how many these are.
 #[inline(always)]
 fn look_up_batches<C: Config>(
     raw: &RawTable<'_, C::EncodedKey, C::EncodedValue, C::H>,
@@ -46,7 +46,7 @@ fn look_up_batches<C: Config>(
     batches * BATCH
 }
 
-// Looks up the eight keys from an index on. Written out, the looks stay in registers.
+// Looks up the eight keys from an index on. Without a loop the eight first looks stay in registers.
 #[inline(always)]
 fn look_up_eight<C: Config>(
     raw: &RawTable<'_, C::EncodedKey, C::EncodedValue, C::H>,
@@ -81,7 +81,7 @@ fn look_up_eight<C: Config>(
     look_up_one::<C>(raw, eighth, keys, from + 7, values, found);
 }
 
-// Looks up the key at an index, whose first look was taken.
+// Looks up the key at an index, whose first look was already made.
 #[inline(always)]
 fn look_up_one<C: Config>(
     raw: &RawTable<'_, C::EncodedKey, C::EncodedValue, C::H>,

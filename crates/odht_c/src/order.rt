@@ -1,4 +1,4 @@
-//! An order of inserts that makes the table in bytes, for every configuration.
+//! The call for an order of inserts that makes a table, for every configuration.
 ghost use Rattle.odht_c.specs.Orders.{OrderAnswers};
 
 use crate::status::{BAD_LENGTHS, OK, UNMADE, status_of};
@@ -6,7 +6,8 @@ use odht::bytes::Borrowed;
 use odht::config::{Coded, Config};
 use odht::{HashTable, memory_layout};
 
-/// The occupied slots in an order in which inserts of their pairs make the table, written to `out`, where there is one.
+/// Writes to `out` the occupied slots in an order in which inserts of their pairs make the table. UNMADE where there is
+/// none: what `out` then holds is unspecified. Errors of the whole check and BAD_LENGTHS leave `out` unchanged.
 #[inline]
 pub(crate) fn insert_order<C: Config>(bytes: &[u8], out: &mut [usize]) -> u32
     ensures { OrderAnswers ⟦<C as Coded>⟧.coding bytes.now out.old result out.new }

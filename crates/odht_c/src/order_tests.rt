@@ -1,4 +1,4 @@
-//! The call for an order of inserts: of tables whose only order is known, of one that no inserts make, and refused.
+//! The call for an order of inserts: of tables whose only order is known, of one that no inserts make, and with errors.
 
 use crate::shapes::b16_u32::{
     odht_b16_u32_check, odht_b16_u32_init, odht_b16_u32_insert, odht_b16_u32_insert_order,
@@ -10,12 +10,12 @@ use std::process::Abort;
 // A number that no call has written.
 const UNTOUCHED: usize = 777;
 
-// Demands this status.
+// Asserts this status.
 fn same_status(rt: &impl Abort, what: &str, found: u32, expected: u32) {
     assert_eq!(rt; found, expected, "{what}");
 }
 
-// Demands these slots.
+// Asserts these slots.
 fn same_slots(rt: &impl Abort, found: &[usize], expected: &[usize]) {
     assert_eq!(rt; found.len(), expected.len(), "places");
     for index in 0..found.len() {
@@ -44,7 +44,7 @@ fn insert(rt: &impl Abort, bytes: &mut [u8], key: u64) {
     same_status(rt, "insert", status, OK);
 }
 
-// 3 and then 19 in 16 slots. Both have the home 15, so 3 stands in slot 15, and 19 in slot 0 behind it.
+// 3 and then 19 in 16 slots. Both have the home 15, so 3 is in slot 15, and 19 in slot 0 after it.
 fn wrapped_table(rt: &impl Abort) -> [u8; 256] {
     let mut bytes = empty_table(rt);
     insert(rt, &mut bytes, 3);
@@ -136,8 +136,8 @@ fn a_table_that_no_inserts_make(rt: HostRuntime) {
         odht_b16_u32_insert_order(&bytes, &mut out),
         OK,
     );
-    // The keys 0 and 1 change their slots. Slot 1 is the second place of key 0, behind slot 0; and slot 0 is the 48th
-    // place of key 1, behind the slots 1 to 32 and 49 to 63. So each was there before the other.
+    // The keys 0 and 1 exchange their slots. In the probe order of key 0 slot 1 is the second position, after slot 0;
+    // in that of key 1 slot 0 is the 48th, after the slots 1 to 32 and 49 to 63. So each would have to be there first.
     bytes[44] = 1;
     bytes[64] = 0;
     same_status(&rt, "check", odht_b16_u32_check(&bytes), OK);

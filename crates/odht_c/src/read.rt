@@ -1,4 +1,4 @@
-//! What the calls read in the bytes of a table, for every configuration.
+//! The calls that read the bytes of a table, for every configuration.
 ghost use Rattle.std.specs.Prelude.{◌≡◌, length, IfOk};
 ghost use Rattle.std.specs.Result.{result_err};
 ghost use Rattle.odht_raw.specs.Refusals.{opening_refusal, view_refusal, check_refusal};
@@ -15,7 +15,7 @@ use odht::load::max_item_count_for;
 use odht::memory_layout::Header;
 use odht::{HashTable, memory_layout};
 
-/// The table in bytes whose header and length fit, of which no slot is looked at.
+/// Opens the bytes by their header and length. Reads no slot.
 #[inline(always)]
 pub(crate) fn view<C: Config>(bytes: &[u8]) -> Result<HashTable<C, Borrowed<'_>>, Error>
     ensures ok { IfOk result (λ t. t.0.now ≡ bytes.now) }
@@ -24,7 +24,7 @@ pub(crate) fn view<C: Config>(bytes: &[u8]) -> Result<HashTable<C, Borrowed<'_>>
     HashTable::from_raw_bytes_by_header(Borrowed::new(bytes))
 }
 
-/// 0, or the number of the first refusal.
+/// OK where the header, the length and the first ten slots are accepted, else the number of the first error.
 #[inline]
 pub(crate) fn open<C: Config>(bytes: &[u8]) -> u32
     ensures { result ≡ status_or_ok (view_refusal ⟦<C as Coded>⟧.coding.format bytes.now) }
@@ -38,7 +38,7 @@ pub(crate) fn open<C: Config>(bytes: &[u8]) -> u32
     }
 }
 
-/// 0 where the bytes are valid, or the number of the first refusal of the whole check.
+/// OK where the bytes are valid, else the number of the first error of the whole check.
 #[inline]
 pub(crate) fn check<C: Config>(bytes: &[u8]) -> u32
     ensures { result ≡ status_or_ok (check_refusal ⟦<C as Coded>⟧.coding.format bytes.now) }
@@ -49,7 +49,7 @@ pub(crate) fn check<C: Config>(bytes: &[u8]) -> u32
     }
 }
 
-/// The value of a key, written to `value` where there is one.
+/// Writes the value of a key to `value`. ABSENT and errors leave `value` unchanged.
 #[inline]
 pub(crate) fn get<C: Config>(bytes: &[u8], key: &C::Key, value: &mut C::Value) -> u32
     ensures { GetAnswers ⟦<C as Coded>⟧.coding bytes.now key.now value.old result value.new }
@@ -61,7 +61,8 @@ pub(crate) fn get<C: Config>(bytes: &[u8], key: &C::Key, value: &mut C::Value) -
     view::get(&table, key, value)
 }
 
-/// The values of many keys: `found` is 1 at a key that has one, which is written to `values` there, and else 0.
+/// Looks up many keys: at the index of a key that is found, its value is written to `values` and 1 to `found`; at any
+/// other index 0 is written to `found`. An error leaves both unchanged.
 #[inline]
 pub(crate) fn get_all<C: Config>(
     bytes: &[u8],
@@ -82,7 +83,7 @@ pub(crate) fn get_all<C: Config>(
     OK
 }
 
-/// How many items the header states.
+/// Writes the header's item count to `item_count`. An error leaves it unchanged.
 pub(crate) fn len<C: Config>(bytes: &[u8], item_count: &mut usize) -> u32
     ensures { LenAnswers ⟦<C as Coded>⟧.coding bytes.now item_count.old result item_count.new }
 {
@@ -95,7 +96,8 @@ pub(crate) fn len<C: Config>(bytes: &[u8], item_count: &mut usize) -> u32
     }
 }
 
-/// How many slots the header states, how many items these take, and the load factor in percent.
+/// Writes the slot count, the maximum item count and the load factor in percent of slots, rounded down, by the header.
+/// An error leaves all three unchanged.
 pub(crate) fn sizes<C: Config>(
     bytes: &[u8],
     slot_count: &mut usize,

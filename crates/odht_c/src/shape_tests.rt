@@ -1,4 +1,4 @@
-//! Each shape once: its length, an insert, a lookup, and the key that is absent. Sixteen slots have
+//! Each shape once: its length, an insert, a lookup, and a lookup of an absent key. A table of sixteen slots has
 //! 32 + 16 * (key + value) + 32 bytes.
 
 use crate::shapes::b16::{odht_b16_bytes_needed, odht_b16_get, odht_b16_init, odht_b16_insert};
@@ -24,12 +24,12 @@ use crate::shapes::u64_u64::{
 use crate::status::{ABSENT, OK, REPLACED};
 use std::process::Abort;
 
-// Demands this number.
+// Asserts this number.
 fn same(rt: &impl Abort, found: u64, expected: u64) {
     assert_eq!(rt; found, expected);
 }
 
-// Demands this status.
+// Asserts this status.
 fn done(rt: &impl Abort, found: u32, expected: u32) {
     assert_eq!(rt; found, expected);
 }

@@ -1,40 +1,41 @@
-//! The numbers that the calls answer. `include/odht.h` has names for all, those of refusals too.
+//! The statuses that the calls answer, as numbers. `include/odht.h` names them all, errors included; so does
+//! docs/FORMAT.md, "Numbers for C".
 ghost use Rattle.std.specs.Prelude.{◌≡◌};
 ghost use Rattle.odht_c.specs.Statuses.{status_of};
 
 use odht::error::Error;
 
-/// It is done.
+/// Success.
 pub(crate) const OK: u32 = 0;
 
-/// The header states a load factor below one percent.
+/// The load factor in the header is below one percent.
 pub(crate) const LOAD_FACTOR_TOO_SMALL: u32 = 10;
 
-/// The bytes for a new table have another length than it needs.
+/// The bytes for a new table are more or fewer than it needs.
 pub(crate) const INIT_LENGTH: u32 = 17;
 
-/// No slot count is enough, or its length passes `usize`.
+/// No slot count is enough, or the length in bytes does not fit `usize`.
 pub(crate) const CAPACITY: u32 = 20;
 
-/// The key has no value.
+/// The key is not in the table.
 pub(crate) const ABSENT: u32 = 32;
 
-/// It is done, and the key had a value before.
+/// Success, and the key had a value before.
 pub(crate) const REPLACED: u32 = 33;
 
-/// The load factor is not from 1 to 100 percent.
+/// The load factor is not from 1 to 100 percent of slots.
 pub(crate) const BAD_PERCENT: u32 = 34;
 
 /// Arrays that belong together have different lengths.
 pub(crate) const BAD_LENGTHS: u32 = 35;
 
-/// An array is too short for all that it should take.
+/// An output buffer is too short for the result.
 pub(crate) const TOO_SMALL: u32 = 36;
 
 /// No list of inserts makes the table.
 pub(crate) const UNMADE: u32 = 37;
 
-/// The number of a refusal.
+/// The status of an error.
 pub(crate) fn status_of(error: &Error) -> u32
     ensures { result ≡ status_of error.now }
 {

@@ -1,6 +1,6 @@
-//! The calls that ask for memory, run with ample memory, and with each request refused in turn. The first answer of a
-//! call may then be that memory was refused, and the second may not. The tests of one try fail where a request is
-//! refused, and so count the requests.
+//! The calls that allocate, run with ample memory, and with each allocation failing in turn. The first answer of a call
+//! may then be MEMORY, and the second may not. The tests with one try fail where an allocation fails, and so count the
+//! allocations.
 
 use crate::shapes::b16_u32::{
     odht_b16_u32_build, odht_b16_u32_build_growing, odht_b16_u32_check, odht_b16_u32_get,
@@ -13,20 +13,20 @@ use crate::status::{BAD_LENGTHS, BAD_PERCENT, OK, TOO_SMALL};
 use std::alloc::Global;
 use std::process::Abort;
 
-// Memory was refused.
+// An allocation failed.
 const MEMORY: u32 = 19;
 
-// Demands that what is named so is as expected.
+// Asserts that the number is as expected.
 fn same(rt: &impl Abort, what: &str, found: usize, expected: usize) {
     assert_eq!(rt; found, expected, "{what}");
 }
 
-// Demands this status.
+// Asserts this status.
 fn same_status(rt: &impl Abort, what: &str, found: u32, expected: u32) {
     assert_eq!(rt; found, expected, "{what}");
 }
 
-// Builds a table that grows, once more where memory was refused, and then nothing was written.
+// Builds a table that grows. Tries again where an allocation failed; then nothing was written.
 fn build_growing(
     rt: &impl Abort,
     alloc: Global,
@@ -44,7 +44,7 @@ fn build_growing(
     odht_u64_u32_build_growing(alloc, keys, values, out, len)
 }
 
-// Demands a table of so many items, where the value of each key is ten times as much.
+// Asserts a table of so many items, in which the value of each key is ten times the key.
 fn check_table(rt: &impl Abort, table: &[u8], items: u32) {
     same_status(rt, "open", odht_u64_u32_open(table), OK);
     let mut count = 0;
@@ -125,7 +125,7 @@ fn refused_arguments(rt: HostRuntime) {
     same(&rt, "length", len, 0);
 }
 
-// Demands a table of keys of 16 bytes, where the value of each is ten times its hash.
+// Asserts a table of keys of 16 bytes, in which the value of each is ten times its hash.
 fn check_hashes(rt: &impl Abort, table: &[u8], keys: &[[u8; 16]]) {
     same_status(rt, "check", odht_b16_u32_check(table), OK);
     for key in keys {

@@ -1,7 +1,7 @@
 //! The version of the library.
 ghost use Rattle.std.specs.Prelude.{◌≡◌};
 
-// The version 0.4.0, as packaging/VERSION and include/odht.h tell it.
+// Version 0.4.0, as in packaging/VERSION and include/odht.h.
 const VERSION: u32 = 400;
 
 /// The version of this library: 10000 for each major number, 100 for each minor one, and the patch. A program can

@@ -1,4 +1,4 @@
-//! Opened tables as a caller in C keeps them, and lookups that look at no header, for every configuration.
+//! Opened tables as a caller in C keeps them, and lookups that skip the header, for every configuration.
 ghost use Rattle.std.specs.Prelude.{◌≡◌, length};
 ghost use Rattle.odht_raw.specs.Frame.{IsAccepted};
 ghost use Rattle.odht_c.specs.Views.{OpenViewAnswers, ViewGetAnswers, ViewGetAllAnswers};
@@ -10,8 +10,8 @@ use odht::bytes::Borrowed;
 use odht::config::{Coded, Config};
 use odht::error::Error;
 
-/// The bytes of an opened table, as C keeps them: a pointer and a length. The calls that read it demand that its header
-/// and its length are accepted.
+/// The bytes of an opened table, as C keeps them: a pointer and a length. The calls that read a view require that the
+/// header and the length of its bytes are accepted, and do not check it.
 #[repr(C)]
 #[derive(Clone, Copy)]
 pub struct View<'a> {
@@ -19,7 +19,8 @@ pub struct View<'a> {
     pub bytes: &'a [u8],
 }
 
-/// 0 and the view of the bytes, or the number of the first refusal; then the view stays.
+/// OK, and `view` is a view of the bytes; or the number of the first error, and `view` is unchanged. Reads the header,
+/// the length and the first ten slots.
 #[inline]
 pub(crate) fn open<'a, C: Config>(bytes: &'a [u8], view: &mut View<'a>) -> u32
     ensures { OpenViewAnswers ⟦<C as Coded>⟧.coding.format bytes.entry view.old.bytes result view.new.bytes }
@@ -36,7 +37,7 @@ pub(crate) fn open<'a, C: Config>(bytes: &'a [u8], view: &mut View<'a>) -> u32
     }
 }
 
-/// The table of a view, of which nothing is looked at.
+/// The table of a view. Reads none of its bytes.
 #[inline(always)]
 pub(crate) fn table<'a, C: Config>(view: &View<'a>) -> HashTable<C, Borrowed<'a>>
     requires { IsAccepted ⟦<C as Coded>⟧.coding.format view.now.bytes.now }
@@ -45,7 +46,7 @@ pub(crate) fn table<'a, C: Config>(view: &View<'a>) -> HashTable<C, Borrowed<'a>
     HashTable::from_raw_bytes_unchecked(Borrowed::new(view.bytes))
 }
 
-/// The value of a key of an opened table, written to `value` where there is one.
+/// Writes the value of a key of an opened table to `value`. ABSENT leaves `value` unchanged.
 #[inline(always)]
 pub(crate) fn get<C: Config>(
     table: &HashTable<C, Borrowed<'_>>,
@@ -63,8 +64,8 @@ pub(crate) fn get<C: Config>(
     }
 }
 
-/// The values of many keys of an opened table: `found` is 1 at a key that has one, which is written to `values` there,
-/// and else 0.
+/// Looks up many keys in an opened table: at the index of a key that is found, its value is written to `values` and 1
+/// to `found`; at any other index 0 is written to `found`.
 #[inline]
 pub(crate) fn get_all<C: Config>(
     table: &HashTable<C, Borrowed<'_>>,

@@ -1,4 +1,4 @@
-//! Opened tables: what a view finds, and that a refused opening leaves the view.
+//! Opened tables: what a view finds, and that an opening with an error leaves the view unchanged.
 
 use crate::shapes::b16_u32::{
     odht_b16_u32_init, odht_b16_u32_insert, odht_b16_u32_open_view, odht_b16_u32_view_get,
@@ -12,23 +12,23 @@ use crate::status::{ABSENT, BAD_LENGTHS, OK};
 use crate::view::View;
 use std::process::Abort;
 
-// The header is of another version of the format.
+// The header has another version of the format.
 const WRONG_VERSION: u32 = 3;
 
 // The keys have another length.
 const WRONG_SIZE: u32 = 4;
 
-// Demands this status.
+// Asserts this status.
 fn same_status(rt: &impl Abort, what: &str, found: u32, expected: u32) {
     assert_eq!(rt; found, expected, "{what}");
 }
 
-// Demands that what is named so is as expected.
+// Asserts that the number is as expected.
 fn same(rt: &impl Abort, what: &str, found: usize, expected: usize) {
     assert_eq!(rt; found, expected, "{what}");
 }
 
-// A table of 16 slots, for 13 items at 87 percent, with 3 to 30 and 19 to 190, which have the home 15 both.
+// A table of 16 slots, for 13 items at 87 percent, with 3 to 30 and 19 to 190, which both have the home 15.
 fn number_table(rt: &impl Abort) -> [u8; 256] {
     let (mut bytes, mut former) = ([0; 256], 0);
     same_status(rt, "init", odht_u64_u32_init(&mut bytes, 13, 87), OK);
@@ -71,7 +71,7 @@ fn a_view_finds_what_was_inserted_behind_it(rt: HostRuntime) {
     assert_eq!(rt; status, OK, "open_view");
     let status = odht_u64_u32_insert(&mut bytes, 4, 40, &mut former);
     same_status(&rt, "insert", status, OK);
-    // The same view, which C has kept.
+    // The same view again, as C keeps it.
     let view = View { bytes: &bytes };
     let status = odht_u64_u32_view_get(&view, 4, &mut value);
     same_status(&rt, "get 4", status, OK);

@@ -1,4 +1,4 @@
-//! Walks into arrays, part by part, for every configuration.
+//! Walks over a table that write its pairs to arrays, a part at a time, for every configuration.
 ghost use Rattle.std.specs.Prelude.{◌≡◌, length};
 ghost use Rattle.odht_c.specs.Walks.{WalkAnswers};
 
@@ -7,8 +7,9 @@ use crate::status::{OK, TOO_SMALL, status_of};
 use odht::config::{Coded, Config};
 use odht::memory_layout::Header;
 
-/// The keys and values at the slots from `cursor` on, in slot order, as many as the arrays take. `cursor` is then the slot
-/// of the first pair that did not fit, or the slot count where none is left.
+/// Writes the keys and values in the slots from `cursor` on to the arrays, in slot order, as many as fit, and to
+/// `item_count` how many. `cursor` is then the slot of the first pair that did not fit (TOO_SMALL), or the slot count
+/// where none is left (OK). An error leaves everything unchanged.
 #[inline]
 pub(crate) fn walk<C: Config>(
     bytes: &[u8],

@@ -1,22 +1,22 @@
-//! Walks into arrays, a part of the slots after another. Keys of 16 bytes are hashes already, so one whose bytes are all
-//! `n` stands in slot `n` of sixteen.
+//! Walks into arrays, one part of the slots after another. Keys of 16 bytes are hashes already, so one whose bytes are
+//! all `n` is in slot `n` of sixteen.
 
 use crate::shapes::b16_u32::{odht_b16_u32_init, odht_b16_u32_insert_all, odht_b16_u32_walk};
 use crate::status::{BAD_LENGTHS, OK, TOO_SMALL};
 use std::process::Abort;
 
-// The header is of another version of the format.
+// The header has another version of the format.
 const WRONG_VERSION: u32 = 3;
 
-// Where the header states the item count.
+// Where the item count is in the header.
 const ITEM_COUNT_AT: usize = 8;
 
-// Demands that what is named so is as expected.
+// Asserts that the number is as expected.
 fn same(rt: &impl Abort, what: &str, found: usize, expected: usize) {
     assert_eq!(rt; found, expected, "{what}");
 }
 
-// Demands that these arrays begin with the keys of these numbers, and with ten times the numbers.
+// Asserts that these arrays begin with the keys of these numbers, and with ten times the numbers.
 fn same_pairs(rt: &impl Abort, keys: &[[u8; 16]], values: &[u32], numbers: &[u8]) {
     for index in 0..numbers.len() {
         let number = numbers[index] as usize;

@@ -1,4 +1,4 @@
-//! What the calls write into the bytes of a table, for every configuration.
+//! The calls that write the bytes of a table, for every configuration.
 ghost use Rattle.std.specs.Prelude.{◌≡◌, length};
 ghost use Rattle.odht_base.specs.Image.{image, image_len};
 ghost use Rattle.odht_base.specs.Load.{IsSlotCount};
@@ -15,7 +15,7 @@ use odht::items::Zipped;
 use odht::load::Factor;
 use odht::{HashTable, memory_layout};
 
-/// How many bytes a new table for so many items has.
+/// Writes to `len` how many bytes a new table for so many items has. BAD_PERCENT and CAPACITY leave `len` unchanged.
 pub(crate) fn bytes_needed<C: Config>(
     max_item_count: usize,
     max_load_factor_percent: u8,
@@ -35,7 +35,8 @@ pub(crate) fn bytes_needed<C: Config>(
     }
 }
 
-/// Makes an empty table for so many items in the place, whatever stood there. A refusal leaves it.
+/// Makes an empty table for so many items in the store, whatever it holds. BAD_PERCENT, CAPACITY and INIT_LENGTH leave
+/// the store unchanged.
 pub(crate) fn init<C: Config, M: ByteStoreMut>(
     store: &mut M,
     max_item_count: usize,
@@ -59,7 +60,7 @@ pub(crate) fn init<C: Config, M: ByteStoreMut>(
     OK
 }
 
-/// Makes the empty table of `slot_count` slots in the place, whatever stood there. One pass over the bytes.
+/// Makes an empty table of `slot_count` slots in the store, whatever it holds. One pass over the bytes.
 pub(crate) fn make<C: Config, M: ByteStoreMut>(
     store: &mut M,
     slot_count: usize,
@@ -75,7 +76,8 @@ pub(crate) fn make<C: Config, M: ByteStoreMut>(
     let _store = table.into_store();
 }
 
-/// Gives the key this value, and writes its former one to `former`, where it had one.
+/// Gives the key this value. A value that it had before is written to `former`. An error leaves the store and `former`
+/// unchanged.
 #[inline(always)]
 pub(crate) fn insert<C: Config, M: ByteStoreMut>(
     store: &mut M,
@@ -105,7 +107,8 @@ pub(crate) fn insert<C: Config, M: ByteStoreMut>(
     }
 }
 
-/// Inserts the pairs in their order, up to the first that is refused, and tells how many were accepted.
+/// Inserts the pairs in order, up to the first that is answered with Full, and writes to `accepted` how many were
+/// inserted. An error of the header or length leaves everything unchanged.
 #[inline]
 pub(crate) fn insert_all<C: Config, M: ByteStoreMut>(
     store: &mut M,

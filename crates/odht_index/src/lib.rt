@@ -1,6 +1,6 @@
-//! An index from path hashes of 16 bytes to numbers, as bytes that are stored, mapped and searched where they lie.
+//! An index from path hashes of 16 bytes to numbers, as bytes that are stored, mapped and searched in place.
 //!
-//! It stands on the public contracts of `odht` alone, and is the worked example for a [`Config`] of your own.
+//! Its proofs use the public contracts of `odht` alone. It is the worked example for a [`Config`] of your own.
 #![tactic(auto)]
 
 ghost use Rattle.std.specs.Prelude.{◌≡◌, ◌↔◌, ◌⊎◌, length, IfOk, IfSome, IsOk, OnErr};
@@ -33,15 +33,15 @@ impl Config for IndexConfig {
 
     type Value = u32;
 
-    // What stands in a slot: arrays of bytes, which are the same on every platform.
+    // What a slot's entry holds: arrays of bytes, which are the same on every platform.
     type EncodedKey = [u8; 16];
 
     type EncodedValue = [u8; 4];
 
     type H = UnHashFn;
 
-    // Each of these four says what the function of its name answers, as a value that contracts can name. The bytes of
-    // a path are the path itself; those of a number are its four, lowest first.
+    // Each of these four says what the function of its name returns, as a value that contracts can name. The bytes of
+    // a path are the path itself; those of a number are its four bytes, little-endian.
     ghost encode_key = { λ path. path };
 
     ghost encode_value = { to_le_bytes w32 };
@@ -60,7 +60,7 @@ impl Config for IndexConfig {
         number.to_le_bytes()
     }
 
-    // Both decodings take any bytes: those of a file may come from anywhere.
+    // Both decodings accept any bytes: those of a file are untrusted.
     #[inline]
     fn decode_key(path: &[u8; 16]) -> [u8; 16] {
         *path
@@ -71,17 +71,17 @@ impl Config for IndexConfig {
         u32::from_le_bytes(*number)
     }
 
-    // Asks that a key's length fits its byte of the header: 16 is at most 255, by computing.
+    // A law: the key's length fits its byte of the header. 16 is at most 255, by computing.
     ghost key_fits = { lit≤ tt };
 
-    // The same of a value: 4 is at most 255.
+    // The same law of the value's length: 4 is at most 255.
     ghost value_fits = { lit≤ tt };
 
-    // Asks that a key is as long as its hash function needs: `UnHashFn` reads four bytes, and 4 is at most 16.
+    // A law: the key is long enough for its hash function. `UnHashFn` reads four bytes, and 4 is at most 16.
     ghost key_hashes = { lit≤ tt };
 }
 
-// Asks that decoding undoes encoding, at a path and at a number at hand: then a table is a map from the paths to the
+// Two laws: decoding undoes encoding, at a given path and at a given number. So a table is a map from the paths to the
 // numbers themselves. The bytes of a path are the path; a number that is read is known to fit its four bytes.
 impl Lossless for IndexConfig {
     fn key_kept(_path: &[u8; 16]) {}
@@ -91,11 +91,11 @@ impl Lossless for IndexConfig {
     }
 }
 
-/// The bytes of an index of the pairs, to be stored. A path that comes again gets its later number.
+/// The bytes of an index of the pairs, to be stored. The load factor is 87 percent of the slots. A path that comes
+/// again gets its later number.
 ///
-/// `Capacity` exactly where no slot count is enough for so many pairs, or its length passes `usize`; `Memory` where
-/// memory was refused. A refusal leaves nothing behind. Each pair is hashed once, the table never grows, and its bytes
-/// are copied once.
+/// `Capacity` exactly where no slot count is enough for so many pairs, or its length passes `usize`; `Memory` when
+/// memory is exhausted. Each pair is hashed once, the table never grows, and its bytes are copied once.
 pub fn build(alloc: Global, pairs: &[([u8; 16], u32)]) -> Result<Vec<u8>, Error>
     ensures inserted { let c = ⟦<IndexConfig as Coded>⟧.coding
         in IfOk result (λ bytes. IsFreshAfterInserts c 87 pairs.now bytes.items) }
@@ -110,7 +110,7 @@ pub fn build(alloc: Global, pairs: &[([u8; 16], u32)]) -> Result<Vec<u8>, Error>
     Ok(table.raw_bytes().to_vec(alloc)?)
 }
 
-/// An index over bytes that lie elsewhere. A contract speaks of it as of these bytes.
+/// An index over borrowed bytes. A contract speaks of it as of these bytes.
 #[derive(Drop)]
 pub struct Index<'a> {
     table: HashTable<IndexConfig, Borrowed<'a>>,
@@ -125,10 +125,9 @@ impl<'a> Model for Index<'a> {
 }
 
 impl<'a> Index<'a> {
-    /// Opens the bytes, which are looked at and not copied.
-    ///
-    /// It answers the first refusal where there is one: of too few bytes, of the header, of the length, of the first
-    /// ten slots; these alone are looked at. The bytes of a valid table, as [`build`] answers them, are never refused.
+    /// Opens the bytes, which are checked and not copied, or returns the first error: of too few bytes, of the header,
+    /// of the length, of the first ten slots. Nothing else is checked. The bytes of a valid table, as [`build`] returns
+    /// them, are never rejected. docs/FORMAT.md, "What is refused, and in which order", has the order.
     #[inline]
     pub fn open(bytes: &'a [u8]) -> Result<Self, Error>
         ensures ok { IfOk result (λ index. index ≡ bytes.now) }
@@ -139,10 +138,10 @@ impl<'a> Index<'a> {
         Ok(Index { table })
     }
 
-    /// The number of a path, if it has one. On bytes that were opened and are no valid table it is only a number that
-    /// is stored beside this very path.
+    /// The number of a path, or None. On bytes that were opened and are not valid it is a number that is stored with
+    /// this very path, or None.
     ///
-    /// At most each group of sixteen control bytes is looked at once.
+    /// Each group of sixteen control bytes is read at most once.
     #[inline]
     pub fn lookup(&self, path: &[u8; 16]) -> Option<u32>
         ensures on_valid { let c = ⟦<IndexConfig as Coded>⟧.coding
@@ -154,10 +153,10 @@ impl<'a> Index<'a> {
     }
 }
 
-/// The law of both: the number of a path in an index that is built of the pairs and opened again is that of the last
-/// pair with this very path, and none where no pair has it.
+/// The law of these calls together: the number of a path in an index that is built of the pairs and opened again is
+/// that of the last pair with this very path, and None where no pair has it.
 ///
-/// It is refused as [`build`] is, and costs what the three calls cost.
+/// Its errors are those of [`build`]. It costs what its calls cost.
 pub fn built_and_looked_up(
     alloc: Global,
     pairs: &[([u8; 16], u32)],

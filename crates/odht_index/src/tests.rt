@@ -18,7 +18,7 @@ const HEADER: [u8; 32] = [
     2, 0xb7, 0xde, 0, 0,
 ];
 
-// The byte at a place of an index of no pairs: its header, entries of zeros, control bytes of free slots.
+// The byte at an offset of an index of no pairs: its header, entries of zeros, control bytes of free slots.
 fn empty_byte(at: usize) -> u8 {
     match HEADER.get(at) {
         Some(byte) => *byte,
@@ -27,7 +27,7 @@ fn empty_byte(at: usize) -> u8 {
     }
 }
 
-// The byte at a place of the index of the pairs: A stands in slot 5, and B, with the same home, in slot 6.
+// The byte at an offset of the index of the pairs: A is in slot 5, and B, with the same home, in slot 6.
 fn expected_byte(at: usize) -> u8 {
     match at {
         8 => 2,
@@ -45,7 +45,7 @@ fn byte_at(path: &[u8; 16], at: usize) -> u8 {
     path.get(at).copied().unwrap_or(255)
 }
 
-// Demands this number of a path.
+// Asserts this number of a path.
 fn same_number(
     rt: &impl Abort,
     bytes: &[u8],

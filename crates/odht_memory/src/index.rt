@@ -15,7 +15,7 @@ pub fn build<W: Write>(alloc: Global, output: &mut W) -> io::Result<()> {
     }
 }
 
-// Tells how many bytes an index has, and the numbers of three paths.
+// Prints how many bytes an index has, and the numbers of three paths.
 fn tell_index<W: Write>(bytes: &[u8], output: &mut W) -> io::Result<()> {
     let opened = Index::open(bytes);
     tell("open", &opened, output)?;

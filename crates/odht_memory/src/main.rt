@@ -1,8 +1,8 @@
-//! Runs one call with one of its requests for memory refused.
+//! Runs one call with one of its requests for memory failing.
 //!
 //! Standard input names the call and the request, as `insert 2`: the second request of a run that makes a table and
-//! inserts into it. So many requests are made first that this one is the 64th, which is the one that `make memory` has
-//! refused. Each answer is a line on standard output.
+//! inserts into it. So many requests are made first that this one is the 64th, which is the one that `make memory`
+//! makes fail. Each result is a line on standard output.
 #![tactic(auto)]
 
 mod index;
@@ -14,7 +14,7 @@ mod told;
 use std::alloc::Global;
 use std::io::{self, ErrorKind, Read, Write};
 
-/// Which request of a run is refused.
+/// Which request of a run fails.
 const REFUSED: usize = 64;
 
 fn main(rt: HostRuntime) -> io::Result<()> {
@@ -34,7 +34,7 @@ fn read_case(case: &[u8]) -> Option<(&str, usize)> {
     Some((call, request))
 }
 
-// One request, of memory that is given back.
+// One request, of memory that is freed again.
 fn ask(alloc: Global) {
     let _ = Vec::<u8>::with_capacity(alloc, 1);
 }

@@ -54,7 +54,7 @@ fn bytes_of(table: &Table) -> [u8; 192] {
     bytes
 }
 
-/// Inserts a new key into a full table, which grows; and once more where memory was refused.
+/// Inserts a new key into a full table, which grows; and once more where memory was exhausted.
 pub fn insert<W: Write>(alloc: Global, output: &mut W) -> io::Result<()> {
     let Some(mut table) = full_table(alloc, output)? else {
         return Ok(());
@@ -105,7 +105,7 @@ pub fn clone<W: Write>(alloc: Global, output: &mut W) -> io::Result<()> {
     tell_table(&table, output)
 }
 
-/// Takes the bytes of a full table.
+/// Makes a table of the bytes of a full one.
 pub fn from_raw_bytes<W: Write>(alloc: Global, output: &mut W) -> io::Result<()> {
     let Some(table) = full_table(alloc, output)? else {
         return Ok(());
@@ -119,7 +119,7 @@ pub fn from_raw_bytes<W: Write>(alloc: Global, output: &mut W) -> io::Result<()>
     tell_table(&table, output)
 }
 
-/// Takes bytes of no table: they are refused before memory is asked for.
+/// Opens bytes of no table: they are rejected before memory is requested.
 pub fn refused_bytes<W: Write>(alloc: Global, output: &mut W) -> io::Result<()> {
     tell(
         "from_raw_bytes",
@@ -128,7 +128,7 @@ pub fn refused_bytes<W: Write>(alloc: Global, output: &mut W) -> io::Result<()> 
     )
 }
 
-/// Takes the bytes of a full table, not checked.
+/// Makes a table of the bytes of a full one, without a check.
 pub fn from_raw_bytes_unchecked<W: Write>(alloc: Global, output: &mut W) -> io::Result<()> {
     let Some(table) = full_table(alloc, output)? else {
         return Ok(());

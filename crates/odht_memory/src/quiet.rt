@@ -13,7 +13,8 @@ use odht::{HashTable, bytes_needed};
 use std::alloc::Global;
 use std::io::{self, Write};
 
-/// A table that owns its bytes: up to its maximum, and at it where the keys are there. Making it is one request.
+/// A table that owns its bytes: inserts up to its maximum, and at the maximum of present keys. Making it is one
+/// request.
 pub fn below_the_maximum<W: Write>(alloc: Global, output: &mut W) -> io::Result<()> {
     let made = Table::with_capacity(alloc, 13, 87);
     tell("with_capacity", &made, output)?;
@@ -62,7 +63,7 @@ pub fn insert_order<W: Write>(alloc: Global, output: &mut W) -> io::Result<()> {
 
 type View<'a> = HashTable<DirectU32ToU32, BorrowedMut<'a>>;
 
-/// A view, from the place that it is made in to its data.
+/// A view, from making it in a buffer to taking its store back.
 pub fn view<W: Write>(output: &mut W) -> io::Result<()> {
     let mut bytes = [7; 192];
     let made: Result<View<'_>, Error> = HashTable::init_in_place(
@@ -163,7 +164,7 @@ pub fn numbers<W: Write>(output: &mut W) -> io::Result<()> {
     tell_group::<no_simd::GroupQuery, W>(&group[..8], output)
 }
 
-// What a search of a group for the tag 3 says.
+// The result of a search of a group for the tag 3.
 fn tell_group<Q: Group, W: Write>(group: &[u8], output: &mut W) -> io::Result<()>
     requires { length group.now ≡ Q.SIZE }
 {

@@ -1,4 +1,4 @@
-//! What is told of answers and of tables.
+//! What is printed of results and of tables.
 use odht::HashTableOwned;
 use odht::configs::DirectU32ToU32;
 use odht::error::Error;
@@ -7,7 +7,7 @@ use std::io::{self, Write};
 /// The tables of these runs, in which a key below the slot count has its own slot as its home.
 pub type Table = HashTableOwned<DirectU32ToU32>;
 
-/// Tells whether a call was refused, and why.
+/// Prints whether a call failed, and why.
 pub fn tell<T, W: Write>(call: &str, answer: &Result<T, Error>, output: &mut W) -> io::Result<()> {
     match answer {
         Ok(_) => writeln!(output, "{call}: ok"),
@@ -16,7 +16,7 @@ pub fn tell<T, W: Write>(call: &str, answer: &Result<T, Error>, output: &mut W) 
     }
 }
 
-/// Tells how many items, bytes and found keys a table has. Keys below 100 are
+/// Prints how many items, bytes and found keys a table has. Keys below 100 are
 /// looked up, with the values that `value_of` gives them.
 pub fn tell_table<W: Write>(table: &Table, output: &mut W) -> io::Result<()> {
     let mut found = 0_u32;

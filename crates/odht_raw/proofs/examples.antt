@@ -1,13 +1,13 @@
--- Worked examples of what is refused, each a closed theorem by computation.
+-- Worked examples of what is rejected, each a closed theorem by computation.
 -- one name that opens every definition
 pub mod Opened
--- what tells two things apart
+-- what makes two things differ
 pub mod Apart
 -- forged headers and cut bytes
 pub mod Refused
 -- each header byte set to each of its values
 pub mod HeaderBytes
--- bytes that a view accepts and the whole check refuses
+-- bytes that a view accepts and the whole check rejects
 pub mod Invalid
 -- inserts into such bytes
 pub mod Frames
@@ -21,9 +21,9 @@ pub mod SearchEnds
 pub mod Placings
 -- what the whole check sees
 pub mod Checked
--- what an insert through lent parts may not do
+-- what an insert through borrowed parts may not do
 pub mod MutInserts
--- what placing a key through lent parts may not do
+-- what placing a key through borrowed parts may not do
 pub mod MutPlacings
 -- the first free slot, and a pair that is written there
 pub mod FreePlacings

@@ -1,11 +1,11 @@
--- The library of laws over the definitions in specs/; that of plain tables stands in `odht_base`.
+-- The library of laws over the definitions in specs/; that of plain tables is in `odht_base`.
 -- formats of short lengths and of a hash fit
 pub mod Formats
--- the cells that the parts of a placed table show
+-- the cells that the parts of a placed table decode to
 pub mod PartCells
 -- a search slot by slot
 pub mod PlainSearch
--- what the answer of a search tells of a placed table
+-- what the answer of a search says about a placed table
 pub mod Lookups
 -- what the writes of an insert leave on the parts
 pub mod Inserts
@@ -13,21 +13,21 @@ pub mod Inserts
 pub mod FirstErrors
 -- std's test for a power of two
 pub mod PowersOfTwo
--- what one slot is refused for
+-- which error a view gives for one slot
 pub mod SlotChecks
--- slots of which the whole check refuses nothing
+-- slots for which the whole check has no error
 pub mod SlotFits
--- what a header is refused for
+-- which error a header gives
 pub mod HeaderChecks
 -- bytes whose header and length fit, and writes that leave them so
 pub mod Accepted
--- what bytes are refused for, stage by stage
+-- which error bytes give, stage by stage
 pub mod Openings
--- bytes of which the whole check refuses nothing
+-- bytes for which the whole check has no error
 pub mod SoundBytes
--- valid bytes are never refused
+-- valid bytes are never rejected by a view
 pub mod ImagesOpen
--- the whole check refuses nothing exactly of valid bytes
+-- the whole check has no error exactly for valid bytes
 pub mod WholeChecks
 -- a write of one byte again and again
 pub mod Fills
@@ -35,7 +35,7 @@ pub mod Fills
 pub mod HeaderWrites
 -- what the writes of a new table leave
 pub mod NewTables
--- what is written of bytes in the text of an error
+-- how an error's text writes bytes
 pub mod ErrorTexts
 -- a walk over the slots
 pub mod Walks
@@ -43,7 +43,7 @@ pub mod Walks
 pub mod Dumps
 -- the probe order, a piece of a group at a time
 pub mod ProbeSteps
--- a look at some places of it
+-- a look at some positions of it
 pub mod GroupLooks
 -- a search by groups
 pub mod GroupSearches
@@ -55,7 +55,7 @@ pub mod FirstLooks
 pub mod MirrorChecks
 -- the slots before a key's own, in its probe order
 pub mod KeyPasses
--- and its own place there
+-- and the slot's own position there
 pub mod KeyPositions
 -- a look at the slots in turn
 pub mod SlotSummary
@@ -65,7 +65,7 @@ pub mod RisingLists
 pub mod WaitingSlots
 -- what the whole check looks at beyond a view
 pub mod LateStages
--- when a slot is ready, as the slots that wait tell it
+-- when a slot is ready, by the slots that wait
 pub mod ReadyPositions
 -- one pass through the slots that wait, in the search for an order
 pub mod PlacedFirst

@@ -1,9 +1,9 @@
--- What the whole check sees in the parts T of a table.
---     cells_of F T         the cells that T shows
---     decoded_count F T      how many of them hold a pair
---     IsFitting F T        neither a slot of T nor its mirror is refused
+-- What the whole check reads in the parts T of a table.
+--     cells_of F T         the cells that T decodes to
+--     decoded_count F T    how many of these cells hold a pair
+--     IsFitting F T        neither a slot of T nor the mirror gives an error
 --     IsSlotHash F T i o   o is the hash of the key in slot i, or none where the slot counts as free
---     ArePassed F T k b n  none of the n slots from b on, counted on around the end, is free or holds the key k
+--     ArePassed F T k b n  none of the n slots from b on, modulo the slot count, is free or holds the key k
 use Rattle.std.specs.Prelude.{◌≡◌, ℕ, ◌+◌, ◌%◌, ◌<◌, List, length, filter_map, slice_index, Option, None, MatchOption, IsTrue, IsFalse}
 use Rattle.odht_base.specs.Format.{Format}
 use Rattle.odht_base.specs.Search.{stops_at}

@@ -1,9 +1,9 @@
--- How keys and values become bytes and bytes become keys and values, as a configuration says.
+-- How a configuration encodes keys and values to bytes, and decodes bytes to keys and values.
 --     Coding K V           the format of the bytes, both encodings, and both decodings
---     coding_of ..         the coding made of what `Config` and its arrays name
+--     coding_of ..         the coding made of the ghost members of `Config` and of its byte arrays
 --     encoded c k v        the pair of the key k and the value v
 --     value_for c P k      the value that the table P has for the key k
---     HasStored c B k v    some slot's entry is the key k beside the value v, whatever its control byte
+--     HasStored c B k v    some slot's entry is the key k and the value v, whatever its control byte
 use Rattle.std.specs.Prelude.{◌≡◌, ℕ, List, Option, option_map}
 use Rattle.odht_base.specs.Format.{Format, format_of}
 use Rattle.odht_base.specs.Table.{Pair, Table}
@@ -17,7 +17,7 @@ pub record Coding (K V : Type 0) : Type 0 where
   pub key_of : List ℕ → K
   pub value_of : List ℕ → V
 
--- of the arrays' lengths, bytes and values, the hash, and the four functions
+-- the arguments: lengths, bytes and values of the arrays, the hash, and the four functions
 abbrev pub coding_of : {K V EK EV : Type 0} → ℕ → (EK → List ℕ) → (List ℕ → EK) → ℕ → (EV → List ℕ) → (List ℕ → EV) → (List ℕ → ℕ) → (K → EK) → (V → EV) → (EK → K) → (EV → V) → Coding K V
 coding_of key_len key_bytes key_array value_len value_bytes value_array hash encode_key encode_value decode_key decode_value = record {
   format = format_of key_len value_len hash;

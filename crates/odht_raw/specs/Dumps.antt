@@ -1,14 +1,14 @@
--- What `Debug` writes of a table, in bytes. Such a text is none where `{:?}` of a key or of a value claims no text.
+-- What `Debug` writes of a table, in bytes. The text is None where `{:?}` of some key or value promises no text.
 --     DebugText                 what `{:?}` writes of a key, or of a value, by its bytes
 --     texts_in_turn os          the texts one after the other
---     Of parts T, whose keys and values are written as key_text and value_text say:
+--     Of parts T, whose keys and values are written by key_text and value_text:
 --     slot_text F .. T i        the line of slot i
 --     slots_text F .. T n       the lines of slots 0 to n - 1, in turn
---     head_text name s          the line before them: s slots, and the name of the hash function
+--     head_text name s          the line before those of the slots: s slots, and the name of the hash function
 --     dump_text F .. name T     all lines
 --     Of the bytes B of an owned table:
 --     parts_of F B              their parts
---     counts_text B             the line of the numbers that they state
+--     counts_text B             the line of the header's numbers
 --     owned_dump_text F .. name B   all lines
 use Rattle.std.specs.Prelude.{ℕ, List, [], ◌∷◌, ◌++◌, map, slice_index, Option, Some, if◌then◌else◌, codes, decimal}
 use Rattle.std.specs.Fmt.{◌++?◌}

@@ -2,8 +2,8 @@
 --     part_text p          what `{}` writes of a part of the format
 --     bytes_text bs        what `{:?}` writes of bytes: each in decimal, between brackets
 --     error_text e         what `{}` writes of an error
---     IsOpeningError e     e is of what is looked at before any slot, as `opening_refusal` has it
---     IsCallError e        e is of a new table, an insert or memory, and not of the bytes of a table that stands
+--     IsOpeningError e     e is an error of opening by header and length, as in `opening_refusal`
+--     IsCallError e        e is an error of a new table, of an insert or of memory, and not of the bytes of a table
 use Rattle.std.specs.Prelude.{ℕ, List, ◌++◌, codes, decimal}
 use Rattle.std.specs.List.{join_by}
 use Rattle.odht_raw.specs.declared.error.Error.{Error}

@@ -1,9 +1,10 @@
--- Where a search for a key is expected to end, as it was looked up before other keys were inserted.
---     IsExpected F P k i       where i is a slot of the placed table P, the search for k ends at it, and it is free
---     EndsIfFree F P k i       where i is a slot of P that is free, the search for k ends at it
---     IsAhead F ctrl k a       a is the hash of k, and the slot where the search for k is expected to end in each placed table
---                              with the control bytes ctrl
---     AreAhead c ctrl items from as  each of the numbers as is that of the item at its index behind `from`
+-- Where a search for a key is expected to end, looked up before other keys are inserted.
+--     IsExpected F P k i       if i is a slot of the placed table P, the search for k ends at it, and it is free
+--     EndsIfFree F P k i       if i is a free slot of P, the search for k ends at it
+--     IsAhead F ctrl k a       a is the hash of k, and the slot where the search for k is expected to end in each
+--                              placed table with the control bytes ctrl
+--     AreAhead c ctrl items from as  each item of as is ahead for the item of items at the same index counted from
+--                                    `from`
 use Rattle.std.specs.Prelude.{◌≡◌, ℕ, ◌+◌, ◌<◌, List, slice_get, Some, IsTrue}
 use Rattle.odht_base.specs.Format.{Format}
 use Rattle.odht_base.specs.Table.{Table, slot_count, is_free}

@@ -1,7 +1,7 @@
--- The first look of a search: the hash of a key, and what the group of control bytes at its home shows.
---     FirstLookOf          a hash, the places of the group whose byte is the tag, and the first place whose byte counts as
---                          free
---     home_group F T k     the sixteen control bytes of the parts T from the home of the key k on
+-- The first look of a search: the hash of a key, and what the group of control bytes at its home slot has.
+--     FirstLookOf          a hash, the indices of the group whose byte is the tag, and the first index whose byte
+--                          counts as free
+--     home_group F T k     the sixteen control bytes of the parts T from the home slot of the key k on
 --     first_look_of F T k  the first look of the search for the key k among the parts T
 use Rattle.std.specs.Prelude.{ℕ, List, Option}
 use Rattle.odht_base.specs.Bytes.{bytes_at}

@@ -1,9 +1,9 @@
 -- What an insert may do to bytes whose header and length fit, valid or not.
 --     IsAccepted F B       the header and the length fit
 --     CountsAsFree ctrl i  the control byte of slot i, or for a slot below 16 its mirror, counts as free
---     HasNoFree bs n       of the first n bytes none counts as free
+--     HasNoFree bs n       none of the first n bytes of bs counts as free
 --     CountsAsOccupied ctrl i  the control byte of slot i, or for a slot below 16 its mirror, does not count as free
---     HasNoFreeSlot ctrl s   each of the s slots counts as occupied
+--     HasNoFreeSlot ctrl s  each of the s slots counts as occupied
 --     header_maximum B     the maximum item count of the header's slot count and load factor
 --     InsertFrame F B p r B'              an insert of p, a pair of F, may answer r and leave B'
 --     IsBytesFramed F f B p r B'          the same with the answer decoded by f

@@ -1,6 +1,6 @@
 -- How large a new table is.
---     IsLayout F n f s len   a table for n items at the load factor f has s slots, the least that are enough, and len bytes,
---                          which fit 64 bits
+--     IsLayout F n f s len   a table for n items at the load factor f has s slots, the least slot count that is enough,
+--                          and len bytes, which is below 2 ^ 64
 use Rattle.std.specs.Prelude.{◌≡◌, ℕ, ◌<◌, ◌^◌, Some}
 use Rattle.odht_base.specs.Format.{Format}
 use Rattle.odht_base.specs.Image.{image_len}

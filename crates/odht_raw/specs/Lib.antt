@@ -1,23 +1,23 @@
--- The words that speak of errors and of configurations; those of numbers, tables and bytes stand in `odht_base`.
--- how keys and values become bytes
+-- The definitions about errors and configurations. Those about numbers, tables and bytes are in `odht_base`.
+-- how keys and values are encoded and decoded
 pub mod Coding
--- the parts of a table as code sees them
+-- the parts of a table as code reads them
 pub mod Parts
--- the lengths that searches and inserts ask for
+-- the lengths that searches and inserts require
 pub mod PartLengths
 -- what a search answers
 pub mod SearchResults
 -- the probe order, a group at a time
 pub mod ProbeSeqs
--- a search at a place of the probe order
+-- a search at a position of the probe order
 pub mod SearchSteps
 -- the first look of a search
 pub mod FirstLooks
 -- how large a new table is
 pub mod Layouts
--- which bytes are refused as a table, and why
+-- which bytes are rejected as a table, and by which error
 pub mod Refusals
--- what the whole check sees in the parts
+-- what the whole check reads in the parts
 pub mod Checks
 -- what an insert may do to bytes whose header and length fit, valid or not
 pub mod Frame
@@ -29,7 +29,7 @@ pub mod PartsInserts
 pub mod Runs
 -- the first slot that counts as free in a probe order
 pub mod FreeSlots
--- what placing a new key into parts answers and leaves
+-- what placing a pair with a new key into parts answers and leaves
 pub mod PartsPlacings
 -- what is written of an error
 pub mod ErrorTexts
@@ -37,9 +37,9 @@ pub mod ErrorTexts
 pub mod Walks
 -- what `Debug` writes of a table
 pub mod Dumps
--- the parts of a table which can be written
+-- the parts of a table, borrowed to be written
 pub mod PartsMut
--- the slots that wait while an order of inserts is looked for
+-- the slots that wait while an order of inserts is searched for
 pub mod Waiting
 -- where a search is expected to end
 pub mod Expected

@@ -1,8 +1,9 @@
--- The lengths that searches and inserts ask for, where a hash needs keys of ml bytes, a key has kl bytes and a value vl.
---     ArePairLengths ml kl vl        a key is long enough for its hash, and a key and a value have at most 255 bytes
---     AreSearchLengths ml kl vl s n  so it is, and n control bytes are those of s slots with their mirror
---     ArePartLengths ml kl vl e n    so it is, n control bytes are those of a slot count with their mirror, and e bytes are
---                                    the entries of as many slots
+-- The lengths that searches and inserts require, where the hash function needs at least ml bytes, a key has kl bytes
+-- and a value has vl bytes.
+--     ArePairLengths ml kl vl        a key is long enough for the hash, and key and value have at most 255 bytes
+--     AreSearchLengths ml kl vl s n  the same, and s slots have n control bytes with their mirror
+--     ArePartLengths ml kl vl e n    the same, some slot count has n control bytes with their mirror, and the entries
+--                                    of as many slots have e bytes
 use Rattle.std.specs.Prelude.{◌≡◌, ℕ, ◌+◌, ◌-◌, ◌*◌, ◌≤◌}
 use Rattle.odht_base.specs.Load.{IsSlotCount}
 

@@ -1,12 +1,12 @@
--- The parts of a table as code sees them.
---     EntryBytes           the bytes of the entries of so many slots
---     entry_format kl vl   a format of these lengths, for what no hash matters to
---     IsEntries kl vl E    E is as long as its slots say, and a key and a value have at most 255 bytes
+-- The parts of a table as code reads them.
+--     EntryBytes           a number of slots, and the bytes of their entries
+--     entry_format kl vl   a format of these lengths, where the hash does not matter
+--     IsEntries kl vl E    E has the length of its slot count, and key and value have at most 255 bytes
 --     TableParts           control bytes with their mirror, and entries
---     IsTableParts ml kl vl T   T has a slot count, and as many control bytes with their mirror and entries; a key is long
---                          enough for its hash
---     IsZeros n bs         bs are n zeros, as key or value of a free slot's entry
---     DecodedGroups          control bytes with their mirror, and how many groups of sixteen of them were shown
+--     IsTableParts ml kl vl T   T has a slot count, and control bytes with their mirror and entries of this slot count;
+--                          a key is long enough for its hash
+--     IsZeros n bs         bs is n zeros, like key or value of a free slot's entry
+--     DecodedGroups        control bytes with their mirror, and how many groups of sixteen of them were read
 use Rattle.std.specs.Prelude.{◌≡◌, ℕ, ◌+◌, ◌*◌, ◌≤◌, List, length, replicate}
 use Rattle.odht_base.specs.Format.{Format, format_of}
 use Rattle.odht_base.specs.Load.{IsSlotCount}

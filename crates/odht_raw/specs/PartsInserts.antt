@@ -1,11 +1,11 @@
--- What an insert of a pair p into the parts of a table answers, r, and leaves: the entries es' and the control bytes ctrl'.
--- A value is what f makes of its bytes.
+-- What an insert of a pair p into the parts of a table answers, r, and which entries es' and control bytes ctrl' it
+-- leaves. f decodes the bytes of a value.
 --     ArePartsPlaced F P p es' ctrl'   these are the parts of the placed table P with p placed
 --     AnswersFormer F f P p r ..       an Ok answers the former value of P, and leaves such parts
---     IsFullUnplaced F P p r           it answers Full exactly where p has no place in P
---     IsFullNoRoom P p r               and that is where each slot of P is filled, and none with the key of p
---     IsPlacing F f P p r ..           all three, of the parts of P
---     IsChange F f es ctrl p r ..      of any parts es and ctrl: the frame, Full as the only refusal, and nothing changed by it
+--     IsFullUnplaced F P p r           the answer is Full exactly where p has no place in P
+--     IsFullNoRoom P p r               the answer is Full exactly where each slot of P is occupied by another key
+--     IsPlacing F f P p r ..           all three, for the parts of P
+--     IsChange F f es ctrl p r ..      for any parts es and ctrl: the frame; Full is the only error and changes nothing
 use Rattle.std.specs.Prelude.{◌≡◌, ℕ, ◌↔◌, List, Option, Some, None, option_map, Result, Err, IfOk, OnErr}
 use Rattle.odht_base.specs.Format.{Format}
 use Rattle.odht_base.specs.Insert.{place}

@@ -1,16 +1,16 @@
--- The parts of a table which can be written, of a `RawTableMut`: two slices that are lent to it.
+-- The parts of a table, borrowed to be written by a `RawTableMut`: two slices.
 --     mut_control t        the control bytes with their mirror
 --     mut_entries t        the bytes of the entries
---     mut_parts t          both, as parts of as many slots as there are control bytes without the mirror
---     control_loan t       the loan of the control bytes: what is written goes to the slice of this loan
---     entries_loan t       the loan of the entries
+--     mut_parts t          both; the slot count is the number of control bytes without the mirror
+--     control_loan t       the borrow of the control bytes: what is written goes to the slice of this borrow
+--     entries_loan t       the borrow of the entries
 --     table_format t       the format of the table's keys, values and hash
 --     IsParts P t          the parts are those of the placed table P
 --     pair_of t k v        the key k and the value v, in bytes
---     IsMutInsert t k v r t'  an insert of k and v through t answers r and leaves t': what an insert into parts does, and
---                          both slices are lent as they were
---     IsMutPlacing t k v r t'  placing k and v through t answers r and leaves t': what placing a new key into parts does, and
---                          both slices are lent as they were
+--     IsMutInsert t k v r t'  an insert of k and v through t answers r and leaves t': what an insert into parts does,
+--                          and both borrows stay
+--     IsMutPlacing t k v r t'  placing k and v through t answers r and leaves t': what placing a pair with a new key
+--                          into parts does, and both borrows stay
 use Rattle.std.specs.Prelude.{◌≡◌, ℕ, ◌-◌, ◌↔◌, List, length, None, Option, Result, Err, OnOk, OnErr}
 use Rattle.std.specs.Borrow.{GName}
 use Rattle.std.specs.declared.cmp.PartialEq.{Ghosts as PartialEqOf}

@@ -1,11 +1,12 @@
--- What placing a pair p into the parts of a table answers, r, and leaves: the entries es' and the control bytes ctrl'. It
--- goes into the first free slot, and no key is compared.
+-- What placing a pair p into the parts of a table answers, r, and which entries es' and control bytes ctrl' it leaves.
+-- The pair goes into the first free slot, and no key is compared.
 --     IsNewTo P p                      the table P has no value for the key of p
---     IsNewPlacing F P p r es' ctrl'   of the parts of P, to which p is new: an Ok leaves the parts of P with p placed, and
---                                      Full comes exactly where p has no place, which is where each slot is filled
---     PlacingFrame F es ctrl p r es' ctrl'  of any parts es and ctrl: p was written with its tag into the first slot of its
---                                      key's probe order that counts as free, or each slot counts as occupied
---     IsAddition F es ctrl p r es' ctrl'  this frame, Full as the only refusal, and nothing changed by it
+--     IsNewPlacing F P p r es' ctrl'   for the parts of P, to which p is new: an Ok leaves the parts of P with p
+--                                      placed, and the answer is Full exactly where p has no place: where each slot is
+--                                      occupied
+--     PlacingFrame F es ctrl p r es' ctrl'  for any parts es and ctrl: p is written with its tag into the first slot of
+--                                      its key's probe order that counts as free, or each slot counts as occupied
+--     IsAddition F es ctrl p r es' ctrl'  this frame; Full is the only error and changes nothing
 use Rattle.std.specs.Prelude.{◌≡◌, ℕ, ◌-◌, ◌*◌, ◌↔◌, List, ◌++◌, length, None, Result, Ok, Err, OnOk, OnErr}
 use Rattle.odht_base.specs.Bytes.{overwritten_at}
 use Rattle.odht_base.specs.Format.{Format, entry_len, tag}

@@ -1,8 +1,8 @@
--- The places of the probe order, a group at a time.
---     ProbePosition             a place of the order from a home slot, with the slot count less one as a mask
---     IsProbe g h m p i b c s   at place p of the order from h among m + 1 slots stands slot i; p is a multiple of g, c how
---                            many places of its group of sixteen are before it, b the first slot of that group, and s how
---                            many slots this is further on than the first slot of the group before
+-- The positions of the probe order, a group at a time.
+--     ProbePosition             a position of the order from a home slot, with the slot count less one as a mask
+--     IsProbe g h m p i b c s   slot i is at position p of the order from h among m + 1 slots; p is a multiple of g, c
+--                            is how many positions of its group of sixteen are before it, b is the first slot of that
+--                            group, and s is how many slots b is after the first slot of the group before
 use Rattle.std.specs.Prelude.{◌≡◌, ℕ, ◌+◌, ◌*◌, ◌/◌, ◌%◌, ◌<◌}
 use Rattle.odht_base.specs.Load.{IsSlotCount}
 use Rattle.odht_base.specs.Probe.{probe_slot}

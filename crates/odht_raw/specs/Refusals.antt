@@ -1,22 +1,24 @@
--- Which bytes are refused as a table, and why. Each refusal is a condition on the bytes with the error that it gives; the
--- first in its list whose condition holds is the answer. B is all bytes; es and ctrl are entries and control bytes.
+-- Which bytes are rejected as a table, and by which error. Each `_refusal` is the error that some conditions on the
+-- bytes give, or None; of a list the first error is the answer. B is all bytes; es and ctrl are entries and control
+-- bytes.
 --     c gives e                    the error e where the condition c holds
 --     first_of rs                  the first error of the list
---     first_slot f n               the first of the errors that f gives the first n slots
+--     first_slot f n               the first of the errors that f gives for the first n slots
 --     header_refusal F n B         of the header, for n bytes in all: tag, version, sizes, slot count, length
---     opening_refusal F B          of what is looked at before any slot: too few bytes, then the header
---     hashes_refusal F es ctrl n   of the first n slots, as a view looks at them: a free slot that is not zero, or a
---                                  control byte that is not its key's tag
---     view_refusal F B             of what a view looks at: opening_refusal, then the first ten slots
---     slots_refusal F es ctrl      of all slots, as the whole check looks at them: a free slot's control byte is 255 too
---     mirror_refusal ctrl          of the sixteen control bytes behind those of the slots
---     reach_refusal F es ctrl      of a key that is not where the search for it ends, among the cells that the parts show
---     late_refusal F B             of what the whole check looks at beyond a view: load factor, padding, all slots, the
+--     opening_refusal F B          of opening by header and length: too few bytes, then the header
+--     hashes_refusal F es ctrl n   of the first n slots, as opening a view checks them: an entry that is not zeros in a
+--                                  slot that counts as free, or a control byte that is not the key's tag
+--     view_refusal F B             of opening a view: opening_refusal, then the first ten slots
+--     slots_refusal F es ctrl      of all slots, as in the whole check: also a free control byte other than 255
+--     mirror_refusal ctrl          of the mirror, the sixteen control bytes after those of the slots
+--     reach_refusal F es ctrl      of a key that is not where the search for it ends among the decoded cells
+--     late_refusal F B             of what the whole check adds to opening a view: load factor, padding, all slots, the
 --                                  mirror, the item count, its maximum, and that each key is reached by its search
 --     check_refusal F B            of everything: view_refusal, then late_refusal
 --     new_refusal F n f len        of a new table for n items at the load factor f in len bytes: capacity, then length
---     IsTooLarge F n f             the bytes of each slot count that is enough for n items at f pass 2 ^ 64 - 1
---     checked o                    the answer of a check whose refusal is o
+--     IsTooLarge F n f             no slot count is enough for n items at f, or a table of the least one has 2 ^ 64
+--                                  bytes or more
+--     checked o                    the answer of a check whose error is o
 use Rattle.std.specs.Prelude.{◌≡◌, ◌≤◌, Result, Ok, Err, ℕ, ◌+◌, ◌-◌, ◌^◌, min, Bool, not, ◌&&◌, nat_le, nat_lt, ◌==◌, List, [], ◌∷◌, length, map, bytes_eq, slice_index, Option, Some, None}
 use Rattle.std.specs.List.{range_with_len, list_all}
 use Rattle.std.specs.Option.{option_or, option_map_or}
@@ -47,7 +49,7 @@ differs m n = not (m == n)
 abbrev pub lists_differ : List ℕ → List ℕ → Bool
 lists_differ xs ys = not (bytes_eq xs ys)
 
--- one of the four sizes that the header states, at this byte
+-- one of the four sizes in the header, at this byte
 abbrev pub wrong_size : List ℕ → ℕ → Part → ℕ → Option Error
 wrong_size B at part expected = differs (slice_index B at) expected gives WrongSizeOf part expected (slice_index B at)
 
@@ -66,7 +68,7 @@ few_slots_refusal B = nat_lt (header_slots B) 16 gives SlotCountTooSmall (header
 abbrev pub length_refusal : Format → ℕ → List ℕ → Option Error
 length_refusal F n B = differs n (image_len F (header_slots B)) gives WrongLength (header_slots B) n (image_len F (header_slots B))
 
--- the field refusals, of at least 32 bytes that stand for n
+-- the errors of the fields; B has at least 32 bytes and is the front of n bytes
 abbrev pub header_refusals : Format → ℕ → List ℕ → List (Option Error)
 header_refusals F n B =
     tag_refusal B
@@ -83,11 +85,11 @@ header_refusals F n B =
 unfoldable pub header_refusal : Format → ℕ → List ℕ → Option Error
 header_refusal F n B = first_of (header_refusals F n B)
 
--- what is refused before any slot is looked at
+-- the error of opening before any slot is read
 unfoldable pub opening_refusal : Format → List ℕ → Option Error
 opening_refusal F B = option_or (nat_lt (length B) 32 gives TooShort (length B)) (header_refusal F (length B) B)
 
--- what one slot of the parts is refused for
+-- the errors of one slot of the parts
 abbrev pub non_zero_empty : Format → List ℕ → List ℕ → ℕ → Option Error
 non_zero_empty F es ctrl i =
     counts_as_free (slice_index ctrl i) && not (list_all (λ x. x == 0) (slot_entry F es i)) gives NonZeroEmpty i
@@ -102,11 +104,11 @@ control_mismatch F es ctrl i =
     not (counts_as_free (slice_index ctrl i)) && differs (slice_index ctrl i) expected gives
     ControlMismatch i expected (slice_index ctrl i)
 
--- the first of the errors that f gives the first n slots, in slot order
+-- the first of the errors that f gives for the first n slots, in slot order
 abbrev pub first_slot : (ℕ → Option Error) → ℕ → Option Error
 first_slot f n = first_of (map f (range_with_len 0 n))
 
--- what a view refuses slot i for, and what the whole check does
+-- the error of slot i on opening a view, and that in the whole check
 abbrev pub hashes_refusal_at : Format → List ℕ → List ℕ → ℕ → Option Error
 hashes_refusal_at F es ctrl i = first_of (non_zero_empty F es ctrl i ∷ control_mismatch F es ctrl i ∷ [])
 
@@ -122,7 +124,7 @@ view_refusal F B = option_or (opening_refusal F B) (hashes_refusal F (entries_of
 unfoldable pub slots_refusal : Format → List ℕ → List ℕ → Option Error
 slots_refusal F es ctrl = first_slot (slot_refusal_at F es ctrl) (length ctrl - 16)
 
--- a control byte of the mirror, behind those of the slots, that is not its slot's
+-- a control byte of the mirror that differs from that of its slot
 abbrev pub mirror_refusal_at : List ℕ → ℕ → Option Error
 mirror_refusal_at ctrl i = differs (slice_index ctrl (length ctrl - 16 + i)) (slice_index ctrl i) gives MirrorMismatch i
 
@@ -144,7 +146,7 @@ factor_refusal B = nat_lt (header_factor B) 655 gives LoadFactorTooSmall (header
 abbrev pub padding_refusal : List ℕ → Option Error
 padding_refusal B = lists_differ (bytes_at B 30 2) (0 ∷ 0 ∷ []) gives NonZeroPadding (bytes_at B 30 2)
 
--- of a header that states another count than that of the pairs that were found
+-- of a header whose item count is not the number of pairs that were found
 abbrev pub count_refusal : ℕ → List ℕ → Option Error
 count_refusal found B = differs (header_count B) found gives WrongItemCount (header_count B) found
 
@@ -153,7 +155,7 @@ room_refusal B =
     nat_lt (max_items (header_slots B) (header_factor B)) (header_count B) gives
     TooManyItems (header_count B) (max_items (header_slots B) (header_factor B))
 
--- of bytes that a view accepts
+-- the further errors of bytes that a view opens
 abbrev pub late_refusals : Format → List ℕ → List (Option Error)
 late_refusals F B =
     factor_refusal B
@@ -171,7 +173,7 @@ late_refusal F B = first_of (late_refusals F B)
 unfoldable pub check_refusal : Format → List ℕ → Option Error
 check_refusal F B = option_or (view_refusal F B) (late_refusal F B)
 
--- what the bytes for a new table of s slots are refused for
+-- the error of a new table of s slots in len bytes
 abbrev pub slots_new_refusal : Format → ℕ → ℕ → Option Error
 slots_new_refusal F len s =
     first_of ((nat_le (2 ^ 64) (image_len F s) gives Capacity) ∷ (differs len (image_len F s) gives InitLength len (image_len F s)) ∷ [])

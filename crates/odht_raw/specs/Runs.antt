@@ -1,18 +1,18 @@
 -- Items, keys and values, that are inserted in turn.
---     encoded_all c items  the items as pairs
---     IsFramedRun c B items B'  inserts of the items in turn, which are accepted, may leave B' of the accepted bytes B
+--     encoded_all c items  the items, encoded to pairs
+--     IsFramedRun c B items B'  inserts of the items in turn, all of them Ok, may turn the accepted bytes B into B'
 --     count_after n a      the item count n after an insert with the answer a
---     IsPartsRun c es ctrl items n es' ctrl'  inserts of the items in turn into the parts es and ctrl, which are accepted
---                          and of which n add an entry, may leave es' and ctrl'
---     ArePartsOfRun F P ps n es' ctrl'  these are the parts of the placed table P after the pairs ps are placed in turn, of
---                          which n are of new keys
---     room_end P from m    where a round ends that begins at item `from` of m: it takes as many items as the table P has
---                          room for below its maximum, and no more than there are
---     header_end B from m  the same by the count and the maximum that the bytes B state
+--     IsPartsRun c es ctrl items n es' ctrl'  inserts of the items in turn into the parts es and ctrl, all of which are
+--                          Ok and of which n add an entry, may leave es' and ctrl'
+--     ArePartsOfRun F P ps n es' ctrl'  these are the parts of the placed table P after the pairs ps are placed in
+--                          turn, n of which have new keys
+--     room_end P from m    where a round of inserts that begins at item `from` of m ends: it inserts as many items as
+--                          the maximum of the table P exceeds its count, and no more than there are
+--     header_end B from m  the same by the item count and the maximum of the header of B
 --     IsStop ctrl s to i   inserts up to item `to` in turn may stop at i: it is `to`, or each of the s slots counts as
---                          filled
---     IsPlacedBelow F P ps B  B are the bytes of the table P after the pairs ps, which are of F, are placed in turn; it has
---                          room for all of them below its maximum
+--                          occupied
+--     IsPlacedBelow F P ps B  B is the bytes of the table P after the pairs ps, which are of F, are placed in turn; the
+--                          count of P and the number of ps together are at most the maximum of P
 use Rattle.std.specs.Prelude.{◌≡◌, ℕ, ◌+◌, ◌-◌, ◌≤◌, min, ◌⊎◌, List, [], ◌∷◌, ◌++◌, length, map, All, Option, Some, None, Result, Ok}
 use Rattle.odht_base.specs.Format.{Format}
 use Rattle.odht_base.specs.Insert.{place_all}

@@ -1,11 +1,11 @@
--- Where a search for a key k ends on any parts, and what a find answers: E are the entries, ctrl the control bytes.
+-- Where a search for a key k ends on any parts, and what a find answers. E is the entries, ctrl the control bytes.
 --     HoldsKeyAt F E k i        slot i is one of E, and its entry has the key k
---     IsEnd F E ctrl k r        a Found is a slot that holds k, a Free one that counts as free, also by its mirror; after
---                               Neither each slot counts as occupied, also by its mirror
---     IsPlainEnd F E ctrl k r   the same, where a slot counts as free or filled by its own control byte
---     IsEndAmong F E bs b n k r a Found is a slot that holds k, a Free is among the n slots from b on, counted on around the
---                               end, and its byte of bs counts as free; Neither is no such end
---     IsBesideKey F f E k v     some slot's entry is the key k beside bytes of which f makes v, whatever its control byte
+--     IsEnd F E ctrl k r        a Found is a slot whose entry has the key k, a Free is a slot that counts as free, also
+--                               by its mirror; on Neither each slot counts as occupied, also by its mirror
+--     IsPlainEnd F E ctrl k r   the same, where a slot counts as free or occupied by its own control byte alone
+--     IsEndAmong F E bs b n k r a Found is a slot whose entry has the key k, a Free is among the n slots from b on,
+--                               modulo the slot count, and its byte of bs counts as free; Neither is no such end
+--     IsBesideKey F f E k v     some slot's entry is the key k and bytes that f decodes to v, whatever its control byte
 use Rattle.std.specs.Prelude.{◌≡◌, ℕ, ◌+◌, ◌%◌, ◌<◌, List, slice_index, IsTrue}
 use Rattle.odht_base.specs.Format.{Format}
 use Rattle.odht_base.specs.Decoded.{slot_key, slot_value, counts_as_free}

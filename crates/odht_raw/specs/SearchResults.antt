@@ -1,11 +1,13 @@
 -- What a search answers.
---     answer F cs k        the slot where the search for k among the cells ends, by what stands there
---     MatchSearchResult r P Q S  P of the slot of a Found, Q of that of a Free, S of Neither
+--     answer F cs k        the slot where the search for k among the cells ends, as Found or Free by its cell; else
+--                          Neither
+--     MatchSearchResult r P Q S  P for the slot of a Found, Q for the slot of a Free, S for Neither
 --     with_cell P i p      the table P with the pair p written into slot i
---     GoesInto F P k i     a pair with the key k is placed into slot i of P, whatever its value, and no other slot changes
+--     GoesInto F P k i     a pair with the key k is placed into slot i of P, whatever its value, and no other slot
+--                          changes
 --     HasNoPlace F P k     no pair with the key k has a place in P
---     IsWherePlaced F P k r  r is where a pair with the key k is placed in P: a Found is the slot that holds k, a Free the
---                          free slot that such a pair fills, and after Neither it has no place
+--     IsWherePlaced F P k r  r is where a pair with the key k is placed in P: a Found is the slot that holds k, a Free
+--                          is the free slot that such a pair goes into, and on Neither it has no place
 use Rattle.std.specs.Prelude.{◌≡◌, ℕ, List, set, Some, None, IsTrue, if◌then◌else◌}
 use Rattle.std.specs.Option.{option_map_or}
 use Rattle.odht_base.specs.Format.{Format}

@@ -1,10 +1,12 @@
--- A search for a key k among the parts of a placed table P, at a place of the probe order of k.
---     slot_of F P k p        the slot at place p of the order
---     Passed F P k p         no slot before place p is free or holds k
---     StandsAt F P E k p start bs   the search came to place p: it passed the places before, E are the entries, and bs are
---                            the control bytes of the places from p on, which are the slots from `start` on around the end
---     EndsWithin F P k p n   the search ends at one of the n places from p on
---     IsLook F P k p n r     r is what a look at these n places tells: the answer where the search ends among them, else none
+-- A search for a key k among the parts of a placed table P, at a position of the probe order of k.
+--     slot_of F P k p        the slot at position p of the order
+--     Passed F P k p         no slot before position p is free or holds k
+--     IsGroupAt F P E k p start bs   the search is at position p: it passed the earlier positions, E is the entries, and
+--                            bs is the control bytes of the positions from p on, which are the slots from `start` on,
+--                            modulo the slot count
+--     EndsWithin F P k p n   the search ends at one of the n positions from p on
+--     IsLook F P k p n r     r is the result of a look at these n positions: the answer where the search ends there,
+--                            else None
 use Rattle.std.specs.Prelude.{◌≡◌, ℕ, ◌+◌, ◌%◌, ◌<◌, ◌≤◌, false, List, length, slice_index, Option, Some, MatchOption}
 use Rattle.odht_base.specs.Format.{Format, home}
 use Rattle.odht_base.specs.Image.{entries, control_byte}
@@ -22,7 +24,7 @@ slot_of F P k p = probe_slot (home F k (slot_count P)) (slot_count P) p
 abbrev pub Passed : Format → Table → List ℕ → ℕ → Type 0
 Passed F P k p = (q : ℕ) → q < p → stops_at P.cells k (slot_of F P k q) ≡ false
 
-pub record StandsAt (F : Format) (P : Table) (E : EntryBytes) (k : List ℕ) (p start : ℕ) (bs : List ℕ) : Type 0 where
+pub record IsGroupAt (F : Format) (P : Table) (E : EntryBytes) (k : List ℕ) (p start : ℕ) (bs : List ℕ) : Type 0 where
   pub placed : IsPlaced F P
   pub slots : E.slots ≡ slot_count P
   pub entries_are : E.bytes ≡ entries F P.cells

@@ -1,13 +1,14 @@
--- The occupied slots of a table while an order of inserts is looked for: the list `done` of those that are placed, and a
--- list of the others, of which each is placed too in its turn, or waits. A slot that waits is listed with 2 ^ 63 added to it.
+-- The occupied slots of a table while an order of inserts is searched for: the list `done` of the slots placed in
+-- earlier passes, and the list of the others, each of which was placed in this pass or waits. A slot that waits is
+-- listed with 2 ^ 63 added to it.
 --     waiting i            the slot i, listed as one that waits
---     slot_of n            the slot that is listed as n
---     placed_of ns         the slots of the list ns that do not wait
+--     slot_of n            the slot that is listed as the number n
+--     placed_of ns         the slots of the list ns that do not wait, but are placed
 --     IsWaiting s n        n is a slot below s that waits, as it is listed
 --     AreRising ns         the slots of ns rise
---     IsPending F P done ns  done and the slots of ns are the occupied slots of P, each once; those of ns rise; and those of
---                          done, with those of ns that are placed, are taken so far in the search for an order
---     AreWholeParts F P T n  T are the parts of the table P, which is valid and has n pairs
+--     IsPending F P done ns  done and the slots of ns are the occupied slots of P, each once; the slots of ns rise; and
+--                          done, with the slots of ns that are placed, are the slots so far in the search for an order
+--     AreWholeParts F P T n  T is the parts of the table P, which is valid and has n pairs
 use Rattle.std.specs.Prelude.{◌≡◌, ℕ, ◌+◌, ◌-◌, ◌^◌, ◌%◌, ◌<◌, ◌≤◌, nat_lt, List, ◌++◌, map, filter, AllPairs, IsPermutation}
 use Rattle.odht_base.specs.Format.{Format}
 use Rattle.odht_base.specs.Made.{occupied}

@@ -2,16 +2,16 @@
 --     decoded c p          the key and the value of the pair p
 --     decoded_all c ps     the same of each pair
 --     decoded_items f g xs the keys and the values of items, decoded by f and g
---     decoded_numbered f g xs    the same of items that have numbers, each with its number
+--     decoded_numbered f g xs    the same of items that have slot numbers, each with its number
 --     Item K V             a control byte and an entry, which holds a key and a value as byte arrays
---     item f g c p         the control byte c and the entry of the pair p, whose arrays f and g make
---     slot_item f g F T i  the item of slot i of the parts T; none where its control byte counts as free
+--     item f g c p         the control byte c and the entry of the pair p, whose byte arrays are made by f and g
+--     slot_item f g F T i  the item of slot i of the parts T; None where its control byte counts as free
 --     items_of f g F T is  the items of these slots
 --     items_from f g F T i the items of the slots from i on
---     slot_numbered f g F T i    slot i and its item; none where its control byte counts as free
+--     slot_numbered f g F T i    slot i and its item; None where its control byte counts as free
 --     numbered_of f g F T is     the same of these slots
 --     numbered_from f g F T i    the same of the slots from i on
---     decoded_slots c xs   pairs that have numbers, with the key and the value of each
+--     decoded_slots c xs   the decoded key and value of each pair, with its slot number
 --     AreOccupied T b is     slot b + i is one of T and does not count as free, for each i of is
 use Rattle.std.specs.Prelude.{ℕ, ◌+◌, ◌-◌, ◌<◌, All, IsFalse, List, map, slice_index, Option, option_map}
 use Rattle.std.specs.List.{range_with_len, filter_map}

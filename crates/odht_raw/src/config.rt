@@ -1,4 +1,4 @@
-//! What a user says of a table's keys and values.
+//! Configurations: the key and value types of a table, their encodings and the hash function.
 ghost use Rattle.std.specs.Prelude.{◌≡◌, ◌≤◌};
 ghost use Rattle.odht_raw.specs.Coding.{Coding, coding_of};
 
@@ -8,13 +8,13 @@ use crate::hash::HashFn;
 /// The types of a table, and how they are encoded: each key and each value to as many bytes, the same on every
 /// platform.
 ///
-/// A contract names what each of the four functions answers by the ghost member of its name.
+/// In a contract the ghost member of the same name is what each of the four functions answers.
 pub trait Config {
     type Key: Drop;
 
     type Value: Drop;
 
-    /// At most 255 bytes, and as many as the hash function needs.
+    /// At most 255 bytes, and at least as many as the hash function needs.
     type EncodedKey: ByteArray;
 
     /// At most 255 bytes.
@@ -38,11 +38,11 @@ pub trait Config {
     fn encode_value(v: &Self::Value) -> Self::EncodedValue
         ensures { result ≡ encode_value v.now };
 
-    /// The key of the bytes: of any bytes, since they may come from elsewhere.
+    /// The key of the bytes. Any bytes have to decode, since they may be untrusted.
     fn decode_key(k: &Self::EncodedKey) -> Self::Key
         ensures { result ≡ decode_key k.now };
 
-    /// The value of the bytes: of any bytes, since they may come from elsewhere.
+    /// The value of the bytes. Any bytes have to decode, since they may be untrusted.
     fn decode_value(v: &Self::EncodedValue) -> Self::Value
         ensures { result ≡ decode_value v.now };
 
@@ -53,7 +53,7 @@ pub trait Config {
     ghost key_hashes: { Self.H.MIN_LEN ≤ Self.EncodedKey.LEN };
 }
 
-/// The coding of a configuration, as one value of the contracts. Each `Config` has it; no user writes it.
+/// The coding of a configuration, as one value for contracts. Each `Config` has it; a user does not implement it.
 pub trait Coded: Config {
     ghost coding: { Coding Self.Key Self.Value };
 }
@@ -65,7 +65,7 @@ impl<C: Config> Coded for C {
 /// A configuration whose decodings undo its encodings, so that a table of it is a map of the keys to the values
 /// themselves.
 ///
-/// Both functions do nothing: their contracts are the law, of a key and of a value at hand.
+/// Both functions do nothing: their contracts are the law, for a given key and a given value.
 pub trait Lossless: Config {
     /// The bytes of a key decode to it, so different keys have different bytes.
     fn key_kept(k: &Self::Key)

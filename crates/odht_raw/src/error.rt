@@ -1,6 +1,6 @@
-//! Why bytes, or a call, are refused.
+//! The errors of opening and checking bytes, and of calls.
 //!
-//! The conditions, and the order in which they are looked at, are those of docs/FORMAT.md, "What is refused".
+//! The conditions and their order are those of docs/FORMAT.md, "What is refused, and in which order".
 ghost use Rattle.std.specs.Prelude.{◌≡◌, Some};
 ghost use Rattle.std.specs.Fmt.{WritesOnOk};
 ghost use Rattle.odht_raw.specs.declared.error.Error.TheVariants.{Memory};
@@ -9,7 +9,7 @@ ghost use Rattle.odht_raw.specs.ErrorTexts.{part_text, error_text, IsOpeningErro
 use std::alloc::AllocError;
 use std::fmt;
 
-/// A part of the format whose size the header states in one byte.
+/// A part of the format whose size in bytes the header holds in one byte.
 #[derive(Clone, Copy, PartialEq, Eq, Debug)]
 pub enum Part {
     /// A control byte.
@@ -35,7 +35,8 @@ impl fmt::Display for Part {
     }
 }
 
-/// A refusal. Lengths, counts and offsets are in bytes, items and slots; `found` is what stands in the bytes.
+/// An error. Lengths and sizes are in bytes, item counts in items, slot counts in slots; a `slot` is the index of a
+/// slot. `found` is what the bytes have.
 #[derive(Clone, Copy, PartialEq, Eq, Debug)]
 pub enum Error {
     /// There are fewer bytes than the 32 of a header.
@@ -50,7 +51,7 @@ pub enum Error {
     WrongVersion {
         found: [u8; 4],
     },
-    /// The header states another size of a part than the configuration has.
+    /// By the header a part has another size than by the configuration.
     WrongSizeOf {
         part: Part,
         expected: usize,
@@ -64,13 +65,13 @@ pub enum Error {
     SlotCountTooSmall {
         found: usize,
     },
-    /// There are more or fewer bytes than so many slots need.
+    /// There are more or fewer bytes than a table of `slot_count` slots has.
     WrongLength {
         slot_count: usize,
         found: usize,
         expected: u128,
     },
-    /// A free slot's entry is not zero.
+    /// The entry of a slot that counts as free is not all zeros.
     NonZeroEmpty {
         slot: usize,
     },
@@ -88,39 +89,39 @@ pub enum Error {
     NonZeroPadding {
         found: [u8; 2],
     },
-    /// A free slot's control byte is not 255.
+    /// The control byte of a slot that counts as free is not 255.
     BadFreeControl {
         slot: usize,
         found: u8,
     },
-    /// Control byte `index` is not repeated in the mirror.
+    /// The mirror of control byte `index` differs from it.
     MirrorMismatch {
         index: usize,
     },
-    /// The header states another item count than there are occupied slots.
+    /// The header's item count is not the number of occupied slots.
     WrongItemCount {
         stated: usize,
         found: usize,
     },
-    /// The item count is above the maximum of the slot count and load factor.
+    /// The header's item count is above the maximum of the header's slot count and load factor.
     TooManyItems {
         count: usize,
         max: usize,
     },
-    /// An occupied slot is not where a search slot by slot for its key ends.
+    /// The search slot by slot for the key of this occupied slot does not end at it.
     Unreachable {
         slot: usize,
     },
-    /// The data in which a table is to be made has another length than the table.
+    /// The bytes in which a new table is to be made have another length than the table.
     InitLength {
         found: usize,
         expected: usize,
     },
-    /// The view is at its maximum item count, or its search met neither the key nor a free slot.
+    /// No room for a new key: the view is at its maximum item count, or the search met no free slot.
     Full,
-    /// A request for memory was refused.
+    /// Out of memory: an allocation failed.
     Memory,
-    /// No slot count is large enough, or the length of the bytes passes `usize`.
+    /// No slot count is large enough, or the length of the table in bytes passes `usize::MAX`.
     Capacity,
 }
 
@@ -179,7 +180,7 @@ impl fmt::Display for Error {
 
 impl std::error::Error for Error {}
 
-// Writes any error but those of the opening.
+// Writes any error but those of opening bytes by their header and length.
 fn write_contents_error<W: fmt::Write>(error: &Error, f: &mut fmt::Formatter<W>) -> fmt::Result
     requires { ¬ (IsOpeningError error.now) }
     ensures { WritesOnOk W.write_str_gives f.old result (error_text error.now) f.new }
@@ -223,7 +224,7 @@ fn write_contents_error<W: fmt::Write>(error: &Error, f: &mut fmt::Formatter<W>)
     }
 }
 
-// Writes an error of a new table, of an insert or of memory.
+// Writes an error of a new table or of an insert, or that memory is exhausted.
 fn write_call_error<W: fmt::Write>(error: &Error, f: &mut fmt::Formatter<W>) -> fmt::Result
     requires { IsCallError error.now }
     ensures { WritesOnOk W.write_str_gives f.old result (error_text error.now) f.new }

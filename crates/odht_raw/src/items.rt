@@ -1,14 +1,14 @@
-//! Lists of keys and values, in whatever form they lie in memory.
+//! Lists of keys and values, whatever their form in memory.
 ghost use Rattle.std.specs.Prelude.{◌≡◌, ◌<◌, ℕ, List, Some, length, slice_get};
 ghost use Rattle.std.specs.List.{zip};
 
 use std::marker::Model;
 
-/// A list of keys and their values, of which each is read in place.
+/// A list of keys and their values, each read where it is in memory.
 pub trait Items<K, V>: Drop {
     ghost items: { Self → List (K × V) };
 
-    /// How many there are.
+    /// How many items there are.
     fn count(&self) -> usize
         ensures { result ≡ length (items self.now) };
 

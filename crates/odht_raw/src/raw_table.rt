@@ -47,7 +47,7 @@ pub use search_result::SearchResult;
 pub use table_mut::RawTableMut;
 pub use walk::{RawIter, RawSlots};
 
-/// A control byte: the tag of an occupied slot, which has seven bits, or `FREE`.
+/// A control byte: the tag of an occupied slot, which is below 128, or `FREE`.
 pub type EntryMetadata = u8;
 
 /// The control byte of a free slot.
@@ -56,7 +56,7 @@ pub const FREE: EntryMetadata = 255;
 // The least control byte that counts as free: one above each tag.
 const LEAST_FREE: EntryMetadata = 128;
 
-// How many lower bits of a hash its tag leaves out.
+// How many low bits of a hash are not part of its tag.
 const TAG_SHIFT: u32 = 25;
 
 /// Whether a control byte counts as free.
@@ -67,7 +67,7 @@ pub(crate) fn is_empty_or_deleted(control: EntryMetadata) -> bool
     control >= LEAST_FREE
 }
 
-/// The tag of a key with this hash: its seven highest bits.
+/// The tag of a key with this hash: the seven highest bits of the hash.
 #[inline]
 pub fn tag_of(hash: u32) -> u8
     ensures { result ≡ hash / 2 ^ 25 }
@@ -75,7 +75,7 @@ pub fn tag_of(hash: u32) -> u8
     (hash >> TAG_SHIFT) as u8
 }
 
-/// The control bytes with their mirror, and the entries of as many slots.
+/// The parts of a table, borrowed to be read: the control bytes with their mirror, and the entries of as many slots.
 #[derive(Drop)]
 pub struct RawTable<'a, K: ByteArray, V: ByteArray, H: HashFn> {
     control: &'a [EntryMetadata],
@@ -95,7 +95,7 @@ impl<'a, K: ByteArray, V: ByteArray, H: HashFn> Model for RawTable<'a, K, V, H> 
 }
 
 impl<'a, K: ByteArray, V: ByteArray, H: HashFn> RawTable<'a, K, V, H> {
-    /// The table of these parts, on which a view looks at slots before it trusts them.
+    /// The table of these parts. No control byte and no entry is checked.
     #[inline]
     pub fn new(control: &'a [EntryMetadata], entries: Entries<'a, K, V>) -> Self
         requires slots { IsSlotCount entries.slots }
@@ -110,10 +110,10 @@ impl<'a, K: ByteArray, V: ByteArray, H: HashFn> RawTable<'a, K, V, H> {
         }
     }
 
-    /// The value beside the key, looked for group by group along the probe order (docs/FORMAT.md, "Search").
+    /// The value stored with the key, searched for group by group along the probe order (docs/FORMAT.md, "Search").
     ///
-    /// On the parts of a table whose keys are all reached it is the map's answer, and on any parts a value that is stored
-    /// beside this very key. At most each group is looked at once.
+    /// On the parts of a table whose keys are all reached it is the map's answer. On any parts it is a value that is
+    /// stored with an equal key. Each group is read at most once.
     #[inline]
     pub fn find(&self, key: &K) -> Option<V>
         ensures on_placed { (P : Table)
@@ -126,8 +126,9 @@ impl<'a, K: ByteArray, V: ByteArray, H: HashFn> RawTable<'a, K, V, H> {
         value
     }
 
-    /// `find`, and how many groups were looked at: on the parts of a table whose keys are all reached those up to the first
-    /// slot free or holding the key, and on any parts no more than there are. docs/FORMAT.md, "Search", counts them.
+    /// `find`, and how many groups were read: on the parts of a table whose keys are all reached those up to the first
+    /// slot that is free or holds the key, and on any parts at most all groups. How they are counted: docs/FORMAT.md,
+    /// "Search".
     #[inline]
     pub fn find_counted(&self, key: &K) -> (Option<V>, usize)
         ensures on_placed { (P : Table)
@@ -159,10 +160,10 @@ impl<'a, K: ByteArray, V: ByteArray, H: HashFn> RawTable<'a, K, V, H> {
         RawIter::new(self.control, self.entries.copy())
     }
 
-    /// Looks at the first `slots_to_check` slots, or at all where there are fewer, and answers the first refusal:
+    /// Checks the first `slots_to_check` slots, or all where there are fewer, and answers the first error:
     /// `NonZeroEmpty` of a slot that counts as free, `ControlMismatch` of any other.
     ///
-    /// A mismatch tells of bytes that were written with another hash function.
+    /// A mismatch can mean that the bytes were written with another hash function.
     #[inline(always)]
     pub fn sanity_check_hashes(&self, slots_to_check: usize) -> Result<(), Error>
         ensures { let F = format_of K.LEN V.LEN H.hash
@@ -175,7 +176,7 @@ impl<'a, K: ByteArray, V: ByteArray, H: HashFn> RawTable<'a, K, V, H> {
         Ok(())
     }
 
-    // What a view looks at in one slot. It tells the hash of the key where the slot does not count as free.
+    // What opening checks of one slot. Answers the hash of the key where the slot does not count as free.
     #[inline(always)]
     fn check_slot(&self, slot: usize) -> Result<Option<u32>, Error>
         requires { slot < self.now.entries.slots }

@@ -1,6 +1,6 @@
-//! The writes of an insert to a store of bytes, each at a place that its caller knows.
+//! The writes of an insert to a store of bytes, each at an offset that its caller knows.
 //!
-//! The bytes of a whole table and the two parts of a table are written by them alike.
+//! They are used both for the bytes of a whole table and for each of its two parts.
 ghost use Rattle.std.specs.Prelude.{◌≡◌, ◌+◌, ◌<◌, ◌≤◌, ◌++◌, length};
 ghost use Rattle.odht_base.specs.Bytes.{overwritten_at};
 ghost use Rattle.odht_base.specs.Numbers.{IsBytes};
@@ -10,7 +10,7 @@ use crate::bytes::{ByteArray, ByteStoreMut};
 use crate::raw_table::EntryMetadata;
 use crate::swisstable_group_query::REFERENCE_GROUP_SIZE;
 
-/// Writes the key from the byte `at` on, and the value behind it.
+/// Writes the key from the byte `at` on, and the value after it.
 #[inline(always)]
 pub(crate) fn write_pair<K: ByteArray, V: ByteArray, M: ByteStoreMut>(
     store: &mut M,
@@ -26,14 +26,14 @@ pub(crate) fn write_pair<K: ByteArray, V: ByteArray, M: ByteStoreMut>(
     ensures key { IsBytes K.LEN (K.bytes key.now) }
     ensures value { IsBytes V.LEN (V.bytes value.now) }
 {
-    // A slice's length is below 2^64, and so is each place in it.
+    // A slice's length is below 2^64, and so is each index into it.
     let _ = store.bytes();
     store.write_at(at, key.as_slice());
     store.write_at(at + K::LEN, value.as_slice());
 }
 
-/// Writes the tag into the control byte of one of so many slots, the first of which stands at the byte `control`, and for a
-/// slot below 16 into its mirror.
+/// Writes the tag into the control byte of `slot`, one of `slots` slots, and for a slot below 16 into its mirror. The
+/// control bytes begin at the byte `control`.
 #[inline(always)]
 pub(crate) fn write_tag<M: ByteStoreMut>(
     store: &mut M,
@@ -48,7 +48,7 @@ pub(crate) fn write_tag<M: ByteStoreMut>(
     ensures len { length (M.bytes store.new) ≡ length (M.bytes store.old) }
     ensures same_store { store.new ≡ M.holding store.old (M.bytes store.new) }
 {
-    // A slice's length is below 2^64, and so is each place in it.
+    // A slice's length is below 2^64, and so is each index into it.
     let _ = store.bytes();
     store.write_at(control + slot, &[tag]);
     if slot < REFERENCE_GROUP_SIZE {

@@ -1,4 +1,4 @@
--- What follows from a command's text: it is ASCII, and its first space stands after its name.
+-- What follows from a command's text: it is ASCII, and its first space is after its name.
 use Rattle.std.proofs.Common.{◌≡◌, ◌≢◌, ◌∙◌, ℕ, zero, suc, ◌<◌, ◌^◌, List, [], ◌∷◌, ◌++◌, length, Option, Some, None, MatchOption, SomeIff, Bor, sym, ap, subst, refl, arith}
 use lib.ListN.{get_or}
 use lib.ListN.{length-append}
@@ -24,7 +24,7 @@ use Rattle.odht_table.specs.Commands.{IsNumberText, IsPairText, IsWordText, IsCo
 no_space : (word : List ℕ) (n : ℕ) → IsNumberText word n → (i : ℕ) → i < length word → get_or word i 0 ≢ 32
 no_space word n h i l e = let d = digit_at word i h.numeral.1 l in omega (arith, d, e)
 
--- a number is found where its text stands
+-- a number is read from its text
 pub number_found : (word : List ℕ) (n : ℕ) (r : Option ℕ) → SomeIff r (IsNumeral 10 word × (digits_value 10 word < 2 ^ 64)) (digits_value 10 word) → IsNumberText word n → r ≡ Some n
 number_found word n None misses h = absurd (misses (h.numeral, omega (arith, h.value, h.fits)))
 number_found word n (Some x) is h = ap Some (is.1 ∙ h.value)
@@ -125,7 +125,7 @@ command_cut line name numbers (OnTable Walk) cut h = absurd (word_not_cut line n
 command_cut line name numbers (OnTable Hex) cut h = absurd (word_not_cut line name numbers cut _ h (omega arith, (omega arith, (omega arith, tt))))
 command_cut line name numbers (OnTable Dump) cut h = absurd (word_not_cut line name numbers cut _ h (omega arith, (omega arith, (omega arith, (omega arith, tt)))))
 
--- a name of three letters with a space behind it is cut
+-- a name of three letters with a space after it is cut
 name_cut : (line words : List ℕ) (a b c : ℕ) → IsSplitOnceResult 32 line None → a ≢ 32 → b ≢ 32 → c ≢ 32 → line ≡ a ∷ b ∷ c ∷ 32 ∷ words → ⊥
 name_cut line words a b c uncut p q r e = split_after 32 line (a ∷ b ∷ c ∷ []) words None uncut (omega arith) e (no_space_at (a ∷ b ∷ c ∷ []) (p, (q, (r, tt))))
 
@@ -145,7 +145,7 @@ other_name : (name : List ℕ) (a b c d e f : ℕ) → name ≡ a ∷ b ∷ c �
 other_name name a b c d e f h k ne = ne (ap (λ bs. get_or bs 0 0) (sym h ∙ k))
 
 module _ (name numbers : List ℕ) (r : Option Command) where
-  -- an answer at the name `new`
+  -- a result at the name `new`
   pub at_new : name ≡ codes "new" → ((m n : ℕ) → IsPairText numbers m n → r ≡ Some (New m n)) → (command : Command) → IsCut name numbers command → r ≡ Some command
   at_new e answer (New items percent) cut = answer items percent cut.1
   at_new e answer (OnTable (Put key value)) cut = absurd (other_name name _ _ _ _ _ _ e cut.0 (omega arith))

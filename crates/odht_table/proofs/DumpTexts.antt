@@ -16,7 +16,7 @@ HasText o = (text : List ℕ) × (o ≡ Some text)
 given : (text : List ℕ) → HasText (Some text)
 given text = (text, refl)
 
--- two texts, one behind the other
+-- two texts, one after the other
 HasText-append : (o p : Option (List ℕ)) → HasText o → HasText p → HasText (o ++? p)
 HasText-append o p a b = (a.0 ++ b.0, λ i. a.1 i ++? b.1 i)
 

@@ -1,4 +1,4 @@
--- What follows from a text of hexadecimal digits: how long it is, that each digit is one, and whose bytes it is alone.
+-- What follows from a text of hexadecimal digits: its length, that each is a digit, and that it has one decoding alone.
 use Rattle.std.proofs.Common.{◌≡◌, ◌∙◌, ℕ, suc, ◌+◌, ◌-◌, ◌*◌, ◌/◌, ◌%◌, ◌<◌, ◌^◌, inl, inr, true, false, List, [], ◌∷◌, ◌++◌, length, take, drop, get_or, sym, ap, subst, refl, arith}
 use Rattle.std.specs.Prelude.{codes}
 use Rattle.std.specs.Char.{is_ascii_hexdigit, to_ascii_lowercase}
@@ -57,7 +57,7 @@ digits_pass (c ∷ d ∷ digits) (b ∷ bytes) e h =
 pub digits_even : (digits bytes : List ℕ) → IsHexText digits bytes → length digits % 2 ≡ 0
 digits_even digits bytes h = omega (arith, length-map digits to_ascii_lowercase, ap length h.text, length-hex_text bytes)
 
--- the bytes of a text are no others
+-- a text decodes to one list of bytes
 pub bytes_same : (xs ys : List ℕ) → All IsByte xs → All IsByte ys → hex_text xs ≡ hex_text ys → xs ≡ ys
 bytes_same [] [] h k e = refl
 bytes_same [] (y ∷ ys) h k e = absurd (omega (arith, ap length e))
@@ -72,11 +72,11 @@ bytes_same (x ∷ xs) (y ∷ ys) h k e =
     let others = bytes_same xs ys (All-tail IsByte x xs h) (All-tail IsByte y ys k) (tail_same _ _ _ _ rest) in
     cc
 
--- no digits are those of no bytes
+-- no digits are the digits of no bytes
 pub no_bytes : IsHexText [] []
 no_bytes = record { text = refl; bytes_fit = All-nil IsByte }
 
--- two digits more are those of one byte more
+-- two more digits are those of one more byte
 pub one_more : (digits bytes : List ℕ) (at high low : ℕ) → IsHexText (take (2 * at) digits) bytes → 2 * at + 1 < length digits
     → high < 16 → low < 16
     → to_ascii_lowercase (get_or digits (2 * at) 0) ≡ digit_glyph false high

@@ -4,7 +4,7 @@ pub mod CommandTexts
 pub mod HexTexts
 -- laws over the answers to `new`
 pub mod NewTexts
--- what a `put` answers and leaves
+-- what a `put` is answered with and leaves
 pub mod Puts
 -- the lines of a script, and their answers
 pub mod ScriptTexts

@@ -28,7 +28,7 @@ pub OnOk-always : {T E Q : Type 0} (r : Result T E) → Q → OnOk r Q
 OnOk-always (Ok x) h = h
 OnOk-always (Err e) h = tt
 
--- a refusal is answered with its text, and keeps the table
+-- an error is answered with its text, and keeps the table
 pub refused_new : {T : Type 0} (F : Format) (items percent : ℕ) (refusal : Refusal) (old : Option (List ℕ))
     → IsErrOf {T = T} (Err refusal) BadPercent ↔ ((percent < 1) ⊎ (100 < percent))
     → (1 ≤ percent → percent ≤ 100 → IsErrOf {T = T} (Err refusal) Capacity ↔ IsTooLarge F items (factor_of percent))

@@ -53,7 +53,7 @@ held_after c line _ _ _ held (renewed items percent old new text is table) = ren
 held_after c line _ _ _ held (no_table request is) = held
 held_after c line _ _ _ held (answered request P Q old new text is image answer after) = (Q, after)
 
--- a script is answered up to its rest: by a text that the answers to the rest make whole
+-- a script is answered up to its rest: by a text to which the answers to the rest are appended
 pub record IsAnsweredUpTo (c : Coding ℕ ℕ) (script rest : List ℕ) (table before now : Option (List ℕ)) : Type 0 where
   pub held : IsHeld c.format table
   pub text : List ℕ

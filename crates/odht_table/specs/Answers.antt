@@ -7,15 +7,15 @@
 --     walk_text xs          of `walk`: a line of each key and its value, and the line `end`
 --     dump_of F B           of `dump`: the text of the bytes B of a table
 --     new_text s m          of `new`: the slot count s and the maximum item count m
---     IsPutAnswered c P k v t Q   t answers a `put` of the pair k and v, and Q is the table after it: P with the pair in it,
---                           or P, where it is full for k and the memory for its growth was refused
+--     IsPutAnswered c P k v t Q   t answers a `put` of the pair k and v, and Q is the table after it: P with the pair
+--                           inserted, or P, where it is full for k and memory for its growth was exhausted
 --     IsAnswered c P r t Q  t answers the request r of the table P, and Q is the table after it
 --     IsGoodPercent p       from 1 to 100
---     IsRenewed F n p t o o'   t answers `new` for n items at p percent, after which o' is there in place of o: the bytes of
---                           a fresh table, or o itself where there is none
+--     IsRenewed F n p t o o'   t answers `new` for n items at p percent, after which the bytes o' replace o: those of a
+--                           fresh table, or o itself where none was made
 --     MayChange r           the request r is a `put`
---     check_text F B        of `check`: `valid`, or the text of what the bytes B are refused for first
---     IsChecked F B t       t answers `check` of the bytes B: check_text, or `memory` where they found no room
+--     check_text F B        of `check`: `valid`, or the text of the first error of the bytes B
+--     IsChecked F B t       t answers `check` of the bytes B: check_text, or `memory` when memory is exhausted
 use Rattle.std.specs.Prelude.{◌≡◌, ℕ, ◌/◌, ◌%◌, ◌≤◌, ◌⊎◌, ⊤, false, List, [], ◌∷◌, ◌++◌, Option, Some, None, codes}
 use Rattle.std.specs.List.{flat_map}
 use Rattle.std.specs.Fmt.{decimal, digit_glyph, debug_list}

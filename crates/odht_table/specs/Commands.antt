@@ -1,11 +1,12 @@
 -- Which lines of a script are commands. A line is its bytes, without its end.
 --     IsNumberText word n      the word is decimal digits, one or more, that write n, which is below 2 ^ 64
 --     IsPairText words m n     the words are two numbers' texts, m and n, with one space between them
---     IsWordText word r        the word is `len`, `walk`, `hex` or `dump`, and the request r asks for just that
+--     IsWordText word r        the word is `len`, `walk`, `hex` or `dump`, and r is the request of this name
 --     IsCommandText line c     the line is the word `new`, `put` or `get`, one space and the numbers of the command c;
 --                              or the one word of the command c alone
---     IsHexText digits bytes   the digits, letters in either case, are the two of each byte in turn, as `hex` answers them
---     IsCheckText line bytes   the line is the word `check`, one space and such digits of these bytes, of which there may be none
+--     IsHexText digits bytes   the digits, letters in either case, are the two of each byte in turn, as `hex` has them
+--     IsCheckText line bytes   the line is the word `check`, one space and such digits of the bytes, of which there may
+--                              be none
 -- A space is the byte 32. Digits may begin with zeros; a sign is no digit.
 use Rattle.std.specs.Prelude.{◌≡◌, ℕ, ◌^◌, ◌<◌, List, ◌∷◌, ◌++◌, codes}
 use Rattle.std.specs.Str.Parse.{IsNumeral, digits_value}

@@ -1,6 +1,6 @@
--- The texts of a fault, of a refusal and of a line's answer.
+-- The texts of a fault and of the errors of `new`.
 --
--- `fault_text` is what standard error shows where a run stops early.
+-- `fault_text` is what is written to standard error where a run stops early.
 -- `refusal_text` is the answer to a line `new` that makes no table.
 use Rattle.std.specs.Prelude.{ℕ, List, codes}
 use Rattle.odht_table.specs.declared.script.Fault.{Fault}
@@ -8,13 +8,13 @@ use Rattle.odht_table.specs.declared.script.Fault.TheVariants.{Read, Write, Memo
 use Rattle.odht_table.specs.declared.script.Refusal.{Refusal}
 use Rattle.odht_table.specs.declared.script.Refusal.TheVariants.{BadPercent, Capacity, Memory}
 
--- what standard error shows of a fault
+-- what is written to standard error for a fault
 abbrev pub fault_text : Fault → List ℕ
 fault_text Read = codes "read failed"
 fault_text Write = codes "write failed"
 fault_text no_memory = codes "memory"
 
--- the answer to a `new` that is refused
+-- the answer to a `new` that fails
 abbrev pub refusal_text : Refusal → List ℕ
 refusal_text BadPercent = codes "bad percent"
 refusal_text Capacity = codes "capacity"

@@ -1,10 +1,10 @@
--- How a script is answered: its lines in their order, each answer behind the one before.
+-- How a script is answered: its lines in their order, each answer after the one before.
 --     ends_line b           the byte b is 10, the end of a line
---     script_lines script   the lines: what stands before each end, and what follows the last of these, unless it is empty
+--     script_lines script   the lines: what is before each end, and what follows the last end, unless it is empty
 --     IsHeld F o            where there is a table, its bytes o are those of a valid one
---     IsOtherAnswered F l t     t answers the line l, which is no command: as `check` of its bytes, or as malformed
---     IsLineAnswered c l o t o'   t answers the line l, its end included; o are the bytes of the table before it, none where
---                           there is no table, and o' those after it
+--     IsOtherAnswered F l t     t answers the line l, which is no command: as `check` of its bytes, or with `malformed`
+--     IsLineAnswered c l o t o'   t answers the line l, its end included; o are the bytes of the table before it, None
+--                           where there is no table, and o' those after it
 --     AreAnswered c ls o t o'   t answers the lines ls one after the other
 --     IsAnsweredBy c script t   t answers the script, which begins without a table
 use Rattle.std.specs.Prelude.{ℕ, ◌==◌, Bool, if◌then◌else◌, List, [], ◌∷◌, ◌++◌, length, Option, Some, None, IfSome, codes}
@@ -22,7 +22,7 @@ use Rattle.odht_table.specs.declared.script.command.Request.{Request}
 abbrev pub ends_line : ℕ → Bool
 ends_line b = b == 10
 
--- without its last part, where that is empty
+-- the list without its last part, where that is empty
 abbrev pub without_empty_last : List (List ℕ) → List (List ℕ)
 without_empty_last [] = []
 without_empty_last (part ∷ []) = if length part == 0 then [] else part ∷ []

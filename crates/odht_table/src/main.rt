@@ -23,14 +23,14 @@ fn main(rt: HostRuntime) -> ExitCode {
     match run_buffered(rt.alloc(), &mut rt.stdin(), rt.stdout()) {
         Ok(_) => ExitCode::SUCCESS,
         Err(fault) => {
-            // Where standard error takes nothing either, the status says it alone.
+            // Where writing to standard error fails too, the status alone reports the fault.
             let _ = eprintln!(rt; "{fault}");
             ExitCode::FAILURE
         }
     }
 }
 
-// Answers come in small pieces: a buffer joins them. It gives the writer back when it is empty.
+// Answers come in small pieces: a buffer joins them. The writer is returned once the buffer is empty.
 fn run_buffered<R: Read, W: Write + Drop>(
     alloc: Global,
     input: &mut R,

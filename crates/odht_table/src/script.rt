@@ -1,4 +1,4 @@
-//! Runs a script: a list of lines, each of which makes, changes or shows a table.
+//! Runs a script: a list of lines, each of which makes, changes or prints a table, or checks bytes.
 ghost use Rattle.std.specs.Prelude.{◌≡◌, ◌≢◌, ◌↔◌, ◌⊎◌, ◌<◌, ◌≤◌, false, IfOk, OnOk, IfSome, IsErrOf, Some, ℕ, List, ◌∷◌, length, position, codes};
 ghost use Rattle.std.specs.Io.KnownBytes.{IsAtEnd, Appends};
 ghost use Rattle.std.specs.Fmt.{digit_glyph};
@@ -33,7 +33,7 @@ pub enum Fault {
     Read,
     /// An answer could not be written.
     Write,
-    /// There was no memory for the script.
+    /// There was not enough memory for the script.
     Memory,
 }
 
@@ -65,10 +65,11 @@ impl std::error::Error for Fault {}
 /// | `walk` | a line `K V` for each pair, in slot order, and then the line `end` |
 /// | `hex` | the bytes of the table in hexadecimal digits |
 /// | `dump` | the numbers of the header on a line, then each slot on a line |
-/// | `check HEX` | `valid` where these hexadecimal digits are those of a valid table, or the refusal; or `memory` |
+/// | `check HEX` | `valid` where these hexadecimal digits are those of a valid table, or the error; or `memory` |
 ///
-/// Any other line is `malformed`. Before the first table each line but `new` and `check` is answered with `no table`. A
-/// `new` or a `put` that is refused leaves the table as it was, and so does each `check`, whose digits may be none.
+/// Any other line is answered with `malformed`. Before the first table a request, a line other than `new` and `check`,
+/// is answered with `no table`. A `new` or a `put` that fails leaves the table as it was, and so does each `check`,
+/// which may have no digits. docs/SCRIPT.md has the whole language.
 pub fn run<R: Read, W: Write>(alloc: Global, input: &mut R, output: &mut W) -> Result<(), Fault>
     ensures answers { OnOk result (IfSome (R.remaining input.old) (λ script. (text : List ℕ) × IsAnsweredBy ⟦<U64ToU32 as Coded>⟧.coding script text × Appends (W.contents output.old) (W.contents output.new) text)) }
     ensures end { OnOk result (IsAtEnd (R.remaining input.new)) }
@@ -163,7 +164,7 @@ fn serve<W: Write>(table: &mut Table, request: Request, output: &mut W) -> io::R
     }
 }
 
-/// Why no fresh table was made.
+/// Why a `new` made no table.
 #[derive(Clone, Copy, Debug, PartialEq, Eq)]
 enum Refusal {
     BadPercent,
@@ -194,7 +195,7 @@ struct Fresh {
     max_item_count: usize,
 }
 
-// Puts a fresh table in the place of the former one, which stays where the fresh one is refused.
+// Replaces the table by a fresh one. On an error the former table stays.
 fn renew<W: Write>(
     alloc: Global,
     table: &mut Option<Table>,
@@ -242,7 +243,7 @@ fn make_fresh(alloc: Global, max_item_count: usize, percent: u64) -> Result<Fres
     })
 }
 
-// Answers what stood at the key. The table is as it was where the memory for its growth was refused.
+// Answers with the key's former value. When memory for a growth is exhausted the table stays as it was.
 fn put<W: Write>(table: &mut Table, key: u64, value: u32, output: &mut W) -> io::Result<()>
     ensures { (P : Plain)
         → IsImage ⟦<U64ToU32 as Coded>⟧.coding.format P table.old
@@ -264,7 +265,7 @@ fn write_value<W: Write>(value: Option<u32>, output: &mut W) -> io::Result<()>
     }
 }
 
-// Each pair on a line, and then the end.
+// Each pair on a line, and then the line `end`.
 fn write_walk<W: Write>(walk: Iter<'_, U64ToU32>, output: &mut W) -> io::Result<()>
     ensures { OnOk result (Appends (W.contents output.old) (W.contents output.new) (walk_text walk.entry)) }
 {

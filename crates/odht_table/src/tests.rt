@@ -14,7 +14,7 @@ fn answers(alloc: Global, script: &[u8]) -> Result<Vec<u8>, Fault> {
     Ok(output)
 }
 
-// Demands these answers to this script.
+// Asserts these answers to this script.
 fn check_answers(
     rt: &impl Abort,
     alloc: Global,
@@ -161,7 +161,7 @@ fn long_lines(rt: HostRuntime) -> Result<(), Fail> {
     )
 }
 
-// Demands 512 lower hexadecimal digits.
+// Asserts 512 lower hexadecimal digits.
 fn check_digits(rt: &impl Abort, digits: &str) {
     assert_eq!(rt; digits.len(), 512);
     for byte in digits.bytes() {
@@ -222,7 +222,7 @@ slot 15: key=[3, 0, 0, 0, 0, 0, 0, 0], value=[4, 0, 0, 0], control_byte=58
     )
 }
 
-// At six percent sixteen slots take no item, and 32 take one. The key that is there is overwritten in these.
+// At six percent sixteen slots take no item, and 32 take one. The present key is overwritten in these.
 #[test]
 fn dump_after_an_overwrite_at_the_maximum(rt: HostRuntime) -> Result<(), Fail> {
     let expected = "slots 16 max 0
@@ -272,8 +272,8 @@ slot 31: empty
     check_answers(&rt, rt.alloc(), script, expected)
 }
 
-// With one refusal of memory at most, whichever it is: the line is answered `memory`, the table is as it was, and the
-// script goes on.
+// With at most one failing request for memory, whichever it is: the line is answered `memory`, the table is as it was,
+// and the script goes on.
 #[test]
 fn a_line_that_memory_is_refused_for(rt: HostRuntime) -> Result<(), Fail> {
     let mut buffer = [0; 200];
@@ -401,7 +401,7 @@ fn writers(rt: HostRuntime) {
     }
 }
 
-// The same with a buffer before the writer, which is given back where all was written.
+// The same with a buffer before the writer, which is returned where all was written.
 #[test]
 fn buffered_writers(rt: HostRuntime) {
     let script = b"new 3 95\nput 1 2\n";
@@ -423,7 +423,7 @@ fn buffered_writers(rt: HostRuntime) {
     }
 }
 
-// A place with room for so many bytes holds the first of the answers, each once, and nothing else.
+// A writer with room for so many bytes holds the first bytes of the answers, each once, and nothing else.
 #[test]
 fn places(rt: HostRuntime) {
     let script = b"new 3 95\nput 1 2\n";

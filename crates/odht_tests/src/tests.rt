@@ -1,5 +1,5 @@
-//! What neither a contract nor a vector says: the tests that the Rust crate has, lists beside a map of std, tables without a
-//! free slot, and want of memory. Views and checks of changed tables are seen as run too.
+//! What neither a contract nor a vector says: the tests that the Rust crate has, lists against a map of std, tables
+//! without a free slot, and exhausted memory. Views and checks of changed tables are also run.
 mod builds;
 mod carried_items;
 mod changed_tables;

@@ -1,2 +1,2 @@
--- What the contracts of the program say: texts of keys, of values and of answers.
+-- Definitions for the contracts of the program: texts of keys, of values and of answers.
 pub mod Texts

@@ -6,9 +6,9 @@
 --     WritesBytes word bytes  the digits, letters in either case, are the two of each byte in turn
 --     pair_line f g x         a line of a key and its value, with the texts f and g, and a tab between them
 --     pairs_text f g xs       the line of each pair in turn
---     answer_line f g x       the same of a value that may be absent: then the key stands alone
+--     answer_line f g x       the same of a value that may be absent: then the key alone
 --     answers_text f g ks os  the line of each key and its value in turn
---     checked_text r          `valid`, or the text of a refusal, on a line
+--     checked_text r          `valid`, or the text of an error, on a line
 -- A tab is the byte 9, the end of a line the byte 10. A sign is no digit; digits may begin with zeros.
 use Rattle.std.specs.Prelude.{Result, Ok, Err, codes, ◌≡◌, ℕ, ◌*◌, ◌/◌, ◌%◌, ◌<◌, false, List, [], ◌∷◌, ◌++◌, Option, Some, None, length}
 use Rattle.std.specs.Char.{is_ascii_hexdigit}

@@ -1,4 +1,4 @@
-//! The lines that tell pairs and answers.
+//! The lines in which pairs and answers are printed.
 ghost use Rattle.std.specs.Prelude.{◌≡◌, ◌↔◌, IfOk, OnOk, IsTrue, is_some, length};
 ghost use Rattle.std.specs.Io.KnownBytes.{Appends};
 ghost use Rattle.std.specs.List.{AllPass};
@@ -8,7 +8,7 @@ use crate::text::Text;
 use std::alloc::{AllocError, Global};
 use std::io::{self, Write};
 
-/// A key, a tab and a value, on a line.
+/// Writes a line of a key, a tab and a value.
 pub fn write_pair<K: Text, V: Text, O: Write>(key: &K, value: &V, output: &mut O) -> io::Result<()>
     ensures { OnOk result (Appends (O.contents output.old) (O.contents output.new) (pair_line K.text V.text (key.now, value.now))) }
 {
@@ -18,7 +18,7 @@ pub fn write_pair<K: Text, V: Text, O: Write>(key: &K, value: &V, output: &mut O
     output.write_all(b"\n")
 }
 
-/// A line for each key and its value, or for the key alone.
+/// Writes a line for each key: with its value, or the key alone where it has none.
 pub fn write_answers<K: Text, V: Text, O: Write>(
     keys: &[K],
     values: &[Option<V>],
@@ -33,7 +33,7 @@ pub fn write_answers<K: Text, V: Text, O: Write>(
     Ok(())
 }
 
-/// As many values as are asked for, all absent.
+/// So many values, all absent.
 pub fn absent_values<V: Text>(alloc: Global, count: usize) -> Result<Vec<Option<V>>, AllocError>
     ensures { IfOk result (λ values. length values.items ≡ count) }
 {
@@ -51,7 +51,7 @@ pub fn are_found<V>(values: &[Option<V>]) -> bool
     values.iter().all(|value| value.is_some())
 }
 
-// The line of a key and its value, or of the key alone.
+// Writes the line of a key with its value, or of the key alone.
 fn write_answer<K: Text, V: Text, O: Write>(
     key: &K,
     value: &Option<V>,

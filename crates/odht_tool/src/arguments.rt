@@ -1,10 +1,10 @@
-//! The words that the program is called with.
+//! The arguments that the program is called with.
 use crate::shapes::{Hash, Part};
 use crate::text::parse_number;
 use std::alloc::Global;
 use std::fmt;
 
-/// What a run is asked for, or told about.
+/// The commands of the program.
 #[derive(Clone, Copy, Debug, PartialEq, Eq)]
 pub enum Topic {
     Info,
@@ -41,7 +41,7 @@ impl Topic {
         }
     }
 
-    // Whether the command is called with so many words behind it.
+    // Whether the command can be called with so many words after it.
     fn takes_words(self, count: usize) -> bool {
         if self == Topic::Get {
             count >= 2
@@ -113,7 +113,7 @@ impl fmt::Display for Choice {
     }
 }
 
-/// The options of a command. What was not given is none.
+/// The options of a command. An option that was not given is `None` or false.
 #[derive(Clone, Copy, Debug, PartialEq, Eq)]
 pub struct Options {
     pub hash: Option<Hash>,
@@ -140,7 +140,7 @@ impl Options {
         }
     }
 
-    // Notes an option without a value.
+    // Sets an option without a value.
     fn note(&mut self, choice: Choice) {
         match choice {
             Choice::Help => self.is_help = true,
@@ -150,7 +150,7 @@ impl Options {
         }
     }
 
-    // Notes an option with its value. False where it is none of its values.
+    // Sets an option with its value. False where the option has no such value.
     fn note_value(&mut self, choice: Choice, value: &str) -> bool {
         match choice {
             Choice::Hash => {
@@ -188,7 +188,7 @@ fn parse_percent(text: &str) -> Option<u8> {
     }
 }
 
-/// A call that is understood: the command, its options, and its other words, of which the first is a file.
+/// A parsed call: the command, its options, and its other words, of which the first is a file.
 #[derive(Debug, Drop)]
 pub struct Call {
     pub topic: Topic,
@@ -196,16 +196,16 @@ pub struct Call {
     pub words: Vec<String>,
 }
 
-/// Words that are understood.
+/// What the words ask for.
 #[derive(Debug, Drop)]
 pub enum Request {
-    /// The text about a command, or about all.
+    /// The help text of a command, or of all.
     Help(Option<Topic>),
-    /// A command.
+    /// A command to run.
     Call(Call),
 }
 
-/// Why words are not understood.
+/// Why the words cannot be parsed.
 #[derive(Debug, Drop)]
 pub enum Misuse {
     /// There is no word.
@@ -220,9 +220,9 @@ pub enum Misuse {
     WrongValue(Topic, Choice, String),
     /// There are too few or too many words.
     WrongCount(Topic),
-    /// A table is to be built, and not told of what shape.
+    /// A table is to be built, and its shape is not given.
     NoParts,
-    /// A request for memory was refused.
+    /// An allocation failed.
     Memory,
 }
 
@@ -258,7 +258,7 @@ impl fmt::Display for Misuse {
 
 impl std::error::Error for Misuse {}
 
-/// Reads the words behind the program's name.
+/// Parses the words after the program's name.
 pub fn parse(alloc: Global, words: Vec<String>) -> Result<Request, Misuse> {
     let mut words = words.into_iter();
     let Some(first) = words.next() else {
@@ -285,8 +285,8 @@ pub fn parse(alloc: Global, words: Vec<String>) -> Result<Request, Misuse> {
     }
 }
 
-// Reads the next word of a call. An option that waits for its value takes the word; the answer is the option that waits
-// for the next.
+// Parses the next word of a call. An option that waits for its value takes the word; returns the option that waits for
+// the next word.
 fn read_word(
     call: &mut Call,
     waiting: Option<Choice>,
@@ -318,7 +318,7 @@ fn read_word(
     }
 }
 
-// Looks at whether the words of a call are all there.
+// Checks that no word of a call is missing.
 fn finish(call: Call) -> Result<Request, Misuse> {
     let topic = call.topic;
     if call.options.is_help {

@@ -1,4 +1,4 @@
-//! The commands, each from its words to its status.
+//! Runs the commands, each from its parsed words to its exit status.
 use crate::arguments::{Call, Misuse, Options, Request, Topic, parse};
 use crate::failure::Failure;
 use crate::help::help_text;
@@ -12,17 +12,17 @@ mod dump;
 mod get;
 mod info;
 
-/// The status of what was done.
+/// The exit status of success.
 pub const DONE: u8 = 0;
 
-/// The status of what was refused, failed, or found a key absent.
+/// The exit status where a table was rejected, the command failed, or a key is absent.
 pub const NOT_DONE: u8 = 1;
 
-/// The status of words that are not understood.
+/// The exit status where the words cannot be parsed.
 pub const MISUSED: u8 = 2;
 
-/// Does what the words ask for, and answers the status. Each failure is told by a line on `errors`; where that takes
-/// nothing either, the status says it alone. Where nobody reads `output` any more, nothing is told.
+/// Does what the words ask for, and returns the exit status. Each failure is reported by a line on `errors`; where that
+/// cannot be written either, the status alone reports it. Where nobody reads `output` any more, nothing is reported.
 pub fn run<R: Files + AllocGlobal + Clock, I: BufRead, O: Write, E: Write>(
     rt: &R,
     words: Vec<String>,
@@ -95,7 +95,7 @@ fn run_topic<R: Files + AllocGlobal + Clock, I: BufRead, O: Write, E: Write>(
     }
 }
 
-// Tells a failure, behind the file's name, and answers the status.
+// Reports a failure, after the file's name, and returns the exit status.
 fn finish<E: Write>(file: &str, done: Result<u8, Failure>, errors: &mut E) -> u8 {
     match done {
         Ok(status) => status,

@@ -3,24 +3,24 @@ use odht::error::Error;
 use std::alloc::AllocError;
 use std::{fmt, io};
 
-/// Why a command stopped, as it is told behind the name of its file.
+/// Why a command stopped, as it is printed after the name of its file.
 #[derive(Debug, Drop)]
 pub enum Failure {
     /// The file could not be read.
     Read(io::Error),
-    /// The file beside it could not be written, or not be given its name.
+    /// The new file could not be written, or not be renamed.
     Write(io::Error),
-    /// The bytes are no table, or none of this shape.
+    /// The bytes are no table, or not one of this shape.
     Refused(Error),
     /// No ready shape has keys and values of so many bytes under the hash that was named.
     NoShape { key_size: u8, value_size: u8 },
     /// Standard input could not be read.
     Input(io::Error),
-    /// A line of standard input is not understood.
+    /// A line of standard input cannot be parsed.
     Line { number: u64, fault: LineFault },
-    /// Standard output took no more.
+    /// Standard output could not be written.
     Output(io::Error),
-    /// A request for memory was refused.
+    /// An allocation failed.
     Memory,
     /// A word is no key of the table's shape.
     Key(String),
@@ -33,7 +33,7 @@ pub enum LineFault {
     NoTab,
     /// The text before the tab is no key of the shape.
     Key,
-    /// The text behind the tab is no value of the shape.
+    /// The text after the tab is no value of the shape.
     Value,
 }
 
@@ -80,7 +80,7 @@ impl From<AllocError> for Failure {
 }
 
 impl Failure {
-    /// What a refusal of a table is told as: one of memory stands for itself.
+    /// The failure for an error of a table: [`Error::Memory`] is [`Failure::Memory`].
     pub fn of_table(error: Error) -> Failure {
         match error {
             Error::Memory => Failure::Memory,

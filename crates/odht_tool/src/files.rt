@@ -1,11 +1,11 @@
-//! Whole files: read at once, and written beside the old one, which is then replaced.
+//! Whole files: read at once, and written as a new file, which then replaces the old one.
 use crate::failure::Failure;
 use std::alloc::Global;
 use std::fs::{self, File, OpenFile};
 use std::io::{self, Read, Write};
 use std::rt::Files;
 
-/// All bytes of a file. The memory is asked for once, by the length that the file has at first.
+/// All bytes of a file. The memory is allocated once, for the length that the file has at first.
 pub fn read_file<R: Files + AllocGlobal>(rt: &R, path: &str) -> Result<Vec<u8>, Failure> {
     match read_bytes(rt, path) {
         Ok(bytes) => Ok(bytes),
@@ -29,10 +29,10 @@ fn read_bytes<R: Files + AllocGlobal>(rt: &R, path: &str) -> io::Result<Vec<u8>>
     Ok(bytes)
 }
 
-/// Writes a file beside the named one, and gives it that name once all of it is stored. On a failure the file of that name
-/// is as it was, and the one beside it, whose name is the first with `.new` behind it, is removed.
+/// Writes a new file, whose name is the given one with `.new` after it, and renames it to the given name once all of it
+/// is stored. On a failure the file of the given name is unchanged, and the new one is removed.
 ///
-/// Where there is a file of that other name already, nothing is written: another run may be at work on it.
+/// Where a file of the new name exists already, nothing is written: another run may be writing it.
 pub fn replace_file<R: Files + AllocGlobal>(
     rt: &R,
     path: &str,
@@ -50,7 +50,7 @@ pub fn replace_file<R: Files + AllocGlobal>(
     match store(rt, file, bytes, beside.as_str(), path) {
         Ok(()) => Ok(()),
         Err(error) => {
-            // What cannot be removed either stays, and is told by the next run.
+            // A new file that cannot be removed remains, and the next run reports it.
             let _ = fs::remove_file(rt, beside.as_str());
             Err(Failure::Write(error))
         }

@@ -1,7 +1,7 @@
 //! The texts of `--help`.
 use crate::arguments::Topic;
 
-/// The text about a command, or about all.
+/// The help text of a command, or of all.
 pub fn help_text(topic: Option<Topic>) -> &'static str {
     match topic {
         None => GENERAL,

@@ -1,23 +1,23 @@
-//! How many items each number of groups finds.
+//! How many items are found by reading one group, two groups, and so on.
 use std::alloc::{AllocError, Global};
 use std::io::{self, Write};
 
-/// How many numbers of groups have a count of their own. What is above is counted together.
+/// How many numbers of groups have a count of their own. All larger numbers are counted together.
 const MOST: usize = 64;
 
-/// How many hyphens the longest line has.
+/// How many `#` the longest bar has.
 const WIDTH: u128 = 40;
 
-/// For each number of groups from 1 on, how many items are found by looking at so many.
+/// For each number of groups from 1 on, how many items are found by reading so many.
 #[derive(Drop)]
 pub struct Histogram {
     counts: Vec<usize>,
-    /// The largest number of groups.
+    /// The largest number of groups that was counted.
     pub longest: usize,
 }
 
 impl Histogram {
-    /// A histogram of no items.
+    /// A histogram without items.
     pub fn new(alloc: Global) -> Result<Self, AllocError> {
         Ok(Histogram {
             counts: vec![in alloc; 0; MOST]?,
@@ -25,7 +25,7 @@ impl Histogram {
         })
     }
 
-    /// Counts an item that is found by looking at so many groups, which are at least one.
+    /// Counts an item that is found by reading so many groups, at least one.
     pub fn add(&mut self, groups: usize) {
         self.longest = self.longest.max(groups);
         let index = groups.saturating_sub(1).min(MOST - 1);
@@ -34,7 +34,7 @@ impl Histogram {
         }
     }
 
-    /// A line for each number of groups up to the longest: the number, the count, and a bar.
+    /// Writes a line for each number of groups up to the largest: the number, the count, and a bar.
     pub fn write<W: Write>(&self, output: &mut W) -> io::Result<()> {
         let most = self.counts.iter().copied().max().unwrap_or(0);
         let lines = self.longest.min(MOST);
@@ -53,7 +53,7 @@ impl Histogram {
     }
 }
 
-// As many signs as the count is of the most, of forty; and one at least, where anything is counted.
+// Writes a bar. Its length over that of the longest is the count over the largest; at least 1 where the count is not 0.
 fn write_bar<W: Write>(count: usize, most: usize, output: &mut W) -> io::Result<()> {
     if count == 0 || most == 0 {
         return Ok(());
@@ -65,10 +65,10 @@ fn write_bar<W: Write>(count: usize, most: usize, output: &mut W) -> io::Result<
     Ok(())
 }
 
-/// The number of the group of a key's probe order in which a slot stands, from 1 on: as many groups as a search for the
-/// key in the slot looks at. The slot count is a power of two from 16 on.
+/// The number of the group of a key's probe order that contains a slot, from 1 on: as many groups as a search for the
+/// key in that slot reads. The slot count is a power of two, at least 16.
 ///
-/// It goes through the groups of the probe order up to that.
+/// It goes over the groups of the probe order up to that one.
 pub fn groups_to(hash: u32, slot: usize, slot_count: usize) -> usize {
     let last = slot_count.wrapping_sub(1);
     let mut start = hash as usize & last;

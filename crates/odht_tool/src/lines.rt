@@ -1,8 +1,8 @@
 //! The lines of standard input.
 use std::io::{self, BufRead};
 
-/// Reads the next line into `line` in place of what it held, without its end, `\n` or `\r\n`. False at the end of the
-/// input. After an error the line is not to be used.
+/// Reads the next line into `line`, without its end, `\n` or `\r\n`, and replaces what `line` held. False at the end of
+/// the input. After an error do not use the line.
 pub fn read_line<R: BufRead>(reader: &mut R, line: &mut Vec<u8>) -> io::Result<bool> {
     line.clear();
     let count = reader.read_until(b'\n', line)?;
@@ -18,7 +18,7 @@ pub fn read_line<R: BufRead>(reader: &mut R, line: &mut Vec<u8>) -> io::Result<b
     Ok(true)
 }
 
-/// The text before the first tab of a line, and that behind it. None where there is no tab.
+/// The text before the first tab of a line, and the text after it. None where there is no tab.
 pub fn split_at_tab(line: &[u8]) -> Option<(&[u8], &[u8])> {
     let at = line.iter().position(|byte| *byte == b'\t')?;
     Some((&line[..at], &line[at + 1..]))

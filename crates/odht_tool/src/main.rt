@@ -1,6 +1,6 @@
-//! `odht`: tells what table files hold, checks them, makes them and adds to them.
+//! `odht`: prints what table files hold, checks them, makes them and adds to them.
 //!
-//! docs/TOOL.md shows each command.
+//! docs/TOOL.md describes each command.
 #![tactic(auto)]
 
 mod answers;
@@ -30,14 +30,14 @@ fn main(rt: HostRuntime) -> ExitCode {
     match run(&rt) {
         Ok(status) => ExitCode::from(status),
         Err(error) => {
-            // Where standard error takes nothing either, the status says it alone.
+            // Where standard error cannot be written either, the exit status alone reports it.
             let _ = eprintln!(rt; "odht: {error}");
             ExitCode::FAILURE
         }
     }
 }
 
-// Runs the command that the arguments name, and answers its status. An error is one of the arguments or of memory.
+// Runs the command that the arguments name, and returns its exit status. An error is one of the arguments or of memory.
 fn run(rt: &HostRuntime) -> io::Result<u8> {
     let alloc: Global = rt.alloc();
     let words: Vec<String> = env::args(rt)?.skip(1).collect(alloc)?;

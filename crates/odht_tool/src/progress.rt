@@ -1,4 +1,4 @@
-//! The line that tells how far a long run has come.
+//! The line that reports the progress of a long run.
 use std::io::{self, Write};
 use std::rt::Clock;
 use std::time::{Duration, Instant};
@@ -10,7 +10,7 @@ pub struct Progress {
 }
 
 impl Progress {
-    /// Lines each second from now on, where they are asked for. Without a clock there are none.
+    /// A line each second from now on, where they are requested. Without a clock there are none.
     pub fn new<R: Clock>(rt: &R, is_asked: bool) -> Progress {
         let since = if is_asked {
             Instant::now(rt).ok()

@@ -24,7 +24,7 @@ impl Hash {
     }
 }
 
-/// What a key or a value is.
+/// The type of a key or of a value.
 #[derive(Clone, Copy, Debug, PartialEq, Eq)]
 pub enum Part {
     /// Nothing, in a table that is a set.
@@ -38,7 +38,7 @@ pub enum Part {
 }
 
 impl Part {
-    /// The part of this name: `u32`, `u64`, `none`, or `hex` and a number of bytes from 1 to 255.
+    /// The type of this name: `u32`, `u64`, `none`, or `hex` and a number of bytes from 1 to 255.
     pub fn named(name: &str) -> Option<Part> {
         match name {
             "none" => Some(Part::Nothing),
@@ -55,7 +55,7 @@ impl Part {
         }
     }
 
-    /// How many bytes it takes in a table.
+    /// How many bytes it has in a table.
     pub fn size(self) -> u8 {
         match self {
             Part::Nothing => 0,
@@ -65,7 +65,7 @@ impl Part {
         }
     }
 
-    // Whether a ready shape of this size is of this kind: 4 and 8 bytes are numbers there.
+    // Whether a ready shape has this type for this size: there 4 and 8 bytes are numbers.
     fn is_ready(self) -> bool {
         match self {
             Part::Bytes(size) => size != 4 && size != 8,
@@ -90,8 +90,8 @@ pub enum Shape {
 }
 
 impl Shape {
-    /// The ready shape of keys and values of so many bytes. Where both hash functions are possible and none is named, it
-    /// is `fx`.
+    /// The ready shape of keys and values of so many bytes. Where both hash functions are possible and none is given,
+    /// it is the one of `fx`.
     pub fn of_sizes(key_size: u8, value_size: u8, hash: Option<Hash>) -> Option<Shape> {
         let shape = match (key_size, value_size) {
             (4, 4) if hash == Some(Hash::Unhash) => Shape::DirectU32ToU32,
@@ -112,7 +112,7 @@ impl Shape {
         }
     }
 
-    /// The ready shape of this key and this value.
+    /// The ready shape of these types of keys and values.
     pub fn of_parts(key: Part, value: Part, hash: Option<Hash>) -> Option<Shape> {
         if key.is_ready() && value.is_ready() {
             Shape::of_sizes(key.size(), value.size(), hash)

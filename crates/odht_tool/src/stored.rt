@@ -8,7 +8,7 @@ use odht::hash::{FxHashFn, HashFn, UnHashFn};
 use odht::load::{Factor, max_item_count_for};
 use odht::memory_layout::{HEADER_SIZE, Header};
 
-/// The bytes of a table whose header and length fit the key and value sizes that the header states.
+/// The bytes of a table whose header and length fit the header's own key and value sizes.
 #[derive(Clone, Copy)]
 pub struct StoredTable<'a> {
     bytes: &'a [u8],
@@ -16,17 +16,17 @@ pub struct StoredTable<'a> {
     pub key_size: usize,
     /// How many bytes a value has.
     pub value_size: usize,
-    /// How many items the header states.
+    /// The header's item count.
     pub item_count: usize,
-    /// How many slots the header states.
+    /// The header's slot count.
     pub slot_count: usize,
-    /// The load factor that the header states.
+    /// The header's load factor.
     pub max_load_factor: Factor,
 }
 
 impl<'a> StoredTable<'a> {
-    /// Looks at the header and the length alone, and answers the first refusal as [`Header::sanity_check`] does for the
-    /// sizes that are stated.
+    /// Checks the header and the length alone, and returns the first error, as [`Header::sanity_check`] does for the
+    /// key and value sizes in the header.
     pub fn open(bytes: &'a [u8]) -> Result<Self, Error> {
         let found = bytes.len();
         if found < HEADER_SIZE {
@@ -69,7 +69,7 @@ impl<'a> StoredTable<'a> {
         Ok(())
     }
 
-    // Where the control bytes stand.
+    // The index of the first control byte.
     fn control_at(&self) -> u128 {
         let entry_size = (self.key_size as u128).saturating_add(self.value_size as u128);
         entry_size
@@ -82,12 +82,12 @@ impl<'a> StoredTable<'a> {
         self.bytes.len()
     }
 
-    /// The most items that its slots may hold.
+    /// How many items its slots take at most.
     pub fn max_item_count(&self) -> usize {
         max_item_count_for(self.slot_count, self.max_load_factor)
     }
 
-    // The control byte of a slot. One that is free, where there is no such slot.
+    // The control byte of a slot. That of a free slot, where there is no such slot.
     fn control_byte(&self, slot: usize) -> u8 {
         match usize::try_from(self.control_at()) {
             Ok(start) => match self.bytes.get(start.saturating_add(slot)) {
@@ -125,7 +125,7 @@ impl<'a> StoredTable<'a> {
         u8::try_from(self.hash_of(slot, hash)? >> 25).ok()
     }
 
-    /// How many occupied slots are found after so many groups, by this hash function.
+    /// Counts for each occupied slot how many groups a search reads to find its key, by this hash function.
     pub fn count_groups(&self, hash: Hash, histogram: &mut Histogram) {
         for slot in 0..self.slot_count {
             if self.control_byte(slot) < 128
@@ -137,7 +137,7 @@ impl<'a> StoredTable<'a> {
     }
 }
 
-// Whether the words and the fixed sizes of a header are those of the format.
+// Checks that the tag, the version and the fixed sizes of a header are those of the format.
 fn check_words(bytes: &[u8]) -> Result<(), Error>
     requires { 32 ≤ length bytes.now }
 {

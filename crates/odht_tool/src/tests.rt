@@ -1,4 +1,4 @@
-//! Runs of commands over the tables of data/, whose bytes and texts are those of a reading of docs/FORMAT.md in Python.
+//! Runs of commands over the tables of data/, whose bytes and texts were made in Python by docs/FORMAT.md.
 mod failures;
 mod files;
 mod tables;
@@ -11,7 +11,7 @@ use std::rt::{Clock, Files};
 use std::test::Fail;
 use tables::{CASES, Case};
 
-/// What a run wrote, and its status.
+/// What a run wrote, and its exit status.
 #[derive(Debug, Drop)]
 pub struct Outcome {
     pub status: u8,
@@ -19,7 +19,7 @@ pub struct Outcome {
     pub errors: String,
 }
 
-/// Runs these words, which stand with spaces between them.
+/// Runs the program with these words, which are separated by spaces.
 pub fn printed<R: Files + AllocGlobal + Clock + Abort>(
     rt: &R,
     words: &str,
@@ -40,7 +40,7 @@ pub fn printed<R: Files + AllocGlobal + Clock + Abort>(
     })
 }
 
-/// Demands that a run writes this, with status 0 and no failure.
+/// Asserts that a run writes this, with status 0 and no failure.
 pub fn check_printed<R: Files + AllocGlobal + Clock + Abort>(
     rt: &R,
     words: &str,
@@ -64,7 +64,7 @@ pub fn case_of(name: &str) -> Result<Case, Fail> {
     Err(Fail::new("no such table"))
 }
 
-/// Writes the bytes of these digits, two a byte, as a file.
+/// Writes a file with the bytes of these hexadecimal digits, two for each byte.
 pub fn write_hex<R: Files + AllocGlobal>(rt: &R, file: &str, digits: &str) -> Result<(), Fail> {
     let alloc: Global = rt.alloc();
     let mut bytes = Vec::new(alloc);
@@ -110,7 +110,7 @@ fn check_reading<R: Files + AllocGlobal + Clock + Abort>(rt: &R, case: Case) -> 
     check_lookups(rt, hash, case.dump)
 }
 
-// Looks up the keys of a dump, in its order, which gives the dump again.
+// Looks up the keys of a dump, in its order, which prints the dump again.
 fn check_lookups<R: Files + AllocGlobal + Clock + Abort>(
     rt: &R,
     hash: &str,

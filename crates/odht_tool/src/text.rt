@@ -17,7 +17,7 @@ pub trait Text: Copy {
 
     ghost stands_for: { List ℕ → Self → Type 0 };
 
-    /// What the word stands for. None where it is the text of no such value.
+    /// The value of which the word is the text. None where it is the text of no such value.
     fn parse(word: &[u8]) -> Option<Self>
         ensures value { IfSome result (stands_for word.now) }
         ensures some { IsSome result ↔ is_word word.now };
@@ -125,7 +125,7 @@ impl Text for [u8; 32] {
     }
 }
 
-/// The number that decimal digits write. A sign is no digit, and `parse` alone would take a plus.
+/// The number with these decimal digits. A sign is not a digit; `parse` alone would accept a plus.
 #[tactic(auto, using(crate::proofs::Words::numeral_utf8))]
 pub fn parse_number(word: &[u8]) -> Option<u64>
     ensures { SomeIff result (IsNumberWord (2 ^ 64) word.now) (digits_value 10 word.now) }
@@ -145,7 +145,7 @@ fn parse_text(text: &str) -> Option<u64>
     text.parse().ok()
 }
 
-// The bytes of which these are the digits, two a byte, letters in either case.
+// The bytes with these hexadecimal digits, two for each byte, letters in either case.
 fn parse_bytes<const N: usize>(word: &[u8]) -> Option<[u8; N]>
     ensures value { IfSome result (WritesBytes word.now) }
     ensures some { IsSome result ↔ IsHexWord N word.now }
@@ -160,14 +160,14 @@ fn parse_bytes<const N: usize>(word: &[u8]) -> Option<[u8; N]>
     Some(bytes)
 }
 
-// Whether each byte is a digit, of either case.
+// Whether each byte is a hexadecimal digit, of either case.
 fn are_digits(word: &[u8]) -> bool
     ensures { IsTrue result ↔ AllPass is_ascii_hexdigit word.now }
 {
     word.iter().all(|digit| digit.is_ascii_hexdigit())
 }
 
-// The number that a digit of either case writes.
+// The number of a hexadecimal digit of either case.
 fn digit_value(digit: u8) -> u8
     requires { IsTrue (is_ascii_hexdigit digit) }
     ensures small { result < 16 }

@@ -1,7 +1,7 @@
-//! Runs the cases of files of vectors, and tells how many held.
+//! Runs the cases of files of vectors, and prints how many held.
 //!
-//! vectors/README.md says what stands in such a file. Each case that does not hold, each line that is not understood and
-//! each section without a case is told, and the program then ends with status 1.
+//! vectors/README.md describes such a file. Each case that does not hold, each line that is not understood and each
+//! section without a case is printed, and the program then ends with status 1.
 #![tactic(auto)]
 
 mod vectors;
@@ -16,7 +16,7 @@ fn main(rt: HostRuntime) -> ExitCode {
         Ok(true) => ExitCode::SUCCESS,
         Ok(false) => ExitCode::FAILURE,
         Err(fault) => {
-            // Where standard error takes nothing either, the status says it alone.
+            // Where writing to standard error fails too, the status alone reports the fault.
             let _ = eprintln!(rt; "{fault}");
             ExitCode::FAILURE
         }

@@ -16,7 +16,7 @@ use words::{Words, number};
 pub enum Fault {
     /// A line was not understood.
     Unread,
-    /// There was no memory.
+    /// Memory was exhausted.
     Memory,
     /// A file could not be read.
     Input,
@@ -47,7 +47,7 @@ impl<T: Drop> From<AllocFailed<T>> for Fault {
     }
 }
 
-/// A run through files: where it stands, and how many cases held and did not.
+/// A run through files: where it is, and how many cases held and did not.
 #[derive(Drop)]
 pub struct Run {
     alloc: Global,
@@ -73,7 +73,7 @@ impl Run {
         }
     }
 
-    /// Runs the cases of a file. Its sections are told with how many held, and what does not hold, line by line.
+    /// Runs the cases of a file. Its sections are printed with how many held, and what does not hold, line by line.
     pub fn file(&mut self, text: &str, output: &mut impl Write) -> Result<(), Fault> {
         self.names.clear();
         self.title.clear();
@@ -87,7 +87,7 @@ impl Run {
         self.end_section(output)
     }
 
-    /// Tells how many cases held, and whether all did and there was one.
+    /// Prints how many cases held, and returns whether all did and there was one.
     pub fn end(self, output: &mut impl Write) -> Result<bool, Fault> {
         let Run { held, failed, .. } = self;
         written(writeln!(output, "{held} cases held, {failed} did not"))?;
@@ -167,7 +167,7 @@ impl Run {
         written(writeln!(output, "{line}\n    {found}"))
     }
 
-    // Tells of the section that ends, of which one case has to hold.
+    // Reports the section that ends, of which one case at least has to hold.
     fn end_section(&mut self, output: &mut impl Write) -> Result<(), Fault> {
         if self.title.is_empty() {
             return Ok(());
@@ -184,7 +184,7 @@ impl Run {
     }
 }
 
-// The first number of a range, the one behind its last, and the line behind these words. No range is empty.
+// The first number of a range, the one after its last, and the line after these words. No range is empty.
 fn range_and_line(words: &str) -> Option<(usize, usize, &str)> {
     let (first, rest) = words.split_once(' ')?;
     let (last, line) = rest.split_once(' ')?;

@@ -18,7 +18,7 @@ impl Random {
     }
 }
 
-/// Keys and values that chance makes.
+/// Random keys and values.
 pub trait Chance {
     fn by_chance(random: &mut Random) -> Self;
 }

@@ -52,7 +52,7 @@ a_new_key = record {
     go true = refl
     go false = refl
 
--- a key that is there
+-- a present key
 pub an_old_key : IsInserted number_coding (insert_owned my_config) (one_pair 2) 1 3 (Some 2) (bytes_of (one_pair 3))
 unfolding opened
 an_old_key = record {
@@ -83,7 +83,7 @@ pub not_inserted : IsInserted number_coding (insert_owned my_config) no_pairs 1 
 unfolding opened
 not_inserted h = unequal_lists _ _ refl (h.image.bytes ∙ ap bytes_of (sym (some_same (one_pair 2) h.table h.inserted)))
 
--- an insert that is refused
+-- an insert that fails
 pub refused : IsInserted number_coding (λ P p. None) no_pairs 1 2 None (bytes_of (one_pair 2)) → ⊥
 refused h = none-some h.table h.inserted
 

@@ -39,12 +39,12 @@ pub without_second : HasNoKey items 3 → ⊥
 without_second h = h 1 (0, 0) (lit< tt) refl
 
 -- ---- last items
--- an item of the same key stands before
+-- an item of the same key comes before
 pub a_last_item : IsLastItem in_turn 1 5
 a_last_item = record {
   before = (1, 2) ∷ (3, 4) ∷ [];
   after = (3, 6) ∷ [];
-  stands = refl;
+  items_are = refl;
   latest = All-cons (Lacks 1) (3, 6) [] (λ e. omega (arith, e)) (All-nil (Lacks 1));
 }
 
@@ -58,9 +58,9 @@ one_of_two x y k v [] after e = inl (cc, cc, cc)
 one_of_two x y k v (a ∷ []) after e = inr (cc, cc)
 one_of_two x y k v (a ∷ b ∷ before) after e = absurd (omega (arith, ap length e, length-append before ((k, v) ∷ after)))
 
--- a value that the key has not
+-- a value that the key does not have
 pub other_value : IsLastItem items 1 4 → ⊥
-other_value h = go h.after (one_of_two _ _ _ _ h.before h.after h.stands)
+other_value h = go h.after (one_of_two _ _ _ _ h.before h.after h.items_are)
   where
     go : (after : List (ℕ × ℕ)) → IsOneOfTwo (1, 2) (3, 4) 1 4 after → ⊥
     go after (inl k) = omega (arith, k.1)
@@ -68,7 +68,7 @@ other_value h = go h.after (one_of_two _ _ _ _ h.before h.after h.stands)
 
 -- a value that is not its last
 pub earlier_value : IsLastItem twice 1 2 → ⊥
-earlier_value h = go h.after h.latest (one_of_two _ _ _ _ h.before h.after h.stands)
+earlier_value h = go h.after h.latest (one_of_two _ _ _ _ h.before h.after h.items_are)
   where
     go : (after : List (ℕ × ℕ)) → HasNoKey after 1 → IsOneOfTwo (1, 2) (1, 5) 1 2 after → ⊥
     go after latest (inl k) = subst (λ l. HasNoKey l 1) k.2 latest 0 (0, 0) (lit< tt) refl
@@ -79,7 +79,7 @@ earlier_value h = go h.after h.latest (one_of_two _ _ _ _ h.before h.after h.sta
 pub last_values : IsLastValue in_turn 1 (Some 5) × IsLastValue items 2 None
 last_values = (a_last_item, without_key)
 
--- a value of another key, one that is not the last, and none for a key that is there
+-- a value of another key, one that is not the last, and none for a present key
 pub no_last_values : (IsLastValue items 1 (Some 4) → ⊥)
     × (IsLastValue twice 1 (Some 2) → ⊥)
     × (IsLastValue items 3 None → ⊥)

@@ -35,7 +35,7 @@ pub other_sizes : (HasSizeOf no_pairs (empty 32 (factor_of 87)) → ⊥)
     × (HasSizeOf no_pairs (empty 16 (factor_of 86)) → ⊥)
 other_sizes = (λ h. omega (arith, h.0), λ h. omega (arith, h.1))
 
--- ---- fillings
+-- ---- inserted lists
 -- the values of the pair 1 to 2, over none
 abbrev value : Bool → Option (List ℕ)
 value b = option_map (λ (p : Pair). p.value) (if b then Some (pair64 1 2) else None)
@@ -66,7 +66,7 @@ a_growth = record {
   stays = λ room. absurd (omega (arith, room));
 }
 
--- inserts in another order: both keys have home 15, so the first one stands there
+-- inserts in another order: both keys have home 15, so the first one is there
 abbrev two_in_turn : ℕ → ℕ → Table
 two_in_turn k l = record {
   factor = factor_of 87;
@@ -79,7 +79,7 @@ unfolding opened
 other_order h =
     unequal_lists _ _ refl (h.image.bytes ∙ ap (image direct_config) (sym (some_same (two_in_turn 15 31) h.table h.runs)))
 
--- an insert that is refused
+-- an insert that fails
 pub refused : IsAfterInserts my_config (λ P p. None) no_pairs (pair64 1 2 ∷ []) (bytes_of (one_pair 2)) → ⊥
 refused h = none-some h.table h.runs
 
@@ -114,13 +114,13 @@ pub changed_factor : IsAfterInserts my_config (λ P p. Some other_factor) no_pai
 changed_factor h =
     omega (arith, (h.stays (lit≤ tt)).0.1, ap (λ (T : Table). T.factor) (some_same other_factor h.table h.runs))
 
--- ---- refusals
--- 1 is there and 3 is not
+-- ---- errors
+-- 1 is present and 3 is absent
 pub refused_item : IsRefusedAt number_coding (one_of_32 6 2) ((1, 5) ∷ (3, 4) ∷ []) 1
 unfolding opened
 refused_item = record { item = (3, 4); at = refl; full = (refl, refl) }
 
--- a key that is there, though the next item is refused
+-- a present key, though the insert of the next item fails
 pub present_key : IsRefusedAt number_coding (one_of_32 6 2) ((1, 5) ∷ (3, 4) ∷ []) 0 → ⊥
 present_key h =
     none-some _ (sym h.full.1 ∙ ap (λ (x : ℕ × ℕ). map_of (one_of_32 6 2) (le_bytes 8 x.0)) (sym (some_same (1, 5) h.item h.at)))
@@ -133,8 +133,8 @@ no_item h = none-some _ h.at
 pub with_room : IsRefusedAt number_coding (one_pair 2) ((1, 5) ∷ (3, 4) ∷ []) 1 → ⊥
 with_room h = omega (arith, h.full.0)
 
--- ---- refusals on any bytes
--- at the maximum an insert may be refused, as far as the bytes tell
+-- ---- errors on any bytes
+-- at the maximum by the header an insert may fail
 pub stopped_item : IsStoppedAt number_coding ((1, 5) ∷ (3, 4) ∷ []) 1 (bytes_of (one_of_32 6 2))
 unfolding opened
 stopped_item = record { item = (3, 4); at = refl; framed = (Err Full, refl, InsertFrame.full (lit≤ tt)) }
@@ -160,7 +160,7 @@ stopped_with_room h = go h.framed.0 h.framed.1 h.framed.2
     go (Err e) same frame = roomy _ (Err e) _ frame e refl
     go (Ok o) same frame = absurd cc
 
--- ---- fillings of a fresh table
+-- ---- lists inserted into a fresh table
 -- one item in sixteen slots
 pub a_fresh_list : IsFreshAfterInserts number_coding 87 ((1, 2) ∷ []) (bytes_of (one_pair 2))
 unfolding opened a_list

@@ -25,7 +25,7 @@ pub larger_refused : IsNewSizeOf (one_pair 2) 14 87 → ⊥
 unfolding opened
 larger_refused h = omega (arith, some_same 32 16 (ap (option_map slot_count) h))
 
--- 1 to 2 stands in slot 5
+-- 1 to 2 is in slot 5
 pub the_pair : AreInOrder number_coding (one_pair 2) ((1, 2) ∷ [])
 unfolding opened
 the_pair = record { order = 5 ∷ []; is_order = record { each_once = IsPermutation-refl (5 ∷ []); gives = refl }; pairs = refl }

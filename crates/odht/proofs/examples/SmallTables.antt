@@ -1,5 +1,5 @@
 -- The tables of the examples, from u64 to u32, and their coding.
---     number_coding        keys and values are numbers, with their lowest byte first
+--     number_coding        keys and values are numbers, little-endian
 --     no_pairs             sixteen slots at 87 percent without a pair
 --     one_pair v           the same with 1 to v
 --     other_pair           the same with 3 to 4 alone
@@ -56,7 +56,7 @@ pub made_by_inserts : (fresh 0 87 ≡ Some no_pairs)
 unfolding opened
 made_by_inserts = (refl, refl, refl, refl, refl, refl)
 
--- the coding writes these pairs
+-- the coding encodes these pairs so
 pub coded_pair : encoded number_coding 1 2 ≡ pair64 1 2
 coded_pair = refl
 
@@ -91,7 +91,7 @@ pub one_of_32_image : IsImage my_config (one_of_32 6 2) (bytes_of (one_of_32 6 2
 unfolding opened
 one_of_32_image = image_by (one_of_32 6 2) refl (lit≤ tt) refl refl (lit≤ tt) (lit≤ tt) (lit≤ tt)
 
--- bytes are those of the one table that they show
+-- bytes are those of the one table that they decode to
 my_format : IsFormat my_config
 my_format = record { key_short = lit≤ tt; value_short = lit≤ tt; hash_small = λ b h. fx-lt b }
 

@@ -1,4 +1,4 @@
--- The bytes that a table grows into: how many they are, and what their header states.
+-- The bytes that a table grows into: how many they are, and what their header says.
 use Rattle.std.proofs.Common.{◌≡◌, ◌<◌, ◌≤◌, ◌∙◌, ◌*◌, ◌+◌, ◌-◌, ◌^◌, ◌++◌, ℕ, sym, ap, subst, refl, List, Option, Some, None, take, drop, length, arith, lt-ltb, le-ltb, take-append-drop, length-append, length-take-le, length-drop, replicate}
 use borrow.Rule.Slice.PartMut.{put_mid}
 use Rattle.std.proofs.lemmas.List.{length-replicate}
@@ -46,7 +46,7 @@ grown_len-large F B large = go (grown_slots_of B) refl
     go None e = refl
     go (Some s) e = ap (λ t. then_some t (image_len F s)) (le-ltb (image_len F s) (2 ^ 64) (large s e))
 
--- the answer of who asks for a layout for so many items
+-- the result of a call for the layout for so many items
 pub asked_layout : (F : Format) (B : List ℕ) (n f : ℕ) → n ≡ max 1 (2 * header_count B) → f ≡ header_factor B
     → (r : Option (ℕ × ℕ)) → IfSome r (λ l. IsLayout F n f l.0 l.1) → (IsNone r → IsTooLarge F n f)
     → MatchOption r (grown_len F B ≡ None) (λ l. IsLayout F (max 1 (2 * header_count B)) (header_factor B) l.0 l.1)
@@ -60,7 +60,7 @@ none_at_zero F B zero = grown_len-large F B (λ s e. (
     let holds : 65536 * max 1 (2 * header_count B) ≤ s * 0 = subst (λ f. 65536 * max 1 (2 * header_count B) ≤ s * f) zero least.holds in
     absurd (omega (arith, holds, le-max_left 1 (2 * header_count B)))))
 
--- and so is twice a count that twice passes 64 bits
+-- there is none where twice the count passes 64 bits
 pub none_of_many : (F : Format) (B : List ℕ) → header_factor B ≤ 65535 → 2 ^ 64 ≤ 2 * header_count B → grown_len F B ≡ None
 none_of_many F B few many = grown_len-large F B (λ s e. (
     let least = slots_for-IsLeastSlots _ _ s e in
@@ -80,7 +80,7 @@ module _ (F : Format) (T : List ℕ) (s c f : ℕ) (front : take 32 T ≡ header
   split : T ≡ header_bytes F s c f ++ drop 32 T
   split = sym (take-append-drop 32 T) ∙ ap (λ h. h ++ drop 32 T) front
 
-  -- the count is stated
+  -- the item count of the header
   pub headed_count : c < 2 ^ 64 → header_count T ≡ c
   headed_count fits = ap header_count split ∙ num-le_bytes 8 c fits
 
@@ -88,7 +88,7 @@ module _ (F : Format) (T : List ℕ) (s c f : ℕ) (front : take 32 T ≡ header
   pub headed_factor : f < 2 ^ 16 → header_factor T ≡ f
   headed_factor fits = ap header_factor split ∙ num-le_bytes 2 f fits
 
-  -- and the slots, so bytes as long as these ask are accepted
+  -- and the slot count, so bytes of the length for it are accepted
   pub headed_accepted : IsSlotCount s → length T ≡ image_len F s → IsAccepted F T
   headed_accepted count long =
       let by_header : header_slots (header_bytes F s c f ++ drop 32 T) ≡ s = num-le_bytes 8 s (slots_fit s count) in

@@ -25,7 +25,7 @@ use Rattle.odht_raw.specs.PartsPlacings.{IsNewTo}
 use Rattle.odht_raw.specs.declared.error.Error.{Error}
 use Rattle.odht_raw.specs.declared.error.Error.TheVariants.{Full}
 
--- what holds of an accepted answer holds where it is not refused
+-- what holds of an Ok result holds where the result is not `Full`
 pub accepted_holds : {T : Type 0} (X : Type 0) (r : Result T Error) → OnErr r (r ≡ Err Full) → (r ≡ Err Full → ⊥) → OnOk r X → X
 accepted_holds X (Ok t) only never x = x
 accepted_holds X (Err e) only never x = absurd (never only)
@@ -37,7 +37,7 @@ count_small F P ok =
     let below = max_items-lt (slot_count P) P.factor (slots_pos (slot_count P) ok.placed.slots) ok.factor_high in
     omega (arith, ok.room, below, slots)
 
--- ---- the walk that is placed
+-- ---- placing a walk
 -- pairs each of which is new have no key of the table
 pub all_new : (P : Table) (ps : List Pair) → All (IsNewTo P) ps → AreNew P ps
 all_new P [] new k v e = absurd (none-some v e)
@@ -47,7 +47,7 @@ all_new P (p ∷ ps) new k v e = go (bytes_eq k p.key) refl (all_new P ps (All-t
     go true t rest = ap (map_of P) (same_bytes k p.key t) ∙ All-head (IsNewTo P) p ps new
     go false t rest = rest (sym (ap (λ b. cond b (Some p.value) (value_in ps k)) t) ∙ sym (value_in-cons p ps k) ∙ e)
 
--- the pairs that are left lead from the parts of some table to Q, and their keys are apart and new to it
+-- placing the pairs that are left in the parts of some table gives Q; their keys are pairwise distinct and new to it
 pub record LeadsTo (F : Format) (Q : Table) (ps : List Pair) (es ctrl : List ℕ) : Type 0 where
   pub table : Table
   pub parts : IsPartsOf F table es ctrl
@@ -63,11 +63,11 @@ module _ (F : Format) (Q : Table) (p : Pair) (ps : List Pair) (es ctrl : List �
   pub leads_new : IsNewTo at.table p
   leads_new = new-head at.table p ps at.new
 
-  -- it has a place
+  -- there is a slot for it
   pub leads_fits : place F at.table p ≡ None → ⊥
   leads_fits none = none-some next.0 (sym none ∙ next.1)
 
-  -- and once it is placed, those behind it lead on
+  -- and once it is placed, placing the pairs after it gives Q
   pub leads_on : (es' ctrl' : List ℕ) → ArePartsPlaced F at.table p es' ctrl' → LeadsTo F Q ps es' ctrl'
   leads_on es' ctrl' insert = record {
     table = insert.0;
@@ -89,7 +89,7 @@ module _ (F : Format) (P : Table) (ok : IsValid F P) (s : ℕ) (enough : grown_s
       let below = max_items-lt s P.factor (slots_pos s least.is_count) ok.factor_high in
       place_all-fits F (empty s P.factor) (walk P) (empty-IsPlaced s P.factor F least.is_count) (walk-IsPairOf F P ok.placed) (omega (arith, above, below, count-empty s P.factor, slot_count-empty s P.factor))
 
-  -- which are the grown table then, and with the header of as many pairs its bytes
+  -- the result is the grown table, and with the header for as many pairs these are its bytes
   pub grown_image : (Q : Table) → place_all F (empty s P.factor) (walk P) ≡ Some Q → (B : List ℕ) → B ≡ header_bytes F s (count P) P.factor ++ parts F Q.cells → (grown F P ≡ Some Q) × IsImage F Q B
   unfolding grown image
   grown_image Q placed B written =
@@ -99,9 +99,9 @@ module _ (F : Format) (P : Table) (ok : IsValid F P) (s : ℕ) (enough : grown_s
       slot_count-place_all F (empty s P.factor) Q (walk P) (empty-IsPlaced s P.factor F least.is_count) (walk-IsPairOf F P ok.placed) placed ∙ slot_count-empty s P.factor in
       (is, record { valid = h.valid; bytes = written ∙ sym (λ i. header_bytes F (slots i) (h.counts i) (h.factor i) ++ parts F Q.cells) })
 
--- ---- the owned insert, by that of the view
+-- ---- the insert of the owned table, by that of the view
 module _ (F : Format) (P : Table) (p : Pair) (ok : IsValid F P) where
-  -- where the table is full for the key it is that into the grown table
+  -- where the table is full for the key it is the insert into the grown table
   pub insert_owned-grown : (Q : Table) → IsFullFor P p.key → grown F P ≡ Some Q → insert_owned F P p ≡ insert_view F Q p
   insert_owned-grown Q full e =
       let is = grown-IsGrown F P ok Q e in

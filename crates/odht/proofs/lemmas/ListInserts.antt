@@ -96,7 +96,7 @@ framed_append {K = K} {V = V} c B C xs before ys D (IsFramedRun.accepted items k
     subst (λ (zs : List (K × V)). IsFramedRun c B zs D) (append_assoc xs items ((k, v) ∷ []))
     (IsFramedRun.accepted (xs ++ items) k v o E D (framed_append c B C xs before items E run) frame)
 
--- the first items of a list and a piece behind them as pairs
+-- the first items of a list and the items after them as pairs
 pub encoded_all-range : {K V : Type 0} (c : Coding K V) (items : List (K × V)) (a b : ℕ) → a ≤ b → encoded_all c (take a items) ++ encoded_all c (slice_range items a b) ≡ encoded_all c (take b items)
 encoded_all-range {K = K} {V = V} c items a b within = sym (map-append (λ (t : K × V). encoded c t.0 t.1) (take a items) (slice_range items a b)) ∙ ap (encoded_all c) (take-range items a b within)
 
@@ -112,12 +112,12 @@ pub framed_more : {K V : Type 0} (c : Coding K V) (B C D : List ℕ) (items : Li
 framed_more {K = K} {V = V} c B C D items n item low at o before here =
     subst (λ (xs : List (K × V)). IsFramedRun c B xs D) (sym (take_more items n item low ∙ ap (λ t. take n items ++ t ∷ []) at)) (IsFramedRun.accepted (take n items) item.0 item.1 o C D before here)
 
--- the item that an insert refused
+-- the item whose insert failed
 pub refused_at : {K V : Type 0} (c : Coding K V) (P : Table) (items : List (K × V)) (n : ℕ) (item : K × V) → n < length items → get_or items n item ≡ item
     → IsFullFor P (c.key_bytes item.0) → IsRefusedAt c P items n
 refused_at c P items n item low at full = record { item = item; at = slice_get-get_or items n item low ∙ ap (λ x. Some x) at; full = full }
 
--- the item that an insert refused, on any bytes
+-- the item whose insert failed, on any bytes
 pub stopped_at : {K V : Type 0} (c : Coding K V) (B C : List ℕ) (items : List (K × V)) (n : ℕ) (item : K × V) → n < length items → get_or items n item ≡ item
     → C ≡ B → (r : Result (Option V) Error) → r ≡ Err Full → IsFramed c B item.0 item.1 r C → IsStoppedAt c items n C
 stopped_at c B C items n item low at same r full frame = record {
@@ -131,7 +131,7 @@ pub inserted_all : {K V : Type 0} (c : Coding K V) (insert : Table → Pair → 
     → IsAfterInserts c.format insert P (encoded_all c (take n items)) B → IsAfterInserts c.format insert P (encoded_all c items) B
 inserted_all {K = K} {V = V} c insert P items n B all inserted = subst (λ (xs : List (K × V)). IsAfterInserts c.format insert P (encoded_all c xs) B) (take_all n items all) inserted
 
--- the fresh table for as many items as are put into it never grows
+-- the fresh table for as many items as are inserted into it never grows
 pub fresh_inserted : {K V : Type 0} (c : Coding K V) (percent : ℕ) (items : List (K × V)) (B : List ℕ) (P : Table) → fresh (length items) percent ≡ Some P
     → IsAfterInserts c.format (insert_owned c.format) P (encoded_all c items) B → IsFreshAfterInserts c percent items B
 fresh_inserted {K = K} {V = V} c percent items B P new inserted =

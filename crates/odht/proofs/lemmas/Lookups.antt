@@ -27,7 +27,7 @@ slice_get-set_other (x ∷ xs) zero (suc j) a h = refl
 slice_get-set_other (x ∷ xs) (suc i) zero a h = refl
 slice_get-set_other (x ∷ xs) (suc i) (suc j) a h = slice_get-set_other xs i j a (λ e. h (ap suc e))
 
--- a list with what f makes of each element of another
+-- a list whose elements are f of those of another
 maps : {X Y : Type 0} (f : X → Y) (xs : List X) (ys : List Y) → length ys ≡ length xs → ((i : ℕ) (x : X) → slice_get xs i ≡ Some x → slice_get ys i ≡ Some (f x)) → ys ≡ map f xs
 maps f [] [] l h = refl
 maps f [] (y ∷ ys) l h = absurd (omega (arith, l))
@@ -37,7 +37,7 @@ maps f (x ∷ xs) (y ∷ ys) l h =
     let rest = maps f xs ys (omega (arith, l)) (λ i. h (suc i)) in
     λ i. first i ∷ rest i
 
--- what stands beside a key in the entries of bytes is stored in them
+-- a value that is beside a key in the entries of bytes is stored in them
 pub stored_beside : {V : Type 0} (F : Format) (f : List ℕ → V) (B k : List ℕ) (E : EntryBytes) (v : V) → E.bytes ≡ entries_of F B → E.slots ≡ header_slots B
     → IsBesideKey F f E k v → (b : List ℕ) × (v ≡ f b) × Stores F B k b
 stored_beside F f B k E v es s h = (

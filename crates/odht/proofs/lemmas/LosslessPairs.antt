@@ -20,7 +20,7 @@ module _ {K V : Type 0} (c : Coding K V) where
     pub value : c.value_of (c.value_bytes item.1) ≡ item.1
 
   module _ (k : K) (kept : c.key_of (c.key_bytes k) ≡ k) where
-    -- such keys are told apart by their bytes
+    -- such keys differ exactly where their bytes do
     same_key : (item : K × V) → IsKept item → bytes_eq (c.key_bytes k) (c.key_bytes item.0) ≡ true → k ≡ item.0
     same_key item is t = sym kept ∙ ap c.key_of (same_bytes (c.key_bytes k) (c.key_bytes item.0) t) ∙ is.key
 
@@ -32,8 +32,8 @@ module _ {K V : Type 0} (c : Coding K V) where
     last_more : (item : K × V) (items : List (K × V)) → IsKept item → (o : Option (List ℕ)) → IsLastValue items k (option_map c.value_of o)
         → (b : Bool) → bytes_eq (c.key_bytes k) (c.key_bytes item.0) ≡ b
         → IsLastValue (item ∷ items) k (option_map c.value_of (option_or o (cond b (Some (c.value_bytes item.1)) None)))
-    last_more item items is (Some v) h b t = record { before = item ∷ h.before; after = h.after; stands = ap (λ xs. item ∷ xs) h.stands; latest = h.latest }
-    last_more item items is None h true t = record { before = []; after = items; stands = λ i. (sym (same_key item is t) i, sym is.value i) ∷ items; latest = h }
+    last_more item items is (Some v) h b t = record { before = item ∷ h.before; after = h.after; items_are = ap (λ xs. item ∷ xs) h.items_are; latest = h.latest }
+    last_more item items is None h true t = record { before = []; after = items; items_are = λ i. (sym (same_key item is t) i, sym is.value i) ∷ items; latest = h }
     last_more item items is None h false t = All-cons (λ (x : K × V). x.0 ≡ k → ⊥) item items (other_key item t) h
 
     -- the value of the bytes of the last item with the bytes of the key is that of the last item with the key
@@ -43,7 +43,7 @@ module _ {K V : Type 0} (c : Coding K V) where
         subst (λ o. IsLastValue (item ∷ items) k (option_map c.value_of o)) (sym (last-cons (encoded c item.0 item.1) (encoded_all c items) (c.key_bytes k)))
         (last_more item items (All-head IsKept item items all) (last (encoded_all c items) (c.key_bytes k)) (last-kept items (All-tail IsKept item items all)) (bytes_eq (c.key_bytes k) (c.key_bytes item.0)) refl)
 
-  -- a fresh table, filled with the items, has their last values
+  -- a fresh table into which the items are inserted has their last values
   pub inserted-HasLastValues : (insert : Table → Pair → Option Table) (n percent : ℕ) (P : Table) (items : List (K × V)) (B : List ℕ) → fresh n percent ≡ Some P
       → IsAfterInserts c.format insert P (encoded_all c items) B → HasLastValues c items B
   inserted-HasLastValues insert n percent P items B new inserted = record {

@@ -1,4 +1,4 @@
--- What a new table is refused for, case by case.
+-- The errors of a new table, case by case.
 use Rattle.std.proofs.Common.{◌≡◌, ◌≢◌, ◌≤◌, ◌<◌, ◌^◌, ◌∙◌, ℕ, Bool, true, false, not, nat_le, ap, refl, [], ◌∷◌, Option, Some, None, Result, Ok, Err, OnErr, ◌⊎◌, inl, inr, arith, leb-true, le-leb, ne_eqb}
 use Rattle.odht_base.specs.Format.{Format}
 use Rattle.odht_base.specs.Load.{slots_for, factor_of}
@@ -62,7 +62,7 @@ pub default_fits : (F : Format) → F.key_len ≤ 255 → F.value_len ≤ 255 �
 unfolding slots_for
 default_fits F key value large = let long = large 16 refl in omega (arith, long, key, value)
 
--- what is refused, and not for its capacity, is refused for want of memory
+-- an error that is not `Capacity` is `Memory`
 pub only_memory : {T : Type 0} (r : Result T Error) → OnErr r ((r ≡ Err Capacity) ⊎ (r ≡ Err Memory)) → (r ≡ Err Capacity → ⊥) → OnErr r (r ≡ Err Memory)
 only_memory (Ok t) either fits = tt
 only_memory (Err e) (inl large) fits = absurd (fits large)

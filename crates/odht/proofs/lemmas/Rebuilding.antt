@@ -11,7 +11,7 @@ use Rattle.odht.specs.Lists.{encoded_all, IsAfterInserts}
 use Rattle.odht.specs.Rebuilds.{IsNewSizeOf, AreInOrder}
 
 module _ {K V : Type 0} (c : Coding K V) (items : List (K × V)) (n percent : ℕ) (start : Table) (new : fresh n percent ≡ Some start) where
-  -- the bytes that the inserts of the items leave of the new table are those of the table
+  -- inserting the items into the new table leaves the bytes of the table
   pub rebuilt-IsImage : (B : List ℕ) → IsAfterInserts c.format (insert_owned c.format) start (encoded_all c items) B
       → (P : Table) → IsValid c.format P → AreInOrder c P items → IsNewSizeOf P n percent → IsImage c.format P B
   rebuilt-IsImage B inserted P ok in_order size =

@@ -24,22 +24,22 @@ use Rattle.odht_raw.proofs.lemmas.Inserts.{found_key, found_value}
 use Rattle.odht.specs.Inserts.{IsInserted}
 use Rattle.odht_raw.proofs.lemmas.Lookups.{IsFoundAt, IsFreeAt, IsNowhere}
 
--- an accepted insert ends in the bytes of the table with the pair put
+-- an accepted insert leaves the bytes of the table with the pair inserted
 abbrev pub IsAfterInsert : Format → Table → Pair → List ℕ → Type 0
 IsAfterInsert F P p B = (Q : Table) × (insert_view F P p ≡ Some Q) × IsImage F Q B
 
 -- ---- what an insert reads of the header of any bytes
 module _ {B header : List ℕ} {items most slots factor : ℕ} (at : header ≡ B) (n : items ≡ header_count header) (s : slots ≡ header_slots header)
     (f : factor ≡ header_factor header) (m : most ≡ max_items slots factor) where
-  -- is the stated maximum
+  -- the maximum by the header
   maximum_read : most ≡ header_maximum B
   maximum_read = m ∙ (λ i. max_items ((s ∙ ap header_slots at) i) ((f ∙ ap header_factor at) i))
 
-  -- and the stated count
+  -- and the header's count
   count_read : items ≡ header_count B
   count_read = n ∙ ap header_count at
 
-  -- so at the maximum the header states no room
+  -- so at the maximum there is no room by the header
   pub header_full : most ≤ items → header_maximum B ≤ header_count B
   header_full h = omega (arith, maximum_read, count_read, h)
 
@@ -47,7 +47,7 @@ module _ {B header : List ℕ} {items most slots factor : ℕ} (at : header ≡ 
   pub header_room : items < most → header_count B < header_maximum B
   header_room h = omega (arith, maximum_read, count_read, h)
 
--- ---- what the header of a valid table's bytes states
+-- ---- what the header of a valid table's bytes says
 module _ (F : Format) (P : Table) (B : List ℕ) (is : IsImage F P B) where
   -- the count
   pub count_header : header_count B ≡ count P
@@ -79,14 +79,14 @@ module _ (F : Format) (P : Table) (B : List ℕ) (is : IsImage F P B) where
     pub read_room : items < most → HasRoom P
     read_room h = omega (arith, most_read, items_read, h)
 
-  -- a search that ends nowhere is none of a valid table
+  -- in a valid table no search ends nowhere
   pub never_nowhere : (k : List ℕ) → IsNowhere F P k → ⊥
   never_nowhere k at =
       let q = place-IsValid_fits F P (record { key = k; value = [] }) is.valid in
       none-some q.0 (sym (at.places (record { key = k; value = [] }) refl) ∙ q.1)
 
 -- ---- the maximum
--- a key that was found is taken
+-- the table takes a key that was found
 found_takes : (F : Format) (P : Table) (k : List ℕ) (i : ℕ) → IsFoundAt F P k i → TakesKey P k
 found_takes F P k i at = inr (there P k at.pair.value at.value)
 
@@ -126,8 +126,8 @@ module _ (F : Format) (P : Table) (B : List ℕ) (is : IsImage F P B) (p : Pair)
         },
       )
 
--- ---- the answer of a view
--- an insert that ends so answers the former value, and leaves the table after the put
+-- ---- the result of a view
+-- such an insert returns the former value, and leaves the bytes of the table after the insert
 pub inserted : {K V : Type 0} (c : Coding K V) (P : Table) → IsValid c.format P → (k : K) (v : V) (old : Option V) (B : List ℕ) (p : Pair) → p ≡ encoded c k v
     → old ≡ option_map c.value_of (map_of P p.key) → IsAfterInsert c.format P p B → IsInserted c (insert_view c.format) P k v old B
 inserted c P ok k v old B p same former insert =
@@ -140,7 +140,7 @@ inserted c P ok k v old B p same former insert =
       maps = (insert_view-IsInsert c.format).maps P q.0 (encoded c k v) ok q.1;
     }
 
--- a place that is written twice holds the last bytes
+-- a range that is written twice holds the last bytes
 pub held_twice : {S : Type 0} (holding : S → List ℕ → S)
     (held_last : (s : S) (a b : List ℕ) → holding (holding s a) b ≡ holding s b) (s t u : S) (a b : List ℕ)
     → t ≡ holding s a → u ≡ holding t b → u ≡ holding s b
@@ -148,7 +148,7 @@ held_twice holding held_last s t u a b first last = last ∙ ap (λ r. holding r
 
 -- ---- an insert of the pair p, by what its code read and wrote: A are the bytes that it read
 module _ {K V : Type 0} (c : Coding K V) (A : List ℕ) (k : K) (v : V) (p : Pair) (same : p ≡ encoded c k v) (slot : ℕ) where
-  -- the overwritten value, of which r was made
+  -- the overwritten value, from which r is decoded
   module _ (es : List ℕ) (r : V) (old : r ≡ c.value_of (slot_value c.format es slot)) (C : List ℕ) (written : C ≡ with_value c.format A slot p.value) where
     pub found_inserted : (P : Table) → IsImage c.format P A → (ctrl : List ℕ) → IsPartsOf c.format P es ctrl → IsFoundAt c.format P p.key slot
         → IsBytes c.format.value_len p.value → IsInserted c (insert_view c.format) P k v (Some r) C
@@ -195,9 +195,9 @@ module _ {K V : Type 0} (c : Coding K V) (A : List ℕ) (k : K) (v : V) (p : Pai
         InsertFrame.added slot (subst (λ m. slot < m) slots low) (subst (λ b. CountsAsFree b slot) controls free) room in
         subst (λ b. IsFramed c b k v (Ok None) C) here (Ok None, refl, subst (λ q. InsertFrame c.format A q (Ok None) C) same (subst (InsertFrame c.format A p (Ok None)) (sym added) frame))
 
--- ---- a refusal, on any bytes
+-- ---- an error, on any bytes
 module _ {K V : Type 0} (c : Coding K V) (A B : List ℕ) (k : K) (v : V) (here : A ≡ B) where
-  -- at the stated maximum
+  -- at the maximum by the header
   pub full_framed : header_maximum A ≤ header_count A → IsFramed c B k v (Err Full) B
   full_framed full = (Err Full, refl, subst (λ b. InsertFrame c.format b (encoded c k v) (Err Full) b) here (InsertFrame.full full))
 

@@ -8,7 +8,7 @@ use crate::config::{Config, Lossless};
 use crate::hash::UnHashFn;
 use std::marker::PhantomData;
 
-/// A byte array that may be a key under `UnHashFn`: a hash of 4 to 255 bytes, whose last four vary.
+/// A byte array that may be a key under `UnHashFn`: a hash of 4 to 255 bytes. The last four should vary.
 pub trait HashBytes: ByteArray {
     ghost short: { Self.LEN ≤ 255 };
 
@@ -33,7 +33,7 @@ impl HashBytes for [u8; 32] {
     ghost long = { lit≤ tt };
 }
 
-/// From hashes to integers, or to nothing.
+/// From hashes to integers, or to `()`: then the table is a set.
 pub struct Hashes<K, V> {
     key: PhantomData<K>,
     value: PhantomData<V>,
@@ -51,10 +51,10 @@ pub type Bytes20ToU64 = Hashes<[u8; 20], u64>;
 /// From 32 bytes to u64.
 pub type Bytes32ToU64 = Hashes<[u8; 32], u64>;
 
-/// A set of 16 bytes.
+/// A set of hashes of 16 bytes.
 pub type Bytes16Set = Hashes<[u8; 16], ()>;
 
-/// A set of 32 bytes.
+/// A set of hashes of 32 bytes.
 pub type Bytes32Set = Hashes<[u8; 32], ()>;
 
 impl<K: HashBytes, V: Stored> Config for Hashes<K, V> {

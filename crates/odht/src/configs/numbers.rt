@@ -1,4 +1,4 @@
-//! Ready configurations for integers: keys and values with their lowest byte first, hashed by `FxHashFn`.
+//! Ready configurations for integers: keys and values are little-endian, and keys are hashed by `FxHashFn`.
 ghost use Rattle.std.specs.Prelude.{◌≡◌, ◌≤◌};
 ghost use Rattle.std.specs.Int.{w32, w64, to_le_bytes, from_le_bytes};
 ghost use Rattle.std.proofs.Common.{lit≤, zero-le};
@@ -8,7 +8,7 @@ use crate::config::{Config, Lossless};
 use crate::hash::FxHashFn;
 use std::marker::PhantomData;
 
-/// What is stored as so many bytes: an integer, lowest byte first, or `()`, which has none.
+/// A type that is stored as a fixed number of bytes: an integer, little-endian, or `()`, which has no bytes.
 pub trait Stored: Drop {
     type Bytes: ByteArray;
 
@@ -20,11 +20,11 @@ pub trait Stored: Drop {
     fn to_bytes(&self) -> Self::Bytes
         ensures { result ≡ to_bytes self.now };
 
-    /// What these bytes are.
+    /// The value that these bytes decode to.
     fn of_bytes(bytes: &Self::Bytes) -> Self
         ensures { result ≡ of_bytes bytes.now };
 
-    /// The law that its bytes are those of nothing else. Nothing is done.
+    /// The law that its bytes decode to it. The call has no effect.
     fn kept(&self)
         ensures { of_bytes (to_bytes self.now) ≡ self.now };
 
@@ -101,7 +101,7 @@ impl Stored for () {
     ghost fits = { zero-le };
 }
 
-/// From integers to integers, or to nothing.
+/// From integers to integers, or to `()`: then the table is a set.
 pub struct Numbers<K, V> {
     key: PhantomData<K>,
     value: PhantomData<V>,

@@ -16,8 +16,9 @@ use crate::error::Error;
 use crate::items::Items;
 
 impl<C: Config, D: ByteStoreMut> HashTable<C, D> {
-    /// Inserts the items from index `from` on in their order, as many as there is room for below the maximum, and answers
-    /// the index of the first that was not inserted. On any bytes it stops before only where each slot counts as occupied.
+    /// Inserts the items from index `from` on in their order, as many as there is room for below the maximum, and
+    /// returns the index of the first that was not inserted. On any bytes, with the count and the maximum of the
+    /// header, it stops earlier only where each slot counts as occupied.
     #[inline(always)]
     pub(crate) fn insert_below_maximum<I: Items<C::Key, C::Value>>(
         &mut self,
@@ -47,10 +48,12 @@ impl<C: Config, D: ByteStoreMut> HashTable<C, D> {
         self.allocation.insert_below_maximum(items, from)
     }
 
-    /// Inserts the items in their order, and stops at the first that is refused. Answers how many were accepted, and `Full`
-    /// where there was a refusal: the table is then as the accepted ones left it, on valid bytes at its maximum, and the
-    /// key of the refused item is absent. On any bytes each accepted item changes no more than `insert` may, and the item
-    /// that is refused is one that `insert` may refuse.
+    /// Inserts the items in their order, and stops at the first whose insert fails. Returns how many were accepted, and
+    /// `Full` where one failed. The table is then as the accepted ones left it; on valid bytes it is at its maximum,
+    /// and the key of the item that failed is absent.
+    ///
+    /// On any bytes each accepted item changes no more than `insert` may, and the item that failed is one for which
+    /// `insert` may return `Full`.
     pub fn insert_all(&mut self, items: &[(C::Key, C::Value)]) -> (usize, Result<(), Error>)
         ensures bound { result.0 ≤ length items.now }
         ensures all { IsOk result.1 ↔ (result.0 ≡ length items.now) }
@@ -73,7 +76,8 @@ impl<C: Config, D: ByteStoreMut> HashTable<C, D> {
         self.insert_items(&items)
     }
 
-    /// `insert_all` of items in any form, such as the keys and the values of two slices ([`Zipped`](crate::items::Zipped)).
+    /// `insert_all` of items in any form, such as the keys and the values of two slices
+    /// ([`Zipped`](crate::items::Zipped)).
     #[inline(always)]
     pub fn insert_items<I: Items<C::Key, C::Value>>(
         &mut self,
@@ -104,7 +108,7 @@ impl<C: Config, D: ByteStoreMut> HashTable<C, D> {
             if accepted >= items.count() {
                 return (accepted, Ok(()));
             }
-            // At the maximum a key that is there is given its value.
+            // At the maximum a present key is given its value.
             let (key, value) = items.at(accepted);
             if let Err(refused) = self.insert(key, value) {
                 return (accepted, Err(refused));

@@ -8,14 +8,15 @@ use super::HashTableOwned;
 use crate::config::{Coded, Config};
 
 impl<C: Config> HashTableOwned<C> {
-    /// Whether some list of inserts, growths included, makes this table of an empty one of its load factor; and then
-    /// `out`, which has a place for each item, lists the occupied slots in an order in which it does: their pairs,
-    /// inserted in this order into an empty table of as many slots and the same load factor, leave these very bytes.
-    /// Where no list makes it, `out` holds numbers that say nothing.
+    /// Whether some list of inserts, growths included, makes this table from an empty one of its load factor. Where one
+    /// does, `out`, whose length is the item count, lists the occupied slots in an insert order: their pairs, inserted
+    /// in this order into an empty table of as many slots and the same load factor, leave these very bytes. Where none
+    /// does, the numbers in `out` mean nothing. docs/PROOFS.md, "Orders of inserts", has the definitions.
     ///
-    /// It takes no memory. It costs at most one pass over the items more than there are slots that wait for one behind
-    /// them. In a pass each item that waits asks for the places before its own, by a binary search among those that
-    /// wait; behind it what is left is sorted. bench/README.md has what an item costs in a table of 10^6.
+    /// It takes no memory. A slot waits until all slots before it in its key's probe order are listed. There are at
+    /// most as many passes over the items as there are slots that wait for one of a higher number, and one more. A pass
+    /// looks for each earlier position of each waiting slot by a binary search among the slots that wait, and then
+    /// sorts these. bench/README.md has what an item costs in a table of 10^6.
     pub fn insert_order(&self, out: &mut [usize]) -> bool
         requires { (P : Table) → IsImage ⟦<C as Coded>⟧.coding.format P self.now → length out.old ≡ count P }
         ensures order { let F = ⟦<C as Coded>⟧.coding.format

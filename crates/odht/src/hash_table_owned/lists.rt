@@ -13,11 +13,11 @@ use crate::error::Error;
 use crate::items::Items;
 
 impl<C: Config> HashTableOwned<C> {
-    /// Inserts the items in their order, and stops at the first that is refused. Answers how many were accepted, and
-    /// `Memory` where there was a refusal: the table is then as the accepted ones left it, at its maximum, and the key
-    /// of the refused item is absent.
+    /// Inserts the items in their order, and stops at the first whose insert fails. Returns how many were accepted, and
+    /// `Memory` where one failed. The table is then as the accepted ones left it, at its maximum, and the key of the
+    /// item that failed is absent.
     ///
-    /// A fresh table that accepted all has the items' last values; one for as many as there are has not grown.
+    /// A fresh table that accepted all has the items' last values; one made for as many as there are has not grown.
     pub fn insert_all(&mut self, items: &[(C::Key, C::Value)]) -> (usize, Result<(), Error>)
         ensures bound { result.0 ≤ length items.now }
         ensures all { IsOk result.1 ↔ (result.0 ≡ length items.now) }
@@ -42,7 +42,8 @@ impl<C: Config> HashTableOwned<C> {
         self.insert_items(&items)
     }
 
-    /// `insert_all` of items in any form, such as the keys and the values of two slices ([`Zipped`](crate::items::Zipped)).
+    /// `insert_all` of items in any form, such as the keys and the values of two slices
+    /// ([`Zipped`](crate::items::Zipped)).
     #[inline(always)]
     pub fn insert_items<I: Items<C::Key, C::Value>>(
         &mut self,
@@ -75,7 +76,7 @@ impl<C: Config> HashTableOwned<C> {
             if accepted >= items.count() {
                 return (accepted, Ok(()));
             }
-            // At the maximum a key that is there is given its value, and for another the table grows.
+            // At the maximum a present key is given its value, and for an absent one the table grows.
             let (key, value) = items.at(accepted);
             if let Err(refused) = self.insert(key, value) {
                 return (accepted, Err(refused));

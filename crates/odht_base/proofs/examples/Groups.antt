@@ -20,7 +20,7 @@ report = record { rising = λ k l. absurd (omega (arith, l)); complete = complet
     occupied i (zero, low, is) = subst (λ j. (j < 2) × (slice_index (3 ∷ 255 ∷ []) j < 128)) is (lit< tt, lit< tt)
     occupied i (suc k, low, is) = absurd (omega (arith, low))
 
--- none of the tag is left out, none of a free byte and none behind the group is told, and they rise
+-- a report leaves out no byte with the tag, has no index of a free byte or behind the group, and rises
 pub other_reports_refused : (IsReport (3 ∷ []) 3 [] → ⊥)
     × (IsReport (255 ∷ []) 3 (0 ∷ []) → ⊥)
     × (IsReport (3 ∷ []) 3 (0 ∷ 1 ∷ []) → ⊥)
@@ -32,8 +32,8 @@ other_reports_refused = (
   λ h. let known = h.rising 0 (lit< tt) in omega (arith, known),
 )
 
--- a search by words may tell of a byte that differs from the tag in its lowest bit, behind one that it tells of, and of
--- no other
+-- a search by words may report a byte that differs from the tag in its lowest bit, where it reports the byte before,
+-- and no other byte without the tag
 pub other_word_reports_refused : (IsWordReport (3 ∷ 4 ∷ []) 3 (0 ∷ 1 ∷ []) → ⊥) × (IsWordReport (2 ∷ []) 3 (0 ∷ []) → ⊥)
 other_word_reports_refused = (λ h. other (h.others 1 (1, lit< tt, refl)), λ h. first (h.others 0 (0, lit< tt, refl)))
   where

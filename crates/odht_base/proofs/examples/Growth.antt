@@ -14,7 +14,7 @@ use Rattle.odht_base.specs.Table.{Table, Pair, count, slot_count}
 use Rattle.odht_base.proofs.examples.Configs.{test_config, direct_config, pair32, view_of, owned_of, squares}
 use Rattle.odht_base.proofs.examples.Opened.{opened}
 
--- what is told of a table
+-- slot count, item count and maximum of a table
 abbrev sizes : Option Table → Option (List ℕ)
 sizes = option_map (λ P. slot_count P ∷ count P ∷ max_items (slot_count P) P.factor ∷ [])
 
@@ -39,7 +39,7 @@ pub owned_grows : (sizes (owned_of direct_config 13 87 (squares 13)) ≡ Some (1
 unfolding opened
 owned_grows = (refl, refl, refl, refl)
 
--- and into a view, which refuses the new key alone
+-- and into a view, which answers None for the new key alone
 abbrev full_view : Pair → Option Table
 full_view p = option_and_then (λ P. insert_view direct_config P p) (view_of direct_config 13 87 (squares 13))
 
@@ -51,7 +51,7 @@ unfolding opened
 view_refuses = (refl, refl, refl, refl)
 
 -- ---- the rule that asks the count alone
--- at the maximum it grows, or refuses, whatever the key
+-- at the maximum it grows, or answers None, whatever the key
 pub by_count : (sizes (option_and_then (λ P. insert_owned_by_count direct_config P (pair32 3 7)) (owned_of direct_config 13 87 (squares 13))) ≡ Some (32 ∷ 13 ∷ 27 ∷ []))
     × (option_and_then (λ P. insert_view_by_count direct_config P (pair32 3 7)) (view_of direct_config 13 87 (squares 13)) ≡ None)
 unfolding opened
@@ -85,7 +85,7 @@ pub one_overwrites : IfSome (owned_of direct_config 13 87 (squares 13)) (λ P. N
 unfolding opened
 one_overwrites h = h.0 (refl, refl)
 
--- keys are apart where none comes twice
+-- keys are apart where none occurs twice
 pub keys_apart : KeysApart (pair32 1 2 ∷ pair32 2 3 ∷ []) × (KeysApart (pair32 1 2 ∷ pair32 1 3 ∷ []) → ⊥)
 unfolding opened
 keys_apart = ((refl, (refl, tt)), λ h. none-some (le_bytes 4 3) (sym h.0))
@@ -95,11 +95,11 @@ pub fifteen_items : sizes (owned_of direct_config 13 87 (squares 15)) ≡ Some (
 unfolding opened
 fifteen_items = refl
 
--- 47 and 15 have home 15 in 16 slots and in 32: inserted first, 47 stands in slot 15 and 15 in slot 0
+-- 47 and 15 have home 15 in 16 slots and in 32: inserted first, 47 is in slot 15 and 15 in slot 0
 abbrev crossed : Option Table
 crossed = owned_of direct_config 13 87 (pair32 47 1 ∷ pair32 15 2 ∷ map (λ i. pair32 i i) (range_with_len 1 11))
 
--- where the two stand
+-- the slots of the two
 abbrev ends : Option Table → Option (List (Option ℕ))
 ends = option_map (λ P. map (λ k. search_end direct_config P.cells (le_bytes 4 k)) (47 ∷ 15 ∷ []))
 

@@ -28,7 +28,7 @@ pub fresh_order : IfSome (fresh 0 87) (λ P. IsInsertOrder test_config P [])
 unfolding opened
 fresh_order = record { each_once = IsPermutation-refl []; gives = refl }
 
--- 15 and then 31, with home 15 both: 15 stands in slot 15, and 31 in slot 0
+-- 15 and then 31, with home 15 both: 15 is in slot 15, and 31 in slot 0
 abbrev pub fifteen_first : Table
 fifteen_first = record { factor = factor_of 87; cells = Some (pair32 31 31) ∷ replicate 14 None ++ Some (pair32 15 15) ∷ [] }
 
@@ -42,11 +42,11 @@ pub fifteen_order : IsInsertOrder direct_config fifteen_first (15 ∷ 0 ∷ [])
 unfolding opened
 fifteen_order = record { each_once = IsPermutation-append_comm (0 ∷ []) (15 ∷ []); gives = refl }
 
--- whether 15 stands in slot 15
+-- whether 15 is in slot 15
 abbrev at_home : Option Table → Option Bool
 at_home = option_map (λ P. is_at 15 (search_end direct_config P.cells (le_bytes 4 15)))
 
--- the slot order 0, 15 is none, since 31 would stand in slot 15
+-- the slot order 0, 15 is none, since 31 would be placed in slot 15
 pub slot_order_refused : IsInsertOrder direct_config fifteen_first (0 ∷ 15 ∷ []) → ⊥
 unfolding opened
 slot_order_refused o = false≢true (some_same _ _ (ap at_home o.gives))
@@ -63,7 +63,7 @@ twice_refused o = omega (arith, length_permutation (0 ∷ 15 ∷ []) (15 ∷ 0 �
 -- at the start slot 15 is ready
 pub fifteen_ready : IsReady direct_config fifteen_first [] 15
 unfolding opened
-fifteen_ready = record { pair = pair32 15 15; holds = refl; position = 0; in_order = lit< tt; stands = refl; earlier_taken = λ q l. absurd (omega arith) }
+fifteen_ready = record { pair = pair32 15 15; holds = refl; position = 0; in_order = lit< tt; slot_is = refl; earlier_taken = λ q l. absurd (omega arith) }
 
 -- slot 0 is not
 pub zero_refused : IsReady direct_config fifteen_first [] 0 → ⊥
@@ -78,7 +78,7 @@ zero_ready = record {
   holds = refl;
   position = 1;
   in_order = lit< tt;
-  stands = refl;
+  slot_is = refl;
   earlier_taken = λ q l. let first : 0 ≡ q = omega arith in subst (λ n. Contains (15 ∷ []) (probe_slot (home direct_config (le_bytes 4 31) 16) 16 n)) first (0, lit< tt, refl);
 }
 

@@ -20,7 +20,7 @@ probe_orders = (refl, refl, refl)
 abbrev keys_of_one_home : ℕ → Option Table
 keys_of_one_home n = view_of direct_config 40 87 (map (λ i. pair32 (64 * i) i) (range_with_len 0 n))
 
--- the last of 33 stands in slot 48, the first slot of the third group, and each is found
+-- the last of 33 is in slot 48, the first slot of the third group, and each is found
 pub one_home : (option_and_then (λ (P : Table). search_end direct_config P.cells (le_bytes 4 2048)) (keys_of_one_home 33) ≡ Some 48)
     × (option_map (λ (P : Table). groups_read direct_config P.cells (le_bytes 4 2048)) (keys_of_one_home 33) ≡ Some 3)
     × (option_map (λ P. map (λ i. map_of P (le_bytes 4 (64 * i))) (range_with_len 0 33)) (keys_of_one_home 33) ≡ Some (map (λ i. Some (le_bytes 4 i)) (range_with_len 0 33)))
@@ -33,7 +33,7 @@ pub absent_key : (option_map (λ (P : Table). groups_read direct_config P.cells 
 unfolding opened
 absent_key = (refl, refl)
 
--- a fresh table is left after one group
+-- a search in a fresh table ends after one group
 pub fresh_key : option_map (λ (P : Table). groups_read direct_config P.cells (le_bytes 4 5)) (view_of direct_config 40 87 []) ≡ Some 1
 unfolding opened
 fresh_key = refl

@@ -1,5 +1,5 @@
--- A worked example: a valid table of 64 slots that no list of inserts makes, since each of the keys 0 and 1 stands
--- behind the other one.
+-- A worked example: a valid table of 64 slots that no list of inserts makes, since each of the keys 0 and 1 is in the
+-- slot that a search for the other one looks at first.
 use Rattle.std.proofs.Common.{◌≡◌, ◌<◌, ◌++◌, ◌∙◌, ◌||◌, ◌==◌, inl, inr, ℕ, Bool, true, false, true≢false, refl, sym, ap, subst, arith, eqb, eqb-true, List, ◌∷◌, get_or, Some, None, is_none, map, replicate, Contains, lit≤, lit<}
 use Rattle.std.specs.List.{range_with_len, list_any, list_all}
 use Rattle.std.proofs.lemmas.Bool.{or_cases}
@@ -53,19 +53,19 @@ abbrev known : ℕ → Bool
 known i = list_any (eqb i) taken || (is_free unmade.cells i || (i == 0 || i == 1))
 
 -- all 64 slots pass it
-all_told : list_all known (range_with_len 0 64) ≡ true
-all_told = refl
+all_known : list_all known (range_with_len 0 64) ≡ true
+all_known = refl
 
 -- a slot that is not found among the taken ones is not taken
 not_taken : (i : ℕ) → list_any (eqb i) taken ≡ false → Contains taken i → ⊥
 not_taken i e h = true≢false (sym ((is_member-Decides Decides-eqb taken i).1 h) ∙ e)
 
--- slot 0 has the key 1, which looks at slot 1 first
+-- slot 0 has the key 1, whose search looks at slot 1 first
 zero_not_ready : IsReady direct_config unmade taken 0 → ⊥
 unfolding opened
 zero_not_ready r = not_ready direct_config unmade taken 0 (pair32 1 1) refl 0 (λ q l. absurd (omega arith)) (λ e. omega arith) (not_taken 1 refl) r
 
--- and slot 1 the key 0, which looks at slot 0 first
+-- and slot 1 the key 0, whose search looks at slot 0 first
 one_not_ready : IsReady direct_config unmade taken 1 → ⊥
 unfolding opened
 one_not_ready r = not_ready direct_config unmade taken 1 (pair32 0 0) refl 0 (λ q l. absurd (omega arith)) (λ e. omega arith) (not_taken 0 refl) r
@@ -77,7 +77,7 @@ unmade_stuck = stuck_if_none direct_config unmade taken (λ i l out r. go i out 
     sorts : (i : ℕ) → i < 64 → known i ≡ true
     sorts i l =
         let at : get_or (range_with_len 0 64) i 0 ≡ i = omega (arith, get_or-range_with_len 0 64 i 0 l) in
-        subst (λ j. known j ≡ true) at (AllPass-from_list_all known (range_with_len 0 64) all_told i 0 l)
+        subst (λ j. known j ≡ true) at (AllPass-from_list_all known (range_with_len 0 64) all_known i 0 l)
 
     go : (i : ℕ) → (Contains taken i → ⊥) → IsReady direct_config unmade taken i → known i ≡ true → ⊥
     go i out r e = elim (or_cases _ _ e) [

@@ -1,4 +1,4 @@
--- What is read and written at a place between two lists.
+-- Bytes read and written at an offset between two lists.
 use Rattle.std.proofs.Common.{◌≡◌, ◌<◌, ◌≤◌, ◌∙◌, ◌+◌, ◌-◌, ◌++◌, ℕ, suc, sym, ap, ap₂, All, List, [], ◌∷◌, take, drop, set, length, get_or, arith, length-append, length-drop, length-take, append_assoc, take_at, drop_at, take-append-drop, drop-cons, drop-drop, take-take}
 use Rattle.std.proofs.Math.Seq.{take-add, take-length}
 use Rattle.std.proofs.lemmas.List.{take-append-le, drop-append-le, drop-take, set_split}
@@ -9,20 +9,20 @@ use Rattle.odht_base.specs.Bytes.{bytes_at, overwritten_at}
 pub split_at : {X : Type 0} (xs : List X) (i : ℕ) (d : X) → i < length xs → xs ≡ take i xs ++ get_or xs i d ∷ drop (suc i) xs
 split_at xs i d h = sym (take-append-drop i xs) ∙ ap (λ ys. take i xs ++ ys) (drop-cons xs i d h)
 
--- the same without the end
+-- n bytes at an offset, by `take` and `drop`
 pub bytes_at-take : (B : List ℕ) (at n : ℕ) → bytes_at B at n ≡ take n (drop at B)
 bytes_at-take B at n = let e : at + n - at ≡ n = omega arith in ap (λ m. take m (drop at B)) e
 
--- what stands between two lists
+-- the bytes between two lists
 pub bytes_at-between : (xs ys zs : List ℕ) (at n : ℕ) → length xs ≡ at → length ys ≡ n → bytes_at (xs ++ (ys ++ zs)) at n ≡ ys
 bytes_at-between xs ys zs at n a b =
     bytes_at-take (xs ++ (ys ++ zs)) at n ∙ ap (take n) (drop_at xs (ys ++ zs) at a) ∙ take_at ys zs n b
 
--- bytes within a list are as many as asked
+-- n bytes read within a list are n bytes
 pub length-bytes_at : (B : List ℕ) (at n : ℕ) → at + n ≤ length B → length (bytes_at B at n) ≡ n
 length-bytes_at B at n h = omega (arith, length-take {A = ℕ}, length-drop {A = ℕ})
 
--- the bytes at a place, then the rest
+-- the bytes at an offset, then the rest
 pub drop-bytes_at : (B : List ℕ) (at n : ℕ) → drop at B ≡ bytes_at B at n ++ drop (at + n) B
 drop-bytes_at B at n =
     sym (take-append-drop n (drop at B)) ∙ ap₂ (λ xs ys. xs ++ ys) (sym (bytes_at-take B at n)) (drop-drop n at B)
@@ -41,7 +41,7 @@ bytes_at-add B at n m =
     bytes_at-take B at (n + m) ∙ take-add n m (drop at B)
     ∙ ap₂ (λ xs ys. xs ++ ys) (sym (bytes_at-take B at n)) (ap (take m) (drop-drop n at B) ∙ sym (bytes_at-take B (at + n) m))
 
--- a part of bytes is bytes
+-- a range of bytes is a list of bytes
 pub All-bytes_at : (B : List ℕ) (at n : ℕ) → All (λ x. x < 256) B → All (λ x. x < 256) (bytes_at B at n)
 All-bytes_at B at n h = All-take (λ x. x < 256) (at + n - at) (drop at B) (All-drop (λ x. x < 256) at B h)
 
@@ -54,7 +54,7 @@ length-overwritten_at B at d h =
     let r = length-drop (at + length d) B in
     omega (arith, a, b, t, r)
 
--- a write over what stands between two lists
+-- a write over the bytes between two lists
 pub overwritten_at-between : (xs ys zs : List ℕ) (at : ℕ) (d : List ℕ) → length xs ≡ at → length ys ≡ length d → overwritten_at (xs ++ (ys ++ zs)) at d ≡ xs ++ (d ++ zs)
 overwritten_at-between xs ys zs at d a b =
     let front = take_at xs (ys ++ zs) at a in
@@ -90,7 +90,7 @@ overwritten_at-single B at b h =
     let e : at + 1 ≡ suc at = omega arith in
     ap (λ n. (take at B ++ b ∷ []) ++ drop n B) e ∙ append_assoc (take at B) (b ∷ []) (drop (suc at) B) ∙ sym (set_split B at b h)
 
--- what stands before a write
+-- the bytes before a write
 pub take-overwritten_at : (B : List ℕ) (at n : ℕ) (d : List ℕ) → n ≤ at → at ≤ length B → take n (overwritten_at B at d) ≡ take n B
 take-overwritten_at B at n d h l =
     let a : length (take at B) ≡ at = length-take at B ∙ omega arith in
@@ -98,7 +98,7 @@ take-overwritten_at B at n d h l =
     let k : n ≤ length (take at B ++ d) = omega (arith, m, length-append (take at B) d) in
     take-append-le n (take at B ++ d) (drop (at + length d) B) k ∙ take-append-le n (take at B) d m ∙ take-take n at B h
 
--- what stands behind a write
+-- the bytes behind a write
 pub drop-overwritten_at : (B : List ℕ) (at n : ℕ) (d : List ℕ) → at + length d ≤ n → at ≤ length B → drop n (overwritten_at B at d) ≡ drop n B
 drop-overwritten_at B at n d h l =
     let m = at + length d in
@@ -112,7 +112,7 @@ drop-overwritten_at B at n d h l =
 pub take-overwritten_at_end : (B : List ℕ) (at : ℕ) (d : List ℕ) → at ≤ length B → take (at + length d) (overwritten_at B at d) ≡ take at B ++ d
 take-overwritten_at_end B at d l = take_at (take at B ++ d) (drop (at + length d) B) (at + length d) (length-append (take at B) d ∙ omega (arith, length-take at B))
 
--- a write behind a write is one write
+-- two adjacent writes are one write
 pub overwritten_at-twice : (B : List ℕ) (at to : ℕ) (d e : List ℕ) → at + length d ≡ to → to ≤ length B → overwritten_at (overwritten_at B at d) to e ≡ overwritten_at B at (d ++ e)
 overwritten_at-twice B at to d e n l =
     let front : take to (overwritten_at B at d) ≡ take at B ++ d = ap (λ m. take m (overwritten_at B at d)) (sym n) ∙ take-overwritten_at_end B at d (omega arith) in
@@ -137,7 +137,7 @@ pub bytes_at-drop : (B : List ℕ) (from at n m : ℕ) → from + at ≡ m → b
 bytes_at-drop B from at n m e =
     bytes_at-take (drop from B) at n ∙ ap (take n) (drop-drop at from B ∙ ap (λ k. drop k B) e) ∙ sym (bytes_at-take B m n)
 
--- a part of a part
+-- a range of a range
 pub bytes_at-bytes_at : (B : List ℕ) (from n at k m : ℕ) → at + k ≤ n → from + at ≡ m → bytes_at (bytes_at B from n) at k ≡ bytes_at B m k
 bytes_at-bytes_at B from n at k m h e =
     ap (λ t. bytes_at t at k) (bytes_at-take B from n) ∙ bytes_at-take_front (drop from B) at k n h ∙ bytes_at-drop B from at k m e

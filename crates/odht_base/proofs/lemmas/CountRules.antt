@@ -48,7 +48,7 @@ run-agrees insert by_count agree P (p ∷ ps) none = go (insert P p) none.1 (λ 
     go (Some Q) rest ih = ih Q rest
 
 -- ---- different keys, none of them in the table
--- of a table's pairs and others with different keys, the others have new ones
+-- of lists whose keys are all different, the second has no key of the first
 apart-new : (qs ps : List Pair) → KeysApart (qs ++ ps) → KeysApart ps × ((k v : List ℕ) → value_in ps k ≡ Some v → value_in qs k ≡ None)
 apart-new [] ps apart = (apart, λ k v e. refl)
 apart-new (q ∷ qs) ps apart =

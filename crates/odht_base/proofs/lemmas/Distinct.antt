@@ -1,4 +1,4 @@
--- The probe order lists each slot once: two places of an order are two slots.
+-- The probe order lists each slot once: two positions of an order are two slots.
 use Rattle.std.proofs.Common.{◌≡◌, ◌<◌, ◌≤◌, ◌∙◌, ◌+◌, ◌*◌, ◌-◌, ◌/◌, ◌%◌, ◌^◌, ℕ, zero, suc, sym, ap, subst, refl, arith, pow-suc, Bool, true, false, nat_lt, ltb-true, ltb-false, mul_comm, div-add-mod', mul-le-mul_left}
 use Rattle.odht_base.specs.Load.{IsSlotCount}
 use Rattle.odht_base.specs.Probe.{probe_slot}
@@ -57,7 +57,7 @@ too_far k j d u v pos low t = go (nat_lt u v) refl
         let le_bytes = mul-le-mul_left (2 ^ suc k) (ltb-false u v h) in
         omega (arith, t, le_bytes, pos)
 
--- places of one slot have one place in their groups
+-- positions of one slot have one offset in their groups
 same_offset : (k b x y i l u v : ℕ) → i < 16 → l < 16
     → (b + 8 * x * (x + 1) + i) + 8 * 2 ^ suc k * v ≡ (b + 8 * y * (y + 1) + l) + 8 * 2 ^ suc k * u → i ≡ l
 same_offset k b x y i l u v li ll e =
@@ -86,7 +86,7 @@ at_power k b p q u v before within e =
     let same = same_offset k b (p / 16) (q / 16) (p % 16) (q % 16) u v (omega arith) (omega arith) e in
     same_step k b (p / 16) (q / 16) (p % 16) (q % 16) u v same (omega (arith, same, before)) (omega (arith, within)) e
 
--- two places of an order are two slots
+-- two positions of an order are two slots
 pub probe_slot-injective : (b s p q : ℕ) → IsSlotCount s → p < q → q < s → probe_slot b s p ≡ probe_slot b s q → ⊥
 probe_slot-injective b s p q c before within same = at_exponent (exponent s c).0 (exponent s c).1 (exponent s c).3
   where

@@ -1,4 +1,4 @@
--- The first item of a list that passes a test: what makes it that, and what it tells.
+-- The first item of a list that passes a test: what makes it the first, and what follows from it.
 use Rattle.std.proofs.Common.{◌≡◌, ℕ, ◌<◌, inl, inr, refl, sym, subst, ◌∙◌, arith, Bool, true, false, List, length, get_or, slice_get, Some, None, position, find, lt-ltb, le-ltb}
 use Rattle.std.specs.List.{position_or_len}
 use Rattle.std.proofs.lemmas.Bool.{cases_lt}
@@ -15,7 +15,7 @@ module _ {X : Type 0} (t : X → Bool) where
   first_past : (xs : List X) (d : X) → ((k : ℕ) → k < length xs → t (get_or xs k d) ≡ false) → position_or_len t xs ≡ length xs
   first_past xs d all = position_or_len_is t xs (length xs) d (omega arith) all (λ l. absurd (omega arith))
 
-  -- so `position` answers its place
+  -- so `position` answers its index
   pub position_is : (xs : List X) (i : ℕ) (d : X) → i < length xs → ((k : ℕ) → k < i → t (get_or xs k d) ≡ false) → t (get_or xs i d) ≡ true → position t xs ≡ Some i
   position_is xs i d l before here = rw (first_at xs i d l before here, lt-ltb i (length xs) l) refl
 

@@ -57,7 +57,7 @@ at_set Q (c ∷ cs) (suc i) q h here (suc j) p g = at_set Q cs i q (λ k. h (suc
 pub HasPairsOf-set : (F : Format) (cs : Cells) (i : ℕ) (q : Pair) → HasPairsOf F cs → IsPairOf F q → HasPairsOf F (set cs i (Some q))
 HasPairsOf-set F cs i q h fits = at_set (IsPairOf F) cs i q h fits
 
--- an empty table holds none
+-- an empty table holds no pair
 pub HasPairsOf-empty : (F : Format) (s f : ℕ) → HasPairsOf F (empty s f).cells
 HasPairsOf-empty F s f i p g = absurd (none-some p (sym (cell_at-free s i) ∙ g))
 

@@ -1,4 +1,4 @@
--- Inserts into a table that has room for them all neither grow it nor are refused.
+-- Inserts into a table that has room for them all neither grow it nor answer None.
 use Rattle.std.proofs.Common.{inl, ◌≡◌, ◌<◌, ◌≤◌, ◌+◌, ◌∙◌, ℕ, sym, ap, subst, refl, List, [], ◌∷◌, Option, Some, length, arith, All}
 use Rattle.std.specs.Prelude.{option_and_then}
 use Rattle.std.specs.Option.{option_or}
@@ -46,7 +46,7 @@ module _ (F : Format) (insert : Table → Pair → Option Table) (places : Place
       ∙ run-place_all t.0 ps valid (All-tail (IsPairOf F) p ps fit) room'
       ∙ ap (option_and_then (λ Q. place_all F Q ps)) (sym t.1)
 
-  -- and none is refused
+  -- and none of them answers None
   pub run-fits : (P : Table) (ps : List Pair) → IsValid F P → All (IsPairOf F) ps → count P + length ps ≤ max_items (slot_count P) P.factor → (Q : Table) × (run insert P ps ≡ Some Q) × (slot_count Q ≡ slot_count P)
   run-fits P ps ok fit room =
       let below = max_items-lt (slot_count P) P.factor (slots_pos (slot_count P) ok.placed.slots) ok.factor_high in

@@ -30,7 +30,7 @@ place-IsInsert F = record {
   maps = λ P Q p ok e. map_of-place F P Q p ok e;
 }
 
--- the slots of a table stay
+-- the slot count of a table stays
 pub slot_count-place_all : (F : Format) (P Q : Table) (ps : List Pair) → IsPlaced F P → All (IsPairOf F) ps → place_all F P ps ≡ Some Q → slot_count Q ≡ slot_count P
 slot_count-place_all F P Q [] ok fit e = ap slot_count (sym (some_same P Q e))
 slot_count-place_all F P Q (p ∷ ps) ok fit e =
@@ -64,7 +64,7 @@ new-tail P Q p ps apart new maps k v e = maps k ∙ go (bytes_eq k p.key) refl
     go true t = absurd (none-some v (sym apart.0 ∙ ap (value_in ps) (sym (same_bytes k p.key t)) ∙ e))
     go false t = new k v (value_in-cons p ps k ∙ ap (λ b. cond b (Some p.value) (value_in ps k)) t ∙ e)
 
--- pairs of new and different keys come to the walk
+-- pairs of new and different keys are added to the walk
 pub walk-place_all : (F : Format) (P Q : Table) (ps : List Pair) → IsPlaced F P → All (IsPairOf F) ps → KeysApart ps → AreNew P ps → place_all F P ps ≡ Some Q → IsPermutation (walk Q) (ps ++ walk P)
 walk-place_all F P Q [] ok fit apart new e = subst (λ (x : Table). IsPermutation (walk x) (walk P)) (some_same P Q e) (IsPermutation-refl (walk P))
 walk-place_all F P Q (p ∷ ps) ok fit apart new e =
@@ -92,7 +92,7 @@ module _ (F : Format) (P : Table) (ok : IsValid F P) (s : ℕ) (least : IsLeastS
       let h = max_items-holds (max 1 (2 * count P)) s P.factor least.holds in
       omega (arith, le-max_left 1 (2 * count P), le-max_right 1 (2 * count P))
 
-  -- and what they give is the grown table
+  -- and placing the pairs there gives the grown table
   pub grows-IsGrown : (Q : Table) → place_all F (empty s P.factor) (walk P) ≡ Some Q → IsGrown F P Q
   grows-IsGrown Q e =
       let from = empty-IsPlaced s P.factor F least.is_count in
@@ -119,7 +119,7 @@ module _ (F : Format) (P : Table) (ok : IsValid F P) (s : ℕ) (least : IsLeastS
       }
 
 module _ (F : Format) (P : Table) (ok : IsValid F P) where
-  -- what a growth answers is valid, of the same pairs, with room
+  -- a grown table is valid, with the same pairs and room for more
   pub grown-IsGrown : (Q : Table) → grown F P ≡ Some Q → IsGrown F P Q
   unfolding grown
   grown-IsGrown Q e =

@@ -1,4 +1,4 @@
--- Laws of the image of a table: what its header says, and what its bytes show.
+-- Laws of the image of a table: what its header says, and what its bytes decode to.
 use Rattle.std.proofs.Common.{◌≡◌, ◌≤◌, ◌∙◌, ◌+◌, ◌*◌, ◌++◌, ℕ, zero, suc, sym, ap, refl, ◌∷◌, None, map, take, drop, replicate, length, arith, append_assoc, drop_at, length-append}
 use Rattle.std.proofs.lemmas.List.{length-replicate, replicate-append-replicate, take-replicate}
 use Rattle.odht_base.specs.Bytes.{bytes_at}
@@ -13,7 +13,7 @@ use Rattle.odht_base.proofs.lemmas.Fits.{IsSized, IsSized-IsPlaced}
 use Rattle.odht_base.proofs.lemmas.Numbers.{num-le_bytes}
 use Rattle.odht_base.proofs.lemmas.Parts.{length-header_bytes, length-entries, length-parts, decoded_cells-parts}
 
--- the image of a sized table states its slot count
+-- the header of a sized table's image has its slot count
 pub header_slots-image : (F : Format) (P : Table) → IsSized F P → header_slots (image F P) ≡ slot_count P
 unfolding image
 header_slots-image F P h = num-le_bytes 8 (slot_count P) h.few
@@ -56,21 +56,21 @@ controls_of-image F P h =
     ∙ ap (drop (32 + slot_count P * entry_len F)) (sym (append_assoc H (entries F P.cells) (controls F P.cells)))
     ∙ drop_at (H ++ entries F P.cells) (controls F P.cells) (32 + slot_count P * entry_len F) n
 
--- the image shows the cells
+-- the image decodes to the cells
 pub decoded_cells-image : (F : Format) (P : Table) → IsFormat F → IsSized F P → HasPairsOf F P.cells → decoded_cells F (entries_of F (image F P)) (controls_of F (image F P)) ≡ P.cells
 decoded_cells-image F P f h b =
     ap (λ es. decoded_cells F es (controls_of F (image F P))) (entries_of-image F P h)
     ∙ ap (decoded_cells F (entries F P.cells)) (controls_of-image F P h)
     ∙ decoded_cells-parts F P.cells f b h.enough
 
--- the image of a valid table shows the table
+-- the image of a valid table decodes to the table
 pub decoded_table-image : (F : Format) (P : Table) → IsFormat F → IsValid F P → decoded_table F (image F P) ≡ P
 decoded_table-image F P f h =
     let factor = header_factor-image F P h.factor_high in
     let cells = decoded_cells-image F P f (IsSized-IsPlaced F P h.placed) h.placed.pairs in
     λ i. record { factor = factor i; cells = cells i }
 
--- valid bytes show their table's pairs
+-- valid bytes decode to their table's pairs
 pub decoded_pairs-image : (F : Format) (P : Table) → IsFormat F → IsValid F P → decoded_pairs F (image F P) ≡ walk P
 decoded_pairs-image F P f h = ap walk (decoded_table-image F P f h)
 
@@ -87,7 +87,7 @@ entries-empty F (suc s) =
     ap (λ es. replicate (entry_len F) 0 ++ es) (entries-empty F s)
     ∙ replicate-append-replicate (entry_len F) (s * entry_len F) 0 ∙ ap (λ n. replicate n 0) e
 
--- 255s
+-- its control bytes are 255s
 pub controls-empty : (F : Format) (s : ℕ) → 16 ≤ s → controls F (replicate s None) ≡ replicate (s + 16) 255
 unfolding controls
 controls-empty F s enough =

@@ -26,7 +26,7 @@ pub no_key_free : (k : List ℕ) (c : Option Pair) → is_none c ≡ true → ha
 no_key_free k None e = refl
 no_key_free k (Some p) e = absurd (true≢false (sym e))
 
--- a pair stands below the number of cells
+-- a slot that holds a pair is below the number of cells
 pub cell_at-within : (cs : Cells) (i : ℕ) (p : Pair) → cell_at cs i ≡ Some p → i < length cs
 cell_at-within [] i p g = absurd (none-some p g)
 cell_at-within (c ∷ cs) zero p g = omega arith

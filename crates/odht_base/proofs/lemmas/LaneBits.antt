@@ -9,7 +9,7 @@ use Rattle.std.proofs.lemmas.Simd.{bitmask_splat, mask_l-mod}
 use lib.Lanes.{mask_l, zip2, top}
 use Rattle.odht_base.specs.Masks.{set_bits}
 use Rattle.odht_base.specs.Groups.{equal, first_free, occupied}
-use Rattle.odht_base.proofs.lemmas.MarkedPositions.{positions_of, equal-places, occupied-places}
+use Rattle.odht_base.proofs.lemmas.MarkedPositions.{positions_of, equal-positions, occupied-positions}
 use Rattle.odht_base.proofs.lemmas.MaskBits.{bits_mask, first_is_position}
 
 -- the mask of the lanes that equal h
@@ -17,9 +17,9 @@ pub equal_lanes : (g : List ℕ) (h : ℕ) → length g ≡ 16 → set_bits (mas
 equal_lanes g h l =
     ap set_bits (bitmask_splat w8 (λ a b. nat_eq a b) g 16 h l (omega arith))
     ∙ bits_mask 64 0 (map (λ x. nat_eq x h) g) (omega (arith, length-map g (λ x. nat_eq x h)))
-    ∙ sym (equal-places g h)
+    ∙ sym (equal-positions g h)
 
--- a lane's highest bit tells its answer
+-- a lane's highest bit is its answer
 top_byte : (b : Bool) → top 7 (cond b 255 0) ≡ b
 top_byte true = refl
 top_byte false = refl
@@ -53,7 +53,7 @@ next-mask b bs n rest half low whole =
     pow-pos zero = omega arith
     pow-pos (suc k) = omega (arith, pow-pos k, pow-suc 2 k)
 
--- the mask of the first answers is what is left of a mask by a power of two
+-- the mask of the first n answers is the mask modulo 2 ^ n
 mask_l-take : (bs : List Bool) (n : ℕ) → mask_l bs % 2 ^ n ≡ mask_l (take n bs)
 mask_l-take [] zero = omega arith
 mask_l-take [] (suc n) = zero-mod (2 ^ suc n)
@@ -72,4 +72,4 @@ occupied_lanes g n l m =
     ∙ ap set_bits (mask_l-take (map (λ x. nat_lt x 128) g) n)
     ∙ bits_mask 64 0 (take n (map (λ x. nat_lt x 128) g)) (omega (arith, length-take n (map (λ x. nat_lt x 128) g), length-map g (λ x. nat_lt x 128)))
     ∙ ap (positions_of 0) (take-map (λ x. nat_lt x 128) n g)
-    ∙ sym (occupied-places (take n g))
+    ∙ sym (occupied-positions (take n g))

@@ -7,7 +7,7 @@ use Rattle.odht_base.proofs.lemmas.FirstMatch.{IsFirst, find-Some, find-None}
 use Rattle.odht_base.proofs.lemmas.Options.{some_same}
 use Rattle.odht_base.proofs.lemmas.SlotCounts.{exponent, IsSlotCount-pow}
 
--- the slot count at place q
+-- the slot count at index q
 slice_get-slot_counts : (q e : ℕ) → q < 60 → 4 + q ≡ e → slice_get slot_counts q ≡ Some (2 ^ e)
 slice_get-slot_counts q e h g = slice_get-get_or slot_counts q 0 h ∙ ap Some (get_or-map-range_with_len (λ n. 2 ^ n) 4 60 q e 0 h g)
 

@@ -1,4 +1,4 @@
--- What a search in a placed table tells.
+-- Where a search in a placed table ends, and the map's value there.
 use Rattle.std.proofs.Common.{◌≡◌, ◌<◌, ◌∙◌, ℕ, true, false, true≢false, sym, ap, refl, List, Option, Some, None, length, arith}
 use Rattle.std.specs.Prelude.{is_none, option_map, option_and_then}
 use Rattle.std.proofs.lemmas.Bool.{or_from, or_right, false_from_ne_true}
@@ -16,7 +16,7 @@ use Rattle.odht_base.proofs.lemmas.Places.{is_free-target}
 use Rattle.odht_base.proofs.lemmas.SearchEnds.{IsTarget, has_key-holds, has_key-one, search_end-IsTarget}
 use Rattle.std.proofs.lemmas.Option.{none-some}
 
--- in a placed table each pair stands where a search for its key ends
+-- in a placed table each pair is in the slot where a search for its key ends
 pub AllArrive-IsPlaced : (F : Format) (P : Table) → IsPlaced F P → AllArrive F P
 unfolding search_end
 AllArrive-IsPlaced F P ok i p h =
@@ -24,14 +24,14 @@ AllArrive-IsPlaced F P ok i p h =
     let here = has_key-holds P i p h in
     let b = home F p.key (slot_count P) in
     find-order (stops_at P.cells p.key) b (slot_count P) r.position r.in_order
-    (ap (stops_at P.cells p.key) r.stands ∙ or_right _ _ here)
+    (ap (stops_at P.cells p.key) r.slot_is ∙ or_right _ _ here)
     (λ q l. or_from _ _ (r.earlier_occupied q l) (false_from_ne_true _ (λ g.
     let same = has_key-one F P p.key ok (probe_slot b (slot_count P) q) i g here in
     let lq : q < slot_count P = omega (arith, r.in_order) in
-    let z = probe_slot-apart b (slot_count P) q r.position ok.slots lq r.in_order (same ∙ sym r.stands) in omega arith)))
-    ∙ ap Some r.stands
+    let z = probe_slot-apart b (slot_count P) q r.position ok.slots lq r.in_order (same ∙ sym r.slot_is) in omega arith)))
+    ∙ ap Some r.slot_is
 
--- a walk over the places of k's order that met no stop before place n, and one at place n
+-- a search in the order of k that met no stop before position n, and one at position n
 pub search_end-at : (F : Format) (cs : Cells) (k : List ℕ) (n : ℕ) → n < length cs
     → ((m : ℕ) → m < n → stops_at cs k (probe_slot (home F k (length cs)) (length cs) m) ≡ false)
     → stops_at cs k (probe_slot (home F k (length cs)) (length cs) n) ≡ true
@@ -39,7 +39,7 @@ pub search_end-at : (F : Format) (cs : Cells) (k : List ℕ) (n : ℕ) → n < l
 unfolding search_end
 search_end-at F cs k n l below here = find-order (stops_at cs k) (home F k (length cs)) (length cs) n l here below
 
--- one that met no stop at all
+-- a search that met no stop at all
 pub search_end-nowhere : (F : Format) (cs : Cells) (k : List ℕ)
     → ((m : ℕ) → m < length cs → stops_at cs k (probe_slot (home F k (length cs)) (length cs) m) ≡ false)
     → search_end F cs k ≡ None

@@ -1,4 +1,4 @@
--- A valid table is made by inserts exactly where it has an insert order, and each of the four inserts makes the same ones.
+-- A valid table is made by inserts exactly where it has an insert order; all four inserts make the same tables.
 use Rattle.std.proofs.Common.{◌≡◌, ◌<◌, ◌≤◌, ◌+◌, ◌∙◌, inl, inr, ℕ, ap, List, [], ◌∷◌, Option, Some, None, length, arith, ◌↔◌}
 use Rattle.std.specs.List.{cons_option}
 use Rattle.std.proofs.lemmas.List.Sorted.{length_permutation}
@@ -33,7 +33,7 @@ length-IsInsertOrder F P out o = length_permutation (occupied P) out o.each_once
 
 module _ (F : Format) (P : Table) (ok : IsValid F P) where
   -- ---- from an order to inserts
-  -- an empty table of as many slots takes the pairs of an insert order without growth or refusal, and is then the table
+  -- an empty table of as many slots takes the pairs of an insert order without growth or error, and is then the table
   pub order-runs : (insert : Table → Pair → Option Table) → PlacesBelow F insert → (out : List ℕ) → IsInsertOrder F P out → run insert (empty (slot_count P) P.factor) (pairs_of P out) ≡ Some P
   order-runs insert places out o =
       let s = slot_count P in

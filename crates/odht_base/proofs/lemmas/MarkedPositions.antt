@@ -1,4 +1,4 @@
--- The places of what is true in a list of answers, as a mask marks them.
+-- The positions of the true answers in a list, as a mask marks them.
 use Rattle.std.proofs.Common.{◌≡◌, ℕ, zero, suc, ◌+◌, ◌-◌, ◌<◌, ◌≤◌, Bool, true, false, cond, List, [], ◌∷◌, length, map, filter, get_or, refl, sym, ap₂, ◌∙◌, arith, subst, nat_eq, nat_lt}
 use Rattle.std.specs.Prelude.{slice_index_or}
 use Rattle.std.specs.List.{Contains}
@@ -8,35 +8,35 @@ use mathlib.Core.Bool.{true≢false}
 use Rattle.std.specs.List.{range_with_len}
 use Rattle.odht_base.specs.Groups.{equal, occupied, IsReport}
 
--- the places of what is true, counted from i on
+-- the positions of the true answers, counted from i on
 abbrev pub positions_of : ℕ → List Bool → List ℕ
 positions_of i [] = []
 positions_of i (b ∷ bs) = cond b (i ∷ positions_of (i + 1) bs) (positions_of (i + 1) bs)
 
--- the indices that pass a test of their elements are the places where it is true
-filter-places : (p q : ℕ → Bool) (i : ℕ) (g : List ℕ) → ((k : ℕ) → k < length g → q (i + k) ≡ p (get_or g k 0)) → filter q (range_with_len i (length g)) ≡ positions_of i (map p g)
-filter-places p q i [] h = refl
-filter-places p q i (x ∷ g) h =
+-- the indices that pass a test of their elements are the positions where it is true
+filter-positions : (p q : ℕ → Bool) (i : ℕ) (g : List ℕ) → ((k : ℕ) → k < length g → q (i + k) ≡ p (get_or g k 0)) → filter q (range_with_len i (length g)) ≡ positions_of i (map p g)
+filter-positions p q i [] h = refl
+filter-positions p q i (x ∷ g) h =
     let first : q i ≡ p x = (let at : i + 0 ≡ i = omega arith in rw at at (h 0 (omega arith))) in
-    let rest = filter-places p q (i + 1) g (λ k l. let at : i + suc k ≡ i + 1 + k = omega arith in rw at at (h (suc k) (omega arith))) in
+    let rest = filter-positions p q (i + 1) g (λ k l. let at : i + suc k ≡ i + 1 + k = omega arith in rw at at (h (suc k) (omega arith))) in
     ap₂ (λ b xs. cond b (i ∷ xs) xs) first rest
 
--- the indices of a byte are the places where it is
-pub equal-places : (g : List ℕ) (h : ℕ) → equal g h ≡ positions_of 0 (map (λ x. nat_eq x h) g)
-equal-places g h = filter-places (λ x. nat_eq x h) (λ i. nat_eq (get_or g i 0) h) 0 g (λ k l. let at : 0 + k ≡ k = omega arith in rw at refl)
+-- the indices of a byte are the positions where it is
+pub equal-positions : (g : List ℕ) (h : ℕ) → equal g h ≡ positions_of 0 (map (λ x. nat_eq x h) g)
+equal-positions g h = filter-positions (λ x. nat_eq x h) (λ i. nat_eq (get_or g i 0) h) 0 g (λ k l. let at : 0 + k ≡ k = omega arith in rw at refl)
 
--- and so are those of the filled bytes
-pub occupied-places : (g : List ℕ) → occupied g ≡ positions_of 0 (map (λ x. nat_lt x 128) g)
-occupied-places g = filter-places (λ x. nat_lt x 128) (λ i. nat_lt (get_or g i 0) 128) 0 g (λ k l. let at : 0 + k ≡ k = omega arith in rw at refl)
+-- and so are those of the bytes of occupied slots
+pub occupied-positions : (g : List ℕ) → occupied g ≡ positions_of 0 (map (λ x. nat_lt x 128) g)
+occupied-positions g = filter-positions (λ x. nat_lt x 128) (λ i. nat_lt (get_or g i 0) 128) 0 g (λ k l. let at : 0 + k ≡ k = omega arith in rw at refl)
 
--- no place is below the first count
+-- no position is below the first count
 above : (i : ℕ) (bs : List Bool) (k : ℕ) → k < length (positions_of i bs) → i ≤ get_or (positions_of i bs) k 0
 above i [] k l = absurd (omega arith)
 above i (true ∷ bs) zero l = omega arith
 above i (true ∷ bs) (suc k) l = let e : k < length (positions_of (i + 1) bs) = omega arith in omega (arith, above (i + 1) bs k e)
 above i (false ∷ bs) k l = omega (arith, above (i + 1) bs k l)
 
--- places rise
+-- positions rise
 pub rising : (i : ℕ) (bs : List Bool) → IsStrictlyIncreasing (positions_of i bs)
 rising i [] k l = absurd (omega arith)
 rising i (true ∷ bs) zero l = let e : 0 < length (positions_of (i + 1) bs) = omega arith in omega (arith, above (i + 1) bs 0 e)
@@ -47,7 +47,7 @@ rising i (true ∷ bs) (suc k) l =
     rw at next
 rising i (false ∷ bs) k l = rising (i + 1) bs k l
 
--- at a place that is listed stands something true
+-- at a position that is listed the answer is true
 holds : (i : ℕ) (bs : List Bool) (x k : ℕ) → k < length (positions_of i bs) → slice_index_or (positions_of i bs) k x ≡ x → (i ≤ x) × (get_or bs (x - i) false ≡ true)
 holds i [] x k l e = absurd (omega arith)
 holds i (true ∷ bs) x zero l e =
@@ -66,7 +66,7 @@ holds i (false ∷ bs) x k l e =
 further : (x y : ℕ) (xs : List ℕ) → Contains xs x → Contains (y ∷ xs) x
 further x y xs h = (suc h.0, omega (arith, h.1), h.2)
 
--- the place of something true is listed
+-- the position of a true answer is listed
 has : (i : ℕ) (bs : List Bool) (k : ℕ) → get_or bs k false ≡ true → Contains (positions_of i bs) (i + k)
 has i [] k e = absurd (true≢false (sym e))
 has i (true ∷ bs) zero e = (0, omega arith, omega arith)
@@ -103,4 +103,4 @@ report_from_equal g h xs small e =
       complete = λ i l same. position_at (map test g) i (at_map test g i l (eq-eqb (get_or g i 0) h same));
       occupied = λ i c. let t = map_at test g i (true_at (map test g) i c) in (t.0, omega (arith, eqb-true (get_or g i 0) h t.1));
     } in
-    subst (λ ys. IsReport g h ys) (sym (e ∙ equal-places g h)) whole
+    subst (λ ys. IsReport g h ys) (sym (e ∙ equal-positions g h)) whole

@@ -9,7 +9,7 @@ use borrow.Author.Tests.{lt-ltb, le-ltb, ltb-true, ltb-false}
 use Rattle.odht_base.specs.Masks.{bits_from, set_bits}
 use Rattle.odht_base.proofs.lemmas.MarkedPositions.{positions_of}
 
--- an even mask has its lowest place free
+-- an even mask has its lowest bit clear
 pub even_step : (k i n m : ℕ) → n ≡ 2 * m → bits_from (suc k) i n ≡ bits_from k (i + 1) m
 unfolding bits_from
 even_step k i n m e =
@@ -17,7 +17,7 @@ even_step k i n m e =
     let rest : n / 2 ≡ m = omega arith in
     rw (low, rest) refl
 
--- an odd mask has its lowest place set
+-- an odd mask has its lowest bit set
 pub odd_step : (k i n m : ℕ) → n ≡ 2 * m + 1 → bits_from (suc k) i n ≡ i ∷ bits_from k (i + 1) m
 unfolding bits_from
 odd_step k i n m e =
@@ -31,20 +31,20 @@ unfolding bits_from
 no_bits zero i = refl
 no_bits (suc k) i = no_bits k (i + 1)
 
--- the first place by the lowest bit
+-- the first position, by the lowest bit
 low_by : (k i n d : ℕ) → n % 2 ≡ d → 0 < n → (0 < n / 2 → slice_get (bits_from k (i + 1) (n / 2)) 0 ≡ Some (i + 1 + count_trailing_zeros k (n / 2)))
     → slice_get (cond (nat_eq d 1) (i ∷ bits_from k (i + 1) (n / 2)) (bits_from k (i + 1) (n / 2))) 0 ≡ Some (i + under d (count_trailing_zeros k (n / 2)))
 low_by k i n zero e p ih = ih (omega arith) ∙ ap Some (omega arith)
 low_by k i n (suc zero) e p ih = ap Some (omega arith)
 low_by k i n (suc (suc d)) e p ih = absurd (omega arith)
 
--- the first place is the count of trailing zeros
+-- the first position is the count of trailing zeros
 pub lowest : (k i n : ℕ) → 0 < n → n < 2 ^ k → slice_get (bits_from k i n) 0 ≡ Some (i + count_trailing_zeros k n)
 unfolding bits_from count_trailing_zeros
 lowest zero i n p q = absurd (omega arith)
 lowest (suc k) i n p q = low_by k i n (n % 2) refl p (λ h. lowest k (i + 1) (n / 2) h (omega arith))
 
--- what is left by the lowest bit
+-- the positions that are left, by the lowest bit
 rest_by : (k i n d : ℕ) → n % 2 ≡ d → 0 < n → (0 < n / 2 → bits_from k (i + 1) (bit_and (n / 2) (n / 2 - 1)) ≡ drop 1 (bits_from k (i + 1) (n / 2)))
     → bits_from (suc k) i (bit_and n (n - 1)) ≡ drop 1 (cond (nat_eq d 1) (i ∷ bits_from k (i + 1) (n / 2)) (bits_from k (i + 1) (n / 2)))
 rest_by k i n zero e p ih =
@@ -57,13 +57,13 @@ rest_by k i n (suc zero) e p ih =
     even_step k i (bit_and n (n - 1)) (n / 2) both
 rest_by k i n (suc (suc d)) e p ih = absurd (omega arith)
 
--- what is left where something is set
+-- a mask that is not zero, and-ed with the number below, loses its first position
 rest_of : (k i n : ℕ) → 0 < n → n < 2 ^ k → bits_from k i (bit_and n (n - 1)) ≡ drop 1 (bits_from k i n)
 unfolding bits_from
 rest_of zero i n p q = absurd (omega arith)
 rest_of (suc k) i n p q = rest_by k i n (n % 2) refl p (λ h. rest_of k (i + 1) (n / 2) h (omega arith))
 
--- and with the number below takes the first place away
+-- so does a mask of 64 bits, where the number below wraps
 pub without_lowest : (n : ℕ) → n < 2 ^ 64 → set_bits (bit_and n ((n + 18446744073709551615) % 18446744073709551616)) ≡ drop 1 (set_bits n)
 without_lowest zero l = rw (and_zero_l 18446744073709551615, no_bits 64 0) refl
 without_lowest (suc n) l =
@@ -71,15 +71,15 @@ without_lowest (suc n) l =
     rw e (rest_of 64 0 (suc n) (omega arith) l)
 
 -- ---- a mask of lanes
--- a mask of answers has the places of the true ones
+-- a mask of answers has the positions of the true ones
 pub bits_mask : (k i : ℕ) (bs : List Bool) → length bs ≤ k → bits_from k i (mask_l bs) ≡ positions_of i bs
 bits_mask k i [] l = no_bits k i
 bits_mask zero i (b ∷ bs) l = absurd (omega arith)
 bits_mask (suc k) i (true ∷ bs) l = odd_step k i (mask_l (true ∷ bs)) (mask_l bs) (omega arith) ∙ ap (λ r. i ∷ r) (bits_mask k (i + 1) bs (omega arith))
 bits_mask (suc k) i (false ∷ bs) l = even_step k i (mask_l (false ∷ bs)) (mask_l bs) (omega arith) ∙ bits_mask k (i + 1) bs (omega arith)
 
--- ---- the first place
--- the first place by the first answer
+-- ---- the first position
+-- the first position, by the first answer
 first_by : (b : Bool) (i r n : ℕ) (rest : List ℕ) → slice_get rest 0 ≡ cond (nat_lt r n) (Some (i + 1 + r)) None
     → slice_get (cond b (i ∷ rest) rest) 0 ≡ cond (nat_lt (cond (not b) (1 + r) 0) (suc n)) (Some (i + cond (not b) (1 + r) 0)) None
 first_by true i r n rest e = rw (lt-ltb 0 (suc n) (omega arith)) (ap Some (omega arith))
@@ -88,11 +88,11 @@ first_by false i r n rest e =
     let test : nat_lt r n ≡ nat_lt (1 + r) (suc n) = grind (arith, lt-ltb, le-ltb, ltb-true, ltb-false) in
     e ∙ rw (same, test) refl
 
--- the first place of a true answer, counted from i on
-first_place : {X : Type 0} (p : X → Bool) (i : ℕ) (xs : List X) → slice_get (positions_of i (map p xs)) 0 ≡ cond (nat_lt (position_or_len p xs) (length xs)) (Some (i + position_or_len p xs)) None
-first_place p i [] = refl
-first_place p i (x ∷ xs) = first_by (p x) i (position_or_len p xs) (length xs) (positions_of (i + 1) (map p xs)) (first_place p (i + 1) xs)
+-- the first position of a true answer, counted from i on
+first_position : {X : Type 0} (p : X → Bool) (i : ℕ) (xs : List X) → slice_get (positions_of i (map p xs)) 0 ≡ cond (nat_lt (position_or_len p xs) (length xs)) (Some (i + position_or_len p xs)) None
+first_position p i [] = refl
+first_position p i (x ∷ xs) = first_by (p x) i (position_or_len p xs) (length xs) (positions_of (i + 1) (map p xs)) (first_position p (i + 1) xs)
 
--- the first place where a test passes
+-- the first position where a test passes
 pub first_is_position : {X : Type 0} (p : X → Bool) (xs : List X) → slice_get (positions_of 0 (map p xs)) 0 ≡ position p xs
-first_is_position p xs = first_place p 0 xs ∙ rw (let e : 0 + position_or_len p xs ≡ position_or_len p xs = omega arith in e) refl
+first_is_position p xs = first_position p 0 xs ∙ rw (let e : 0 + position_or_len p xs ≡ position_or_len p xs = omega arith in e) refl

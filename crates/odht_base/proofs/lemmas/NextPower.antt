@@ -1,4 +1,4 @@
--- The next power of two from the slots that n items fill on is their least slot count.
+-- The least slot count of n items is the next power of two from the fewest slots that hold them.
 use Rattle.std.proofs.Common.{◌≡◌, ◌<◌, ◌≤◌, ◌*◌, ◌/◌, ◌^◌, ℕ, suc, inl, inr, arith, pow_mono, pow-suc, mul-le-mul_right, None}
 use Rattle.std.specs.Prelude.{max}
 use Rattle.std.specs.Int.{div_ceil}
@@ -21,11 +21,11 @@ pow-lt : (d e : ℕ) → 2 ^ d < 2 ^ e → d < e
 pow-lt d e h = elim (cases_lt d e) [ inl l ↦ l | inr m ↦ absurd (let p : 2 ^ e ≤ 2 ^ d = pow_mono {i = e} {j = d} m in omega arith) ]
 
 module _ (n f : ℕ) (pos : 1 ≤ f) where
-  -- how many slots the items fill, at least
+  -- the fewest slots that hold the items
   abbrev occupied : ℕ
   occupied = div_ceil (n * 65536) f
 
-  -- so many slots hold them
+  -- as many slots hold them
   occupied-holds : (s : ℕ) → occupied ≤ s → 65536 * n ≤ s * f
   occupied-holds s h =
       let enough = div_ceil-enough (n * 65536) f pos in

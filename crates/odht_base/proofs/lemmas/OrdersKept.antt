@@ -51,7 +51,7 @@ keeps_ready F P Q xs i keep r =
       holds = q.1;
       position = r.position;
       in_order = subst (λ s. r.position < s) keep.slots r.in_order;
-      stands = same r.position ∙ r.stands;
+      slot_is = same r.position ∙ r.slot_is;
       earlier_taken = λ n l. subst (Contains xs) (sym (same n)) (r.earlier_taken n l);
     }
 
@@ -81,14 +81,14 @@ module _ (F : Format) (P : Table) (i : ℕ) (p : Pair) (t : IsTarget F P p.key i
         | inr here ↦ let d = key_pair p.key (cell_at P.cells i) here in ap (λ (x : Pair). x.key) (some_same _ _ (sym h ∙ d.1)) ∙ sym d.2
       ]
 
-  -- the order stays where the slot was filled, and has the slot at its end where it was free
+  -- the order stays where the slot was occupied, and has the slot at its end where it was free
   written-IsOrdered : IsOrdered F P → IsOrdered F Q
   written-IsOrdered o = go (cell_at P.cells i) refl
     where
       old : IsSoFar F Q o.order
       old = keeps_so_far F P Q o.order keeps_keys o.so_far
 
-      -- each earlier place of the key's order is taken
+      -- each earlier position of the key's order is taken
       ready : IsReady F Q o.order i
       ready =
           let r = t.reached in
@@ -98,7 +98,7 @@ module _ (F : Format) (P : Table) (i : ℕ) (p : Pair) (t : IsTarget F P p.key i
             holds = written_here P i p t.within;
             position = r.position;
             in_order = subst (λ s. r.position < s) keeps_keys.slots r.in_order;
-            stands = same r.position ∙ r.stands;
+            slot_is = same r.position ∙ r.slot_is;
             earlier_taken = λ n l. subst (Contains o.order) (sym (same n)) (taken _ (r.earlier_occupied n l));
           }
         where

@@ -1,4 +1,4 @@
--- The pairs of cells, and the map that they are.
+-- The pairs of cells, and the map that they form.
 use Rattle.std.proofs.Common.{◌≡◌, ◌<◌, ◌∙◌, ℕ, zero, suc, Bool, true, false, true≢false, cond, ◌||◌, sym, ap, refl, List, [], ◌∷◌, Some, None, length, set, find, arith, bytes_eq, IsPermutation}
 use Rattle.std.specs.Prelude.{is_none, option_map, if◌then◌else◌}
 use Rattle.std.proofs.lemmas.Option.{none-some}
@@ -9,7 +9,7 @@ use Rattle.odht_base.proofs.lemmas.Counts.{pairs}
 use Rattle.odht_base.proofs.lemmas.Keys.{same_bytes, key_itself}
 use Rattle.odht_base.proofs.lemmas.Options.{some_same}
 
--- the first pair of a key decides
+-- the first pair with a key gives its value
 pub value_in-cons : (p : Pair) (ps : List Pair) (k : List ℕ) → value_in (p ∷ ps) k ≡ (if bytes_eq k p.key then Some p.value else value_in ps k)
 value_in-cons p ps k = go (bytes_eq k p.key)
   where
@@ -29,7 +29,7 @@ same_cond : {X : Type 0} (b : Bool) (x y z : X) → cond b x z ≡ cond b x (con
 same_cond true x y z = refl
 same_cond false x y z = refl
 
--- a pair written to the first cell with its key, or to a free one where no earlier cell has it, is the one change of the map
+-- a written pair changes the map at its key alone: in the first cell with the key, or in a free one with none before it
 pub value_in-set : (cs : Cells) (i : ℕ) (p : Pair) (k : List ℕ) → i < length cs → ((j : ℕ) → j < i → has_key p.key (cell_at cs j) ≡ false) → (is_none (cell_at cs i) || has_key p.key (cell_at cs i)) ≡ true
     → value_in (pairs (set cs i (Some p))) k ≡ (if bytes_eq k p.key then Some p.value else value_in (pairs cs) k)
 value_in-set [] i p k l before stops = absurd (omega arith)
@@ -48,7 +48,7 @@ value_in-set (Some d ∷ cs) (suc i) p k l before stops =
     (λ a b. true≢false (sym (key_itself k) ∙ ap (λ x. bytes_eq x k) (same_bytes k p.key b) ∙ ap (bytes_eq p.key) (same_bytes k d.key a) ∙ before 0 (omega arith)))
     ∙ ap (λ x. cond (bytes_eq k p.key) (Some p.value) x) (sym (value_in-cons d (pairs cs) k))
 
--- a pair written to a free cell comes to the pairs
+-- a pair written to a free cell is added to the pairs
 pub pairs-set : (cs : Cells) (i : ℕ) (p : Pair) → i < length cs → is_none (cell_at cs i) ≡ true → IsPermutation (pairs (set cs i (Some p))) (p ∷ pairs cs)
 pairs-set [] i p l free = absurd (omega arith)
 pairs-set (None ∷ cs) zero p l free = IsPermutation-refl (p ∷ pairs cs)

@@ -1,4 +1,4 @@
--- Laws of the parts of cells: how long they are, and what stands where.
+-- Laws of the parts of cells: their lengths and their contents.
 use Rattle.std.proofs.Common.{nat_le, leb-true, ◌≡◌, ◌<◌, ◌≤◌, ◌∙◌, ◌+◌, ◌-◌, ◌*◌, ◌++◌, ℕ, suc, cond, is_none, sym, ap, refl, [], ◌∷◌, Option, Some, None, map, take, drop, set, replicate, length, arith, length-append, length-take, take_at, drop_at}
 use Rattle.std.specs.Prelude.{slice_index}
 use Rattle.std.specs.List.{flat_map, range_with_len}
@@ -101,7 +101,7 @@ slice_index-controls F cs i lt =
     let n : i < length each = omega (arith, length-map cs (control_byte F)) in
     get_or_append_left each (take 16 each) 0 i n ∙ get_or-map (control_byte F) cs i None 0 lt
 
--- its mirror stands behind all
+-- its mirror, behind the control bytes of all slots
 pub slice_index-mirror : (F : Format) (cs : Cells) (i : ℕ) → i < 16 → i < length cs → slice_index (controls F cs) (length cs + i) ≡ control_byte F (cell_at cs i)
 unfolding controls
 slice_index-mirror F cs i low lt =
@@ -117,7 +117,7 @@ byte_free F (Some p) t = let l = t p refl in false_from_ne_true (nat_le 128 (tag
 pub counts_as_free-control_byte : (F : Format) (cs : Cells) (i : ℕ) → IsFormat F → HasPairsOf F cs → counts_as_free (control_byte F (cell_at cs i)) ≡ is_free cs i
 counts_as_free-control_byte F cs i f h = byte_free F (cell_at cs i) (λ p e. tag-lt F p.key f (h i p e).key)
 
--- the cell that the parts show at slot i
+-- the cell that slot i of the parts decodes to
 pub decoded_cell-parts : (F : Format) (cs : Cells) (i : ℕ) → IsFormat F → HasPairsOf F cs → i < length cs → decoded_cell F (entries F cs) (controls F cs) i ≡ cell_at cs i
 decoded_cell-parts F cs i f h lt =
     ap (λ b. cond b None (Some (record { key = slot_key F (entries F cs) i; value = slot_value F (entries F cs) i })))
@@ -132,7 +132,7 @@ decoded_cell-parts F cs i f h lt =
         let v = slot_value-entries F cs i p lengths e in
         λ j. Some (record { key = k j; value = v j })
 
--- what the parts of the cells show is the cells
+-- the parts of the cells decode to the cells
 pub decoded_cells-parts : (F : Format) (cs : Cells) → IsFormat F → HasPairsOf F cs → 16 ≤ length cs → decoded_cells F (entries F cs) (controls F cs) ≡ cs
 unfolding decoded_cells
 decoded_cells-parts F cs f h enough =

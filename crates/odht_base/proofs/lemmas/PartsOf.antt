@@ -1,4 +1,4 @@
--- The two parts of any bytes: how long they are, and what stands where.
+-- Slot entries within any bytes: where they end, and their length.
 use Rattle.std.proofs.Common.{◌≡◌, ◌<◌, ◌≤◌, ◌+◌, ◌*◌, ℕ, suc, List, length, arith, mul-le-mul_right}
 use Rattle.odht_base.specs.Format.{Format, entry_len}
 use Rattle.odht_base.specs.Decoded.{slot_entry}
@@ -8,6 +8,6 @@ use Rattle.odht_base.proofs.lemmas.ByteRanges.{length-bytes_at}
 pub slot_within : (i s w : ℕ) → i < s → i * w + w ≤ s * w
 slot_within i s w h = let m : suc i * w ≤ s * w = mul-le-mul_right w h in omega (arith, m)
 
--- how long it is
+-- its length
 pub length-slot_entry : (F : Format) (es : List ℕ) (s i : ℕ) → length es ≡ s * entry_len F → i < s → length (slot_entry F es i) ≡ entry_len F
 length-slot_entry F es s i n lt = length-bytes_at es (i * entry_len F) (entry_len F) (omega (arith, n, slot_within i s (entry_len F) lt))

@@ -15,7 +15,7 @@ piece_lengths-8 m =
     let d : (m + 8) % 2 ≡ m % 2 = omega arith in
     rw (a, b, c, d) refl
 
--- four to seven begin with one of four
+-- four to seven bytes begin with a piece of four
 piece_lengths-4 : (m : ℕ) → m < 4 → piece_lengths (m + 4) ≡ 4 ∷ piece_lengths m
 piece_lengths-4 zero l = refl
 piece_lengths-4 (suc zero) l = refl
@@ -23,7 +23,7 @@ piece_lengths-4 (suc (suc zero)) l = refl
 piece_lengths-4 (suc (suc (suc zero))) l = refl
 piece_lengths-4 (suc (suc (suc (suc m)))) l = absurd (omega arith)
 
--- two and three with one of two
+-- two or three bytes begin with a piece of two
 piece_lengths-2 : (m : ℕ) → m < 2 → piece_lengths (m + 2) ≡ 2 ∷ piece_lengths m
 piece_lengths-2 zero l = refl
 piece_lengths-2 (suc zero) l = refl

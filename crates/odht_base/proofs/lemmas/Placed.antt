@@ -1,4 +1,4 @@
--- A table is placed where each pair stands where a search for its key ends, and tests decide it.
+-- A table is placed where each pair is in the slot where a search for its key ends, and tests decide it.
 use Rattle.std.proofs.Common.{◌≡◌, ◌<◌, ◌∙◌, ℕ, zero, suc, Bool, true, ◌&&◌, nat_lt, ◌==◌, sym, ap, subst, List, [], ◌∷◌, Option, Some, None, length, arith, eqb-true, ltb-true, ◌+◌, zero-add}
 use Rattle.std.specs.List.{list_all}
 use Rattle.std.proofs.lemmas.Option.{slice_get_within}
@@ -17,7 +17,7 @@ use Rattle.odht_base.proofs.lemmas.Options.{some_same}
 use Rattle.odht_base.proofs.lemmas.Orders.{length-order, slice_get-order}
 use Rattle.std.proofs.lemmas.Option.{none-some}
 
--- each pair stands where a search for its key ends
+-- each pair is in the slot where a search for its key ends
 abbrev pub AllArrive : Format → Table → Type 0
 AllArrive F P = (i : ℕ) (p : Pair) → HoldsPair P i p → search_end F P.cells p.key ≡ Some i
 
@@ -31,7 +31,7 @@ IsReached-search_end F P k i e =
     record {
       position = first.position;
       in_order = in_order;
-      stands = some_same _ _ (sym (slice_get-order b s first.position in_order) ∙ first.is);
+      slot_is = some_same _ _ (sym (slice_get-order b s first.position in_order) ∙ first.is);
       earlier_occupied = λ q h. (or_parts _ _ (first.before q (probe_slot b s q) h (slice_get-order b s q (below q first.position s h in_order)))).0;
     }
   where
@@ -46,7 +46,7 @@ IsPlaced-AllArrive F P s pairs a = record {
   reached = λ i p h. IsReached-search_end F P p.key i (a i p h);
 }
 
--- the tests of a pair, and of where it stands
+-- the tests of a pair, and of its slot
 abbrev pub is_bytes : ℕ → List ℕ → Bool
 is_bytes w b = (length b == w) && list_all (λ x. nat_lt x 256) b
 

@@ -33,7 +33,7 @@ module _ (F : Format) (P : Table) (p : Pair) (ok : IsPlaced F P) where
   pub place-at : (i : ℕ) → search_end F P.cells p.key ≡ Some i → place F P p ≡ Some (written P i p)
   place-at i e = place-search_end (Some i) e
 
-  -- place answers None exactly where every slot is filled and none has the key
+  -- place answers None exactly where every slot is occupied and none has the key
   pub place-None : (place F P p ≡ None) ↔ IsFullWithout P p.key
   place-None = (λ e. full (search_end F P.cells p.key) refl e, λ all. place-search_end None (search_end-none F P p.key ok (λ i l. or_from _ _ (all i l).0 (all i l).1)))
     where
@@ -85,7 +85,7 @@ module _ (P : Table) (i : ℕ) (p : Pair) (within : i < slot_count P) where
   pub written_other : (j : ℕ) → j ≢ i → cell_at (written P i p).cells j ≡ cell_at P.cells j
   written_other j ne = get_or-set_other P.cells i j (Some p) None ne
 
-  -- an occupied slot stays filled
+  -- an occupied slot stays occupied
   written_occupied : (j : ℕ) → is_free P.cells j ≡ false → is_free (written P i p).cells j ≡ false
   written_occupied j f = elim (cases_eq j i) [
     | inl here ↦ ap (is_free (written P i p).cells) here ∙ ap is_none written_here
@@ -106,7 +106,7 @@ IsReached-occupied F P Q k i len occupied r =
     record {
       position = r.position;
       in_order = subst (λ s. r.position < s) len r.in_order;
-      stands = sym (at r.position) ∙ r.stands;
+      slot_is = sym (at r.position) ∙ r.slot_is;
       earlier_occupied = λ q l. ap (is_free Q.cells) (sym (at q)) ∙ occupied _ (r.earlier_occupied q l);
     }
 
@@ -142,7 +142,7 @@ module _ (F : Format) (P Q : Table) (p : Pair) (ok : IsPlaced F P) (e : place F 
       let w = place-written F P p ok Q e in
       subst (IsPlaced F) w.2 (written-IsPlaced F P w.0 p ok fits w.1)
 
-  -- the slots stay
+  -- the slot count stays
   pub slot_count-place : slot_count Q ≡ slot_count P
   slot_count-place = let w = place-written F P p ok Q e in ap slot_count (sym w.2) ∙ length-set P.cells w.0 (Some p)
 
@@ -150,7 +150,7 @@ module _ (F : Format) (P Q : Table) (p : Pair) (ok : IsPlaced F P) (e : place F 
   pub factor-place : Q.factor ≡ P.factor
   factor-place = let w = place-written F P p ok Q e in ap (λ (x : Table). x.factor) (sym w.2)
 
-  -- a pair more where the key is new
+  -- one pair more where the key is new
   pub count-place : count Q ≡ (if is_none (map_of P p.key) then count P + 1 else count P)
   count-place =
       let w = place-written F P p ok Q e in
@@ -174,7 +174,7 @@ module _ (F : Format) (P Q : Table) (p : Pair) (ok : IsPlaced F P) (e : place F 
       (λ j l. false_from_ne_true _ (λ h. let z = w.1.others j h in omega arith))
       w.1.stops
 
-  -- a new key's pair comes to the walk
+  -- the pair of a new key is added to the walk
   pub walk-place : map_of P p.key ≡ None → IsPermutation (walk Q) (p ∷ walk P)
   walk-place none =
       let w = place-written F P p ok Q e in

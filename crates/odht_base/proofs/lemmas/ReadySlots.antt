@@ -27,14 +27,14 @@ module _ (F : Format) (P : Table) where
 
   -- a slot stays ready when more are taken
   pub ready_later : (xs ys : List ℕ) (i : ℕ) → ((j : ℕ) → Contains xs j → Contains ys j) → IsReady F P xs i → IsReady F P ys i
-  ready_later xs ys i more r = record { pair = r.pair; holds = r.holds; position = r.position; in_order = r.in_order; stands = r.stands; earlier_taken = λ q l. more _ (r.earlier_taken q l) }
+  ready_later xs ys i more r = record { pair = r.pair; holds = r.holds; position = r.position; in_order = r.in_order; slot_is = r.slot_is; earlier_taken = λ q l. more _ (r.earlier_taken q l) }
 
   -- where no slot outside the list is ready, it is stuck
   pub stuck_if_none : (xs : List ℕ) → ((i : ℕ) → i < slot_count P → (Contains xs i → ⊥) → IsReady F P xs i → ⊥) → IsStuck F P xs
   stuck_if_none xs none i r = elim (contains_or_not xs i) [ inl here ↦ here | inr out ↦ absurd (none i (ready-lt xs i r) out r) ]
 
   module _ (xs : List ℕ) (i : ℕ) (p : Pair) (holds : HoldsPair P i p) where
-    -- the slot at a place of the order of its key
+    -- the slot at a position of the order of its key
     abbrev slot : ℕ → ℕ
     slot q = probe_slot (home F p.key (slot_count P)) (slot_count P) q
 
@@ -42,24 +42,24 @@ module _ (F : Format) (P : Table) where
     ready_pair : (r : IsReady F P xs i) → r.pair ≡ p
     ready_pair r = some_same _ _ (sym r.holds ∙ holds)
 
-    -- so the slot stands at its place of that order
-    ready_stands : (r : IsReady F P xs i) → slot r.position ≡ i
-    ready_stands r = ap (λ (d : Pair). probe_slot (home F d.key (slot_count P)) (slot_count P) r.position) (sym (ready_pair r)) ∙ r.stands
+    -- so the slot is at its position of that order
+    ready_slot : (r : IsReady F P xs i) → slot r.position ≡ i
+    ready_slot r = ap (λ (d : Pair). probe_slot (home F d.key (slot_count P)) (slot_count P) r.position) (sym (ready_pair r)) ∙ r.slot_is
 
-    -- and each earlier place of it is taken
+    -- and each earlier position of it is taken
     ready_earlier : (r : IsReady F P xs i) (q : ℕ) → q < r.position → Contains xs (slot q)
     ready_earlier r q l = subst (λ (d : Pair). Contains xs (probe_slot (home F d.key (slot_count P)) (slot_count P) q)) (ready_pair r) (r.earlier_taken q l)
 
-    -- a walk that meets another slot that is not taken, before slot i, finds it not ready
+    -- a walk that meets a slot that is not taken before it meets slot i finds slot i not ready
     pub not_ready : (n : ℕ) → ((q : ℕ) → q < n → slot q ≡ i → ⊥) → (slot n ≡ i → ⊥) → (Contains xs (slot n) → ⊥) → IsReady F P xs i → ⊥
     not_ready n before other out r = elim (cases_order r.position n) [
-      | inl same ↦ other (ap slot (sym same) ∙ ready_stands r)
+      | inl same ↦ other (ap slot (sym same) ∙ ready_slot r)
       | inr differ ↦ elim differ [
-        | inl below ↦ before r.position below (ready_stands r)
+        | inl below ↦ before r.position below (ready_slot r)
         | inr above ↦ out (ready_earlier r n above)
       ]
     ]
 
-    -- and so does one that meets slot i nowhere
+    -- and so does one that never meets slot i
     pub never_ready : ((q : ℕ) → q < slot_count P → slot q ≡ i → ⊥) → IsReady F P xs i → ⊥
-    never_ready nowhere r = nowhere r.position r.in_order (ready_stands r)
+    never_ready nowhere r = nowhere r.position r.in_order (ready_slot r)

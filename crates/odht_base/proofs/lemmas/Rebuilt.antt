@@ -1,4 +1,4 @@
--- The pairs of slots that are each ready in turn, placed in an empty table, fill just these slots.
+-- The pairs of slots that are each ready in turn, placed in an empty table, occupy just these slots.
 use Rattle.std.proofs.Common.{◌≡◌, ◌<◌, ◌≤◌, ◌+◌, ◌∙◌, ◌++◌, inl, inr, ℕ, zero, suc, false, sym, ap, subst, refl, List, [], ◌∷◌, Option, Some, None, length, take, slice_index, arith, Contains, length-set}
 use Rattle.std.specs.Prelude.{is_none, option_and_then}
 use Rattle.std.specs.List.{cons_option}
@@ -24,7 +24,7 @@ use Rattle.odht_base.proofs.lemmas.InsertRuns.{run-push}
 use Rattle.odht_base.proofs.lemmas.SoFar.{so_far_holds, so_far_new, Contains-take}
 use Rattle.odht_base.proofs.lemmas.SearchEnds.{has_key-holds, has_key-one}
 
--- R is P with only the slots xs filled
+-- R is P with only the slots xs occupied
 pub record IsPart (P R : Table) (xs : List ℕ) : Type 0 where
   pub factor : R.factor ≡ P.factor
   pub slots : slot_count R ≡ slot_count P
@@ -74,29 +74,29 @@ module _ (F : Format) (P : Table) (ok : IsPlaced F P) where
       → place F R r.pair ≡ Some (written R i r.pair)
   ready_place R xs i part placed held out r = place-at F R r.pair placed i ends
     where
-      -- the slot at a place of its order, in P and in R
+      -- the slot at a position of its order, in P and in R
       slot : ℕ → ℕ
       slot q = probe_slot (home F r.pair.key (slot_count P)) (slot_count P) q
 
       in_part : (q : ℕ) → probe_slot (home F r.pair.key (slot_count R)) (slot_count R) q ≡ slot q
       in_part q = ap (λ s. probe_slot (home F r.pair.key s) s q) part.slots
 
-      -- an earlier place is taken, and by another key
+      -- an earlier position is taken, and by another key
       passed : (q : ℕ) → q < r.position → stops_at R.cells r.pair.key (slot q) ≡ false
       passed q l =
           let there = r.earlier_taken q l in
           let same = part.taken (slot q) there in
           or_from _ _ (ap is_none (same ∙ (held (slot q) there).1)) (false_from_ne_true _ (λ h.
           let one = has_key-one F P r.pair.key ok (slot q) i (sym (ap (has_key r.pair.key) same) ∙ h) (has_key-holds P i r.pair r.holds) in
-          let z = probe_slot-apart (home F r.pair.key (slot_count P)) (slot_count P) q r.position ok.slots (omega (arith, r.in_order)) r.in_order (one ∙ sym r.stands) in
+          let z = probe_slot-apart (home F r.pair.key (slot_count P)) (slot_count P) q r.position ok.slots (omega (arith, r.in_order)) r.in_order (one ∙ sym r.slot_is) in
           omega arith))
 
       ends : search_end F R.cells r.pair.key ≡ Some i
       ends =
           search_end-at F R.cells r.pair.key r.position (omega (arith, part.slots, r.in_order))
           (λ q l. ap (stops_at R.cells r.pair.key) (in_part q) ∙ passed q l)
-          (ap (stops_at R.cells r.pair.key) (in_part r.position ∙ r.stands) ∙ or_left _ _ (ap is_none (part.others i out)))
-          ∙ ap Some (in_part r.position ∙ r.stands)
+          (ap (stops_at R.cells r.pair.key) (in_part r.position ∙ r.slot_is) ∙ or_left _ _ (ap is_none (part.others i out)))
+          ∙ ap Some (in_part r.position ∙ r.slot_is)
 
   -- the pairs of a list and one more slot
   pairs_push : (xs : List ℕ) (i : ℕ) (p : Pair) → HoldsPair P i p → pairs_of P (xs ++ i ∷ []) ≡ pairs_of P xs ++ p ∷ []

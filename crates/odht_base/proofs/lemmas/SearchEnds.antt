@@ -47,19 +47,19 @@ module _ (F : Format) (P : Table) (k : List ℕ) (ok : IsPlaced F P) where
   search_end-IsTarget i e =
       let f = find-order_some (stops_at P.cells k) (home F k (slot_count P)) (slot_count P) i e in
       record {
-        reached = record { position = f.position; in_order = f.within; stands = f.stands; earlier_occupied = λ q l. (or_parts _ _ (f.before q l)).0 };
-        within = subst (λ x. x < slot_count P) f.stands (probe_slot-lt (home F k (slot_count P)) (slot_count P) f.position (slots_pos (slot_count P) ok.slots));
+        reached = record { position = f.position; in_order = f.within; slot_is = f.slot_is; earlier_occupied = λ q l. (or_parts _ _ (f.before q l)).0 };
+        within = subst (λ x. x < slot_count P) f.slot_is (probe_slot-lt (home F k (slot_count P)) (slot_count P) f.position (slots_pos (slot_count P) ok.slots));
         stops = f.passes;
         others = λ j h.
             let r = reached_key j h in
             elim (cases_order r.position f.position) [
-              | inl same ↦ sym r.stands ∙ ap slot_of same ∙ f.stands
+              | inl same ↦ sym r.slot_is ∙ ap slot_of same ∙ f.slot_is
               | inr other ↦ elim other [
                 | inl below ↦
                     let no = (or_parts _ _ (f.before r.position below)).1 in
-                    absurd (true≢false (sym h ∙ ap (λ x. has_key k (cell_at P.cells x)) (sym r.stands) ∙ no))
+                    absurd (true≢false (sym h ∙ ap (λ x. has_key k (cell_at P.cells x)) (sym r.slot_is) ∙ no))
                 | inr above ↦
-                    let occupied : is_free P.cells i ≡ false = ap (is_free P.cells) (sym f.stands) ∙ r.earlier_occupied f.position above in
+                    let occupied : is_free P.cells i ≡ false = ap (is_free P.cells) (sym f.slot_is) ∙ r.earlier_occupied f.position above in
                     elim (or_cases _ _ f.passes) [
                       | inl free ↦ absurd (true≢false (sym free ∙ occupied))
                       | inr here ↦ has_key-one j i h here
@@ -68,7 +68,7 @@ module _ (F : Format) (P : Table) (k : List ℕ) (ok : IsPlaced F P) where
             ];
       }
 
-  -- no slot is free or has the key where a search doesn't end
+  -- no slot is free or has the key where a search does not end
   pub search_end-None : search_end F P.cells k ≡ None → (i : ℕ) → i < slot_count P → stops_at P.cells k i ≡ false
   unfolding search_end
   search_end-None e i l =
@@ -96,9 +96,9 @@ module _ (F : Format) (P : Table) (k : List ℕ) (ok : IsPlaced F P) where
   find-free : (i : ℕ) → IsTarget F P k i → is_free P.cells i ≡ true → find (is_free P.cells) (search_order F P.cells k) ≡ Some i
   find-free i t free =
       find-order (is_free P.cells) (home F k (slot_count P)) (slot_count P) t.reached.position t.reached.in_order
-      (ap (is_free P.cells) t.reached.stands ∙ free)
+      (ap (is_free P.cells) t.reached.slot_is ∙ free)
       t.reached.earlier_occupied
-      ∙ ap Some t.reached.stands
+      ∙ ap Some t.reached.slot_is
 
   -- a pair with the key goes where the search ends
   pub target-search_end : target F P.cells k ≡ search_end F P.cells k

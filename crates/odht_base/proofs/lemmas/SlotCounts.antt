@@ -58,7 +58,7 @@ pub slots_fit : (s : ℕ) → IsSlotCount s → s < 256 ^ 8
 slots_fit s c = let h = few_slots s c in omega arith
 
 -- ---- by a mask
--- a mask of the slots but one keeps the number modulo the slots
+-- a mask of the slot count less one keeps the number modulo the slot count
 pub bit_and-slots : (x s : ℕ) → IsSlotCount s → bit_and x (s - 1) ≡ x % s
 bit_and-slots x s c =
     let e = exponent s c in

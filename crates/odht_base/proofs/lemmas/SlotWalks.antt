@@ -9,7 +9,7 @@ use Rattle.odht_base.specs.Table.{Pair, Cells, Table, slot_count, cell_at, walk}
 pub walk_from-start : (P : Table) → walk_from P 0 ≡ walk P
 walk_from-start P = refl
 
--- the pairs of numbered ones
+-- numbered pairs without their numbers are the pairs
 pub pairs-numbered : (i : ℕ) (cs : Cells) → map (λ (x : ℕ × Pair). x.1) (numbered i cs) ≡ filter_map (λ c. c) cs
 pairs-numbered i [] = refl
 pairs-numbered i (None ∷ cs) = pairs-numbered (i + 1) cs
@@ -57,7 +57,7 @@ module _ (P : Table) (i n s : ℕ) (p : Pair) (rest : List (ℕ × Pair)) (e : d
   cells_there =
       ap (λ m. drop m P.cells) there.slot ∙ sym (drop-drop there.passed i P.cells) ∙ there.cells
 
-  -- a walk from a slot that another came to goes on as that one
+  -- a walk from a slot that another walk reached continues as that one
   pub slots_from-goes_on : slots_from P s ≡ (s, p) ∷ rest
   slots_from-goes_on = ap (numbered s) cells_there ∙ ap (λ xs. (s, p) ∷ xs) there.left
 

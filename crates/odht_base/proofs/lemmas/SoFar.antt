@@ -45,7 +45,7 @@ module _ (F : Format) (P : Table) where
       let r = s.ready h.0 h.1 in
       (r.pair, subst (λ j. HoldsPair P j r.pair) (get_or_default xs h.0 0 i h.1 ∙ h.2) r.holds)
 
-  -- none stands before itself
+  -- no slot is among those before it
   pub so_far_new : (xs : List ℕ) → IsSoFar F P xs → (n : ℕ) → n < length xs → Contains (take n xs) (slice_index xs n) → ⊥
   so_far_new xs s n l h =
       let k : h.0 < n = omega (arith, h.1, length-take n xs) in

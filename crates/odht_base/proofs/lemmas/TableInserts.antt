@@ -20,7 +20,7 @@ use Rattle.odht_base.proofs.lemmas.InsertRuns.{IsInsert}
 abbrev pub HasRoom : Table → Type 0
 HasRoom P = count P < max_items (slot_count P) P.factor
 
--- an insert of the key stays within the maximum: there is room, or the key is there
+-- an insert of the key stays within the maximum: there is room, or the table has the key
 abbrev pub TakesKey : Table → List ℕ → Type 0
 TakesKey P k = HasRoom P ⊎ (is_none (map_of P k) ≡ false)
 
@@ -42,7 +42,7 @@ place-IsValid F P Q p ok takes fit e =
       | inr there ↦ let same = count-place F P Q p ok.placed e ∙ ap (λ b. cond b (count P + 1) (count P)) there in omega (arith, same, ok.room)
     ]
 
--- a key that has a value is there
+-- a key with a value is in the table
 pub there : (P : Table) (k v : List ℕ) → map_of P k ≡ Some v → is_none (map_of P k) ≡ false
 there P k v e = ap is_none e
 
@@ -56,7 +56,7 @@ module _ (P : Table) (k : List ℕ) where
       go true (Some v) full absent h = absurd (true≢false (sym h))
       go false o full absent h = absurd (true≢false (sym h))
 
-  -- and the other way
+  -- and the converse
   pub true-IsFullFor : IsFullFor P k → is_full_for P k ≡ true
   true-IsFullFor full = ap₂ (λ a b. a && is_none b) (eq-eqb (count P) (max_items (slot_count P) P.factor) full.0) full.1
 
@@ -77,7 +77,7 @@ module _ (P : Table) (k : List ℕ) where
       go false low h = inl (let ne = eqb-false (count P) (max_items (slot_count P) P.factor) low in omega (arith, most, ne))
 
 -- ---- an accepted insert places its pair in the table or in the grown table, which takes its key
--- R is P or the grown P, valid, and as P in its pairs
+-- R is P or the grown P: valid, with the factor, the count and the map of P
 pub record IsBase (F : Format) (P R : Table) : Type 0 where
   pub is : (R ≡ P) ⊎ (grown F P ≡ Some R)
   pub valid : IsValid F R
@@ -159,13 +159,13 @@ module _ (F : Format) where
   pub insert_view-IsInsert : IsInsert F (IsValid F) (insert_view F)
   insert_view-IsInsert = IsBased-IsInsert F (insert_view F) (insert_view-IsBased F)
 
--- ---- refusals
+-- ---- inserts that answer None
 module _ (F : Format) (P : Table) (p : Pair) where
-  -- a valid table takes any pair
+  -- placing a pair in a valid table never answers None
   never_none : IsValid F P → place F P p ≡ None → ⊥
   never_none ok e = let q = place-IsValid_fits F P p ok in none-some q.0 (sym e ∙ q.1)
 
-  -- the view refuses exactly where it is full for the key
+  -- the view answers None exactly where it is full for the key
   pub insert_view-None : IsValid F P → (insert_view F P p ≡ None) ↔ IsFullFor P p.key
   unfolding insert_view
   insert_view-None ok = (
@@ -176,7 +176,7 @@ module _ (F : Format) (P : Table) (p : Pair) where
     (λ full. ap (λ b. cond b None (place F P p)) (true-IsFullFor P p.key full)),
   )
 
-  -- elsewhere both tables place the pair
+  -- where the table takes the key, both inserts place the pair
   module _ (takes : TakesKey P p.key) where
     -- the owned table
     pub insert_owned-takes : insert_owned F P p ≡ place F P p
@@ -193,7 +193,7 @@ module _ (F : Format) (P : Table) (p : Pair) where
   unfolding insert_owned
   insert_owned-full full = ap (λ b. cond b (option_and_then (λ R. place F R p) (grown F P)) (place F P p)) (true-IsFullFor P p.key full)
 
-  -- and elsewhere it is as the view
+  -- and elsewhere it inserts as the view does
   pub insert_owned-view : (IsFullFor P p.key → ⊥) → insert_owned F P p ≡ insert_view F P p
   unfolding insert_owned insert_view
   insert_owned-view other = go (is_full_for P p.key) (false_from_ne_true _ (λ e. other (IsFullFor-true P p.key e)))

@@ -25,12 +25,12 @@ rep : ℕ → ℕ → ℕ
 rep zero c = 0
 rep (suc n) c = c + 256 * rep n c
 
--- 128 for each that is true
+-- for each answer, a byte of 128 where it is true and of 0 where it is false
 abbrev marks : List Bool → ℕ
 marks [] = 0
 marks (b ∷ bs) = cond b 128 0 + 256 * marks bs
 
--- ---- the places of the marks
+-- ---- the bit positions of the marks
 abbrev eights : ℕ → ℕ
 eights zero = 0
 eights (suc n) = suc (suc (suc (suc (suc (suc (suc (suc (eights n))))))))
@@ -39,7 +39,7 @@ eights (suc n) = suc (suc (suc (suc (suc (suc (suc (suc (eights n))))))))
 eight_on : (i : ℕ) → i + 1 + 1 + 1 + 1 + 1 + 1 + 1 + 1 ≡ i + 8
 eight_on i = omega arith
 
--- a byte of zero has no place
+-- a byte of zero has no set bit
 unmarked : (k i r : ℕ) → bits_from (suc (suc (suc (suc (suc (suc (suc (suc k)))))))) i (256 * r) ≡ bits_from k (i + 8) r
 unmarked k i r =
     even_step _ _ (256 * r) (128 * r) (omega arith)
@@ -52,7 +52,7 @@ unmarked k i r =
     ∙ even_step _ _ (2 * r) r (omega arith)
     ∙ ap (λ j. bits_from k j r) (eight_on i)
 
--- a byte of 128 has one place
+-- a byte of 128 has one set bit
 marked : (k i r : ℕ) → bits_from (suc (suc (suc (suc (suc (suc (suc (suc k)))))))) i (128 + 256 * r) ≡ (i + 7) ∷ bits_from k (i + 8) r
 marked k i r =
     even_step _ _ (128 + 256 * r) (64 + 128 * r) (omega arith)
@@ -65,7 +65,7 @@ marked k i r =
     ∙ odd_step _ _ (1 + 2 * r) r (omega arith)
     ∙ ap₂ (λ a j. a ∷ bits_from k j r) (let e : i + 1 + 1 + 1 + 1 + 1 + 1 + 1 ≡ i + 7 = omega arith in e) (eight_on i)
 
--- the places of the marks are those of what is true
+-- the positions of the marks, in bytes, are those of the true answers
 marked_positions : (i : ℕ) (bs : List Bool) → map (λ j. j / 8) (bits_from (eights (length bs)) (8 * i) (marks bs)) ≡ positions_of i bs
 marked_positions i [] = rw (no_bits 0 (8 * i)) refl
 marked_positions i (true ∷ bs) =
@@ -95,19 +95,19 @@ and_bytes x c a b p q =
     let r : c + 256 * b ≡ b * 2 ^ 8 + c = omega arith in
     ap₂ bit_and l r ∙ and_block 8 a b x c p q ∙ omega arith
 
--- the same of xor
+-- the same for xor
 xor_bytes : (x c a b : ℕ) → x < 256 → c < 256 → bit_xor (x + 256 * a) (c + 256 * b) ≡ bit_xor x c + 256 * bit_xor a b
 xor_bytes x c a b p q =
     let l : x + 256 * a ≡ a * 2 ^ 8 + x = omega arith in
     let r : c + 256 * b ≡ b * 2 ^ 8 + c = omega arith in
     ap₂ bit_xor l r ∙ xor_block 8 a b x c p q ∙ omega arith
 
--- the highest bit of a byte tells whether it is 128 or more
+-- the highest bit of a byte is set exactly where the byte is 128 or more
 high_bit : (x : ℕ) → x < 256 → bit_and x 128 ≡ cond (nat_le 128 x) 128 0
 high_bit x l =
     elim (dec_le 128 x) [ yes p ↦ rw (le-leb 128 x p) (omega (arith, and_pow x 7)) | no p ↦ rw (lt-leb 128 x (omega arith)) (omega (arith, and_pow x 7)) ]
 
--- the same of all bytes at once
+-- the same for all bytes at once
 high_bits : (g : List ℕ) → Fit g → bit_and (num g) (rep (length g) 128) ≡ marks (map (λ x. nat_le 128 x) g)
 unfolding rep
 high_bits [] f = refl
@@ -119,7 +119,7 @@ unfolding rep
 xor_all h [] l f = refl
 xor_all h (x ∷ g) l f = xor_bytes x h (num g) (rep (length g) h) (f 0) l ∙ ap (λ b. bit_xor x h + 256 * b) (xor_all h g l (λ k. f (suc k)))
 
--- the worth of one byte more
+-- the weight of one more byte
 pow_next : (n : ℕ) → 256 ^ suc n ≡ 256 * 256 ^ n
 pow_next n = omega (arith, pow-suc 256 n)
 
@@ -128,11 +128,11 @@ complement : (xs : List ℕ) → Fit xs → num (map (λ x. 255 - x) xs) + num x
 complement [] f = refl
 complement (x ∷ xs) f = let ih = complement xs (λ k. f (suc k)) in omega (arith, ih, f 0, pow_next (length xs))
 
--- the bytes after b and one are taken from each, with what is borrowed
+-- each byte loses 1 and what is borrowed from it: what it borrows from the next one
 abbrev borrowed : ℕ → ℕ → ℕ
 borrowed b x = cond (nat_lt x (1 + b)) 1 0
 
--- what each byte becomes
+-- the bytes that are left
 lowered : ℕ → List ℕ → List ℕ
 lowered b [] = []
 lowered b (x ∷ xs) = ((x + 256 - (1 + b)) % 256) ∷ lowered (borrowed b x) xs
@@ -163,7 +163,7 @@ lowered_sum b (x ∷ xs) l f =
     let ih = lowered_sum (borrowed b x) xs (borrowed_le b x) (λ k. f (suc k)) in
     omega (arith, ih, one_byte b x l (f 0))
 
--- beyond the last byte is owed nothing or one
+-- beyond the last byte nothing or one is borrowed
 owed_is : (b : ℕ) (xs : List ℕ) → b ≤ 1 → (owed b xs ≡ 0) ⊎ (owed b xs ≡ 256 ^ length xs)
 unfolding owed
 owed_is zero [] l = inl refl
@@ -172,13 +172,13 @@ owed_is (suc (suc b)) [] l = absurd (omega arith)
 owed_is b (x ∷ xs) l =
     elim (owed_is (borrowed b x) xs (borrowed_le b x)) [ inl e ↦ inl (omega arith) | inr e ↦ inr (omega (arith, pow_next (length xs))) ]
 
--- what the bytes become fits them
+-- the bytes that are left are a number of as many bytes
 lowered_lt : (b : ℕ) (xs : List ℕ) → num (lowered b xs) < 256 ^ length xs
 unfolding lowered
 lowered_lt b [] = omega arith
 lowered_lt b (x ∷ xs) = omega (arith, lowered_lt (borrowed b x) xs, pow_next (length xs))
 
--- and is as many
+-- there are as many of them
 length-lowered : (b : ℕ) (xs : List ℕ) → length (lowered b xs) ≡ length xs
 unfolding lowered
 length-lowered b [] = refl
@@ -230,7 +230,7 @@ test_of b x l f =
           ]
     ]
 
--- the same of all bytes
+-- the same for all bytes
 reported : (b : ℕ) (xs : List ℕ) → b ≤ 1 → Fit xs → zip2 (λ x t. nat_le 128 x && t) (lowered b xs) (map (λ x. nat_le 128 x) (map (λ x. 255 - x) xs)) ≡ borrows b xs
 unfolding lowered borrows
 reported b [] l f = refl
@@ -242,7 +242,7 @@ complement_Fit [] k = omega arith
 complement_Fit (x ∷ xs) zero = omega arith
 complement_Fit (x ∷ xs) (suc k) = complement_Fit xs k
 
--- what xor gives are bytes
+-- xor of bytes gives bytes
 xored_Fit : (h : ℕ) (g : List ℕ) → h < 256 → Fit g → Fit (map (λ x. bit_xor x h) g)
 xored_Fit h [] l f k = omega arith
 xored_Fit h (x ∷ g) l f zero = xor_lt 8 x h (f 0) l
@@ -261,7 +261,7 @@ eq_mask_of xs l f =
     ∙ and_marks (lowered 0 xs) (map (λ x. nat_le 128 x) flipped) (length-lowered 0 xs ∙ sym len ∙ sym (length-map flipped (λ x. nat_le 128 x))) (lowered_Fit 0 xs)
     ∙ ap marks (reported 0 xs (omega arith) f)
 
--- one answer a byte
+-- one answer for each byte
 length-borrows : (b : ℕ) (xs : List ℕ) → length (borrows b xs) ≡ length xs
 unfolding borrows
 length-borrows b [] = refl
@@ -271,7 +271,7 @@ length-borrows b (x ∷ xs) = ap suc (length-borrows (borrowed b x) xs)
 Below : ℕ → List ℕ → ℕ → Type 0
 Below b xs i = ((i ≡ 0) × (b ≡ 1)) ⊎ ((j : ℕ) × (j + 1 ≡ i) × (get_or (borrows b xs) j false ≡ true))
 
--- one is borrowed where it is so
+-- a borrow of one is a true answer
 borrow_true : (t : Bool) → ◌≡◌ {A = ℕ} (cond t 1 0) 1 → t ≡ true
 borrow_true true e = refl
 borrow_true false e = absurd (omega arith)
@@ -318,7 +318,7 @@ map_xor h [] i l = absurd (omega arith)
 map_xor h (x ∷ g) zero l = refl
 map_xor h (x ∷ g) (suc i) l = map_xor h g i (omega arith)
 
--- the places of the bytes that borrow are a word's report
+-- the positions of the bytes that borrow are a word's report
 word_report : (g : List ℕ) (h : ℕ) → h < 128 → IsWordReport g h (positions_of 0 (borrows 0 (map (λ x. bit_xor x h) g)))
 unfolding Below
 word_report g h small =

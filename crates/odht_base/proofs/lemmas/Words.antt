@@ -1,6 +1,6 @@
 -- Numbers as the machine reads and writes them, and lists of bytes that are compared by words.
 use Rattle.std.proofs.Common.{◌≡◌, ◌↔◌, ◌<◌, ◌≤◌, ◌∙◌, ◌+◌, ◌-◌, ◌*◌, ◌^◌, ℕ, zero, suc, refl, sym, ap, ap₂, arith, pow-suc, List, [], ◌∷◌, ◌++◌, length, take, get_or, length-take, All, IsTrue, nat_eq, Bool, eqb-true, eq-eqb, mul_assoc}
-use Rattle.std.specs.Int.{Width, byte_len, byte_worth, sum_through, from_le_bytes}
+use Rattle.std.specs.Int.{Width, byte_len, byte_weight, sum_through, from_le_bytes}
 use Rattle.std.proofs.Math.Seq.{take-suc, take-length}
 use Rattle.odht_base.specs.Bytes.{bytes_at}
 use Rattle.odht_base.specs.Numbers.{num, le_bytes}
@@ -8,7 +8,7 @@ use Rattle.odht_base.proofs.lemmas.ByteRanges.{length-bytes_at, bytes_at-whole, 
 use Rattle.odht_base.proofs.lemmas.Numbers.{le_bytes-num}
 
 -- ---- what `from_le_bytes` reads
--- the later bytes count from the worth of the first ones on
+-- the bytes behind the first ones are weighted by a power of 256
 pub num-append : (xs ys : List ℕ) → num (xs ++ ys) ≡ num xs + 256 ^ length xs * num ys
 num-append [] ys = omega arith
 num-append (x ∷ xs) ys =
@@ -18,8 +18,8 @@ num-append (x ∷ xs) ys =
     let worth = ap (λ p. p * num ys) power in
     omega (arith, rest, product, worth)
 
--- the sum of the worths of the first bytes is their number
-sum_through-worth : (b : List ℕ) (k : ℕ) → k < length b → sum_through (λ i. byte_worth i (get_or b i 0)) k ≡ num (take (suc k) b)
+-- the weighted sum of the first bytes is their number
+sum_through-worth : (b : List ℕ) (k : ℕ) → k < length b → sum_through (λ i. byte_weight i (get_or b i 0)) k ≡ num (take (suc k) b)
 sum_through-worth [] k h = absurd (omega arith)
 sum_through-worth (x ∷ b) zero h = omega arith
 sum_through-worth (x ∷ b) (suc k) h =
@@ -29,7 +29,7 @@ sum_through-worth (x ∷ b) (suc k) h =
     let power = ap (λ m. 256 ^ m * num (get_or (x ∷ b) (suc k) 0 ∷ [])) n in
     omega (arith, before, split, power)
 
--- the machine's number of as many bytes as its width has is theirs
+-- `from_le_bytes` of as many bytes as the width has reads their number
 pub from_le_bytes-num : (w : Width) (b : List ℕ) → length b ≡ byte_len w → 0 < byte_len w → from_le_bytes w b ≡ num b
 from_le_bytes-num w b n pos =
     let k : suc (byte_len w - 1) ≡ length b = omega arith in

@@ -216,7 +216,7 @@ with_pair-image F P i p h lt g k v =
     ∙ ap (λ t. header_bytes F (slot_count P) (count P + 1) P.factor ++ t) (sym (parts-set F P.cells i p h.lengths h.enough lt k v))
     ∙ sym (image-set_free F P i p lt g)
 
--- the same with what the image states
+-- the same, with the counts of the image's header
 pub with_pair-image_header : (F : Format) (P : Table) (i : ℕ) (p : Pair) → IsSized F P → i < slot_count P → cell_at P.cells i ≡ None → length p.key ≡ F.key_len → length p.value ≡ F.value_len
     → with_count (with_pair F (header_slots (image F P)) (image F P) i p) (header_count (image F P) + 1) ≡ image F (record P { cells = set P.cells i (Some p) })
 with_pair-image_header F P i p h lt g k v =

@@ -7,7 +7,7 @@ use std::fmt::Debug;
 
 /// An array of a fixed number of bytes, and nothing but these bytes: an encoded key or an encoded value.
 pub trait ByteArray: Sized + Copy + Eq + Debug + 'static {
-    /// How many bytes a value has.
+    /// How many bytes the array has.
     const LEN: usize;
 
     ghost LEN: { ℕ };
@@ -20,7 +20,7 @@ pub trait ByteArray: Sized + Copy + Eq + Debug + 'static {
     fn zeroed() -> Self
         ensures { bytes result ≡ replicate LEN 0 };
 
-    /// The array of the bytes of `slice`.
+    /// The array of the bytes of `slice`, whose length is `LEN`.
     fn from_slice(slice: &[u8]) -> Self
         requires { length slice.now ≡ LEN }
         ensures { result ≡ of_bytes slice.now };
@@ -78,7 +78,7 @@ impl<const LEN: usize> ByteArray for [u8; LEN] {
         as_bytes(self)
     }
 
-    // A word at a time at the lengths of one to four words.
+    // Arrays of one to four words are compared a word at a time.
     #[inline]
     fn equals(&self, other: &Self) -> bool {
         let (left, right): (&[u8], &[u8]) = (self, other);

@@ -1,4 +1,4 @@
-//! Stores of bytes, which tables live in.
+//! Stores of bytes, which hold tables.
 ghost use Rattle.std.specs.Prelude.{◌≡◌, ℕ, ◌+◌, ◌≤◌, List, length, refl};
 ghost use Rattle.std.specs.Borrow.{sem, Lends, Array, u8};
 ghost use Rattle.std.proofs.Common.{ap};
@@ -7,7 +7,7 @@ ghost use Rattle.odht_base.specs.AfterBorrow.{after_borrow_bytes, after_borrow_b
 
 use std::marker::Model;
 
-/// A place that holds bytes.
+/// A store of bytes.
 pub trait ByteStore: Drop {
     ghost bytes: { Self → List ℕ };
 
@@ -16,22 +16,23 @@ pub trait ByteStore: Drop {
         ensures { result.now ≡ bytes self.now };
 }
 
-/// A place whose bytes can be overwritten, and which stays the same place.
+/// A store whose bytes can be overwritten.
 ///
-/// A contract names the place that holds other bytes by the ghost member `holding`. So who lends a place learns what it
-/// holds when it is handed back. Three laws say that nothing but the bytes tells one state of a place from another: it
-/// holds what it was told to hold, only the last bytes matter, and with the bytes that it has it is as it is. What it
-/// holds once lent bytes have come back is `lent`; as many bytes as it has are what it holds then (`after_borrow_fits`).
+/// In a contract the ghost member `holding` is the store with other bytes. So after a borrow of the store its owner
+/// knows which bytes it holds. Three laws say that a write changes nothing but the bytes: the store then holds the
+/// bytes that were written (`held`), of several writes of all bytes only the last one matters (`held_last`), and with
+/// the bytes that it has already the store is unchanged (`held_same`). `after_borrow` is the store after a borrow of
+/// its bytes; where these are as many as before, the store holds exactly these (`after_borrow_fits`).
 ///
-/// So what a store keeps beside its bytes must stay as it is on a write. A count of the writes, say, is for the store's
-/// `Model` to leave out.
+/// So whatever a store keeps beside its bytes must not change on a write. A count of the writes, say, has to be left
+/// out of the store's `Model`.
 pub trait ByteStoreMut: ByteStore {
     ghost holding: { Self → List ℕ → Self };
 
-    // the place when the bytes that it lent end as these
+    // the store after a borrow of its bytes that left these bytes
     ghost after_borrow: { Self → List ℕ → Self };
 
-    /// All of its bytes, to be written: the place then holds what is left in them.
+    /// All of its bytes, to be written. After the borrow the store holds the bytes that were left in the slice.
     fn bytes_mut(&mut self) -> &mut [u8]
         ensures* writes_back { sem 𝓛 (Lends Self.row (Array u8 0) self.entry result (after_borrow self.old)) }
         ensures value { result.now ≡ Self.bytes self.old };
@@ -47,20 +48,20 @@ pub trait ByteStoreMut: ByteStore {
         write_slice(self.bytes_mut(), at, data)
     }
 
-    // it holds the bytes that it was told to hold
+    // after a write of all bytes the store holds these bytes
     ghost held: { (s : Self) (b : List ℕ) → Self.bytes (holding s b) ≡ b };
 
-    // only the last bytes matter
+    // of two writes of all bytes only the last one matters
     ghost held_last: { (s : Self) (a b : List ℕ) → holding (holding s a) b ≡ holding s b };
 
-    // with the bytes that it has it is as it is
+    // with the bytes that it has already the store is unchanged
     ghost held_same: { (s : Self) → holding s (Self.bytes s) ≡ s };
 
-    // a slice keeps its length, and with as many bytes it holds just these
+    // a borrowed slice keeps its length, and with as many bytes as before the store holds exactly these
     ghost after_borrow_fits: { (s : Self) (b : List ℕ) → length b ≡ length (Self.bytes s) → after_borrow s b ≡ holding s b };
 }
 
-// A place that is lent: what is written to it stands in the place itself.
+// A borrowed store: what is written to it is written to the store itself.
 impl<M: ByteStore> ByteStore for &mut M {
     ghost bytes = { λ s. M.bytes s.now };
 
@@ -89,7 +90,7 @@ impl<M: ByteStoreMut> ByteStoreMut for &mut M {
     }
 }
 
-/// The bytes of a slice.
+/// A store that borrows a slice to read it.
 #[derive(Clone, Copy)]
 pub struct Borrowed<'a>(pub &'a [u8]);
 
@@ -112,12 +113,12 @@ impl ByteStore for Borrowed<'_> {
     }
 }
 
-/// The bytes of a slice that can be overwritten.
+/// A store that borrows a slice to read and write it.
 #[derive(Drop)]
 pub struct BorrowedMut<'a>(pub &'a mut [u8]);
 
 impl<'a> BorrowedMut<'a> {
-    /// The store of `bytes`: what is written to it stands in the slice.
+    /// The store of `bytes`: what is written to it is written to the slice.
     #[inline]
     pub fn new(bytes: &'a mut [u8]) -> Self
         ensures bytes { result.0.now ≡ bytes.old }
@@ -165,7 +166,7 @@ impl ByteStoreMut for BorrowedMut<'_> {
     }
 }
 
-/// The bytes of a vector.
+/// A store that owns a vector.
 #[derive(Drop)]
 pub struct OwnedBytes(Vec<u8>);
 
@@ -231,7 +232,7 @@ pub fn write_slice(all: &mut [u8], at: usize, piece: &[u8])
     overwrite(&mut all[at..at + piece.len()], piece);
 }
 
-// Writes `piece` over the whole place: in one store at the lengths that a number has.
+// Writes `piece` over the whole slice; a piece of 1, 2, 4, 8 or 16 bytes is copied as an array.
 #[inline(always)]
 fn overwrite(target: &mut [u8], piece: &[u8])
     requires { length target.old ≡ length piece.now }
@@ -247,7 +248,7 @@ fn overwrite(target: &mut [u8], piece: &[u8])
     }
 }
 
-// Writes `piece` over the whole place, of `N` bytes, in one store.
+// Writes `piece` over the whole slice, of `N` bytes, as an array.
 #[inline(always)]
 fn overwrite_array<const N: usize>(target: &mut [u8], piece: &[u8])
     requires target_len { length target.old ≡ N }

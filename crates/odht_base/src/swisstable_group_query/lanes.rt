@@ -9,10 +9,10 @@ use super::mask::{lowest_bit, without_lowest_bit};
 use std::marker::Model;
 use std::simd::prelude::*;
 
-/// How many control bytes are looked at at once.
+/// How many control bytes are searched at once.
 pub const GROUP_SIZE: usize = 16;
 
-/// A search of sixteen control bytes. It iterates over its matches, which are exactly the bytes equal to the tag.
+/// A search of sixteen control bytes. It iterates over its matches: exactly the indices of the tag.
 #[derive(Drop)]
 pub struct GroupQuery {
     eq_mask: u64,
@@ -30,7 +30,7 @@ impl Model for GroupQuery {
 }
 
 impl GroupQuery {
-    // Looks at a group for a tag, once it is in lanes.
+    // Searches a group that is in lanes for a tag.
     #[inline]
     fn of_lanes(lanes: u8x16, h2: u8) -> GroupQuery
         requires { length lanes ≡ 16 }
@@ -43,7 +43,7 @@ impl GroupQuery {
         }
     }
 
-    /// Looks at a group for a tag.
+    /// Searches a group for a tag, which is below 128.
     #[inline]
     pub fn from(group: &[u8; GROUP_SIZE], h2: u8) -> GroupQuery
         requires { h2 < 128 }
@@ -79,7 +79,7 @@ impl Group for GroupQuery {
 
     const SIZE: usize = GROUP_SIZE;
 
-    /// Looks at a group for a tag.
+    /// Searches a group for a tag, which is below 128.
     #[inline]
     fn of(bytes: &[u8], h2: u8) -> GroupQuery
         requires size { length bytes.now ≡ 16 }

@@ -2,7 +2,7 @@
 ghost use Rattle.std.specs.Prelude.{◌≡◌, drop, slice_get};
 ghost use Rattle.odht_base.specs.Masks.{set_bits};
 
-/// The place of the lowest bit that is set.
+/// The index of the lowest bit that is set; None where none is.
 #[inline(always)]
 pub(crate) fn lowest_bit(mask: u64) -> Option<usize>
     ensures { result ≡ slice_get (set_bits mask) 0 }
@@ -13,7 +13,7 @@ pub(crate) fn lowest_bit(mask: u64) -> Option<usize>
     Some(mask.trailing_zeros() as usize)
 }
 
-/// The mask without its lowest bit.
+/// The mask without the lowest bit that is set.
 #[inline(always)]
 pub(crate) fn without_lowest_bit(mask: u64) -> u64
     ensures { set_bits result ≡ drop 1 (set_bits mask) }

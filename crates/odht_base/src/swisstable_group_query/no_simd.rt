@@ -9,7 +9,7 @@ use super::Group;
 use super::mask::{lowest_bit, without_lowest_bit};
 use std::marker::Model;
 
-/// How many control bytes are looked at at once.
+/// How many control bytes are searched at once.
 pub const GROUP_SIZE: usize = 8;
 
 // One in each byte.
@@ -20,8 +20,8 @@ const HIGH_BITS: u64 = 0x8080_8080_8080_8080;
 
 /// A search of eight control bytes. It iterates over its matches.
 ///
-/// A byte that differs from the tag in its lowest bit alone is reported too where the byte below it is reported: the
-/// subtraction borrows from it.
+/// Beside each byte that is the tag, a byte that differs from the tag in its lowest bit alone can match, but only where
+/// the byte before it matches too: the subtraction of that byte borrows from it.
 #[derive(Drop)]
 pub struct GroupQuery {
     eq_mask: u64,
@@ -50,7 +50,7 @@ fn lowest_byte(mask: u64) -> Option<usize>
 }
 
 impl GroupQuery {
-    /// Looks at a group for a tag.
+    /// Searches a group for a tag, which is below 128.
     #[inline]
     pub fn from(group: &[u8; GROUP_SIZE], h2: u8) -> GroupQuery
         requires { h2 < 128 }
@@ -91,7 +91,7 @@ impl Group for GroupQuery {
 
     const SIZE: usize = GROUP_SIZE;
 
-    /// Looks at a group for a tag.
+    /// Searches a group for a tag, which is below 128.
     #[inline]
     fn of(bytes: &[u8], h2: u8) -> GroupQuery
         requires size { length bytes.now ≡ 8 }

@@ -1,4 +1,4 @@
-//! The occupied ones of sixteen control bytes, in the lanes of one vector.
+//! The search of sixteen control bytes for those of occupied slots, in the lanes of one vector.
 ghost use Rattle.std.specs.Prelude.{◌≡◌, ◌≤◌, [], length, take, drop, slice_get};
 ghost use Rattle.odht_base.specs.Groups.{occupied};
 
@@ -6,9 +6,9 @@ use super::mask::{lowest_bit, without_lowest_bit};
 use std::marker::Model;
 use std::simd::prelude::*;
 
-/// The control bytes of a group that do not count as free, which are taken in turn.
+/// The indices of the control bytes of a group that do not count as free, to be taken in turn.
 ///
-/// A contract speaks of it as of the list of their indices that are left.
+/// In a contract it is the list of the indices that are left.
 #[derive(Drop)]
 pub struct OccupiedQuery {
     mask: u64,
@@ -32,7 +32,7 @@ impl OccupiedQuery {
         OccupiedQuery { mask: 0 }
     }
 
-    /// The occupied ones of the first `count` of sixteen control bytes, at most sixteen.
+    /// The indices of the bytes below 128 among the first `count`, at most sixteen, of sixteen control bytes.
     #[inline]
     pub fn of(bytes: &[u8], count: usize) -> OccupiedQuery
         requires len { length bytes.now ≡ 16 }

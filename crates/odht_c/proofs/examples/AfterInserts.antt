@@ -21,7 +21,7 @@ use Rattle.odht_c.specs.Builds.{IsGrownAfterInserts}
 use Rattle.odht_raw.proofs.examples.Apart.{unequal_lists}
 use Rattle.odht_c.proofs.examples.Tables.{direct_coding, no_items, one_item, no_bytes, one_bytes, no_image, one_image}
 
--- one pair, put into a valid table by the owned table
+-- one pair, inserted into a valid table by the owned table
 owned : (P Q : Table) (B C : List ℕ) → IsImage direct_config P B
     → insert_owned direct_config P (pair32 5 7) ≡ Some Q → IsImage direct_config Q C
     → IsAfterInserts direct_config (insert_owned direct_config) P (pair32 5 7 ∷ []) C
@@ -99,7 +99,7 @@ other_percent_refused h = unequal_lists one_bytes roomy_bytes refl (only_grown o
 abbrev fourteen : List (ℕ × ℕ)
 fourteen = map (λ i. (i, i)) (range_with_len 0 14)
 
--- of which each stands in the slot of its own number
+-- of which each is in the slot of its own number
 abbrev grown_item : Table
 grown_item = record {
   factor = factor_of 87;
@@ -133,7 +133,7 @@ grown_inserted = record {
   stays = λ room. absurd (let few : 14 ≤ 13 = room in omega (arith, few));
 }
 
--- so the owned table puts them in
+-- so the owned table inserts them
 pub fourteen_grown : IsGrownAfterInserts direct_coding fourteen (image direct_config grown_item)
 unfolding opened
 fourteen_grown P new =

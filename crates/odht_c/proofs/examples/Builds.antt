@@ -14,7 +14,7 @@ use Rattle.odht_c.proofs.examples.Tables.{direct_coding, one_bytes}
 abbrev nines : List ℕ
 nines = replicate 192 9
 
--- arrays of two lengths are refused, and the places stay
+-- arrays of two lengths are answered with ODHT_BAD_LENGTHS, and the buffers are unchanged
 pub lengths_build : BuildAnswers direct_coding (5 ∷ []) [] 7 nines 4 35 nines 4
 lengths_build = record {
   lengths = λ other. (refl, refl, refl);
@@ -34,7 +34,7 @@ percent_build = record {
   capacity = λ is. absurd (unequal 34 20 refl is);
 }
 
--- a table, which fills the bytes
+-- a table, which takes all bytes
 pub one_build : BuildAnswers direct_coding (5 ∷ []) (7 ∷ []) 7 nines 4 0 one_bytes 192
 unfolding opened
 one_build = record {
@@ -72,7 +72,7 @@ small_build = record {
 pub build_lengths_status_refused : BuildAnswers direct_coding (5 ∷ []) [] 7 nines 4 19 nines 4 → ⊥
 build_lengths_status_refused h = unequal 19 35 refl (h.lengths (unequal 0 1 refl)).0
 
--- and the bytes stay
+-- and the bytes are unchanged
 pub build_lengths_bytes_refused : BuildAnswers direct_coding (5 ∷ []) [] 7 [] 4 35 (7 ∷ []) 4 → ⊥
 build_lengths_bytes_refused h = unequal_lists (7 ∷ []) [] refl (h.lengths (unequal 0 1 refl)).1
 
@@ -84,7 +84,7 @@ build_lengths_number_refused h = unequal 0 4 refl (h.lengths (unequal 0 1 refl))
 pub build_percent_status_refused : BuildAnswers direct_coding (5 ∷ []) (7 ∷ []) 0 nines 4 19 nines 4 → ⊥
 build_percent_status_refused h = unequal 19 34 refl (h.percent refl zero_percent_refused).0
 
--- and the bytes stay
+-- and the bytes are unchanged
 pub build_percent_bytes_refused : BuildAnswers direct_coding (5 ∷ []) (7 ∷ []) 0 [] 4 34 (7 ∷ []) 4 → ⊥
 build_percent_bytes_refused h = unequal_lists (7 ∷ []) [] refl (h.percent refl zero_percent_refused).1
 
@@ -92,7 +92,7 @@ build_percent_bytes_refused h = unequal_lists (7 ∷ []) [] refl (h.percent refl
 pub build_percent_number_refused : BuildAnswers direct_coding (5 ∷ []) (7 ∷ []) 0 nines 4 34 nines 0 → ⊥
 build_percent_number_refused h = unequal 0 4 refl (h.percent refl zero_percent_refused).2
 
--- what is told as done is the table
+-- where the answer is `done` the bytes are the table
 pub unbuilt_refused : BuildAnswers direct_coding (5 ∷ []) (7 ∷ []) 7 nines 4 0 nines 192 → ⊥
 unfolding opened
 unbuilt_refused h = unequal_lists nines one_bytes refl (only_built nines (h.built.built refl))
@@ -102,7 +102,7 @@ pub build_other_percent_refused : BuildAnswers direct_coding (5 ∷ []) (7 ∷ [
 unfolding opened
 build_other_percent_refused h = unequal_lists roomy_bytes one_bytes refl (only_built roomy_bytes (h.built.built refl))
 
--- and its length is told where it is longer than the bytes
+-- and its length is written where it is longer than the bytes
 pub build_other_length_refused : BuildAnswers direct_coding (5 ∷ []) (7 ∷ []) 7 [] 4 36 [] 191 → ⊥
 unfolding opened
 build_other_length_refused h =
@@ -113,11 +113,11 @@ build_other_length_refused h =
 pub build_other_status_refused : BuildAnswers direct_coding (5 ∷ []) (7 ∷ []) 7 nines 4 7 nines 4 → ⊥
 build_other_status_refused h = unequal 7 20 refl (h.refused refl seven (unequal 7 0 refl) (unequal 7 36 refl)).0
 
--- want of memory neither
+-- nor is `Memory`
 pub build_memory_refused : BuildAnswers direct_coding (5 ∷ []) (7 ∷ []) 7 nines 4 19 nines 4 → ⊥
 build_memory_refused h = unequal 19 20 refl (h.refused refl seven (unequal 19 0 refl) (unequal 19 36 refl)).0
 
--- without a slot count the bytes stay
+-- without a slot count the bytes are unchanged
 pub build_capacity_bytes_refused : BuildAnswers direct_coding (5 ∷ []) (7 ∷ []) 7 [] 4 20 (7 ∷ []) 4 → ⊥
 build_capacity_bytes_refused h =
     unequal_lists (7 ∷ []) [] refl (h.refused refl seven (unequal 20 0 refl) (unequal 20 36 refl)).1
@@ -126,12 +126,12 @@ build_capacity_bytes_refused h =
 pub build_capacity_number_refused : BuildAnswers direct_coding (5 ∷ []) (7 ∷ []) 7 nines 4 20 nines 0 → ⊥
 build_capacity_number_refused h = unequal 0 4 refl (h.refused refl seven (unequal 20 0 refl) (unequal 20 36 refl)).2
 
--- one pair is not told as too many
+-- one pair is not too many
 pub build_capacity_refused : BuildAnswers direct_coding (5 ∷ []) (7 ∷ []) 7 nines 4 20 nines 4 → ⊥
 build_capacity_refused h = one_fits (h.capacity refl)
 
 -- ---- BuildGrowingAnswers
--- arrays of two lengths are refused, and the places stay
+-- arrays of two lengths are answered with ODHT_BAD_LENGTHS, and the buffers are unchanged
 pub lengths_growing : BuildGrowingAnswers direct_coding (5 ∷ []) [] nines 4 35 nines 4
 lengths_growing = record {
   lengths = λ other. (refl, refl, refl);
@@ -147,7 +147,7 @@ memory_growing = record {
   refused = λ long undone roomy. (refl, refl, refl);
 }
 
--- a table, which fills the bytes
+-- a table, which takes all bytes
 pub one_growing : BuildGrowingAnswers direct_coding (5 ∷ []) (7 ∷ []) nines 4 0 roomy_bytes 192
 unfolding opened
 one_growing = record {
@@ -166,7 +166,7 @@ one_growing = record {
 pub growing_lengths_status_refused : BuildGrowingAnswers direct_coding (5 ∷ []) [] nines 4 19 nines 4 → ⊥
 growing_lengths_status_refused h = unequal 19 35 refl (h.lengths (unequal 0 1 refl)).0
 
--- and the bytes stay
+-- and the bytes are unchanged
 pub growing_lengths_bytes_refused : BuildGrowingAnswers direct_coding (5 ∷ []) [] [] 4 35 (7 ∷ []) 4 → ⊥
 growing_lengths_bytes_refused h = unequal_lists (7 ∷ []) [] refl (h.lengths (unequal 0 1 refl)).1
 
@@ -174,7 +174,7 @@ growing_lengths_bytes_refused h = unequal_lists (7 ∷ []) [] refl (h.lengths (u
 pub growing_lengths_number_refused : BuildGrowingAnswers direct_coding (5 ∷ []) [] nines 4 35 nines 0 → ⊥
 growing_lengths_number_refused h = unequal 0 4 refl (h.lengths (unequal 0 1 refl)).2
 
--- what is told as done is the table
+-- where the answer is `done` the bytes are the table
 pub ungrown_refused : BuildGrowingAnswers direct_coding (5 ∷ []) (7 ∷ []) nines 4 0 nines 192 → ⊥
 unfolding opened
 ungrown_refused h = unequal_lists nines roomy_bytes refl (only_grown nines (h.built.built refl))
@@ -188,7 +188,7 @@ growing_other_percent_refused h = unequal_lists one_bytes roomy_bytes refl (only
 pub growing_other_status_refused : BuildGrowingAnswers direct_coding (5 ∷ []) (7 ∷ []) nines 4 20 nines 4 → ⊥
 growing_other_status_refused h = unequal 20 19 refl (h.refused refl (unequal 20 0 refl) (unequal 20 36 refl)).0
 
--- without memory the bytes stay
+-- out of memory the bytes are unchanged
 pub growing_memory_bytes_refused : BuildGrowingAnswers direct_coding (5 ∷ []) (7 ∷ []) [] 4 19 (7 ∷ []) 4 → ⊥
 growing_memory_bytes_refused h =
     unequal_lists (7 ∷ []) [] refl (h.refused refl (unequal 19 0 refl) (unequal 19 36 refl)).1

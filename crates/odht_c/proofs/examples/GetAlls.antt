@@ -14,12 +14,12 @@ use Rattle.odht_raw.proofs.examples.Apart.{unequal, unequal_lists}
 use Rattle.odht_c.proofs.examples.Tables.{direct_coding, one_item, one_bytes, miscounted, one_image, accepted_bytes, same_table, not_stored}
 
 -- ---- what holds
--- no bytes are refused, and the arrays stay
+-- the empty list of bytes has an error, and the arrays are unchanged
 pub too_short_all : GetAllAnswers direct_coding [] (5 ∷ []) (9 ∷ []) (3 ∷ []) 1 (9 ∷ []) (3 ∷ [])
 unfolding opened
 too_short_all = refused_get_all direct_coding [] (TooShort 0) 1 refl refl (5 ∷ []) (9 ∷ []) (3 ∷ []) (refl, refl)
 
--- arrays of two lengths are refused, and stay
+-- arrays of two lengths are answered with ODHT_BAD_LENGTHS, and are unchanged
 pub lengths_all : GetAllAnswers direct_coding one_bytes (5 ∷ []) [] (3 ∷ []) 35 [] (3 ∷ [])
 lengths_all = record {
   lengths = λ other. (refl, refl, refl);
@@ -29,7 +29,7 @@ lengths_all = record {
   on_any = λ i k long is at. absurd (unequal 0 1 refl long.0);
 }
 
--- the key 5 of a valid table has the value 7, and is told as found
+-- the key 5 of a valid table has the value 7, and is reported as found
 pub present_all : GetAllAnswers direct_coding one_bytes (5 ∷ []) (9 ∷ []) (3 ∷ []) 0 (7 ∷ []) (1 ∷ [])
 unfolding opened
 present_all = record {
@@ -61,7 +61,7 @@ present_all = record {
 pub lengths_status_refused : GetAllAnswers direct_coding one_bytes (5 ∷ []) [] (3 ∷ []) 0 [] (3 ∷ []) → ⊥
 lengths_status_refused h = unequal 0 35 refl (h.lengths (λ long. unequal 0 1 refl long.0)).0
 
--- and the values stay
+-- and the values are unchanged
 pub lengths_values_refused : GetAllAnswers direct_coding one_bytes (5 ∷ []) [] (3 ∷ []) 35 (7 ∷ []) (3 ∷ []) → ⊥
 lengths_values_refused h = unequal_lists (7 ∷ []) [] refl (h.lengths (λ long. unequal 0 1 refl long.0)).1
 
@@ -70,12 +70,12 @@ pub lengths_found_refused : GetAllAnswers direct_coding one_bytes (5 ∷ []) (9 
 lengths_found_refused h = unequal_lists (1 ∷ []) [] refl (h.lengths (λ long. unequal 0 1 refl long.1)).2
 
 -- ---- refused
--- a refusal is not answered with another status
+-- an error is not answered with another status
 pub refusal_all_status_refused : GetAllAnswers direct_coding [] (5 ∷ []) (9 ∷ []) (3 ∷ []) 2 (9 ∷ []) (3 ∷ []) → ⊥
 unfolding opened
 refusal_all_status_refused h = unequal 2 1 refl (h.refused (TooShort 0) (refl, refl) refl).0
 
--- and the values stay
+-- and the values are unchanged
 pub refusal_all_values_refused : GetAllAnswers direct_coding [] (5 ∷ []) (9 ∷ []) (3 ∷ []) 1 (7 ∷ []) (3 ∷ []) → ⊥
 unfolding opened
 refusal_all_values_refused h = unequal_lists (7 ∷ []) (9 ∷ []) refl (h.refused (TooShort 0) (refl, refl) refl).1
@@ -91,7 +91,7 @@ pub accepted_status_refused : GetAllAnswers direct_coding one_bytes (5 ∷ []) (
 accepted_status_refused h = unequal 32 0 refl (h.accepted (refl, refl) accepted_bytes.1)
 
 -- ---- on_valid
--- a present key of a valid table is not told as absent
+-- a present key of a valid table is not reported as absent
 pub present_missed_all_refused : GetAllAnswers direct_coding one_bytes (5 ∷ []) (9 ∷ []) (3 ∷ []) 0 (9 ∷ []) (0 ∷ [])
     → ⊥
 unfolding opened
@@ -105,7 +105,7 @@ present_unwritten_all_refused h =
     unequal 9 7 refl (some_same 9 7 (h.on_valid one_item 0 5 (refl, refl) one_image refl).1)
 
 -- ---- on_any
--- what was found is 0 or 1, also of bytes that are accepted and not valid
+-- each element of what was found is 0 or 1, also of bytes that are accepted and not valid
 pub third_found_refused : GetAllAnswers direct_coding miscounted (6 ∷ []) (9 ∷ []) (3 ∷ []) 0 (9 ∷ []) (2 ∷ []) → ⊥
 third_found_refused h = go (h.on_any 0 6 (refl, refl) accepted_bytes.2 refl)
   where

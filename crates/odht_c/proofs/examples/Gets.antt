@@ -28,7 +28,7 @@ absent_written_refused h = unequal 7 9 refl h.1
 pub present_as_absent_refused : IsGot {V = ℕ} (Some 7) 9 32 7 → ⊥
 present_as_absent_refused h = unequal 32 0 refl h.0
 
--- and does not leave the place as it was
+-- and does not leave the buffer unchanged
 pub present_unwritten_refused : IsGot {V = ℕ} (Some 7) 9 0 9 → ⊥
 present_unwritten_refused h = unequal 9 7 refl h.1
 
@@ -37,7 +37,7 @@ present_unwritten_refused h = unequal 9 7 refl h.1
 pub got_at : IsGotAt {V = ℕ} None (Some 9) (Some 0) (Some 9) × IsGotAt {V = ℕ} (Some 7) (Some 9) (Some 1) (Some 7)
 got_at = ((refl, refl), (refl, refl))
 
--- an absent key is not told as found
+-- an absent key is not reported as found
 pub absent_as_found_refused : IsGotAt {V = ℕ} None (Some 9) (Some 1) (Some 9) → ⊥
 absent_as_found_refused h = unequal 1 0 refl (some_same 1 0 h.0)
 
@@ -45,16 +45,16 @@ absent_as_found_refused h = unequal 1 0 refl (some_same 1 0 h.0)
 pub absent_written_at_refused : IsGotAt {V = ℕ} None (Some 9) (Some 0) (Some 7) → ⊥
 absent_written_at_refused h = unequal 7 9 refl (some_same 7 9 h.1)
 
--- a present key is told as found by 1 alone
+-- a present key is reported as found by 1 alone
 pub present_as_two_refused : IsGotAt {V = ℕ} (Some 7) (Some 9) (Some 2) (Some 7) → ⊥
 present_as_two_refused h = unequal 2 1 refl (some_same 2 1 h.0)
 
--- and does not leave the place as it was
+-- and does not leave the buffer unchanged
 pub present_unwritten_at_refused : IsGotAt {V = ℕ} (Some 7) (Some 9) (Some 1) (Some 9) → ⊥
 present_unwritten_at_refused h = unequal 9 7 refl (some_same 9 7 h.1)
 
 -- ---- GetAnswers
--- no bytes are refused, and the place stays
+-- the empty list of bytes has an error, and the buffer is unchanged
 pub too_short_answers : GetAnswers direct_coding [] 5 9 1 9
 unfolding opened
 too_short_answers = refused_get direct_coding [] (TooShort 0) 1 refl refl 5 9
@@ -79,7 +79,7 @@ absent_answers = record {
   on_any = λ is. (None, (refl, refl), tt);
 }
 
--- a refusal is not answered with another status
+-- an error is not answered with another status
 pub refusal_status_refused : GetAnswers direct_coding [] 5 9 2 9 → ⊥
 unfolding opened
 refusal_status_refused h = unequal 2 1 refl (h.refused (TooShort 0) refl).0

@@ -1,8 +1,8 @@
--- Worked examples: what a call for a growth answers, of the table of one pair and of bytes that it refuses.
+-- Worked examples: what a call for a growth answers, of the table of one pair and of bytes that it rejects.
 --     grown_item, grown_bytes  the table into which that of one item grows: thirty-two slots, of which slot 5 has the pair; and
 --                              its 336 bytes
---     weak                     the bytes of no items, which state a load factor of 654; a growth refuses them
---     crowded                  the same, which state 2 ^ 63 items
+--     weak                     the bytes of no items, with a load factor of 654 in the header; a growth rejects them
+--     crowded                  the same, with 2 ^ 63 items in the header
 --     nines, filled            bytes of a caller, one more than are needed; and what a growth leaves of them
 use Rattle.std.proofs.Common.{◌≡◌, ◌∙◌, ◌++◌, ℕ, List, [], ◌∷◌, refl, sym, ap, subst, lit≤, lit<, length, replicate, set, Some, None}
 use Rattle.odht_base.specs.Bytes.{overwritten_at}
@@ -80,7 +80,7 @@ pub nothing_grown_refused : IsGrownFrom direct_config one_bytes [] → ⊥
 unfolding opened
 nothing_grown_refused h = not_none _ (TooShort 0) refl h.accepted
 
--- another count is not stated
+-- the header has no other count
 pub other_count_refused : IsGrownFrom direct_config miscounted no_bytes → ⊥
 unfolding opened
 other_count_refused h = unequal 0 5 refl h.count
@@ -100,18 +100,18 @@ pub one_grown_into : IsGrownInto direct_config one_bytes 336 nines inserted
 unfolding opened
 one_grown_into = record { table = one_grown; rest = refl }
 
--- what stays as it was is no table
+-- what is unchanged is no table
 pub unwritten_refused : IsGrownInto direct_config one_bytes 336 nines nines → ⊥
 unfolding opened
 unwritten_refused h = unequal_lists (replicate 336 9) grown_bytes refl (only_grown (replicate 336 9) (h.table.on_valid one_item one_image))
 
--- and the byte behind the table stays
+-- and the byte after the table is unchanged
 pub behind_grown_refused : IsGrownInto direct_config one_bytes 336 nines (grown_bytes ++ 7 ∷ []) → ⊥
 unfolding opened
 behind_grown_refused h = unequal_lists (7 ∷ []) (9 ∷ []) refl h.rest
 
 -- ---- GrowAnswers
--- no bytes are refused, and the places stay
+-- the empty list of bytes has an error, and the buffers are unchanged
 pub too_short_grow : GrowAnswers direct_coding [] (9 ∷ []) 4 1 (9 ∷ []) 4
 unfolding opened growth_refusal
 too_short_grow = refused_grow direct_coding [] (9 ∷ []) 4 (TooShort 0) 1 refl refl
@@ -126,17 +126,17 @@ pub crowded_grow : GrowAnswers direct_coding crowded (9 ∷ []) 4 20 (9 ∷ []) 
 unfolding opened growth_refusal grown_len
 crowded_grow = refused_grow direct_coding crowded (9 ∷ []) 4 Capacity 20 refl refl
 
--- one byte is too few, and stays; the length is told
+-- one byte is too few, and is unchanged; the length is written
 pub small_grow : GrowAnswers direct_coding one_bytes (9 ∷ []) 4 36 (9 ∷ []) 336
 unfolding opened growth_refusal grown_len
 small_grow = short_grow direct_coding one_bytes (9 ∷ []) 4 336 refl refl (lit< tt)
 
--- 337 bytes take the table, and the last stays
+-- the table fits 337 bytes, and the last one is unchanged
 pub one_grow : GrowAnswers direct_coding one_bytes nines 4 0 inserted 336
 unfolding opened growth_refusal grown_len
 one_grow = done_grow direct_coding one_bytes nines 4 336 refl refl inserted (lit≤ tt) one_grown_into
 
--- what is refused is not answered with another status
+-- an error is not answered with another status
 pub grow_status_refused : GrowAnswers direct_coding weak (9 ∷ []) 4 20 (9 ∷ []) 4 → ⊥
 unfolding opened growth_refusal
 grow_status_refused h = unequal 20 10 refl (h.refused (LoadFactorTooSmall 654) refl).0
@@ -156,12 +156,12 @@ pub grow_short_status_refused : GrowAnswers direct_coding one_bytes (9 ∷ []) 4
 unfolding opened growth_refusal grown_len
 grow_short_status_refused h = unequal 0 36 refl (h.short 336 refl refl (lit< tt)).0
 
--- and stay
+-- and are unchanged
 pub grow_short_bytes_refused : GrowAnswers direct_coding one_bytes (9 ∷ []) 4 36 (79 ∷ []) 336 → ⊥
 unfolding opened growth_refusal grown_len
 grow_short_bytes_refused h = unequal_lists (79 ∷ []) (9 ∷ []) refl (h.short 336 refl refl (lit< tt)).1
 
--- and no other length is told
+-- and no other length is written
 pub grow_short_length_refused : GrowAnswers direct_coding one_bytes (9 ∷ []) 4 36 (9 ∷ []) 4 → ⊥
 unfolding opened growth_refusal grown_len
 grow_short_length_refused h = unequal 4 336 refl (h.short 336 refl refl (lit< tt)).2
@@ -171,12 +171,12 @@ pub grow_done_status_refused : GrowAnswers direct_coding one_bytes nines 4 36 ni
 unfolding opened growth_refusal grown_len
 grow_done_status_refused h = unequal 36 0 refl (h.grown 336 refl refl (lit≤ tt)).0
 
--- and not left as they were
+-- and are not left unchanged
 pub grow_done_bytes_refused : GrowAnswers direct_coding one_bytes nines 4 0 nines 336 → ⊥
 unfolding opened growth_refusal grown_len
 grow_done_bytes_refused h = unwritten_refused (h.grown 336 refl refl (lit≤ tt)).1
 
--- and their length is told
+-- and their length is written
 pub grow_done_length_refused : GrowAnswers direct_coding one_bytes nines 4 0 inserted 337 → ⊥
 unfolding opened growth_refusal grown_len
 grow_done_length_refused h = unequal 337 336 refl (h.grown 336 refl refl (lit≤ tt)).2

@@ -1,15 +1,15 @@
--- Worked examples: how a table is copied into bytes of the caller, here into up to three bytes. In place of a table
--- stand the bytes 1 and 2.
+-- Worked examples: how a table is copied into bytes of the caller, here into up to three bytes. The bytes 1
+-- and 2 take the part of a table.
 use Rattle.std.proofs.Common.{◌≡◌, ◌≤◌, ◌<◌, ◌∙◌, ℕ, refl, sym, ap, arith, lit<, lit≤, List, [], ◌∷◌, length}
 use Rattle.odht_c.specs.Builds.{IsHandedOut}
 use Rattle.odht_c.proofs.lemmas.HandedOut.{IsHandedOut-none}
 use Rattle.odht_raw.proofs.examples.Apart.{unequal, unequal_lists}
 
--- the bytes that stand for a table
+-- the bytes that take the part of a table
 abbrev AreOneTwo : List ℕ → Type 0
 AreOneTwo B = B ≡ 1 ∷ 2 ∷ []
 
--- three bytes take both, and the third stays
+-- both fit three bytes, and the third is unchanged
 pub copied : IsHandedOut AreOneTwo (9 ∷ 9 ∷ 9 ∷ []) 0 (1 ∷ 2 ∷ 9 ∷ []) 2
 copied = record {
   built = λ is. refl;
@@ -19,7 +19,7 @@ copied = record {
   too_small = λ is. absurd (unequal 0 36 refl is);
 }
 
--- one byte does not, and stays; two are told as needed
+-- one byte does not, and is unchanged; two is the length that is needed
 pub too_long : IsHandedOut AreOneTwo (9 ∷ []) 36 (9 ∷ []) 2
 too_long = record {
   built = λ is. absurd (unequal 36 0 refl is);
@@ -29,7 +29,7 @@ too_long = record {
   too_small = λ is. (lit< tt, refl);
 }
 
--- other statuses say nothing here
+-- other statuses imply nothing here
 pub not_made : IsHandedOut AreOneTwo (9 ∷ []) 19 (9 ∷ []) 4
 not_made = IsHandedOut-none _ _ _ _ _ (unequal 19 0 refl) (unequal 19 36 refl)
 
@@ -41,18 +41,18 @@ other_copied_refused h = unequal_lists (1 ∷ 3 ∷ []) (1 ∷ 2 ∷ []) refl (h
 pub overrun_refused : IsHandedOut AreOneTwo (9 ∷ []) 0 (1 ∷ 2 ∷ []) 2 → ⊥
 overrun_refused h = let fits : 2 ≤ 1 = h.fits refl in omega (arith, fits)
 
--- the bytes behind stay
+-- the bytes after them are unchanged
 pub behind_refused : IsHandedOut AreOneTwo (9 ∷ 9 ∷ 9 ∷ []) 0 (1 ∷ 2 ∷ 0 ∷ []) 2 → ⊥
 behind_refused h = unequal_lists (0 ∷ []) (9 ∷ []) refl (h.rest refl)
 
--- no other length is told as needed
+-- no other length is written as needed
 pub other_needed_refused : IsHandedOut AreOneTwo (9 ∷ []) 36 (9 ∷ []) 3 → ⊥
 other_needed_refused h = let made = h.needed refl in unequal 2 3 refl (sym (ap length made.2) ∙ made.1)
 
--- room enough is not told as too small
+-- where the table fits the answer is not `too_small`
 pub roomy_as_small_refused : IsHandedOut AreOneTwo (9 ∷ 9 ∷ []) 36 (9 ∷ 9 ∷ []) 2 → ⊥
 roomy_as_small_refused h = let less : 2 < 2 = (h.too_small refl).0 in omega (arith, less)
 
--- and where it is too small, all stays
+-- and where it does not fit, all is unchanged
 pub small_written_refused : IsHandedOut AreOneTwo (9 ∷ []) 36 (1 ∷ []) 2 → ⊥
 small_written_refused h = unequal_lists (1 ∷ []) (9 ∷ []) refl (h.too_small refl).1

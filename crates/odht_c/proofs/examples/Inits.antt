@@ -135,7 +135,7 @@ pub init_status_refused : InitAnswers direct_coding 1 7 [] 1 [] → ⊥
 unfolding opened new_refusal
 init_status_refused h = unequal 1 17 refl (h.refused (InitLength 0 192) seven refl).0
 
--- and stay
+-- and are unchanged
 pub init_refusal_written_refused : InitAnswers direct_coding 1 7 [] 17 (1 ∷ []) → ⊥
 unfolding opened new_refusal
 init_refusal_written_refused h = unequal_lists (1 ∷ []) [] refl (h.refused (InitLength 0 192) seven refl).1

@@ -27,12 +27,12 @@ use Rattle.odht_c.proofs.examples.Runs.{one_run, unchanged, misplaced}
 use Rattle.odht_raw.proofs.examples.Apart.{unequal, unequal_lists}
 use Rattle.odht_c.proofs.examples.Tables.{direct_coding, no_items, one_item, no_bytes, one_bytes, miscounted, no_image, one_image, accepted_bytes, same_table}
 
--- no bytes are refused, and the places stay
+-- the empty list of bytes has an error, and the buffers are unchanged
 pub too_short_insert_all : InsertAllAnswers direct_coding [] (5 ∷ []) (7 ∷ []) 9 1 [] 9
 unfolding opened
 too_short_insert_all = refused_insert_all direct_coding [] (TooShort 0) 1 refl refl (5 ∷ []) (7 ∷ []) 9 refl
 
--- arrays of two lengths are refused, and the places stay
+-- arrays of two lengths are answered with ODHT_BAD_LENGTHS, and the buffers are unchanged
 pub lengths_insert_all : InsertAllAnswers direct_coding no_bytes (5 ∷ []) [] 9 35 no_bytes 9
 lengths_insert_all = record {
   lengths = λ other. (refl, refl, refl);
@@ -65,14 +65,14 @@ inserted_from P same =
 full_for : (P : Table) → one_item ≡ P → IsFullFor P (le_bytes 4 6)
 full_for P same = subst (λ T. IsFullFor T (le_bytes 4 6)) same (refl, refl)
 
--- one pair is accepted
+-- one pair is inserted
 pub one_insert_all : InsertAllAnswers direct_coding no_bytes (5 ∷ []) (7 ∷ []) 9 0 one_bytes 1
 unfolding opened
 one_insert_all =
     accepted_insert_all direct_coding no_bytes one_bytes (5 ∷ []) (7 ∷ []) 9 1 refl refl one_run
     (λ P is. inserted_from P (same_table no_items P no_bytes no_image is)) refl
 
--- an insert of the key 6 may be refused there
+-- an insert of the key 6 may be answered with Full there
 six_refused : IsFramed direct_coding one_bytes 6 8 (Err Full) one_bytes
 unfolding opened
 six_refused = (Err Full, refl, InsertFrame.full (lit≤ tt))
@@ -87,7 +87,7 @@ full_insert_all_answers =
     (λ P is. record { item = (6, 8); at = refl; full = full_for P (same_table one_item P one_bytes one_image is) })
     (record { item = (6, 8); at = refl; framed = six_refused })
 
--- two pairs, of which the second is refused
+-- two pairs, of which the second is answered with Full
 pub half_insert_all : InsertAllAnswers direct_coding no_bytes (5 ∷ 6 ∷ []) (7 ∷ 8 ∷ []) 9 18 one_bytes 1
 unfolding opened
 half_insert_all =
@@ -101,7 +101,7 @@ half_insert_all =
 pub all_lengths_status_refused : InsertAllAnswers direct_coding no_bytes (5 ∷ []) [] 9 0 no_bytes 9 → ⊥
 all_lengths_status_refused h = unequal 0 35 refl (h.lengths (unequal 0 1 refl)).0
 
--- and the bytes stay
+-- and the bytes are unchanged
 pub all_lengths_bytes_refused : InsertAllAnswers direct_coding no_bytes (5 ∷ []) [] 9 35 one_bytes 9 → ⊥
 unfolding opened
 all_lengths_bytes_refused h = unequal_lists one_bytes no_bytes refl (h.lengths (unequal 0 1 refl)).1
@@ -110,12 +110,12 @@ all_lengths_bytes_refused h = unequal_lists one_bytes no_bytes refl (h.lengths (
 pub all_lengths_number_refused : InsertAllAnswers direct_coding no_bytes (5 ∷ []) [] 9 35 no_bytes 0 → ⊥
 all_lengths_number_refused h = unequal 0 9 refl (h.lengths (unequal 0 1 refl)).2
 
--- a refusal is not answered with another status
+-- an error is not answered with another status
 pub all_status_refused : InsertAllAnswers direct_coding [] (5 ∷ []) (7 ∷ []) 9 2 [] 9 → ⊥
 unfolding opened
 all_status_refused h = unequal 2 1 refl (h.refused (TooShort 0) refl refl).0
 
--- and the bytes stay
+-- and the bytes are unchanged
 pub all_bytes_refused : InsertAllAnswers direct_coding [] (5 ∷ []) (7 ∷ []) 9 1 (7 ∷ []) 9 → ⊥
 unfolding opened
 all_bytes_refused h = unequal_lists (7 ∷ []) [] refl (h.refused (TooShort 0) refl refl).1
@@ -125,11 +125,11 @@ pub all_number_refused : InsertAllAnswers direct_coding [] (5 ∷ []) (7 ∷ [])
 unfolding opened
 all_number_refused h = unequal 0 9 refl (h.refused (TooShort 0) refl refl).2
 
--- no more pairs are told as accepted than there are
+-- the number of inserted pairs is not above that of the pairs
 pub all_bound_refused : InsertAllAnswers direct_coding no_bytes (5 ∷ []) (7 ∷ []) 9 0 one_bytes 2 → ⊥
 all_bound_refused h = omega (arith, h.bound refl accepted_bytes.0)
 
--- where all were accepted, the answer is ODHT_OK
+-- where all were inserted, the answer is ODHT_OK
 pub all_done_refused : InsertAllAnswers direct_coding no_bytes (5 ∷ []) (7 ∷ []) 9 18 one_bytes 1 → ⊥
 all_done_refused h = unequal 18 0 refl (h.all refl accepted_bytes.0 refl)
 
@@ -137,7 +137,7 @@ all_done_refused h = unequal 18 0 refl (h.all refl accepted_bytes.0 refl)
 pub some_full_refused : InsertAllAnswers direct_coding one_bytes (6 ∷ []) (8 ∷ []) 9 0 one_bytes 0 → ⊥
 some_full_refused h = unequal 0 18 refl (h.some refl accepted_bytes.1 (lit< tt))
 
--- a pair stands where the table's rules place it, and in no other slot
+-- a pair is where the table's rules place it, and in no other slot
 pub misplaced_refused : InsertAllAnswers direct_coding no_bytes (5 ∷ []) (7 ∷ []) 9 0 misplaced 1 → ⊥
 unfolding opened
 misplaced_refused h =
@@ -149,7 +149,7 @@ misplaced_refused h =
 abbrev otherwise_miscounted : List ℕ
 otherwise_miscounted = overwritten_at no_bytes 8 (6 ∷ [])
 
--- bytes that are accepted and not valid stay where no pair is accepted
+-- bytes that are accepted and not valid are unchanged where no pair is inserted
 pub unframed_refused : InsertAllAnswers direct_coding miscounted (5 ∷ []) (7 ∷ []) 9 18 otherwise_miscounted 0 → ⊥
 unfolding opened
 unframed_refused h =
@@ -160,12 +160,12 @@ pub unanswered_refused : InsertAllAnswers direct_coding no_bytes (5 ∷ 6 ∷ []
 unfolding opened
 unanswered_refused h = unequal_lists one_bytes no_bytes refl (unchanged no_bytes (h.framed refl accepted_bytes.0) refl)
 
--- a valid table that has room refuses no pair
+-- a valid table that has room answers Full for no pair
 pub roomy_refused : InsertAllAnswers direct_coding no_bytes (5 ∷ []) (7 ∷ []) 9 18 no_bytes 0 → ⊥
 unfolding opened
 roomy_refused h = unequal 0 1 refl (h.at_maximum no_items refl accepted_bytes.0 no_image (lit< tt)).full.0
 
--- and no bytes with room refuse one, as far as they tell
+-- and neither do bytes with room by their header and control bytes
 roomy : (a : Result (Option (List ℕ)) Error) (p : Pair) (D : List ℕ) → InsertFrame direct_config no_bytes p a D → (e : Error) → a ≡ Err e → ⊥
 unfolding opened
 roomy a p D (InsertFrame.full full) e is = omega (arith, full)

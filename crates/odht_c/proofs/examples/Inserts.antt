@@ -31,12 +31,12 @@ new_written_refused h = unequal 7 9 refl h.1
 pub replaced_as_new_refused : IsFormer {V = ℕ} (Some 7) 9 0 7 → ⊥
 replaced_as_new_refused h = unequal 0 33 refl h.0
 
--- and does not leave the place as it was
+-- and does not leave the buffer unchanged
 pub replaced_unwritten_refused : IsFormer {V = ℕ} (Some 7) 9 33 9 → ⊥
 replaced_unwritten_refused h = unequal 9 7 refl h.1
 
 -- ---- IsAnswered
--- an insert, one of a key that was there, and a refusal
+-- an insert, one of a key that was there, and an error
 pub answers : IsAnswered {V = ℕ} (Ok None) 9 0 9
     × IsAnswered {V = ℕ} (Ok (Some 7)) 9 33 7
     × IsAnswered {V = ℕ} (Err Full) 9 18 9
@@ -46,7 +46,7 @@ answers = ((refl, refl), (refl, refl), (refl, refl))
 pub answered_as_replaced_refused : IsAnswered {V = ℕ} (Ok None) 9 33 9 → ⊥
 answered_as_replaced_refused h = unequal 33 0 refl h.0
 
--- a refusal is not answered with ODHT_OK
+-- an error is not answered with ODHT_OK
 pub answered_refusal_refused : IsAnswered {V = ℕ} (Err Full) 9 0 9 → ⊥
 answered_refusal_refused h = unequal 0 18 refl h.0
 
@@ -80,12 +80,12 @@ pub insert_as_replaced_refused : IsAfterInsert direct_coding no_items 5 7 one_by
 unfolding opened
 insert_as_replaced_refused h = unequal 33 0 refl h.1.0
 
--- a key that was there is told its former value, not its new one
+-- for a key that was there the former value is written, not the new one
 pub insert_new_value_refused : IsAfterInsert direct_coding one_item 5 8 other_bytes 9 33 8 → ⊥
 unfolding opened
 insert_new_value_refused h = unequal 8 7 refl h.1.1
 
--- a full table stays
+-- a full table is unchanged
 pub insert_full_written_refused : IsAfterInsert direct_coding one_item 6 8 other_bytes 9 18 9 → ⊥
 unfolding opened
 insert_full_written_refused h = unequal_lists other_bytes one_bytes refl h.0.bytes
@@ -101,7 +101,7 @@ unfolding opened
 insert_full_value_refused h = unequal 7 9 refl h.2
 
 -- ---- InsertAnswers
--- no bytes are refused, and the places stay
+-- the empty list of bytes has an error, and the buffers are unchanged
 pub too_short_insert : InsertAnswers direct_coding [] 5 7 9 1 [] 9
 unfolding opened
 too_short_insert = refused_insert direct_coding [] (TooShort 0) 1 refl refl 5 7 9
@@ -136,12 +136,12 @@ full_insert = record {
   on_any = λ is. (Err Full, (refl, refl), (Err Full, refl, InsertFrame.full (lit≤ tt)));
 }
 
--- a refusal is not answered with another status
+-- an error is not answered with another status
 pub insert_status_refused : InsertAnswers direct_coding [] 5 7 9 2 [] 9 → ⊥
 unfolding opened
 insert_status_refused h = unequal 2 1 refl (h.refused (TooShort 0) refl).0
 
--- and the bytes stay
+-- and the bytes are unchanged
 pub insert_bytes_refused : InsertAnswers direct_coding [] 5 7 9 1 (7 ∷ []) 9 → ⊥
 unfolding opened
 insert_bytes_refused h = unequal_lists (7 ∷ []) [] refl (h.refused (TooShort 0) refl).1
@@ -151,12 +151,12 @@ pub insert_written_refused : InsertAnswers direct_coding [] 5 7 9 1 [] 7 → ⊥
 unfolding opened
 insert_written_refused h = unequal 7 9 refl (h.refused (TooShort 0) refl).2
 
--- a valid table that has room refuses no key
+-- a valid table that has room answers Full for no key
 pub insert_roomy_refused : InsertAnswers direct_coding no_bytes 5 7 9 18 no_bytes 9 → ⊥
 unfolding opened
 insert_roomy_refused h = unequal 18 0 refl (h.on_valid no_items no_image).1.0
 
--- what a refused insert was refused for, and what it left
+-- the error of an insert, and what it left
 left : (B D : List ℕ) (p : Pair) (e : Error) → InsertFrame direct_config B p (Err e) D → (e ≡ Full) × (D ≡ B)
 left B D p e (InsertFrame.full full) = (refl, refl)
 left B D p e (InsertFrame.no_slot none) = (refl, refl)
@@ -178,7 +178,7 @@ insert_other_status_refused h = go (h.on_any accepted_bytes.2)
     go (Err e, answer, frame) =
         unequal 50 18 refl (answer.0 ∙ ap status_of (framed_left miscounted miscounted 6 8 e frame).0)
 
--- and stay where the insert is refused
+-- and are unchanged where the insert is answered with an error
 pub insert_other_bytes_refused : InsertAnswers direct_coding miscounted 6 8 9 18 no_bytes 9 → ⊥
 unfolding opened
 insert_other_bytes_refused h = go (h.on_any accepted_bytes.2)

@@ -1,8 +1,8 @@
--- Worked examples: what a call for an order of inserts answers, of two tables and of bytes that the whole check refuses.
---     fifteen_bytes            those of 15 in slot 15, and behind it 31 in slot 0, which would stand in slot 15 if it came first
+-- Worked examples: the answers of a call for an order of inserts, of two tables and of bytes that the check rejects.
+--     fifteen_bytes            15 in slot 15, and after it 31 in slot 0, which would be in slot 15 if it came first
 --     padded                   the same bytes, where the padding is not zero
---     unmade_bytes             the keys 0 and 1 each behind the other, which no inserts make
---     places                   an array of 48 places
+--     unmade_bytes             the keys 0 and 1 each after the other, which no inserts make
+--     places                   an array of 48 elements
 use Rattle.std.proofs.Common.{◌≡◌, ℕ, List, [], ◌∷◌, refl, subst, lit≤, inl, replicate}
 use Rattle.odht_base.specs.Bytes.{overwritten_at}
 use Rattle.odht_base.specs.Image.{image}
@@ -59,19 +59,19 @@ of_fifteen X is P image = subst X (same_table fifteen_first P fifteen_bytes fift
 of_unmade : (X : Table → Type 0) → X unmade → (P : Table) → IsImage direct_config P unmade_bytes → X P
 of_unmade X is P image = subst X (same_table unmade P unmade_bytes unmade_image image) is
 
--- no bytes are refused, and the array stays
+-- the empty list of bytes has an error, and the array is unchanged
 pub too_short_order : OrderAnswers direct_coding [] (9 ∷ []) 1 (9 ∷ [])
 unfolding opened
 too_short_order = refused_order direct_coding [] (9 ∷ []) (TooShort 0) 1 refl refl (λ valid. never_refused direct_config valid.0 [] (TooShort 0) valid.1 refl)
 
--- so are bytes that opening accepts and the whole check does not
+-- so are bytes that opening accepts and the whole check rejects
 pub padded_order : OrderAnswers direct_coding padded (9 ∷ 9 ∷ []) 11 (9 ∷ 9 ∷ [])
 unfolding opened
 padded_order =
     refused_order direct_coding padded (9 ∷ 9 ∷ []) (NonZeroPadding (1 ∷ 0 ∷ [])) 11 refl refl
     (λ valid. not_none _ (NonZeroPadding (1 ∷ 0 ∷ [])) refl (valid_check direct_config padded direct_format valid))
 
--- an array of three places is one too many for two items
+-- an array of three elements has one too many for two items
 pub lengths_order_three : OrderAnswers direct_coding fifteen_bytes (9 ∷ 9 ∷ 9 ∷ []) 35 (9 ∷ 9 ∷ 9 ∷ [])
 unfolding opened
 lengths_order_three =
@@ -92,22 +92,22 @@ unmade_answer =
     unmade_order direct_coding unmade_bytes places unmade_accepted.1 places (of_unmade (λ P. 48 ≡ count P) refl)
     (of_unmade (λ P. IsMade direct_config P → ⊥) unmade_refused)
 
--- what the whole check refuses is not answered with ODHT_OK
+-- what the whole check rejects is not answered with ODHT_OK
 pub order_status_refused : OrderAnswers direct_coding padded (9 ∷ 9 ∷ []) 0 (15 ∷ 0 ∷ []) → ⊥
 unfolding opened
 order_status_refused h = unequal 0 11 refl (h.refused (NonZeroPadding (1 ∷ 0 ∷ [])) refl).0
 
--- and the array stays
+-- and the array is unchanged
 pub order_kept_refused : OrderAnswers direct_coding padded (9 ∷ 9 ∷ []) 11 (15 ∷ 0 ∷ []) → ⊥
 unfolding opened
 order_kept_refused h = unequal_lists (15 ∷ 0 ∷ []) (9 ∷ 9 ∷ []) refl (h.refused (NonZeroPadding (1 ∷ 0 ∷ [])) refl).1
 
--- an array of one place is not taken for two items
+-- an array of one element is not accepted for two items
 pub order_short_refused : OrderAnswers direct_coding fifteen_bytes (9 ∷ []) 0 (15 ∷ []) → ⊥
 unfolding opened
 order_short_refused h = unequal 0 35 refl (h.lengths fifteen_first fifteen_image (unequal 1 2 refl)).0
 
--- and one of three stays
+-- and one of three elements is unchanged
 pub order_long_refused : OrderAnswers direct_coding fifteen_bytes (9 ∷ 9 ∷ 9 ∷ []) 35 (15 ∷ 0 ∷ 9 ∷ []) → ⊥
 unfolding opened
 order_long_refused h = unequal_lists (15 ∷ 0 ∷ 9 ∷ []) (9 ∷ 9 ∷ 9 ∷ []) refl (h.lengths fifteen_first fifteen_image (unequal 3 2 refl)).1

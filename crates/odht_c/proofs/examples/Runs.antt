@@ -1,4 +1,4 @@
--- Worked examples: what inserts in turn may do to bytes, as far as the header and the length of these fit.
+-- Worked examples: what inserts in turn may do to bytes whose header and length are accepted.
 use Rattle.std.proofs.Common.{◌≡◌, ℕ, refl, sym, ap, inl, arith, List, [], ◌∷◌, Option, None, Some, Ok, Err, length, length-append, lit<, subst, map, slice_index}
 use Rattle.odht_base.specs.Numbers.{le_bytes}
 use Rattle.odht_base.specs.Table.{Pair}
@@ -31,7 +31,7 @@ two_run =
     IsFramedRun.accepted ((5, 7) ∷ []) 5 8 (Some 7) one_bytes other_bytes one_run
     (Ok (Some (le_bytes 4 7)), refl, InsertFrame.overwrote 5 (lit< tt) refl)
 
--- no inserts leave the bytes
+-- a run of no inserts leaves the bytes unchanged
 pub unchanged : (B : List ℕ) {items : List (ℕ × ℕ)} {D : List ℕ}
     → IsFramedRun direct_coding B items D → length items ≡ 0 → D ≡ B
 unchanged B IsFramedRun.start e = refl
@@ -58,7 +58,7 @@ started (IsFramedRun.accepted items k v o C D run (Ok x, same, frame)) e =
     let none : length items ≡ 0 = omega (arith, e, length-append items ((k, v) ∷ [])) in
     unaccepted C (encoded direct_coding k v) D x (ap length (unchanged [] run none)) frame
 
--- and no insert into them is accepted
+-- and no insert into them succeeds
 pub run_refused : IsFramedRun direct_coding [] ((5, 7) ∷ []) [] → ⊥
 run_refused h = started h refl
 
@@ -66,7 +66,7 @@ run_refused h = started h refl
 abbrev pub misplaced : List ℕ
 misplaced = with_count (with_pair direct_config 16 no_bytes 6 (pair32 5 7)) 1
 
--- which an insert may do, as far as the bytes tell
+-- which an insert may do, by the frame for accepted bytes
 pub misplaced_run : IsFramedRun direct_coding no_bytes ((5, 7) ∷ []) misplaced
 unfolding opened
 misplaced_run =

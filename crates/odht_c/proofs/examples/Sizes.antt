@@ -11,7 +11,7 @@ use Rattle.odht_c.proofs.lemmas.Opened.{never_refused}
 use Rattle.odht_c.proofs.lemmas.Refused.{refused_sizes}
 use Rattle.odht_c.proofs.examples.Tables.{direct_coding, one_item, one_bytes, miscounted, one_image, accepted_bytes, same_table}
 
--- no bytes are refused, and the places stay
+-- the empty list of bytes has an error, and the buffers are unchanged
 pub too_short_sizes : SizesAnswers direct_coding.format [] 9 9 9 1 9 9 9
 unfolding opened
 too_short_sizes = refused_sizes direct_coding.format [] (TooShort 0) 1 refl refl 9 9 9
@@ -26,7 +26,7 @@ one_sizes = record {
   on_valid = λ P is. subst (λ T. (16 ≡ slot_count T) × (1 ≡ max_items (slot_count T) T.factor) × (6 ≡ percent_of T.factor)) (same_table one_item P one_bytes one_image is) (refl, refl, refl);
 }
 
--- a refusal is not answered with ODHT_OK
+-- an error is not answered with ODHT_OK
 pub sizes_status_refused : SizesAnswers direct_coding.format [] 9 9 9 0 9 9 9 → ⊥
 unfolding opened
 sizes_status_refused h = unequal 0 1 refl h.status
@@ -46,7 +46,7 @@ pub sizes_percent_written_refused : SizesAnswers direct_coding.format [] 9 9 9 1
 unfolding opened
 sizes_percent_written_refused h = unequal 0 9 refl (h.refused (TooShort 0) refl).2
 
--- of bytes that are accepted and not valid, they are what the header states
+-- of bytes that are accepted and not valid, they are those in the header
 pub sizes_unstated_slots_refused : SizesAnswers direct_coding.format miscounted 9 9 9 0 9 1 6 → ⊥
 unfolding opened
 sizes_unstated_slots_refused h = unequal 9 16 refl (h.by_header accepted_bytes.2).0

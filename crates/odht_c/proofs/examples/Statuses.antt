@@ -1,4 +1,4 @@
--- Worked examples: the number of each status, as include/odht.h has it, and what calls demand of their arguments.
+-- Worked examples: the number of each status, as include/odht.h has it, and what calls require of their arguments.
 use Rattle.std.proofs.Common.{◌≡◌, ℕ, refl, lit≤, arith, List, Some, None}
 use Rattle.odht_raw.specs.declared.error.Error.TheVariants.{TooShort, WrongTag, WrongVersion, WrongSizeOf, SlotCountNotPowerOfTwo, SlotCountTooSmall, WrongLength, NonZeroEmpty, ControlMismatch, LoadFactorTooSmall, NonZeroPadding, BadFreeControl, MirrorMismatch, WrongItemCount, TooManyItems, Unreachable, InitLength, Full, Memory, Capacity}
 use Rattle.odht_raw.specs.declared.error.Part.{Part}
@@ -48,7 +48,7 @@ pub other_statuses : (done ≡ 0)
     × (unmade ≡ 37)
 other_statuses = (refl, refl, refl, refl, refl, refl, refl)
 
--- no refusal is ODHT_OK, and a refusal has its own status
+-- no error is ODHT_OK, and an error has its own status
 pub status_or_ok_statuses : (status_or_ok None ≡ 0)
     × (status_or_ok (Some Full) ≡ 18)
     × (status_or_ok (Some (TooShort 0)) ≡ 1)

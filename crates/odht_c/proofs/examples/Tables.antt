@@ -1,9 +1,9 @@
 -- The coding, the tables and the bytes of the examples.
 --     direct_coding            numbers of four bytes to numbers of four bytes; the hash of a key is the key
 --     no_items, no_bytes       a table of sixteen slots at 7 percent, which may hold one item, and its bytes
---     one_item, one_bytes      the same with the value 7 for the key 5, which stands in slot 5
+--     one_item, one_bytes      the same with the value 7 for the key 5, which is in slot 5
 --     other_item, other_bytes  the same with the value 8
---     miscounted               the bytes of no items, which state a count of five; they are accepted, and not valid
+--     miscounted               the bytes of no items, with a header's count of five; they are accepted, and not valid
 --     no_image, one_image, other_image   the three tables are valid
 --     direct_format            the hash of four bytes fits 32 bits
 --     same_table               bytes are those of one valid table

@@ -1,4 +1,4 @@
--- Worked examples: what is answered of opened tables. Views are slices at the address 640, openings of slices at 64.
+-- Worked examples: calls on opened tables. Views are slices at the address 640, openings are of slices at 64.
 --     at640, at64      the slice of these bytes at either address
 use Rattle.std.proofs.Common.{◌≡◌, ℕ, zero, suc, refl, sym, List, [], ◌∷◌, Option, Some, None, IfSome, lit<, ap, length, slice_get, subst}
 use Rattle.std.proofs.lemmas.Option.{none-some}
@@ -30,7 +30,7 @@ one_opens = record {
   refused = λ other. absurd (other refl);
 }
 
--- no bytes do not, and the view stays
+-- the empty list of bytes does not, and the view is unchanged
 pub too_short_stays : OpenViewAnswers direct_coding.format (at64 []) (at640 no_bytes) 1 (at640 no_bytes)
 unfolding opened
 too_short_stays = record {
@@ -40,7 +40,7 @@ too_short_stays = record {
   refused = λ other. refl;
 }
 
--- a refusal is not answered with ODHT_OK
+-- an error is not answered with ODHT_OK
 pub view_status_refused : OpenViewAnswers direct_coding.format (at64 []) (at640 no_bytes) 0 (at64 []) → ⊥
 unfolding opened
 view_status_refused h = unequal 0 1 refl h.status
@@ -60,7 +60,7 @@ pub view_unaccepted_refused : OpenViewAnswers direct_coding.format (at64 one_byt
 unfolding opened
 view_unaccepted_refused h = none-some _ (sym (h.accepted refl))
 
--- and a refusal leaves the view
+-- and an error leaves the view unchanged
 pub view_written_refused : OpenViewAnswers direct_coding.format (at64 []) (at640 no_bytes) 1 (at64 []) → ⊥
 unfolding opened
 view_written_refused h = unequal_lists [] no_bytes refl (ap (λ b. b.now) (h.refused (unequal 1 0 refl)))
@@ -114,7 +114,7 @@ view_one_len = record {
   on_valid = λ P is. subst (λ T. 1 ≡ count T) (same_table one_item P one_bytes one_image is) refl;
 }
 
--- of bytes that are accepted and not valid, the number is what the header states
+-- of bytes that are accepted and not valid, the number is that in the header
 pub view_recounted_refused : ViewLenAnswers direct_coding miscounted 0 → ⊥
 unfolding opened
 view_recounted_refused h = unequal 0 5 refl h.by_header
@@ -125,7 +125,7 @@ unfolding opened
 view_uncounted_refused h = unequal 0 1 refl (h.on_valid one_item one_image)
 
 -- ---- ViewGetAllAnswers, here of one key, into the arrays 9 ∷ [] and 3 ∷ []
--- arrays of two lengths are refused, and stay
+-- arrays of two lengths are answered with ODHT_BAD_LENGTHS, and are unchanged
 pub view_lengths : ViewGetAllAnswers direct_coding one_bytes (5 ∷ []) [] (3 ∷ []) 35 [] (3 ∷ [])
 view_lengths = record {
   lengths = λ other. (refl, refl, refl);
@@ -134,7 +134,7 @@ view_lengths = record {
   on_any = λ i k long at. absurd (unequal 0 1 refl long.0);
 }
 
--- the key 5 of a valid table has the value 7, and is told as found
+-- the key 5 of a valid table has the value 7, and is reported as found
 pub view_present_all : ViewGetAllAnswers direct_coding one_bytes (5 ∷ []) (9 ∷ []) (3 ∷ []) 0 (7 ∷ []) (1 ∷ [])
 unfolding opened
 view_present_all = record {
@@ -164,7 +164,7 @@ view_present_all = record {
 pub view_lengths_status_refused : ViewGetAllAnswers direct_coding one_bytes (5 ∷ []) [] (3 ∷ []) 0 [] (3 ∷ []) → ⊥
 view_lengths_status_refused h = unequal 0 35 refl (h.lengths (λ long. unequal 0 1 refl long.0)).0
 
--- and the values stay
+-- and the values are unchanged
 pub view_lengths_values_refused : ViewGetAllAnswers direct_coding one_bytes (5 ∷ []) [] (3 ∷ []) 35 (7 ∷ []) (3 ∷ []) → ⊥
 view_lengths_values_refused h = unequal_lists (7 ∷ []) [] refl (h.lengths (λ long. unequal 0 1 refl long.0)).1
 
@@ -176,7 +176,7 @@ view_lengths_found_refused h = unequal_lists (1 ∷ []) [] refl (h.lengths (λ l
 pub view_all_status_refused : ViewGetAllAnswers direct_coding one_bytes (5 ∷ []) (9 ∷ []) (3 ∷ []) 32 (7 ∷ []) (1 ∷ []) → ⊥
 view_all_status_refused h = unequal 32 0 refl (h.looked_up (refl, refl))
 
--- a present key of a valid table is not told as absent
+-- a present key of a valid table is not reported as absent
 pub view_missed_all_refused : ViewGetAllAnswers direct_coding one_bytes (5 ∷ []) (9 ∷ []) (3 ∷ []) 0 (9 ∷ []) (0 ∷ [])
     → ⊥
 unfolding opened
@@ -189,7 +189,7 @@ unfolding opened
 view_unwritten_all_refused h =
     unequal 9 7 refl (some_same 9 7 (h.on_valid one_item 0 5 (refl, refl) one_image refl).1)
 
--- what was found is 0 or 1, also of bytes that are accepted and not valid
+-- each element of what was found is 0 or 1, also of bytes that are accepted and not valid
 pub view_third_found_refused : ViewGetAllAnswers direct_coding miscounted (6 ∷ []) (9 ∷ []) (3 ∷ []) 0 (9 ∷ []) (2 ∷ []) → ⊥
 view_third_found_refused h = go (h.on_any 0 6 (refl, refl) refl)
   where

@@ -13,7 +13,7 @@ use Rattle.odht_raw.proofs.examples.Apart.{unequal, unequal_lists}
 use Rattle.odht_c.proofs.examples.Tables.{direct_coding, one_item, one_bytes, miscounted, one_image, accepted_bytes, same_table}
 
 -- ---- LenAnswers
--- no bytes are refused, and the place stays
+-- the empty list of bytes has an error, and the buffer is unchanged
 pub too_short_len : LenAnswers direct_coding [] 9 1 9
 unfolding opened
 too_short_len = refused_len direct_coding [] (TooShort 0) 1 refl refl 9
@@ -28,7 +28,7 @@ one_len = record {
   on_valid = λ P is. subst (λ T. 1 ≡ count T) (same_table one_item P one_bytes one_image is) refl;
 }
 
--- a refusal is not answered with ODHT_OK
+-- an error is not answered with ODHT_OK
 pub len_status_refused : LenAnswers direct_coding [] 9 0 9 → ⊥
 unfolding opened
 len_status_refused h = unequal 0 1 refl h.status
@@ -38,7 +38,7 @@ pub len_written_refused : LenAnswers direct_coding [] 9 1 0 → ⊥
 unfolding opened
 len_written_refused h = unequal 0 9 refl (h.refused (TooShort 0) refl)
 
--- of bytes that are accepted and not valid, the number is what the header states
+-- of bytes that are accepted and not valid, the number is that in the header
 pub len_recounted_refused : LenAnswers direct_coding miscounted 9 0 0 → ⊥
 unfolding opened
 len_recounted_refused h = unequal 0 5 refl (h.by_header accepted_bytes.2)
@@ -53,7 +53,7 @@ len_uncounted_refused h = unequal 0 1 refl (h.on_valid one_item one_image)
 abbrev two : Table
 two = record { factor = 65535; cells = None ∷ Some (pair32 1 2) ∷ None ∷ Some (pair32 3 4) ∷ [] }
 
--- arrays of three elements take both, and their last elements stay
+-- both pairs fit arrays of three elements, whose last elements are unchanged
 pub walked_all : IsWalked direct_coding two 0 (9 ∷ 9 ∷ 9 ∷ []) (8 ∷ 8 ∷ 8 ∷ []) 0 4 (1 ∷ 3 ∷ 9 ∷ []) (2 ∷ 4 ∷ 8 ∷ []) 2
 unfolding opened
 walked_all = record {
@@ -65,7 +65,7 @@ walked_all = record {
   more = λ less. let no : 3 < 2 = less in absurd (omega (arith, no));
 }
 
--- arrays of two elements take both too
+-- both pairs fit arrays of two elements too
 pub walked_exactly : IsWalked direct_coding two 0 (9 ∷ 9 ∷ []) (8 ∷ 8 ∷ []) 0 4 (1 ∷ 3 ∷ []) (2 ∷ 4 ∷ []) 2
 unfolding opened
 walked_exactly = record {
@@ -77,7 +77,7 @@ walked_exactly = record {
   more = λ less. let no : 2 < 2 = less in absurd (omega (arith, no));
 }
 
--- arrays of one element take the first, and slot 3 is the one to go on at
+-- arrays of one element take the first pair, and slot 3 is the one to continue at
 pub walked_first : IsWalked direct_coding two 0 (9 ∷ []) (8 ∷ []) 36 3 (1 ∷ []) (2 ∷ []) 1
 unfolding opened
 walked_first = record {
@@ -113,31 +113,31 @@ walked_past = record {
   more = λ less. let no : 1 < 0 = less in absurd (omega (arith, no));
 }
 
--- no fewer pairs are told than the arrays take
+-- the number of pairs is not less than the arrays take
 pub walked_fewer_refused : IsWalked direct_coding two 0 (9 ∷ 9 ∷ 9 ∷ []) (8 ∷ 8 ∷ 8 ∷ []) 0 4 (1 ∷ 9 ∷ 9 ∷ []) (2 ∷ 8 ∷ 8 ∷ []) 1
     → ⊥
 unfolding opened
 walked_fewer_refused h = unequal 1 2 refl h.known
 
--- the keys stand in their order
+-- the keys are in their order
 pub walked_keys_refused : IsWalked direct_coding two 0 (9 ∷ 9 ∷ 9 ∷ []) (8 ∷ 8 ∷ 8 ∷ []) 0 4 (3 ∷ 1 ∷ 9 ∷ []) (2 ∷ 4 ∷ 8 ∷ []) 2
     → ⊥
 unfolding opened
 walked_keys_refused h = unequal_lists (3 ∷ 1 ∷ 9 ∷ []) (1 ∷ 3 ∷ 9 ∷ []) refl h.keys
 
--- and no key behind them changes
+-- and no key after them changes
 pub walked_keys_behind_refused : IsWalked direct_coding two 0 (9 ∷ 9 ∷ 9 ∷ []) (8 ∷ 8 ∷ 8 ∷ []) 0 4 (1 ∷ 3 ∷ 0 ∷ []) (2 ∷ 4 ∷ 8 ∷ []) 2
     → ⊥
 unfolding opened
 walked_keys_behind_refused h = unequal_lists (1 ∷ 3 ∷ 0 ∷ []) (1 ∷ 3 ∷ 9 ∷ []) refl h.keys
 
--- each value stands where its key does
+-- each value has the index of its key
 pub walked_values_refused : IsWalked direct_coding two 0 (9 ∷ 9 ∷ 9 ∷ []) (8 ∷ 8 ∷ 8 ∷ []) 0 4 (1 ∷ 3 ∷ 9 ∷ []) (4 ∷ 2 ∷ 8 ∷ []) 2
     → ⊥
 unfolding opened
 walked_values_refused h = unequal_lists (4 ∷ 2 ∷ 8 ∷ []) (2 ∷ 4 ∷ 8 ∷ []) refl h.values
 
--- and no value behind them changes
+-- and no value after them changes
 pub walked_values_behind_refused : IsWalked direct_coding two 0 (9 ∷ 9 ∷ 9 ∷ []) (8 ∷ 8 ∷ 8 ∷ []) 0 4 (1 ∷ 3 ∷ 9 ∷ []) (2 ∷ 4 ∷ 0 ∷ []) 2
     → ⊥
 unfolding opened
@@ -174,12 +174,12 @@ unfolding opened
 walked_cursor_early_refused h = true≢false (h.more (lit< tt)).1
 
 -- ---- WalkAnswers
--- no bytes are refused, and the places stay
+-- the empty list of bytes has an error, and the buffers are unchanged
 pub too_short_walk : WalkAnswers direct_coding [] 2 (9 ∷ []) (8 ∷ []) 4 1 2 (9 ∷ []) (8 ∷ []) 4
 unfolding opened
 too_short_walk = refused_walk direct_coding [] (TooShort 0) 1 refl refl 2 (9 ∷ []) (8 ∷ []) 4 refl
 
--- arrays of two lengths are refused, and the places stay
+-- arrays of two lengths are answered with ODHT_BAD_LENGTHS, and the buffers are unchanged
 pub lengths_walk : WalkAnswers direct_coding one_bytes 2 (9 ∷ []) [] 4 35 2 (9 ∷ []) [] 4
 lengths_walk = record {
   lengths = λ other. (refl, refl, refl, refl, refl);
@@ -216,7 +216,7 @@ one_walk = record {
 pub walk_lengths_status_refused : WalkAnswers direct_coding one_bytes 2 (9 ∷ []) [] 4 0 2 (9 ∷ []) [] 4 → ⊥
 walk_lengths_status_refused h = unequal 0 35 refl (h.lengths (unequal 0 1 refl)).0
 
--- and the cursor stays
+-- and the cursor is unchanged
 pub walk_lengths_cursor_refused : WalkAnswers direct_coding one_bytes 2 (9 ∷ []) [] 4 35 16 (9 ∷ []) [] 4 → ⊥
 walk_lengths_cursor_refused h = unequal 16 2 refl (h.lengths (unequal 0 1 refl)).1
 
@@ -232,12 +232,12 @@ walk_lengths_values_refused h = unequal_lists (7 ∷ []) (8 ∷ []) refl (h.leng
 pub walk_lengths_number_refused : WalkAnswers direct_coding one_bytes 2 (9 ∷ []) [] 4 35 2 (9 ∷ []) [] 0 → ⊥
 walk_lengths_number_refused h = unequal 0 4 refl (h.lengths (unequal 0 1 refl)).4
 
--- a refusal is not answered with another status
+-- an error is not answered with another status
 pub walk_status_refused : WalkAnswers direct_coding [] 2 (9 ∷ []) (8 ∷ []) 4 2 2 (9 ∷ []) (8 ∷ []) 4 → ⊥
 unfolding opened
 walk_status_refused h = unequal 2 1 refl (h.refused (TooShort 0) refl refl).0
 
--- and the cursor stays
+-- and the cursor is unchanged
 pub walk_cursor_refused : WalkAnswers direct_coding [] 2 (9 ∷ []) (8 ∷ []) 4 1 0 (9 ∷ []) (8 ∷ []) 4 → ⊥
 unfolding opened
 walk_cursor_refused h = unequal 0 2 refl (h.refused (TooShort 0) refl refl).1
@@ -262,7 +262,7 @@ pub walk_missed_refused : WalkAnswers direct_coding one_bytes 0 (9 ∷ []) (8 �
 unfolding opened
 walk_missed_refused h = unequal 0 1 refl (h.on_valid one_item refl one_image).known
 
--- of bytes that are accepted and not valid, what no occupied slot has is not walked over
+-- for bytes that are accepted and not valid, a pair that no occupied slot has is not in the walk
 pub walk_made_up_refused : WalkAnswers direct_coding miscounted 0 (9 ∷ []) (8 ∷ []) 4 0 16 (5 ∷ []) (7 ∷ []) 1 → ⊥
 unfolding opened
 walk_made_up_refused h = unequal 1 0 refl (h.on_any refl accepted_bytes.2).known

@@ -1,4 +1,4 @@
--- What a growth is refused for, and what the call answers.
+-- The errors of a growth, and what the call answers.
 use Rattle.std.proofs.Common.{◌≡◌, ◌<◌, ◌≤◌, ◌∙◌, ◌++◌, ℕ, sym, refl, ap, subst, List, [], ◌∷◌, length, arith, Some, None, drop, take_at, drop_at, lt-ltb, le-ltb}
 use Rattle.std.specs.Prelude.{is_none}
 use Rattle.odht_base.specs.Format.{Format}
@@ -14,9 +14,9 @@ use Rattle.odht_c.specs.Grows.{growth_refusal, GrowAnswers, IsGrownFrom, IsGrown
 use Rattle.odht_c.specs.Statuses.{status_of, done, too_small}
 use Rattle.odht_c.proofs.lemmas.Refused.{known, not_none}
 
--- ---- what is refused
+-- ---- the errors
 module _ (F : Format) (B : List ℕ) where
-  -- what opening refuses
+  -- the error of opening
   pub refused_first : (e : Error) → opening_refusal F B ≡ Some e → growth_refusal F B ≡ Some e
   unfolding growth_refusal
   refused_first e is = ap (λ o. first_of (o ∷ factor_refusal B ∷ (is_none (grown_len F B) gives Capacity) ∷ [])) is
@@ -47,13 +47,13 @@ module _ (F : Format) (B : List ℕ) where
       not_refused n is = behind_factor ∙ ap (λ o. first_of ((is_none o gives Capacity) ∷ [])) is
 
 -- ---- what is written
--- the grown bytes before what stays
+-- the grown bytes before those that are unchanged
 pub written_front : (F : Format) (B T out : List ℕ) (n : ℕ) → length T ≡ n → IsGrownFrom F B T → IsGrownInto F B n out (T ++ drop n out)
 written_front F B T out n long from = record { table = subst (IsGrownFrom F B) (sym (take_at T (drop n out) n long)) from; rest = drop_at T (drop n out) n long }
 
 -- ---- what the call answers
 module _ {K V : Type 0} (c : Coding K V) (B out : List ℕ) (len : ℕ) where
-  -- where it refuses
+  -- where it has an error
   pub refused_grow : (a : Error) (s : ℕ) → growth_refusal c.format B ≡ Some a → s ≡ status_of a → GrowAnswers c B out len s out len
   refused_grow a s is status = record {
     refused = λ e other. (status ∙ known _ a e is other, refl, refl);

@@ -3,7 +3,7 @@ use Rattle.std.proofs.Common.{◌≡◌, ℕ, List}
 use Rattle.odht_c.specs.Builds.{IsHandedOut}
 use Rattle.odht_c.specs.Statuses.{done, too_small}
 
--- what tells of one table's bytes tells of what is handed out of it
+-- what holds for one table's bytes holds for what is handed out of it
 pub IsHandedOut-of : (IsTable : List ℕ → Type 0) (T out : List ℕ) (s : ℕ) (out' : List ℕ) (len' : ℕ)
     → ((B : List ℕ) → B ≡ T → IsTable B) → IsHandedOut (λ B. B ≡ T) out s out' len' → IsHandedOut IsTable out s out' len'
 IsHandedOut-of IsTable T out s out' len' tells h = record {
@@ -14,7 +14,7 @@ IsHandedOut-of IsTable T out s out' len' tells h = record {
   too_small = h.too_small;
 }
 
--- another status tells of nothing
+-- another status implies nothing
 pub IsHandedOut-none : (IsTable : List ℕ → Type 0) (out : List ℕ) (s : ℕ) (out' : List ℕ) (len' : ℕ) → (s ≡ done → ⊥) → (s ≡ too_small → ⊥)
     → IsHandedOut IsTable out s out' len'
 IsHandedOut-none IsTable out s out' len' undone roomy = record {

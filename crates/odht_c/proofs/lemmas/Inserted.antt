@@ -1,4 +1,4 @@
--- What inserts answer into bytes whose opening is accepted.
+-- What inserts into bytes answer whose header and length are accepted.
 use Rattle.std.proofs.lemmas.Slice.Zip.{get_or-zip, length-zip}
 use Rattle.std.proofs.Common.{ap₂, get_or, ◌≡◌, ◌<◌, arith, length, take, zip, ◌∙◌, ℕ, List, sym, subst, refl, Option, None, Result, Ok, Err, ◌↔◌}
 use Rattle.odht_base.specs.Insert.{insert_view, IsFullFor}
@@ -37,7 +37,7 @@ module _ {K V : Type 0} (c : Coding K V) (B S T C : List ℕ) (k : K) (v old : V
     on_any = λ none. (Ok o, former, framed (Ok o) frame);
   }
 
-  -- or the table is full, and stays
+  -- or the table is full, and is unchanged
   pub full_insert : (r : Result (Option V) Error) → r ≡ Err Full → T ≡ S → s ≡ status_of Full → new ≡ old
       → ((P : Table) → IsImage c.format P S → (r ≡ Err Full) ↔ IsFullFor P (c.key_bytes k)) → IsFramed c S k v r T → InsertAnswers c B k v old s C new
   full_insert r is_full stays status kept full frame = record {
@@ -53,7 +53,7 @@ module _ {K V : Type 0} (c : Coding K V) (B C : List ℕ) (keys : List K) (value
     (accepted : None ≡ opening_refusal c.format B) (equal : length values ≡ length keys)
     (framed : IsFramedRun c B (take n (zip keys values)) C)
     (inserted : (P : Table) → IsImage c.format P B → IsAfterInserts c.format (insert_view c.format) P (encoded_all c (take n (zip keys values))) C) where
-  -- all are accepted
+  -- all are inserted
   pub accepted_insert_all : n ≡ length keys → InsertAllAnswers c B keys values before done C (length keys)
   accepted_insert_all every = record {
     lengths = λ other. absurd (other equal);
@@ -67,7 +67,7 @@ module _ {K V : Type 0} (c : Coding K V) (B C : List ℕ) (keys : List K) (value
     stopped = λ long is less. absurd (omega (arith, less));
   }
 
-  -- the next one is refused, as the table is full for its key, and these bytes are D now
+  -- the next one is answered with Full, as the table is full for its key, and these bytes are D now
   pub full_insert_all : (D : List ℕ) (s : ℕ) → D ≡ C → n < length keys → s ≡ status_of Full
       → ((P : Table) → IsImage c.format P C → IsRefusedAt c P (zip keys values) n) → IsStoppedAt c (zip keys values) n C
       → InsertAllAnswers c B keys values before s D n
@@ -83,7 +83,7 @@ module _ {K V : Type 0} (c : Coding K V) (B C : List ℕ) (keys : List K) (value
     stopped = λ long is l. rw same stop;
   }
 
--- the pair that was refused, of two lists
+-- the pair that was answered with Full, of two lists
 pub refused_pair : {K V : Type 0} (c : Coding K V) (P : Table) (keys : List K) (values : List V) (n : ℕ) (k : K) (v : V) → n < length keys → length values ≡ length keys
     → get_or keys n k ≡ k → get_or values n v ≡ v → IsFullFor P (c.key_bytes k) → IsRefusedAt c P (zip keys values) n
 refused_pair c P keys values n k v low equal key value full =

@@ -1,4 +1,4 @@
--- A new table for as many pairs as are put into it: none is refused, and both inserts leave the same.
+-- A new table for as many pairs as are inserted: none is answered with Full, and both inserts leave the same.
 use Rattle.std.proofs.Common.{◌≡◌, ◌<◌, ◌≤◌, ◌+◌, ◌∙◌, ◌↔◌, ℕ, sym, ap, subst, refl, List, Some, Result, Ok, Err, OnErr, IsOk, true≢false, take, length, All, arith, length-take}
 use Rattle.std.specs.Prelude.{option_map}
 use Rattle.std.proofs.lemmas.List.{length-map, take_all}
@@ -46,7 +46,7 @@ module _ {K V : Type 0} (c : Coding K V) (percent : ℕ) (items : List (K × V))
         stays = h.stays;
       })
 
-  -- none is refused
+  -- none is answered with Full
   pub new_inserted : (r : ℕ) (answer : Result (Unit {0}) Error) (B : List ℕ) → r ≤ length items → IsOk answer ↔ (r ≡ length items)
       → IsAfterInserts c.format (insert_view c.format) P (encoded_all c (take r items)) B → ((Q : Table) → IsImage c.format Q B → OnErr answer (IsRefusedAt c Q items r)) → IsFreshAfterInserts c percent items B
   new_inserted r (Ok t) B bound all h refused =

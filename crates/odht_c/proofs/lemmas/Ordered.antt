@@ -11,7 +11,7 @@ use Rattle.odht_c.specs.Statuses.{status_of, done, bad_lengths, unmade}
 use Rattle.odht_c.proofs.lemmas.Refused.{known, not_none}
 
 module _ {K V : Type 0} (c : Coding K V) (B out : List ℕ) where
-  -- of bytes that the whole check refuses
+  -- for bytes that the whole check rejects
   pub refused_order : (a : Error) (s : ℕ) → check_refusal c.format B ≡ Some a → s ≡ status_of a → (IsValidBytes c.format B → ⊥) → OrderAnswers c B out s out
   refused_order a s is status invalid = record {
     refused = λ e other. (status ∙ known _ a e is other, refl);

@@ -1,4 +1,4 @@
--- What the calls answer where they refuse.
+-- What the calls answer where opening has an error.
 use Rattle.std.proofs.Common.{◌≡◌, ◌∙◌, ℕ, List, sym, ap, refl, length, Option, Some, None}
 use Rattle.odht_base.specs.Format.{Format}
 use Rattle.odht_raw.specs.Coding.{Coding}
@@ -10,15 +10,15 @@ use Rattle.odht_c.specs.Statuses.{AreAsLong, status_of, status_or_ok}
 use Rattle.odht_c.specs.Writes.{InsertAnswers, InsertAllAnswers}
 use Rattle.odht_c.proofs.lemmas.Opened.{never_refused}
 
--- one refusal has one status
+-- one error has one status
 pub known : (o : Option Error) (a e : Error) → o ≡ Some a → o ≡ Some e → status_of a ≡ status_of e
 known o a e first second = let both : Some a ≡ Some e = sym first ∙ second in let one : a ≡ e = cc in ap status_of one
 
--- a refusal is not none
+-- an error is not none
 pub not_none : {R : Type 0} (o : Option Error) (a : Error) → o ≡ Some a → o ≡ None → R
 not_none o a some none = absurd (let both : None ≡ Some a = sym none ∙ some in cc)
 
--- the call for the numbers of the header, on bytes whose opening is refused
+-- the call for the numbers of the header, on bytes whose opening has an error
 pub refused_sizes : (F : Format) (B : List ℕ) (a : Error) (s : ℕ) → Some a ≡ opening_refusal F B → s ≡ status_of a → (n m p : ℕ) → SizesAnswers F B n m p s n m p
 refused_sizes F B a s is status n m p = record {
   status = status ∙ ap status_or_ok is;

@@ -1,4 +1,4 @@
--- What a table's header states, of bytes that are accepted.
+-- The numbers in a table's header, of bytes that are accepted.
 use Rattle.std.proofs.Common.{◌≡◌, ◌∙◌, ℕ, List, sym, ap, subst, refl, None}
 use Rattle.odht_base.specs.Format.{Format}
 use Rattle.odht_base.specs.Load.{max_items, percent_of}

@@ -103,13 +103,13 @@ module _ {K V : Type 0} (c : Coding K V) (P : Table) (at : ℕ) (all ys zs : Lis
         more = λ less. (refl, ap is_none (holds_there P at n slot there.0 there.1 there.2));
       })
 
--- the slots that accepted bytes show are as many as they state
+-- accepted bytes decode to as many slots as their header says
 decoded_table-slots : {K V : Type 0} (c : Coding K V) (B : List ℕ) → IsAccepted c.format B → slot_count (decoded_table c.format B) ≡ header_slots B
 decoded_table-slots c B is =
     let long : length (controls_of c.format B) ≡ length B - (32 + header_slots B * entry_len c.format) = length-drop (32 + header_slots B * entry_len c.format) B in
     length-decoded_cells c.format (entries_of c.format B) (controls_of c.format B) ∙ omega (arith, long, accepted_len c.format B is)
 
--- a walk over what a view of the bytes T gives tells of the bytes B of the caller
+-- a walk over the table that a view of the bytes T has is one over the bytes B of the caller
 pub accepted_walk : {K V : Type 0} (c : Coding K V) (B T : List ℕ) (all : List (ℕ × (K × V))) (at : ℕ) (ks : List K) (vs : List V) (n s at' : ℕ) (ks' : List K) (vs' : List V) (n' : ℕ)
     → length vs ≡ length ks → None ≡ opening_refusal c.format B → T ≡ B
     → ((P : Table) → IsImage c.format P T → all ≡ decoded_slots c (slots_from P at)) → all ≡ decoded_slots c (slots_from (decoded_table c.format T) at)

@@ -1,6 +1,8 @@
 //! The exports of tables of hashes of 16 bytes, a set, UnHashFn.
 //!
-//! The statuses in the texts have the names of include/odht.h, and the bytes and rules are those of docs/FORMAT.md.
+//! Statuses have the names of include/odht.h without `ODHT_`. The bytes and rules are those of docs/FORMAT.md;
+//! docs/PROOFS.md, "Calls for C", lists what is proved. Load factors are in percent of slots. An error of the header or
+//! length has a number from 1 to 7.
 //!
 //! Written by exports/generate.sh from exports/shape.rt.in: edit that one.
 ghost use Rattle.std.specs.Prelude.{◌≡◌};
@@ -23,9 +25,9 @@ use odht::config::Coded;
 use odht::configs::Bytes16Set as Shape;
 use std::alloc::Global;
 
-/// How many bytes a new table for so many items has, written to `len`: status 0. `BAD_PERCENT` where the load factor
-/// is not from 1 to 100 percent, `CAPACITY` where no slot count is enough or the length passes `usize`; then `len`
-/// stays.
+/// Writes to `len` how many bytes a new table for so many items has: status 0. `BAD_PERCENT` where the load factor is
+/// not from 1 to 100 percent, `CAPACITY` where no slot count is enough or the length does not fit `usize`; then `len`
+/// is unchanged.
 #[unsafe(no_mangle)]
 pub extern "C" fn odht_b16_bytes_needed(
     max_item_count: usize,
@@ -38,8 +40,8 @@ pub extern "C" fn odht_b16_bytes_needed(
     write::bytes_needed::<Shape>(max_item_count, max_load_factor_percent, len)
 }
 
-/// Makes an empty table for so many items in the bytes, whatever stood there: status 0. `BAD_PERCENT`, `CAPACITY`, or
-/// `INIT_LENGTH` where the bytes are not as many as it needs; then they stay. One pass over the bytes.
+/// Makes an empty table for so many items in the bytes, whatever they hold: status 0. `BAD_PERCENT`, `CAPACITY`, or
+/// `INIT_LENGTH` where the bytes are more or fewer than it needs; then they are unchanged. One pass over the bytes.
 #[unsafe(no_mangle)]
 pub extern "C" fn odht_b16_init(
     bytes: &mut [u8],
@@ -53,8 +55,8 @@ pub extern "C" fn odht_b16_init(
     write::init::<Shape, BorrowedMut<'_>>(&mut store, max_item_count, max_load_factor_percent)
 }
 
-/// 0 where a view accepts the bytes, or the number of the first refusal: of too few bytes, of the header, of the
-/// length, of the first ten slots.
+/// 0 where the bytes can be opened, or the number of the first error, 1 to 9: of too few bytes, of the header, of the
+/// length, of the first ten slots. The cost does not depend on the number of slots.
 #[unsafe(no_mangle)]
 pub extern "C" fn odht_b16_open(bytes: &[u8]) -> u32
     ensures { result ≡ status_or_ok (view_refusal ⟦<Shape as Coded>⟧.coding.format bytes.now) }
@@ -62,8 +64,8 @@ pub extern "C" fn odht_b16_open(bytes: &[u8]) -> u32
     read::open::<Shape>(bytes)
 }
 
-/// 0 exactly where the bytes are valid, or the number of the first refusal of the whole check, 1 to 16. One pass over
-/// the slots, and for each occupied one the control bytes of its key's probe order up to it.
+/// 0 exactly where the bytes are valid, or the number of the first error of the whole check, 1 to 16. One pass over the
+/// slots, and for each occupied one a read of the control bytes of its key's probe order up to it.
 #[unsafe(no_mangle)]
 pub extern "C" fn odht_b16_check(bytes: &[u8]) -> u32
     ensures { result ≡ status_or_ok (check_refusal ⟦<Shape as Coded>⟧.coding.format bytes.now) }
@@ -72,8 +74,8 @@ pub extern "C" fn odht_b16_check(bytes: &[u8]) -> u32
 }
 
 /// Gives the key this value: status 0 where the key was new, `REPLACED` where it had a value, which is written to
-/// `former`. `FULL` at the maximum where the key is absent, or a refusal of the header or length; then nothing changes.
-/// A view of the bytes stays good.
+/// `former`. `FULL` at the maximum where the key is absent, or an error of the header or length; then nothing changes.
+/// A view of the bytes remains usable, whatever the status.
 #[unsafe(no_mangle)]
 pub extern "C" fn odht_b16_insert(bytes: &mut [u8], key: &[u8; 16], former: &mut ()) -> u32
     ensures answers { InsertAnswers ⟦<Shape as Coded>⟧.coding bytes.old key.now tt
@@ -85,9 +87,9 @@ pub extern "C" fn odht_b16_insert(bytes: &mut [u8], key: &[u8; 16], former: &mut
     write::insert::<Shape, BorrowedMut<'_>>(&mut store, key, &(), former)
 }
 
-/// Inserts pairs, the key and the value at each index, in their order: status 0, or `FULL` at the first that is
-/// refused, and how many were accepted in `accepted`. `BAD_LENGTHS` where there are more of the ones than of the
-/// others, or a refusal of the header or length; then nothing changes. A view of the bytes stays good.
+/// Inserts pairs, the key and the value at each index, in order: status 0, or `FULL` at the first that does not fit;
+/// and writes to `accepted` how many were inserted. `BAD_LENGTHS` where there are not as many keys as values, or an
+/// error of the header or length; then nothing changes. A view of the bytes remains usable, whatever the status.
 #[unsafe(no_mangle)]
 pub extern "C" fn odht_b16_insert_all(
     bytes: &mut [u8],
@@ -107,8 +109,8 @@ pub extern "C" fn odht_b16_insert_all(
     write::insert_all::<Shape, BorrowedMut<'_>>(&mut store, keys, values, accepted)
 }
 
-/// The value of a key, written to `value`: status 0. `ABSENT` where there is none, or a refusal of the header or
-/// length; then `value` stays.
+/// Writes the value of a key to `value`: status 0. `ABSENT` where there is none, or an error of the header or length;
+/// then `value` is unchanged.
 #[unsafe(no_mangle)]
 pub extern "C" fn odht_b16_get(bytes: &[u8], key: &[u8; 16], value: &mut ()) -> u32
     ensures { GetAnswers ⟦<Shape as Coded>⟧.coding bytes.now key.now value.old result value.new }
@@ -116,9 +118,9 @@ pub extern "C" fn odht_b16_get(bytes: &[u8], key: &[u8; 16], value: &mut ()) -> 
     read::get::<Shape>(bytes, key, value)
 }
 
-/// The values of many keys: status 0, and at each index `found` is 1 and the value is written, or `found` is 0 and the
-/// value stays. `BAD_LENGTHS` where the arrays are not equally long, or a refusal of the header or length; then
-/// nothing is written.
+/// Looks up many keys: status 0, and at each index `found` is 1 and the value is written, or `found` is 0 and the value
+/// is unchanged. `BAD_LENGTHS` where the arrays are not equally long, or an error of the header or length; then nothing
+/// is written.
 #[unsafe(no_mangle)]
 pub extern "C" fn odht_b16_get_all(
     bytes: &[u8],
@@ -135,8 +137,8 @@ pub extern "C" fn odht_b16_get_all(
     read::get_all::<Shape>(bytes, keys, values, found)
 }
 
-/// How many items the header states, written to `item_count`: status 0. Or a refusal of the header or length; then
-/// `item_count` stays.
+/// Writes the header's item count to `item_count`: status 0. Or an error of the header or length; then `item_count` is
+/// unchanged.
 #[unsafe(no_mangle)]
 pub extern "C" fn odht_b16_len(bytes: &[u8], item_count: &mut usize) -> u32
     ensures { LenAnswers ⟦<Shape as Coded>⟧.coding bytes.now item_count.old result item_count.new }
@@ -144,8 +146,8 @@ pub extern "C" fn odht_b16_len(bytes: &[u8], item_count: &mut usize) -> u32
     read::len::<Shape>(bytes, item_count)
 }
 
-/// How many slots the header states, how many items these take at most, and the load factor in percent, rounded down:
-/// status 0. Or a refusal of the header or length; then nothing is written.
+/// Writes the header's slot count, how many items these slots take at most, and the header's load factor in percent,
+/// rounded down: status 0. Or an error of the header or length; then nothing is written.
 #[unsafe(no_mangle)]
 pub extern "C" fn odht_b16_sizes(
     bytes: &[u8],
@@ -160,10 +162,10 @@ pub extern "C" fn odht_b16_sizes(
     read::sizes::<Shape>(bytes, slot_count, max_item_count, max_load_factor_percent)
 }
 
-/// The keys and values at the slots from `cursor` on (0 at first), in slot order, as many as the arrays take, and in
-/// `item_count` how many. Status 0 where these are all; `TOO_SMALL` where the arrays are full and there are more. Either
-/// way `cursor` is then the slot to go on at: the pairs from there on are those that are left. `BAD_LENGTHS` where the
-/// arrays are not equally long, or a refusal of the header or length; then nothing is written.
+/// Writes the keys and values in the slots from `cursor` on (0 at first), in slot order, as many as fit, and to
+/// `item_count` how many. Status 0 where these are all; `TOO_SMALL` where the arrays are full and there are more.
+/// Either way `cursor` is then the slot to continue at: the pairs from there on are those that are left. `BAD_LENGTHS`
+/// where the arrays are not equally long, or an error of the header or length; then nothing is written.
 #[unsafe(no_mangle)]
 pub extern "C" fn odht_b16_walk(
     bytes: &[u8],
@@ -181,8 +183,8 @@ pub extern "C" fn odht_b16_walk(
     walk::walk::<Shape>(bytes, cursor, keys, values, item_count)
 }
 
-/// Opens the bytes as `open` does: status 0, and `view` is a view of them. A refusal of the header, the length or the
-/// first ten slots; then `view` stays.
+/// Opens the bytes as `open` does: status 0, and `view` is a view of them. Or an error of the header, the length or the
+/// first ten slots, 1 to 9; then `view` is unchanged.
 #[unsafe(no_mangle)]
 pub extern "C" fn odht_b16_open_view<'a>(bytes: &'a [u8], view: &mut View<'a>) -> u32
     ensures { OpenViewAnswers ⟦<Shape as Coded>⟧.coding.format
@@ -191,8 +193,8 @@ pub extern "C" fn odht_b16_open_view<'a>(bytes: &'a [u8], view: &mut View<'a>) -
     view::open::<Shape>(bytes, view)
 }
 
-/// The value of a key of an opened table, written to `value`: status 0. `ABSENT` where there is none; then `value` stays.
-/// No header is looked at: the caller upholds that the view's bytes are accepted, as `open_view` leaves them.
+/// Writes the value of a key of an opened table to `value`: status 0. `ABSENT` where there is none; then `value` is
+/// unchanged. The header is not checked: the caller ensures that the view's bytes are accepted, as after `open_view`.
 #[unsafe(no_mangle)]
 pub extern "C" fn odht_b16_view_get(view: &View<'_>, key: &[u8; 16], value: &mut ()) -> u32
     requires accepted { IsAccepted ⟦<Shape as Coded>⟧.coding.format view.now.bytes.now }
@@ -201,9 +203,9 @@ pub extern "C" fn odht_b16_view_get(view: &View<'_>, key: &[u8; 16], value: &mut
     view::get(&view::table::<Shape>(view), key, value)
 }
 
-/// The values of many keys of an opened table: status 0, and at each index `found` is 1 and the value is written, or
-/// `found` is 0 and the value stays. `BAD_LENGTHS` where the arrays are not equally long; then nothing is written.
-/// No header is looked at: the caller upholds that the view's bytes are accepted, as `open_view` leaves them.
+/// Looks up many keys in an opened table: status 0, and at each index `found` is 1 and the value is written, or `found`
+/// is 0 and the value is unchanged. `BAD_LENGTHS` where the arrays are not equally long; then nothing is written. The
+/// header is not checked: the caller ensures that the view's bytes are accepted, as after `open_view`.
 #[unsafe(no_mangle)]
 pub extern "C" fn odht_b16_view_get_all(
     view: &View<'_>,
@@ -221,8 +223,8 @@ pub extern "C" fn odht_b16_view_get_all(
     view::get_all(&view::table::<Shape>(view), keys, values, found)
 }
 
-/// How many items the header of an opened table states: of valid bytes, how many there are. Nothing else is looked at:
-/// the caller upholds that the view's bytes are accepted, as `open_view` leaves them.
+/// The item count in the header of an opened table; for valid bytes that is how many items there are. Nothing is
+/// checked: the caller ensures that the view's bytes are accepted, as after `open_view`.
 #[unsafe(no_mangle)]
 pub extern "C" fn odht_b16_view_len(view: &View<'_>) -> usize
     requires accepted { IsAccepted ⟦<Shape as Coded>⟧.coding.format view.now.bytes.now }
@@ -231,14 +233,14 @@ pub extern "C" fn odht_b16_view_len(view: &View<'_>) -> usize
     view::table::<Shape>(view).len()
 }
 
-/// The occupied slots in an order in which inserts make the table, written to `out`, which has a place for each item:
-/// status 0. Their pairs, inserted in this order into an empty table of as many slots and the same load factor, leave
-/// these very bytes. `UNMADE` where no list of inserts makes the table: then `out` holds numbers that say nothing.
-/// The number of the first refusal of the whole check, 1 to 16, or `BAD_LENGTHS` where `out` has not as many places as
-/// there are items; then `out` stays.
+/// Writes to `out`, whose length is the item count, the occupied slots in an order in which inserts make the table:
+/// status 0. Their pairs, inserted in this order into an empty table of as many slots and the same load factor, make
+/// exactly these bytes. `UNMADE` where no list of inserts makes the table: what `out` then holds is unspecified. The
+/// number of the first error of the whole check, 1 to 16, or `BAD_LENGTHS` where the length of `out` is not the number
+/// of items; then `out` is unchanged.
 ///
-/// It takes no memory. It costs the whole check, and then at most one pass over the items more than there are slots
-/// that wait for one behind them; each pass ends by sorting what is left.
+/// Allocates nothing. It costs the whole check, and then passes over the items: at most one more than there are items
+/// whose insert has to wait for that of an item in a later slot. Each pass ends by sorting the items that are left.
 #[unsafe(no_mangle)]
 pub extern "C" fn odht_b16_insert_order(bytes: &[u8], out: &mut [usize]) -> u32
     ensures { OrderAnswers ⟦<Shape as Coded>⟧.coding bytes.now out.old result out.new }
@@ -246,12 +248,12 @@ pub extern "C" fn odht_b16_insert_order(bytes: &[u8], out: &mut [usize]) -> u32
     order::insert_order::<Shape>(bytes, out)
 }
 
-/// Writes the table that the one in `bytes` grows into at its maximum to the front of `out`, and tells its length in
-/// `len`: status 0. It has the slots for twice as many items, and for one at least, and the same load factor; the
-/// pairs are placed in slot order. `TOO_SMALL` where `out` is shorter than the table: then only `len` is written. A
-/// refusal of the header or length, `LOAD_FACTOR_TOO_SMALL` where the header states less than one percent, or
-/// `CAPACITY` where no slot count is enough or the length passes `usize`; then nothing is written. Behind the table
-/// `out` stays. No memory is asked for. One pass over both, and each item is hashed once.
+/// Writes the table that the one in `bytes` grows into at its maximum to the front of `out`, and its length in bytes to
+/// `len`: status 0. It has slots for twice as many items, and for one at least, and the same load factor; the pairs are
+/// placed in slot order (docs/FORMAT.md, "Growth"). `TOO_SMALL` where `out` is shorter than the table: then only `len`
+/// is written. An error of the header or length, `LOAD_FACTOR_TOO_SMALL` where the header has less than one percent, or
+/// `CAPACITY` where no slot count is enough or the length does not fit `usize`; then nothing is written. After the
+/// table `out` is unchanged. Allocates nothing. One pass over both tables; each item is hashed once.
 #[unsafe(no_mangle)]
 pub extern "C" fn odht_b16_grow(bytes: &[u8], out: &mut [u8], len: &mut usize) -> u32
     ensures { GrowAnswers ⟦<Shape as Coded>⟧.coding bytes.now out.old len.old result out.new len.new }
@@ -259,12 +261,12 @@ pub extern "C" fn odht_b16_grow(bytes: &[u8], out: &mut [u8], len: &mut usize) -
     grow::grow::<Shape>(bytes, out, len)
 }
 
-/// Builds the table of the pairs, the key and the value at each index, at the front of `out`, and tells its length in
-/// `len`: status 0. It is made for as many pairs as there are, so it never grows; a later pair gives an earlier key its
-/// value. `TOO_SMALL` where `out` is shorter than the table: then only `len` is written. `BAD_LENGTHS` where there are
-/// more of the keys or of the values, `BAD_PERCENT` where the load factor is not from 1 to 100 percent, `CAPACITY` only
-/// where no slot count is enough or the length passes `usize`; then nothing is written. Behind the table `out` stays.
-/// No memory is asked for. One pass over the bytes, then one insert a pair.
+/// Builds a table of the pairs, the key and the value at each index, at the front of `out`, and writes its length in
+/// bytes to `len`: status 0. It has slots for as many items as there are pairs, so it never grows; of equal keys the
+/// last value counts. `TOO_SMALL` where `out` is shorter than the table: then only `len` is written. `BAD_LENGTHS`
+/// where there are not as many keys as values, `BAD_PERCENT` where the load factor is not from 1 to 100 percent,
+/// `CAPACITY` only where no slot count is enough or the length does not fit `usize`; then nothing is written. After the
+/// table `out` is unchanged. Allocates nothing. One pass over the bytes, then one insert for each pair.
 #[unsafe(no_mangle)]
 pub extern "C" fn odht_b16_build(
     keys: &[[u8; 16]],
@@ -285,12 +287,12 @@ pub extern "C" fn odht_b16_build(
     build::collected::<Shape>(keys, values, max_load_factor_percent, out, len)
 }
 
-/// Builds the table of the pairs, the key and the value at each index, in memory of its own, copies it to the front of
-/// `out`, and tells its length in `len`: status 0. It begins with sixteen slots at 87 percent, and grows as the pairs
-/// are put into it; a later pair gives an earlier key its value. `TOO_SMALL` where `out` is shorter than the table:
-/// then only `len` is written. `BAD_LENGTHS` where there are more of the keys or of the values, `MEMORY` where the
-/// memory was refused; then nothing is written. Behind the table `out` stays. One insert a pair, the growths, and one
-/// copy of the table.
+/// Builds a table of the pairs, the key and the value at each index, in memory of its own, copies it to the front of
+/// `out`, and writes its length in bytes to `len`: status 0. It begins with sixteen slots at 87 percent, and grows as
+/// the pairs are inserted; of equal keys the last value counts. `TOO_SMALL` where `out` is shorter than the table: then
+/// only `len` is written. `BAD_LENGTHS` where there are not as many keys as values, `MEMORY` when an allocation fails;
+/// then nothing is written. After the table `out` is unchanged. One insert for each pair, the growths, and one copy of
+/// the table.
 #[unsafe(no_mangle)]
 pub extern "C" fn odht_b16_build_growing(
     alloc: Global,

@@ -1,5 +1,5 @@
--- What a test tells of the things that it looks at.
---     told_apart               two things, of which one passes a test and the other not
+-- What a test says about the things that it looks at.
+--     are_distinct               two things, of which one passes a test and the other not
 --     unequal, unequal_lists   two numbers, and two lists of numbers
 --     some_unequal_lists       two such lists, of which one might have been missing
 --     tested, untrue           each of the first n numbers passes a test, or none
@@ -12,8 +12,8 @@ use Rattle.odht_raw.specs.Refusals.{differs, lists_differ}
 use Rattle.odht_raw.proofs.lemmas.FirstErrors.{false-differs, false-lists_differ}
 
 -- two things, of which the one passes a test and the other not, are not the same
-pub told_apart : {X : Type 0} (test : X → Bool) (x y : X) → test x ≡ true → test y ≡ false → x ≡ y → ⊥
-told_apart test x y passes fails e = true≢false (sym passes ∙ ap test e ∙ fails)
+pub are_distinct : {X : Type 0} (test : X → Bool) (x y : X) → test x ≡ true → test y ≡ false → x ≡ y → ⊥
+are_distinct test x y passes fails e = true≢false (sym passes ∙ ap test e ∙ fails)
 
 -- numbers that differ are not equal
 pub unequal : (m n : ℕ) → differs m n ≡ true → m ≡ n → ⊥
@@ -27,7 +27,7 @@ unequal_lists xs ys h e = true≢false (sym h ∙ false-lists_differ xs ys e)
 pub some_unequal_lists : (xs ys : List ℕ) → lists_differ xs ys ≡ true → Some xs ≡ Some ys → ⊥
 some_unequal_lists xs ys h e = unequal_lists xs ys h cc
 
--- what a test tells of each of the first n numbers
+-- a test of each of the first n numbers
 pub tested : (f : ℕ → Bool) (n i : ℕ) → list_all f (range_with_len 0 n) ≡ true → i < n → f i ≡ true
 tested f n i h low =
     subst (λ j. f j ≡ true) (get_or-range_with_len 0 n i 0 low ∙ zero-add i)

@@ -21,7 +21,7 @@ parts control = record { control = control; entries = record { slots = 16; bytes
 abbrev two : List ℕ
 two = set (set (set (set (replicate 32 255) 5 0) 6 0) 21 0) 22 0
 
--- both are shown, and no slot is refused, nor the mirror
+-- both are decoded, and no slot has an error, nor the mirror
 pub two_decoded : (decoded_count direct_config (parts two) ≡ 2) × IsFitting direct_config (parts two)
 unfolding opened
 two_decoded = (refl, record { slots = refl; mirror = refl })
@@ -39,7 +39,7 @@ pub hashes : IsSlotHash direct_config (parts two) 5 (Some 5) × IsSlotHash direc
 unfolding opened
 hashes = ((refl, refl), refl)
 
--- no other hash, none where the slot is filled, and one only there
+-- no other hash, none where the slot is occupied, and one only there
 pub other_hash_refused : (IsSlotHash direct_config (parts two) 5 (Some 6) → ⊥)
     × (IsSlotHash direct_config (parts two) 5 None → ⊥)
     × (IsSlotHash direct_config (parts two) 4 (Some 0) → ⊥)

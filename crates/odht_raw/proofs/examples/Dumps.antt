@@ -26,7 +26,7 @@ pub slot_lines : (line 0 ≡ Some (codes "slot 0: empty\n"))
 unfolding opened digits
 slot_lines = (refl, refl)
 
--- where nothing is known of the key's text, nothing is said of the line
+-- where the key's text is unknown, so is the line
 pub unknown_text : option_and_then (λ B. slot_text test_config (λ b. None) array_text (parts_of test_config B) 5) one_bytes ≡ None
 unfolding opened digits
 unknown_text = refl

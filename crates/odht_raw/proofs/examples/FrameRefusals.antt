@@ -51,13 +51,13 @@ full_parts_with_room_refused es p es' ctrl' h =
 abbrev at_maximum : List ℕ
 at_maximum = overwritten_at test_bytes 8 (13 ∷ [])
 
--- what is answered there is no None
+-- the answer there is not None
 unadded_at_maximum : (p : Pair) (o : Option (List ℕ)) (D : List ℕ) → InsertFrame test_config at_maximum p (Ok o) D → o ≡ None → ⊥
 unfolding opened
 unadded_at_maximum p o D (InsertFrame.overwrote i low same) e = absurd cc
 unadded_at_maximum p o D (InsertFrame.added i low free room) e = omega (arith, room)
 
--- at the stated maximum no entry is added, though every slot is free
+-- at the maximum by the header no entry is added, though every slot is free
 pub entry_at_maximum_refused : (p : Pair) (D : List ℕ) → InsertFrame test_config at_maximum p (Ok None) D → ⊥
 entry_at_maximum_refused p D h = unadded_at_maximum p None D h refl
 
@@ -71,23 +71,23 @@ occupied_slots : (i : ℕ) → i < 16 → CountsAsFree occupied_controls i → �
 occupied_slots i low (inl e) = untrue (λ j. counts_as_free (slice_index occupied_controls j)) 16 i refl low e
 occupied_slots i low (inr (small, e)) = untrue (λ j. counts_as_free (slice_index occupied_controls (16 + j))) 16 i refl low e
 
--- what is answered where each slot is filled is no None
+-- the answer where each slot is occupied is not None
 unadded_where_occupied : (p : Pair) (o : Option (List ℕ)) (D : List ℕ) → InsertFrame direct_config (all_occupied 0) p (Ok o) D → o ≡ None → ⊥
 unfolding opened
 unadded_where_occupied p o D (InsertFrame.overwrote i low same) e = absurd cc
 unadded_where_occupied p o D (InsertFrame.added i low free room) e = occupied_slots i low free
 
--- no entry is added where every slot is filled, though the stated count is 0
+-- no entry is added where every slot is occupied, though the header's count is 0
 pub entry_in_occupied_slot_refused : (p : Pair) (D : List ℕ) → InsertFrame direct_config (all_occupied 0) p (Ok None) D → ⊥
 entry_in_occupied_slot_refused p D h = unadded_where_occupied p None D h refl
 
--- nor for parts of which each slot is filled
+-- nor for parts of which each slot is occupied
 unadded_parts : (F : Format) (es : List ℕ) (p : Pair) (o : Option (List ℕ)) (es' ctrl' : List ℕ)
     → PartsFrame F es occupied_controls p (Ok o) es' ctrl' → o ≡ None → ⊥
 unadded_parts F es p o es' ctrl' (PartsFrame.overwrote i low same) e = absurd cc
 unadded_parts F es p o es' ctrl' (PartsFrame.added i low free) e = occupied_slots i low free
 
--- nor in parts of which every slot is filled
+-- nor in parts of which every slot is occupied
 pub parts_entry_in_occupied_slot_refused : (F : Format) (es : List ℕ) (p : Pair) (es' ctrl' : List ℕ)
     → PartsFrame F es occupied_controls p (Ok None) es' ctrl' → ⊥
 parts_entry_in_occupied_slot_refused F es p es' ctrl' h = unadded_parts F es p None es' ctrl' h refl
@@ -220,12 +220,12 @@ unfolding opened
 addition_in_two_slots_refused h =
     added_by_none (with_count (with_pair test_config 16 (with_one 5 1) 6 (pair32 1 2)) 1) refl h
 
--- a refusal is Full, and leaves the bytes
+-- an error is Full, and leaves the bytes
 unchanged : (F : Format) (B : List ℕ) (p : Pair) (e : Error) (D : List ℕ) → InsertFrame F B p (Err e) D → (e ≡ Full) × (D ≡ B)
 unchanged F B p e D (InsertFrame.full full) = (refl, refl)
 unchanged F B p e D (InsertFrame.no_slot none) = (refl, refl)
 
--- a refused insert writes nothing
+-- an insert that answers Full writes nothing
 pub written_refusal_refused : InsertFrame direct_config (all_occupied 13) (pair32 99 7) (Err Full) (overwritten_at (all_occupied 13) 30 (1 ∷ [])) → ⊥
 unfolding opened
 written_refusal_refused h =
@@ -265,18 +265,18 @@ pub parts_overwrite_of_control_refused : (F : Format) (es : List ℕ) (p : Pair)
 parts_overwrite_of_control_refused F es p v es' h =
     unequal_lists (set occupied_controls 3 1) occupied_controls refl (kept_controls F es occupied_controls p (Some v) v es' (set occupied_controls 3 1) h refl)
 
--- a refusal of parts is Full, and leaves them
+-- an error for parts is Full, and leaves them
 parts_unchanged : (F : Format) (es ctrl : List ℕ) (p : Pair) (e : Error) (es' ctrl' : List ℕ)
     → PartsFrame F es ctrl p (Err e) es' ctrl' → (es' ≡ es) × (ctrl' ≡ ctrl)
 parts_unchanged F es ctrl p e es' ctrl' (PartsFrame.no_slot none) = (refl, refl)
 
--- and a refused insert writes no entry
+-- and an insert that answers Full writes no entry
 pub parts_written_refusal_refused : (F : Format) (p : Pair) (ctrl ctrl' : List ℕ)
     → PartsFrame F no_entries ctrl p (Err Full) (set no_entries 3 1) ctrl' → ⊥
 parts_written_refusal_refused F p ctrl ctrl' h =
     unequal_lists (set no_entries 3 1) no_entries refl (parts_unchanged F no_entries ctrl p Full (set no_entries 3 1) ctrl' h).0
 
--- ---- the words for one slot and for all
+-- ---- counting one slot and all slots as free or occupied
 -- slot 5 alone free, by its own byte and its mirror
 abbrev pub slot_five_free : List ℕ
 slot_five_free = set (set occupied_controls 5 255) 21 255
@@ -315,12 +315,12 @@ none_free i low = occupied_bytes i low (counts_as_free (slice_index occupied_con
 pub one_free_refused : HasNoFree slot_five_free 16 → ⊥
 one_free_refused h = true≢false (h 5 (lit< tt))
 
--- so does each of the first five of these
+-- each of the first five of these counts as occupied
 first_bytes : (i : ℕ) → i < 5 → (b : Bool) → counts_as_free (slice_index slot_five_free i) ≡ b → b ≡ false
 first_bytes i low true e = absurd (untrue (λ j. counts_as_free (slice_index slot_five_free j)) 5 i refl low e)
 first_bytes i low false e = refl
 
--- but none of the first five
+-- so none of the first five is free
 pub none_of_five_free : HasNoFree slot_five_free 5
 none_of_five_free i low = first_bytes i low (counts_as_free (slice_index slot_five_free i)) refl
 

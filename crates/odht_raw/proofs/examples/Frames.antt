@@ -14,7 +14,7 @@ use Rattle.odht_raw.proofs.examples.Invalid.{count_of_five, all_occupied}
 use Rattle.odht_raw.specs.Frame.{InsertFrame, IsBytesFramed}
 use Rattle.odht_raw.specs.declared.error.Error.TheVariants.{Full}
 
--- at the stated maximum of thirteen key 99 may be refused
+-- at the maximum of thirteen by the header, key 99 may be answered with Full
 pub refused : InsertFrame direct_config (all_occupied 13) (pair32 99 7) (Err Full) (all_occupied 13)
 unfolding opened
 refused = InsertFrame.full (lit≤ tt)
@@ -49,7 +49,7 @@ pub then_valid : Some (added_bytes test_config home_of_128 5 (pair32 1 2)) ≡ o
 unfolding opened
 then_valid = refl
 
--- the former value is told as it is decoded, here as a number
+-- the former value is reported as it is decoded, here as a number
 pub decoded_value : IsBytesFramed direct_config num (all_occupied 0) (pair32 3 7) (Ok (Some 3)) (overwritten_at (all_occupied 0) 60 (7 ∷ []))
 unfolding opened
 decoded_value = (Ok (Some (le_bytes 4 3)), refl, overwritten_value)

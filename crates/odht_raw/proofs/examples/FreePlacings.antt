@@ -22,7 +22,7 @@ use Rattle.odht_raw.proofs.examples.FrameRefusals.{occupied_controls, no_entries
 use Rattle.odht_raw.proofs.examples.Opened.{opened}
 
 -- ---- the first free slot
--- slots 3 and 4 are filled
+-- slots 3 and 4 are occupied
 occupied_before : (q : ℕ) → q < 2 → CountsAsOccupied slot_five_free (probe_slot 3 16 q)
 occupied_before q l = inl (not-true _ (tested (λ p. not (counts_as_free (slice_index slot_five_free (probe_slot 3 16 p)))) 2 q refl l))
 
@@ -31,7 +31,7 @@ pub first : IsFirstFree slot_five_free 3 16 5
 first = record {
   position = 2;
   in_order = lit< tt;
-  stands = refl;
+  slot_is = refl;
   free = counted_as_free.0;
   earlier_occupied = occupied_before;
 }
@@ -46,13 +46,13 @@ two_free = set (set slot_five_free 9 255) 25 255
 
 pub second_refused : IsFirstFree two_free 3 16 9 → ⊥
 second_refused h = elim (cases_lt h.position 3) [
-  | inl early ↦ untrue (λ p. probe_slot 3 16 p == 9) 3 h.position refl early (eq-eqb (probe_slot 3 16 h.position) 9 h.stands)
+  | inl early ↦ untrue (λ p. probe_slot 3 16 p == 9) 3 h.position refl early (eq-eqb (probe_slot 3 16 h.position) 9 h.slot_is)
   | inr late ↦ free_slot_refused two_free 5 refl refl (h.earlier_occupied 2 (omega (arith, late)))
 ]
 
 -- nor a byte behind the last slot
 pub behind_refused : IsFirstFree slot_five_free 3 16 21 → ⊥
-behind_refused h = omega (arith, h.stands, probe_slot-lt (3 % 16) 16 h.position (lit< tt))
+behind_refused h = omega (arith, h.slot_is, probe_slot-lt (3 % 16) 16 h.position (lit< tt))
 
 -- of no slots none is
 pub no_slots_refused : (ctrl : List ℕ) (hash i : ℕ) → IsFirstFree ctrl hash 0 i → ⊥
@@ -84,7 +84,7 @@ entry_beside value = overwritten_at no_entries 40 (3 ∷ 0 ∷ 0 ∷ 38 ∷ valu
 -- it goes there, with its tag and the mirror
 pub added : PlacingFrame direct_config no_entries slot_five_free pair (Ok tt) (entry_beside 2) (set (set occupied_controls 5 19) 21 19)
 unfolding opened
-added = PlacingFrame.added 5 (record { position = 2; in_order = lit< tt; stands = refl; free = counted_as_free.0; earlier_occupied = occupied_before })
+added = PlacingFrame.added 5 (record { position = 2; in_order = lit< tt; slot_is = refl; free = counted_as_free.0; earlier_occupied = occupied_before })
 
 -- where each slot counts as occupied nothing changes
 pub full : PlacingFrame direct_config no_entries occupied_controls pair (Err Full) no_entries occupied_controls
@@ -103,7 +103,7 @@ left_by_none es ctrl others h = go (Ok tt) es ctrl h refl refl refl
     go : (r : Result (Unit {0}) Error) (es' ctrl' : List ℕ) → PlacingFrame direct_config no_entries slot_five_free pair r es' ctrl' → r ≡ Ok tt → es' ≡ es → ctrl' ≡ ctrl → ⊥
     go _ _ _ (PlacingFrame.no_slot none) is e c = absurd cc
     go _ _ _ (PlacingFrame.added i at) is e c =
-        let low : i < 16 = omega (arith, at.stands, probe_slot-lt (direct_config.hash pair.key % 16) 16 at.position (lit< tt)) in
+        let low : i < 16 = omega (arith, at.slot_is, probe_slot-lt (direct_config.hash pair.key % 16) 16 at.position (lit< tt)) in
         neither (lists_differ (overwritten_at no_entries (i * 8) (pair.key ++ pair.value)) es) (lists_differ (tagged slot_five_free i (tag direct_config pair.key)) ctrl)
         (λ t. unequal_lists _ es t e)
         (λ t. unequal_lists _ ctrl t c)

@@ -1,4 +1,4 @@
--- Worked examples: each header byte of a fresh table set to each of its values, and how often each answer of a view comes.
+-- Worked examples: each header byte of a fresh table set to each value, and how often each answer of a view comes.
 use Rattle.std.proofs.Common.{◌≡◌, ℕ, refl, List, [], ◌∷◌, Option, Some, None, map, set, length, filter, eqb, ltb, cond, ap, ◌++◌}
 use Rattle.std.specs.List.{range_with_len, flat_map}
 use Rattle.odht_raw.proofs.examples.Opened.{opened}

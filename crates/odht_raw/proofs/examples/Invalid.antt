@@ -1,4 +1,4 @@
--- Worked examples: bytes that a view accepts and the whole check refuses.
+-- Worked examples: bytes that a view accepts and the whole check rejects.
 use Rattle.std.proofs.Common.{◌≡◌, ℕ, refl, List, [], ◌∷◌, Option, Some, None, option_map, map, if◌then◌else◌}
 use Rattle.std.specs.List.{range_with_len, list_any}
 use Rattle.std.specs.Prelude.{◌==◌}
@@ -45,7 +45,7 @@ pub small_factor : (both (overwritten_at test_bytes 28 (le_bytes 2 654)) ≡ (No
 unfolding opened
 small_factor = (refl, refl)
 
--- a mirror byte that its slot has not, and a padding
+-- a mirror byte that differs from its slot's, and a padding
 pub wrong_mirror : (both (overwritten_at test_bytes 176 (5 ∷ [])) ≡ (None, Some (MirrorMismatch 0)))
     × (decoded_pairs test_config (overwritten_at test_bytes 176 (5 ∷ [])) ≡ [])
     × (both (overwritten_at test_bytes 31 (1 ∷ [])) ≡ (None, Some (NonZeroPadding (0 ∷ 1 ∷ []))))
@@ -75,7 +75,7 @@ pub unreachable_keys : (view_refusal direct_config (image direct_config (fives_a
 unfolding opened
 unreachable_keys = (refl, refl, refl, refl)
 
--- a valid table that no list of inserts makes is refused by neither
+-- a valid table that no list of inserts makes is rejected by neither
 pub unmade_accepted : (view_refusal direct_config (image direct_config unmade) ≡ None) × (check_refusal direct_config (image direct_config unmade) ≡ None)
 unfolding opened
 unmade_accepted = (refl, refl)

@@ -23,7 +23,7 @@ other_layouts_refused = (
   λ h. let long = h.long in omega (arith, long),
 )
 
--- bytes hold the key of an entry, also where no control byte tells of it
+-- bytes hold the key of an entry, whatever its control byte
 pub held : HoldsKey direct_config (all_occupied 0) (le_bytes 4 3)
 unfolding opened
 held = (3, lit< tt, refl)

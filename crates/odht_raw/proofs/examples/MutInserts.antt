@@ -1,4 +1,4 @@
--- Worked examples: an insert through lent parts, and what it may not do, to any table.
+-- Worked examples: an insert through borrowed parts, and what it may not do, to any table.
 use Rattle.std.proofs.Common.{◌≡◌, ◌∙◌, ℕ, refl, Option, Some, None, Result, Ok, Err, sym, true, true≢false, ◌<◌}
 use Rattle.std.proofs.lemmas.Option.{none-some}
 use Rattle.std.specs.declared.cmp.PartialEq.{Ghosts as PartialEqOf}
@@ -19,7 +19,7 @@ module _ {K V H : Type 0} {key : ByteArrayOf K} {key_eq : PartialEqOf K} {key_de
     {hash : HashFnOf H} {hash_eq : PartialEqOf H}
     (t : RawTableMut K V H key key_eq key_debug value value_eq value_debug hash hash_eq) (k : K) (v : V)
     (t' : RawTableMut K V H key key_eq key_debug value value_eq value_debug hash hash_eq) where
-  -- what is an insert into the parts, of each table that they are of, is one through them, where both slices stay lent
+  -- an insert into the parts, of each table that they are of, is one through them, where both slices stay borrowed
   pub of_its_parts : (r : Result (Option V) Error)
       → ((P : Table) → IsParts P t → IsPlacing (table_format t) value.of_bytes P (pair_of t k v) r (mut_entries t') (mut_control t'))
       → IsChange (table_format t) value.of_bytes (mut_entries t) (mut_control t) (pair_of t k v) r (mut_entries t') (mut_control t')
@@ -48,7 +48,7 @@ module _ {K V H : Type 0} {key : ByteArrayOf K} {key_eq : PartialEqOf K} {key_de
   pub written_entries_refused : (mut_entries t' ≡ mut_entries t → ⊥) → IsMutInsert t k v (Err Full) t' → ⊥
   written_entries_refused other h = other h.refused_entries
 
-  -- the slices that are lent stay so
+  -- the slices that are borrowed stay so
   pub other_control_refused : (r : Result (Option V) Error) → (control_loan t' ≡ control_loan t → ⊥) → IsMutInsert t k v r t' → ⊥
   other_control_refused r other h = other h.control_loan
 

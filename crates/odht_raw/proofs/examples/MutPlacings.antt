@@ -1,4 +1,4 @@
--- Worked examples: placing a key through lent parts, and what it may not do, to any table.
+-- Worked examples: placing a key through borrowed parts, and what it may not do, to any table.
 use Rattle.std.proofs.Common.{◌≡◌, ℕ, ◌-◌, ◌<◌, List, length, Some, Result, Ok, Err, refl, sym, ◌∙◌, true, true≢false}
 use Rattle.std.proofs.lemmas.Option.{none-some}
 use Rattle.std.specs.declared.cmp.PartialEq.{Ghosts as PartialEqOf}
@@ -28,8 +28,8 @@ module _ {K V H : Type 0} {key : ByteArrayOf K} {key_eq : PartialEqOf K} {key_de
     {hash : HashFnOf H} {hash_eq : PartialEqOf H}
     (t : RawTableMut K V H key key_eq key_debug value value_eq value_debug hash hash_eq) (k : K) (v : V)
     (t' : RawTableMut K V H key key_eq key_debug value value_eq value_debug hash hash_eq) where
-  -- what is a placing into the parts, of each table without the key that they are of, is one through them, where both
-  -- slices stay lent
+  -- a placing into the parts, of each table without the key that they are of, is one through them, where both
+  -- slices stay borrowed
   pub of_its_parts : (r : Result (Unit {0}) Error)
       → ((P : Table) → IsParts P t → IsNewTo P (pair_of t k v) → IsNewPlacing (table_format t) P (pair_of t k v) r (mut_entries t') (mut_control t'))
       → IsAddition (table_format t) (mut_entries t) (mut_control t) (pair_of t k v) r (mut_entries t') (mut_control t')
@@ -52,7 +52,7 @@ module _ {K V H : Type 0} {key : ByteArrayOf K} {key_eq : PartialEqOf K} {key_de
       → (ArePartsPlaced (table_format t) P (pair_of t k v) (mut_entries t') (mut_control t') → ⊥) → IsMutPlacing t k v (Ok tt) t' → ⊥
   other_parts_refused P is new other h = other (h.ok P is new)
 
-  -- and there is none where each slot is filled
+  -- and there is none where each slot is occupied
   pub occupied_refused : (P : Table) → IsParts P t → IsNewTo P (pair_of t k v) → IsFullWithout P (pair_of t k v).key → IsMutPlacing t k v (Ok tt) t' → ⊥
   occupied_refused P is new full h = let is_full = (h.no_room P is new).1 full in absurd cc
 
@@ -80,7 +80,7 @@ module _ {K V H : Type 0} {key : ByteArrayOf K} {key_eq : PartialEqOf K} {key_de
   pub written_entries_refused : (mut_entries t' ≡ mut_entries t → ⊥) → IsMutPlacing t k v (Err Full) t' → ⊥
   written_entries_refused other h = other h.refused_entries
 
-  -- the slices that are lent stay so
+  -- the slices that are borrowed stay so
   pub other_control_refused : (r : Result (Unit {0}) Error) → (control_loan t' ≡ control_loan t → ⊥) → IsMutPlacing t k v r t' → ⊥
   other_control_refused r other h = other h.control_loan
 

@@ -18,7 +18,7 @@ use Rattle.odht_raw.specs.declared.error.Error.{Error}
 use Rattle.odht_raw.specs.declared.error.Error.TheVariants.{Full, TooShort}
 use Rattle.odht_raw.specs.declared.raw_table.search_result.SearchResult.TheVariants.{Found, Free, Neither}
 use Rattle.odht_raw.proofs.lemmas.FirstErrors.{not-true}
-use Rattle.odht_raw.proofs.examples.Apart.{told_apart, unequal_lists, tested}
+use Rattle.odht_raw.proofs.examples.Apart.{are_distinct, unequal_lists, tested}
 use Rattle.odht_raw.proofs.examples.FrameRefusals.{occupied_controls, no_entries, no_free_slots, parts_entry_in_occupied_slot_refused}
 use Rattle.odht_raw.proofs.examples.Invalid.{fives_at}
 use Rattle.odht_raw.proofs.examples.Opened.{opened}
@@ -31,7 +31,7 @@ abbrev five : List ℕ
 five = le_bytes 4 5
 
 -- ---- where a pair is placed
--- a pair goes where its key is, else into the free slot that the search meets first, and where there is neither into none
+-- a pair goes where its key is, else into the free slot that the search meets first; where there is neither, nowhere
 pub where_placed : IsWherePlaced direct_config (fives_at (5 ∷ [])) five (Found 5)
     × IsWherePlaced direct_config (fives_at []) five (Free 5)
     × IsWherePlaced direct_config full (le_bytes 4 99) Neither
@@ -53,9 +53,9 @@ found_without_key_refused (has, goes) = true≢false (sym has)
 pub found_second_copy_refused : IsWherePlaced direct_config (fives_at (5 ∷ 6 ∷ [])) five (Found 6) → ⊥
 unfolding opened
 found_second_copy_refused (has, goes) =
-    told_apart (λ o. option_map_or (λ (P : Table). option_map_or (λ (p : Pair). bytes_eq p.value []) (cell_at P.cells 6) false) o false) _ _ refl refl (sym (goes []))
+    are_distinct (λ o. option_map_or (λ (P : Table). option_map_or (λ (p : Pair). bytes_eq p.value []) (cell_at P.cells 6) false) o false) _ _ refl refl (sym (goes []))
 
--- an occupied slot is not one that it fills
+-- an occupied slot is not answered as free
 pub occupied_as_free_refused : IsWherePlaced direct_config (fives_at (5 ∷ [])) five (Free 5) → ⊥
 occupied_as_free_refused (free, goes) = true≢false (sym free)
 
@@ -63,7 +63,7 @@ occupied_as_free_refused (free, goes) = true≢false (sym free)
 pub other_free_refused : IsWherePlaced direct_config (fives_at []) five (Free 6) → ⊥
 unfolding opened
 other_free_refused (free, goes) =
-    told_apart (λ o. option_map_or (λ (P : Table). is_free P.cells 6) o false) _ _ refl refl (goes [])
+    are_distinct (λ o. option_map_or (λ (P : Table). is_free P.cells 6) o false) _ _ refl refl (goes [])
 
 -- and a pair that has a place does not miss it
 pub no_place_refused : IsWherePlaced direct_config (fives_at []) five Neither → ⊥
@@ -125,7 +125,7 @@ other_parts_refused h = refuted h.ok.1
         unequal_lists (controls direct_config (fives_at (6 ∷ [])).cells) (controls direct_config (fives_at (5 ∷ [])).cells) refl
         (parts.controls_are ∙ ap (λ (P : Table). controls direct_config P.cells) (some_same Q (fives_at (5 ∷ [])) (sym is)))
 
--- and no refusal, neither by the pair's place nor by the slots
+-- and no error, neither by the pair's place nor by the slots
 pub full_with_room_refused : (inserts_five (fives_at []) (Err Full) (fives_at []) → ⊥) × (inserts_five (fives_at []) (Err Full) (fives_at []) → ⊥)
 unfolding opened
 full_with_room_refused =
@@ -152,7 +152,7 @@ unfolding opened
 other_answer_refused = (λ h. let is = h.full.1 refl in absurd cc, λ h. let is = h.full.1 refl in absurd cc)
 
 -- ---- an insert into any parts
--- sixteen control bytes of 0 with their mirror, over entries of zeros: each slot is filled, and has the key 0
+-- sixteen control bytes of 0 with their mirror, over entries of zeros: each slot is occupied, and has the key 0
 abbrev changes : Result (Option (List ℕ)) Error → List ℕ → List ℕ → Type 0
 changes r es' ctrl' = IsChange direct_config (λ b. b) no_entries occupied_controls (pair32 5 7) r es' ctrl'
 

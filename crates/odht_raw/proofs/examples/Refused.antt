@@ -23,11 +23,11 @@ fresh_bytes F p = image F (empty 16 (factor_of p))
 abbrev pub test_bytes : List ℕ
 test_bytes = fresh_bytes test_config 87
 
--- what a view says of them with the bytes d from `at` on
+-- what a view answers with the bytes d from `at` on
 abbrev forged : ℕ → List ℕ → Option Error
 forged at d = view_refusal test_config (overwritten_at test_bytes at d)
 
--- the unchanged bytes are accepted, and a view of another key length refuses them
+-- the unchanged bytes are accepted, and a view of another key length rejects them
 pub unforged : (view_refusal test_config test_bytes ≡ None) × (view_refusal my_config test_bytes ≡ Some (WrongSizeOf EncodedKey 8 4))
 unfolding opened
 unforged = (refl, refl)
@@ -55,7 +55,7 @@ pub forged_slot_counts : (forged 16 (le_bytes 8 0) ≡ Some (SlotCountNotPowerOf
 unfolding opened
 forged_slot_counts = (refl, refl, refl, refl, refl, refl)
 
--- 256 bytes of u64 to u32 that claim 2 ^ 63 slots
+-- 256 bytes of u64 to u32 whose header says 2 ^ 63 slots
 pub forged_length : view_refusal my_config (overwritten_at (fresh_bytes my_config 95) 16 (le_bytes 8 (2 ^ 63))) ≡ Some (WrongLength (2 ^ 63) 256 119903836479112085552)
 unfolding opened
 forged_length = refl

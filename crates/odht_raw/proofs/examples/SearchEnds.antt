@@ -94,7 +94,7 @@ occupied_in_group_refused (j, low, is, counts) = untrue (λ i. counts_as_free (s
 pub other_in_group_refused : IsEndAmong direct_config (five_in_three 16) (replicate 4 255) 14 4 five (Free 2) → ⊥
 other_in_group_refused (j, low, is, counts) = untrue (λ i. 2 == (14 + i) % 16) 4 j refl low (eq-eqb 2 ((14 + j) % 16) is)
 
--- a group tells of a key that was found, and it does not tell that there is none
+-- a group reports a key that was found, and it does not report that there is none
 pub found_in_group : IsEndAmong direct_config (five_in_three 16) (replicate 4 0) 14 4 five (Found 3)
     × (IsEndAmong direct_config (five_in_three 16) (replicate 4 0) 14 4 five (Found 4) → ⊥)
     × (IsEndAmong direct_config (five_in_three 16) (replicate 4 0) 14 4 five Neither → ⊥)
@@ -115,7 +115,7 @@ not_beside k v h (i, low, same, is) =
     (λ t. unequal_lists (slot_value direct_config (five_in_three 16).bytes i) v t (sym is))
     (tested (is_no_pair (five_in_three 16) k v) 16 i h low)
 
--- it stands beside the key
+-- it is beside the key
 pub beside : IsBesideKey direct_config (λ b. b) (five_in_three 16) five (le_bytes 4 7)
 beside = (3, lit< tt, refl, refl)
 

@@ -1,4 +1,4 @@
--- Worked examples: slots that wait while an order of inserts is looked for, in the table with 15 in slot 15 and 31 in slot 0.
+-- Worked examples: slots that wait in the search for an insert order, in the table with 15 in slot 15 and 31 in slot 0.
 use Rattle.std.proofs.Common.{◌≡◌, ◌<◌, ℕ, refl, subst, arith, [], ◌∷◌, get_or, AllPairs, lit<, lit≤}
 use Rattle.std.proofs.lemmas.List.Sorted.{IsPermutation-refl, IsPermutation-append_comm, length_permutation}
 use Rattle.odht_base.specs.Image.{entries, controls}
@@ -46,7 +46,7 @@ pub at_start : IsPending direct_config fifteen_first [] (waiting 0 ∷ waiting 1
 unfolding opened
 at_start = record { listed = IsPermutation-refl (0 ∷ 15 ∷ []); rising = two_rise 0 15 (lit< tt); so_far = so_far_none direct_config fifteen_first }
 
--- within the first pass slot 15 is placed, where it stands in the list
+-- within the first pass slot 15 is placed, at its index in the list
 pub within_pass : IsSoFar direct_config fifteen_first (15 ∷ []) → IsPending direct_config fifteen_first [] (waiting 0 ∷ 15 ∷ [])
 unfolding opened
 within_pass taken = record { listed = IsPermutation-refl (0 ∷ 15 ∷ []); rising = two_rise 0 15 (lit< tt); so_far = taken }

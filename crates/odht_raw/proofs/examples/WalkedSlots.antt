@@ -39,7 +39,7 @@ pub items_from_slots : (items_from (λ b. b) (λ b. b) direct_config two 0 ≡ f
 unfolding opened
 items_from_slots = (refl, refl, refl, refl)
 
--- slots 6 and 9 are filled, counted from 4 on
+-- slots 6 and 9 are occupied, counted from 4 on
 pub occupied_slots : AreOccupied two 4 (2 ∷ 5 ∷ [])
 unfolding opened
 occupied_slots zero d l = (lit< tt, refl)

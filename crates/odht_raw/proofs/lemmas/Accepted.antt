@@ -1,4 +1,4 @@
--- Bytes whose header and length fit: what the header says, and that writes to the count and behind the header leave them so.
+-- Bytes whose header and length fit: what the header says; writes to the count and behind the header leave them so.
 --     IsHeader F n B       the header fits n bytes
 --     IsOpening F B        so it does, and there are enough bytes for it
 use Rattle.std.proofs.Common.{◌≡◌, ◌<◌, ◌≤◌, ◌∙◌, ◌+◌, ◌*◌, ℕ, suc, not, sym, ap, subst, refl, List, [], ◌∷◌, None, take, drop, set, cond, ltb, Bool, true, false, length, arith, length-set, get_or-take, lit<, lit≤, ltb-true, ltb-false, le-ltb, nat_lt}
@@ -34,7 +34,7 @@ pub record IsHeader (F : Format) (n : ℕ) (B : List ℕ) : Type 0 where
   pub slots : IsSlotCount (header_slots B)
   pub length_is : n ≡ image_len F (header_slots B)
 
--- nothing of the header is refused exactly where it fits
+-- the header has no error exactly where it fits
 pub IsHeader-header_refusal : (F : Format) (n : ℕ) (B : List ℕ) → header_refusal F n B ≡ None → IsHeader F n B
 unfolding header_refusal
 IsHeader-header_refusal F n B e =
@@ -58,7 +58,7 @@ IsHeader-header_refusal F n B e =
       length_is = differs-false _ _ (gives-None _ _ j.0);
     }
 
--- and the other way round
+-- and the converse
 pub header_refusal-IsHeader : (F : Format) (n : ℕ) (B : List ℕ) → IsHeader F n B → header_refusal F n B ≡ None
 unfolding header_refusal
 header_refusal-IsHeader F n B h =
@@ -77,19 +77,19 @@ pub record IsOpening (F : Format) (B : List ℕ) : Type 0 where
   pub long : 32 ≤ length B
   pub header : IsHeader F (length B) B
 
--- nothing is refused before the slots exactly where this holds
+-- the opening has no error exactly where this holds
 pub IsOpening-opening_refusal : (F : Format) (B : List ℕ) → opening_refusal F B ≡ None → IsOpening F B
 unfolding opening_refusal
 IsOpening-opening_refusal F B e =
     let a = option_or-None _ _ e in
     record { long = ltb-false (length B) 32 (gives-None _ _ a.0); header = IsHeader-header_refusal F (length B) B a.1 }
 
--- and the other way round
+-- and the converse
 pub opening_refusal-IsOpening : (F : Format) (B : List ℕ) → IsOpening F B → opening_refusal F B ≡ None
 unfolding opening_refusal
 opening_refusal-IsOpening F B h = None-option_or _ _ (None-gives _ _ (le-ltb (length B) 32 h.long)) (header_refusal-IsHeader F (length B) B h.header)
 
--- bytes with the same header but for the count, and as long, are refused alike
+-- bytes with the same header but for the count, and of the same length, have the same error
 pub opening_refusal-same : (F : Format) (B C : List ℕ) → length B ≡ length C → take 8 B ≡ take 8 C → take 16 (drop 16 B) ≡ take 16 (drop 16 C) → opening_refusal F B ≡ opening_refusal F C
 unfolding opening_refusal header_refusal
 opening_refusal-same F B C n front back =

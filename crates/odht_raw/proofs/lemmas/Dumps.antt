@@ -13,7 +13,7 @@ use Rattle.odht_base.specs.Decoded.{slot_key, slot_value, counts_as_free, header
 use Rattle.odht_raw.specs.Parts.{EntryBytes, TableParts}
 use Rattle.odht_raw.specs.Dumps.{DebugText, texts_in_turn, slot_text, slots_text, parts_of, counts_text}
 
--- three texts that are there are one text
+-- three texts joined are one text
 joined : (a b c : List ℕ) (o : Option (List ℕ)) → Some a ++? Some b ++? Some c ++? o ≡ Some (a ++ b ++ c) ++? o
 joined a b c None = refl
 joined a b c (Some d) = simp append_assoc

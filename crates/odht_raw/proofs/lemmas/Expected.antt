@@ -26,10 +26,10 @@ use Rattle.odht_raw.specs.SearchResults.{answer}
 use Rattle.odht_raw.specs.Coding.{Coding, encoded}
 use Rattle.odht_raw.specs.Expected.{IsExpected, EndsIfFree, IsAhead}
 use Rattle.odht_raw.specs.Parts.{EntryBytes}
-use Rattle.odht_raw.specs.SearchSteps.{StandsAt}
+use Rattle.odht_raw.specs.SearchSteps.{IsGroupAt}
 use Rattle.odht_raw.specs.declared.raw_table.search_result.SearchResult.TheVariants.{Found, Free, Neither}
 use Rattle.odht_raw.proofs.lemmas.GroupLooks.{index-bytes_at, taken-all, look_free}
-use Rattle.odht_raw.proofs.lemmas.GroupSearches.{stands-group}
+use Rattle.odht_raw.proofs.lemmas.GroupSearches.{IsGroupAt-group}
 use Rattle.odht_raw.proofs.lemmas.PartCells.{slots_are, byte_is}
 use Rattle.odht_raw.proofs.lemmas.ProbeSteps.{at_home}
 
@@ -43,9 +43,9 @@ pub no_match : (xs : List ℕ) (o : Option ℕ) (b : Bool) → o ≡ slice_get x
 no_match xs None b e is none = e
 no_match xs (Some x) b e is none = absurd (true≢false (sym is ∙ none))
 
--- the first place of the order
-first_place : (b s : ℕ) → IsSlotCount s → probe_slot (b % s) s 0 ≡ b % s
-first_place b s count =
+-- the first position of the order
+first_position : (b s : ℕ) → IsSlotCount s → probe_slot (b % s) s 0 ≡ b % s
+first_position b s count =
     let few = count.least in
     let same : s ≡ s - 1 + 1 = omega arith in
     ap (λ n. probe_slot (b % s) n 0) same ∙ sym (at_home 16 (b % s) (s - 1) (subst IsSlotCount same count) refl (omega arith)).slot_is
@@ -57,12 +57,12 @@ module _ (F : Format) (P : Table) (es ctrl k : List ℕ) (f : IsFormat F) (h : I
   mirrored : length ctrl ≡ length ctrl - 16 + 16
   mirrored = let few = count.least in omega arith
 
-  -- a search stands at the first bytes of the group at the home slot
-  stands_home : (n : ℕ) → n ≤ 16 → StandsAt F P stored k 0 (home F k (length ctrl - 16)) (bytes_at ctrl (home F k (length ctrl - 16)) n)
-  stands_home n l =
+  -- a search begins at the first bytes of the group at the home slot
+  group_at_home : (n : ℕ) → n ≤ 16 → IsGroupAt F P stored k 0 (home F k (length ctrl - 16)) (bytes_at ctrl (home F k (length ctrl - 16)) n)
+  group_at_home n l =
       let b : ℕ = home F k (length ctrl - 16) in
       let few = count.least in
-      let s = stands-group F P stored ctrl k f h mirrored 0 b refl (omega arith) (sym (first_place (F.hash k) (length ctrl - 16) count)) (λ q low. absurd (omega arith)) in
+      let s = IsGroupAt-group F P stored ctrl k f h mirrored 0 b refl (omega arith) (sym (first_position (F.hash k) (length ctrl - 16) count)) (λ q low. absurd (omega arith)) in
       let low : b < length ctrl - 16 = omega arith in
       let long : length (bytes_at ctrl b n) ≡ n = length-bytes_at ctrl b n (omega arith) in
       let sixteen : length (bytes_at ctrl b 16) ≡ 16 = length-bytes_at ctrl b 16 (omega arith) in
@@ -81,7 +81,7 @@ module _ (F : Format) (P : Table) (es ctrl k : List ℕ) (f : IsFormat F) (h : I
   pub home_free : (n i : ℕ) (xs : List ℕ) → n ≤ 16 → IsReport (bytes_at ctrl (home F k (length ctrl - 16)) n) (tag F k) xs → None ≡ slice_get xs 0
       → first_free (bytes_at ctrl (home F k (length ctrl - 16)) n) ≡ Some i → Free ((home F k (length ctrl - 16) + i) % (length ctrl - 16)) ≡ answer F P.cells k
   home_free n i xs l report none e =
-      (look_free F P stored k 0 (home F k (length ctrl - 16)) _ f (stands_home n l) xs report
+      (look_free F P stored k 0 (home F k (length ctrl - 16)) _ f (group_at_home n l) xs report
       (λ j c same. taken-all xs xs (λ x. ⊥) (record { part = λ x m. m; others = λ x m. inl m }) none j c) i e).0
 
   -- the slot count is no slot
@@ -96,7 +96,7 @@ module _ (F : Format) (P : Table) (es ctrl k : List ℕ) (f : IsFormat F) (h : I
       ends low (sym (byte_is F f P es ctrl h i low) ∙ free)
 
 -- ---- after other keys
--- the pairs of P stand in Q with their keys, whatever their values
+-- the pairs of P are in the same slots of Q by their keys, whatever their values
 abbrev pub IsKeptIn : Table → Table → Type 0
 IsKeptIn P Q = (i : ℕ) (p : Pair) → HoldsPair P i p → (q : Pair) × HoldsPair Q i q × (q.key ≡ p.key)
 
@@ -145,7 +145,7 @@ module _ (F : Format) (P Q : Table) (k : List ℕ) (same : slot_count Q ≡ slot
   ends_still i e free =
       let first = find-order_some (stops_at P.cells k) (home F k (slot_count P)) (slot_count P) i e in
       let at = λ (m : ℕ). ap (λ s. probe_slot (home F k s) s m) same in
-      let here = at first.position ∙ first.stands in
+      let here = at first.position ∙ first.slot_is in
       search_end-at F Q.cells k first.position (omega (arith, first.within, same))
       (λ m l. ap (stops_at Q.cells k) (at m) ∙ passed_still _ (first.before m l))
       (ap (stops_at Q.cells k) here ∙ ap (λ b. b || has_key k (cell_at Q.cells i)) free)

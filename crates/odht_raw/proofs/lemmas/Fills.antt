@@ -4,7 +4,7 @@ use Rattle.std.proofs.lemmas.List.{length-replicate, take-replicate, replicate-a
 use Rattle.odht_base.specs.Bytes.{overwritten_at}
 use Rattle.odht_base.proofs.lemmas.ByteRanges.{length-overwritten_at, overwritten_at-twice}
 
--- the first of so many are as many as are taken
+-- the first `size` of `room` equal bytes are `size` bytes
 pub length-chunk : (size room b : ℕ) → size ≤ room → length (take size (replicate room b)) ≡ size
 length-chunk size room b low = ap length (take-replicate size room b low) ∙ length-replicate size b
 
@@ -13,7 +13,7 @@ pub chunk-fits : (size room b at n : ℕ) → size ≤ room → at + size ≤ n 
 chunk-fits size room b at n low fits = omega (arith, length-chunk size room b low, fits)
 
 module _ (B : List ℕ) (from at b : ℕ) (order : from ≤ at) where
-  -- as long as before
+  -- the length stays
   pub length-fill : at ≤ length B → length (overwritten_at B from (replicate (at - from) b)) ≡ length B
   length-fill fits =
       let long = length-replicate (at - from) b in

@@ -14,7 +14,7 @@ pub option_or-None : {X : Type 0} (o p : Option X) → option_or o p ≡ None �
 option_or-None None p e = (refl, e)
 option_or-None (Some x) p e = cc
 
--- and the other way round
+-- and the converse
 pub None-option_or : {X : Type 0} (o p : Option X) → o ≡ None → p ≡ None → option_or o p ≡ None
 None-option_or None p e f = f
 None-option_or (Some x) p e f = e
@@ -24,25 +24,25 @@ pub option_or-first : {X : Type 0} (o p : Option X) (x : X) → o ≡ Some x →
 option_or-first None p x e = cc
 option_or-first (Some y) p x e = e
 
--- and the second counts where the first is none
+-- and the second follows where the first is none
 pub option_or-second : {X : Type 0} (o p : Option X) → o ≡ None → option_or o p ≡ p
 option_or-second None p e = refl
 option_or-second (Some y) p e = cc
 
--- two joined to one count as they stand
+-- two joined to one give the same
 pub two-first : {X : Type 0} (o p r : Option X) (x : X) → option_or o p ≡ Some x → option_or o (option_or p r) ≡ Some x
 two-first None None r x e = cc
 two-first None (Some y) r x e = e
 two-first (Some y) p r x e = e
 
--- and the last stands alone
+-- and none behind the last changes nothing
 pub last-first : {X : Type 0} (o : Option X) → option_or o None ≡ o
 last-first None = refl
 last-first (Some x) = refl
 
 -- ---- one check
 
--- a check that passes refuses nothing
+-- a check that passes has no error
 pub Ok-checked : (o : Option Error) → Ok tt ≡ checked o → o ≡ None
 Ok-checked None e = refl
 Ok-checked (Some x) e = cc
@@ -52,12 +52,12 @@ pub Err-checked : (o : Option Error) (x : Error) → Err x ≡ checked o → o �
 Err-checked None x e = cc
 Err-checked (Some y) x e = cc
 
--- it passes exactly where nothing is refused
+-- it passes exactly where there is no error
 pub IsOk-checked : (o : Option Error) → IsOk (checked o) → o ≡ None
 IsOk-checked None h = refl
 IsOk-checked (Some x) h = cc
 
--- and the other way round
+-- and the converse
 pub checked-IsOk : (o : Option Error) → o ≡ None → IsOk (checked o)
 checked-IsOk None e = refl
 checked-IsOk (Some x) e = cc
@@ -69,7 +69,7 @@ pub gives-None : (c : Bool) (e : Error) → (c gives e) ≡ None → c ≡ false
 gives-None false e h = refl
 gives-None true e h = cc
 
--- and the other way round
+-- and the converse
 pub None-gives : (c : Bool) (e : Error) → c ≡ false → (c gives e) ≡ None
 None-gives false e h = refl
 None-gives true e h = cc
@@ -89,7 +89,7 @@ pub gives_both-None : (c d : Bool) (e : Error) → (c && d gives e) ≡ None →
 gives_both-None true d e h t = gives-None d e h
 gives_both-None false d e h t = cc
 
--- and the other way round
+-- and the converse
 pub None-gives_both : (c d : Bool) (e : Error) → (c ≡ true → d ≡ false) → (c && d gives e) ≡ None
 None-gives_both true d e h = None-gives d e (h refl)
 None-gives_both false d e h = refl
@@ -98,7 +98,7 @@ None-gives_both false d e h = refl
 pub differs-false : (m n : ℕ) → differs m n ≡ false → m ≡ n
 differs-false m n h = eqb-true m n (not-false (m == n) h)
 
--- and the other way round
+-- and the converse
 pub false-differs : (m n : ℕ) → m ≡ n → differs m n ≡ false
 false-differs m n h = ap not (eq-eqb m n h)
 
@@ -106,7 +106,7 @@ false-differs m n h = ap not (eq-eqb m n h)
 pub lists_differ-false : (xs ys : List ℕ) → lists_differ xs ys ≡ false → xs ≡ ys
 lists_differ-false xs ys h = (bytes_eq-Decides xs ys).0 (not-false _ h)
 
--- and the other way round
+-- and the converse
 pub false-lists_differ : (xs ys : List ℕ) → xs ≡ ys → lists_differ xs ys ≡ false
 false-lists_differ xs ys h = ap not ((bytes_eq-Decides xs ys).1 h)
 

@@ -1,4 +1,4 @@
--- The first look of a search: what it tells of where the search ends.
+-- The first look of a search: what its answer says about where the search ends.
 use Rattle.std.proofs.Common.{◌≡◌, ◌∙◌, ◌+◌, ◌*◌, ◌%◌, ◌<◌, ℕ, sym, ap, arith, refl, List, length, Option, Some, None, Contains, true, true≢false}
 use Rattle.std.specs.Prelude.{is_some}
 use Rattle.std.proofs.Math.Nat.{mod-lt, mod-eq_of_lt}
@@ -16,10 +16,10 @@ use Rattle.odht_base.proofs.lemmas.Orders.{probe_slot-group}
 use Rattle.odht_raw.specs.SearchResults.{answer}
 use Rattle.odht_raw.specs.FirstLooks.{home_group}
 use Rattle.odht_raw.specs.Parts.{TableParts}
-use Rattle.odht_raw.specs.SearchSteps.{StandsAt}
+use Rattle.odht_raw.specs.SearchSteps.{IsGroupAt}
 use Rattle.odht_raw.specs.declared.raw_table.search_result.SearchResult.TheVariants.{Found}
 use Rattle.odht_raw.proofs.lemmas.GroupLooks.{look_found, look_free}
-use Rattle.odht_raw.proofs.lemmas.GroupSearches.{stands-group}
+use Rattle.odht_raw.proofs.lemmas.GroupSearches.{IsGroupAt-group}
 use Rattle.odht_raw.proofs.lemmas.Lookups.{answer-Free}
 
 module _ (F : Format) (T : TableParts) (k : List ℕ) (slots : IsSlotCount T.entries.slots) (mirrored : length T.control ≡ T.entries.slots + 16) (small : tag F k < 128) where
@@ -40,22 +40,22 @@ module _ (F : Format) (T : TableParts) (k : List ℕ) (slots : IsSlotCount T.ent
   abbrev pub matches : List ℕ
   matches = equal (home_group F T k) (tag F k)
 
-  -- a match stands in the group
+  -- a match is in the group
   pub match-lt : (i : ℕ) → Contains matches i → i < 16
   match-lt i c = omega (arith, (report.occupied i c).0, length-home_group)
 
   module _ (P : Table) (f : IsFormat F) (h : IsPartsOf F P T.entries.bytes T.control) where
     -- the search begins at the group
-    stands-home : StandsAt F P T.entries k 0 home_slot (home_group F T k)
-    stands-home =
+    IsGroupAt-home : IsGroupAt F P T.entries k 0 home_slot (home_group F T k)
+    IsGroupAt-home =
         let n = slots.least in
         let sum : home_slot + 8 * 0 * (0 + 1) + 0 ≡ home_slot = omega arith in
         let first : probe_slot home_slot T.entries.slots 0 ≡ home_slot = probe_slot-group home_slot T.entries.slots 0 0 (omega arith) ∙ ap (λ x. x % T.entries.slots) sum ∙ mod-eq_of_lt {n = home_slot} {m = T.entries.slots} home-lt in
-        stands-group F P T.entries T.control k f h mirrored 0 home_slot (omega arith) (omega arith) (sym first) (λ q l. absurd (omega arith))
+        IsGroupAt-group F P T.entries T.control k f h mirrored 0 home_slot (omega arith) (omega arith) (sym first) (λ q l. absurd (omega arith))
 
     -- a match whose entry has the key ends it
     pub first_look-found : (i : ℕ) → Contains matches i → slot_key F T.entries.bytes ((home_slot + i) % T.entries.slots) ≡ k → Found ((home_slot + i) % T.entries.slots) ≡ answer F P.cells k
-    first_look-found i c same = (look_found F P T.entries k 0 home_slot (home_group F T k) f stands-home _ report i c same).0
+    first_look-found i c same = (look_found F P T.entries k 0 home_slot (home_group F T k) f IsGroupAt-home _ report i c same).0
 
     -- and a free byte where no match has it: then the key is absent
     pub first_look-absent : ((i : ℕ) → Contains matches i → slot_key F T.entries.bytes ((home_slot + i) % T.entries.slots) ≡ k → ⊥) → is_some (first_free (home_group F T k)) ≡ true → map_of P k ≡ None
@@ -63,4 +63,4 @@ module _ (F : Format) (T : TableParts) (k : List ℕ) (slots : IsSlotCount T.ent
       where
         go : (o : Option ℕ) → first_free (home_group F T k) ≡ o → is_some o ≡ true → map_of P k ≡ None
         go None e some = absurd (true≢false (sym some))
-        go (Some i) e some = (answer-Free F P k h.placed _ (look_free F P T.entries k 0 home_slot (home_group F T k) f stands-home _ report others i e).0).value
+        go (Some i) e some = (answer-Free F P k h.placed _ (look_free F P T.entries k 0 home_slot (home_group F T k) f IsGroupAt-home _ report others i e).0).value

@@ -1,4 +1,4 @@
--- A search for the first free slot: what a group tells, and what its end tells of a placed table without the key.
+-- A search for the first free slot: what a group reports, and where it ends in a placed table without the key.
 use Rattle.std.proofs.Common.{false, true, ◌≡◌, ℕ, ◌+◌, ◌-◌, ◌*◌, ◌%◌, ◌<◌, ◌≤◌, inl, inr, sym, ap, ◌∙◌, subst, refl, arith, List, length, slice_index, IsTrue, Some, None}
 use Rattle.std.proofs.lemmas.Bool.{cases_lt, or_from, or_left}
 use Rattle.std.proofs.lemmas.List.Quantifiers.{position-Some}
@@ -66,7 +66,7 @@ first_in_group ctrl bs hash s start p i len few aligned within is read before by
     record {
       position = p + i;
       in_order = omega arith;
-      stands = sym (step i here);
+      slot_is = sym (step i here);
       free = group-free ctrl s start i len few low here (subst (λ x. IsTrue (counts_as_free (slice_index x i))) read byte.free);
       earlier_occupied = λ q l. elim (cases_lt q p) [
         | inl there ↦ before q there
@@ -88,14 +88,14 @@ first_at_home ctrl hash s count free =
     record {
       position = 0;
       in_order = omega arith;
-      stands = ap (λ n. probe_slot (hash % s) n 0) same ∙ home;
+      slot_is = ap (λ n. probe_slot (hash % s) n 0) same ∙ home;
       free = free;
       earlier_occupied = λ q l. absurd (omega (arith, l));
     }
 
 -- ---- the parts of a placed table
 module _ (F : Format) (P : Table) (k es ctrl : List ℕ) (f : IsFormat F) (h : IsPartsOf F P es ctrl) (s : ℕ) (len : length ctrl ≡ s + 16) where
-  -- the mirror of a slot tells of it what its own byte tells
+  -- the mirror of a slot counts as free where its own byte does
   mirror_is : (i : ℕ) → i < 16 → counts_as_free (slice_index ctrl (length ctrl - 16 + i)) ≡ is_free P.cells i
   mirror_is i l =
       let few = h.placed.slots.least in
@@ -110,7 +110,7 @@ module _ (F : Format) (P : Table) (k es ctrl : List ℕ) (f : IsFormat F) (h : I
   is_free_slot i l (inl own) = sym (byte_is F f P es ctrl h i l) ∙ own
   is_free_slot i l (inr mirror) = sym (mirror_is i mirror.0) ∙ mirror.1
 
-  -- and one that counts as occupied is filled
+  -- and one that counts as occupied is occupied
   pub is_occupied_slot : (i : ℕ) → i < slot_count P → CountsAsOccupied ctrl i → is_free P.cells i ≡ false
   is_occupied_slot i l (inl own) = sym (byte_is F f P es ctrl h i l) ∙ own
   is_occupied_slot i l (inr mirror) = sym (mirror_is i mirror.0) ∙ mirror.1
@@ -131,11 +131,11 @@ module _ (F : Format) (P : Table) (k es ctrl : List ℕ) (f : IsFormat F) (h : I
     first_free-answer i first =
         let count = slots_are F f P es ctrl h s len in
         let few = h.placed.slots.least in
-        let stands : slot_of F P k first.position ≡ i = ap (λ n. probe_slot (F.hash k % n) n first.position) (sym count) ∙ first.stands in
-        let low : i < slot_count P = omega (arith, stands, probe_slot-lt (home F k (slot_count P)) (slot_count P) first.position (omega arith)) in
+        let slot_is : slot_of F P k first.position ≡ i = ap (λ n. probe_slot (F.hash k % n) n first.position) (sym count) ∙ first.slot_is in
+        let low : i < slot_count P = omega (arith, slot_is, probe_slot-lt (home F k (slot_count P)) (slot_count P) first.position (omega arith)) in
         let free = is_free_slot i low first.free in
-        let stops : stops_at P.cells k (slot_of F P k first.position) ≡ true = ap (stops_at P.cells k) stands ∙ or_left _ _ free in
-        let e = search_end-at F P.cells k first.position (omega (arith, first.in_order)) (passed_occupied first.position (omega (arith, first.in_order)) first.earlier_occupied) stops ∙ ap Some stands in
+        let stops : stops_at P.cells k (slot_of F P k first.position) ≡ true = ap (stops_at P.cells k) slot_is ∙ or_left _ _ free in
+        let e = search_end-at F P.cells k first.position (omega (arith, first.in_order)) (passed_occupied first.position (omega (arith, first.in_order)) first.earlier_occupied) stops ∙ ap Some slot_is in
         rw (e, free) refl
 
     -- and nowhere where each slot counts as occupied

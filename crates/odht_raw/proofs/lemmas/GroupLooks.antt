@@ -1,4 +1,4 @@
--- A look at some places of the probe order: the matches that are taken in turn, then the first free slot.
+-- A look at some positions of the probe order: the matches that are taken in turn, then the first free slot.
 use Rattle.std.proofs.Common.{◌≡◌, ◌⊎◌, ℕ, suc, ◌+◌, ◌-◌, ◌*◌, ◌/◌, ◌%◌, ◌<◌, ◌≤◌, inl, inr, sym, ap, ◌∙◌, subst, refl, arith, true, false, true≢false, List, [], ◌∷◌, length, drop, slice_get, slice_index, Contains, Option, Some, None, leb-true, lt-ltb, get_or, get_or-take, get_or-drop, position, Bool, add-mul, mul-le-mul_right}
 use Rattle.std.proofs.Math.Nat.{div-mul-le_self, div-mul_cancel}
 use Rattle.std.proofs.lemmas.Nat.Gcd.{dvd_of_mod-eq-zero}
@@ -27,12 +27,12 @@ use Rattle.odht_base.proofs.lemmas.Parts.{counts_as_free-control_byte}
 use Rattle.odht_raw.specs.SearchResults.{answer}
 use Rattle.odht_raw.specs.Frame.{HasNoFree}
 use Rattle.odht_raw.specs.Parts.{EntryBytes}
-use Rattle.odht_raw.specs.SearchSteps.{slot_of, Passed, StandsAt, EndsWithin, IsLook}
+use Rattle.odht_raw.specs.SearchSteps.{slot_of, Passed, IsGroupAt, EndsWithin, IsLook}
 use Rattle.odht_raw.specs.declared.raw_table.search_result.SearchResult.{SearchResult}
 use Rattle.odht_raw.specs.declared.raw_table.search_result.SearchResult.TheVariants.{Found, Free}
 use Rattle.odht_raw.proofs.lemmas.PartCells.{byte_is as control_is, key_is, cell_occupied}
 
--- byte i of some bytes at a place
+-- byte i of some bytes at an offset
 pub index-bytes_at : (bs : List ℕ) (at n i : ℕ) → i < n → slice_index (bytes_at bs at n) i ≡ slice_index bs (at + i)
 index-bytes_at bs at n i l = get_or-take (at + n - at) (drop at bs) i 0 (omega arith) ∙ get_or-drop at bs i 0
 
@@ -61,12 +61,12 @@ taken-next all (y ∷ left) rest T x t e d h = record {
   ];
 }
 
--- at the end of each
+-- where none is left, T holds of each
 pub taken-all : (all left : List ℕ) (T : ℕ → Type 0) → IsTaken all left T → None ≡ slice_get left 0 → (i : ℕ) → Contains all i → T i
 taken-all all [] T t e i c = elim (t.others i c) [ inl more ↦ absurd (omega (arith, more.1)) | inr gone ↦ gone ]
 taken-all all (y ∷ left) T t e i c = absurd (none-some y e)
 
--- where no place is first, each fails
+-- where no item is the first that passes, each fails
 pub position-None : (t : ℕ → Bool) (xs : List ℕ) (d : ℕ) → position t xs ≡ None → (i : ℕ) → i < length xs → t (get_or xs i d) ≡ false
 position-None t xs d e i l = elim (cases_lt (position_or_len t xs) (length xs)) [
   | inl within ↦ absurd (none-some (position_or_len t xs) (sym e ∙ (rw (lt-ltb (position_or_len t xs) (length xs) within) refl)))
@@ -86,17 +86,17 @@ no_free-more bs n size before here i l = elim (cases_lt i (n * size)) [
 
 -- ---- where a search in a placed table ends
 module _ (F : Format) (P : Table) (k : List ℕ) (slots : IsSlotCount (slot_count P)) where
-  -- a search that ends at the slot of a place reaches this place
+  -- a search that ends at the slot of a position reaches this position
   pub reach-at : (n : ℕ) → n < slot_count P → search_end F P.cells k ≡ Some (slot_of F P k n) → reach F P.cells k ≡ Some n
   unfolding search_end reach
   reach-at n l e =
       let b = home F k (slot_count P) in
       let f = find-order_some (stops_at P.cells k) b (slot_count P) (slot_of F P k n) e in
-      let same : f.position ≡ n = probe_slot-apart b (slot_count P) f.position n slots f.within l f.stands in
-      position-order (stops_at P.cells k) b (slot_count P) f.position f.within (ap (stops_at P.cells k) f.stands ∙ f.passes) f.before ∙ ap Some same
+      let same : f.position ≡ n = probe_slot-apart b (slot_count P) f.position n slots f.within l f.slot_is in
+      position-order (stops_at P.cells k) b (slot_count P) f.position f.within (ap (stops_at P.cells k) f.slot_is ∙ f.passes) f.before ∙ ap Some same
 
--- ---- a look at the places from p on
-module _ (F : Format) (P : Table) (E : EntryBytes) (k : List ℕ) (p start : ℕ) (bs : List ℕ) (f : IsFormat F) (at : StandsAt F P E k p start bs) where
+-- ---- a look at the positions from p on
+module _ (F : Format) (P : Table) (E : EntryBytes) (k : List ℕ) (p start : ℕ) (bs : List ℕ) (f : IsFormat F) (at : IsGroupAt F P E k p start bs) where
   whole : IsPartsOf F P E.bytes (controls F P.cells)
   whole = record { placed = at.placed; entries_are = at.entries_are; controls_are = refl }
 
@@ -110,7 +110,7 @@ module _ (F : Format) (P : Table) (E : EntryBytes) (k : List ℕ) (p start : ℕ
   byte_is : (i : ℕ) → i < length bs → counts_as_free (slice_index bs i) ≡ is_free P.cells (slot i)
   byte_is i l = ap counts_as_free (at.bytes_are i l) ∙ counts_as_free-control_byte F P.cells (slot i) f at.placed.pairs
 
-  -- a slot ends the search where its place is the reach
+  -- a slot ends the search where its position is the reach
   ends : (i : ℕ) → i < length bs → search_end F P.cells k ≡ Some (slot i) → EndsWithin F P k p (length bs)
   ends i l e = (p + i, omega arith, omega arith, reach-at F P k at.placed.slots (p + i) (let w = at.within in omega arith) e)
 
@@ -143,7 +143,7 @@ module _ (F : Format) (P : Table) (E : EntryBytes) (k : List ℕ) (p start : ℕ
       no_key : (i : ℕ) → i < length bs → has_key k (cell_at P.cells (slot i)) ≡ false
       no_key i l = false_from_ne_true _ (λ h. others i (matched i l h) (entry_key i l h))
 
-      -- so the places up to a free one are passed
+      -- so the positions up to a free one are passed
       passed_to : (n : ℕ) → n ≤ length bs → ((i : ℕ) → i < n → counts_as_free (slice_index bs i) ≡ false) → Passed F P k (p + n)
       passed_to n l occupied q lq = elim (cases_lt q p) [
         | inl before ↦ at.passed q before
@@ -180,10 +180,10 @@ piece-fits g n l =
 pub pieces-all : (g n : ℕ) → 16 % g ≡ 0 → n ≡ 16 / g → n * g ≡ 16
 pieces-all g n e l = ap (λ m. m * g) l ∙ div-mul_cancel g (dvd_of_mod-eq-zero g e)
 
--- the search stands at a piece once it passed those before
-pub stands-piece : (F : Format) (P : Table) (E : EntryBytes) (k : List ℕ) (p start : ℕ) (bs : List ℕ) (at n : ℕ) → at + n ≤ length bs → StandsAt F P E k p start bs → Passed F P k (p + at)
-    → StandsAt F P E k (p + at) (start + at) (bytes_at bs at n)
-stands-piece F P E k p start bs at n l s passed =
+-- the search is at a piece once it passed those before
+pub IsGroupAt-piece : (F : Format) (P : Table) (E : EntryBytes) (k : List ℕ) (p start : ℕ) (bs : List ℕ) (at n : ℕ) → at + n ≤ length bs → IsGroupAt F P E k p start bs → Passed F P k (p + at)
+    → IsGroupAt F P E k (p + at) (start + at) (bytes_at bs at n)
+IsGroupAt-piece F P E k p start bs at n l s passed =
     let len = length-bytes_at bs at n l in
     let w = s.within in
     record {
@@ -201,12 +201,12 @@ stands-piece F P E k p start bs at n l s passed =
           index-bytes_at bs at n i (omega arith) ∙ s.bytes_are (at + i) (omega arith) ∙ ap (λ q. control_byte F (cell_at P.cells (slot_of F P k q))) there;
     }
 
--- what a piece tells of the group
+-- an answer of a piece is one of the group
 pub look-piece : (F : Format) (P : Table) (k : List ℕ) (p at n : ℕ) (r : Option SearchResult) → at + n ≤ 16 → is_some r ≡ true → IsLook F P k (p + at) n r → IsLook F P k p 16 r
 look-piece F P k p at n None l some look = absurd (true≢false (sym some))
 look-piece F P k p at n (Some a) l some look = (look.0, (look.1.0, omega (arith, look.1.1), omega (arith, look.1.2), look.1.3))
 
--- where it tells nothing, its places are passed
+-- without an answer its positions are passed
 pub look-none : (F : Format) (P : Table) (k : List ℕ) (p n : ℕ) (r : Option SearchResult) → is_some r ≡ false → IsLook F P k p n r → Passed F P k (p + n)
 look-none F P k p n None none look = look
 look-none F P k p n (Some a) none look = absurd (true≢false none)

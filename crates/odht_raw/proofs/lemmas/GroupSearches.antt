@@ -1,4 +1,4 @@
--- A search by groups on parts: where it stands at a group, and what it tells at its end.
+-- A search by groups on parts: where it is at each group, and what follows at its end.
 use Rattle.std.proofs.Common.{false, ◌≡◌, ℕ, ◌+◌, ◌-◌, ◌/◌, ◌%◌, ◌<◌, ◌≤◌, inl, inr, sym, ap, ◌∙◌, subst, arith, List, length, slice_index, IsTrue}
 use Rattle.std.proofs.Math.Nat.{mod-eq_of_lt, add-mod_right}
 use Rattle.std.proofs.lemmas.Bool.{cases_lt}
@@ -17,7 +17,7 @@ use Rattle.odht_base.proofs.lemmas.Parts.{slice_index-controls, slice_index-mirr
 use Rattle.odht_raw.specs.SearchResults.{MatchSearchResult}
 use Rattle.odht_raw.specs.Frame.{CountsAsFree, CountsAsOccupied, HasNoFree, HasNoFreeSlot}
 use Rattle.odht_raw.specs.Parts.{EntryBytes}
-use Rattle.odht_raw.specs.SearchSteps.{slot_of, Passed, StandsAt, EndsWithin}
+use Rattle.odht_raw.specs.SearchSteps.{slot_of, Passed, IsGroupAt, EndsWithin}
 use Rattle.odht_raw.specs.declared.raw_table.search_result.SearchResult.{SearchResult}
 use Rattle.odht_raw.specs.declared.raw_table.search_result.SearchResult.TheVariants.{Found, Free, Neither}
 use Rattle.odht_raw.proofs.lemmas.GroupLooks.{index-bytes_at}
@@ -68,7 +68,7 @@ group-occupied ctrl s b i len few l h occupied =
           inr (rw is (omega arith, subst (λ c. counts_as_free c ≡ false) (byte ∙ ap (slice_index ctrl) behind) occupied))
     ]
 
--- the slots of the places before p of the order from b on count as occupied
+-- the slots of the positions before p of the order from b on count as occupied
 abbrev pub OccupiedBefore : List ℕ → ℕ → ℕ → ℕ → Type 0
 OccupiedBefore ctrl b s p = (q : ℕ) → q < p → CountsAsOccupied ctrl (probe_slot b s q)
 
@@ -81,8 +81,8 @@ occupied-more ctrl bs b s start p len few aligned is read none before q l = elim
       let i : ℕ = q - p in
       let at : p + i ≡ q = omega arith in
       let low : start < s = omega (arith, is, probe_slot-lt b s p (omega arith)) in
-      let stands : (start + i) % s ≡ probe_slot b s q = ap (λ x. (x + i) % s) is ∙ probe_slot-step b s p i (omega arith) ∙ ap (probe_slot b s) at in
-      subst (CountsAsOccupied ctrl) stands (group-occupied ctrl s start i len few low (omega arith) (subst (λ x. counts_as_free (slice_index x i) ≡ false) read (none i (omega arith))))
+      let slot_is : (start + i) % s ≡ probe_slot b s q = ap (λ x. (x + i) % s) is ∙ probe_slot-step b s p i (omega arith) ∙ ap (probe_slot b s) at in
+      subst (CountsAsOccupied ctrl) slot_is (group-occupied ctrl s start i len few low (omega arith) (subst (λ x. counts_as_free (slice_index x i) ≡ false) read (none i (omega arith))))
 ]
 
 -- so does each slot after the last group
@@ -91,9 +91,9 @@ occupied-all ctrl b s count before i l = let q = probe_slot-onto b s i count l i
 
 -- ---- a placed table
 module _ (F : Format) (P : Table) (E : EntryBytes) (ctrl k : List ℕ) (f : IsFormat F) (h : IsPartsOf F P E.bytes ctrl) (len : length ctrl ≡ E.slots + 16) where
-  -- a search that passed the places before the first place p of a group stands there
-  pub stands-group : (p start : ℕ) → p % 16 ≡ 0 → p + 16 ≤ E.slots → start ≡ probe_slot (home F k E.slots) E.slots p → Passed F P k p → StandsAt F P E k p start (bytes_at ctrl start 16)
-  stands-group p start aligned l is passed =
+  -- a search that passed the positions before the first position p of a group is there
+  pub IsGroupAt-group : (p start : ℕ) → p % 16 ≡ 0 → p + 16 ≤ E.slots → start ≡ probe_slot (home F k E.slots) E.slots p → Passed F P k p → IsGroupAt F P E k p start (bytes_at ctrl start 16)
+  IsGroupAt-group p start aligned l is passed =
       let count : E.slots ≡ slot_count P = slots_are F f P E.bytes ctrl h E.slots len in
       let few = h.placed.slots.least in
       let low : start < E.slots = omega (arith, is, probe_slot-lt (home F k E.slots) E.slots p (omega arith)) in
@@ -117,14 +117,14 @@ module _ (F : Format) (P : Table) (E : EntryBytes) (ctrl k : List ℕ) (f : IsFo
       }
 
   -- the same from what is known of the probe and the scan
-  pub stands-probe : (start hash b m p : ℕ) (bs ctrl' : List ℕ) → p % 16 ≡ 0 → p + 16 ≤ E.slots → start ≡ probe_slot b (m + 1) p → b ≡ hash % E.slots → m + 1 ≡ E.slots → hash ≡ F.hash k
-      → bs ≡ bytes_at ctrl' start 16 → ctrl' ≡ ctrl → Passed F P k p → StandsAt F P E k p start bs
-  stands-probe start hash b m p bs ctrl' aligned l es eb em eh ebs ec passed =
+  pub IsGroupAt-probe : (start hash b m p : ℕ) (bs ctrl' : List ℕ) → p % 16 ≡ 0 → p + 16 ≤ E.slots → start ≡ probe_slot b (m + 1) p → b ≡ hash % E.slots → m + 1 ≡ E.slots → hash ≡ F.hash k
+      → bs ≡ bytes_at ctrl' start 16 → ctrl' ≡ ctrl → Passed F P k p → IsGroupAt F P E k p start bs
+  IsGroupAt-probe start hash b m p bs ctrl' aligned l es eb em eh ebs ec passed =
       let first : b ≡ home F k E.slots = eb ∙ ap (λ x. x % E.slots) eh in
       let is : start ≡ probe_slot (home F k E.slots) E.slots p = es ∙ ap (λ x. probe_slot x (m + 1) p) first ∙ ap (λ n. probe_slot (home F k E.slots) n p) em in
-      subst (StandsAt F P E k p start) (sym (ebs ∙ ap (λ c. bytes_at c start 16) ec)) (stands-group p start aligned l is passed)
+      subst (IsGroupAt F P E k p start) (sym (ebs ∙ ap (λ c. bytes_at c start 16) ec)) (IsGroupAt-group p start aligned l is passed)
 
-  -- one that ends in the group of place p reads the groups up to it
+  -- one that ends in the group of position p reads the groups up to it
   pub reads-to : (p : ℕ) → p % 16 ≡ 0 → EndsWithin F P k p 16 → groups_read F P.cells k ≡ p / 16 + 1
   reads-to p aligned e = let same : e.0 / 16 + 1 ≡ p / 16 + 1 = omega (arith, e.1, e.2) in rw e.3 same
 
@@ -135,7 +135,7 @@ module _ (F : Format) (P : Table) (E : EntryBytes) (ctrl k : List ℕ) (f : IsFo
       let count : E.slots ≡ slot_count P = slots_are F f P E.bytes ctrl h E.slots len in
       rw (position-order_none _ (home F k (slot_count P)) (slot_count P) (subst (Passed F P k) count passed)) (ap (λ n. n / 16) (sym count))
 
--- what a group tells of any parts
+-- a free byte of a group is that of a slot that counts as free, on any parts
 pub ends-free : (ctrl : List ℕ) (s start : ℕ) (A : ℕ → Type 0) (N : Type 0) (r : SearchResult) → length ctrl ≡ s + 16 → 16 ≤ s → start < s
     → MatchSearchResult r A (λ i. (j : ℕ) × (j < 16) × (i ≡ (start + j) % s) × IsTrue (counts_as_free (slice_index (bytes_at ctrl start 16) j))) ⊥
     → MatchSearchResult r A (λ i. (i < s) × CountsAsFree ctrl i) N

@@ -1,4 +1,4 @@
--- The bytes of a valid table are never refused by a view.
+-- The bytes of a valid table are never rejected by a view.
 use Rattle.std.proofs.Common.{◌≡◌, ◌<◌, ◌∙◌, ◌-◌, min, ℕ, sym, ap, refl, List, Option, Some, None, Result, Ok, Err, IsOk, is_none, length, slice_index, arith}
 use Rattle.std.specs.Result.{result_err}
 use Rattle.odht_base.specs.Format.{Format, IsFormat, tag}
@@ -16,13 +16,13 @@ use Rattle.odht_raw.proofs.lemmas.FirstErrors.{None-gives, false-differs}
 use Rattle.odht_raw.proofs.lemmas.Openings.{view_refusal-slots}
 use Rattle.odht_raw.proofs.lemmas.SlotChecks.{zero_entry_passes, occupied_refusal, hashes_refusal-None}
 
--- what is refused nothing is accepted
+-- a result without an error is Ok
 IsOk-none : {T : Type 0} (r : Result T Error) → result_err r ≡ None → IsOk r
 IsOk-none (Ok t) e = refl
 IsOk-none (Err x) e = cc
 
 module _ (F : Format) (f : IsFormat F) (P : Table) (h : IsPlaced F P) where
-  -- no slot of a placed table is refused
+  -- no slot of a placed table is rejected
   slot_passes : (i : ℕ) → i < slot_count P → hashes_refusal_at F (entries F P.cells) (controls F P.cells) i ≡ None
   slot_passes i low = go (cell_at P.cells i) refl
     where
@@ -41,7 +41,7 @@ module _ (F : Format) (f : IsFormat F) (P : Table) (h : IsPlaced F P) where
           let same : slice_index (controls F P.cells) i ≡ tag F (slot_key F (entries F P.cells) i) = byte ∙ ap (control_byte F) e ∙ ap (tag F) (sym (slot_key-entries F P.cells i p lengths e)) in
           occupied_refusal F (entries F P.cells) (controls F P.cells) i (counted ∙ ap is_none e) ∙ None-gives _ _ (false-differs _ _ same)
 
-  -- so nothing of its image is
+  -- so a view rejects nothing of its image
   pub view_refusal-image : view_refusal F (image F P) ≡ None
   view_refusal-image =
       let sized = IsSized-IsPlaced F P h in
@@ -50,6 +50,6 @@ module _ (F : Format) (f : IsFormat F) (P : Table) (h : IsPlaced F P) where
       ∙ (λ i. hashes_refusal F (entries_of-image F P sized i) (controls_of-image F P sized i) 10)
       ∙ hashes_refusal-None F (entries F P.cells) (controls F P.cells) 10 (min 10 (slot_count P)) (ap (min 10) slots) (λ i l. slot_passes i (omega (arith, l)))
 
--- an answer that is refused what a view is refused for accepts each image
+-- a result whose error is that of a view accepts each image
 pub image_is_accepted : {T : Type 0} (F : Format) (f : IsFormat F) (P : Table) (B : List ℕ) → IsImage F P B → (r : Result T Error) → result_err r ≡ view_refusal F B → IsOk r
 image_is_accepted F f P B is r e = IsOk-none r (e ∙ ap (view_refusal F) is.bytes ∙ view_refusal-image F f P is.valid.placed)

@@ -29,7 +29,7 @@ use Rattle.odht_raw.proofs.lemmas.Accepted.{opening_refusal-same}
 abbrev pub joined : List ℕ → ℕ → List ℕ → List ℕ → List ℕ
 joined H n es ctrl = with_count H n ++ (es ++ ctrl)
 
--- ---- what the header states
+-- ---- what the header says
 module _ (H : List ℕ) (n : ℕ) (es ctrl : List ℕ) (h : length H ≡ 32) where
   -- its length stays
   pub length-with_count : length (with_count H n) ≡ 32
@@ -123,7 +123,7 @@ pub count_after-add : (m n : ℕ) (o : Option (List ℕ)) → count_after (m + n
 count_after-add m n None = omega arith
 count_after-add m n (Some v) = refl
 
--- what a run on the parts tells of the joined bytes
+-- what a run on the parts does to the joined bytes
 pub record IsJoinedRun {K V : Type 0} (c : Coding K V) (H : List ℕ) (m : ℕ) (es ctrl : List ℕ) (items : List (K × V)) (n : ℕ) (es' ctrl' : List ℕ) : Type 0 where
   pub framed : IsFramedRun c (joined H m es ctrl) items (joined H (m + n) es' ctrl')
   pub entries_len : length es' ≡ length es
@@ -177,7 +177,7 @@ run_joined {K = K} {V = V} c H m es ctrl h small long mirrored items n es' ctrl'
     }
 
 -- ---- the whole bytes
--- a header that states its own count is as it is
+-- a header with its own count is unchanged
 pub with_count-by_header : (H : List ℕ) → length H ≡ 32 → All (λ x. x < 256) H → with_count H (num (bytes_at H 8 8)) ≡ H
 with_count-by_header H h small =
     let same : le_bytes 8 (num (bytes_at H 8 8)) ≡ bytes_at H 8 8 = le_bytes-num_at 8 (bytes_at H 8 8) (length-bytes_at H 8 8 (omega (arith, h))) (All-bytes_at H 8 8 small) in

@@ -1,4 +1,4 @@
--- Whether each slot before that of a key, in the key's probe order, is filled with another key: on parts whose control
+-- Whether each slot before that of a key, in the key's probe order, is occupied by another key: on parts whose control
 -- bytes and mirror are right.
 use Rattle.std.proofs.Common.{◌≡◌, ℕ, ◌+◌, ◌-◌, ◌%◌, ◌<◌, ◌≤◌, ◌||◌, inl, inr, sym, ap, ◌∙◌, subst, refl, arith, Bool, true, false, cond, true≢false, List, Option, Some, None, is_none, length, slice_index, Contains, bytes_eq, eq-eqb, eqb-true}
 use Rattle.std.specs.Option.{unwrap_or}
@@ -19,7 +19,7 @@ use Rattle.odht_base.proofs.lemmas.Orders.{probe_slot-apart, find-order_some}
 use Rattle.odht_raw.proofs.lemmas.GroupLooks.{index-bytes_at, position-None}
 use Rattle.odht_raw.proofs.lemmas.SlotFits.{IsMirrored, length-decoded_cells, cell_at-decoded_cells}
 
--- ---- the cells that parts show
+-- ---- the cells that parts decode to
 module _ (F : Format) (es ctrl : List ℕ) (s : ℕ) (control : length ctrl ≡ s + 16) where
   slots : length ctrl - 16 ≡ s
   slots = omega (arith, control)
@@ -74,7 +74,7 @@ module _ (F : Format) (es ctrl : List ℕ) (s : ℕ) (control : length ctrl ≡ 
     ]
 
     module _ (k xs : List ℕ) (report : IsReport (bytes_at ctrl b 16) (tag F k) xs) where
-      -- a free byte before place n stops the search
+      -- a free byte before slot n of the group stops the search
       pub stopped_free : (n : ℕ) → n ≤ 16 → unwrap_or (first_free (bytes_at ctrl b 16)) 16 < n → ((j : ℕ) → j < n → stops_at (decoded_cells F es ctrl) k (slot j) ≡ false) → ⊥
       stopped_free n few before passed = go (first_free (bytes_at ctrl b 16)) refl before
         where
@@ -111,23 +111,23 @@ module _ (F : Format) (es ctrl : List ℕ) (s : ℕ) (control : length ctrl ≡ 
 
 -- ---- where a search for k among cells ends
 module _ (F : Format) (cs : Cells) (k : List ℕ) (count : IsSlotCount (length cs)) where
-  abbrev pub place_of : ℕ → ℕ
-  place_of q = probe_slot (home F k (length cs)) (length cs) q
+  abbrev pub position_of : ℕ → ℕ
+  position_of q = probe_slot (home F k (length cs)) (length cs) q
 
-  -- at the slot of a place where it stops, once it passed the places before
-  pub ends_there : (i n : ℕ) → n < length cs → place_of n ≡ i → ((q : ℕ) → q < n → stops_at cs k (place_of q) ≡ false) → stops_at cs k i ≡ true → is_at i (search_end F cs k) ≡ true
-  ends_there i n l stands passed stop =
-      ap (is_at i) (search_end-at F cs k n l passed (ap (stops_at cs k) stands ∙ stop) ∙ ap Some stands) ∙ eq-eqb i i refl
+  -- at the slot of a position where it stops, once it passed the positions before
+  pub ends_there : (i n : ℕ) → n < length cs → position_of n ≡ i → ((q : ℕ) → q < n → stops_at cs k (position_of q) ≡ false) → stops_at cs k i ≡ true → is_at i (search_end F cs k) ≡ true
+  ends_there i n l slot_is passed stop =
+      ap (is_at i) (search_end-at F cs k n l passed (ap (stops_at cs k) slot_is ∙ stop) ∙ ap Some slot_is) ∙ eq-eqb i i refl
 
-  -- and else not
-  pub ends_elsewhere : (i n : ℕ) → n < length cs → place_of n ≡ i → (((q : ℕ) → q < n → stops_at cs k (place_of q) ≡ false) → ⊥) → is_at i (search_end F cs k) ≡ false
+  -- otherwise it does not end there
+  pub ends_elsewhere : (i n : ℕ) → n < length cs → position_of n ≡ i → (((q : ℕ) → q < n → stops_at cs k (position_of q) ≡ false) → ⊥) → is_at i (search_end F cs k) ≡ false
   unfolding search_end
-  ends_elsewhere i n l stands stopped = false_from_ne_true _ (λ t. go (search_end F cs k) refl t)
+  ends_elsewhere i n l slot_is stopped = false_from_ne_true _ (λ t. go (search_end F cs k) refl t)
     where
       go : (o : Option ℕ) → search_end F cs k ≡ o → is_at i o ≡ true → ⊥
       go None e t = true≢false (sym t)
       go (Some j) e t =
           let same : i ≡ j = eqb-true i j t in
           let f = find-order_some (stops_at cs k) (home F k (length cs)) (length cs) j e in
-          let at : f.position ≡ n = probe_slot-apart (home F k (length cs)) (length cs) f.position n count f.within l (f.stands ∙ sym same ∙ sym stands) in
+          let at : f.position ≡ n = probe_slot-apart (home F k (length cs)) (length cs) f.position n count f.within l (f.slot_is ∙ sym same ∙ sym slot_is) in
           stopped (λ q lq. f.before q (omega (arith, lq, at)))

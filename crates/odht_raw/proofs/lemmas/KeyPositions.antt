@@ -1,4 +1,4 @@
--- The search for the key of a slot, a group at a time: where the slot stands in the probe order, and what the groups tell.
+-- The search for the key of a slot, a group at a time: the slot's position in the probe order, and what the groups say.
 use Rattle.std.proofs.Common.{◌≡◌, ℕ, ◌+◌, ◌-◌, ◌%◌, ◌<◌, ◌≤◌, ◌↔◌, inl, inr, sym, ap, ◌∙◌, subst, arith, Bool, true, false, true≢false, IsTrue, List, length, refl}
 use Rattle.std.proofs.Math.Nat.{mod-eq_of_lt, add-mod_right}
 use Rattle.std.proofs.lemmas.Bool.{cases_lt}
@@ -11,8 +11,8 @@ use Rattle.odht_base.proofs.lemmas.Orders.{probe_slot-lt, probe_slot-onto}
 use Rattle.odht_raw.proofs.lemmas.KeyPasses.{ends_there, ends_elsewhere}
 use Rattle.odht_raw.proofs.lemmas.ProbeSteps.{probe_slot-step}
 
--- ---- how far slot i stands behind the slot b, around the end of s slots
--- so many slots on from b stands i
+-- ---- how far slot i is behind the slot b, around the end of s slots
+-- that many slots behind b is i
 pub behind-slot : (s b i : ℕ) → b < s → i < s → (b + (i + s - b) % s) % s ≡ i
 behind-slot s b i lb li = elim (cases_lt i b) [
   | inl wrapped ↦
@@ -42,7 +42,7 @@ behind-only s b i j lb lj e = elim (cases_lt (b + j) s) [
       ap (λ y. y % s) turn ∙ mod-eq_of_lt {n = j} {m = s} lj
 ]
 
--- ---- the group at place p of the order of the hash h among s slots, whose first slot is b, and the slot i
+-- ---- the group at position p of the order of the hash h among s slots, whose first slot is b, and the slot i
 module _ (h s b p i : ℕ) (count : IsSlotCount s) (aligned : p % 16 ≡ 0) (within : p + 16 ≤ s) (at : b ≡ probe_slot (h % s) s p) (low : i < s) where
   abbrev pub probed : ℕ → ℕ
   probed q = probe_slot (h % s) s q
@@ -53,21 +53,21 @@ module _ (h s b p i : ℕ) (count : IsSlotCount s) (aligned : p % 16 ≡ 0) (wit
   first_low : b < s
   first_low = subst (λ x. x < s) (sym at) (probe_slot-lt (h % s) s p (let n = count.least in omega arith))
 
-  -- slot j of the group stands at the place p + j
+  -- slot j of the group is at the position p + j
   pub group_position : (j : ℕ) → j < 16 → (b + j) % s ≡ probed (p + j)
   group_position j l = ap (λ x. (x + j) % s) at ∙ probe_slot-step (h % s) s p j (omega (arith, aligned))
 
-  -- where i is one of the group, its place is so many behind p
+  -- where i is in the group, its position is as far behind p
   pub own_position : behind < 16 → probed (p + behind) ≡ i
   own_position l = sym (group_position behind l) ∙ behind-slot s b i first_low low
 
-  -- else no place of the group is that of i
+  -- otherwise no position of the group is that of i
   pub not_in_group : (behind < 16 → ⊥) → (j : ℕ) → j < 16 → probed (p + j) ≡ i → ⊥
   not_in_group far j l e =
       let least = count.least in
       let same = behind-only s b i j first_low (omega arith) (group_position j l ∙ e) in far (omega (arith, same))
 
-  -- and so i stands behind the group, where it is not before it
+  -- and so i is behind the group, where it is not before it
   pub later_position : (behind < 16 → ⊥) → ((q : ℕ) → q < p → probed q ≡ i → ⊥) → (n : ℕ) × (n < s) × (probed n ≡ i) × (p + 16 ≤ n)
   later_position far others =
       let n = probe_slot-onto (h % s) s i count low in (
@@ -91,7 +91,7 @@ module _ (h s b p i : ℕ) (count : IsSlotCount s) (aligned : p % 16 ≡ 0) (wit
     abbrev pub Passes : ℕ → Type 0
     Passes n = (q : ℕ) → q < n → stops_at cs k (probed q) ≡ false
 
-    -- where the first m slots of the group are passed too, so are as many more places
+    -- where the first m slots of the group are passed too, so are as many more positions
     pub passes_more : (m : ℕ) → m ≤ 16 → Passes p → ((j : ℕ) → j < m → stops_at cs k ((b + j) % s) ≡ false) → Passes (p + m)
     passes_more m few before here q l = elim (cases_lt q p) [
       | inl earlier ↦ before q earlier
@@ -101,7 +101,7 @@ module _ (h s b p i : ℕ) (count : IsSlotCount s) (aligned : p % 16 ≡ 0) (wit
           subst (λ x. stops_at cs k (probed x) ≡ false) e (subst (λ x. stops_at cs k x ≡ false) (group_position j (omega arith)) (here j (omega arith)))
     ]
 
-    -- and the other way round
+    -- and the converse
     pub group_passes : (m n : ℕ) → m ≤ 16 → p + m ≤ n → Passes n → (j : ℕ) → j < m → stops_at cs k ((b + j) % s) ≡ false
     group_passes m n few less all j l = subst (λ x. stops_at cs k x ≡ false) (sym (group_position j (omega arith))) (all (p + j) (omega arith))
 
@@ -119,7 +119,7 @@ module _ (h s b p i : ℕ) (count : IsSlotCount s) (aligned : p % 16 ≡ 0) (wit
     misses n l own stopped =
         ends_elsewhere F cs k slots i n (subst (λ x. n < x) (sym len) l) (order_position n ∙ own) (λ all. stopped (λ q lq. ap (stops_at cs k) (sym (order_position q)) ∙ all q lq))
 
-    -- the group of i tells whether the search ends there
+    -- the group of i decides whether the search ends there
     pub ends_here : behind < 16 → Passes p → stops_at cs k i ≡ true → (r : Bool) → IsTrue r ↔ ((j : ℕ) → j < behind → stops_at cs k ((b + j) % s) ≡ false) → r ≡ is_at i (search_end F cs k)
     ends_here l passed stop true known = sym (ends (p + behind) (omega (arith, within)) (own_position l) (passes_more behind (omega (arith, l)) passed (known.0 refl)) stop)
     ends_here l passed stop false known =

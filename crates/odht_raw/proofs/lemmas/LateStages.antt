@@ -13,7 +13,7 @@ use Rattle.odht_raw.specs.declared.error.Error.TheVariants.{Unreachable}
 use Rattle.odht_raw.proofs.lemmas.FirstErrors.{option_or-None, option_or-first, option_or-second, two-first, last-first}
 use Rattle.odht_raw.proofs.lemmas.HeaderChecks.{IsPassed, first_of-behind}
 
--- its refusal once the first k stages have passed
+-- its error once the first k stages have passed
 pub past_late : (F : Format) (B : List ℕ) (k : ℕ) → IsPassed (take k (late_refusals F B)) → late_refusal F B ≡ first_of (drop k (late_refusals F B))
 unfolding late_refusal
 past_late F B k p = ap first_of (sym (take-append-drop k (late_refusals F B))) ∙ first_of-behind (take k (late_refusals F B)) (drop k (late_refusals F B)) p
@@ -51,7 +51,7 @@ module _ (F : Format) (B : List ℕ) (T : TableParts) (entries : T.entries.bytes
       pub count_stage : (x : Error) → option_or (count_refusal m B) (room_refusal B) ≡ Some x → late_refusal F B ≡ Some x
       count_stage x e = past_mirror ∙ two-first (count_refusal m B) (room_refusal B) (option_or (reach_refusal F T.entries.bytes T.control) None) x e
 
-      -- and what is left is the reach, whose first refusal is that of the slot o
+      -- and what is left is the reach, whose first error is that of the slot o
       pub reach_stage : option_or (count_refusal m B) (room_refusal B) ≡ None → (o : Option ℕ) → option_map Unreachable o ≡ reach_refusal F T.entries.bytes T.control → late_refusal F B ≡ option_map Unreachable o
       reach_stage e o known =
           let none = option_or-None _ _ e in

@@ -57,7 +57,7 @@ cut_accepted F B is at here T C H E t c h e =
       mirrored = ap length c ∙ length-drop at B ∙ omega (arith, all, here, slots);
     }
 
--- a cut header states the maximum of the bytes
+-- the header of a cut has the maximum of the bytes
 pub cut-maximum : (F : Format) (B H es ctrl : List ℕ) → IsCut F B H es ctrl → header_maximum H ≡ header_maximum B
 cut-maximum F B H es ctrl cut = λ i. max_items (cut.slots i) (cut.factor i)
 
@@ -112,7 +112,7 @@ module _ {K V : Type 0} (c : Coding K V) (B H es ctrl : List ℕ) (cut : IsCut c
       subst (IsAccepted c.format) now
       (accepted_joined c.format H (header_count B + n) (es ++ ctrl) (es' ++ ctrl') cut.head same (subst (IsAccepted c.format) cut.whole cut.accepted))
 
-  -- as long as before
+  -- the length stays
   pub list_length : length (H' ++ es' ++ ctrl') ≡ length B
   list_length =
       let head : length H' ≡ 32 = ap length written ∙ length-with_count H (header_count B + n) es ctrl cut.head in
@@ -122,7 +122,7 @@ module _ {K V : Type 0} (c : Coding K V) (B H es ctrl : List ℕ) (cut : IsCut c
   pub list_control : length ctrl' ≡ header_slots B + 16
   list_control = known.control_len ∙ cut.mirrored ∙ ap (λ s. s + 16) cut.slots
 
-  -- where the inserts may stop by the parts they may by the bytes
+  -- where the inserts may stop by the parts, they may by the bytes
   pub list_stop : (to i : ℕ) → IsStop ctrl' (length ctrl' - 16) to i → IsStop (controls_of c.format (H' ++ es' ++ ctrl')) (header_slots (H' ++ es' ++ ctrl')) to i
   list_stop to i (inl e) = inl e
   list_stop to i (inr none) =

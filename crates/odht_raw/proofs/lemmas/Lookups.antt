@@ -1,4 +1,4 @@
--- What the answer of a search tells of a placed table: of its map, and of where a pair goes.
+-- What the answer of a search in a placed table says: about its map, and about where a pair goes.
 use Rattle.std.proofs.Common.{◌≡◌, ◌<◌, ◌∙◌, ◌||◌, ℕ, Bool, true, false, true≢false, sym, ap, subst, refl, List, Option, Some, None}
 use Rattle.std.specs.Prelude.{is_none, option_map, option_and_then, if◌then◌else◌}
 use Rattle.std.specs.Option.{option_map_or}
@@ -16,7 +16,7 @@ use Rattle.odht_raw.specs.SearchResults.{answer, IsWherePlaced}
 use Rattle.odht_raw.specs.declared.raw_table.search_result.SearchResult.{SearchResult}
 use Rattle.odht_raw.specs.declared.raw_table.search_result.SearchResult.TheVariants.{Found, Free, Neither}
 
--- what a found key tells: its slot's pair, the map's value, and that a pair with the key goes there
+-- a found key: its slot's pair, the map's value, and that a pair with the key goes there
 pub record IsFoundAt (F : Format) (P : Table) (k : List ℕ) (i : ℕ) : Type 0 where
   pub pair : Pair
   pub holds : HoldsPair P i pair
@@ -25,14 +25,14 @@ pub record IsFoundAt (F : Format) (P : Table) (k : List ℕ) (i : ℕ) : Type 0 
   pub value : map_of P k ≡ Some pair.value
   pub places : (p : Pair) → p.key ≡ k → place F P p ≡ Some (written P i p)
 
--- what a free end tells: that the map has no value, and that a pair with the key goes there
+-- a free end: the map has no value, and a pair with the key goes there
 pub record IsFreeAt (F : Format) (P : Table) (k : List ℕ) (i : ℕ) : Type 0 where
   pub free : cell_at P.cells i ≡ None
   pub within : i < slot_count P
   pub value : map_of P k ≡ None
   pub places : (p : Pair) → p.key ≡ k → place F P p ≡ Some (written P i p)
 
--- what no end tells: that the map has no value, and that a pair with the key has no place
+-- no end: the map has no value, and a pair with the key has no place
 pub record IsNowhere (F : Format) (P : Table) (k : List ℕ) : Type 0 where
   pub value : map_of P k ≡ None
   pub places : (p : Pair) → p.key ≡ k → place F P p ≡ None

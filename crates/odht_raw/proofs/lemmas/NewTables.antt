@@ -21,7 +21,7 @@ overwritten_at-to_end B at d end =
     let nothing : drop (at + length d) B ≡ [] = drop_all (at + length d) B (omega (arith, end)) in
     ap (λ t. take at B ++ d ++ t) nothing ∙ append-nil (take at B ++ d)
 
--- a write of what stands there changes nothing
+-- a write of the bytes that are there changes nothing
 pub overwritten_at-same : (B : List ℕ) (at : ℕ) (d : List ℕ) → bytes_at B at (length d) ≡ d → overwritten_at B at d ≡ B
 overwritten_at-same B at d e =
     append_assoc (take at B) d (drop (at + length d) B)

@@ -1,4 +1,4 @@
--- What bytes are refused for, stage by stage: when they are opened, and then by the whole check.
+-- Which error bytes give, stage by stage: when they are opened, and then by the whole check.
 use Rattle.std.proofs.Common.{◌≡◌, ◌<◌, ◌≤◌, ◌∙◌, List, ℕ, Some, None, length, lt-ltb, le-ltb}
 use Rattle.odht_base.specs.Format.{Format}
 use Rattle.odht_base.specs.Decoded.{entries_of, controls_of}
@@ -23,27 +23,27 @@ module _ (F : Format) (B : List ℕ) where
   pub accepted : 32 ≤ length B → header_refusal F (length B) B ≡ None → IsAccepted F B
   accepted h e = opening_refusal-header h ∙ e
 
-  -- what is refused so is refused of a view
+  -- an error of the opening is one of a view
   pub view_refusal-opening : (x : Error) → opening_refusal F B ≡ Some x → view_refusal F B ≡ Some x
   unfolding view_refusal
   view_refusal-opening x e = option_or-first _ _ _ e
 
-  -- and then the first slots
+  -- and then come the first slots
   pub view_refusal-slots : IsAccepted F B → view_refusal F B ≡ hashes_refusal F (entries_of F B) (controls_of F B) 10
   unfolding view_refusal
   view_refusal-slots a = option_or-second _ _ a
 
-  -- where a view refuses nothing they are accepted
+  -- where a view has no error they are accepted
   pub view_refusal-accepted : view_refusal F B ≡ None → IsAccepted F B
   unfolding view_refusal
   view_refusal-accepted e = (option_or-None _ _ e).0
 
-  -- what is refused of a view is refused by the whole check
+  -- an error of a view is one of the whole check
   pub check_refusal-view : (x : Error) → view_refusal F B ≡ Some x → check_refusal F B ≡ Some x
   unfolding check_refusal
   check_refusal-view x e = option_or-first _ _ _ e
 
-  -- and then what it looks at beyond a view
+  -- and then comes what it looks at beyond a view
   pub check_refusal-late : view_refusal F B ≡ None → check_refusal F B ≡ late_refusal F B
   unfolding check_refusal
   check_refusal-late e = option_or-second _ _ e

@@ -1,4 +1,4 @@
--- The cells of a placed table, as its parts show them.
+-- The cells of a placed table, as its parts decode to them.
 use Rattle.std.proofs.Common.{◌≡◌, ◌<◌, ◌∙◌, ◌+◌, ℕ, false, true≢false, sym, ap, refl, List, Option, Some, None, is_none, length, slice_index, arith}
 use Rattle.odht_base.specs.Format.{Format, IsFormat}
 use Rattle.odht_base.specs.Table.{Pair, Table, slot_count, cell_at, is_free}
@@ -21,7 +21,7 @@ module _ (F : Format) (f : IsFormat F) (P : Table) (es ctrl : List ℕ) (h : IsP
   lengths : HasLengths F P.cells
   lengths = HasLengths-HasPairsOf F P.cells h.placed.pairs
 
-  -- an occupied cell's key stands in its entry
+  -- an occupied cell's key is in its entry
   pub key_is : (i : ℕ) (p : Pair) → cell_at P.cells i ≡ Some p → slot_key F es i ≡ p.key
   key_is i p g = ap (λ e. slot_key F e i) h.entries_are ∙ slot_key-entries F P.cells i p lengths g
 
@@ -29,7 +29,7 @@ module _ (F : Format) (f : IsFormat F) (P : Table) (es ctrl : List ℕ) (h : IsP
   pub value_is : (i : ℕ) (p : Pair) → cell_at P.cells i ≡ Some p → slot_value F es i ≡ p.value
   value_is i p g = ap (λ e. slot_value F e i) h.entries_are ∙ slot_value-entries F P.cells i p lengths g
 
-  -- a control byte that counts as occupied is that of a cell whose pair stands in the entry
+  -- a control byte that counts as occupied is that of a cell whose pair is in the entry
   pub cell_occupied : (i : ℕ) → i < slot_count P → counts_as_free (slice_index ctrl i) ≡ false → cell_at P.cells i ≡ Some (record { key = slot_key F es i; value = slot_value F es i })
   cell_occupied i l e = go (cell_at P.cells i) refl (sym (byte_is i l) ∙ e)
     where

@@ -22,7 +22,7 @@ use Rattle.odht_raw.specs.PartsInserts.{AnswersFormer, ArePartsPlaced}
 use Rattle.odht_raw.specs.Runs.{encoded_all, count_after, IsPartsRun, ArePartsOfRun}
 use Rattle.odht_raw.specs.declared.error.Error.{Error}
 
--- an item that is read
+-- an item that is read is the item there
 pub read_item : {X : Type 0} (xs : List X) (n : ℕ) (x : X) → n < length xs → slice_get xs n ≡ Some x → get_or xs n x ≡ x
 read_item xs n x low at = some_same _ _ (sym (slice_get-get_or xs n x low) ∙ at)
 
@@ -39,7 +39,7 @@ range_more xs a n x from low at =
     let here : get_or (drop a xs) (n - a) x ≡ x = get_or-drop a xs (n - a) x ∙ ap (λ i. get_or xs i x) there ∙ read_item xs n x low at in
     ap (λ m. take m (drop a xs)) more ∙ take_more (drop a xs) (n - a) x long ∙ ap (λ y. take (n - a) (drop a xs) ++ y ∷ []) here
 
--- how long a piece is
+-- the length of a piece
 pub length-range : {X : Type 0} (xs : List X) (a b : ℕ) → length (slice_range xs a b) ≡ min (b - a) (length xs - a)
 length-range xs a b = length-take (b - a) (drop a xs) ∙ ap (min (b - a)) (length-drop a xs)
 
@@ -80,7 +80,7 @@ run_more {K = K} {V = V} c es0 ctrl0 items k v n es ctrl es' ctrl' before fits {
         (IsPartsRun.accepted items k v n o es ctrl es' ctrl' before fits frame)
     go (Err x) e frame = absurd (let both : Ok old ≡ Err x = sym ok ∙ e in cc)
 
--- a refused item finds no slot
+-- an item that is answered with an error found no free slot
 pub refused_full : (F : Format) (es ctrl : List ℕ) (p : Pair) (es' ctrl' : List ℕ) {W : Type 0} (f : List ℕ → W) (r : Result (Option W) Error) (e : Error)
     → r ≡ Err e → IsPartsFramed F f es ctrl p r es' ctrl' → HasNoFreeSlot ctrl' (length ctrl' - 16)
 refused_full F es ctrl p es' ctrl' {W = W} f r e err framed = go es ctrl es' ctrl' framed.0 framed.1 framed.2

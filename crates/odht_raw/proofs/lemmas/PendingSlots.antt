@@ -71,7 +71,7 @@ module _ (xs ys : List ℕ) (a : ℕ) (low : a ≤ length xs) where
   front : length (take a xs) ≡ a
   front = length-take-le a xs low
 
-  -- it is as long as both
+  -- its length is that of the front and of ys
   pub ended-length : length (put_mid a (length xs - a) xs ys) ≡ a + length ys
   ended-length = omega (arith, ap length ended, length-append (take a xs) ys, front)
 

@@ -1,4 +1,4 @@
--- The occupied slots of a table while one pass goes through those that wait, and the list once it is sorted after the pass.
+-- The occupied slots of a table while one pass goes through those that wait, and the list that is sorted after it.
 use Rattle.std.proofs.Common.{◌≡◌, ◌<◌, ◌≤◌, ◌+◌, ◌-◌, ◌*◌, ◌^◌, ◌∙◌, inl, inr, ℕ, zero, suc, Bool, true, false, not, cond, nat_lt, sym, ap, subst, refl, List, [], ◌∷◌, ◌++◌, length, get_or, take, drop, set, map, filter, arith, All, AllPairs, Contains, IsPermutation, IsSorted, below_more, ltb-true, ltb-false, lt-ltb, le-ltb}
 use Rattle.std.specs.Ordering.{nat_cmp}
 use Rattle.std.proofs.lemmas.Bool.{cases_order, not-true}
@@ -25,11 +25,11 @@ use Rattle.odht_raw.proofs.lemmas.RisingLists.{rising_append, sorted_is}
 abbrev pub waiting_of : List ℕ → List ℕ
 waiting_of ns = filter (λ n. not (nat_lt n (2 ^ 63))) ns
 
--- the slot of what is below 2 ^ 63 is itself
+-- the slot of an item below 2 ^ 63 is the item itself
 pub slot_of_placed : (i : ℕ) → i < 2 ^ 63 → slot_of i ≡ i
 slot_of_placed i l = let e : i ≡ 0 * 2 ^ 63 + i = omega arith in ap slot_of e ∙ mod_low 0 63 i l
 
--- and that of what is not is it less 2 ^ 63
+-- and that of an item from 2 ^ 63 on is the item less 2 ^ 63
 pub slot_of_waiting : (n : ℕ) → 2 ^ 63 ≤ n → n < 2 ^ 64 → slot_of n ≡ n - 2 ^ 63
 slot_of_waiting n high fits =
     let e : n ≡ 1 * 2 ^ 63 + (n - 2 ^ 63) = omega (arith, high) in
@@ -114,7 +114,7 @@ module _ (F : Format) (P : Table) (done ns : List ℕ) (pending : IsPending F P 
       (Contains-permutation (done ++ map slot_of ns) (occupied P) (slot_of (get_or ns k 0)) (IsPermutation-sym _ _ pending.listed)
       (Contains-append_right done (map slot_of ns) (slot_of (get_or ns k 0)) (k, omega (arith, l, length-map ns slot_of), get_or-map slot_of ns k 0 (slot_of (get_or ns k 0)) l)))
 
-  -- a slot that holds a pair is taken before the pass, or stands in the list
+  -- a slot that holds a pair is taken before the pass, or is in the list
   pub pending_has : (i : ℕ) (p : Pair) → HoldsPair P i p → (Contains done i → ⊥) → (k : ℕ) × (k < length ns) × (slot_of (get_or ns k 0) ≡ i)
   pending_has i p holds out = elim (Contains-append_cases done (map slot_of ns) i (Contains-permutation (occupied P) (done ++ map slot_of ns) i pending.listed ((occupied-Contains P i).1 (p, holds)))) [
     | inl taken ↦ absurd (out taken)
@@ -179,8 +179,8 @@ module _ (F : Format) (P : Table) (done ns : List ℕ) (pending : IsPending F P 
       idle h.0 h.1 (subst (IsReady F P done) (sym h.2) r))
 
 -- ---- the pass, which has gone through the slots before `at`
--- each slot of the old list waits; those from `at` on still do, `placed` of the list are placed, and its slots are those of
--- the old list
+-- each slot of the old list waits; those from `at` on still do, `placed` of the list are placed, and its slots are
+-- those of the old list
 pub record IsGone (s : ℕ) (old ns : List ℕ) (at placed : ℕ) : Type 0 where
   pub waited : All (IsWaiting s) old
   pub same : map slot_of ns ≡ map slot_of old

@@ -16,7 +16,7 @@ use Rattle.odht_raw.specs.SearchSteps.{slot_of, Passed}
 use Rattle.odht_raw.specs.declared.raw_table.search_result.SearchResult.TheVariants.{Found, Free, Neither}
 
 module _ (F : Format) (P : Table) (k es ctrl : List ℕ) (f : IsFormat F) (h : IsPartsOf F P es ctrl) where
-  -- an occupied cell has the key that stands in its entry, and no other
+  -- an occupied cell has the key that is in its entry, and no other
   has_key_is : (i : ℕ) → is_free P.cells i ≡ false → slot_key F es i ≡ k → has_key k (cell_at P.cells i) ≡ true
   has_key_is i occupied same = go (cell_at P.cells i) refl occupied
     where
@@ -31,7 +31,7 @@ module _ (F : Format) (P : Table) (k es ctrl : List ℕ) (f : IsFormat F) (h : I
       go None g = refl
       go (Some p) g = false_from_ne_true _ (λ t. other (key_is F f P es ctrl h i p g ∙ sym (same_bytes k p.key t)))
 
-  -- the walk at place n of s slots, which is slot i of the hash x
+  -- the search at position n of s slots, which is slot i of the hash x
   module _ (s x n i : ℕ) (hash : x ≡ F.hash k) (control : length ctrl ≡ s + 16) (within : n < s) (slot : i ≡ probe_slot (x % s) s n) where
     low : n < slot_count P
     low = subst (λ m. n < m) (slots_are F f P es ctrl h s control) within

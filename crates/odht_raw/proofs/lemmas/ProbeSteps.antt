@@ -1,4 +1,4 @@
--- The places of the probe order, a piece of a group at a time.
+-- The positions of the probe order, a piece of a group at a time.
 use Rattle.std.proofs.Common.{inl, inr, mul-le-mul_left, ◌≡◌, ℕ, zero, suc, ◌+◌, ◌-◌, ◌*◌, ◌/◌, ◌%◌, ◌^◌, ◌<◌, ◌≤◌, refl, sym, ap, ◌∙◌, arith, bit_and}
 use Rattle.std.proofs.Math.Nat.{add-mod_right, mod-add-mod, mod-mod_of_dvd, mod-eq_of_lt, zero-mod}
 use Rattle.std.proofs.lemmas.Nat.Gcd.{dvd_of_mod-eq-zero}
@@ -55,7 +55,7 @@ pub divisor_pos : (g : ℕ) → 16 % g ≡ 0 → 0 < g
 divisor_pos zero e = absurd (omega arith)
 divisor_pos (suc g) e = omega arith
 
--- a home slot is a place to begin at
+-- a home slot is a slot to begin at
 pub at_home : (g h m : ℕ) → IsSlotCount (m + 1) → 16 % g ≡ 0 → h < m + 1 → IsProbe g h m 0 h h 0 0
 at_home g h m slots divides l =
     let zero_mod : 0 % g ≡ 0 = zero-mod g in

@@ -1,4 +1,4 @@
--- When a slot is ready, as the slots that wait tell it: no slot before it in the probe order of its key waits.
+-- When a slot is ready, by the slots that wait: no slot before it in the probe order of its key waits.
 use Rattle.std.proofs.Common.{◌≡◌, ◌<◌, ◌≤◌, ◌+◌, ◌^◌, ◌%◌, ◌∙◌, ◌++◌, inl, inr, ℕ, true, false, true≢false, sym, ap, subst, refl, List, length, map, get_or, arith, All, Contains, nat_lt, lt-ltb, ltb-true, Option, None, Some, is_none}
 use Rattle.std.proofs.lemmas.Bool.{cases_lt, cases_order}
 use Rattle.std.proofs.lemmas.List.{get_or-map, get_or_default, length-map, length-append, get_or_append_left, get_or-append-add}
@@ -19,7 +19,7 @@ use Rattle.odht_raw.proofs.lemmas.RisingLists.{apart_moved}
 use Rattle.odht_raw.specs.Waiting.{waiting, slot_of, placed_of, AreRising, IsPending}
 
 -- ---- items of lists
--- no number stands in both halves of such a list
+-- no number is in both halves of such a list
 apart_halves : (xs ys : List ℕ) (i : ℕ) → IsApart (xs ++ ys) → Contains xs i → Contains ys i → ⊥
 apart_halves xs ys i apart h g =
     apart h.0 (length xs + g.0) i (omega (arith, h.1)) (omega (arith, g.1, length-append xs ys))
@@ -91,7 +91,7 @@ module _ (F : Format) (P : Table) (done ns : List ℕ) (h : IsPending F P done n
       ]
 
   module _ (ok : IsPlaced F P) (i : ℕ) (p : Pair) (holds : HoldsPair P i p) where
-    -- the slot at a place of the order of its key
+    -- the slot at a position of the order of its key
     abbrev slot : ℕ → ℕ
     slot q = probe_slot (home F p.key (slot_count P)) (slot_count P) q
 
@@ -99,13 +99,13 @@ module _ (F : Format) (P : Table) (done ns : List ℕ) (h : IsPending F P done n
     abbrev pub Walked : ℕ → Type 0
     Walked n = (q : ℕ) → q < n → (slot q ≡ i → ⊥) × (Contains ns (waiting (slot q)) → ⊥)
 
-    -- the places that it has passed are filled
+    -- the positions that it has passed are occupied
     passed_occupied : (n : ℕ) → Walked n → (q : ℕ) → q < n → (d : Pair) × HoldsPair P (slot q) d
     passed_occupied n walked q l =
         let r = ok.reached i p holds in
         let late : q < r.position = elim (cases_lt q r.position) [
           | inl before ↦ before
-          | inr not ↦ let low : r.position < n = omega (arith, not, l) in absurd ((walked r.position low).0 r.stands)
+          | inr not ↦ let low : r.position < n = omega (arith, not, l) in absurd ((walked r.position low).0 r.slot_is)
         ] in
         some (cell_at P.cells (slot q)) (r.earlier_occupied q late)
       where
@@ -120,7 +120,7 @@ module _ (F : Format) (P : Table) (done ns : List ℕ) (h : IsPending F P done n
       holds = holds;
       position = n;
       in_order = low;
-      stands = met;
+      slot_is = met;
       earlier_taken = λ q l. let d = passed_occupied n walked q l in placed_if_not_waiting fit (slot q) d.0 d.1 (walked q l).1;
     }
 
@@ -136,7 +136,7 @@ module _ (F : Format) (P : Table) (done ns : List ℕ) (h : IsPending F P done n
 -- the same walk, as code sees it in the parts of s slots
 module _ (F : Format) (f : IsFormat F) (P : Table) (es ctrl : List ℕ) (parts : IsPartsOf F P es ctrl) (s : ℕ) (long : length ctrl ≡ s + 16)
     (done ns : List ℕ) (h : IsPending F P done ns) (fit : All (λ n. n < 2 ^ 64) ns) (i : ℕ) (p : Pair) (holds : HoldsPair P i p) where
-  -- the slot at a place of the order of the key in slot i
+  -- the slot at a position of the order of the key in slot i
   abbrev pub probed_slot : ℕ → ℕ
   probed_slot q = probe_slot (F.hash (slot_key F es i) % s) s q
 
@@ -162,6 +162,6 @@ module _ (F : Format) (f : IsFormat F) (P : Table) (es ctrl : List ℕ) (parts :
         not_ready_if_waiting F P done ns h parts.placed i p holds n walked (λ e. other (probed_is n ∙ e)) (omega (arith, low, sym (probed_is n)))
         (subst (λ j. Contains ns (waiting j)) (probed_is n) (waits h.rising))
 
-    -- it ends at the last place, and slot i is not there either
+    -- it ends at the last position, and slot i is not there either
     pub nowhere_probed : s ≤ n → IsReady F P (done ++ placed_of ns) i → ⊥
     nowhere_probed past = not_ready_if_nowhere F P done ns h parts.placed i p holds n (omega (arith, past, slots_are F f P es ctrl parts s long)) walked

@@ -1,4 +1,4 @@
--- What a view refuses one slot for, by whether the slot counts as free.
+-- Which error a view gives for one slot, by whether the slot counts as free.
 use Rattle.std.proofs.Common.{◌≡◌, ◌<◌, ◌∙◌, ◌*◌, ◌-◌, ◌==◌, ℕ, zero, suc, Bool, true, false, min, not, ◌&&◌, sym, ap, refl, List, [], ◌∷◌, Some, None, length, length-take, length-drop, replicate, slice_index, arith, eqb-true, if◌then◌else◌}
 use Rattle.std.specs.List.{list_all}
 use Rattle.std.proofs.lemmas.Bool.{and_parts, false_from_ne_true}
@@ -27,7 +27,7 @@ zeros-list_all (x ∷ xs) h =
     let p = and_parts _ _ h in
     λ i. eqb-true x 0 p.0 i ∷ zeros-list_all xs p.1 i
 
--- what a slot is refused for, by its three tests
+-- the error of a slot, by its tests
 by_tests : (free zeros same : Bool) (e f : Error) → first_of ((free && not zeros gives e) ∷ (not free && not same gives f) ∷ []) ≡ (if free then (not zeros gives e) else (not same gives f))
 by_tests true true same e f = refl
 by_tests true false same e f = refl
@@ -38,11 +38,11 @@ module _ (F : Format) (es ctrl : List ℕ) (i : ℕ) where
   refusal_is : hashes_refusal_at F es ctrl i ≡ (if counts_as_free (slice_index ctrl i) then (not (list_all is_zero (slot_entry F es i)) gives NonZeroEmpty i) else (differs (slice_index ctrl i) (tag F (slot_key F es i)) gives ControlMismatch i (tag F (slot_key F es i)) (slice_index ctrl i)))
   refusal_is = by_tests (counts_as_free (slice_index ctrl i)) (list_all is_zero (slot_entry F es i)) (slice_index ctrl i == tag F (slot_key F es i)) _ _
 
-  -- a slot that does not count as free is refused where its control byte is not its key's tag
+  -- a slot that does not count as free has an error where its control byte is not its key's tag
   pub occupied_refusal : counts_as_free (slice_index ctrl i) ≡ false → hashes_refusal_at F es ctrl i ≡ (differs (slice_index ctrl i) (tag F (slot_key F es i)) gives ControlMismatch i (tag F (slot_key F es i)) (slice_index ctrl i))
   occupied_refusal h = refusal_is ∙ rw h refl
 
-  -- any other is not refused where its entry is zeros
+  -- any other has none where its entry is zeros
   pub zero_entry_passes : counts_as_free (slice_index ctrl i) ≡ true → (n : ℕ) → slot_entry F es i ≡ replicate n 0 → hashes_refusal_at F es ctrl i ≡ None
   zero_entry_passes h n e =
       let zeros : list_all is_zero (slot_entry F es i) ≡ true = ap (list_all is_zero) e ∙ list_all-zeros n in
@@ -52,7 +52,7 @@ module _ (F : Format) (es ctrl : List ℕ) (i : ℕ) where
   zero_ends : list_all is_zero (slot_entry F es i) ≡ (list_all is_zero (slot_key F es i) && list_all is_zero (slot_value F es i))
   zero_ends = ap (list_all is_zero) (sym (take-append-drop F.key_len (slot_entry F es i))) ∙ list_all-append is_zero (slot_key F es i) (slot_value F es i)
 
-  -- so it is not refused where key and value are zeros
+  -- so it has none where key and value are zeros
   pub zeros_pass : (m n : ℕ) → counts_as_free (slice_index ctrl i) ≡ true → slot_key F es i ≡ replicate m 0 → slot_value F es i ≡ replicate n 0 → hashes_refusal_at F es ctrl i ≡ None
   zeros_pass m n h k v =
       let key : list_all is_zero (slot_key F es i) ≡ true = ap (list_all is_zero) k ∙ list_all-zeros m in
@@ -63,14 +63,14 @@ module _ (F : Format) (es ctrl : List ℕ) (i : ℕ) where
     entry_long : length (slot_entry F es i) ≡ entry_len F
     entry_long = length-slot_entry F es s i long within
 
-    -- else it is, be it for its key
+    -- otherwise it has one, by its key
     pub key_refusal : counts_as_free (slice_index ctrl i) ≡ true → (slot_key F es i ≡ replicate F.key_len 0 → ⊥) → hashes_refusal_at F es ctrl i ≡ Some (NonZeroEmpty i)
     key_refusal h other =
         let n : length (slot_key F es i) ≡ F.key_len = length-take F.key_len (slot_entry F es i) ∙ omega (arith, entry_long) in
         let key : list_all is_zero (slot_key F es i) ≡ false = false_from_ne_true _ (λ t. other (zeros-list_all _ t ∙ ap (λ m. replicate m 0) n)) in
         refusal_is ∙ rw (h, zero_ends, key) refl
 
-    -- or for its value
+    -- or by its value
     pub value_refusal : counts_as_free (slice_index ctrl i) ≡ true → (slot_value F es i ≡ replicate F.value_len 0 → ⊥) → hashes_refusal_at F es ctrl i ≡ Some (NonZeroEmpty i)
     value_refusal h other =
         let n : length (slot_value F es i) ≡ F.value_len = length-drop F.key_len (slot_entry F es i) ∙ omega (arith, entry_long) in
@@ -82,12 +82,12 @@ module _ (F : Format) (es ctrl : List ℕ) (i : ℕ) where
         go false = refl
 
 module _ (F : Format) (es ctrl : List ℕ) (n s : ℕ) (slots : min n (length ctrl - 16) ≡ s) where
-  -- nothing is refused where no slot is
+  -- there is no error where no slot has one
   pub hashes_refusal-None : ((i : ℕ) → i < s → hashes_refusal_at F es ctrl i ≡ None) → hashes_refusal F es ctrl n ≡ None
   unfolding hashes_refusal
   hashes_refusal-None h = ap (first_slot (hashes_refusal_at F es ctrl)) slots ∙ None-first_slot (hashes_refusal_at F es ctrl) s h
 
-  -- else what the first slot is that is refused
+  -- otherwise that of the first slot that has one
   pub hashes_refusal-at : (i : ℕ) (x : Error) → i < s → ((k : ℕ) → k < i → hashes_refusal_at F es ctrl k ≡ None) → hashes_refusal_at F es ctrl i ≡ Some x → hashes_refusal F es ctrl n ≡ Some x
   unfolding hashes_refusal
   hashes_refusal-at i x l below here = ap (first_slot (hashes_refusal_at F es ctrl)) slots ∙ first_slot-at (hashes_refusal_at F es ctrl) s i x l below here

@@ -1,5 +1,5 @@
--- Slots of which the whole check refuses nothing, for entries es and control bytes ctrl with their mirror; and that the
--- cells which such slots show have these very parts.
+-- Slots for which the whole check has no error, for entries es and control bytes ctrl with their mirror; and that the
+-- cells which such slots decode to have these very parts.
 --     IsSlotFit F es ctrl i   slot i is as an image has it
 --     AllFit F es ctrl        so is each slot
 --     IsMirrored ctrl         the sixteen bytes behind those of the slots are the first sixteen again
@@ -37,19 +37,19 @@ abbrev pub AllFound : Format → List ℕ → List ℕ → Type 0
 AllFound F es ctrl =
     (i : ℕ) → i < length ctrl - 16 → counts_as_free (slice_index ctrl i) ≡ false → search_end F (decoded_cells F es ctrl) (slot_key F es i) ≡ Some i
 
--- nothing is refused of the mirror exactly where it is one
+-- the mirror has no error exactly where it is one
 pub IsMirrored-mirror_refusal : (ctrl : List ℕ) → mirror_refusal ctrl ≡ None → IsMirrored ctrl
 unfolding mirror_refusal
 IsMirrored-mirror_refusal ctrl e i l = differs-false _ _ (gives-None _ _ (first_slot-None (mirror_refusal_at ctrl) 16 e i l))
 
--- and the other way round
+-- and the converse
 pub mirror_refusal-IsMirrored : (ctrl : List ℕ) → IsMirrored ctrl → mirror_refusal ctrl ≡ None
 unfolding mirror_refusal
 mirror_refusal-IsMirrored ctrl h = None-first_slot (mirror_refusal_at ctrl) 16 (λ i l. None-gives _ _ (false-differs _ _ (h i l)))
 
 module _ (F : Format) (es ctrl : List ℕ) where
-  -- ---- what is refused of the slots
-  -- nothing is refused of a slot exactly where it fits
+  -- ---- the errors of the slots
+  -- a slot has no error exactly where it fits
   pub IsSlotFit-slot_refusal_at : (i : ℕ) → slot_refusal_at F es ctrl i ≡ None → IsSlotFit F es ctrl i
   IsSlotFit-slot_refusal_at i e =
       let a = option_or-None (non_zero_empty F es ctrl i) _ e in
@@ -61,56 +61,56 @@ module _ (F : Format) (es ctrl : List ℕ) where
         occupied_tag = λ f. differs-false _ _ (gives_both-None _ _ (ControlMismatch i _ _) c.0 (ap not f));
       }
 
-  -- and the other way round
+  -- and the converse
   pub slot_refusal_at-IsSlotFit : (i : ℕ) → IsSlotFit F es ctrl i → slot_refusal_at F es ctrl i ≡ None
   slot_refusal_at-IsSlotFit i h =
       None-option_or _ _ (None-gives_both _ _ _ (λ f. ap not (h.free_zeros f)))
       (None-option_or _ _ (None-gives_both _ _ _ (λ f. false-differs _ _ (h.free_byte f)))
       (None-option_or _ _ (None-gives_both _ _ _ (λ f. false-differs _ _ (h.occupied_tag (not-true _ f)))) refl))
 
-  -- and of all exactly where each fits
+  -- and all have none exactly where each fits
   pub AllFit-slots_refusal : slots_refusal F es ctrl ≡ None → AllFit F es ctrl
   unfolding slots_refusal
   AllFit-slots_refusal e i l = IsSlotFit-slot_refusal_at i (first_slot-None (slot_refusal_at F es ctrl) (length ctrl - 16) e i l)
 
-  -- and the other way round
+  -- and the converse
   pub slots_refusal-AllFit : AllFit F es ctrl → slots_refusal F es ctrl ≡ None
   unfolding slots_refusal
   slots_refusal-AllFit h = None-first_slot (slot_refusal_at F es ctrl) (length ctrl - 16) (λ i l. slot_refusal_at-IsSlotFit i (h i l))
 
   -- ---- where a search for a slot's key ends
-  -- a slot is not refused for it exactly where the search for its key ends there, or it counts as free
+  -- a slot is reachable exactly where the search for its key ends there, or it counts as free
   pub search_end-unreachable : (i : ℕ) → unreachable F es ctrl i ≡ None → counts_as_free (slice_index ctrl i) ≡ false
       → search_end F (decoded_cells F es ctrl) (slot_key F es i) ≡ Some i
   search_end-unreachable i e f = is_at-true i _ (not-false _ (gives_both-None _ _ _ e (ap not f)))
 
-  -- and the other way round
+  -- and the converse
   pub unreachable-search_end : (i : ℕ) → (counts_as_free (slice_index ctrl i) ≡ false → search_end F (decoded_cells F es ctrl) (slot_key F es i) ≡ Some i)
       → unreachable F es ctrl i ≡ None
   unreachable-search_end i h = None-gives_both _ _ _ (λ f. ap not (ap (is_at i) (h (not-true _ f)) ∙ eq-eqb i i refl))
 
-  -- and none is exactly where nothing is refused of all
+  -- and all slots are exactly where the reach has no error
   pub unreachable-reach_refusal : reach_refusal F es ctrl ≡ None → (i : ℕ) → i < length ctrl - 16 → unreachable F es ctrl i ≡ None
   unfolding reach_refusal
   unreachable-reach_refusal e = first_slot-None (unreachable F es ctrl) (length ctrl - 16) e
 
-  -- and the other way round
+  -- and the converse
   pub reach_refusal-unreachable : ((i : ℕ) → i < length ctrl - 16 → unreachable F es ctrl i ≡ None) → reach_refusal F es ctrl ≡ None
   unfolding reach_refusal
   reach_refusal-unreachable h = None-first_slot (unreachable F es ctrl) (length ctrl - 16) h
 
-  -- ---- the cells that are shown
+  -- ---- the decoded cells
   -- there is one for each slot
   pub length-decoded_cells : length (decoded_cells F es ctrl) ≡ length ctrl - 16
   unfolding decoded_cells
   length-decoded_cells = length-map-range_with_len (decoded_cell F es ctrl) 0 (length ctrl - 16)
 
-  -- and it is what the slot shows
+  -- and it is what the slot decodes to
   pub cell_at-decoded_cells : (i : ℕ) → i < length ctrl - 16 → cell_at (decoded_cells F es ctrl) i ≡ decoded_cell F es ctrl i
   unfolding decoded_cells
   cell_at-decoded_cells i l = get_or-map-range_with_len (decoded_cell F es ctrl) 0 (length ctrl - 16) i i None l (zero-add i)
 
-  -- which is nothing where the slot counts as free
+  -- which is free where the slot counts as free
   pub is_free-decoded_cells : (i : ℕ) → i < length ctrl - 16 → is_free (decoded_cells F es ctrl) i ≡ counts_as_free (slice_index ctrl i)
   is_free-decoded_cells i l = ap (is_none {T = Pair}) (cell_at-decoded_cells i l) ∙ go (counts_as_free (slice_index ctrl i))
     where
@@ -154,7 +154,7 @@ pieces_again w g es a (suc n) l h =
     step i = omega arith
 
 module _ (F : Format) (es ctrl : List ℕ) (fits : AllFit F es ctrl) where
-  -- ---- fit slots, and a mirror, show their parts
+  -- ---- fit slots, and a mirror, decode to cells with their parts
   -- the entries
   pub entries-decoded_cells : length es ≡ (length ctrl - 16) * entry_len F → entries F (decoded_cells F es ctrl) ≡ es
   unfolding entries decoded_cells

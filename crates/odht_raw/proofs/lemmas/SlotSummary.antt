@@ -26,7 +26,7 @@ by_tests true false stray same e h f = refl
 by_tests false zeros stray true e h f = refl
 by_tests false zeros stray false e h f = refl
 
--- it is refused what a view refuses it for, and then for a stray control byte
+-- its error is that of a view, and then that of a stray control byte
 pub slot_refusal_at-is : (F : Format) (es ctrl : List ℕ) (i : ℕ) → slot_refusal_at F es ctrl i ≡ option_or (hashes_refusal_at F es ctrl i) (bad_free_control ctrl i)
 slot_refusal_at-is F es ctrl i =
     by_tests (counts_as_free (slice_index ctrl i)) (list_all is_zero (slot_entry F es i)) (differs (slice_index ctrl i) 255) (slice_index ctrl i == tag F (slot_key F es i))
@@ -60,7 +60,7 @@ count_next f a (suc n) =
     let last = ap (λ x. one (f x)) at in
     omega (arith, h, here, rest, last)
 
--- ---- the slots before n: none is refused, m of them are filled, and o is the first of these that is unreachable
+-- ---- the slots before n: none has an error, m of them are occupied, and o is the first of these that is unreachable
 module _ (F : Format) (T : TableParts) where
   abbrev es : List ℕ
   es = T.entries.bytes
@@ -95,7 +95,7 @@ module _ (F : Format) (T : TableParts) where
     | inr past ↦ let same : n ≡ i = omega arith in subst X same here
   ]
 
-  -- it is not refused where neither look refuses it
+  -- it has no error where neither look has one
   passes : (i : ℕ) → hashes_refusal_at F es ctrl i ≡ None → bad_free_control ctrl i ≡ None → slot_refusal_at F es ctrl i ≡ None
   passes i e f = slot_refusal_at-is F es ctrl i ∙ None-option_or _ _ e f
 
@@ -131,7 +131,7 @@ module _ (F : Format) (T : TableParts) where
     abbrev ends : Bool
     ends = is_at n (search_end F (cells_of F T) (slot_key F es n))
 
-    -- which is reached, or stands behind one that is not
+    -- which is reached, or is behind one that is not
     pub summary_occupied : (is_some o ≡ false → IsFitting F T → true ≡ ends) → IsSummary (n + 1) (m + 1) o
     summary_occupied known = record { passed = occupied_passed; counted = occupied_counted; reached = λ fitting. go o (λ h. known h fitting) (summary.reached fitting) }
       where
@@ -154,23 +154,23 @@ module _ (F : Format) (T : TableParts) where
         here : IsFitting F T → (not (counts_as_free (slice_index ctrl n)) && not ends) ≡ true
         here fitting = rw (occupied, sym (known fitting)) refl
 
-  -- ---- at the first slot that is refused
+  -- ---- at the first slot with an error
   module _ (n m : ℕ) (o : Option ℕ) (summary : IsSummary n m o) (low : n < length ctrl - 16) (x : Error) where
     refused : slot_refusal_at F es ctrl n ≡ Some x → slots_refusal F es ctrl ≡ Some x
     unfolding slots_refusal
     refused here = first_slot-at (slot_refusal_at F es ctrl) (length ctrl - 16) n x low summary.passed here
 
-    -- for what a view refuses it
+    -- that of a view
     pub summary_refused : hashes_refusal_at F es ctrl n ≡ Some x → slots_refusal F es ctrl ≡ Some x
     summary_refused e = refused (slot_refusal_at-is F es ctrl n ∙ option_or-first _ _ x e)
 
-    -- or for a stray control byte
+    -- or that of a stray control byte
     pub summary_stray : hashes_refusal_at F es ctrl n ≡ None → bad_free_control ctrl n ≡ Some x → slots_refusal F es ctrl ≡ Some x
     summary_stray e f = refused (slot_refusal_at-is F es ctrl n ∙ option_or-second _ _ e ∙ f)
 
   -- ---- at the end
   module _ (n m : ℕ) (o : Option ℕ) (summary : IsSummary n m o) (all : length ctrl - 16 ≡ n) where
-    -- no slot is refused
+    -- no slot has an error
     pub all_passed : slots_refusal F es ctrl ≡ None
     unfolding slots_refusal
     all_passed = None-first_slot (slot_refusal_at F es ctrl) (length ctrl - 16) (subst (λ k. (i : ℕ) → i < k → slot_refusal_at F es ctrl i ≡ None) (sym all) summary.passed)
@@ -189,7 +189,7 @@ module _ (F : Format) (T : TableParts) where
         go None none = sym (None-first_slot (unreachable F es ctrl) (length ctrl - 16) (subst (λ k. (i : ℕ) → i < k → unreachable F es ctrl i ≡ None) (sym all) none))
         go (Some j) first = sym (first_slot-at (unreachable F es ctrl) (length ctrl - 16) j (Unreachable j) (subst (λ k. j < k) (sym all) first.0) first.1 first.2)
 
-  -- no more are filled than were looked at
+  -- no more are occupied than were looked at
   pub summary_few : (n m : ℕ) (o : Option ℕ) → IsSummary n m o → m ≤ n
   summary_few n m o summary = omega (arith, summary.counted, few n)
     where

@@ -1,4 +1,4 @@
--- Bytes of which nothing is refused, part by part; such bytes are those of the valid table that they show.
+-- Bytes for which the check has no error, part by part; such bytes are those of the valid table that they decode to.
 --     IsSound F B   the header and the length of B fit, and so does all that the whole check looks at beyond them
 use Rattle.std.proofs.Common.{◌≡◌, ◌<◌, ◌≤◌, ◌∙◌, ◌+◌, ◌-◌, ◌*◌, ◌++◌, ℕ, suc, Bool, true, false, cond, sym, ap, ap₂, subst, subst₂, refl, List, [], ◌∷◌, Some, None, drop, length, slice_index, arith, All, length-drop, length-take-le, drop-cons, ltb-false, le-ltb}
 use Rattle.std.proofs.lemmas.List.Elements.{All-take, All-drop}
@@ -35,7 +35,7 @@ pub record IsSound (F : Format) (B : List ℕ) : Type 0 where
   pub room : header_count B ≤ max_items (header_slots B) (header_factor B)
   pub found : AllFound F (entries_of F B) (controls_of F B)
 
--- of accepted bytes nothing more is refused exactly where they are sound
+-- for accepted bytes the rest of the check has no error exactly where they are sound
 pub IsSound-late_refusal : (F : Format) (B : List ℕ) → IsAccepted F B → late_refusal F B ≡ None → IsSound F B
 unfolding late_refusal
 IsSound-late_refusal F B accepted e =
@@ -59,7 +59,7 @@ IsSound-late_refusal F B accepted e =
       found = λ i l. search_end-unreachable F es ctrl i (unreachable-reach_refusal F es ctrl h.0 i l);
     }
 
--- and the other way round
+-- and the converse
 pub late_refusal-IsSound : (F : Format) (B : List ℕ) → IsSound F B → late_refusal F B ≡ None
 unfolding late_refusal
 late_refusal-IsSound F B h =
@@ -73,9 +73,9 @@ late_refusal-IsSound F B h =
     (None-option_or _ _ (None-gives _ _ (le-ltb _ _ h.room))
     (None-option_or _ _ (reach_refusal-unreachable F es ctrl (λ i l. unreachable-search_end F es ctrl i (h.found i l))) refl))))))
 
--- ---- the cells that parts show
+-- ---- the cells that parts decode to
 module _ (F : Format) (es ctrl : List ℕ) where
-  -- a slot that shows a pair is filled, and the pair is its entry
+  -- a slot that decodes to a pair is occupied, and the pair is its entry
   decoded_cell-Some : (i : ℕ) (p : Pair) → decoded_cell F es ctrl i ≡ Some p
       → (counts_as_free (slice_index ctrl i) ≡ false) × (p ≡ record { key = slot_key F es i; value = slot_value F es i })
   decoded_cell-Some i p e = go (counts_as_free (slice_index ctrl i)) e
@@ -85,7 +85,7 @@ module _ (F : Format) (es ctrl : List ℕ) where
       go true g = absurd (none-some p g)
       go false g = (refl, sym (some_same _ p g))
 
-  -- what a cell with a pair tells of its slot
+  -- the slot of a cell with a pair
   record IsOccupiedBy (i : ℕ) (p : Pair) : Type 0 where
     within : i < length ctrl - 16
     occupied : counts_as_free (slice_index ctrl i) ≡ false
@@ -148,7 +148,7 @@ module _ (F : Format) (B : List ℕ) (small : All (λ x. x < 256) B) (h : IsSoun
   slot_count-decoded_table : slot_count (decoded_table F B) ≡ header_slots B
   slot_count-decoded_table = length-decoded_cells F (entries_of F B) (controls_of F B) ∙ slots_are
 
-  -- they show a valid table
+  -- they decode to a valid table
   IsValid-decoded_table : IsValid F (decoded_table F B)
   IsValid-decoded_table = record {
     placed = IsPlaced-decoded_cells F (entries_of F B) (controls_of F B) (header_factor B) (subst IsSlotCount (sym slots_are) (accepted_slots F B h.accepted))

@@ -1,5 +1,5 @@
--- Slots that wait to be placed, as they are listed: the list of all occupied slots as it is made, and the place of one slot in a
--- list that rises.
+-- Slots that wait to be placed, as they are listed: the list of all occupied slots as it is made, and the index of one
+-- slot in a list that rises.
 use Rattle.std.proofs.Common.{◌≡◌, ◌<◌, ◌≤◌, ◌+◌, ◌^◌, ◌∙◌, ◌⊎◌, inl, inr, ℕ, zero, suc, Bool, true, false, true≢false, not, cond, sym, ap, ap₂, subst, refl, List, [], ◌∷◌, ◌++◌, Option, Some, None, map, filter, length, take, AllPairs, slice_index, ltb, arith, Contains, ◌==◌, Bor}
 use Rattle.std.specs.Prelude.{is_some, is_none}
 use Rattle.std.specs.Bool.{Decides}
@@ -165,7 +165,7 @@ parted_where_rising ns slot up = IsPartitionedBy-ltb slot_of ns slot (IsNonDecre
   | inr same ↦ let e : i ≡ j = omega arith in omega (arith, ap (λ k. slot_of (slice_index ns k)) e)
 ]))
 
--- a slot that waits is listed at the first place whose slot is not below it
+-- a slot that waits is listed at the first index whose slot is not below it
 pub waits_at_point : (ns : List ℕ) (slot i : ℕ) → slot < 2 ^ 63 → AreRising ns
     → IsPartitionPoint (λ n. ltb (slot_of n) slot ≡ true) (λ n. ltb (slot_of n) slot ≡ false) ns i
     → Contains ns (waiting slot) → (i < length ns) × (slice_index ns i ≡ waiting slot)

@@ -17,7 +17,7 @@ use Rattle.odht_base.specs.Valid.{IsImage, IsPairOf, IsPlaced}
 use Rattle.odht_base.specs.Groups.{occupied}
 use Rattle.odht_base.proofs.lemmas.DistinctKeys.{walk-IsPairOf}
 use Rattle.odht_base.proofs.lemmas.Image.{decoded_table-image}
-use Rattle.odht_base.proofs.lemmas.MarkedPositions.{positions_of, occupied-places}
+use Rattle.odht_base.proofs.lemmas.MarkedPositions.{positions_of, occupied-positions}
 use Rattle.odht_raw.specs.Parts.{TableParts, entry_format}
 use Rattle.odht_raw.specs.Walks.{Item, item, slot_item, slot_numbered, items_of, items_from, numbered_of, numbered_from, AreOccupied, decoded_items, decoded_numbered}
 
@@ -47,18 +47,18 @@ drop-range (suc m) a (suc n) =
     let less : n - m ≡ suc n - suc m = omega arith in
     drop-range m (a + 1) n ∙ (λ i. range_with_len (next i) (less i))
 
--- places that are counted from another start
-places-shift : (a i : ℕ) (bs : List Bool) → map (λ j. a + j) (positions_of i bs) ≡ positions_of (a + i) bs
-places-shift a i [] = refl
-places-shift a i (b ∷ bs) =
+-- positions that are counted from another start
+positions-shift : (a i : ℕ) (bs : List Bool) → map (λ j. a + j) (positions_of i bs) ≡ positions_of (a + i) bs
+positions-shift a i [] = refl
+positions-shift a i (b ∷ bs) =
     let e : a + (i + 1) ≡ a + i + 1 = omega arith in
-    go b (places-shift a (i + 1) bs ∙ ap (λ n. positions_of n bs) e)
+    go b (positions-shift a (i + 1) bs ∙ ap (λ n. positions_of n bs) e)
   where
     go : (x : Bool) → map (λ j. a + j) (positions_of (i + 1) bs) ≡ positions_of (a + i + 1) bs → map (λ j. a + j) (positions_of i (x ∷ bs)) ≡ positions_of (a + i) (x ∷ bs)
     go true r = ap (λ xs. (a + i) ∷ xs) r
     go false r = r
 
--- each place of a filled byte is one of the list's, and filled
+-- each position of an occupied byte is one of the list's, and occupied
 pub occupied-All : (T : TableParts) (a : ℕ) (bs : List ℕ) → a + length bs ≤ T.entries.slots → ((k : ℕ) → k < length bs → slice_index T.control (a + k) ≡ slice_index bs k) → AreOccupied T a (occupied bs)
 occupied-All T a bs fits are k d l =
     let within = All-filter (λ i. nat_lt (slice_index bs i) 128) (λ i. i < length bs) (range_with_len 0 (length bs)) (λ j e h. let n = length-range_with_len 0 (length bs) in let m : j < length bs = omega arith in subst (λ x. x < length bs) (sym (get_or-range_with_len 0 (length bs) j e m ∙ (let z : 0 + j ≡ j = omega arith in z))) m) k d l in
@@ -88,7 +88,7 @@ module _ {K V : Type 0} (f : List ℕ → K) (g : List ℕ → V) (F : Format) (
   numbered_from-group a n bs len fits are =
       let split : T.entries.slots - a ≡ n + (T.entries.slots - (a + n)) = omega arith in
       let zero : a + 0 ≡ a = omega arith in
-      let slots : map (λ i. a + i) (occupied bs) ≡ positions_of a (map (λ x. nat_lt x 128) bs) = ap (map (λ i. a + i)) (occupied-places bs) ∙ places-shift a 0 (map (λ x. nat_lt x 128) bs) ∙ ap (λ m. positions_of m (map (λ x. nat_lt x 128) bs)) zero in
+      let slots : map (λ i. a + i) (occupied bs) ≡ positions_of a (map (λ x. nat_lt x 128) bs) = ap (map (λ i. a + i)) (occupied-positions bs) ∙ positions-shift a 0 (map (λ x. nat_lt x 128) bs) ∙ ap (λ m. positions_of m (map (λ x. nat_lt x 128) bs)) zero in
       ap (λ m. numbered_of f g F T (range_with_len a m)) split
       ∙ ap (numbered_of f g F T) (range-append a n (T.entries.slots - (a + n)))
       ∙ filter_map-append (slot_numbered f g F T) (range_with_len a n) (range_with_len (a + n) (T.entries.slots - (a + n)))
@@ -135,7 +135,7 @@ module _ {EK EV K V : Type 0} (f : List ℕ → EK) (g : List ℕ → EV) (decod
   abbrev pair_of : Pair → K × V
   pair_of p = (decode_key (f p.key), decode_value (g p.value))
 
-  -- the items of slots, decoded, are the pairs that these show, decoded
+  -- the items of slots, decoded, are the pairs of these slots, decoded
   decoded_items-slots : (F : Format) (T : TableParts) (is : List ℕ)
       → decoded_items decode_key decode_value (filter_map (slot_item f g F T) is) ≡ map pair_of (filter_map (λ c. c) (map (decoded_cell F T.entries.bytes T.control) is))
   decoded_items-slots F T [] = refl
@@ -148,7 +148,7 @@ module _ {EK EV K V : Type 0} (f : List ℕ → EK) (g : List ℕ → EV) (decod
       go None e = e
       go (Some p) e = ap (λ xs. pair_of p ∷ xs) e
 
-  -- a walk over all slots, decoded, gives the pairs that the parts show
+  -- a walk over all slots, decoded, gives the pairs of the parts
   pub decoded_items-decoded_cells : (key_len value_len : ℕ) (hash : List ℕ → ℕ) (T : TableParts) → length T.control ≡ T.entries.slots + 16
       → decoded_items decode_key decode_value (items_from f g (entry_format key_len value_len) T 0)
       ≡ map pair_of (filter_map (λ c. c) (decoded_cells (format_of key_len value_len hash) T.entries.bytes T.control))
@@ -158,7 +158,7 @@ module _ {EK EV K V : Type 0} (f : List ℕ → EK) (g : List ℕ → EV) (decod
       decoded_items-slots (entry_format key_len value_len) T (range_with_len 0 (T.entries.slots - 0))
       ∙ ap (λ n. map pair_of (filter_map (λ c. c) (map (decoded_cell (entry_format key_len value_len) T.entries.bytes T.control) (range_with_len 0 n)))) slots
 
-  -- numbered items, decoded, are the numbered pairs of the cells that the slots show
+  -- numbered items, decoded, are the numbered pairs of the cells of the slots
   numbered-cells : (F : Format) (T : TableParts) (i n : ℕ)
       → decoded_numbered decode_key decode_value (filter_map (slot_numbered f g F T) (range_with_len i n))
       ≡ map (λ (x : ℕ × Pair). (x.0, pair_of x.1)) (numbered i (map (decoded_cell F T.entries.bytes T.control) (range_with_len i n)))
@@ -174,7 +174,7 @@ module _ {EK EV K V : Type 0} (f : List ℕ → EK) (g : List ℕ → EV) (decod
       go rest None e = e
       go rest (Some p) e = ap (λ xs. (i, pair_of p) ∷ xs) e
 
-  -- so a walk from a slot on, decoded, gives the pairs that the bytes show from there on
+  -- so a walk from a slot on, decoded, gives the pairs of the bytes from there on
   pub decoded_numbered-decoded_table : (key_len value_len : ℕ) (hash : List ℕ → ℕ) (T : TableParts) (B : List ℕ) (i : ℕ) → length T.control ≡ T.entries.slots + 16
       → T.entries.bytes ≡ entries_of (format_of key_len value_len hash) B → T.control ≡ controls_of (format_of key_len value_len hash) B
       → decoded_numbered decode_key decode_value (numbered_from f g (entry_format key_len value_len) T i)
@@ -190,7 +190,7 @@ module _ {EK EV K V : Type 0} (f : List ℕ → EK) (g : List ℕ → EV) (decod
       ∙ ap (λ cs. map (λ (x : ℕ × Pair). (x.0, pair_of x.1)) (numbered i cs)) here
       ∙ (λ j. map (λ (x : ℕ × Pair). (x.0, pair_of x.1)) (numbered i (drop i (decoded_cells (format_of key_len value_len hash) (entries j) (control j)))))
 
--- the bytes of a valid table show its pairs
+-- the bytes of a valid table decode to its pairs
 pub decoded_pairs-image : (F : Format) (P : Table) (B : List ℕ) → IsFormat F → IsImage F P B → decoded_pairs F B ≡ walk P
 decoded_pairs-image F P B f is = ap (decoded_pairs F) is.bytes ∙ ap walk (decoded_table-image F P f is.valid)
 

@@ -1,4 +1,4 @@
--- The whole check refuses nothing exactly of valid bytes.
+-- The whole check has no error exactly for valid bytes.
 use Rattle.std.proofs.Common.{◌≡◌, ◌<◌, ◌≤◌, ◌∙◌, ◌+◌, ◌-◌, ◌==◌, ℕ, true≢false, sym, ap, ap₂, subst, subst₂, refl, List, [], ◌∷◌, Option, Some, None, is_none, All, length, slice_index, arith}
 use Rattle.std.specs.List.{list_all}
 use Rattle.odht_base.specs.Bytes.{bytes_at}
@@ -96,22 +96,22 @@ IsSound-image F f P h =
     }
 
 -- ---- the whole check
--- accepted bytes of which the rest refuses nothing are valid
+-- accepted bytes for which the rest has no error are valid
 pub valid_late : (F : Format) (B : List ℕ) → All (λ x. x < 256) B → IsAccepted F B → late_refusal F B ≡ None → IsValidBytes F B
 valid_late F B small accepted e = IsValidBytes-IsSound F B small (IsSound-late_refusal F B accepted e)
 
--- and the other way round
+-- and the converse
 pub late_valid : (F : Format) (B : List ℕ) → IsFormat F → IsValidBytes F B → late_refusal F B ≡ None
 late_valid F B f (P, is) = ap (late_refusal F) is.bytes ∙ late_refusal-IsSound F (image F P) (IsSound-image F f P is.valid)
 
--- bytes of which nothing is refused are valid
+-- bytes for which the check has no error are valid
 pub check_valid : (F : Format) (B : List ℕ) → All (λ x. x < 256) B → check_refusal F B ≡ None → IsValidBytes F B
 unfolding check_refusal
 check_valid F B small e =
     let both = option_or-None (view_refusal F B) (late_refusal F B) e in
     valid_late F B small (view_refusal-accepted F B both.0) both.1
 
--- and the other way round
+-- and the converse
 pub valid_check : (F : Format) (B : List ℕ) → IsFormat F → IsValidBytes F B → check_refusal F B ≡ None
 valid_check F B f (P, is) =
     check_refusal-late F B (ap (view_refusal F) is.bytes ∙ view_refusal-image F f P is.valid.placed) ∙ late_valid F B f (P, is)

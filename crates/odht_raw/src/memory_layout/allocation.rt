@@ -21,10 +21,10 @@ mod batches;
 mod lists;
 mod writing;
 
-// How many slots a view looks at when it is opened.
+// How many slots are checked when a view is opened.
 const SLOTS_TO_CHECK: usize = 10;
 
-/// The bytes of a table, whose header and length fit. A contract speaks of it as of the store.
+/// A store of the bytes of a table, whose header and length fit. In a contract it is the store.
 #[derive(Drop)]
 pub struct Allocation<C: Config, M: ByteStore> {
     store: M,
@@ -44,10 +44,9 @@ impl<C: Config, M: ByteStore> Model for Allocation<C, M> {
 }
 
 impl<C: Config, M: ByteStore> Allocation<C, M> {
-    /// Takes the bytes as those of a table where nothing is refused: `TooShort`, then what
-    /// [`Header::sanity_check`] refuses, then what [`RawTable::sanity_check_hashes`] refuses of the first ten slots.
-    ///
-    /// The answer is the first refusal; then the data is dropped.
+    /// Opens the bytes as those of a table. The answer is the first error, if any: `TooShort`, then those of
+    /// [`Header::sanity_check`], then those of [`RawTable::sanity_check_hashes`] on the first ten slots. On an error
+    /// the data is dropped. Valid bytes are always opened; bytes that are opened need not be valid.
     #[inline(always)]
     pub fn from_raw_bytes(data: M) -> Result<Self, Error>
         ensures ok { IfOk result (λ a. a ≡ «data») }
@@ -63,8 +62,8 @@ impl<C: Config, M: ByteStore> Allocation<C, M> {
         Ok(allocation)
     }
 
-    /// Takes the bytes as those of a table by their header and their length alone: `TooShort`, then what
-    /// [`Header::sanity_check`] refuses. No slot is looked at. On a refusal the data is dropped.
+    /// Opens the bytes as those of a table by their header and length alone. The answer is the first error, if any:
+    /// `TooShort`, then those of [`Header::sanity_check`]. No slot is read. On an error the data is dropped.
     #[inline(always)]
     pub fn from_raw_bytes_by_header(data: M) -> Result<Self, Error>
         ensures ok { IfOk result (λ a. a ≡ «data») }
@@ -82,13 +81,13 @@ impl<C: Config, M: ByteStore> Allocation<C, M> {
         })
     }
 
-    /// Takes the bytes as those of a table, which the caller knows them to be: nothing is looked at.
+    /// Opens bytes that the caller knows to have a header and a length that fit. Nothing is checked.
     #[inline]
     pub fn from_raw_bytes_unchecked(data: M) -> Self
         requires { IsAccepted ⟦<C as Coded>⟧.coding.format (M.bytes «data») }
         ensures { result ≡ «data» }
     {
-        // A slice's length is below 2^64, and with it that of the store.
+        // A slice's length is below 2^64, so that of the store's bytes is too.
         let _ = data.bytes();
         Allocation {
             store: data,
@@ -96,7 +95,7 @@ impl<C: Config, M: ByteStore> Allocation<C, M> {
         }
     }
 
-    /// All bytes.
+    /// All bytes of the table.
     #[inline]
     pub fn raw_bytes(&self) -> &[u8]
         ensures bytes { result.now ≡ M.bytes self.now }

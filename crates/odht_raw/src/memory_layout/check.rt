@@ -9,12 +9,13 @@ use crate::config::{Coded, Config};
 use crate::error::Error;
 use crate::raw_table::RawTable;
 
-/// Looks at all of the bytes, and answers the first refusal: what [`Allocation::from_raw_bytes`] refuses, then what
-/// [`Allocation::check_rest`] does. Ok exactly for valid bytes.
+/// Checks all of the bytes, and answers the first error: first those of [`Allocation::from_raw_bytes`], then those of
+/// [`Allocation::check_rest`]. Ok exactly for valid bytes.
 ///
-/// The rules and their order are those of docs/FORMAT.md, "What is refused, and in which order". It takes no memory. Where
-/// hashes vary it is linear in the bytes; at worst, where all keys of `s` slots have one hash, it looks at about `s*s/32`
-/// groups and makes `s*s/2` compares, for 2^20 slots in over an hour, so who takes bytes of strangers bounds their length.
+/// The rules and their order are those of docs/FORMAT.md, "What is refused, and in which order". It allocates nothing.
+/// Where hashes vary its time is linear in the bytes. At worst, where all keys of `s` slots have one hash, it reads
+/// about `s*s/32` groups and makes `s*s/2` comparisons of keys: over an hour for 2^20 slots. So the length of untrusted
+/// bytes has to be bounded by the caller.
 pub fn check_all<C: Config>(bytes: &[u8]) -> Result<(), Error>
     ensures first { result ≡ checked (check_refusal ⟦<C as Coded>⟧.coding.format bytes.now) }
     ensures valid { IsOk result ↔ IsValidBytes ⟦<C as Coded>⟧.coding.format bytes.now }
@@ -24,13 +25,13 @@ pub fn check_all<C: Config>(bytes: &[u8]) -> Result<(), Error>
 }
 
 impl<C: Config, M: ByteStore> Allocation<C, M> {
-    /// Looks at what opening leaves out, and answers the first refusal: `LoadFactorTooSmall`, `NonZeroPadding`; of the
+    /// Checks what opening leaves out, and answers the first error: `LoadFactorTooSmall`, `NonZeroPadding`; of the
     /// slots in order `NonZeroEmpty`, `BadFreeControl` or `ControlMismatch`; `MirrorMismatch`, `WrongItemCount`,
-    /// `TooManyItems`; and `Unreachable` of the first occupied slot that is not where a search slot by slot for its key ends.
-    /// Ok exactly for valid bytes.
+    /// `TooManyItems`; and `Unreachable` of the first occupied slot at which a search slot by slot for its key does not
+    /// end. Ok exactly for valid bytes.
     ///
-    /// Each slot is read once, in slot order, and for each occupied slot the control bytes of its key's probe order up to it,
-    /// sixteen at a time. A key is compared only where an earlier place has its tag.
+    /// Each slot is read once, in slot order, and for each occupied slot the control bytes of its key's probe order up
+    /// to it, sixteen at a time. A key is compared only with keys at earlier positions that have its tag.
     pub fn check_rest(&self) -> Result<(), Error>
         ensures first { result ≡ checked (late_refusal ⟦<C as Coded>⟧.coding.format (M.bytes self.now)) }
         ensures valid { IsOk result ↔ IsValidBytes ⟦<C as Coded>⟧.coding.format (M.bytes self.now) }
@@ -39,7 +40,7 @@ impl<C: Config, M: ByteStore> Allocation<C, M> {
         self.check_late()
     }
 
-    // `check_rest`, of which nothing is said but the first refusal.
+    // `check_rest`; its contract gives the first error alone.
     fn check_late(&self) -> Result<(), Error>
         ensures { result ≡ checked (late_refusal ⟦<C as Coded>⟧.coding.format (M.bytes self.now)) }
     {
@@ -60,7 +61,7 @@ impl<C: Config, M: ByteStore> Allocation<C, M> {
     }
 }
 
-// What a slice of bytes holds, for the proof: it does nothing.
+// Does nothing: its contract gives the proof that each item of a slice of bytes is below 256.
 #[inline(always)]
 pub(crate) fn hold_bytes(bytes: &[u8])
     ensures { All (λ byte. byte < 256) bytes.now }

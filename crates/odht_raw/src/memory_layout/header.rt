@@ -1,4 +1,4 @@
-//! The header of a table: its fields at their offsets, how it is written, and what it is refused for.
+//! The header of a table: its fields at their offsets, how it is written, and how it is checked.
 //!
 //! The fields are those of docs/FORMAT.md, "Layout".
 ghost use Rattle.std.specs.Prelude.{◌≡◌, ◌+◌, ◌-◌, ◌*◌, ◌<◌, ◌≤◌, length};
@@ -22,7 +22,7 @@ pub const HEADER_SIZE: usize = 32;
 const HEADER_TAG: [u8; 4] = *b"ODHT";
 /// The version of the format that is written and read.
 const CURRENT_FILE_FORMAT_VERSION: [u8; 4] = [0, 0, 0, 2];
-// Where the fields stand.
+// The offsets of the fields.
 const TAG_AT: usize = 0;
 
 const METADATA_SIZE_AT: usize = 4;
@@ -64,7 +64,7 @@ impl<'a> Model for Header<'a> {
 }
 
 impl<'a> Header<'a> {
-    /// The header of the bytes, which are at least its 32.
+    /// The header of the bytes, of which there are at least 32.
     #[inline]
     pub fn of(bytes: &'a [u8]) -> Self
         requires { 32 ≤ length bytes.now }
@@ -73,11 +73,12 @@ impl<'a> Header<'a> {
         Header { bytes }
     }
 
-    /// Looks at the header as that of a table of `raw_bytes_len` bytes, and answers the first refusal: `WrongTag`,
+    /// Checks the header as that of a table of `raw_bytes_len` bytes, and answers the first error: `WrongTag`,
     /// `WrongVersion`, `WrongSizeOf` of a control byte, key, value or header, `SlotCountNotPowerOfTwo`,
     /// `SlotCountTooSmall`, `WrongLength`.
     ///
-    /// The length that so many slots need is computed in 128 bits, so a forged count is refused for what it says.
+    /// The length of a table of the header's slot count is computed in 128 bits, so a forged slot count cannot make it
+    /// wrap.
     #[inline(always)]
     pub fn sanity_check<C: Config>(&self, raw_bytes_len: usize) -> Result<(), Error>
         ensures { result ≡ checked (header_refusal ⟦<C as Coded>⟧.coding.format raw_bytes_len self.now) }
@@ -126,7 +127,7 @@ impl<'a> Header<'a> {
         [bytes[at], bytes[at + 1], bytes[at + 2], bytes[at + 3]]
     }
 
-    // Whether the byte `at` states this size of the part.
+    // Whether by the byte `at` the part has this size; else `WrongSizeOf`.
     #[inline(always)]
     fn check_expected_size(&self, at: usize, part: Part, expected: usize) -> Result<(), Error>
         requires { at < 32 }
@@ -159,7 +160,7 @@ impl<'a> Header<'a> {
         }
     }
 
-    // Whether so many bytes are the table of so many slots as the header states.
+    // Whether a table of the header's slot count has so many bytes; else `WrongLength`.
     #[inline(always)]
     fn check_length<C: Config>(&self, found: usize) -> Result<(), Error>
         ensures { result ≡ checked (length_refusal ⟦<C as Coded>⟧.coding.format found self.now) }
@@ -177,7 +178,7 @@ impl<'a> Header<'a> {
         }
     }
 
-    /// Whether the load factor is one of at least one percent; else `LoadFactorTooSmall`.
+    /// Whether the load factor is at least that of one percent, 655; else `LoadFactorTooSmall`.
     pub(super) fn check_load_factor(&self) -> Result<(), Error>
         ensures { result ≡ checked (factor_refusal self.now) }
     {
@@ -189,7 +190,7 @@ impl<'a> Header<'a> {
         }
     }
 
-    /// Whether the padding is zeros; else `NonZeroPadding`.
+    /// Whether the padding is two zeros; else `NonZeroPadding`.
     pub(super) fn check_padding(&self) -> Result<(), Error>
         ensures { result ≡ checked (padding_refusal self.now) }
     {
@@ -202,8 +203,8 @@ impl<'a> Header<'a> {
         }
     }
 
-    /// Whether so many items as were found are stated, and no more than the maximum; else `WrongItemCount`, then
-    /// `TooManyItems`.
+    /// Whether the header's item count is the number of occupied slots found, and at most the maximum; else
+    /// `WrongItemCount`, then `TooManyItems`.
     pub(super) fn check_item_count(&self, found: usize) -> Result<(), Error>
         ensures { result ≡ checked (option_or (count_refusal found self.now) (room_refusal self.now)) }
     {
@@ -218,7 +219,7 @@ impl<'a> Header<'a> {
         Ok(())
     }
 
-    /// How many items the header states.
+    /// The header's item count.
     #[inline]
     pub fn item_count(&self) -> usize
         ensures { result ≡ header_count self.now }
@@ -227,7 +228,7 @@ impl<'a> Header<'a> {
         read_u64(bytes, ITEM_COUNT_AT) as usize
     }
 
-    /// How many slots the header states.
+    /// The header's slot count.
     #[inline]
     pub fn slot_count(&self) -> usize
         ensures { result ≡ header_slots self.now }
@@ -236,7 +237,7 @@ impl<'a> Header<'a> {
         read_u64(bytes, SLOT_COUNT_AT) as usize
     }
 
-    /// The load factor that the header states.
+    /// The header's load factor.
     #[inline]
     pub fn max_load_factor(&self) -> Factor
         ensures { result.0 ≡ header_factor self.now }
@@ -246,7 +247,7 @@ impl<'a> Header<'a> {
     }
 }
 
-/// Writes the header of a table of `slot_count` slots that states `item_count` items.
+/// Writes the header of a table of `slot_count` slots with the item count `item_count`.
 pub fn write_header<C: Config>(
     header: &mut [u8],
     slot_count: usize,

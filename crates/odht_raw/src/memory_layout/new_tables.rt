@@ -1,4 +1,4 @@
-//! New tables, in bytes that are there and in memory of their own.
+//! New tables, in given bytes and in newly allocated memory.
 ghost use Rattle.std.specs.Prelude.{◌≡◌, ◌+◌, ◌-◌, ◌*◌, ◌<◌, ◌≤◌, ◌^◌, ◌↔◌, ◌⊎◌, length, replicate, IfOk, OnErr};
 ghost use Rattle.odht_base.specs.Bytes.{bytes_at, overwritten_at};
 ghost use Rattle.odht_base.specs.Load.{IsSlotCount};
@@ -19,7 +19,7 @@ use std::alloc::Global;
 // How many bytes `fill` writes at once: each write is one memset, and small ones would cost a call each.
 const FILL_CHUNK: usize = 4096;
 
-/// Makes the table of `slot_count` free slots that states `item_count` items in `data`, whatever stood there.
+/// Makes a table of `slot_count` free slots in `data`, whatever its bytes are. The header's item count is `item_count`.
 pub fn init_in_place<C: Config, M: ByteStoreMut>(
     mut data: M,
     slot_count: usize,
@@ -61,9 +61,10 @@ fn init_zeroed<C: Config, M: ByteStoreMut>(
     Allocation::from_raw_bytes_unchecked(data)
 }
 
-/// Makes the table of `slot_count` free slots that states `item_count` items in memory of its own.
+/// Makes a table of `slot_count` free slots in newly allocated memory. The header's item count is `item_count`.
 ///
-/// `Capacity` exactly where its length passes `usize`; `Memory` where the memory was refused.
+/// The error is `Capacity` exactly where the length of the table in bytes passes `usize::MAX`, and `Memory` where the
+/// allocation fails.
 pub fn allocate<C: Config>(
     alloc: Global,
     slot_count: usize,
@@ -83,7 +84,7 @@ pub fn allocate<C: Config>(
     Ok(init_zeroed(bytes, slot_count, item_count, max_load_factor))
 }
 
-// Writes one byte again and again, from `from` up to `to`.
+// Writes `byte` at each index from `from` up to, but not including, `to`.
 fn fill<M: ByteStoreMut>(data: &mut M, from: usize, to: usize, byte: u8)
     requires order { from ≤ to }
     requires fits { to ≤ length (M.bytes «data».old) }

@@ -11,7 +11,7 @@ use crate::config::{Coded, Config};
 use crate::load::{Factor, slots_needed};
 use crate::swisstable_group_query::REFERENCE_GROUP_SIZE;
 
-/// How many bytes a table of `slot_count` slots has. None exactly where that passes `usize`.
+/// How many bytes a table of `slot_count` slots has. None exactly where that passes `usize::MAX`.
 #[inline]
 pub fn bytes_needed<C: Config>(slot_count: usize) -> Option<usize>
     ensures len { let len = image_len ⟦<C as Coded>⟧.coding.format slot_count
@@ -25,8 +25,8 @@ pub fn bytes_needed<C: Config>(slot_count: usize) -> Option<usize>
     Some(len as usize)
 }
 
-/// The slots of a new table for `max_item_count` items, and how many bytes it has. None exactly where no slot count is
-/// enough, or the length passes `usize`.
+/// The slot count of a new table for `max_item_count` items, and its length in bytes. None exactly where no slot count
+/// is enough, or the length passes `usize::MAX`.
 pub fn layout_for<C: Config>(
     max_item_count: usize,
     max_load_factor: Factor,

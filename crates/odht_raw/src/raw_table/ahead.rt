@@ -1,4 +1,4 @@
-//! Inserts of several keys whose slots are looked up ahead, so that the waits for their control bytes overlap.
+//! Inserts of several keys whose slots are looked up ahead, so that the memory accesses to their control bytes overlap.
 ghost use Rattle.std.specs.Prelude.{◌≡◌, ◌-◌, length};
 ghost use Rattle.odht_base.specs.Load.{IsSlotCount};
 ghost use Rattle.odht_base.specs.Format.{format_of};
@@ -20,10 +20,11 @@ use crate::error::Error;
 use crate::hash::HashFn;
 use crate::swisstable_group_query::{Group, GroupQuery, REFERENCE_GROUP_SIZE};
 
-/// The hash of a key, and the slot where a pair with the key goes, as far as the first group search at its home slot tells
-/// it; the slot count where a key may have to be compared, or where none of these bytes counts as free.
+/// The hash of a key, and the slot where a pair with the key is placed, where the first group search at its home slot
+/// finds it; else the slot count: where a key may have to be compared, or where none of these control bytes counts as
+/// free.
 ///
-/// No entry is looked at, so the calls for several keys need not wait for one another.
+/// No entry is read, so the calls for several keys do not depend on one another.
 #[inline(always)]
 pub(crate) fn expected_slot<K: ByteArray, V: ByteArray, H: HashFn, Q: Group>(
     control: &[EntryMetadata],
@@ -47,8 +48,8 @@ pub(crate) fn expected_slot<K: ByteArray, V: ByteArray, H: HashFn, Q: Group>(
     }
 }
 
-/// `RawTableMut::insert` of a key with this hash, for which the search was expected to end at this slot. Where the slot
-/// still counts as free the pair is written there; else the whole search is made.
+/// `RawTableMut::insert` of a key with this hash, whose search was expected to end at this slot. Where the slot still
+/// counts as free the pair is written there; else the whole search is made.
 #[inline(always)]
 pub(crate) fn insert_expected<K: ByteArray, V: ByteArray, H: HashFn>(
     control: &mut [EntryMetadata],
@@ -72,7 +73,7 @@ pub(crate) fn insert_expected<K: ByteArray, V: ByteArray, H: HashFn>(
     insert_at::<K, V, H>(control, entries, key, value, tag_of(hash), end)
 }
 
-// Where the search for the key ends, which was expected to be this slot.
+// Where the search for the key ends. It was expected to end at this slot.
 #[inline(always)]
 fn expected_end<K: ByteArray, V: ByteArray, H: HashFn>(
     control: &[EntryMetadata],
@@ -98,7 +99,7 @@ fn expected_end<K: ByteArray, V: ByteArray, H: HashFn>(
     whole_search::<K, V, H>(control, entries, key, hash)
 }
 
-// The whole search, which few inserts need.
+// The whole search, which few inserts need, so it is not inlined.
 #[inline(never)]
 fn whole_search<K: ByteArray, V: ByteArray, H: HashFn>(
     control: &[EntryMetadata],

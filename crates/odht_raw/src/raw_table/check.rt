@@ -1,4 +1,4 @@
-//! The whole check of the parts of a table: each slot, the mirror, and that each key stands where the search for it ends.
+//! The whole check of the parts of a table: each slot, the mirror, and that the search for each key ends at its slot.
 ghost use Rattle.std.specs.Prelude.{◌≡◌, ◌<◌, ◌≤◌, ◌↔◌, slice_index, option_map, IfOk, IsTrue, IsFalse, None};
 ghost use Rattle.std.specs.Result.{result_err};
 ghost use Rattle.odht_base.specs.Format.{format_of, tag as key_tag};
@@ -14,21 +14,21 @@ use crate::hash::HashFn;
 use crate::swisstable_group_query::lanes::GroupQuery;
 use crate::swisstable_group_query::{Group, REFERENCE_GROUP_SIZE};
 
-/// What a look at all slots tells, where none is refused.
+/// What a check of all slots found, where no slot gives an error.
 #[derive(Clone, Copy)]
 pub(crate) struct SlotSummary {
-    /// How many slots are filled.
+    /// How many slots are occupied.
     pub occupied: usize,
-    /// The first occupied slot that is not where the search for its key ends.
+    /// The first occupied slot at which the search for its key does not end.
     pub unreachable: Option<usize>,
 }
 
 impl<'a, K: ByteArray, V: ByteArray, H: HashFn> RawTable<'a, K, V, H> {
-    /// Looks at each slot once, in slot order, and answers the first refusal: `NonZeroEmpty`, then `BadFreeControl`, of a
+    /// Checks each slot once, in slot order, and answers the first error: `NonZeroEmpty`, then `BadFreeControl`, of a
     /// slot that counts as free, `ControlMismatch` of any other.
     ///
-    /// Where none is refused and the mirror is right, it tells which slot is the first that its key's search misses.
-    // Inlined beside an opening, it would keep the first ten control bytes in registers.
+    /// `unreachable` is right where no slot gives an error and the mirror has no mismatch.
+    // Inlined next to an opening, it would keep the first ten control bytes in registers.
     #[inline(never)]
     pub(crate) fn check_slots(&self) -> Result<SlotSummary, Error>
         ensures err { let F = format_of K.LEN V.LEN H.hash
@@ -57,7 +57,7 @@ impl<'a, K: ByteArray, V: ByteArray, H: HashFn> RawTable<'a, K, V, H> {
         })
     }
 
-    // Whether the control byte of a slot that counts as free is `FREE`.
+    // Whether the control byte of a slot that counts as free is `FREE`; else `BadFreeControl`.
     #[inline]
     fn check_free_control(&self, slot: usize) -> Result<(), Error>
         requires slot { slot < self.now.entries.slots }
@@ -72,8 +72,8 @@ impl<'a, K: ByteArray, V: ByteArray, H: HashFn> RawTable<'a, K, V, H> {
         }
     }
 
-    // Whether the search for the key of an occupied slot, slot by slot along the probe order, ends there. A key is compared
-    // only where an earlier place has its tag.
+    // Whether the search for the key of an occupied slot, slot by slot along the probe order, ends at that slot. The
+    // key is compared only with keys at earlier positions that have its tag.
     #[inline]
     fn is_reached(&self, slot: usize, hash: u32) -> bool
         requires slot { slot < self.now.entries.slots }
@@ -100,8 +100,8 @@ impl<'a, K: ByteArray, V: ByteArray, H: HashFn> RawTable<'a, K, V, H> {
         }
     }
 
-    // Whether each of the `count` slots from `start` on, counted on around the end, is filled with another key than that of
-    // the slot, which has this tag.
+    // Whether each of the `count` slots from `start` on, modulo the slot count, is occupied by another key than that of
+    // `slot`, whose tag is `tag`.
     #[inline]
     fn are_passed(&self, start: usize, count: usize, slot: usize, tag: u8) -> bool
         requires start { start < self.now.entries.slots }
@@ -143,7 +143,8 @@ impl<'a, K: ByteArray, V: ByteArray, H: HashFn> RawTable<'a, K, V, H> {
             .equals(&self.entries.get(other).key)
     }
 
-    /// Compares the mirror with the control bytes of the first sixteen slots, and answers the first index that differs.
+    /// Compares the mirror with the control bytes of the first sixteen slots; `MirrorMismatch` of the first index that
+    /// differs.
     #[inline]
     pub(crate) fn check_mirror(&self) -> Result<(), Error>
         ensures { result ≡ checked (mirror_refusal self.now.control) }

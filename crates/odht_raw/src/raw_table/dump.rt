@@ -10,7 +10,7 @@ use crate::hash::HashFn;
 use std::fmt;
 
 impl<'a, K: ByteArray, V: ByteArray, H: HashFn> RawTable<'a, K, V, H> {
-    // Writes the line before the slots.
+    // Writes the line before those of the slots.
     fn write_head<W: fmt::Write>(&self, f: &mut fmt::Formatter<W>) -> fmt::Result
         ensures { WritesOnOk W.write_str_gives f.old result (head_text H.hash_name self.now.entries.slots) f.new }
     {
@@ -51,7 +51,7 @@ impl<'a, K: ByteArray, V: ByteArray, H: HashFn> fmt::Debug for RawTable<'a, K, V
         (λ b. K.debug_output (K.of_bytes b)) (λ b. V.debug_output (V.of_bytes b))
         H.hash_name };
 
-    // The slot count and the name of the hash function on a line, and then each slot once, in slot order.
+    // The slot count and the name of the hash function on one line, then a line for each slot, in slot order.
     fn fmt<W: fmt::Write>(&self, f: &mut fmt::Formatter<W>) -> fmt::Result {
         self.write_head(f)?;
         for slot in 0..self.entries.len() {

@@ -1,4 +1,4 @@
-//! The entries of a table, and how one is read in its bytes.
+//! The entries of a table, read from their bytes.
 ghost use Rattle.std.specs.Prelude.{◌≡◌, ◌+◌, ◌*◌, ◌<◌, ◌≤◌, length};
 ghost use Rattle.odht_base.specs.Decoded.{slot_key, slot_value};
 ghost use Rattle.odht_raw.specs.Parts.{entry_format};
@@ -6,7 +6,7 @@ ghost use Rattle.odht_raw.specs.Parts.{entry_format};
 use crate::bytes::ByteArray;
 use std::marker::{Model, PhantomData};
 
-/// An encoded key with its encoded value, as a slot holds them.
+/// An entry: an encoded key and its encoded value, as a slot holds them.
 #[derive(Clone, Copy, PartialEq, Eq, Debug)]
 pub struct Entry<K: ByteArray, V: ByteArray> {
     pub key: K,
@@ -28,7 +28,7 @@ impl<K: ByteArray, V: ByteArray> Default for Entry<K, V> {
     }
 }
 
-/// The entries of so many slots, read in their bytes at any alignment.
+/// The entries of a number of slots, read from their bytes at any alignment.
 #[derive(Drop)]
 pub struct Entries<'a, K: ByteArray, V: ByteArray> {
     bytes: &'a [u8],
@@ -62,7 +62,7 @@ impl<'a, K: ByteArray, V: ByteArray> Entries<'a, K, V> {
         }
     }
 
-    // The same entries once more.
+    // A second reader of the same entries.
     #[inline]
     pub(crate) fn copy(&self) -> Self
         ensures { result ≡ self.now }

@@ -1,5 +1,5 @@
-//! The first look of a search. Who looks up many keys takes the first looks of some before the first search is ended, so
-//! that what is read of memory for one need not wait for another.
+//! The first look of a search. To look up many keys, take the first looks of several keys before the first search ends:
+//! then their memory accesses overlap.
 ghost use Rattle.std.specs.Prelude.{◌≡◌, option_map, IfSome};
 ghost use Rattle.odht_base.specs.Format.{format_of};
 ghost use Rattle.odht_base.specs.Map.{map_of};
@@ -15,8 +15,8 @@ use crate::hash::HashFn;
 use crate::swisstable_group_query::{Group, GroupQuery, REFERENCE_GROUP_SIZE, lanes};
 use std::marker::Model;
 
-/// The hash of a key, and what the group of control bytes at its home shows: the matches of its tag, and the first byte that
-/// counts as free. It is of the table and the key that it was taken of.
+/// The hash of a key, and what the group of control bytes at its home slot has: the matches of the tag, and the first
+/// byte that counts as free. It is for the table and the key of which it was taken, and for no others.
 #[derive(Drop)]
 pub struct FirstLook {
     hash: u32,
@@ -32,8 +32,8 @@ impl Model for FirstLook {
 }
 
 impl<'a, K: ByteArray, V: ByteArray, H: HashFn> RawTable<'a, K, V, H> {
-    /// The first look of the search for a key, which [`RawTable::find_from`] goes on with. It hashes the key and reads one
-    /// group of control bytes, and no entry.
+    /// The first look of the search for a key, from which [`RawTable::find_from`] goes on. It hashes the key and reads
+    /// one group of control bytes, and no entry.
     #[inline(always)]
     pub fn first_look(&self, key: &K) -> FirstLook
         ensures { result ≡ first_look_of (format_of K.LEN V.LEN H.hash) self.now (K.bytes key.now) }
@@ -50,8 +50,8 @@ impl<'a, K: ByteArray, V: ByteArray, H: HashFn> RawTable<'a, K, V, H> {
 
     /// `find` of a key whose first look was taken.
     ///
-    /// The matches of the look are compared in turn. Where none holds the key and the group has no free byte, the search goes
-    /// through the groups from the first on, so that one is looked at twice.
+    /// The matches of the look are compared in turn. Where none holds the key and the group has no free byte, the
+    /// search goes through the groups from the first on, so the first group is read twice.
     #[inline(always)]
     pub fn find_from(&self, look: FirstLook, key: &K) -> Option<V>
         requires { look ≡ first_look_of (format_of K.LEN V.LEN H.hash) self.now (K.bytes key.now) }
@@ -81,7 +81,7 @@ impl<'a, K: ByteArray, V: ByteArray, H: HashFn> RawTable<'a, K, V, H> {
         }
     }
 
-    // The search from its first group on, where its first look does not tell its end.
+    // The search from its first group on, for a key whose search does not end within its first look.
     #[inline(never)]
     fn search_far(&self, key: &K, hash: u32) -> SearchResult
         requires { hash ≡ H.hash (K.bytes key.now) }

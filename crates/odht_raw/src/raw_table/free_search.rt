@@ -7,11 +7,11 @@ ghost use Rattle.odht_raw.specs.FreeSlots.{IsFirstFree, IsFirstFreeByte};
 use super::{EntryMetadata, ProbeSeq, is_empty_or_deleted, tag_of};
 use crate::swisstable_group_query::{Group, REFERENCE_GROUP_SIZE};
 
-/// The first slot of the probe order of a hash that counts as free, by its control byte or its mirror; none where each
-/// slot counts as occupied. No match of a tag is asked for, and no key is compared.
+/// The first slot of the probe order of a hash that counts as free, by its control byte or its mirror; None where each
+/// slot counts as occupied. Matches of the tag are not used, and no key is compared.
 ///
-/// The home slot's own byte is looked at first: a load of sixteen bytes waits for one that was just written, that of the
-/// byte alone does not. Then at most each group is looked at once. All this holds of every group search.
+/// The home slot's own byte is read first: a load of sixteen bytes has to wait for a byte that was just written, a load
+/// of this byte alone does not. Then each group is read at most once. All this holds for every group search.
 #[inline]
 pub(super) fn first_free<Q: Group>(control: &[EntryMetadata], hash: u32) -> Option<usize>
     requires { IsSlotCount (length control.now - 16) }
@@ -26,7 +26,7 @@ pub(super) fn first_free<Q: Group>(control: &[EntryMetadata], hash: u32) -> Opti
     first_free_by_groups::<Q>(control, hash, mask)
 }
 
-// `first_free` group by group, where the slot count less one is a mask.
+// `first_free` group by group. The mask is the slot count less one.
 #[inline]
 fn first_free_by_groups<Q: Group>(
     control: &[EntryMetadata],
@@ -52,7 +52,8 @@ fn first_free_by_groups<Q: Group>(
     }
 }
 
-// The first of sixteen control bytes that counts as free, looked for in pieces of the group search's size. Any tag does.
+// The index of the first of sixteen control bytes that counts as free, searched in pieces of the group search's size.
+// The tag does not matter.
 #[inline]
 fn first_free_of_group<Q: Group>(bytes: &[EntryMetadata], tag: u8) -> Option<usize>
     requires len { length bytes.now ≡ 16 }

@@ -9,20 +9,20 @@ ghost use Rattle.odht_raw.specs.SearchResults.{answer, IsWherePlaced};
 ghost use Rattle.odht_raw.specs.Frame.{HasNoFree};
 ghost use Rattle.odht_raw.specs.PartLengths.{ArePairLengths, AreSearchLengths};
 ghost use Rattle.odht_raw.specs.SearchEnds.{IsEnd, IsEndAmong};
-ghost use Rattle.odht_raw.specs.SearchSteps.{StandsAt, IsLook};
+ghost use Rattle.odht_raw.specs.SearchSteps.{IsGroupAt, IsLook};
 
 use super::{Entries, EntryMetadata, ProbeSeq, Scan, SearchResult, tag_of};
 use crate::bytes::ByteArray;
 use crate::hash::HashFn;
 use crate::swisstable_group_query::{Group, REFERENCE_GROUP_SIZE};
 
-/// Looks for the key group by group along its probe order, and stops at the first slot that is free or holds it.
+/// Searches for the key group by group along its probe order, and stops at the first slot that is free or holds it.
 ///
 /// On the parts of a table whose keys are all reached the answer is the slot where a search slot by slot ends, which is
-/// where a pair with the key is placed, and exactly as many groups as there are up to it are shown. On any parts `Found`
-/// is a slot whose entry has this very key, `Free` one that counts as free, `Neither` comes only where each slot counts as
-/// filled, by its control byte or its mirror, and no more groups are shown than there are. All this holds of every group
-/// search. The rules are those of docs/FORMAT.md, "Search".
+/// where a pair with the key is placed, and exactly the groups up to this slot are read. On any parts `Found` is a slot
+/// whose entry has an equal key, `Free` is a slot that counts as free, `Neither` is answered only where each slot
+/// counts as occupied, by its control byte or its mirror, and each group is read at most once. All this holds for every
+/// group search. The rules are those of docs/FORMAT.md, "Search".
 #[inline]
 pub fn search<K: ByteArray, V: ByteArray, H: HashFn, Q: Group>(
     scan: &mut Scan<'_>,
@@ -88,7 +88,7 @@ pub fn search_hashed<K: ByteArray, V: ByteArray, H: HashFn, Q: Group>(
     }
 }
 
-// Looks at the sixteen slots from `start` on, whose control bytes are these, in pieces of the group search's size.
+// Searches the sixteen slots from `start` on, whose control bytes are `bytes`, in pieces of the group search's size.
 #[inline]
 fn look_at_group<K: ByteArray, V: ByteArray, H: HashFn, Q: Group>(
     bytes: &[EntryMetadata],
@@ -107,7 +107,7 @@ fn look_at_group<K: ByteArray, V: ByteArray, H: HashFn, Q: Group>(
         (IsEndAmong (format_of K.LEN V.LEN H.hash) entries.now bytes.now start 16 (K.bytes key.now)) }
     ensures occupied { IsNone result → HasNoFree bytes.now 16 }
     ensures on_placed { (P : Table) (p : ℕ)
-        → StandsAt (format_of K.LEN V.LEN H.hash) P entries.now (K.bytes key.now) p start bytes.now
+        → IsGroupAt (format_of K.LEN V.LEN H.hash) P entries.now (K.bytes key.now) p start bytes.now
         → IsLook (format_of K.LEN V.LEN H.hash) P (K.bytes key.now) p 16 result }
 {
     for piece in 0..REFERENCE_GROUP_SIZE / Q::SIZE {
@@ -126,7 +126,7 @@ fn look_at_group<K: ByteArray, V: ByteArray, H: HashFn, Q: Group>(
     None
 }
 
-// Looks at the slots from `start` on, counted on around the end, whose control bytes are these.
+// Searches the slots from `start` on, modulo the slot count, whose control bytes are `bytes`.
 #[inline]
 fn look_at_piece<K: ByteArray, V: ByteArray, H: HashFn, Q: Group>(
     bytes: &[EntryMetadata],
@@ -145,7 +145,7 @@ fn look_at_piece<K: ByteArray, V: ByteArray, H: HashFn, Q: Group>(
         (IsEndAmong (format_of K.LEN V.LEN H.hash) entries.now bytes.now start Q.SIZE (K.bytes key.now)) }
     ensures occupied { IsNone result → HasNoFree bytes.now Q.SIZE }
     ensures on_placed { (P : Table) (p : ℕ)
-        → StandsAt (format_of K.LEN V.LEN H.hash) P entries.now (K.bytes key.now) p start bytes.now
+        → IsGroupAt (format_of K.LEN V.LEN H.hash) P entries.now (K.bytes key.now) p start bytes.now
         → IsLook (format_of K.LEN V.LEN H.hash) P (K.bytes key.now) p Q.SIZE result }
 {
     let mask = entries.len() - 1;

@@ -1,4 +1,4 @@
-//! An order of inserts that makes a table, found in the place that it is written to.
+//! An order of inserts that makes a table, found within the buffer that it is written to.
 ghost use Rattle.std.specs.Prelude.{◌≡◌, ◌≤◌, ◌<◌, ◌+◌, ◌^◌, ◌↔◌, ℕ, List, ◌++◌, slice_index, length, map, take, drop, IsTrue, All, Contains};
 ghost use Rattle.odht_base.specs.Format.{format_of};
 ghost use Rattle.odht_base.specs.Made.{occupied, IsMade, IsInsertOrder};
@@ -12,18 +12,19 @@ use super::{EntryMetadata, ProbeSeq, RawTable, is_empty_or_deleted};
 use crate::bytes::ByteArray;
 use crate::hash::HashFn;
 
-// What is added to a slot that waits to be placed. No slot is as large.
+// What is added to a slot that waits to be placed. It is above each slot.
 const WAITING: usize = 1 << 63;
 
 impl<'a, K: ByteArray, V: ByteArray, H: HashFn> RawTable<'a, K, V, H> {
-    /// Whether inserts can make the table, and an order of its occupied slots in which they do: their pairs, inserted in
-    /// this order into an empty table of as many slots, leave this very table. Where no inserts make it, `out` holds
-    /// numbers that say nothing. The parts are those of a valid table, and `out` has a place for each of its pairs.
+    /// Whether inserts can make the table. Where they can, `out` is an order of its occupied slots in which they do:
+    /// their pairs, inserted in this order into an empty table of as many slots, make exactly this table. Otherwise the
+    /// numbers in `out` have no meaning. The parts are those of a valid table, and `out` has as many items as the table
+    /// has pairs.
     ///
-    /// The slots are gone through in their order, and each is placed as soon as all slots before it in the probe order
-    /// of its key are, until none waits, or none was placed. That takes at most one pass more than there are slots that
-    /// wait for one behind them. In a pass each waiting slot asks for the places before it, by a binary search among
-    /// those that wait; behind it what is left is sorted. It takes no memory.
+    /// A pass goes through the waiting slots in slot order, and places each whose earlier slots in the probe order of
+    /// its key are all placed. Passes are made until no slot waits, or a pass places none: at most one pass more than
+    /// there are slots that wait for a slot of a higher index. Each earlier slot of a probe order is looked up by
+    /// binary search in the list of the pass, and after each pass this list is sorted. It allocates nothing.
     pub fn insert_order(&self, out: &mut [usize]) -> bool
         requires whole { let F = format_of K.LEN V.LEN H.hash
             in (P : Table) × AreWholeParts F P self.now (length out.old) }
@@ -49,8 +50,8 @@ impl<'a, K: ByteArray, V: ByteArray, H: HashFn> RawTable<'a, K, V, H> {
         true
     }
 
-    // Goes once through the slots that wait, and places each that is ready by then. Those come first in the end, in
-    // their order, and behind them the others. Answers how many were placed.
+    // Goes once through the slots that wait, and places each that is ready by then. At the end the placed slots come
+    // first, in slot order, and after them the others. Answers how many were placed.
     fn place_ready(&self, slots: &mut [usize]) -> usize
         requires waiting { All (IsWaiting self.now.entries.slots) slots.old }
         requires pending { let F = format_of K.LEN V.LEN H.hash
@@ -106,7 +107,7 @@ impl<'a, K: ByteArray, V: ByteArray, H: HashFn> RawTable<'a, K, V, H> {
     }
 }
 
-// Whether the slot is one that waits. The slots of the list rise.
+// Whether the slot is one that waits. The slots of the list are in slot order.
 fn is_waiting(slot: usize, slots: &[usize]) -> bool
     requires { slot < 2 ^ 63 }
     ensures { AreRising slots.now → (IsTrue result ↔ Contains slots.now (waiting slot)) }
@@ -115,7 +116,7 @@ fn is_waiting(slot: usize, slots: &[usize]) -> bool
     slots.get(place) == Some(&(WAITING + slot))
 }
 
-// Lists the occupied slots, as far as there is room, each as one that waits.
+// Lists the occupied slots, as many as `out` has room for, each as one that waits.
 fn list_occupied(control: &[EntryMetadata], slot_count: usize, out: &mut [usize])
     requires slots { slot_count ≤ 2 ^ 63 }
     requires control { slot_count ≤ length control.now }

@@ -1,4 +1,5 @@
-//! The search slot by slot along the probe order, and find and insert over it: the reference forms.
+//! The search slot by slot along the probe order, and find and insert by it: the reference forms of the searches by
+//! groups.
 ghost use Rattle.std.specs.Prelude.{◌≡◌, ◌%◌, ◌<◌, length, option_map, IfSome};
 ghost use Rattle.odht_base.specs.Load.{IsSlotCount};
 ghost use Rattle.odht_base.specs.Format.{format_of};
@@ -18,10 +19,10 @@ use crate::error::Error;
 use crate::hash::HashFn;
 use crate::swisstable_group_query::REFERENCE_GROUP_SIZE;
 
-/// The value beside the key, looked for slot by slot along the probe order.
+/// The value stored with the key, searched for slot by slot along the probe order.
 ///
-/// On the parts of a table whose keys are all reached it is the map's answer, and on any parts a value that is stored
-/// beside this very key. At most each slot is looked at once.
+/// On the parts of a table whose keys are all reached it is the map's answer. On any parts it is a value that is stored
+/// with an equal key. Each slot is read at most once.
 pub fn plain_find<K: ByteArray, V: ByteArray, H: HashFn>(
     control: &[EntryMetadata],
     entries: &Entries<'_, K, V>,
@@ -43,12 +44,13 @@ pub fn plain_find<K: ByteArray, V: ByteArray, H: HashFn>(
     }
 }
 
-/// Overwrites the value beside the key, or writes the pair into the first free slot of the key's probe order: entry,
-/// tag, and for a slot below 16 the mirror. Answers the former value.
+/// Overwrites the value stored with the key, or writes the pair into the first free slot of the key's probe order:
+/// entry, tag, and for a slot below 16 the mirror. Answers the former value.
 ///
-/// On the parts of a table whose keys are all reached it leaves those of the table with the pair placed, and answers
-/// `Full`, with nothing changed, exactly where there is no place. On any parts one value beside an equal key changes, or
-/// one entry is written with its tag into a slot that counted as free, and nothing else.
+/// On the parts of a table whose keys are all reached it leaves the parts of the table with the pair placed, and
+/// answers `Full`, with nothing changed, exactly where each slot is occupied and none has the key. On any parts either
+/// one value stored with an equal key is overwritten, or one entry is written with its tag into a slot that counted as
+/// free, and no other byte changes; `Full` is answered only where each slot counts as occupied.
 pub fn plain_insert<K: ByteArray, V: ByteArray, H: HashFn>(
     control: &mut [EntryMetadata],
     entries: &mut [u8],
@@ -70,8 +72,8 @@ pub fn plain_insert<K: ByteArray, V: ByteArray, H: HashFn>(
     insert_at::<K, V, H>(control, entries, key, value, tag_of(hash), end)
 }
 
-// Looks for the key with this hash slot by slot along its probe order, and stops at the first slot that is free or holds
-// it.
+// Searches for the key with this hash slot by slot along its probe order, and stops at the first slot that is free or
+// holds it.
 #[inline]
 fn plain_search<K: ByteArray, V: ByteArray, H: HashFn>(
     control: &[EntryMetadata],
@@ -100,7 +102,7 @@ fn plain_search<K: ByteArray, V: ByteArray, H: HashFn>(
     SearchResult::Neither
 }
 
-// The slot at a place of the probe order of a hash.
+// The slot at a position of the probe order of a hash.
 #[inline]
 fn slot_at(hash: u32, slots: usize, position: usize) -> usize
     requires slots { IsSlotCount slots }

@@ -1,4 +1,4 @@
-//! The sequence in which the slots of a table are looked at, a group at a time.
+//! The probe order of the slots of a table, a group at a time.
 ghost use Rattle.std.specs.Prelude.{◌≡◌, ◌+◌, ◌%◌, ◌<◌, ◌↔◌, IfOk, OnErr, IsPermutation, IsTrue};
 ghost use Rattle.std.specs.List.{range_with_len};
 ghost use Rattle.odht_base.specs.Load.{IsSlotCount};
@@ -9,11 +9,11 @@ use crate::swisstable_group_query::REFERENCE_GROUP_SIZE;
 use std::alloc::Global;
 use std::marker::Model;
 
-/// A place of the probe order of a table, from which the next `GROUP_SIZE` slots are looked at. The order is that of
+/// A position of the probe order of a table, from which the next `GROUP_SIZE` slots are searched. The order is that of
 /// docs/FORMAT.md, "Probe order".
 ///
-/// Whatever `GROUP_SIZE` is, the slots come in the same order: that of groups of sixteen. So a table that is written with
-/// one group search is read with any other. A contract speaks of the home slot, the mask and the place.
+/// Whatever `GROUP_SIZE` is, the slots come in the same order: that of groups of sixteen. So a table that is written
+/// with one group search can be read with any other. In a contract it is the home slot, the mask and the position.
 #[derive(Drop)]
 pub struct ProbeSeq<const GROUP_SIZE: usize> {
     home: usize,
@@ -36,7 +36,7 @@ impl<const GROUP_SIZE: usize> Model for ProbeSeq<GROUP_SIZE> {
 }
 
 impl<const GROUP_SIZE: usize> ProbeSeq<GROUP_SIZE> {
-    /// The first place of the order of a hash among `mask + 1` slots.
+    /// The first position of the probe order of a hash among `mask + 1` slots.
     #[inline]
     pub fn new(h1: usize, mask: usize) -> Self
         requires slots { IsSlotCount (mask + 1) }
@@ -55,7 +55,7 @@ impl<const GROUP_SIZE: usize> ProbeSeq<GROUP_SIZE> {
         }
     }
 
-    /// Goes on by `GROUP_SIZE` places.
+    /// Advances by `GROUP_SIZE` positions.
     #[inline]
     pub fn advance(&mut self, mask: usize)
         requires mask { mask ≡ self.old.mask }
@@ -72,7 +72,7 @@ impl<const GROUP_SIZE: usize> ProbeSeq<GROUP_SIZE> {
         self.position += GROUP_SIZE;
     }
 
-    /// The slot at the place.
+    /// The slot at the position.
     #[inline]
     pub fn index(&self) -> usize
         ensures slot { result ≡ probe_slot self.now.home (self.now.mask + 1) self.now.position }
@@ -81,7 +81,7 @@ impl<const GROUP_SIZE: usize> ProbeSeq<GROUP_SIZE> {
         self.index
     }
 
-    /// Whether no place comes after the `GROUP_SIZE` ones from here on.
+    /// Whether no position comes after the `GROUP_SIZE` positions from this one on.
     #[inline]
     pub fn is_last(&self) -> bool
         ensures { IsTrue result ↔ (self.now.mask < self.now.position + GROUP_SIZE) }
@@ -90,9 +90,9 @@ impl<const GROUP_SIZE: usize> ProbeSeq<GROUP_SIZE> {
     }
 }
 
-/// The slots of a table in the probe order of a home slot, as docs/FORMAT.md, "Probe order", tells it: each exactly once.
+/// The slots of a table in the probe order of the home slot `start`, each exactly once (docs/FORMAT.md, "Probe order").
 ///
-/// `Memory` where the list was refused its memory, and no other refusal. One pass over the slots.
+/// The only error is `Memory`, where the list cannot be allocated. One pass over the slots.
 pub fn probe_order(alloc: Global, start: usize, slots: usize) -> Result<Vec<usize>, Error>
     requires slots { IsSlotCount slots }
     requires start { start < slots }

@@ -1,4 +1,4 @@
-//! The control bytes of a table as a search sees them.
+//! The control bytes of a table as a search reads them.
 ghost use Rattle.std.specs.Prelude.{◌≡◌, ◌+◌, ◌-◌, ◌<◌, min, length};
 ghost use Rattle.odht_base.specs.Bytes.{bytes_at};
 ghost use Rattle.odht_base.specs.Load.{IsSlotCount};
@@ -6,10 +6,10 @@ ghost use Rattle.odht_base.specs.Load.{IsSlotCount};
 use super::EntryMetadata;
 use std::marker::Model;
 
-/// The control bytes of a table, shown a group of sixteen at a time, and how many groups were shown.
+/// The control bytes of a table, read a group of sixteen at a time, and how many groups were read.
 ///
-/// What counts as a group that was read is told by docs/FORMAT.md, "Search". A contract speaks of the control bytes and of
-/// that number.
+/// What counts as a group that was read: docs/FORMAT.md, "Search". In a contract it is the control bytes and that
+/// number.
 #[derive(Drop)]
 pub struct Scan<'a> {
     control: &'a [EntryMetadata],
@@ -30,7 +30,7 @@ impl<'a> Model for Scan<'a> {
 }
 
 impl<'a> Scan<'a> {
-    /// The control bytes of so many slots with their mirror, of which no group was shown.
+    /// The control bytes of `slots` slots with their mirror, of which no group was read.
     #[inline]
     pub fn new(control: &'a [EntryMetadata], slots: usize) -> Scan<'a>
         requires slots { IsSlotCount slots }
@@ -53,7 +53,8 @@ impl<'a> Scan<'a> {
         self.slots
     }
 
-    /// The sixteen control bytes from that of a slot on, the mirror behind the last slot. Counts one group more.
+    /// The sixteen control bytes from that of slot `start` on, which run into the mirror after the last slot. Counts
+    /// one group more.
     #[inline]
     pub fn group(&mut self, start: usize) -> &'a [EntryMetadata]
         requires { start < length self.old.control - 16 }
@@ -66,7 +67,7 @@ impl<'a> Scan<'a> {
         &control[start..start + 16]
     }
 
-    /// How many groups were shown; `usize::MAX` where they are more.
+    /// How many groups were read; `usize::MAX` where they are more.
     #[inline]
     pub fn groups(&self) -> usize
         ensures { result ≡ self.now.groups }

@@ -1,4 +1,4 @@
-//! The parts of a table which can be written.
+//! The parts of a table, borrowed to be written.
 ghost use Rattle.std.specs.Prelude.{◌≡◌, ◌-◌, ◌*◌, ◌+◌, ◌≤◌, length};
 ghost use Rattle.odht_base.specs.Load.{IsSlotCount};
 ghost use Rattle.odht_base.specs.Format.{format_of};
@@ -18,9 +18,9 @@ use crate::swisstable_group_query::{GroupQuery, REFERENCE_GROUP_SIZE};
 use std::fmt;
 use std::marker::PhantomData;
 
-/// The parts of a table which can be written: the control bytes with their mirror, and the bytes of as many entries.
+/// The parts of a table, borrowed to be written: the control bytes with their mirror, and the bytes of as many entries.
 ///
-/// Both slices are borrowed. Once this is dropped they hold what its inserts left.
+/// After the borrow both slices hold what the inserts left in them.
 #[derive(Drop)]
 pub struct RawTableMut<'c, 'e, K: ByteArray, V: ByteArray, H: HashFn> {
     control: &'c mut [EntryMetadata],
@@ -37,7 +37,7 @@ impl<'c, 'e, K: ByteArray, V: ByteArray, H: HashFn> RawTableMut<'c, 'e, K, V, H>
     ghost use Rattle.odht_raw.specs.PartsMut.{mut_control, mut_entries, control_loan, entries_loan};
     ghost use Rattle.odht_raw.specs.PartsMut.{IsMutInsert, IsMutPlacing};
 
-    /// The table of these parts, of which nothing is looked at or written.
+    /// The table of these parts. No control byte and no entry is checked or written.
     #[inline]
     pub fn new(control: &'c mut [EntryMetadata], entries: &'e mut [u8]) -> Self
         requires { ArePartLengths H.MIN_LEN K.LEN V.LEN (length entries.old) (length control.old) }
@@ -53,13 +53,14 @@ impl<'c, 'e, K: ByteArray, V: ByteArray, H: HashFn> RawTableMut<'c, 'e, K, V, H>
         }
     }
 
-    /// Overwrites the value beside the key, or writes the pair into the first free slot of the key's probe order, as
-    /// `plain_insert` does. Answers the former value.
+    /// Overwrites the value stored with the key, or writes the pair into the first free slot of the key's probe order,
+    /// as `plain_insert` does. Answers the former value.
     ///
-    /// On the parts of a table whose keys are all reached it leaves those of the table with the pair placed, and answers
-    /// `Full`, with nothing changed, exactly where there is no place: where each slot is filled, and none with the key. On
-    /// any parts one value beside an equal key changes, or one entry is written with its tag into a slot that counted as
-    /// free, and nothing else; `Full` comes only where each slot counts as occupied. At most each group is looked at once.
+    /// On the parts of a table whose keys are all reached it leaves the parts of the table with the pair placed, and
+    /// answers `Full`, with nothing changed, exactly where each slot is occupied and none has the key. On any parts
+    /// either one value stored with an equal key is overwritten, or one entry is written with its tag into a slot that
+    /// counted as free, and no other byte changes; `Full` is answered only where each slot counts as occupied. Each
+    /// group is read at most once.
     #[inline(always)]
     pub fn insert(&mut self, key: K, value: V) -> Result<Option<V>, Error>
         ensures { IsMutInsert self.old key value result self.new }
@@ -70,10 +71,10 @@ impl<'c, 'e, K: ByteArray, V: ByteArray, H: HashFn> RawTableMut<'c, 'e, K, V, H>
     /// Writes the pair into the first free slot of its key's probe order. No key is compared, so it is for a key that
     /// the table does not have.
     ///
-    /// On the parts of a table whose keys are all reached, and none of which is this key, it leaves those of the table
-    /// with the pair placed, and answers `Full`, with nothing changed, exactly where each slot is filled. On any parts
-    /// the entry is written with its tag into the first slot of the order that counted as free, and nothing else;
-    /// `Full` comes only where each slot counts as occupied. At most each group is looked at once.
+    /// On the parts of a table whose keys are all reached, and none of which is this key, it leaves the parts of the
+    /// table with the pair placed, and answers `Full`, with nothing changed, exactly where each slot is occupied. On
+    /// any parts the entry is written with its tag into the first slot of the order that counted as free, and no other
+    /// byte changes; `Full` is answered only where each slot counts as occupied. Each group is read at most once.
     #[inline(always)]
     pub fn place(&mut self, key: K, value: V) -> Result<(), Error>
         ensures { IsMutPlacing self.old key value result self.new }
@@ -82,7 +83,8 @@ impl<'c, 'e, K: ByteArray, V: ByteArray, H: HashFn> RawTableMut<'c, 'e, K, V, H>
     }
 }
 
-// `insert` on the slices themselves, since no scan of a slice that `self` lends can stand while `self` is written.
+// `insert` on the slices themselves, since a scan that borrows a slice from `self` cannot be kept while `self` is
+// written.
 #[inline(always)]
 fn insert_parts<K: ByteArray, V: ByteArray, H: HashFn>(
     control: &mut [EntryMetadata],
@@ -140,7 +142,7 @@ impl<'c, 'e, K: ByteArray, V: ByteArray, H: HashFn> fmt::Debug for RawTableMut<'
         (λ b. K.debug_output (K.of_bytes b)) (λ b. V.debug_output (V.of_bytes b))
         H.hash_name (mut_parts t) };
 
-    // The same as the table that only reads these parts.
+    // The same text as that of the `RawTable` of these parts.
     fn fmt<W: fmt::Write>(&self, f: &mut fmt::Formatter<W>) -> fmt::Result {
         let slots = self.control.len() - REFERENCE_GROUP_SIZE;
         let entries = Entries::new(self.entries, slots);

@@ -1,4 +1,4 @@
-//! A walk over the occupied slots.
+//! Walks over the occupied slots.
 ghost use Rattle.std.specs.Prelude.{◌≡◌, ◌+◌, ◌≤◌, length};
 ghost use Rattle.std.specs.Iterator.{YieldsFirst, item_count};
 ghost use Rattle.odht_raw.specs.Parts.{TableParts, entry_format};
@@ -10,10 +10,10 @@ use crate::swisstable_group_query::{OccupiedQuery, REFERENCE_GROUP_SIZE};
 use std::iter::FusedIterator;
 use std::marker::Model;
 
-/// The slots from a slot on whose own control byte does not count as free, in slot order: the number of each, with its
-/// control byte and its entry. Who stops at an item may go on later from the number that comes with it.
+/// A walk from a slot on over the slots whose own control byte does not count as free, in slot order: the index of each
+/// slot, with its control byte and its entry. A walk that stops at an item can go on later from that item's slot.
 ///
-/// A contract speaks of it as of the list of those that are left. A whole walk reads each control byte once, sixteen at a
+/// In a contract it is the list of the items that are left. A whole walk reads each control byte once, sixteen at a
 /// time.
 #[derive(Drop)]
 pub struct RawSlots<'a, K: ByteArray, V: ByteArray> {
@@ -43,8 +43,8 @@ impl<'a, K: ByteArray, V: ByteArray> Model for RawSlots<'a, K, V> {
 }
 
 impl<'a, K: ByteArray, V: ByteArray> RawSlots<'a, K, V> {
-    /// The slots from slot `from` on, none where it is past the last one, of the slots whose control bytes with their
-    /// mirror are `control`.
+    /// The walk from slot `from` on; it gives no item where `from` is past the last slot. `control` is the control
+    /// bytes with their mirror.
     #[inline]
     pub fn new(control: &'a [EntryMetadata], entries: Entries<'a, K, V>, from: usize) -> Self
         requires { length control.now ≡ entries.slots + 16 }
@@ -94,9 +94,10 @@ impl<'a, K: ByteArray, V: ByteArray> Iterator for RawSlots<'a, K, V> {
 
 impl<'a, K: ByteArray, V: ByteArray> FusedIterator for RawSlots<'a, K, V> {}
 
-/// The control byte and the entry of each slot whose own control byte does not count as free, in slot order.
+/// A walk over all slots whose own control byte does not count as free, in slot order: the control byte and the entry
+/// of each.
 ///
-/// A contract speaks of it as of the list of those that are left. A whole walk reads each control byte once, sixteen at a
+/// In a contract it is the list of the items that are left. A whole walk reads each control byte once, sixteen at a
 /// time.
 #[derive(Drop)]
 pub struct RawIter<'a, K: ByteArray, V: ByteArray> {
@@ -113,7 +114,7 @@ impl<'a, K: ByteArray, V: ByteArray> Model for RawIter<'a, K, V> {
 }
 
 impl<'a, K: ByteArray, V: ByteArray> RawIter<'a, K, V> {
-    /// A walk over all slots, of which `control` holds the control bytes with their mirror.
+    /// The walk over all slots. `control` is the control bytes with their mirror.
     #[inline]
     pub fn new(control: &'a [EntryMetadata], entries: Entries<'a, K, V>) -> Self
         requires { length control.now ≡ entries.slots + 16 }

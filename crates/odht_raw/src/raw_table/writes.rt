@@ -19,8 +19,9 @@ use crate::hash::HashFn;
 use crate::swisstable_group_query::REFERENCE_GROUP_SIZE;
 use crate::writes::{write_pair, write_tag};
 
-/// Writes a pair where the search for its key ended: the value alone into the slot that holds the key, or the entry with
-/// its tag into the free slot. Answers the former value, and `Full`, with nothing changed, where the search met neither.
+/// Writes a pair where the search for its key ended: the value alone into the slot that holds the key, or the entry
+/// with its tag into the free slot. Answers the former value; or `Full`, with nothing changed, where the search met
+/// neither slot.
 #[inline(always)]
 pub(crate) fn insert_at<K: ByteArray, V: ByteArray, H: HashFn>(
     control: &mut [EntryMetadata],
@@ -59,7 +60,7 @@ pub(crate) fn insert_at<K: ByteArray, V: ByteArray, H: HashFn>(
     }
 }
 
-/// Writes the pair into a slot, and its tag into the slot's control byte, and for a slot below 16 into the mirror.
+/// Writes the pair into a slot, its tag into the slot's control byte, and for a slot below 16 the tag into the mirror.
 #[inline(always)]
 pub(crate) fn write_entry<K: ByteArray, V: ByteArray, H: HashFn>(
     control: &mut [EntryMetadata],

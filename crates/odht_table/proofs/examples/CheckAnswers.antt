@@ -8,7 +8,7 @@ use Rattle.odht_base.proofs.examples.Configs.{my_config}
 use Rattle.odht_raw.specs.Refusals.{opening_refusal, view_refusal, check_refusal}
 use Rattle.odht_table.specs.Answers.{refused_text, check_text, IsChecked}
 
--- bytes of which nothing is refused are valid
+-- bytes in which no error is found are valid
 pub passed : (F : Format) (B : List ℕ) → check_refusal F B ≡ None → IsChecked F B (codes "valid")
 passed F B e = inl (sym (ap refused_text e))
 
@@ -20,11 +20,11 @@ too_short = refl
 pub refused : IsChecked my_config (79 ∷ 68 ∷ []) (codes "Provided data has 2 bytes but the header needs 32")
 refused = inl (sym too_short)
 
--- any bytes may find no room
+-- memory may be exhausted for any bytes
 pub no_room : (B : List ℕ) → IsChecked my_config B (codes "memory")
 no_room B = inr refl
 
--- but refused ones are never answered as valid
+-- but rejected bytes are never answered with `valid`
 pub not_valid : IsChecked my_config (79 ∷ 68 ∷ []) (codes "valid") → ⊥
 not_valid (inl e) = unequal_lists (codes "valid") (codes "Provided data has 2 bytes but the header needs 32") refl (e ∙ too_short)
 not_valid (inr e) = unequal_lists (codes "valid") (codes "memory") refl e

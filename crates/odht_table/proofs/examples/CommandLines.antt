@@ -4,16 +4,16 @@ use Rattle.std.specs.Prelude.{codes}
 use Rattle.odht_table.specs.Commands.{IsPairText, IsNumberText, IsWordText, IsCommandText}
 use Rattle.odht_table.specs.declared.script.command.Command.TheVariants.{New, OnTable}
 use Rattle.odht_table.specs.declared.script.command.Request.TheVariants.{Put, Get, Len, Walk, Hex, Dump}
-use Rattle.odht_raw.proofs.examples.Apart.{told_apart, unequal_lists}
+use Rattle.odht_raw.proofs.examples.Apart.{are_distinct, unequal_lists}
 use Rattle.odht_table.proofs.examples.NumberTexts.{a_pair, a_number, another_number, another_second}
 
--- two lines with another byte at one place
+-- two lines that differ in the byte at one index
 other_byte : (i : ℕ) (line other : List ℕ) → line ≡ other → (slice_index line i == slice_index other i) ≡ false → ⊥
 other_byte i line other e differ =
-    told_apart (λ l. slice_index line i == slice_index l i) line other (eq-eqb _ _ refl) differ e
+    are_distinct (λ l. slice_index line i == slice_index l i) line other (eq-eqb _ _ refl) differ e
 
 -- ---- words
--- each word that stands alone
+-- each word that is a command alone
 pub words : IsWordText (codes "len") Len
     × IsWordText (codes "walk") Walk
     × IsWordText (codes "hex") Hex
@@ -84,7 +84,7 @@ other_numbers = (
 pub great_value : IsCommandText (codes "put 1 4294967296") (OnTable (Put 1 4294967296)) → ⊥
 great_value h = omega (arith, h.3)
 
--- a word with a space behind it, and one word for another
+-- a word with a space after it, and one word for another
 pub other_word_lines : (IsCommandText (codes "len ") (OnTable Len) → ⊥)
     × (IsCommandText (codes "walk ") (OnTable Walk) → ⊥)
     × (IsCommandText (codes "dump") (OnTable Hex) → ⊥)

@@ -40,7 +40,7 @@ unfolding opened
 not_too_large h = omega (arith, h 16 refl)
 
 -- ---- answers
--- the bytes of the fresh table, and some that were there
+-- the bytes of the fresh table, and some former bytes
 abbrev pub new_bytes : List ℕ
 new_bytes = image my_config no_pairs
 
@@ -59,11 +59,11 @@ a_bad_percent = IsRenewed.bad_percent (Some old_bytes) bad_percents.1
 pub a_capacity : IsRenewed my_config (2 ^ 63) 100 (codes "capacity") (Some old_bytes) (Some old_bytes)
 a_capacity = IsRenewed.capacity (Some old_bytes) good_percents.1 too_large.0
 
--- memory may be refused at any good percentage where there is room
+-- memory may be exhausted at any good percentage where the table is not too large
 pub a_memory : IsRenewed my_config 0 87 (codes "memory") (Some old_bytes) (Some old_bytes)
 a_memory = IsRenewed.memory (Some old_bytes) good not_too_large
 
--- sixteen slots, of which thirteen may be filled
+-- sixteen slots, of which thirteen may be occupied
 pub a_new_table : IsRenewed my_config 0 87 (codes "slots 16 max 13") (Some old_bytes) (Some new_bytes)
 unfolding opened digits
 a_new_table = IsRenewed.made (Some old_bytes) 16 no_pairs new_bytes good refl refl fresh_image

@@ -13,7 +13,7 @@ use Rattle.odht_base.proofs.examples.Configs.{my_config}
 use Rattle.odht_base.proofs.examples.Opened.{opened}
 use Rattle.odht_raw.specs.Refusals.{IsTooLarge}
 use Rattle.odht_table.specs.Answers.{IsGoodPercent, IsRenewed, new_text}
-use Rattle.odht_raw.proofs.examples.Apart.{told_apart, unequal_lists, some_unequal_lists}
+use Rattle.odht_raw.proofs.examples.Apart.{are_distinct, unequal_lists, some_unequal_lists}
 use Rattle.odht_table.proofs.examples.NewAnswers.{bad_percents, good, too_large, not_too_large, new_bytes, old_bytes}
 use Rattle.odht.proofs.examples.SmallTables.{no_pairs}
 
@@ -38,10 +38,10 @@ has_answer F n p text old now (IsRenewed.memory same good small) = inr (inr (inl
 has_answer F n p text old now (IsRenewed.made same s P bytes good slots new image) =
     inr (inr (inr (s, P, bytes, refl, refl, good, slots, new, image)))
 
--- the text of a new table begins with another letter than a refusal's
+-- the text of a new table begins with another letter than an error's
 made_letter : (F : Format) (n p : ℕ) (text : List ℕ) (now : Option (List ℕ)) → (slice_index text 0 == 115) ≡ false
     → IsMade F n p text now → ⊥
-made_letter F n p text now other h = told_apart (λ t. slice_index t 0 == 115) _ text refl other (sym h.3)
+made_letter F n p text now other h = are_distinct (λ t. slice_index t 0 == 115) _ text refl other (sym h.3)
 
 module _ (n p : ℕ) (old now : Option (List ℕ)) where
   bad_percent_parts : IsRenewed my_config n p (codes "bad percent") old now → (now ≡ old) × ¬ (IsGoodPercent p)
@@ -80,9 +80,9 @@ module _ (n p : ℕ) (old now : Option (List ℕ)) where
   made_parts text letter h = go (has_answer _ _ _ _ _ _ h)
     where
       go : HasAnswer my_config n p text old now → IsMade my_config n p text now
-      go (inl k) = absurd (told_apart (λ t. slice_index t 0 == 115) text _ letter refl k.0)
-      go (inr (inl k)) = absurd (told_apart (λ t. slice_index t 0 == 115) text _ letter refl k.0)
-      go (inr (inr (inl k))) = absurd (told_apart (λ t. slice_index t 0 == 115) text _ letter refl k.0)
+      go (inl k) = absurd (are_distinct (λ t. slice_index t 0 == 115) text _ letter refl k.0)
+      go (inr (inl k)) = absurd (are_distinct (λ t. slice_index t 0 == 115) text _ letter refl k.0)
+      go (inr (inr (inl k))) = absurd (are_distinct (λ t. slice_index t 0 == 115) text _ letter refl k.0)
       go (inr (inr (inr k))) = k
 
 -- ---- `bad percent`

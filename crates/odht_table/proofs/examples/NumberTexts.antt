@@ -22,7 +22,7 @@ number_by word n longer digits value fits = record {
 }
 
 -- ---- numbers
--- zeros may stand in front
+-- a number may begin with zeros
 pub a_number : IsNumberText (codes "042") 42
 a_number = number_by (codes "042") 42 (lit< tt) refl refl (lit< tt)
 
@@ -30,7 +30,7 @@ a_number = number_by (codes "042") 42 (lit< tt) refl refl (lit< tt)
 pub the_greatest_number : IsNumberText (codes "18446744073709551615") (2 ^ 64 - 1)
 the_greatest_number = number_by (codes "18446744073709551615") (2 ^ 64 - 1) (lit< tt) refl refl (lit< tt)
 
--- no digit is no number, though it would write 0
+-- no digits are no number, though they would write 0
 pub no_digit : IsNumberText [] 0 → ⊥
 no_digit h = omega (arith, h.numeral.0)
 
@@ -51,7 +51,7 @@ pub too_great : IsNumberText (codes "18446744073709551616") (2 ^ 64) → ⊥
 too_great h = omega (arith, h.fits)
 
 -- ---- pairs
--- what stands before the first space, and what behind it
+-- what is before the first space, and what is after it
 abbrev before_space : List ℕ → List ℕ
 before_space [] = []
 before_space (b ∷ bs) = if b == 32 then [] else b ∷ before_space bs

@@ -9,18 +9,18 @@ use Rattle.odht_table.specs.Answers.{IsAnswered, MayChange}
 use Rattle.odht_table.specs.declared.script.command.Request.{Request}
 use Rattle.odht_table.specs.declared.script.command.Request.TheVariants.{Put, Get, Len, Walk, Hex, Dump}
 use Rattle.odht_table.proofs.Puts.{my_coding}
-use Rattle.odht_raw.proofs.examples.Apart.{told_apart, unequal_lists, some_unequal_lists}
+use Rattle.odht_raw.proofs.examples.Apart.{are_distinct, unequal_lists, some_unequal_lists}
 use Rattle.odht_table.proofs.examples.PutAnswers.{old_key, other_text}
 use Rattle.odht.proofs.examples.SmallTables.{no_pairs, one_pair}
 use Rattle.odht_table.proofs.examples.Tests.{has_pairs}
 
--- the answer t to a request of the table of 1 and 2, after which there is Q
+-- the answer t to a request of the table of 1 and 2, after which the table is Q
 abbrev Answers : Request → List ℕ → Table → Type 0
 Answers r t Q = IsAnswered my_coding (one_pair 2) r t Q
 
 -- that table and the empty one are not the same
 changed : no_pairs ≡ one_pair 2 → ⊥
-changed = told_apart (has_pairs 0) no_pairs (one_pair 2) refl refl
+changed = are_distinct (has_pairs 0) no_pairs (one_pair 2) refl refl
 
 -- ---- put
 -- a present key with a new value
@@ -32,12 +32,12 @@ pub no_put : Answers (Put 1 3) (codes "was 3\n") (one_pair 3) → ⊥
 no_put = other_text
 
 -- ---- get
--- a key that is there
+-- a present key
 pub a_get : Answers (Get 1) (codes "2\n") (one_pair 2)
 unfolding opened digits
 a_get = (refl, refl)
 
--- a key that is not there
+-- an absent key
 pub a_missing_get : Answers (Get 2) (codes "none\n") (one_pair 2)
 unfolding opened digits
 a_missing_get = (refl, refl)

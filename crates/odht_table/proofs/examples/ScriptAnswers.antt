@@ -15,7 +15,7 @@ use Rattle.odht_table.specs.declared.script.command.Request.TheVariants.{Get, Le
 use Rattle.odht_table.proofs.Puts.{my_coding}
 use Rattle.odht_table.proofs.examples.CommandLines.{get_line}
 
--- each line stands before its end, an empty one too; the last needs no end
+-- each line is what is before its end, an empty one too; the last needs no end
 pub lines : (script_lines [] ≡ [])
     × (script_lines (codes "len") ≡ codes "len" ∷ [])
     × (script_lines (codes "len\n") ≡ codes "len" ∷ [])
@@ -24,14 +24,14 @@ pub lines : (script_lines [] ≡ [])
 lines = (refl, refl, refl, refl, refl)
 
 -- ---- a line that is no command
--- a letter is malformed
+-- a letter is answered with `malformed`
 no_check : (bytes : List ℕ) → IsCheckText (codes "x") bytes → ⊥
 no_check bytes h = omega (arith, ap length h.whole)
 
 pub malformed_line : IsOtherAnswered my_config (codes "x") (codes "malformed")
 malformed_line = malformed no_check
 
--- and is answered with nothing else
+-- and with nothing else
 pub memory_refused : IsOtherAnswered my_config (codes "x") (codes "memory") → ⊥
 memory_refused h = go _ h refl
   where
@@ -43,7 +43,7 @@ memory_refused h = go _ h refl
 pub len_line : IsLineAnswered my_coding (codes "len") None (codes "no table\n") None
 len_line = no_table Len refl
 
--- what is answered to it is this
+-- its answer is this
 the_text : (line text : List ℕ) (old new : Option (List ℕ)) → IsLineAnswered my_coding line old text new → line ≡ codes "len" → old ≡ None → text ≡ codes "no table\n"
 the_text line _ _ _ (other old text no_command is) e before = absurd (no_command (OnTable Len) e)
 the_text line _ _ _ (renewed items percent old new text is table) e before = let letter = ap (λ l. slice_index l 0) (sym is.1 ∙ e) in absurd (omega (arith, letter))
@@ -55,7 +55,7 @@ pub other_text_refused : (new : Option (List ℕ)) → IsLineAnswered my_coding 
 other_text_refused new h = unequal_lists (codes "0\n") (codes "no table\n") refl (the_text _ _ _ _ h refl refl)
 
 -- ---- a script
--- each of its lines is answered behind the one before
+-- each of its lines is answered after the one before
 pub two_lines : IsAnsweredBy my_coding (codes "len\nget 042") (codes "no table\nno table\n")
 two_lines = (None, one_more _ _ _ _ _ _ _ len_line (one_more _ _ _ _ _ _ _ (no_table (Get 42) get_line) (no_lines None)))
 

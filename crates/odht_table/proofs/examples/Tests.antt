@@ -1,4 +1,4 @@
--- What the examples ask of a table, and the program's coding.
+-- Tests of a table for the examples, and the program's coding.
 --     has_pairs n P        P has n pairs
 --     has_value k v P      P has the value v for the key k
 use Rattle.std.proofs.Common.{◌≡◌, ◌==◌, ℕ, Bool, refl, false}
@@ -14,6 +14,6 @@ has_pairs n P = count P == n
 abbrev pub has_value : ℕ → ℕ → Table → Bool
 has_value k v P = option_map_or (λ w. w == v) (value_for my_coding P k) false
 
--- the coding writes this pair
+-- the coding encodes this pair so
 pub coded_pair : encoded my_coding 1 2 ≡ pair64 1 2
 coded_pair = refl

@@ -21,14 +21,14 @@ pub hexadecimal : (hex_digits 0 ≡ codes "00")
     × (hex_text (0x4f ∷ 0xb7 ∷ 1 ∷ []) ≡ codes "4fb701")
 hexadecimal = (refl, refl, refl, refl, refl, refl, refl)
 
--- what `get` tells
+-- the answers to `get`
 pub values : (value_text None ≡ codes "none")
     × (value_text (Some 0) ≡ codes "0")
     × (value_text (Some 4294967295) ≡ codes "4294967295")
 unfolding digits
 values = (refl, refl, refl)
 
--- what `put` tells
+-- the answers to `put`
 pub formers : (former_text None ≡ codes "none")
     × (former_text (Some 2) ≡ codes "was 2")
     × (former_text (Some 120) ≡ codes "was 120")

@@ -14,7 +14,8 @@ use odht::memory_layout::check_all;
 use std::alloc::{AllocError, Global};
 use std::io::{self, Write};
 
-/// Answers a line that is no command: with what the whole check says of the bytes that it writes, or as malformed.
+/// Answers a line that is no command: with the result of the whole check of the bytes that it writes, or with
+/// `malformed`.
 pub fn answer_check<W: Write>(alloc: Global, line: &[u8], output: &mut W) -> io::Result<()>
     ensures { (text : List ℕ) × IsOtherAnswered ⟦<U64ToU32 as Coded>⟧.coding.format line.now text × OnOk result (Appends (W.contents output.old) (W.contents output.new) (line_of text)) }
 {
@@ -27,7 +28,7 @@ pub fn answer_check<W: Write>(alloc: Global, line: &[u8], output: &mut W) -> io:
     }
 }
 
-// The digits of a line that checks bytes: an even number, and nothing else. None of any other line.
+// The digits of a line that checks bytes: an even number of digits, and nothing else. None for any other line.
 fn digits_of(line: &[u8]) -> Option<&[u8]>
     ensures line { IfSome result (λ digits. line.now ≡ codes "check " ++ digits.now) }
     ensures even { IfSome result (λ digits. length digits.now % 2 ≡ 0) }
@@ -42,7 +43,7 @@ fn digits_of(line: &[u8]) -> Option<&[u8]>
     }
 }
 
-// Whether each byte is a digit, of either case.
+// Whether each byte is a hexadecimal digit, of either case.
 fn are_digits(digits: &[u8]) -> bool
     ensures { IsTrue result ↔ AllPass is_ascii_hexdigit digits.now }
 {

@@ -8,28 +8,28 @@ ghost use Rattle.odht_table.specs.Commands.{IsCommandText, IsPairText, IsWordTex
 pub enum Command {
     /// `new N P`: a fresh table for `max_item_count` items at a load factor of `percent` percent.
     New { max_item_count: usize, percent: u64 },
-    /// A line for which a table has to be there.
+    /// A request of the table, which has to exist.
     OnTable(Request),
 }
 
-/// What such a line asks of the table.
+/// What a line asks of the table.
 #[derive(Clone, Copy, Debug, PartialEq, Eq)]
 pub enum Request {
     /// `put K V`: insert a pair.
     Put { key: u64, value: u32 },
     /// `get K`: look a key up.
     Get { key: u64 },
-    /// `len`: tell the item count.
+    /// `len`: print the item count.
     Len,
-    /// `walk`: show all pairs.
+    /// `walk`: print all pairs.
     Walk,
-    /// `hex`: show all bytes.
+    /// `hex`: print all bytes.
     Hex,
-    /// `dump`: show all slots.
+    /// `dump`: print all slots.
     Dump,
 }
 
-/// The command of a line, which is given without its end. None where the line is malformed.
+/// The command of a line, which is passed without its end. None where the line is no command.
 ///
 /// Words are separated by exactly one space, so a further space is an empty word, which is no command and no number.
 pub fn parse(line: &[u8]) -> Option<Command>

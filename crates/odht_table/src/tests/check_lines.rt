@@ -5,8 +5,8 @@ use std::alloc::{AllocError, Global};
 use std::process::Abort;
 use std::test::Fail;
 
-// The bytes of the table of 1 and 2, 3 and 4, 5 and 6, as docs/FORMAT.md has them in "A worked example": header, the slots
-// from 0 to 5, from 6 to 9, from 10 to 15, control bytes, mirror.
+// The bytes of the table of 1 and 2, 3 and 4, 5 and 6, as docs/FORMAT.md has them in "A worked example": header, the
+// slots from 0 to 5, from 6 to 9, from 10 to 15, control bytes, mirror.
 const THREE: [&str; 6] = [
     "4f44485401080420030000000000000010000000000000000000000232f30000",
     "000000000000000000000000000000000000000000000000000000000000000000000000000000000000000000000000000000000000000000000000010000000000000002000000",
@@ -34,7 +34,7 @@ fn line_with(alloc: Global, at: usize, digits: &str) -> Result<Vec<u8>, AllocErr
     Ok(line)
 }
 
-// Demands the answer to that line.
+// Asserts the answer to that line.
 fn check_with(
     rt: &impl Abort,
     alloc: Global,
@@ -103,7 +103,7 @@ Provided data has 0 bytes but the header needs 32
     )
 }
 
-// With one refusal of memory at most, whichever it is, and no request for a line that is malformed.
+// With at most one failing request for memory, whichever it is, and no request for a line that is malformed.
 #[test]
 fn a_check_that_memory_is_refused_for(rt: HostRuntime) -> Result<(), Fail> {
     let mut buffer = [0; 200];

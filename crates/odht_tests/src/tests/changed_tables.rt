@@ -19,7 +19,7 @@ enum Change {
     Header,
     // free control bytes become 0, and when none is left the item count is changed
     Occupied,
-    // keys of slots past those that opening looks at, with the tag in the mirror, and any bytes
+    // keys of slots past those that opening checks, with the tag in the mirror, and any bytes
     Mirror,
 }
 
@@ -43,14 +43,14 @@ impl Changed {
         }
     }
 
-    // A place of a control byte or of the mirror, from that of a slot on.
+    // The offset of a control byte or of a mirror byte, from the control byte of a slot on.
     fn control_from(&mut self, slot: usize) -> usize {
         let places = self.reading().slots().wrapping_add(16).wrapping_sub(slot);
         let skipped = self.random.below(places);
         self.reading().control_offset(slot).wrapping_add(skipped)
     }
 
-    // A place past the header.
+    // An offset past the header.
     fn place(&mut self) -> usize {
         match self.random.below(4) {
             0 => {
@@ -112,7 +112,7 @@ impl Changed {
         }
     }
 
-    // The first free control byte from a place on.
+    // The first free control byte from an offset on.
     fn free_from(&self, start: usize) -> Option<usize> {
         for place in start..self.bytes.len() {
             if self.reading().byte(place) >= 128 {
@@ -188,7 +188,7 @@ fn changed_table<C: Numbers>(alloc: Global, seed: u64, change: Change) -> Result
     Ok(changed)
 }
 
-// A key to insert, which stands in the bytes as often as not.
+// A key to insert, which is in the bytes as often as not.
 fn key_for(bytes: &[u8], random: &mut Random) -> u32 {
     let reading = Reading { bytes };
     let slot = random.below(reading.slots());
@@ -228,7 +228,7 @@ fn check_each_insert<C: Numbers, D: ByteStoreMut>(
     Ok(())
 }
 
-// Each call that only reads stays in the frame, and the data comes back.
+// Each call that only reads stays in the frame, and the store comes back.
 fn check_read<C: Numbers, D: ByteStore>(
     rt: &impl Abort,
     alloc: Global,
@@ -242,7 +242,7 @@ fn check_read<C: Numbers, D: ByteStore>(
     Ok(())
 }
 
-// So do inserts one by one, and what reads between them.
+// Inserts one by one stay in the frame, and so do the calls that read between them.
 fn check_inserts<C: Numbers, D: ByteStoreMut>(
     rt: &impl Abort,
     alloc: Global,
@@ -256,7 +256,7 @@ fn check_inserts<C: Numbers, D: ByteStoreMut>(
     check_reads(rt, alloc, cases, &table, left.as_slice())
 }
 
-// So do inserts at once.
+// Inserts of a list stay in the frame.
 fn check_inserts_at_once<C: Numbers, D: ByteStoreMut>(
     rt: &impl Abort,
     cases: &mut Cases,
@@ -298,7 +298,7 @@ fn check_written<C: Numbers>(
     Ok(())
 }
 
-// So does each over the bytes, and inserts one by one into them.
+// Each call over the bytes themselves stays in the frame, and so do inserts one by one into them.
 fn check_calls<C: Numbers>(
     rt: &impl Abort,
     alloc: Global,
@@ -312,7 +312,8 @@ fn check_calls<C: Numbers>(
     check_inserts::<C, BorrowedMut<'_>>(rt, alloc, cases, BorrowedMut::new(bytes), random)
 }
 
-// Changes a table, demands that it is opened just where the second reading finds nothing, and then looks at each call.
+// Changes a table, asserts that it is opened exactly where the second reading finds no error, and then checks each
+// call.
 fn try_table<C: Numbers>(
     rt: &impl Abort,
     alloc: Global,
@@ -366,7 +367,8 @@ fn calls_stay_in_the_frame_where_keys_are_hashes(rt: HostRuntime) -> Result<(), 
     Ok(())
 }
 
-// The mirror of slot 0 counts as occupied, and the slot as free: a search by groups and one slot by slot may differ here.
+// The mirror of slot 0 counts as occupied, and the slot as free: a search by groups and one slot by slot may differ
+// here.
 #[test]
 fn a_mirror_that_hides_a_free_slot(rt: HostRuntime) -> Result<(), Error> {
     let alloc = rt.alloc();

@@ -1,5 +1,5 @@
-//! What the calls of a view may answer and leave on accepted bytes, valid or not: docs/FORMAT.md, "Accepted but invalid
-//! bytes". Each demand is made of a second reading of the bytes.
+//! What the calls of a view may return and leave on accepted bytes, valid or not: docs/FORMAT.md, "What is refused, and
+//! in which order", at "Accepted but invalid bytes". Each assertion is made by a second reading of the bytes.
 use crate::tests::checks::{holds_at, same, same_at, same_bytes, same_len, same_pairs};
 use crate::tests::second_reading::{Numbers, Reading};
 use odht::HashTable;
@@ -15,7 +15,7 @@ pub struct Cases {
     pub accepted: usize,
     pub overwritten: usize,
     pub added: usize,
-    pub added_over_a_occupied_slot: usize,
+    pub added_over_an_occupied_slot: usize,
     pub full_by_count: usize,
     pub full_by_slots: usize,
     pub found_in_a_free_slot: usize,
@@ -32,7 +32,7 @@ impl Cases {
             accepted: 0,
             overwritten: 0,
             added: 0,
-            added_over_a_occupied_slot: 0,
+            added_over_an_occupied_slot: 0,
             full_by_count: 0,
             full_by_slots: 0,
             found_in_a_free_slot: 0,
@@ -42,14 +42,14 @@ impl Cases {
         }
     }
 
-    /// Demands that each came.
+    /// Asserts that each came.
     pub fn demand_each(&self, rt: &impl Abort) {
         let counts = [
             ("overwritten", self.overwritten),
             ("added", self.added),
             (
                 "added over an occupied slot",
-                self.added_over_a_occupied_slot,
+                self.added_over_an_occupied_slot,
             ),
             ("full by the count", self.full_by_count),
             ("full by the slots", self.full_by_slots),
@@ -71,7 +71,7 @@ pub fn count_case(count: &mut usize, came: bool) {
     }
 }
 
-// Demands that a value that was found stands beside its key.
+// Asserts that a value that was found is stored with its key.
 fn check_value(rt: &impl Abort, reading: Reading<'_>, key: u32, found: Option<u32>) {
     if let Some(value) = found {
         holds_at(rt, "found key", key as usize, reading.stores(key, value));
@@ -105,7 +105,7 @@ fn check_counted<C: Numbers, D: ByteStore>(rt: &impl Abort, table: &HashTable<C,
     holds_at(rt, "groups of key", key as usize, is_few);
 }
 
-// So do the others.
+// The other lookups of a key stay in the frame.
 fn check_lookup<C: Numbers, D: ByteStore>(
     rt: &impl Abort,
     cases: &mut Cases,
@@ -178,7 +178,7 @@ pub fn check_reads<C: Numbers, D: ByteStore>(
     check_walk(rt, alloc, cases, table, reading)
 }
 
-// The byte at a place, where these stand from `start` on and another byte elsewhere.
+// The byte at an offset, where `data` begins at `start` and the byte is `other` elsewhere.
 fn over(start: usize, data: &[u8], at: usize, other: u8) -> u8 {
     match data.get(at.wrapping_sub(start)) {
         Some(byte) => *byte,
@@ -198,7 +198,7 @@ fn is_value_written(before: Reading<'_>, after: Reading<'_>, slot: usize, value:
     after.bytes.len() == before.bytes.len()
 }
 
-// Whether one value beside the key, which was the old one, became the new one and nothing else changed.
+// Whether one value that is stored with the key, which was the old one, became the new one and nothing else changed.
 fn is_overwritten(before: Reading<'_>, after: Reading<'_>, pair: (u32, u32), old: u32) -> bool {
     for slot in 0..before.slots() {
         if before.key(slot) == pair.0
@@ -220,7 +220,7 @@ struct Added {
 }
 
 impl Added {
-    // The byte at a place once the pair stands in this slot.
+    // The byte at an offset once the pair is in this slot.
     fn byte(self, before: Reading<'_>, slot: usize, at: usize) -> u8 {
         let entry = before.entry_offset(slot);
         let byte = over(entry, &self.key.to_le_bytes(), at, before.byte(at));
@@ -256,7 +256,7 @@ impl Added {
     }
 }
 
-// Demands that a pair was added to a slot that could be free, below the maximum.
+// Asserts that a pair was added to a slot that could be free, below the maximum.
 fn check_added(
     rt: &impl Abort,
     cases: &mut Cases,
@@ -270,12 +270,12 @@ fn check_added(
     };
     count_case(&mut cases.added, true);
     count_case(
-        &mut cases.added_over_a_occupied_slot,
+        &mut cases.added_over_an_occupied_slot,
         before.is_occupied(slot),
     );
 }
 
-// Demands that nothing changed, at the maximum or where no slot is free for each search.
+// Asserts that nothing changed, at the maximum or where no slot is free for each search.
 fn check_full(rt: &impl Abort, cases: &mut Cases, before: Reading<'_>, after: Reading<'_>) {
     same_bytes(rt, "bytes after a refusal", after.bytes, before.bytes);
     let is_at_maximum = before.count() >= before.max_items();
@@ -287,7 +287,7 @@ fn check_full(rt: &impl Abort, cases: &mut Cases, before: Reading<'_>, after: Re
     count_case(&mut cases.full_by_slots, !is_at_maximum);
 }
 
-// Demands of an insert's answer that it fits what it left.
+// Asserts that the result of an insert fits the bytes that it left.
 fn check_answer(
     rt: &impl Abort,
     cases: &mut Cases,
@@ -345,7 +345,7 @@ pub fn check_insert<C: Numbers, D: ByteStoreMut>(
     Ok(())
 }
 
-// Demands the header and the length as they were, but for the count.
+// Asserts the header and the length as they were, but for the count.
 fn check_header(rt: &impl Abort, before: Reading<'_>, after: Reading<'_>) {
     same_len(rt, "bytes", after.bytes.len(), before.bytes.len());
     for at in [0, 16, 24] {
@@ -359,7 +359,7 @@ fn check_header(rt: &impl Abort, before: Reading<'_>, after: Reading<'_>) {
     }
 }
 
-/// Inserts of many pairs are as many as are stated, and all or up to a refusal.
+/// The number of inserted pairs is the one that is returned: all, or those up to an error.
 pub fn check_insert_all<C: Numbers, D: ByteStoreMut>(
     rt: &impl Abort,
     cases: &mut Cases,

@@ -107,7 +107,7 @@ fn stress(rt: HostRuntime) -> Result<(), AllocError> {
     Ok(())
 }
 
-// Inserts the keys of four bytes from 0 to 65,535, and then one more, which is refused.
+// Inserts the keys of four bytes from 0 to 65,535, and then one more, which fails.
 fn insert_past_the_last(rt: &impl Abort, control: &mut [u8], entries: &mut [u8], slots: usize)
     requires { IsSlotCount slots }
 {
@@ -126,7 +126,7 @@ fn insert_past_the_last(rt: &impl Abort, control: &mut [u8], entries: &mut [u8],
     assert!(rt; table.insert(bytes, bytes) == Err(Error::Full));
 }
 
-// The lookup of this key answers None after each of 4,096 groups.
+// The lookup of this key returns None after all 4,096 groups.
 fn check_absent(rt: &impl Abort, control: &[u8], entries: &[u8], slots: usize, key: u32)
     requires { IsSlotCount slots }
 {

@@ -1,11 +1,11 @@
-//! Each header byte of a fresh table at each of its values, as opening answers it.
+//! Each header byte of a fresh table at each of its values, and the results of opening it.
 use crate::tests::whole_check::Counts;
 use odht::bytes::Borrowed;
 use odht::configs::U32ToU32;
 use odht::error::Error;
 use odht::{HashTable, HashTableOwned};
 
-// Opens the bytes with each value at this place, and counts the answers.
+// Opens the bytes with each value at this offset, and counts the results.
 fn count_values(counts: &mut Counts, bytes: &mut [u8; 192], at: usize) {
     if at >= 192 {
         return;

@@ -1,5 +1,5 @@
-//! Orders of inserts of tables of lists that look random: one is found, it lists the occupied slots, and its inserts make
-//! the table again. Single tables, and tables that no inserts make, are in vectors/insert_orders.txt.
+//! Orders of inserts of tables of lists that look random: one is found, it lists the occupied slots, and its inserts
+//! make the table again. Single tables, and tables that no inserts make, are in vectors/insert_orders.txt.
 use crate::tests::checks::{same, same_bytes};
 use crate::tests::second_reading::Reading;
 use odht::bytes::ByteArray;
@@ -9,7 +9,7 @@ use odht::{Config, HashTableOwned};
 use std::alloc::{AllocError, Global};
 use std::process::Abort;
 
-// A table's bytes, whatever length its keys and values have. They are read as docs/FORMAT.md, "Layout", has them.
+// A table's bytes, whatever length its keys and values have. They are read by docs/FORMAT.md, "Layout".
 #[derive(Clone, Copy)]
 struct Bytes<'a>(&'a [u8]);
 
@@ -39,7 +39,7 @@ impl<'a> Bytes<'a> {
         Ok(occupied)
     }
 
-    // The array that begins at a place.
+    // The array that begins at an offset.
     fn array<A: ByteArray>(&self, rt: &impl Abort, at: usize) -> A {
         let bytes = self.0;
         assert!(rt; at <= bytes.len());
@@ -72,7 +72,7 @@ fn items_of<C: Config>(
     Ok(items)
 }
 
-/// Demands that an order of inserts is found of a table that was made for so many items at 87 percent, that it lists
+/// Asserts that an order of inserts is found of a table that was made for so many items at 87 percent, that it lists
 /// each occupied slot once, and that inserts in this order into a new table for as many leave its bytes.
 pub fn check_insert_order<C: Config>(
     rt: &impl Abort,

@@ -53,7 +53,7 @@ impl<K: Short, V: Short> Reference<K, V> {
         }
     }
 
-    // Gives the key this value, and answers its former one.
+    // Gives the key this value, and returns its former one.
     fn insert(&mut self, key: &K, value: &V) -> Result<Option<V>, AllocError> {
         let bytes = key.as_slice().to_vec(self.alloc)?;
         match self.pairs.insert(bytes, (*key, *value))? {
@@ -128,7 +128,7 @@ fn check_len<K: Short, V: Short>(
     Ok(())
 }
 
-// Demands this value of a key.
+// Asserts this value of a key.
 fn same_value_of<K: Short, V: Short>(
     rt: &impl Abort,
     key: K,
@@ -163,7 +163,7 @@ fn check_bytes_deterministic<K: Short, V: Short>(
     Ok(())
 }
 
-// Each insert of a list with duplicates into a table that grows answers what that into a map of std does.
+// Each insert of a list with duplicates into a table that grows returns what the insert into a map of std returns.
 fn check_insert_with_duplicates<K: Short, V: Short>(
     rt: &impl Abort,
     alloc: Global,

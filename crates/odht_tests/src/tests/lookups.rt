@@ -1,5 +1,5 @@
-//! Lookups of many keys beside one lookup after the other: of batches that are full and of those that are not, of keys that
-//! are there and that are not, in a table with one free slot.
+//! Lookups of many keys against one lookup after the other: of full batches and of others, of present and of absent
+//! keys, in a table with one free slot.
 use crate::tests::checks::same_at;
 use odht::bytes::{Borrowed, ByteStore};
 use odht::configs::U32ToU32;
@@ -7,7 +7,7 @@ use odht::error::Error;
 use odht::{HashTable, HashTableOwned};
 use std::process::Abort;
 
-// The keys that are looked up. The even ones up to 60 are there.
+// The keys that are looked up. The even ones up to 60 are present.
 const KEYS: [u32; 17] = [4, 5, 0, 60, 61, 62, 2, 2, 1, 30, 31, 58, 3, 8, 6, 99, 10];
 
 // Looks up so many keys in a view.

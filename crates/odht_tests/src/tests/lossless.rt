@@ -1,4 +1,4 @@
-//! Configurations whose decodings undo their encodings: keys and values come back, and a table answers with values
+//! Configurations whose decodings undo their encodings: keys and values come back, and a table returns the values
 //! themselves.
 ghost use Rattle.std.specs.Prelude.{◌≡◌};
 

@@ -1,4 +1,4 @@
-//! Tables that own their bytes, with ample memory: growth, copies, and bytes that are refused.
+//! Tables that own their bytes, with ample memory: growth, copies, and bytes that are rejected.
 ghost use Rattle.std.specs.Prelude.{◌≤◌};
 
 use crate::tests::checks::{holds_at, same, same_answer, same_at, same_len, same_value};
@@ -28,7 +28,7 @@ fn fill(rt: &impl Abort, table: &mut HashTableOwned<U32ToU32>, end: u32)
     }
 }
 
-// Demands the values that `fill` gives the keys from `start` to below `end`.
+// Asserts the values that `fill` gives the keys from `start` to below `end`.
 fn check_occupied(rt: &impl Abort, table: &HashTableOwned<U32ToU32>, start: u32, end: u32)
     requires { end ≤ 100 }
 {
@@ -38,7 +38,7 @@ fn check_occupied(rt: &impl Abort, table: &HashTableOwned<U32ToU32>, start: u32,
     }
 }
 
-// Demands that the keys from `start` to below `end` are absent.
+// Asserts that the keys from `start` to below `end` are absent.
 fn check_absent(rt: &impl Abort, table: &HashTableOwned<U32ToU32>, start: u32, end: u32) {
     for key in start..end {
         same_value(rt, key, table.get(&key), None);
@@ -75,7 +75,7 @@ fn byte_with_a_pair(at: usize) -> u8 {
     }
 }
 
-// Demands the bytes of such a table.
+// Asserts the bytes of such a table.
 fn check_bytes(rt: &impl Abort, what: &str, bytes: &[u8], has_pair: bool) {
     same_len(rt, what, bytes.len(), 192);
     for (at, byte) in bytes.iter().enumerate() {
@@ -179,7 +179,7 @@ fn checked_copies_have_the_same_bytes(rt: HostRuntime) {
     same_value(&rt, 1, copied.get(&1), Some(2));
 }
 
-// The refusal of the bytes comes also where the first request for memory would fail.
+// The error of the bytes comes also where the first request for memory would fail.
 #[test]
 fn refused_bytes_are_not_copied(rt: HostRuntime) {
     let slot = 15;

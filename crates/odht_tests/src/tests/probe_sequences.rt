@@ -1,4 +1,4 @@
-//! The order in which slots are looked at, whatever the group size.
+//! The probe order, whatever the group size.
 ghost use Rattle.std.specs.Prelude.{◌≡◌, ◌%◌};
 ghost use Rattle.odht_base.specs.Load.{IsSlotCount};
 
@@ -30,7 +30,7 @@ fn reference(alloc: Global, slots: usize) -> Result<Vec<usize>, AllocError> {
     Ok(order)
 }
 
-// A probe sequence of this group size goes through the reference's slots.
+// A probe sequence of this group size gives the slots of the reference.
 fn check<const SIZE: usize>(rt: &impl Abort, alloc: Global, slots: usize) -> Result<(), AllocError>
     requires slots { IsSlotCount slots }
     requires divides { 16 % SIZE ≡ 0 }

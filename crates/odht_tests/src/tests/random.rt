@@ -1,6 +1,6 @@
 //! Bytes that look random, the same in each run.
 
-/// A generator, and where it stands.
+/// A generator, and its state.
 #[derive(Drop)]
 pub struct Random {
     pub state: u64,

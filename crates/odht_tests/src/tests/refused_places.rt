@@ -1,4 +1,4 @@
-//! Places for a new table that are refused: no contract can say of a place that was moved that it stays as it was.
+//! A new table in a buffer that is rejected leaves the buffer as it was: no contract can say this of a moved value.
 use crate::tests::checks::{same, same_bytes};
 use odht::HashTable;
 use odht::bytes::BorrowedMut;
@@ -6,7 +6,7 @@ use odht::configs::U32ToU32;
 use odht::error::Error;
 use std::process::Abort;
 
-// Asks for a new table in the place, which is refused, and demands its bytes as they were.
+// Makes a new table in the buffer, which fails, and asserts that its bytes are as they were.
 fn check_refused<const N: usize>(
     rt: &impl Abort,
     bytes: &mut [u8; N],

@@ -1,10 +1,10 @@
-//! A second reading of a table's bytes, where keys and values have four bytes each. It shares no code with the library, and
-//! takes each place from docs/FORMAT.md, "Layout".
+//! A second reading of a table's bytes, where keys and values have four bytes each. It shares no code with the library,
+//! and takes each offset from docs/FORMAT.md, "Layout".
 use odht::Config;
 use odht::configs::{DirectU32ToU32, U32ToU32};
 use std::alloc::{AllocError, Global};
 
-/// Where the entries begin.
+/// The offset of the entries.
 pub const ENTRIES: usize = 32;
 
 /// How many bytes a key and its value have.
@@ -17,7 +17,7 @@ pub trait Numbers: Config<Key = u32, Value = u32, EncodedKey = [u8; 4], EncodedV
 }
 
 impl Numbers for U32ToU32 {
-    // One step from a state of 0; the hash are the four lowest bytes.
+    // One step from a state of 0; the hash is the lowest four bytes.
     fn second_tag(key: u32) -> u8 {
         let product = (key as u64).wrapping_mul(0x517cc1b727220a95);
         let [_, _, _, highest, ..] = product.to_le_bytes();
@@ -40,7 +40,7 @@ pub struct Reading<'a> {
 }
 
 impl<'a> Reading<'a> {
-    /// The byte at a place.
+    /// The byte at an offset.
     pub fn byte(&self, at: usize) -> u8 {
         match self.bytes.get(at) {
             Some(byte) => *byte,
@@ -68,7 +68,7 @@ impl<'a> Reading<'a> {
         ])
     }
 
-    /// How many slots the length is that of.
+    /// The slot count that the length belongs to.
     pub fn slots(&self) -> usize {
         self.bytes.len().wrapping_sub(ENTRIES + 16) / (ENTRY + 1)
     }
@@ -83,12 +83,12 @@ impl<'a> Reading<'a> {
         (self.slots() as u64).wrapping_mul(self.number(28, 2)) / 65536
     }
 
-    /// Where the entry of a slot stands.
+    /// The offset of the entry of a slot.
     pub fn entry_offset(&self, slot: usize) -> usize {
         slot.wrapping_mul(ENTRY).wrapping_add(ENTRIES)
     }
 
-    /// Where the control byte of a slot stands. The mirror's follow that of the last slot.
+    /// The offset of the control byte of a slot. The mirror's follow that of the last slot.
     pub fn control_offset(&self, slot: usize) -> usize {
         self.entry_offset(self.slots()).wrapping_add(slot)
     }
@@ -121,7 +121,7 @@ impl<'a> Reading<'a> {
         !self.is_occupied(slot) || self.is_free_in_mirror(slot)
     }
 
-    /// Whether a slot is free by its control byte and by its mirror, so that each search that comes by meets it.
+    /// Whether a slot is free by its control byte and by its mirror, so that each search that reaches it ends there.
     pub fn has_free(&self) -> bool {
         for slot in 0..self.slots() {
             if !self.is_occupied(slot) && self.is_free_in_mirror(slot) {
@@ -141,7 +141,7 @@ impl<'a> Reading<'a> {
         false
     }
 
-    /// Whether the entry of a slot is the key beside the value.
+    /// Whether the entry of a slot is the key with the value.
     pub fn stores(&self, key: u32, value: u32) -> bool {
         for slot in 0..self.slots() {
             if self.key(slot) == key && self.value(slot) == value {
@@ -151,7 +151,7 @@ impl<'a> Reading<'a> {
         false
     }
 
-    /// Whether that of an occupied slot is.
+    /// Whether the entry of an occupied slot is the key with the value.
     pub fn stores_occupied(&self, key: u32, value: u32) -> bool {
         for slot in 0..self.slots() {
             if self.is_occupied(slot) && self.key(slot) == key && self.value(slot) == value {

@@ -1,5 +1,5 @@
-//! The whole check of a table's bytes once more, slot by slot, as docs/FORMAT.md says it in "What is refused, and in which
-//! order". It shares no code with the library, of which it has the names of the refusals alone.
+//! The whole check of a table's bytes once more, slot by slot, as docs/FORMAT.md says it in "What is refused, and in
+//! which order". It shares no code with the library, and takes from it the names of the errors alone.
 use crate::tests::second_reading::{ENTRIES, Reading};
 use odht::error::{Error, Part};
 
@@ -20,7 +20,7 @@ pub struct Shape {
     pub hash: Hash,
 }
 
-/// What the bytes are refused for first.
+/// The first error of the bytes.
 pub fn slow_check(bytes: &[u8], shape: Shape) -> Result<(), Error> {
     let table = SlowTable {
         reading: Reading { bytes },
@@ -36,7 +36,7 @@ pub fn slow_check(bytes: &[u8], shape: Shape) -> Result<(), Error> {
     table.check_reach()
 }
 
-/// What a view that looks at no slot refuses them for first.
+/// The first error of a view that checks no slot.
 pub fn slow_check_of_header(bytes: &[u8], shape: Shape) -> Result<(), Error> {
     let table = SlowTable {
         reading: Reading { bytes },
@@ -53,7 +53,7 @@ struct SlowTable<'a> {
 }
 
 impl<'a> SlowTable<'a> {
-    // How many slots the header states.
+    // The slot count of the header.
     fn slots(&self) -> usize {
         self.reading.number(16, 8) as usize
     }
@@ -62,7 +62,7 @@ impl<'a> SlowTable<'a> {
         self.shape.key.wrapping_add(self.shape.value)
     }
 
-    // Where the entry of a slot begins.
+    // The offset of the entry of a slot.
     fn entry(&self, slot: usize) -> usize {
         slot.wrapping_mul(self.entry_len()).wrapping_add(ENTRIES)
     }
@@ -85,7 +85,7 @@ impl<'a> SlowTable<'a> {
         self.reading.word(at).to_le_bytes()
     }
 
-    // The slot at a place of the probe order of a key.
+    // The slot at a position of the probe order of a key.
     fn slot_at(&self, key: u64, place: usize) -> usize {
         let (group, within) = (place / 16, place % 16);
         let skipped = group.wrapping_mul(group.wrapping_add(1)).wrapping_mul(8);
@@ -277,7 +277,7 @@ pub fn tag_of(hash: Hash, key: u64) -> u8 {
     tag
 }
 
-// Whether doubling of 1 gives the number.
+// Whether the number is a power of two.
 fn is_power_of_two(number: usize) -> bool {
     let mut power: usize = 1;
     for _ in 0..64 {

@@ -1,7 +1,7 @@
-//! The whole check beside a second reading of the bytes that shares no code with the library (`slow_check`): on every
+//! The whole check against a second reading of the bytes that shares no code with the library (`slow_check`): on every
 //! change of one byte of a table, and on tables of which some bytes are changed.
 //!
-//! How many are refused for what was counted by a program outside the library.
+//! How often each error comes was counted by a program outside the library.
 use crate::tests::checks::{same_at, same_len};
 use crate::tests::random::Random;
 use crate::tests::second_reading::Reading;
@@ -34,7 +34,7 @@ const KINDS: [&str; 17] = [
     "Unreachable",
 ];
 
-// Where the kind of an answer stands in the list of kinds.
+// The index of the kind of a result in the list of kinds.
 fn kind_of(answer: Result<(), Error>) -> usize {
     match answer {
         Ok(()) => 0,
@@ -64,7 +64,7 @@ fn kind_of_contents(error: Error) -> usize {
     }
 }
 
-/// How many answers of each kind there were.
+/// How many results of each kind there were.
 #[derive(Drop)]
 pub struct Counts([usize; 17]);
 
@@ -81,7 +81,7 @@ impl Counts {
         }
     }
 
-    /// Demands these numbers.
+    /// Asserts these numbers.
     pub fn demand(&self, rt: &impl Abort, expected: [usize; 17]) {
         for ((kind, count), expected) in KINDS.iter().zip(self.0.iter()).zip(expected) {
             same_len(rt, kind, *count, expected);
@@ -89,7 +89,7 @@ impl Counts {
     }
 }
 
-// Demands the second reading's answer of the whole check of some bytes, and counts it.
+// Asserts that the whole check of some bytes returns the error of the second reading, and counts it.
 fn check_bytes<C: Config>(
     rt: &impl Abort,
     counts: &mut Counts,
@@ -113,7 +113,8 @@ fn check_bytes<C: Config>(
     }
 }
 
-// A byte of the table from u64 to u32 whose 16 slots hold 1 and 2, 3 and 4, 5 and 6: docs/FORMAT.md, "A worked example".
+// A byte of the table from u64 to u32 whose 16 slots hold 1 and 2, 3 and 4, 5 and 6: docs/FORMAT.md, "A worked
+// example".
 fn byte_of_three(at: usize) -> u8 {
     match at {
         0 => b'O',
@@ -145,7 +146,7 @@ const EIGHT_TO_FOUR: Shape = Shape {
     hash: Hash::Fx,
 };
 
-// Checks the bytes with each other value at this place.
+// Checks the bytes with each other value at this offset.
 fn check_each_value(rt: &impl Abort, counts: &mut Counts, bytes: &mut [u8; 256], at: usize) {
     if at >= 256 {
         return;
@@ -198,17 +199,17 @@ impl Changed {
         }
     }
 
-    // Where the entry of a slot begins.
+    // The offset of the entry of a slot.
     fn entry(&self, slot: usize) -> usize {
         slot.wrapping_mul(8).wrapping_add(32)
     }
 
-    // Where the control byte of a slot stands.
+    // The offset of the control byte of a slot.
     fn control(&self, slot: usize) -> usize {
         self.entry(self.slots).wrapping_add(slot)
     }
 
-    // A place: in the header, in the entries, among the control bytes, in the mirror or anywhere.
+    // An offset: in the header, in the entries, among the control bytes, in the mirror or anywhere.
     fn place(&self, random: &mut Random) -> usize {
         match random.below(8) {
             0 => random.below(32),

@@ -1,4 +1,4 @@
-//! `odht build` and `odht put`: tables of the lines of standard input.
+//! `odht build` and `odht put`: tables from the lines of standard input.
 ghost use Rattle.std.specs.Prelude.{◌≡◌, ◌≤◌, OnOk, IfOk, length};
 ghost use Rattle.odht_base.specs.Table.{Table};
 ghost use Rattle.odht_base.specs.Insert.{insert_owned};
@@ -27,7 +27,7 @@ use std::rt::{Clock, Files};
 /// How many pairs are inserted at once.
 const BATCH: usize = 1024;
 
-/// Makes a table of the lines, and stores it as the file.
+/// Makes a table from the lines, and stores it as the file.
 pub fn build<R: Files + AllocGlobal + Clock, I: BufRead, E: Write>(
     rt: &R,
     file: &str,
@@ -96,7 +96,7 @@ pub fn put<R: Files + AllocGlobal + Clock, I: BufRead, E: Write>(
     for_shape!(shape, put_file[R, I, E](rt, file, options, bytes, input, errors))
 }
 
-// The bytes are let go once the table has its own.
+// The bytes are freed once the table has a copy.
 fn put_file<C: Config, R: Files + AllocGlobal + Clock, I: BufRead, E: Write>(
     rt: &R,
     file: &str,
@@ -171,14 +171,14 @@ where
         }
         if pairs.len() >= BATCH {
             insert_batch(table, &mut pairs)?;
-            // A line that cannot be written is not missed.
+            // A progress line that cannot be written is no failure.
             let _ = progress.tell(rt, number, errors);
         }
     }
     insert_batch(table, &mut pairs)
 }
 
-// Inserts the pairs, which are then let go.
+// Inserts the pairs, and drops them.
 fn insert_batch<C: Config>(
     table: &mut HashTableOwned<C>,
     pairs: &mut Vec<(C::Key, C::Value)>,

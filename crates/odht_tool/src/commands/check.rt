@@ -39,7 +39,7 @@ fn check_bytes<C: Config>(bytes: &[u8]) -> Result<(), Error>
     check_all::<C>(bytes)
 }
 
-/// `valid`, or the refusal, on a line.
+/// Writes a line with `valid`, or with the error.
 pub fn write_checked<O: Write>(checked: &Result<(), Error>, output: &mut O) -> io::Result<()>
     ensures { OnOk result (Appends (O.contents output.old) (O.contents output.new) (checked_text checked.now)) }
 {
@@ -49,8 +49,8 @@ pub fn write_checked<O: Write>(checked: &Result<(), Error>, output: &mut O) -> i
     }
 }
 
-/// The ready shape of these bytes, by the sizes that they state. Bytes that are refused for what stands before the sizes
-/// have any shape.
+/// The ready shape of these bytes, by the key and value sizes in the header. Where the check fails before it comes to
+/// the sizes, some shape is returned: the check has the same error for each.
 pub fn shape_of(bytes: &[u8], hash: Option<Hash>) -> Result<Shape, Failure> {
     let Some((key_size, value_size)) = header_sizes(bytes) else {
         return Ok(Shape::U64ToU32);
@@ -73,7 +73,7 @@ pub fn shape_of(bytes: &[u8], hash: Option<Hash>) -> Result<Shape, Failure> {
     }
 }
 
-// The key size and the value size that a header states.
+// The key size and the value size in the header.
 fn header_sizes(bytes: &[u8]) -> Option<(u8, u8)> {
     Some((*bytes.get(5)?, *bytes.get(6)?))
 }

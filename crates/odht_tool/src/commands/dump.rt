@@ -58,7 +58,7 @@ where
     }
 }
 
-// The pairs of a table.
+// Writes the pairs of a table.
 fn write_table<C: Config, O: Write>(
     table: &HashTable<C, Borrowed<'_>>,
     output: &mut O,
@@ -80,7 +80,7 @@ fn of_output(written: io::Result<()>) -> Result<u8, Failure> {
     }
 }
 
-// Each pair on a line.
+// Writes each pair on a line.
 fn write_pairs<C: Config, O: Write>(pairs: Iter<'_, C>, output: &mut O) -> io::Result<()>
 where
     C::Key: Text,
@@ -104,7 +104,7 @@ where
     }
 }
 
-// Each occupied slot on a line: its number, its control byte, how many groups find it, and its pair.
+// Writes a line for each occupied slot: its number, its control byte, how many groups a search reads, and its pair.
 fn write_slots<C: Config, O: Write>(
     allocation: &Allocation<C, Borrowed<'_>>,
     output: &mut O,

@@ -129,7 +129,7 @@ fn open<C: Config>(bytes: &[u8]) -> Result<HashTable<C, Borrowed<'_>>, Failure> 
     }
 }
 
-// Looks the keys up, and writes a line for each. Whether each was found.
+// Looks the keys up, and writes a line for each. Returns whether each was found.
 fn answer_keys<C: Config, O: Write>(
     alloc: Global,
     table: &HashTable<C, Borrowed<'_>>,

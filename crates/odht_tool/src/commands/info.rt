@@ -10,7 +10,7 @@ use std::alloc::Global;
 use std::io::{self, Write};
 use std::rt::Files;
 
-/// Writes sizes, counts, load factors, and how many groups finds the items.
+/// Writes sizes, counts, load factors, and how many groups a search reads for the items.
 pub fn run<R: Files + AllocGlobal, O: Write>(
     rt: &R,
     file: &str,
@@ -22,7 +22,7 @@ pub fn run<R: Files + AllocGlobal, O: Write>(
     Ok(DONE)
 }
 
-/// The text about these bytes.
+/// The text that describes these bytes.
 pub fn write_info<O: Write>(alloc: Global, bytes: &[u8], output: &mut O) -> Result<(), Failure> {
     let table = match StoredTable::open(bytes) {
         Ok(table) => table,
@@ -73,7 +73,7 @@ fn write_all<O: Write>(
     }
 }
 
-// The lines that stand for any hash function.
+// The lines that do not depend on the hash function.
 fn write_numbers<O: Write>(table: &StoredTable<'_>, output: &mut O) -> io::Result<()> {
     let (key_size, value_size) = (table.key_size, table.value_size);
     let (item_count, slot_count) = (table.item_count, table.slot_count);
@@ -92,7 +92,7 @@ fn write_numbers<O: Write>(table: &StoredTable<'_>, output: &mut O) -> io::Resul
     writeln!(output, "maximum load  {max_load} percent")
 }
 
-// How many percent of the slots are filled, rounded down.
+// How many percent of the slots are occupied, rounded down.
 fn percent_of(item_count: usize, slot_count: usize) -> u128 {
     if slot_count == 0 {
         return 0;

@@ -1,4 +1,4 @@
-//! What is told of words and of files that are refused.
+//! What is printed for words and for files that are rejected.
 use super::tables::WRONG_TAG;
 use super::{case_of, printed, write_hex};
 use crate::commands::run;
@@ -186,7 +186,7 @@ fn absent_keys(rt: HostRuntime) -> Result<(), Fail> {
     Ok(())
 }
 
-// A writer of which nobody reads, or whose disk is full.
+// A writer whose reader is gone, or whose disk is full.
 #[derive(Drop)]
 struct Broken(ErrorKind);
 

@@ -1,4 +1,4 @@
-//! Files that are made, added to, and left as they were.
+//! Files that are made, added to, and left unchanged.
 use super::tables::{CASES, Case};
 use super::{case_of, check_printed, printed, write_hex};
 use std::alloc::Global;
@@ -7,7 +7,7 @@ use std::process::Abort;
 use std::rt::{Clock, Files};
 use std::test::Fail;
 
-// Demands that a file has the bytes of a table, and removes it.
+// Asserts that a file has the bytes of a table, and removes it.
 fn check_file<R: Files + AllocGlobal + Abort>(rt: &R, file: &str, case: Case) -> Result<(), Fail> {
     let alloc: Global = rt.alloc();
     let beside = format!(in alloc; "{file}.expected")?;
@@ -52,7 +52,7 @@ fn pairs_are_added(rt: HostRuntime) -> Result<(), Fail> {
     check_file(&rt, "put.odht", case_of("u64_u32")?)
 }
 
-// Lines that are not understood, and what is told of them.
+// Lines that cannot be parsed, and what is printed for them.
 const WRONG_LINES: [(&[u8], &str); 8] = [
     (b"1\t2\n\n", "line 2: no tab between key and value"),
     (b"1 2\n", "line 1: no tab between key and value"),
@@ -90,7 +90,7 @@ fn wrong_lines_leave_the_file(rt: HostRuntime) -> Result<(), Fail> {
     check_file(&rt, "kept.odht", case)
 }
 
-// Where another file has the name that is written first, nothing is written.
+// Where a file with the name of the new file exists already, nothing is written.
 #[test]
 fn another_run_at_work(rt: HostRuntime) -> Result<(), Fail> {
     let case = case_of("u64_u32")?;

@@ -1,4 +1,4 @@
-//! What a call answers: a text, and for some calls the bytes of a table behind it.
+//! The answer to a case: a text, and for some calls the bytes of a table after it.
 use super::Fault;
 use super::words::Words;
 use odht::bytes::ByteArray;
@@ -22,7 +22,7 @@ impl Answer {
         })
     }
 
-    /// The text of a refusal, or `ok`.
+    /// The text of an error, or `ok`.
     pub fn refusal(alloc: Global, refused: Option<Error>) -> Result<Answer, Fault> {
         match refused {
             Some(error) => Answer::text(alloc, &error),
@@ -43,7 +43,7 @@ impl Answer {
         Answer { text, bytes: None }
     }
 
-    /// Words, and behind them the bytes of a table.
+    /// Words, and after them the bytes of a table.
     pub fn table(text: String, bytes: Vec<u8>) -> Answer {
         Answer {
             text,
@@ -75,7 +75,7 @@ impl Answer {
     }
 }
 
-/// Begins a word behind the others.
+/// Begins a word after the others.
 pub fn begin_word(text: &mut String) -> Result<(), AllocError> {
     if text.is_empty() {
         return Ok(());
@@ -83,13 +83,13 @@ pub fn begin_word(text: &mut String) -> Result<(), AllocError> {
     text.push(' ')
 }
 
-/// Sets a word behind the others.
+/// Appends a word to the others.
 pub fn add_word(text: &mut String, word: &impl Display) -> Result<(), AllocError> {
     begin_word(text)?;
     write!(text, "{word}")
 }
 
-/// Sets what an insert answered behind the other words: the former value, `none`, `full`, or another refusal's text.
+/// Appends the result of an insert to the other words: the former value, `none`, `full`, or another error's text.
 pub fn add_former<V: ByteArray>(
     text: &mut String,
     former: Result<Option<V>, Error>,
@@ -103,7 +103,7 @@ pub fn add_former<V: ByteArray>(
     }
 }
 
-/// Sets the hexadecimal digits of the bytes behind the text, and `-` for no bytes.
+/// Appends the hexadecimal digits of the bytes to the text, and `-` for no bytes.
 pub fn add_hex(text: &mut String, bytes: &[u8]) -> Result<(), AllocError> {
     if bytes.is_empty() {
         return text.push('-');

@@ -1,4 +1,4 @@
-//! Calls that know of no configuration: load factors, slot counts, probe orders and group searches.
+//! Calls without a configuration: load factors, slot counts, probe orders and group searches.
 ghost use Rattle.std.specs.Prelude.{◌≡◌, ◌%◌, ◌<◌, IfOk};
 ghost use Rattle.odht_base.specs.Load.{IsSlotCount};
 
@@ -101,7 +101,7 @@ fn ranges(alloc: Global, numbers: &[usize]) -> Result<Answer, Fault> {
     Ok(Answer::words(text))
 }
 
-// The places of a probe sequence of a group size.
+// The positions of a probe sequence of a group size.
 fn places(alloc: Global, args: &[&str]) -> Result<Answer, Fault> {
     let [size, home, slots] = args else {
         return Err(Fault::Unread);

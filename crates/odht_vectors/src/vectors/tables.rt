@@ -129,7 +129,7 @@ fn table_len<C: Config>(alloc: Global, args: &[&str]) -> Result<Answer, Fault> {
     Answer::number(alloc, memory_layout::bytes_needed::<C>(number(*slots)?))
 }
 
-// A new table in so many bytes, which held something else before.
+// A new table in so many bytes, which had other contents before.
 fn new_table<C: Config>(alloc: Global, args: &[&str]) -> Result<Answer, Fault> {
     let [count, of_percent, len] = args else {
         return Err(Fault::Unread);
@@ -162,7 +162,7 @@ fn with_capacity<C: Config>(words: &Words<'_>, args: &[&str]) -> Result<Answer, 
     after_list(words.alloc, accepted, refused.err(), bytes)
 }
 
-// A list collected to a table.
+// A list collected into a table.
 fn collected<C: Config>(words: &Words<'_>, args: &[&str]) -> Result<Answer, Fault> {
     let [of_percent, pairs @ ..] = args else {
         return Err(Fault::Unread);
@@ -175,7 +175,7 @@ fn collected<C: Config>(words: &Words<'_>, args: &[&str]) -> Result<Answer, Faul
     )
 }
 
-// The bytes of a table that was made, or the refusal.
+// The bytes of a table that was made, or the error.
 fn made<C: Config>(alloc: Global, made: Result<HashTableOwned<C>, Error>) -> Result<Answer, Fault> {
     match made {
         Ok(table) => {
@@ -232,7 +232,7 @@ fn open<C: Config>(alloc: Global, bytes: Vec<u8>) -> Result<Answer, Fault> {
     Answer::refusal(alloc, opened.err())
 }
 
-// The value of a key, and how many groups were looked at.
+// The value of a key, and how many groups were read.
 fn get<C: Config>(
     words: &Words<'_>,
     view: &HashTable<C, OwnedBytes>,
@@ -285,7 +285,7 @@ fn dump<C: Config>(
     }
 }
 
-// What each pair's insert answers, and the bytes that they leave.
+// What each pair's insert returns, and the bytes that they leave.
 fn insert<C: Config>(
     words: &Words<'_>,
     mut view: HashTable<C, OwnedBytes>,

@@ -31,9 +31,9 @@ pub fn percent(word: &str) -> Result<u8, Fault>
 }
 
 impl<'a> Words<'a> {
-    /// The bytes that a word writes: pieces between commas. The first is the name of bytes, or hexadecimal digits, or `-`
-    /// for no bytes. Each further one changes them: `AT:HEX` writes these bytes from the place `AT` on, `..N` keeps the
-    /// first `N`, and `+HEX` sets these behind the last.
+    /// The bytes that a word writes: pieces between commas. The first is the name of bytes, or hexadecimal digits, or
+    /// `-` for no bytes. Each further one changes them: `AT:HEX` writes these bytes from offset `AT` on, `..N` keeps
+    /// the first `N`, and `+HEX` appends these.
     pub fn bytes(&self, word: &str) -> Result<Vec<u8>, Fault> {
         let mut pieces = word.split(',');
         let first = pieces.next().ok_or(Fault::Unread)?;
@@ -44,7 +44,7 @@ impl<'a> Words<'a> {
         Ok(bytes)
     }
 
-    // The bytes of a name, which the last line about it tells, or of digits.
+    // The bytes of a name, as the last line that defines it says, or of digits.
     fn named(&self, word: &str) -> Result<Vec<u8>, Fault> {
         for (name, bytes) in self.names.iter().rev() {
             if name.as_str() == word {
@@ -89,7 +89,7 @@ pub fn array<A: ByteArray>(bytes: &[u8]) -> Result<A, Fault> {
     Ok(A::from_slice(bytes))
 }
 
-// The bytes that hexadecimal digits write, two digits a byte. `-` stands for no bytes.
+// The bytes that hexadecimal digits write, two digits a byte. `-` means no bytes.
 fn hex(alloc: Global, digits: &str) -> Result<Vec<u8>, Fault> {
     let mut bytes = Vec::new(alloc);
     if digits == "-" {

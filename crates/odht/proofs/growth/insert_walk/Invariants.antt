@@ -9,7 +9,7 @@ use Rattle.odht_raw.proofs.lemmas.Walks.{stored}
 use Rattle.odht.proofs.lemmas.Growths.{LeadsTo}
 use Rattle.odht.proofs.growth.insert_walk.Given as goal
 
--- the slices are lent to the table, and the items that are left lead from its parts to where all lead
+-- the table borrows the slices, and placing the items that are left in its parts gives what placing all of them gives
 abbrev pub invariant-loop-entry : goal.invariant-loop-entry
 invariant-loop-entry g l =
     let F = format_of g.K.ByteArray.LEN g.V.ByteArray.LEN g.H.HashFn.hash in

@@ -17,7 +17,7 @@ use Rattle.odht.proofs.growth.write_grown.Goals as goal
 pub write_table-requires-clause-slots : goal.write_table-requires-clause-slots
 write_table-requires-clause-slots g c κs within = (slots_for-IsLeastSlots _ _ _ c.requires.slots).is_count
 
--- what is written is the grown table of the one that the bytes are of
+-- the written bytes are those of the grown table
 pub returns-clause-on_valid : goal.returns-clause-on_valid
 returns-clause-on_valid g c P is =
     let key = g.C.EncodedKey.ByteArray in
@@ -45,7 +45,7 @@ returns-clause-on_valid g c P is =
     let is_grown = grown_image F P is.valid s enough q.0 q.1 c.write_table.new.bytes bytes in
     (q.0, is_grown.0, is_grown.1)
 
--- the header states what it did
+-- the new header has the item count and the load factor of the old one
 pub returns-clause-accepted : goal.returns-clause-accepted
 returns-clause-accepted g c =
     let F : Format = format_of g.C.EncodedKey.ByteArray.LEN g.C.EncodedValue.ByteArray.LEN g.C.H.HashFn.hash in

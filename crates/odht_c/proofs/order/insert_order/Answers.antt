@@ -22,7 +22,7 @@ pub from_raw_bytes_unchecked-table-requires-after_bounds : goal.from_raw_bytes_u
 from_raw_bytes_unchecked-table-requires-after_bounds g c κs within =
     ap (opening_refusal (format g)) c.new.ensures ∙ IsAccepted-IsValidBytes (format g) c.args.bytes.now (c.in_default.ensures.valid.0 refl)
 
--- the raw table that is asked
+-- the raw table that the call reads
 module _ (g : Over) (c : After-insert_order g) where
   none : check_refusal (format g) c.args.bytes.now ≡ None
   none = Ok-checked _ c.in_default.ensures.first

@@ -1,7 +1,7 @@
 use Rattle.std.proofs.Common.{◌≡◌, ◌++◌, ◌≤◌, length, map, drop}
 use Rattle.odht_c.proofs.walk.walk.Given as goal
 
--- the pairs so far stand in the arrays, and these and what is left are the walk
+-- the pairs so far are in the arrays, and these and what is left are the walk
 abbrev pub invariant-loop-slot : goal.invariant-loop-slot
 invariant-loop-slot g l = record {
   walk : l.initial.slot-iterator ≡ l.yielded ++ l.slot-iterator;

@@ -1,4 +1,4 @@
-//! Inserts of a list into the parts of a table, eight keys at a time where the table is large.
+//! Inserts of a list of items into the parts of a table, eight at a time where the table is large.
 ghost use Rattle.std.specs.Prelude.{◌≡◌, ◌+◌, ◌-◌, ◌≤◌, length};
 ghost use Rattle.std.specs.List.{slice_range};
 ghost use Rattle.odht_base.specs.Load.{IsSlotCount};
@@ -19,10 +19,10 @@ use crate::swisstable_group_query::{GroupQuery, REFERENCE_GROUP_SIZE};
 // How many keys are looked up ahead.
 const BATCH: usize = 8;
 
-// From so many slots on keys are looked up ahead: the control bytes of smaller tables are near in the caches.
+// The least slot count at which keys are looked up ahead. The control bytes of smaller tables are in a near cache.
 const LARGE: usize = 1 << 20;
 
-// `insert_into_parts`, in batches where the table is large.
+// `insert_into_parts`, in batches of eight items where the table is large.
 #[inline(always)]
 pub(super) fn insert_by_size<C: Config, I: Items<C::Key, C::Value>>(
     control: &mut [EntryMetadata],
@@ -52,7 +52,7 @@ pub(super) fn insert_by_size<C: Config, I: Items<C::Key, C::Value>>(
     insert_into_parts::<C, I>(control, entries, items, from, to)
 }
 
-// `insert_into_parts`, eight keys at a time.
+// `insert_into_parts`, in batches of eight items.
 #[inline(never)]
 fn insert_in_batches<C: Config, I: Items<C::Key, C::Value>>(
     control: &mut [EntryMetadata],
@@ -90,7 +90,8 @@ fn insert_in_batches<C: Config, I: Items<C::Key, C::Value>>(
     (end, added + more)
 }
 
-// `insert_into_parts` of the eight items from `from` on. First their slots are looked up, of which none waits for another.
+// `insert_into_parts` of the eight items from `from` on. Their slots are looked up first, and no look-up depends on
+// another one.
 #[inline(always)]
 fn insert_batch<C: Config, I: Items<C::Key, C::Value>>(
     control: &mut [EntryMetadata],
@@ -119,7 +120,7 @@ fn insert_batch<C: Config, I: Items<C::Key, C::Value>>(
         let (key, value) = items.at(from + offset);
         let key = C::encode_key(key);
         let value = C::encode_value(value);
-        // Each has as many bytes as its type says.
+        // Key and value each have as many bytes as their type says.
         let _ = key.as_slice();
         let _ = value.as_slice();
         let (hash, slot) = ahead[offset];
@@ -136,7 +137,7 @@ fn insert_batch<C: Config, I: Items<C::Key, C::Value>>(
     (from + BATCH, added)
 }
 
-// The hashes of the keys of the eight items from `from` on, and the slots where they are expected to go.
+// The hashes of the keys of the eight items from `from` on, and the slots where their searches are expected to end.
 #[inline(always)]
 fn look_ahead<C: Config, I: Items<C::Key, C::Value>>(
     control: &[EntryMetadata],

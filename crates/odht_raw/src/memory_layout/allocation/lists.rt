@@ -1,4 +1,4 @@
-//! Lists of items that are inserted into the bytes of a table: the header is read once, and the item count written once.
+//! Inserts of lists of items into the bytes of a table: the header is read once, and the item count written once.
 ghost use Rattle.std.specs.Prelude.{◌≡◌, ◌+◌, ◌-◌, ◌≤◌, length};
 ghost use Rattle.std.specs.List.{slice_range};
 ghost use Rattle.odht_base.specs.Decoded.{header_slots, controls_of};
@@ -20,12 +20,14 @@ use crate::memory_layout::{EntryMetadata, HEADER_SIZE, Header, entry_at};
 use crate::raw_table::RawTableMut;
 
 impl<C: Config, M: ByteStoreMut> Allocation<C, M> {
-    /// Inserts the items from index `from` on in their order, as many as the table has room for below its maximum, and
-    /// answers the index of the first that was not inserted. On valid bytes these are all that are left, or as many as the
-    /// maximum is above the count before. On any bytes it stops before that only where each slot counts as occupied.
+    /// Inserts the items from index `from` on in their order, at most as many as the maximum item count exceeds the
+    /// item count, and answers the index after the last item that was inserted. On valid bytes it inserts exactly so
+    /// many, or all that are left where these are fewer. On any bytes it stops earlier only where each slot counts as
+    /// occupied.
     ///
-    /// The header is read once and the item count written once. At most each group is looked at once for an item; that at
-    /// the home slot once more in tables of 2^20 slots and above, whose groups are looked at ahead, for eight keys at once.
+    /// The header is read once and the item count written once. For an item at most each group is read once. In tables
+    /// of 2^20 slots and more the group at the home slot may be read once more, ahead of the insert, for eight keys in
+    /// turn.
     #[inline(always)]
     pub fn insert_below_maximum<I: Items<C::Key, C::Value>>(
         &mut self,
@@ -89,7 +91,7 @@ fn insert_into_store<C: Config, M: ByteStoreMut, I: Items<C::Key, C::Value>>(
     insert_into_bytes::<C, I>(store.bytes_mut(), items, from)
 }
 
-// The same on the bytes themselves.
+// `insert_below_maximum` on the bytes themselves.
 #[inline(always)]
 fn insert_into_bytes<C: Config, I: Items<C::Key, C::Value>>(
     bytes: &mut [u8],
@@ -134,8 +136,8 @@ fn insert_into_bytes<C: Config, I: Items<C::Key, C::Value>>(
     end
 }
 
-// Inserts the items from `from` up to `to` in turn into the parts of a table, up to the first that finds no slot. Answers the
-// index behind the last that was inserted, and how many of them had new keys.
+// Inserts the items from `from` up to `to` in turn into the parts of a table, up to the first that finds no slot.
+// Answers the index after the last item that was inserted, and how many entries were added.
 #[inline(always)]
 pub(super) fn insert_into_parts<C: Config, I: Items<C::Key, C::Value>>(
     control: &mut [EntryMetadata],
@@ -167,7 +169,7 @@ pub(super) fn insert_into_parts<C: Config, I: Items<C::Key, C::Value>>(
         let (key, value) = items.at(index);
         let key = C::encode_key(key);
         let value = C::encode_value(value);
-        // Each has as many bytes as its type says.
+        // Key and value each have as many bytes as their type says.
         let _ = key.as_slice();
         let _ = value.as_slice();
         let Ok(former) = table.insert(key, value) else {

@@ -15,7 +15,7 @@ use crate::memory_layout::{EntryMetadata, entry_at};
 use crate::writes;
 
 impl<C: Config, M: ByteStoreMut> Allocation<C, M> {
-    /// Writes the item count.
+    /// Writes the header's item count. No other byte changes.
     #[inline]
     pub fn set_item_count(&mut self, item_count: usize)
         ensures bytes { M.bytes self.new ≡ with_count (M.bytes self.old) item_count }
@@ -26,7 +26,8 @@ impl<C: Config, M: ByteStoreMut> Allocation<C, M> {
         store.write_at(ITEM_COUNT_AT, &(item_count as u64).to_le_bytes());
     }
 
-    /// Writes the pair into the entry of a slot, and the tag into its control byte and, for a slot below 16, its mirror.
+    /// Writes the pair into the entry of a slot, and the tag into its control byte and, for a slot below 16, its
+    /// mirror. The item count stays.
     #[inline(always)]
     pub fn write_entry(
         &mut self,
@@ -51,7 +52,7 @@ impl<C: Config, M: ByteStoreMut> Allocation<C, M> {
         writes::write_tag(store, entry_at::<C>(slots), slots, slot, tag);
     }
 
-    /// Writes the value alone into the entry of a slot.
+    /// Writes the value alone into the entry of a slot. No other byte changes.
     #[inline(always)]
     pub fn write_value(&mut self, slot: usize, value: &C::EncodedValue)
         requires { slot < header_slots (M.bytes self.old) }

@@ -32,7 +32,7 @@ returns-in-None g c held =
     let before : IsLineAnswered my_coding c.args.line.now None text None = no_table _ line in
     (text, subst (λ o. IsLineAnswered my_coding c.args.line.now o text o) (sym c.in-None.is) before, c.writeln.ensures.bytes)
 
--- a request of the table
+-- a request to the table
 pub returns-in-Some-table : goal.returns-in-Some-table
 returns-in-Some-table g c held =
     let line = subst (IsCommandText c.args.line.now) c.in-OnTable.is c.in-Some.ensures.reads in

@@ -8,12 +8,12 @@ use Rattle.odht_raw.specs.Parts.{EntryBytes}
 use Rattle.odht_raw.specs.SearchEnds.{IsBesideKey}
 use Rattle.odht.proofs.hash_table.HashTable.contains_key.Goals as goal
 
--- whether an answer is there tells whether there is what it is made of
+-- a mapped option is Some exactly where the option is
 there : {V : Type 0} (f : List ℕ → V) (m : Option (List ℕ)) → IsTrue (is_some (option_map f m)) ↔ IsSome m
 there f None = (λ h. h, λ h. h)
 there f (Some b) = (λ h. h, λ h. h)
 
--- and where one is there that is stored beside the key, the bytes hold the key
+-- and where it is a value that is stored with the key, the bytes hold the key
 held : {V : Type 0} (F : Format) (B : List ℕ) (f : List ℕ → V) (E : EntryBytes) (k : List ℕ) (r : Option V)
     → E.bytes ≡ entries_of F B → E.slots ≡ header_slots B → IfSome r (IsBesideKey F f E k) → IsTrue (is_some r)
     → HoldsKey F B k

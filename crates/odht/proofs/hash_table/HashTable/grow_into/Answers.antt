@@ -7,7 +7,7 @@ use Rattle.odht.proofs.hash_table.HashTable.grow_into.Given.{Over}
 use Rattle.odht.proofs.hash_table.HashTable.grow_into.Goals.{After-entry_at-entries}
 use Rattle.odht.proofs.hash_table.HashTable.grow_into.Goals as goal
 
--- the length of the place is that of the grown table
+-- the length of `out` is that of the grown table
 long : (g : Over) (c : After-entry_at-entries g) → length c.args.out.now ≡ image_len (format_of g.C.EncodedKey.ByteArray.LEN g.C.EncodedValue.ByteArray.LEN g.C.H.HashFn.hash) c.in-Some.slot_count
 long g c =
     let F : Format = format_of g.C.EncodedKey.ByteArray.LEN g.C.EncodedValue.ByteArray.LEN g.C.H.HashFn.hash in

@@ -50,7 +50,7 @@ has_room g c P is low =
     read_room (coding g).format P _ (here g P _ _ c.self.view_is is) c.header-header.ensures.bytes
     c.item_count-count.ensures c.slot_count.ensures c.max_load_factor.ensures c.max_item_count_for-max.ensures.value low
 
--- and their parts, as they are scanned
+-- and their parts, as the scan reads them
 scanned : (g : Over) (P : Table) (es ctrl : List ℕ) (scan : DecodedGroups) → scan ≡ record { control = ctrl; groups = 0 }
     → IsPartsOf (coding g).format P es ctrl → IsPartsOf (coding g).format P es scan.control
 scanned g P es ctrl scan new parts =

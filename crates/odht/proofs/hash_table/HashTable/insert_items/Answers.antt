@@ -58,7 +58,7 @@ framed_here g c =
     subst (λ (xs : List (g.row.C-Key.Denot × g.row.C-Value.Denot)). IsFramedRun (coding g) (g.D.ByteStore.bytes c.args.self.now) xs now) (take-range items a b known.from)
     (framed_append (coding g) (g.D.ByteStore.bytes c.args.self.now) _ (take a items) c.rounds.invariant.framed (slice_range items a b) now known.framed)
 
--- in the same place
+-- in the same store
 placed_here : (g : Over) (c : After-insert_below_maximum-accepted g) → c.insert_below_maximum-accepted.new.self ≡ g.D.ByteStoreMut.holding c.args.self.now (g.D.ByteStore.bytes c.insert_below_maximum-accepted.new.self)
 placed_here g c =
     held_twice g.D.ByteStoreMut.holding g.met.D.ByteStoreMut.held_last _ _ _ _ (g.D.ByteStore.bytes c.insert_below_maximum-accepted.new.self)

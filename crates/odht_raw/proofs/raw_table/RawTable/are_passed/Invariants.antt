@@ -4,7 +4,7 @@ use Rattle.odht_base.specs.Decoded.{slot_key}
 use Rattle.odht_raw.proofs.lemmas.GroupLooks.{IsTaken}
 use Rattle.odht_raw.proofs.raw_table.RawTable.are_passed.Given as goal
 
--- each match that was taken stands behind the places, or has another key
+-- each match that was taken is behind the slots in question, or has another key
 abbrev pub invariant-matches : goal.invariant-matches
 invariant-matches g l =
     let F = format_of g.K.ByteArray.LEN g.V.ByteArray.LEN g.H.HashFn.hash in

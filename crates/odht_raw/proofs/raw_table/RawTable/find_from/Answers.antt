@@ -20,7 +20,7 @@ use Rattle.odht_raw.proofs.raw_table.RawTable.find_from.Goals as goal
 abbrev format : Over → Format
 format g = format_of g.K.ByteArray.LEN g.V.ByteArray.LEN g.H.HashFn.hash
 
--- what the look tells of the table and the key
+-- what the look says about the table and the key
 module _ (g : Over) (c : After-first_match g) where
   abbrev T : TableParts
   T = c.args.self.now
@@ -54,7 +54,7 @@ module _ (g : Over) (c : After-first_match g) where
   at_home : bit_and c.look.inside.hash (c.len-mask.result - 1) ≡ home (format g) k T.entries.slots
   at_home = ap (λ n. bit_and c.look.inside.hash (n - 1)) slots ∙ bit_and-slots c.look.inside.hash T.entries.slots count ∙ ap (λ x. x % T.entries.slots) hash
 
-  -- the slot of a place of the group
+  -- the slot of a position of the group
   masked : (i : ℕ) → bit_and (bit_and c.look.inside.hash (c.len-mask.result - 1) + i) (c.len-mask.result - 1) ≡ (home (format g) k T.entries.slots + i) % T.entries.slots
   masked i = ap (λ n. bit_and (n + i) (c.len-mask.result - 1)) at_home ∙ ap (λ n. bit_and (home (format g) k T.entries.slots + i) (n - 1)) slots ∙ bit_and-slots (home (format g) k T.entries.slots + i) T.entries.slots count
 

@@ -31,18 +31,18 @@ module _ (g : Over) (c : After-index-start g) where
   slots : c.len-slots.result ≡ s
   slots = c.len-slots.ensures ∙ ap (λ (t : TableParts). t.entries.slots) c.self.view_is
 
-  -- the slot stands so many behind the group's first
+  -- the slot's distance behind the group's first slot
   behind_is : bit_and (c.args.slot + c.len-slots.result - c.index-start.result) (c.len-slots.result - 1) ≡ (c.args.slot + s - c.index-start.result) % s
   behind_is = ap (λ n. bit_and (c.args.slot + n - c.index-start.result) (n - 1)) slots ∙ bit_and-slots (c.args.slot + s - c.index-start.result) s count
 
-  -- which is that of the place in the order
+  -- which is that of the position in the order
   first_is : c.index-start.result ≡ probe_slot (c.args.hash % s) s c.groups.probe.position
   first_is = c.index-start.ensures.slot ∙ (λ i. probe_slot (c.groups.invariant.home i) (c.groups.invariant.mask i) c.groups.probe.position)
 
   cells : length (cells_of (format g) c.args.self.now) ≡ s
   cells = slots_decoded (format g) c.args.self.now.entries.bytes c.args.self.now.control s mirrored
 
-  -- a slot that is not in the group stands behind it
+  -- a slot that is not in the group is behind it
   far : 16 ≤ bit_and (c.args.slot + c.len-slots.result - c.index-start.result) (c.len-slots.result - 1) → (c.args.slot + s - c.index-start.result) % s < 16 → ⊥
   far h l = omega (arith, l, behind_is, h)
 

@@ -7,7 +7,7 @@ use Rattle.odht_base.specs.Decoded.{slot_key}
 use Rattle.odht_raw.specs.Checks.{cells_of, IsFitting}
 use Rattle.odht_raw.proofs.raw_table.RawTable.is_reached.Given as goal
 
--- the probe stands at the first place of a group, and each place before it is passed and is not the slot's own
+-- the probe is at the first position of a group, and each position before it is passed and is not the slot's own
 abbrev pub invariant-groups : goal.invariant-groups
 invariant-groups g l =
     let F = format_of g.K.ByteArray.LEN g.V.ByteArray.LEN g.H.HashFn.hash in

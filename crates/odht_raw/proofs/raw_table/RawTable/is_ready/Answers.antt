@@ -17,7 +17,7 @@ use Rattle.odht_raw.proofs.raw_table.RawTable.is_ready.Goals as goal
 abbrev format : Over → Format
 format g = format_of g.K.ByteArray.LEN g.V.ByteArray.LEN g.H.HashFn.hash
 
--- what holds at each place
+-- what holds at each position
 module _ (g : Over) (c : After-index g) where
   abbrev s : ℕ
   s = c.args.self.now.entries.slots
@@ -37,11 +37,11 @@ module _ (g : Over) (c : After-index g) where
   small : All (λ n. n < 2 ^ 64) c.args.slots.now
   small k d l = omega (arith, c.type_inv.slots k, get_or_default c.args.slots.now k d 0 l)
 
-  -- the slot at a place of the order of the key
+  -- the slot at a position of the order of the key
   abbrev probed : ℕ → ℕ
   probed q = probe_slot ((format g).hash (slot_key (format g) c.args.self.now.entries.bytes c.args.slot) % s) s q
 
-  -- the probe's slot is that of its place
+  -- the probe's slot is that of its position
   slot_is : c.index.result ≡ probed c.loop-probe.probe.position
   slot_is = c.index.ensures.slot ∙ (λ i. probe_slot (c.loop-probe.invariant.home i) (c.loop-probe.invariant.mask i) c.loop-probe.probe.position)
 

@@ -5,7 +5,7 @@ use Rattle.odht_base.specs.Decoded.{slot_key}
 use Rattle.odht_raw.specs.Waiting.{waiting, AreRising}
 use Rattle.odht_raw.proofs.raw_table.RawTable.is_ready.Given as goal
 
--- the probe stands at a place of the key's order, and before it stood neither the slot nor one that waits
+-- the probe is at a position of the key's order, and no position before it is that of the slot or of one that waits
 abbrev pub invariant-loop-probe : goal.invariant-loop-probe
 invariant-loop-probe g l =
     let F = format_of g.K.ByteArray.LEN g.V.ByteArray.LEN g.H.HashFn.hash in

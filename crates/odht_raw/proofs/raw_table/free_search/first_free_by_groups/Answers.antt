@@ -10,7 +10,7 @@ use Rattle.odht_raw.proofs.raw_table.free_search.first_free_by_groups.Given.{Ove
 use Rattle.odht_raw.proofs.raw_table.free_search.first_free_by_groups.Goals as goal
 use Rattle.odht_raw.proofs.raw_table.free_search.first_free_by_groups.Goals.{After-first_free_of_group}
 
--- the group begins at the slot of the probe's place
+-- the group begins at the slot of the probe's position
 start : (g : Over) (c : After-first_free_of_group g) → c.index-start.result ≡ probe_slot (c.args.hash % (c.args.mask + 1)) (c.args.mask + 1) c.groups.probe.position
 start g c = let v = c.groups.invariant in c.index-start.ensures.slot ∙ (λ i. probe_slot (v.home i) (v.mask i + 1) c.groups.probe.position)
 

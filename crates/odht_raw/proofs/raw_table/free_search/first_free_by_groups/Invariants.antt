@@ -2,7 +2,7 @@ use Rattle.std.proofs.Common.{◌≡◌, ◌+◌, ◌-◌, ◌%◌, ◌≤◌}
 use Rattle.odht_raw.proofs.lemmas.GroupSearches.{OccupiedBefore}
 use Rattle.odht_raw.proofs.raw_table.free_search.first_free_by_groups.Given as goal
 
--- the probe stands at the first place of a group, and the slots before it count as occupied
+-- the probe is at the first position of a group, and the slots before it count as occupied
 abbrev pub invariant-groups : goal.invariant-groups
 invariant-groups g l = record {
   home : l.probe.home ≡ l.hash % (l.mask + 1);

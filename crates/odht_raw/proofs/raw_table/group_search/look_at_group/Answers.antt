@@ -4,7 +4,7 @@ use Rattle.odht_base.proofs.lemmas.SlotCounts.{few_slots}
 use Rattle.odht_base.specs.Bytes.{bytes_at}
 use Rattle.odht_raw.specs.Frame.{HasNoFree}
 use Rattle.odht_raw.specs.SearchSteps.{IsLook, Passed}
-use Rattle.odht_raw.proofs.lemmas.GroupLooks.{piece-fits, pieces-all, stands-piece, look-piece, look-none, no_free-more}
+use Rattle.odht_raw.proofs.lemmas.GroupLooks.{piece-fits, pieces-all, IsGroupAt-piece, look-piece, look-none, no_free-more}
 use Rattle.odht_raw.proofs.raw_table.group_search.look_at_group.Goals as goal
 
 pub overflow_add-start : goal.overflow_add-start
@@ -20,7 +20,7 @@ returns-then-is_some-clause-on_placed g c P p at =
     let k : List ℕ = g.K.ByteArray.bytes c.args.key.now in
     let n : ℕ = c.loop-piece.piece * g.Q.Group.SIZE in
     let fits = piece-fits g.Q.Group.SIZE c.loop-piece.piece (omega (arith, c.loop-piece-test.true, ap (λ n. 16 / n) c.SIZE-piece-end.ensures)) in
-    let there = stands-piece F P c.args.entries.now k p c.args.start c.args.bytes.now n g.Q.Group.SIZE (omega (arith, c.requires.len, fits)) at (c.loop-piece.invariant.passed P p at) in
+    let there = IsGroupAt-piece F P c.args.entries.now k p c.args.start c.args.bytes.now n g.Q.Group.SIZE (omega (arith, c.requires.len, fits)) at (c.loop-piece.invariant.passed P p at) in
     let known : IsLook F P k (p + n) g.Q.Group.SIZE c.look_at_piece-end.result = c.look_at_piece-end.ensures.on_placed P (p + n) (rw (c.SIZE.ensures, c.SIZE-in-loop-piece.ensures) there) in
     look-piece F P k p n g.Q.Group.SIZE c.look_at_piece-end.result fits (sym c.is_some.ensures ∙ c.if-is_some.true) known
 
@@ -48,7 +48,7 @@ loop-piece-preserved g c =
     record {
       occupied = no_free-more c.args.bytes.now c.loop-piece.piece g.Q.Group.SIZE c.loop-piece.invariant.occupied occupied;
       passed = λ P p at. (
-          let there = stands-piece F P c.args.entries.now k p c.args.start c.args.bytes.now n g.Q.Group.SIZE (omega (arith, c.requires.len, fits)) at (c.loop-piece.invariant.passed P p at) in
+          let there = IsGroupAt-piece F P c.args.entries.now k p c.args.start c.args.bytes.now n g.Q.Group.SIZE (omega (arith, c.requires.len, fits)) at (c.loop-piece.invariant.passed P p at) in
           let known : IsLook F P k (p + n) g.Q.Group.SIZE c.look_at_piece-end.result = c.look_at_piece-end.ensures.on_placed P (p + n) (rw (c.SIZE.ensures, c.SIZE-in-loop-piece.ensures) there) in
           let passed = look-none F P k (p + n) g.Q.Group.SIZE c.look_at_piece-end.result missed known in
           let sum : p + n + g.Q.Group.SIZE ≡ p + (c.loop-piece.piece + 1) * g.Q.Group.SIZE = omega arith in

@@ -9,7 +9,7 @@ use Rattle.odht_base.specs.Probe.{probe_slot}
 use Rattle.odht_raw.specs.Frame.{HasNoFree}
 use Rattle.odht_raw.specs.SearchSteps.{Passed}
 use Rattle.odht_raw.proofs.lemmas.Formats.{IsFormat-format_of}
-use Rattle.odht_raw.proofs.lemmas.GroupSearches.{stands-probe, reads-to, reads-all, ends-free, OccupiedBefore, occupied-more, occupied-all}
+use Rattle.odht_raw.proofs.lemmas.GroupSearches.{IsGroupAt-probe, reads-to, reads-all, ends-free, OccupiedBefore, occupied-more, occupied-all}
 use Rattle.odht_raw.proofs.lemmas.Lookups.{answer-IsWherePlaced}
 use Rattle.odht_raw.proofs.lemmas.PlainSearch.{no_end}
 use Rattle.odht_raw.proofs.raw_table.group_search.search_hashed.Given.{Over}
@@ -46,7 +46,7 @@ returns-in-Some-clause-on_placed g c P h =
     let f = IsFormat-format_of _ _ _ _ c.requires.lengths.pair.key c.requires.lengths.pair.value c.requires.lengths.pair.hashes g.met.H.HashFn.fits in
     let v = c.groups.invariant in
     let p : ℕ = c.groups.probe.position in
-    let at = stands-probe F P c.args.entries.now c.args.scan.now.control k f h c.requires.lengths.mirrored c.index-start.result c.args.hash c.groups.probe.home c.groups.probe.mask p c.group-bytes.result.now c.groups.scan.control
+    let at = IsGroupAt-probe F P c.args.entries.now c.args.scan.now.control k f h c.requires.lengths.mirrored c.index-start.result c.args.hash c.groups.probe.home c.groups.probe.mask p c.group-bytes.result.now c.groups.scan.control
     v.aligned v.within c.index-start.ensures.slot v.home v.mask c.requires.hash c.group-bytes.ensures.bytes v.control (v.passed P h) in
     (c.in-Some.ensures.on_placed P p at).0
 
@@ -62,7 +62,7 @@ returns-in-Some-clause-groups g c P h =
     let f = IsFormat-format_of _ _ _ _ c.requires.lengths.pair.key c.requires.lengths.pair.value c.requires.lengths.pair.hashes g.met.H.HashFn.fits in
     let v = c.groups.invariant in
     let p : ℕ = c.groups.probe.position in
-    let at = stands-probe F P c.args.entries.now c.args.scan.now.control k f h c.requires.lengths.mirrored c.index-start.result c.args.hash c.groups.probe.home c.groups.probe.mask p c.group-bytes.result.now c.groups.scan.control
+    let at = IsGroupAt-probe F P c.args.entries.now c.args.scan.now.control k f h c.requires.lengths.mirrored c.index-start.result c.args.hash c.groups.probe.home c.groups.probe.mask p c.group-bytes.result.now c.groups.scan.control
     v.aligned v.within c.index-start.ensures.slot v.home v.mask c.requires.hash c.group-bytes.ensures.bytes v.control (v.passed P h) in
     let reads = reads-to F P c.args.entries.now c.args.scan.now.control k f h c.requires.lengths.mirrored p v.aligned (c.in-Some.ensures.on_placed P p at).1 in
     rw reads (omega (arith, ap (λ s. s.groups) c.group-bytes.ensures.shows, v.stored))
@@ -81,7 +81,7 @@ returns-then-is_last-clause-on_placed g c P h =
     let f = IsFormat-format_of _ _ _ _ c.requires.lengths.pair.key c.requires.lengths.pair.value c.requires.lengths.pair.hashes g.met.H.HashFn.fits in
     let v = c.groups.invariant in
     let p : ℕ = c.groups.probe.position in
-    let at = stands-probe F P c.args.entries.now c.args.scan.now.control k f h c.requires.lengths.mirrored c.index-start.result c.args.hash c.groups.probe.home c.groups.probe.mask p c.group-bytes.result.now c.groups.scan.control
+    let at = IsGroupAt-probe F P c.args.entries.now c.args.scan.now.control k f h c.requires.lengths.mirrored c.index-start.result c.args.hash c.groups.probe.home c.groups.probe.mask p c.group-bytes.result.now c.groups.scan.control
     v.aligned v.within c.index-start.ensures.slot v.home v.mask c.requires.hash c.group-bytes.ensures.bytes v.control (v.passed P h) in
     let all : p + 16 ≡ c.args.entries.now.slots = omega (arith, v.within, v.mask, c.is_last.ensures.0 c.if-is_last.true) in
     no_end F P k c.args.entries.now.bytes c.args.scan.now.control f h c.args.entries.now.slots c.requires.lengths.mirrored (subst (Passed F P k) all (c.in_default.ensures.on_placed P p at))
@@ -98,7 +98,7 @@ returns-then-is_last-clause-groups g c P h =
     let f = IsFormat-format_of _ _ _ _ c.requires.lengths.pair.key c.requires.lengths.pair.value c.requires.lengths.pair.hashes g.met.H.HashFn.fits in
     let v = c.groups.invariant in
     let p : ℕ = c.groups.probe.position in
-    let at = stands-probe F P c.args.entries.now c.args.scan.now.control k f h c.requires.lengths.mirrored c.index-start.result c.args.hash c.groups.probe.home c.groups.probe.mask p c.group-bytes.result.now c.groups.scan.control
+    let at = IsGroupAt-probe F P c.args.entries.now c.args.scan.now.control k f h c.requires.lengths.mirrored c.index-start.result c.args.hash c.groups.probe.home c.groups.probe.mask p c.group-bytes.result.now c.groups.scan.control
     v.aligned v.within c.index-start.ensures.slot v.home v.mask c.requires.hash c.group-bytes.ensures.bytes v.control (v.passed P h) in
     let all : p + 16 ≡ c.args.entries.now.slots = omega (arith, v.within, v.mask, c.is_last.ensures.0 c.if-is_last.true) in
     let reads = reads-all F P c.args.entries.now c.args.scan.now.control k f h c.requires.lengths.mirrored (subst (Passed F P k) all (c.in_default.ensures.on_placed P p at)) in
@@ -136,7 +136,7 @@ groups-preserved g c =
     let k : List ℕ = g.K.ByteArray.bytes c.args.key.now in
     let f = IsFormat-format_of _ _ _ _ c.requires.lengths.pair.key c.requires.lengths.pair.value c.requires.lengths.pair.hashes g.met.H.HashFn.fits in
     let p : ℕ = c.groups.probe.position in
-    let at = stands-probe F P c.args.entries.now c.args.scan.now.control k f h c.requires.lengths.mirrored c.index-start.result c.args.hash c.groups.probe.home c.groups.probe.mask p c.group-bytes.result.now c.groups.scan.control
+    let at = IsGroupAt-probe F P c.args.entries.now c.args.scan.now.control k f h c.requires.lengths.mirrored c.index-start.result c.args.hash c.groups.probe.home c.groups.probe.mask p c.group-bytes.result.now c.groups.scan.control
     v.aligned v.within c.index-start.ensures.slot v.home v.mask c.requires.hash c.group-bytes.ensures.bytes v.control (v.passed P h) in
     let next : p + 16 ≡ c.advance.new.self.position = omega (arith, place) in
     subst (Passed F P k) next (c.in_default.ensures.on_placed P p at)) in

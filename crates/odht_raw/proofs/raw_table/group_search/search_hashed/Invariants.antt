@@ -6,7 +6,7 @@ use Rattle.odht_raw.specs.SearchSteps.{Passed}
 use Rattle.odht_raw.proofs.lemmas.GroupSearches.{OccupiedBefore}
 use Rattle.odht_raw.proofs.raw_table.group_search.search_hashed.Given as goal
 
--- the probe stands at the first place of a group, and each group before it was shown, had no free byte and was passed
+-- the probe is at the first position of a group; each group before it is counted, has no free byte and was passed
 abbrev pub invariant-groups : goal.invariant-groups
 invariant-groups g l =
     let F = format_of g.K.ByteArray.LEN g.V.ByteArray.LEN g.H.HashFn.hash in

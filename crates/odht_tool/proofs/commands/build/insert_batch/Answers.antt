@@ -5,7 +5,7 @@ use Rattle.odht_raw.specs.Coding.{coding_of}
 use Rattle.odht.specs.Lists.{encoded_all, IsAfterInserts}
 use Rattle.odht_tool.proofs.commands.build.insert_batch.Goals as goal
 
--- all items were accepted
+-- all items were inserted
 pub returns-in-Ok-clause-inserted : goal.returns-in-Ok-clause-inserted
 returns-in-Ok-clause-inserted g c P h =
     let items = c.as_slice.result.now in

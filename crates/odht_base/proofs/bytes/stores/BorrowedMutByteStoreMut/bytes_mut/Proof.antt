@@ -1,4 +1,4 @@
--- `bytes_mut` lends what the struct's one reference points at, for all the time that the struct's own reference has left, and the struct follows. Assumes `Logic`.
+-- `bytes_mut` reborrows the struct's one reference for the struct's borrow, and the struct follows. Assumes `Logic`.
 use mathlib.Core.Path.{refl, sym}
 use Prim.Native.Nat.{ℕ, ◌+◌}
 use mathlib.Core.List.{List, [], ◌∷◌}
@@ -42,11 +42,11 @@ stayed = (stay_dropped (mut_ref_to (0 ∷ []) tt (plain (λ κs. the_row (named_
 abbrev with_first : BorrowedMut → MutBor (List ℕ) → BorrowedMut
 with_first s y = record s { 0 = y }
 
--- a place as the code reads it
+-- the slice behind the field, as the code reads it
 abbrev as_read : Ty
 as_read = ty_struct [] (tcons (slice_ty (ty_ref erased mut (ty_int w8))) tnil)
 
--- what the struct's one field points at is handed out, and the struct follows it
+-- what the struct's one field points at is borrowed, and the struct follows it
 hands : (a : NamedLft) {M : Type 1} {𝓤 : Ura M} (𝓛 : Logic 𝓤) (s : BorrowedMut) → HandsTo 𝓛 (the_row a) (MutSlice a.mir a.lft u8) (λ o. o + 0) s s.0 (with_first s)
 hands a 𝓛 s =
     let S = struct a in let T = the_type a in

@@ -38,7 +38,7 @@ loop-offset-init g c =
           (record { table = P; placed = refl; parts = parts; counted = omega arith });
     }
 
--- what was looked up for the item at a place
+-- what was looked up for the item at an index
 looked_up : (g : Over) (c : After-as_slice-in-loop-offset g) → let K = coding g in
     IsAhead K.format c.args.control.now (encoded K c.at.result.0.now c.at.result.1.now).key (get_or c.look_ahead-ahead.result c.loop-offset.offset (0, 0))
 looked_up g c =

@@ -67,7 +67,7 @@ coding g =
 abbrev inserted : (g : Over) (c : After-write_slice g) → List (g.row.C-Key.Denot × g.row.C-Value.Denot)
 inserted g c = slice_range (g.I.Items.items c.args.items.now) c.args.from c.insert_by_size-end.result.0
 
--- what the header states
+-- what the header says
 by_header : (g : Over) (c : After-write_slice g) → (c.item_count-count.result ≡ header_count c.args.bytes.now) × (c.max_item_count_for-max.result ≡ header_maximum c.args.bytes.now)
 by_header g c = (
   c.item_count-count.ensures ∙ ap header_count c.of-header.ensures,

@@ -6,7 +6,7 @@ use Rattle.odht_raw.specs.Coding.{coding_of}
 use Rattle.odht_raw.specs.Runs.{encoded_all, IsPartsRun, ArePartsOfRun}
 use Rattle.odht_raw.proofs.memory_layout.allocation.lists.insert_into_parts.Given as goal
 
--- the slices are lent to the table, and the items so far were inserted into them
+-- the slices are borrowed by the table, and the items so far were inserted into them
 abbrev pub invariant-loop-index : goal.invariant-loop-index
 invariant-loop-index g l =
     let key = g.C.EncodedKey.ByteArray in

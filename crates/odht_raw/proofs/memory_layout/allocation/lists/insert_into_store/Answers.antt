@@ -5,7 +5,7 @@ use Rattle.odht_raw.proofs.memory_layout.allocation.lists.insert_into_store.Give
 use Rattle.odht_raw.proofs.memory_layout.allocation.lists.insert_into_store.Goals as goal
 use Rattle.odht_raw.proofs.memory_layout.allocation.lists.insert_into_store.Goals.{After-insert_into_bytes}
 
--- the place ends with the bytes that were left in what it lent
+-- the store ends with the bytes that were left in its borrow
 same : (g : Over) (c : After-insert_into_bytes g) → g.M.ByteStore.bytes (g.M.ByteStoreMut.after_borrow c.args.store.now c.insert_into_bytes.new.bytes) ≡ c.insert_into_bytes.new.bytes
 same g c =
     let B = c.insert_into_bytes.new.bytes in

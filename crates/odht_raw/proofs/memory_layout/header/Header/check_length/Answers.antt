@@ -6,7 +6,7 @@ use Rattle.odht_base.specs.Decoded.{header_slots}
 use Rattle.odht_raw.specs.declared.error.Error.TheVariants.{WrongLength}
 use Rattle.odht_raw.proofs.memory_layout.header.Header.check_length.Goals as goal
 
--- the computed length is that of the stated slots
+-- the computed length is that of the header's slots
 expected_is : (F : Format) (B : List ℕ) (s n : ℕ) → n ≡ image_len F s → s ≡ header_slots B → n ≡ image_len F (header_slots B)
 expected_is F B s n long is = long ∙ ap (image_len F) is
 

@@ -3,7 +3,7 @@ use Rattle.odht_raw.specs.Parts.{TableParts, entry_format}
 use Rattle.odht_raw.specs.Walks.{numbered_of, numbered_from, AreOccupied}
 use Rattle.odht_raw.proofs.raw_table.walk.RawSlotsIterator.next.Given as goal
 
--- the parts are those at the start, and as many items are left: those of the occupied slots of the group, and of the slots behind it
+-- the parts are those at the start, and the items left are those of the group's occupied slots and of later slots
 abbrev pub invariant-groups : goal.invariant-groups
 invariant-groups g l =
     let F = entry_format g.K.ByteArray.LEN g.V.ByteArray.LEN in
