@@ -1,5 +1,5 @@
 -- A growth: the pairs of a table, placed in slot order in the grown slots.
-use Rattle.std.proofs.Common.{◌≡◌, ◌<◌, ◌∙◌, ◌*◌, ◌^◌, ◌++◌, ℕ, Bool, true, false, cond, bytes_eq, sym, ap, refl, List, [], ◌∷◌, Some, None, Result, Ok, Err, OnOk, OnErr, All, arith, inl}
+use Rattle.std.proofs.Common.{◌≡◌, ◌∙◌, ◌*◌, ◌++◌, ℕ, Bool, true, false, cond, bytes_eq, sym, ap, refl, List, [], ◌∷◌, Some, None, Result, Ok, Err, OnOk, OnErr, All, arith, inl}
 use Rattle.std.proofs.lemmas.List.Elements.{All-head, All-tail}
 use Rattle.std.proofs.lemmas.Option.{none-some}
 use Rattle.std.specs.Prelude.{option_and_then, max}
@@ -19,7 +19,7 @@ use Rattle.odht_base.proofs.lemmas.Pairs.{value_in-cons}
 use Rattle.odht_base.proofs.lemmas.Places.{map_of-place}
 use Rattle.odht_base.proofs.lemmas.TableInserts.{insert_view-takes, insert_owned-full}
 use Rattle.odht_base.proofs.lemmas.FreeSlots.{slot_count-empty, count-empty, empty-IsPlaced, max_items-lt}
-use Rattle.odht_base.proofs.lemmas.SlotCounts.{few_slots, slots_pos}
+use Rattle.odht_base.proofs.lemmas.SlotCounts.{slots_pos}
 use Rattle.odht_raw.specs.PartsInserts.{ArePartsPlaced}
 use Rattle.odht_raw.specs.PartsPlacings.{IsNewTo}
 use Rattle.odht_raw.specs.declared.error.Error.{Error}
@@ -29,13 +29,6 @@ use Rattle.odht_raw.specs.declared.error.Error.TheVariants.{Full}
 pub accepted_holds : {T : Type 0} (X : Type 0) (r : Result T Error) → OnErr r (r ≡ Err Full) → (r ≡ Err Full → ⊥) → OnOk r X → X
 accepted_holds X (Ok t) only never x = x
 accepted_holds X (Err e) only never x = absurd (never only)
-
--- the items of a valid table are fewer than 2 ^ 63
-pub count_small : (F : Format) (P : Table) → IsValid F P → count P < 2 ^ 63
-count_small F P ok =
-    let slots = few_slots (slot_count P) ok.placed.slots in
-    let below = max_items-lt (slot_count P) P.factor (slots_pos (slot_count P) ok.placed.slots) ok.factor_high in
-    omega (arith, ok.room, below, slots)
 
 -- ---- placing a walk
 -- pairs each of which is new have no key of the table

@@ -7,13 +7,13 @@ use Rattle.odht_base.specs.Format.{Format}
 use Rattle.odht_base.specs.Insert.{run, insert_owned, insert_view}
 use Rattle.odht_base.specs.Load.{max_items}
 use Rattle.odht_base.specs.Made.{IsMadeBy, IsMade, IsInsertOrder, occupied, pairs_of}
-use Rattle.odht_base.specs.Ready.{IsSoFar, IsStuck}
+use Rattle.odht_base.specs.Ready.{IsStuck}
 use Rattle.odht_base.specs.Table.{Pair, Table, slot_count, count, cell_at, empty}
 use Rattle.odht_base.specs.Valid.{IsValid}
 use Rattle.odht_base.proofs.lemmas.CountedInserts.{insert_owned_by_count-IsBased, insert_view_by_count-IsBased, insert_owned_by_count-PlacesBelow, insert_view_by_count-PlacesBelow}
 use Rattle.odht_base.proofs.lemmas.OccupiedSlots.{length-occupied}
 use Rattle.odht_base.proofs.lemmas.FreshRuns.{PlacesBelow, run-place_all, insert_owned-PlacesBelow, insert_view-PlacesBelow}
-use Rattle.odht_base.proofs.lemmas.InsertOrders.{pairs_of-IsPairOf, order_if_all, IsInsertOrder-IsOrdered, not_ordered_if_fewer}
+use Rattle.odht_base.proofs.lemmas.InsertOrders.{pairs_of-IsPairOf, IsInsertOrder-IsOrdered, not_ordered_if_fewer}
 use Rattle.odht_base.proofs.lemmas.OrdersKept.{IsOrdered, empty-IsOrdered, run-IsOrdered}
 use Rattle.odht_base.proofs.lemmas.TableInserts.{IsBased, insert_owned-IsBased, insert_view-IsBased}
 use Rattle.odht_base.proofs.lemmas.FreeSlots.{slot_count-empty, count-empty, empty-IsValid}
@@ -78,10 +78,6 @@ module _ (F : Format) (P : Table) (ok : IsValid F P) where
   )
 
   -- ---- the end of a search for an insert order
-  -- as many slots as there are pairs: the table is made
-  pub made_if_all : (xs : List ℕ) → IsSoFar F P xs → length xs ≡ count P → IsMade F P
-  made_if_all xs s enough = IsMade-IsInsertOrder.1 (xs, order_if_all F P ok.placed xs s enough)
-
   -- stuck with fewer: no inserts make it
   pub not_made_if_fewer : (xs : List ℕ) → IsStuck F P xs → length xs < count P → IsMade F P → ⊥
   not_made_if_fewer xs stuck few m = not_ordered_if_fewer F P ok.placed xs stuck few (made-IsOrdered m)

@@ -51,13 +51,7 @@ module _ (F : Format) (P : Table) where
       let k : h.0 < n = omega (arith, h.1, length-take n xs) in
       s.apart h.0 n (slice_index xs n) k l (sym (get_or-take n xs h.0 (slice_index xs n) k) ∙ h.2 ∙ sym (get_or_default xs n (slice_index xs n) 0 l))
 
-  -- they are no more than the pairs
-  pub so_far_le : (xs : List ℕ) → IsSoFar F P xs → length xs ≤ count P
-  so_far_le xs s =
-      let few = pigeons_fit xs (occupied P) s.apart (λ k d l. (occupied-Contains P (get_or xs k d)).1 (so_far_holds xs s (get_or xs k d) (Contains-get_or xs k d l))) in
-      omega (arith, few, length-occupied P)
-
-  -- and fewer where an occupied slot is left
+  -- they are fewer than the pairs where an occupied slot is left
   pub so_far_lt : (xs : List ℕ) (i : ℕ) (p : Pair) → IsSoFar F P xs → HoldsPair P i p → (Contains xs i → ⊥) → length xs < count P
   so_far_lt xs i p s holds out =
       let few = pigeons_fit (i ∷ xs) (occupied P)

@@ -1,6 +1,6 @@
 -- Numbers as the machine reads and writes them, and lists of bytes that are compared by words.
 use Rattle.std.proofs.Common.{◌≡◌, ◌↔◌, ◌<◌, ◌≤◌, ◌∙◌, ◌+◌, ◌-◌, ◌*◌, ◌^◌, ℕ, zero, suc, refl, sym, ap, ap₂, arith, pow-suc, List, [], ◌∷◌, ◌++◌, length, take, get_or, length-take, All, IsTrue, nat_eq, Bool, eqb-true, eq-eqb, mul_assoc}
-use Rattle.std.specs.Int.{Width, byte_len, byte_weight, sum_through, from_le_bytes}
+use Rattle.std.specs.Int.{Width, byte_len, byte_worth, sum_through, from_le_bytes}
 use Rattle.std.proofs.Math.Seq.{take-suc, take-length}
 use Rattle.odht_base.specs.Bytes.{bytes_at}
 use Rattle.odht_base.specs.Numbers.{num, le_bytes}
@@ -19,7 +19,7 @@ num-append (x ∷ xs) ys =
     omega (arith, rest, product, worth)
 
 -- the weighted sum of the first bytes is their number
-sum_through-worth : (b : List ℕ) (k : ℕ) → k < length b → sum_through (λ i. byte_weight i (get_or b i 0)) k ≡ num (take (suc k) b)
+sum_through-worth : (b : List ℕ) (k : ℕ) → k < length b → sum_through (λ i. byte_worth i (get_or b i 0)) k ≡ num (take (suc k) b)
 sum_through-worth [] k h = absurd (omega arith)
 sum_through-worth (x ∷ b) zero h = omega arith
 sum_through-worth (x ∷ b) (suc k) h =

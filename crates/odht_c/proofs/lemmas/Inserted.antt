@@ -1,11 +1,9 @@
 -- What inserts into bytes answer whose header and length are accepted.
-use Rattle.std.proofs.lemmas.Slice.Zip.{get_or-zip, length-zip}
-use Rattle.std.proofs.Common.{ap₂, get_or, ◌≡◌, ◌<◌, arith, length, take, zip, ◌∙◌, ℕ, List, sym, subst, refl, Option, None, Result, Ok, Err, ◌↔◌}
+use Rattle.std.proofs.Common.{◌≡◌, ◌<◌, arith, length, take, zip, ◌∙◌, ℕ, List, sym, subst, refl, Option, None, Result, Ok, Err, ◌↔◌}
 use Rattle.odht_base.specs.Insert.{insert_view, IsFullFor}
 use Rattle.odht_base.specs.Table.{Table}
 use Rattle.odht_base.specs.Valid.{IsImage}
 use Rattle.odht_base.proofs.lemmas.TableInserts.{insert_view-None}
-use Rattle.odht.proofs.lemmas.ListInserts.{refused_at, stopped_at}
 use Rattle.odht_raw.specs.Coding.{Coding, encoded}
 use Rattle.odht_raw.specs.Frame.{IsFramed}
 use Rattle.odht_raw.specs.Refusals.{opening_refusal}
@@ -82,18 +80,3 @@ module _ {K V : Type 0} (c : Coding K V) (B C : List ℕ) (keys : List K) (value
     at_maximum = λ P long is image l. full P (subst (IsImage c.format P) same image);
     stopped = λ long is l. rw same stop;
   }
-
--- the pair that was answered with Full, of two lists
-pub refused_pair : {K V : Type 0} (c : Coding K V) (P : Table) (keys : List K) (values : List V) (n : ℕ) (k : K) (v : V) → n < length keys → length values ≡ length keys
-    → get_or keys n k ≡ k → get_or values n v ≡ v → IsFullFor P (c.key_bytes k) → IsRefusedAt c P (zip keys values) n
-refused_pair c P keys values n k v low equal key value full =
-    let low_value : n < length values = omega (arith, low, equal) in
-    refused_at c P (zip keys values) n (k, v) (omega (arith, low, low_value, length-zip keys values)) (get_or-zip keys values n (k, v) low low_value ∙ ap₂ (λ a b. (a, b)) key value) full
-
--- the same on any bytes
-pub stopped_pair : {K V : Type 0} (c : Coding K V) (B : List ℕ) (keys : List K) (values : List V) (n : ℕ) (k : K) (v : V) → n < length keys → length values ≡ length keys
-    → get_or keys n k ≡ k → get_or values n v ≡ v → (r : Result (Option V) Error) → r ≡ Err Full → IsFramed c B k v r B → IsStoppedAt c (zip keys values) n B
-stopped_pair c B keys values n k v low equal key value r full frame =
-    let low_value : n < length values = omega (arith, low, equal) in
-    stopped_at c B B (zip keys values) n (k, v) (omega (arith, low, low_value, length-zip keys values))
-    (get_or-zip keys values n (k, v) low low_value ∙ ap₂ (λ a b. (a, b)) key value) refl r full frame

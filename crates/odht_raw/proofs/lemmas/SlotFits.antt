@@ -4,7 +4,7 @@
 --     AllFit F es ctrl        so is each slot
 --     IsMirrored ctrl         the sixteen bytes behind those of the slots are the first sixteen again
 --     AllFound F es ctrl      each occupied slot is where the search for its key ends
-use Rattle.std.proofs.Common.{◌≡◌, ◌<◌, ◌≤◌, ◌∙◌, ◌+◌, ◌-◌, ◌*◌, ◌++◌, ◌==◌, ℕ, zero, suc, Bool, true, false, cond, not, is_none, sym, ap, ap₂, subst, refl, List, Some, None, map, take, drop, replicate, length, get_or, slice_index, arith, zero-add, zero-mul, eq-eqb, drop-drop, length-drop, length-take-le, take-append-drop}
+use Rattle.std.proofs.Common.{◌≡◌, ◌<◌, ◌≤◌, ◌∙◌, ◌+◌, ◌-◌, ◌*◌, ◌++◌, ◌==◌, ℕ, zero, suc, Bool, true, false, cond, not, sym, ap, ap₂, subst, refl, List, Some, None, map, take, drop, replicate, length, get_or, slice_index, arith, zero-add, zero-mul, eq-eqb, drop-drop, length-drop, length-take-le, take-append-drop}
 use Rattle.std.specs.List.{flat_map, list_all, range_with_len}
 use Rattle.std.proofs.lemmas.List.{length-map, get_or-map, get_or-take, get_or-drop, ext_get_or, nil_from_length}
 use Rattle.std.proofs.lemmas.List.Folds.{flat_map-map}
@@ -13,7 +13,7 @@ use Rattle.odht_base.specs.Format.{Format, entry_len, tag}
 use Rattle.odht_base.specs.Image.{entry_bytes, control_byte, entries, controls}
 use Rattle.odht_base.specs.Search.{search_end, is_at}
 use Rattle.odht_base.specs.Decoded.{slot_entry, slot_key, slot_value, counts_as_free, decoded_cell, decoded_cells}
-use Rattle.odht_base.specs.Table.{Pair, cell_at, is_free}
+use Rattle.odht_base.specs.Table.{cell_at}
 use Rattle.odht_base.proofs.lemmas.ByteRanges.{bytes_at-take}
 use Rattle.odht_base.proofs.lemmas.PartsOf.{length-slot_entry}
 use Rattle.odht_base.proofs.lemmas.Placed.{is_at-true}
@@ -110,15 +110,7 @@ module _ (F : Format) (es ctrl : List ℕ) where
   unfolding decoded_cells
   cell_at-decoded_cells i l = get_or-map-range_with_len (decoded_cell F es ctrl) 0 (length ctrl - 16) i i None l (zero-add i)
 
-  -- which is free where the slot counts as free
-  pub is_free-decoded_cells : (i : ℕ) → i < length ctrl - 16 → is_free (decoded_cells F es ctrl) i ≡ counts_as_free (slice_index ctrl i)
-  is_free-decoded_cells i l = ap (is_none {T = Pair}) (cell_at-decoded_cells i l) ∙ go (counts_as_free (slice_index ctrl i))
-    where
-      go : (b : Bool) → is_none {T = Pair} (cond b None (Some (record { key = slot_key F es i; value = slot_value F es i }))) ≡ b
-      go true = refl
-      go false = refl
-
-  -- by whether it does
+  -- by whether its control byte counts as free
   decoded_cell-at : (i : ℕ) (b : Bool) → counts_as_free (slice_index ctrl i) ≡ b
       → decoded_cell F es ctrl i ≡ cond b None (Some (record { key = slot_key F es i; value = slot_value F es i }))
   decoded_cell-at i b e = ap (λ c. cond c None (Some (record { key = slot_key F es i; value = slot_value F es i }))) e

@@ -85,10 +85,6 @@ module _ (F : Format) (T : TableParts) where
   occupied_next : (n : ℕ) → occupied_before (n + 1) ≡ occupied_before n + one (decoded_cell F es ctrl (0 + n))
   occupied_next n = let next : n + 1 ≡ suc n = omega arith in ap occupied_before next ∙ count_next (decoded_cell F es ctrl) 0 n
 
-  -- of no slot
-  pub summary_none : IsSummary 0 0 None
-  summary_none = record { passed = λ i l. absurd (omega (arith, l)); counted = refl; reached = λ fitting i l. absurd (omega (arith, l)) }
-
   one_more : (X : ℕ → Type 0) (n : ℕ) → ((i : ℕ) → i < n → X i) → X n → (i : ℕ) → i < n + 1 → X i
   one_more X n before here i l = elim (cases_lt i n) [
     | inl low ↦ before i low

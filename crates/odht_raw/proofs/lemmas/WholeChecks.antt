@@ -16,9 +16,8 @@ use Rattle.odht_base.proofs.lemmas.Parts.{length-controls, slice_index-controls,
 use Rattle.odht_raw.specs.Frame.{IsAccepted}
 use Rattle.odht_raw.specs.Refusals.{view_refusal, late_refusal, check_refusal}
 use Rattle.odht_raw.proofs.lemmas.Accepted.{IsAccepted-image}
-use Rattle.odht_raw.proofs.lemmas.FirstErrors.{option_or-None}
 use Rattle.odht_raw.proofs.lemmas.ImagesOpen.{view_refusal-image}
-use Rattle.odht_raw.proofs.lemmas.Openings.{view_refusal-accepted, check_refusal-late}
+use Rattle.odht_raw.proofs.lemmas.Openings.{check_refusal-late}
 use Rattle.odht_raw.proofs.lemmas.PartCells.{byte_is, key_is, cell_occupied}
 use Rattle.odht_raw.proofs.lemmas.SlotChecks.{list_all-zeros}
 use Rattle.odht_raw.proofs.lemmas.SlotFits.{IsSlotFit, AllFit, IsMirrored, AllFound}
@@ -104,14 +103,7 @@ valid_late F B small accepted e = IsValidBytes-IsSound F B small (IsSound-late_r
 pub late_valid : (F : Format) (B : List ℕ) → IsFormat F → IsValidBytes F B → late_refusal F B ≡ None
 late_valid F B f (P, is) = ap (late_refusal F) is.bytes ∙ late_refusal-IsSound F (image F P) (IsSound-image F f P is.valid)
 
--- bytes for which the check has no error are valid
-pub check_valid : (F : Format) (B : List ℕ) → All (λ x. x < 256) B → check_refusal F B ≡ None → IsValidBytes F B
-unfolding check_refusal
-check_valid F B small e =
-    let both = option_or-None (view_refusal F B) (late_refusal F B) e in
-    valid_late F B small (view_refusal-accepted F B both.0) both.1
-
--- and the converse
+-- the whole check has no error for them
 pub valid_check : (F : Format) (B : List ℕ) → IsFormat F → IsValidBytes F B → check_refusal F B ≡ None
 valid_check F B f (P, is) =
     check_refusal-late F B (ap (view_refusal F) is.bytes ∙ view_refusal-image F f P is.valid.placed) ∙ late_valid F B f (P, is)

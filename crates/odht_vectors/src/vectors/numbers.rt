@@ -116,11 +116,7 @@ fn places(alloc: Global, args: &[&str]) -> Result<Answer, Fault> {
     }
 }
 
-fn starts_of<const SIZE: usize>(
-    alloc: Global,
-    home: usize,
-    slots: usize,
-) -> Result<Answer, Fault>
+fn starts_of<const SIZE: usize>(alloc: Global, home: usize, slots: usize) -> Result<Answer, Fault>
     requires slots { IsSlotCount slots }
     requires divides { 16 % SIZE ≡ 0 }
 {
