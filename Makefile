@@ -1,5 +1,5 @@
 # make run: the program on its first script, or on SCRIPT=file, in a build without proofs
-# make test: the gate: each request for memory refused in turn (make memory), then rt ci
+# make test: the gate: each allocation failing in turn (make memory), then rt ci
 # make build: the program with its proofs, as a file
 # make lib: build/libodht.a and build/libodht.so, each with all that it needs but the C library
 # make install, make uninstall: these, the header and what pkg-config and CMake read, below PREFIX, and below DESTDIR

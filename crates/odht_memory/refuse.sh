@@ -22,9 +22,9 @@ done
 wait
 cat "$found"/parts/* > "$found/all"
 # source locations, and lines of the tool itself, are left out
-grep -v '^rt: \|^    src/' "$found/all" > "$found/told"
-if diff expected "$found/told"; then
-    echo 'memory: each request was refused in turn, and told as it must be'
+grep -v '^rt: \|^    src/' "$found/all" > "$found/printed"
+if diff expected "$found/printed"; then
+    echo 'memory: each allocation failed in turn, and was reported as it must be'
 else
     # what the tool itself had to say
     grep '^rt: ' "$found/all"

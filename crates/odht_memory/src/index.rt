@@ -1,5 +1,5 @@
 //! An index from path hashes to numbers.
-use crate::told::tell;
+use crate::report::report;
 use odht_index::Index;
 use std::alloc::Global;
 use std::io::{self, Write};
@@ -8,7 +8,7 @@ use std::io::{self, Write};
 pub fn build<W: Write>(alloc: Global, output: &mut W) -> io::Result<()> {
     let pairs = [([5; 16], 1), ([6; 16], 2), ([5; 16], 3)];
     let built = odht_index::build(alloc, &pairs);
-    tell("build", &built, output)?;
+    report("build", &built, output)?;
     match built {
         Ok(bytes) => tell_index(bytes.as_slice(), output),
         Err(_) => Ok(()),
@@ -18,7 +18,7 @@ pub fn build<W: Write>(alloc: Global, output: &mut W) -> io::Result<()> {
 // Prints how many bytes an index has, and the numbers of three paths.
 fn tell_index<W: Write>(bytes: &[u8], output: &mut W) -> io::Result<()> {
     let opened = Index::open(bytes);
-    tell("open", &opened, output)?;
+    report("open", &opened, output)?;
     let Ok(index) = opened else {
         return Ok(());
     };

@@ -9,7 +9,7 @@ mod index;
 mod owned;
 mod parts;
 mod quiet;
-mod told;
+mod report;
 
 use std::alloc::Global;
 use std::io::{self, ErrorKind, Read, Write};

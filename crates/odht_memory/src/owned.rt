@@ -1,14 +1,14 @@
 //! Calls of tables that own their bytes.
-use crate::told::{Table, fill, tell, tell_table, value_of};
+use crate::report::{Table, insert_thirteen, report, report_table, value_of};
 use std::alloc::Global;
 use std::io::{self, Write};
 
 /// Makes a table for thirteen items.
 pub fn with_capacity<W: Write>(alloc: Global, output: &mut W) -> io::Result<()> {
     let made = Table::with_capacity(alloc, 13, 87);
-    tell("with_capacity", &made, output)?;
+    report("with_capacity", &made, output)?;
     match made {
-        Ok(table) => tell_table(&table, output),
+        Ok(table) => report_table(&table, output),
         Err(_) => Ok(()),
     }
 }
@@ -16,9 +16,9 @@ pub fn with_capacity<W: Write>(alloc: Global, output: &mut W) -> io::Result<()> 
 /// Makes the default table.
 pub fn default<W: Write>(alloc: Global, output: &mut W) -> io::Result<()> {
     let made = Table::default(alloc);
-    tell("default", &made, output)?;
+    report("default", &made, output)?;
     match made {
-        Ok(table) => tell_table(&table, output),
+        Ok(table) => report_table(&table, output),
         Err(_) => Ok(()),
     }
 }
@@ -27,9 +27,9 @@ pub fn default<W: Write>(alloc: Global, output: &mut W) -> io::Result<()> {
 pub fn from_iterator<W: Write>(alloc: Global, output: &mut W) -> io::Result<()> {
     let items = [(0, 7), (1, 101), (2, 102), (0, 100)];
     let made = Table::from_iterator(alloc, items.iter().copied(), 87);
-    tell("from_iterator", &made, output)?;
+    report("from_iterator", &made, output)?;
     match made {
-        Ok(table) => tell_table(&table, output),
+        Ok(table) => report_table(&table, output),
         Err(_) => Ok(()),
     }
 }
@@ -37,11 +37,11 @@ pub fn from_iterator<W: Write>(alloc: Global, output: &mut W) -> io::Result<()> 
 // A table at its maximum: the keys 0 to 12 in sixteen slots.
 fn full_table<W: Write>(alloc: Global, output: &mut W) -> io::Result<Option<Table>> {
     let made = Table::with_capacity(alloc, 13, 87);
-    tell("with_capacity", &made, output)?;
+    report("with_capacity", &made, output)?;
     let Ok(mut table) = made else {
         return Ok(None);
     };
-    writeln!(output, "{} inserted", fill(&mut table))?;
+    writeln!(output, "{} inserted", insert_thirteen(&mut table))?;
     Ok(Some(table))
 }
 
@@ -61,14 +61,14 @@ pub fn insert<W: Write>(alloc: Global, output: &mut W) -> io::Result<()> {
     };
     let before = bytes_of(&table);
     let answer = table.insert(&13, &113);
-    tell("insert of 13", &answer, output)?;
+    report("insert of 13", &answer, output)?;
     if answer.is_err() {
         let same = table.raw_bytes() == before.as_slice();
         writeln!(output, "the bytes are those before: {same}")?;
-        tell_table(&table, output)?;
-        tell("insert of 13", &table.insert(&13, &113), output)?;
+        report_table(&table, output)?;
+        report("insert of 13", &table.insert(&13, &113), output)?;
     }
-    tell_table(&table, output)
+    report_table(&table, output)
 }
 
 /// Inserts the keys 13 to 40 into a full table, which grows twice.
@@ -82,13 +82,13 @@ pub fn insert_all<W: Write>(alloc: Global, output: &mut W) -> io::Result<()> {
         *item = (key, value_of(key));
     }
     let (accepted, answer) = table.insert_all(&items);
-    tell("insert_all", &answer, output)?;
+    report("insert_all", &answer, output)?;
     let same = table.raw_bytes() == before.as_slice();
     writeln!(
         output,
         "{accepted} accepted, the bytes are those before: {same}"
     )?;
-    tell_table(&table, output)
+    report_table(&table, output)
 }
 
 /// Copies a full table.
@@ -97,12 +97,12 @@ pub fn clone<W: Write>(alloc: Global, output: &mut W) -> io::Result<()> {
         return Ok(());
     };
     let copy = table.clone();
-    tell("clone", &copy, output)?;
+    report("clone", &copy, output)?;
     if let Ok(copy) = copy {
         let same = copy.raw_bytes() == table.raw_bytes();
         writeln!(output, "the bytes are the same: {same}")?;
     }
-    tell_table(&table, output)
+    report_table(&table, output)
 }
 
 /// Makes a table of the bytes of a full one.
@@ -111,17 +111,17 @@ pub fn from_raw_bytes<W: Write>(alloc: Global, output: &mut W) -> io::Result<()>
         return Ok(());
     };
     let taken = Table::from_raw_bytes(alloc, table.raw_bytes());
-    tell("from_raw_bytes", &taken, output)?;
+    report("from_raw_bytes", &taken, output)?;
     if let Ok(taken) = taken {
         let same = taken.raw_bytes() == table.raw_bytes();
         writeln!(output, "the bytes are the same: {same}")?;
     }
-    tell_table(&table, output)
+    report_table(&table, output)
 }
 
 /// Opens bytes of no table: they are rejected before memory is requested.
 pub fn refused_bytes<W: Write>(alloc: Global, output: &mut W) -> io::Result<()> {
-    tell(
+    report(
         "from_raw_bytes",
         &Table::from_raw_bytes(alloc, &[7; 192]),
         output,
@@ -134,10 +134,10 @@ pub fn from_raw_bytes_unchecked<W: Write>(alloc: Global, output: &mut W) -> io::
         return Ok(());
     };
     let taken = Table::from_raw_bytes_unchecked(alloc, table.raw_bytes());
-    tell("from_raw_bytes_unchecked", &taken, output)?;
+    report("from_raw_bytes_unchecked", &taken, output)?;
     if let Ok(taken) = taken {
         let same = taken.raw_bytes() == table.raw_bytes();
         writeln!(output, "the bytes are the same: {same}")?;
     }
-    tell_table(&table, output)
+    report_table(&table, output)
 }

@@ -1,5 +1,5 @@
 //! Calls of the crate below the tables.
-use crate::told::tell;
+use crate::report::report;
 use odht::bytes::OwnedBytes;
 use odht::configs::DirectU32ToU32;
 use odht::error::Error;
@@ -18,7 +18,7 @@ pub fn allocation<W: Write>(alloc: Global, output: &mut W) -> io::Result<()> {
     let made: Result<Allocation<DirectU32ToU32, OwnedBytes>, Error> = allocate(
         alloc, slots, 0, factor,
     );
-    tell("allocate", &made, output)?;
+    report("allocate", &made, output)?;
     match made {
         Ok(made) => writeln!(output, "{} bytes", made.raw_bytes().len()),
         Err(_) => Ok(()),
@@ -31,7 +31,7 @@ pub fn order<W: Write>(alloc: Global, output: &mut W) -> io::Result<()> {
         return Ok(());
     };
     let order = probe_order(alloc, slots - 1, slots);
-    tell("probe_order", &order, output)?;
+    report("probe_order", &order, output)?;
     match order {
         Ok(order) => writeln!(
             output,

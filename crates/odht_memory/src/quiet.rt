@@ -1,7 +1,7 @@
 //! Calls that take no memory.
 ghost use Rattle.std.specs.Prelude.{◌≡◌, length};
 
-use crate::told::{Table, fill, tell, value_of};
+use crate::report::{Table, insert_thirteen, report, value_of};
 use odht::bytes::{BorrowedMut, ByteArray, ByteStore};
 use odht::configs::DirectU32ToU32;
 use odht::error::Error;
@@ -17,14 +17,14 @@ use std::io::{self, Write};
 /// request.
 pub fn below_the_maximum<W: Write>(alloc: Global, output: &mut W) -> io::Result<()> {
     let made = Table::with_capacity(alloc, 13, 87);
-    tell("with_capacity", &made, output)?;
+    report("with_capacity", &made, output)?;
     let Ok(mut table) = made else {
         return Ok(());
     };
-    writeln!(output, "{} inserted", fill(&mut table))?;
-    writeln!(output, "{} overwritten", fill(&mut table))?;
+    writeln!(output, "{} inserted", insert_thirteen(&mut table))?;
+    writeln!(output, "{} overwritten", insert_thirteen(&mut table))?;
     let (accepted, answer) = table.insert_all(&[(0, 100), (12, 112)]);
-    tell("insert_all", &answer, output)?;
+    report("insert_all", &answer, output)?;
     let (value, groups) = table.get_counted(&12);
     let all = table.iter().all(|(key, value)| value == value_of(key));
     writeln!(
@@ -38,18 +38,18 @@ pub fn below_the_maximum<W: Write>(alloc: Global, output: &mut W) -> io::Result<
         table.iter().count()
     )?;
     tell_checked(table.raw_bytes(), output)?;
-    crate::told::tell_table(&table, output)
+    crate::report::report_table(&table, output)
 }
 
 /// An order of inserts, of a table in which the key 31 waits for 15. Making it is one request.
 pub fn insert_order<W: Write>(alloc: Global, output: &mut W) -> io::Result<()> {
     let made = Table::with_capacity(alloc, 13, 87);
-    tell("with_capacity", &made, output)?;
+    report("with_capacity", &made, output)?;
     let Ok(mut table) = made else {
         return Ok(());
     };
     let (accepted, answer) = table.insert_all(&[(15, 115), (31, 131)]);
-    tell("insert_all", &answer, output)?;
+    report("insert_all", &answer, output)?;
     let mut slots = [0; 16];
     let Some(order) = slots.get_mut(..table.len()) else {
         return Ok(());
@@ -71,23 +71,23 @@ pub fn view<W: Write>(output: &mut W) -> io::Result<()> {
         13,
         87,
     );
-    tell("init_in_place", &made, output)?;
+    report("init_in_place", &made, output)?;
     let Ok(mut view) = made else {
         return Ok(());
     };
-    tell("insert", &view.insert(&5, &7), output)?;
+    report("insert", &view.insert(&5, &7), output)?;
     let (accepted, answer) = view.insert_all(&[(6, 106), (5, 105)]);
-    tell("insert_all", &answer, output)?;
+    report("insert_all", &answer, output)?;
     writeln!(output, "{accepted} accepted")?;
     let opened: Result<View<'_>, Error> = HashTable::from_raw_bytes(view.into_data());
-    tell("from_raw_bytes", &opened, output)?;
+    report("from_raw_bytes", &opened, output)?;
     let Ok(view) = opened else {
         return Ok(());
     };
     let view: View<'_> = HashTable::from_raw_bytes_unchecked(view.into_data());
     tell_view(&view, output)?;
     let opened: Result<View<'_>, Error> = HashTable::from_raw_bytes_by_header(view.into_data());
-    tell("from_raw_bytes_by_header", &opened, output)
+    report("from_raw_bytes_by_header", &opened, output)
 }
 
 fn tell_view<D: ByteStore, W: Write>(
@@ -113,7 +113,7 @@ fn tell_view<D: ByteStore, W: Write>(
 }
 
 fn tell_checked<W: Write>(bytes: &[u8], output: &mut W) -> io::Result<()> {
-    tell("check_all", &check_all::<DirectU32ToU32>(bytes), output)
+    report("check_all", &check_all::<DirectU32ToU32>(bytes), output)
 }
 
 /// Sizes, hash values, arrays of bytes, and both group searches.

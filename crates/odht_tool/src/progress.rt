@@ -21,7 +21,7 @@ impl Progress {
     }
 
     /// Writes a line where more than a second has passed since the last.
-    pub fn tell<R: Clock, E: Write>(
+    pub fn report<R: Clock, E: Write>(
         &mut self,
         rt: &R,
         line_count: u64,

@@ -106,7 +106,7 @@ impl<'a> StoredTable<'a> {
     }
 
     /// How many of the occupied slots do not have the tag of this hash function as their control byte.
-    pub fn strangers(&self, hash: Hash) -> usize {
+    pub fn other_tags(&self, hash: Hash) -> usize {
         let mut count = 0_usize;
         for slot in 0..self.slot_count {
             let control = self.control_byte(slot);

@@ -10,18 +10,18 @@ use Rattle.odht_base.specs.Format.{Format}
 use Rattle.odht_base.specs.Image.{header_bytes, image_len}
 use Rattle.odht_base.specs.Load.{slots_for, IsSlotCount}
 use Rattle.odht_base.specs.Insert.{grown_slots}
-use Rattle.odht_base.specs.Decoded.{header_count, header_factor, header_slots}
+use Rattle.odht_base.specs.Decoded.{header_count, header_factor}
 use Rattle.odht_base.specs.Table.{Table}
 use Rattle.odht_base.specs.Valid.{IsImage}
 use Rattle.odht_base.proofs.lemmas.ByteRanges.{bytes_at-between}
 use Rattle.odht_base.proofs.lemmas.Least.{slots_for-IsLeastSlots}
 use Rattle.odht_base.proofs.lemmas.Numbers.{num-le_bytes}
 use Rattle.odht_base.proofs.lemmas.Options.{some_same}
-use Rattle.odht_base.proofs.lemmas.SlotCounts.{few_slots, slots_fit}
+use Rattle.odht_base.proofs.lemmas.SlotCounts.{few_slots}
 use Rattle.odht_raw.specs.Frame.{IsAccepted}
 use Rattle.odht_raw.specs.Layouts.{IsLayout}
 use Rattle.odht_raw.specs.Refusals.{IsTooLarge}
-use Rattle.odht_raw.proofs.lemmas.Accepted.{opening_refusal-IsOpening}
+use Rattle.odht_raw.proofs.lemmas.Accepted.{IsAccepted-headed}
 use Rattle.odht.specs.Growths.{table_len, grown_slots_of, grown_len}
 use Rattle.odht.proofs.lemmas.ViewInserts.{count_header, factor_header}
 
@@ -90,23 +90,7 @@ module _ (F : Format) (T : List ℕ) (s c f : ℕ) (front : take 32 T ≡ header
 
   -- and the slot count, so bytes of the length for it are accepted
   pub headed_accepted : IsSlotCount s → length T ≡ image_len F s → IsAccepted F T
-  headed_accepted count long =
-      let by_header : header_slots (header_bytes F s c f ++ drop 32 T) ≡ s = num-le_bytes 8 s (slots_fit s count) in
-      let same : length (header_bytes F s c f ++ drop 32 T) ≡ image_len F s = ap length (sym split) ∙ long in
-      subst (IsAccepted F) (sym split)
-      (opening_refusal-IsOpening F (header_bytes F s c f ++ drop 32 T) (record {
-        long = omega (arith, same);
-        header = record {
-          tag_is = refl;
-          version_is = refl;
-          metadata_is = refl;
-          key_len_is = refl;
-          value_len_is = refl;
-          header_len_is = refl;
-          slots = subst IsSlotCount (sym by_header) count;
-          length_is = same ∙ ap (image_len F) (sym by_header);
-        };
-      }))
+  headed_accepted count long = subst (IsAccepted F) (sym split) (IsAccepted-headed F s c f (drop 32 T) count (ap length (sym split) ∙ long))
 
 -- ---- entries that are cleared
 module _ (xs ys : List ℕ) (m to : ℕ) (at : to ≡ 32 + m) (fits : to ≤ length xs) (zeros : ys ≡ replicate (length (take (to - 32) (drop 32 xs))) 0) where

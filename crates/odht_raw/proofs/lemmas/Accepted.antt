@@ -1,7 +1,7 @@
 -- Bytes whose header and length fit: what the header says; writes to the count and behind the header leave them so.
 --     IsHeader F n B       the header fits n bytes
 --     IsOpening F B        so it does, and there are enough bytes for it
-use Rattle.std.proofs.Common.{◌≡◌, ◌<◌, ◌≤◌, ◌∙◌, ◌+◌, ◌*◌, ℕ, suc, not, sym, ap, subst, refl, List, [], ◌∷◌, None, take, drop, set, cond, ltb, Bool, true, false, length, arith, length-set, get_or-take, lit<, lit≤, ltb-true, ltb-false, le-ltb, nat_lt}
+use Rattle.std.proofs.Common.{◌≡◌, ◌<◌, ◌≤◌, ◌∙◌, ◌+◌, ◌*◌, ℕ, suc, not, sym, ap, subst, refl, List, [], ◌∷◌, ◌++◌, None, take, drop, set, cond, ltb, Bool, true, false, length, arith, length-set, get_or-take, lit<, lit≤, ltb-true, ltb-false, le-ltb, nat_lt}
 use Rattle.std.proofs.lemmas.List.{drop-take}
 use Rattle.std.proofs.Math.Nat.{mul-le-mul_right}
 use Rattle.std.specs.Prelude.{slice_index}
@@ -10,13 +10,15 @@ use Rattle.odht_base.specs.Numbers.{num, le_bytes}
 use Rattle.odht_base.specs.Bytes.{bytes_at, overwritten_at}
 use Rattle.odht_base.specs.Format.{Format, entry_len}
 use Rattle.odht_base.specs.Load.{is_power_of_two, IsSlotCount}
-use Rattle.odht_base.specs.Table.{Table, slot_count}
-use Rattle.odht_base.specs.Image.{image, image_len}
+use Rattle.odht_base.specs.Table.{Table, slot_count, count}
+use Rattle.odht_base.specs.Image.{image, image_len, header_bytes, parts}
 use Rattle.odht_base.specs.Decoded.{header_slots}
 use Rattle.odht_base.specs.Writes.{with_count, tagged_at}
 use Rattle.odht_base.specs.Valid.{IsValidBytes}
+use Rattle.odht_base.proofs.lemmas.Numbers.{num-le_bytes}
+use Rattle.odht_base.proofs.lemmas.SlotCounts.{slots_fit}
 use Rattle.odht_base.proofs.lemmas.Fits.{IsSized, IsSized-IsPlaced}
-use Rattle.odht_base.proofs.lemmas.Image.{header_slots-image, length-image}
+use Rattle.odht_base.proofs.lemmas.Image.{length-image}
 use Rattle.odht_base.proofs.lemmas.ByteRanges.{bytes_at-take_front, bytes_at-drop, length-overwritten_at, overwritten_at-single, take-overwritten_at, drop-overwritten_at}
 use Rattle.odht_raw.specs.Refusals.{opening_refusal, header_refusal, first_of, differs, lists_differ, ◌gives◌}
 use Rattle.odht_raw.specs.Frame.{IsAccepted}
@@ -184,13 +186,11 @@ IsAccepted-tagged_at F B h at s i c low fits mirror = go (ltb i 16) refl
     go true e = IsAccepted-set F (set B at c) once (at + s) c (omega (arith, low)) (omega (arith, mirror (ltb-true i 16 e), length-set B at c))
     go false e = once
 
--- the image of a table of a slot count is accepted
-pub IsAccepted-image : (F : Format) (P : Table) → IsSlotCount (slot_count P) → IsSized F P → IsAccepted F (image F P)
-unfolding image
-IsAccepted-image F P count sized =
-    let slots_are = header_slots-image F P sized in
-    let long = length-image F P sized in
-    opening_refusal-IsOpening F (image F P) (record {
+-- bytes that begin with the header of a slot count, and have the length for it, are accepted
+pub IsAccepted-headed : (F : Format) (s c f : ℕ) (D : List ℕ) → IsSlotCount s → length (header_bytes F s c f ++ D) ≡ image_len F s → IsAccepted F (header_bytes F s c f ++ D)
+IsAccepted-headed F s c f D count long =
+    let by_header : header_slots (header_bytes F s c f ++ D) ≡ s = num-le_bytes 8 s (slots_fit s count) in
+    opening_refusal-IsOpening F (header_bytes F s c f ++ D) (record {
       long = omega (arith, long);
       header = record {
         tag_is = refl;
@@ -199,10 +199,15 @@ IsAccepted-image F P count sized =
         key_len_is = refl;
         value_len_is = refl;
         header_len_is = refl;
-        slots = subst IsSlotCount (sym slots_are) count;
-        length_is = long ∙ ap (image_len F) (sym slots_are);
+        slots = subst IsSlotCount (sym by_header) count;
+        length_is = long ∙ ap (image_len F) (sym by_header);
       };
     })
+
+-- the image of a table of a slot count is accepted
+pub IsAccepted-image : (F : Format) (P : Table) → IsSlotCount (slot_count P) → IsSized F P → IsAccepted F (image F P)
+unfolding image
+IsAccepted-image F P slots sized = IsAccepted-headed F (slot_count P) (count P) P.factor (parts F P.cells) slots (length-image F P sized)
 
 -- so valid bytes are
 pub IsAccepted-IsValidBytes : (F : Format) (B : List ℕ) → IsValidBytes F B → IsAccepted F B

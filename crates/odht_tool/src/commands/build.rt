@@ -172,7 +172,7 @@ where
         if pairs.len() >= BATCH {
             insert_batch(table, &mut pairs)?;
             // A progress line that cannot be written is no failure.
-            let _ = progress.tell(rt, number, errors);
+            let _ = progress.report(rt, number, errors);
         }
     }
     insert_batch(table, &mut pairs)

@@ -41,9 +41,9 @@ pub fn write_info<O: Write>(alloc: Global, bytes: &[u8], output: &mut O) -> Resu
 
 // The hash function that all control bytes agree with, if there is one.
 fn hash_of(table: &StoredTable<'_>) -> Option<Hash> {
-    if table.strangers(Hash::Fx) == 0 {
+    if table.other_tags(Hash::Fx) == 0 {
         Some(Hash::Fx)
-    } else if table.strangers(Hash::Unhash) == 0 {
+    } else if table.other_tags(Hash::Unhash) == 0 {
         Some(Hash::Unhash)
     } else {
         None

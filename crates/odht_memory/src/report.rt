@@ -8,17 +8,21 @@ use std::io::{self, Write};
 pub type Table = HashTableOwned<DirectU32ToU32>;
 
 /// Prints whether a call failed, and why.
-pub fn tell<T, W: Write>(call: &str, answer: &Result<T, Error>, output: &mut W) -> io::Result<()> {
+pub fn report<T, W: Write>(
+    call: &str,
+    answer: &Result<T, Error>,
+    output: &mut W,
+) -> io::Result<()> {
     match answer {
         Ok(_) => writeln!(output, "{call}: ok"),
         Err(Error::Memory) => writeln!(output, "{call}: memory"),
-        Err(_) => writeln!(output, "{call}: another refusal"),
+        Err(_) => writeln!(output, "{call}: another error"),
     }
 }
 
 /// Prints how many items, bytes and found keys a table has. Keys below 100 are
 /// looked up, with the values that `value_of` gives them.
-pub fn tell_table<W: Write>(table: &Table, output: &mut W) -> io::Result<()> {
+pub fn report_table<W: Write>(table: &Table, output: &mut W) -> io::Result<()> {
     let mut found = 0_u32;
     for key in 0..100 {
         if table.get(&key) == Some(value_of(key)) {
@@ -39,7 +43,7 @@ pub fn value_of(key: u32) -> u32 {
 }
 
 /// Inserts the keys 0 to 12, each with its value, and counts those that were accepted.
-pub fn fill(table: &mut Table) -> u32 {
+pub fn insert_thirteen(table: &mut Table) -> u32 {
     let mut accepted = 0_u32;
     for key in 0..13 {
         if table.insert(&key, &value_of(key)).is_ok() {
