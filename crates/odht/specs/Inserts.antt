@@ -1,7 +1,7 @@
 -- What a new table is, and what an insert leaves.
 --     IsFresh F n p B      B are the bytes of the fresh table for n items at p percent
---     IsInserted c put P k v o B   an insert `put` of the key k with the value v into P returns the former value o, and
---                          leaves the bytes B of a table whose map is that of P but at k alone, which has v
+--     IsInserted c insert P k v o B   an insert of the key k with the value v into P, by `insert`, returns the former
+--                          value o, and leaves the bytes B of a table whose map is that of P, except that k has v
 use Rattle.std.specs.Prelude.{◌≡◌, ℕ, List, Option, Some, bytes_eq, if◌then◌else◌}
 use Rattle.odht_base.specs.Format.{Format}
 use Rattle.odht_base.specs.Map.{map_of}

@@ -1,7 +1,7 @@
 -- Lists of keys and values that are inserted in turn.
---     IsAfterInserts F put P ps B  B are the bytes of the table after the inserts `put` of the pairs ps into P; its map
---                          is that of P with the last values of ps over it; where all have room below the maximum of P,
---                          its size stays
+--     IsAfterInserts F insert P ps B   B are the bytes of the table after the pairs ps are inserted into P in turn, by
+--                          `insert`; its map is that of P with the last values of ps over it; where all have room below
+--                          the maximum of P, it has the slot count and load factor of P
 --     HasSizeOf P Q        Q has the slot count and the load factor of P
 --     IsRefusedAt c P items n    P is full for the key of item n
 --     IsStoppedAt c items n B    on the bytes B an insert of item n may return `Full`

@@ -27,8 +27,8 @@ impl<C: Config, D: ByteStore> HashTable<C, D> {
     /// for one item at least, at the same load factor. None exactly where no slot count is enough, or the length passes
     /// `usize`. docs/FORMAT.md, "Growth", has the rule.
     ///
-    /// The load factor of valid bytes is at least 655 65536ths of the slots, one percent. A smaller one is taken as it
-    /// is: for 0 no slot count is enough, so the result is None.
+    /// The load factor of valid bytes is at least 655 65536ths of the slots, one percent rounded down. A smaller one is
+    /// taken as it is: for 0 no slot count is enough, so the result is None.
     pub fn grown_len(&self) -> Option<usize>
         ensures by_header { result ≡ grown_len ⟦<C as Coded>⟧.coding.format (D.bytes self.now) }
         ensures on_valid { let F = ⟦<C as Coded>⟧.coding.format
@@ -46,8 +46,8 @@ impl<C: Config, D: ByteStore> HashTable<C, D> {
     ///
     /// One pass over `out`, and one over the slots of this table; each item is hashed once. No key is compared.
     ///
-    /// On any bytes the new header has the item count and the load factor of this one, and the pairs of the walk are
-    /// placed as long as a slot is free.
+    /// On any bytes the new header has the item count and the load factor of this one. The pairs of the walk are then
+    /// placed as long as a slot is free, which no clause says.
     pub fn grow_into(&self, out: &mut [u8])
         requires { grown_len ⟦<C as Coded>⟧.coding.format (D.bytes self.now) ≡ Some (length out.old) }
         ensures on_valid { let F = ⟦<C as Coded>⟧.coding.format

@@ -10,7 +10,7 @@ pub trait HashFn: Eq {
     /// How many bytes the function needs at least.
     const MIN_LEN: usize;
 
-    /// The name of the function, as a dump prints it.
+    /// The name of the function, as a dump writes it.
     const NAME: &'static str;
 
     ghost MIN_LEN: { ℕ };
@@ -19,7 +19,8 @@ pub trait HashFn: Eq {
 
     ghost hash: { List ℕ → ℕ };
 
-    /// `NAME` as a function, since a contract cannot read a constant that is a reference.
+    /// `NAME` as a function, since a contract cannot read a constant that is a reference. An implementation has to
+    /// return `NAME`; no clause says so.
     fn hash_name() -> &'static str
         ensures { result.now ≡ hash_name };
 

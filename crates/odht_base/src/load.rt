@@ -14,7 +14,7 @@ impl Factor {
     /// The load factor of 100 percent.
     pub const BASE: usize = 65535;
 
-    /// The load factor of `percent` percent, rounded down.
+    /// The load factor of `percent` percent, at most 100, rounded down.
     #[inline]
     pub fn from_percent(percent: u8) -> Factor
         requires { percent ≤ 100 }
@@ -41,7 +41,8 @@ impl Factor {
         (x as u128 * self.0 as u128 / 65536) as usize
     }
 
-    /// `x * 65535 / self`, rounded up.
+    /// `x * 65535 / self`, rounded up; the factor is at least 1. It does not undo `apply`, whose divisor is 65536, and
+    /// slot counts are not found by it.
     #[inline]
     pub fn apply_inverse(self, x: usize) -> u128
         requires { 1 ≤ self.0 }
@@ -53,7 +54,7 @@ impl Factor {
 }
 
 /// The least slot count for `max_item_count` items: the least power of two from 16 on whose maximum item count is
-/// no less. None exactly where no power of two up to 2^63 is enough.
+/// no less. None exactly where no power of two up to 2^63 is enough. The factor is at least 1.
 #[inline]
 pub fn slots_needed(max_item_count: usize, max_load_factor: Factor) -> Option<usize>
     requires { 1 ≤ max_load_factor.0 }

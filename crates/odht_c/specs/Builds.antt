@@ -1,4 +1,5 @@
--- What the calls answer that build a table from pairs: in the caller's bytes, or in memory of its own and then copied.
+-- What the calls that build a table from pairs return and leave: in the caller's bytes, or in memory of its own that is
+-- then copied.
 -- The status is s; the buffers hold `out` and `len` before the call, and out' and len' after it.
 --     IsHandedOut IsTable out s out' len'   bytes that satisfy `IsTable` were copied to the front of `out` and the rest
 --                          of it is unchanged, or they are longer than it and all of it is unchanged; len' is their

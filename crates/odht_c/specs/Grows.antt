@@ -1,4 +1,4 @@
--- What the call answers that writes the table into which another one grows, and what it leaves in the caller's bytes.
+-- What the call that writes the table into which another one grows returns, and what it leaves in the caller's bytes.
 -- The status is s; the buffers hold `out` and `len` before the call, and out' and len' after it.
 --     growth_refusal F B   the error of a growth of the bytes B: that of their header or length, then of a load factor
 --                          below 1 percent, then that no slot count is enough or the length does not fit 64 bits

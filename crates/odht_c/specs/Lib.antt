@@ -1,4 +1,4 @@
--- Definitions for the calls of C: what each answers, and what it leaves in the buffers that its caller passes.
+-- Definitions for the calls of C: what each returns, and what it leaves in the buffers that its caller passes.
 -- the statuses, and what calls require of their arguments
 pub mod Statuses
 -- the calls that read a table

@@ -1,4 +1,4 @@
--- What the call answers that looks for an order of inserts, and what it leaves in the array that its caller passes.
+-- What the call that looks for an order of inserts returns, and what it leaves in the array that its caller passes.
 -- The status is s; the array holds `out` before the call, and out' after it.
 --     OrderAnswers c B out s out'   an order of inserts that makes the table in the bytes B, which the coding c reads
 -- For bytes that the whole check rejects nothing is written, and neither for an array whose length is not the number of

@@ -1,4 +1,4 @@
--- What the calls answer that read a table, and what they leave in the buffers that their caller passes.
+-- What the calls that read a table return, and what they leave in the buffers that their caller passes.
 -- The status is s; the buffers hold `old`, vs and fs before the call, and `new`, vs' and fs' after it.
 --     IsGot o old s new    a lookup that finds o answers the status s, and leaves `new` in the buffer that held `old`
 --     IsGotAt o old f new  the same for one key among many: f is 1 where it is found, else 0

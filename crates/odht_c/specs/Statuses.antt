@@ -1,9 +1,9 @@
--- The statuses that calls of C answer, which are numbers, and what calls require of their arguments.
+-- The statuses that the calls for C return, which are numbers, and what the calls require of their arguments.
 --     status_of e          the status of the error e
 --     done absent replaced bad_percent bad_lengths too_small unmade   the statuses that are no error of the library
 --     status_or_ok o       the status of an error, or `done` where there is none
 --     IsPercent p          p is a load factor in percent of slots, 1 to 100
---     AreAsLong n a b      two arrays of a and of b elements belong to n keys
+--     AreAsLong n a b      two arrays, of a and of b elements, have an element for each of n keys
 use Rattle.std.specs.Prelude.{◌≡◌, ◌≤◌, ℕ, Option, Some, None}
 use Rattle.odht_raw.specs.declared.error.Error.{Error}
 use Rattle.odht_raw.specs.declared.error.Error.TheVariants.{TooShort, WrongTag, WrongVersion, WrongSizeOf, SlotCountNotPowerOfTwo, SlotCountTooSmall, WrongLength, NonZeroEmpty, ControlMismatch, LoadFactorTooSmall, NonZeroPadding, BadFreeControl, MirrorMismatch, WrongItemCount, TooManyItems, Unreachable, InitLength, Full, Memory, Capacity}
@@ -30,7 +30,6 @@ status_of Full = 18
 status_of Memory = 19
 status_of Capacity = 20
 
--- the statuses that are no error of the library
 abbrev pub done : ℕ
 done = 0
 

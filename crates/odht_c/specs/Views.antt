@@ -1,6 +1,6 @@
--- What the calls answer that read an opened table, and what they leave in the buffers that their caller passes.
--- An opened table is a view of bytes B whose header and length are accepted, which its caller ensures; so no call
--- answers an error of the bytes.
+-- What the calls that read an opened table return, and what they leave in the buffers that their caller passes.
+-- An opened table is a view of bytes B whose header and length are accepted, which its caller ensures; so no lookup
+-- returns an error of the bytes.
 -- The status is s; the buffers hold `old`, vs and fs before the call, and `new`, vs' and fs' after it.
 --     OpenViewAnswers F bytes old s new   an opening of bytes with the format F; `old` and `new` are the slice of the
 --                                         view: the very slice that was opened, or unchanged after an error

@@ -1,4 +1,4 @@
--- What a call answers that walks over a table into arrays, and what it leaves in the buffers that its caller passes.
+-- What a call that walks over a table into arrays returns, and what it leaves in the buffers that its caller passes.
 -- The status is s; the buffers hold at, ks, vs and n before the call, and at', ks', vs' and n' after it.
 --     IsWalked c P at ks vs s at' ks' vs' n'   a walk over the table P from slot `at` on, into arrays that held ks and
 --                          vs, answers the status s and writes n' pairs: as many as fit, from the first on. The pairs

@@ -1,4 +1,4 @@
--- What the calls answer that make a table in bytes or write to one, and what they leave in the caller's buffers.
+-- What the calls that make a table in bytes or write to one return, and what they leave in the caller's buffers.
 -- The status is s; the buffers hold B, `old` and n before the call, and B', `new` and n' after it.
 --     IsFormer o old s new an insert over the former value o answers the status s, and leaves `new` in the buffer that
 --                          held `old`

@@ -1,4 +1,4 @@
-//! The statuses that the calls answer, as numbers. `include/odht.h` names them all, errors included; so does
+//! The statuses that the calls return, as numbers. `include/odht.h` names them all, errors included; so does
 //! docs/FORMAT.md, "Numbers for C".
 ghost use Rattle.std.specs.Prelude.{◌≡◌};
 ghost use Rattle.odht_c.specs.Statuses.{status_of};

@@ -107,7 +107,7 @@ pub(crate) fn insert<C: Config, M: ByteStoreMut>(
     }
 }
 
-/// Inserts the pairs in order, up to the first that is answered with Full, and writes to `accepted` how many were
+/// Inserts the pairs in order, up to the first whose insert fails with FULL, and writes to `accepted` how many were
 /// inserted. An error of the header or length leaves everything unchanged.
 #[inline]
 pub(crate) fn insert_all<C: Config, M: ByteStoreMut>(

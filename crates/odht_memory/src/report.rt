@@ -20,8 +20,8 @@ pub fn report<T, W: Write>(
     }
 }
 
-/// Prints how many items, bytes and found keys a table has. Keys below 100 are
-/// looked up, with the values that `value_of` gives them.
+/// Prints how many items and bytes a table has, and how many keys below 100 are found with the values that `value_of`
+/// gives them.
 pub fn report_table<W: Write>(table: &Table, output: &mut W) -> io::Result<()> {
     let mut found = 0_u32;
     for key in 0..100 {

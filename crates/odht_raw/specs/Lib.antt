@@ -1,4 +1,5 @@
--- The definitions about errors and configurations. Those about numbers, tables and bytes are in `odht_base`.
+-- The definitions about configurations, errors, and searches, inserts and walks in the parts of a table. Those about
+-- numbers, plain tables and their bytes are in `odht_base`.
 -- how keys and values are encoded and decoded
 pub mod Coding
 -- the parts of a table as code reads them

@@ -1,7 +1,8 @@
 -- Where a search for a key k ends on any parts, and what a find answers. E is the entries, ctrl the control bytes.
 --     HoldsKeyAt F E k i        slot i is one of E, and its entry has the key k
---     IsEnd F E ctrl k r        a Found is a slot whose entry has the key k, a Free is a slot that counts as free, also
---                               by its mirror; on Neither each slot counts as occupied, also by its mirror
+--     IsEnd F E ctrl k r        a Found is a slot whose entry has the key k, a Free is a slot that counts as free by
+--                               its control byte or its mirror; on Neither each slot counts as occupied by one of
+--                               the two
 --     IsPlainEnd F E ctrl k r   the same, where a slot counts as free or occupied by its own control byte alone
 --     IsEndAmong F E bs b n k r a Found is a slot whose entry has the key k, a Free is among the n slots from b on,
 --                               modulo the slot count, and its byte of bs counts as free; Neither is no such end

@@ -1,9 +1,9 @@
 -- A search for a key k among the parts of a placed table P, at a position of the probe order of k.
 --     slot_of F P k p        the slot at position p of the order
 --     Passed F P k p         no slot before position p is free or holds k
---     IsGroupAt F P E k p start bs   the search is at position p: it passed the earlier positions, E is the entries, and
---                            bs is the control bytes of the positions from p on, which are the slots from `start` on,
---                            modulo the slot count
+--     IsGroupAt F P E k p start bs   the search is at position p: it passed the earlier positions, E is the entries,
+--                            and bs is the control bytes of the positions from p on, which are the slots from `start`
+--                            on, modulo the slot count
 --     EndsWithin F P k p n   the search ends at one of the n positions from p on
 --     IsLook F P k p n r     r is the result of a look at these n positions: the answer where the search ends there,
 --                            else None

@@ -5,13 +5,15 @@ ghost use Rattle.odht_raw.specs.Coding.{Coding, coding_of};
 use crate::bytes::ByteArray;
 use crate::hash::HashFn;
 
-/// The types of a table, and how they are encoded: each key and each value to as many bytes, the same on every
-/// platform.
+/// The types of a table, and how they are encoded: all keys to one number of bytes, and all values to one, the same on
+/// every platform.
 ///
 /// In a contract the ghost member of the same name is what each of the four functions answers.
 pub trait Config {
+    /// A key, as a user of the table has it.
     type Key: Drop;
 
+    /// A value, as a user of the table has it.
     type Value: Drop;
 
     /// At most 255 bytes, and at least as many as the hash function needs.
@@ -20,6 +22,7 @@ pub trait Config {
     /// At most 255 bytes.
     type EncodedValue: ByteArray;
 
+    /// The hash function of encoded keys. The bytes of a table do not name it.
     type H: HashFn;
 
     ghost encode_key: { Self.Key → Self.EncodedKey };

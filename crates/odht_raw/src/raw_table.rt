@@ -1,4 +1,7 @@
-//! The parts of a table, control bytes and entries, and searches in them.
+//! The parts of a table, control bytes and entries, and searches, inserts and walks in them.
+//!
+//! Where a comment says "on the parts of a table whose keys are all reached", its clause says `IsPartsOf`: no key is in
+//! two slots, the search for each key ends at its slot, and control bytes, mirror and entries are those of the table.
 ghost use Rattle.std.specs.Prelude.{◌≡◌, ◌+◌, ◌/◌, ◌^◌, ◌<◌, ◌≤◌, length, option_map, IfOk, IfSome};
 ghost use Rattle.std.specs.Result.{result_err};
 ghost use Rattle.odht_base.specs.Format.{format_of};

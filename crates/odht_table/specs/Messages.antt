@@ -8,13 +8,11 @@ use Rattle.odht_table.specs.declared.script.Fault.TheVariants.{Read, Write, Memo
 use Rattle.odht_table.specs.declared.script.Refusal.{Refusal}
 use Rattle.odht_table.specs.declared.script.Refusal.TheVariants.{BadPercent, Capacity, Memory}
 
--- what is written to standard error for a fault
 abbrev pub fault_text : Fault → List ℕ
 fault_text Read = codes "read failed"
 fault_text Write = codes "write failed"
 fault_text no_memory = codes "memory"
 
--- the answer to a `new` that fails
 abbrev pub refusal_text : Refusal → List ℕ
 refusal_text BadPercent = codes "bad percent"
 refusal_text Capacity = codes "capacity"

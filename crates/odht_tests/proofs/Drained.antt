@@ -1,4 +1,4 @@
--- What calls of `next` give where an iterator is seen as the list of what is left.
+-- What calls of `next` give where an iterator is modelled as the list of what is left.
 use Rattle.std.proofs.Common.{◌≡◌, ◌∙◌, List, [], ◌∷◌, ◌++◌, Result, Ok, Err, IfOk, sym, ap, append-nil}
 use Rattle.std.specs.Iterator.{YieldsFirst, Yields, DrainsIf}
 

@@ -1,4 +1,5 @@
-//! Tests over several crates: what neither a contract nor a vector says. The vectors share its probe orders.
+//! Tests over several crates: what neither a contract nor a vector says. `odht_vectors` uses
+//! `group_starts` too.
 #![tactic(auto)]
 
 pub mod group_starts;

@@ -1,5 +1,5 @@
-//! What neither a contract nor a vector says: the tests that the Rust crate has, lists against a map of std, tables
-//! without a free slot, and exhausted memory. Views and checks of changed tables are also run.
+//! What neither a contract nor a vector says: the tests that the Rust crate has, lists against a map of std, and tables
+//! without a free slot. Views and checks of changed tables are also run. `odht_memory` has exhausted memory.
 mod builds;
 mod carried_items;
 mod changed_tables;

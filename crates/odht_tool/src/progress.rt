@@ -20,7 +20,7 @@ impl Progress {
         Progress { since }
     }
 
-    /// Writes a line where more than a second has passed since the last.
+    /// Writes a line where a second or more has passed since the last one, or since the start.
     pub fn report<R: Clock, E: Write>(
         &mut self,
         rt: &R,

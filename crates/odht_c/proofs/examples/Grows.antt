@@ -1,6 +1,6 @@
 -- Worked examples: what a call for a growth answers, of the table of one pair and of bytes that it rejects.
---     grown_item, grown_bytes  the table into which that of one item grows: thirty-two slots, of which slot 5 has the pair; and
---                              its 336 bytes
+--     grown_item, grown_bytes  the table into which that of one item grows: thirty-two slots, of which slot 5 has the
+--                              pair; and its 336 bytes
 --     weak                     the bytes of no items, with a load factor of 654 in the header; a growth rejects them
 --     crowded                  the same, with 2 ^ 63 items in the header
 --     nines, filled            bytes of a caller, one more than are needed; and what a growth leaves of them

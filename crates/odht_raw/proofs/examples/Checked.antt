@@ -1,4 +1,4 @@
--- Worked examples: what the whole check sees in the parts of a table, and what not.
+-- Worked examples: what the whole check reads in the parts of a table, and what it rejects there.
 use Rattle.std.proofs.Common.{◌≡◌, ◌+◌, ◌%◌, ℕ, refl, sym, true≢false, not, List, [], ◌∷◌, Some, None, replicate, set, lit<}
 use Rattle.odht_base.specs.Bytes.{overwritten_at}
 use Rattle.odht_base.specs.Numbers.{le_bytes}

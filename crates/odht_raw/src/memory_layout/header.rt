@@ -247,7 +247,7 @@ impl<'a> Header<'a> {
     }
 }
 
-/// Writes the header of a table of `slot_count` slots with the item count `item_count`.
+/// Writes the header of a table of `slot_count` slots with the item count `item_count`: all of its 32 bytes.
 pub fn write_header<C: Config>(
     header: &mut [u8],
     slot_count: usize,

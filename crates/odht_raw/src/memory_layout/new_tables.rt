@@ -20,6 +20,7 @@ use std::alloc::Global;
 const FILL_CHUNK: usize = 4096;
 
 /// Makes a table of `slot_count` free slots in `data`, whatever its bytes are. The header's item count is `item_count`.
+/// Each byte is written.
 pub fn init_in_place<C: Config, M: ByteStoreMut>(
     mut data: M,
     slot_count: usize,
@@ -61,7 +62,8 @@ fn init_zeroed<C: Config, M: ByteStoreMut>(
     Allocation::from_raw_bytes_unchecked(data)
 }
 
-/// Makes a table of `slot_count` free slots in newly allocated memory. The header's item count is `item_count`.
+/// Makes a table of `slot_count` free slots in newly allocated memory. The header's item count is `item_count`. The
+/// memory is allocated as zeros, so of it the header and the control bytes are written.
 ///
 /// The error is `Capacity` exactly where the length of the table in bytes passes `usize::MAX`, and `Memory` where the
 /// allocation fails.

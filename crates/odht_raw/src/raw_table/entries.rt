@@ -9,7 +9,9 @@ use std::marker::{Model, PhantomData};
 /// An entry: an encoded key and its encoded value, as a slot holds them.
 #[derive(Clone, Copy, PartialEq, Eq, Debug)]
 pub struct Entry<K: ByteArray, V: ByteArray> {
+    /// The encoded key.
     pub key: K,
+    /// The encoded value.
     pub value: V,
 }
 

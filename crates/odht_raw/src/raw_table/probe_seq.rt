@@ -12,8 +12,9 @@ use std::marker::Model;
 /// A position of the probe order of a table, from which the next `GROUP_SIZE` slots are searched. The order is that of
 /// docs/FORMAT.md, "Probe order".
 ///
-/// Whatever `GROUP_SIZE` is, the slots come in the same order: that of groups of sixteen. So a table that is written
-/// with one group search can be read with any other. In a contract it is the home slot, the mask and the position.
+/// Whatever `GROUP_SIZE` is, a divisor of 16, the slots come in the same order: that of groups of sixteen. So a table
+/// that is written with one group search can be read with any other. In a contract it is the home slot, the mask and
+/// the position.
 #[derive(Drop)]
 pub struct ProbeSeq<const GROUP_SIZE: usize> {
     home: usize,
@@ -55,7 +56,7 @@ impl<const GROUP_SIZE: usize> ProbeSeq<GROUP_SIZE> {
         }
     }
 
-    /// Advances by `GROUP_SIZE` positions.
+    /// Advances by `GROUP_SIZE` positions, of which there must be more: `is_last` is false. The mask is that of `new`.
     #[inline]
     pub fn advance(&mut self, mask: usize)
         requires mask { mask ≡ self.old.mask }

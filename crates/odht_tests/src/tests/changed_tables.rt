@@ -158,7 +158,7 @@ impl Changed {
     }
 }
 
-// A table of 16 or 32 slots that the library made, with some of the items that it holds.
+// A table of 16 or 32 slots that the library made, by no more inserts than its maximum item count.
 fn made<C: Numbers>(alloc: Global, random: &mut Random) -> Result<Vec<u8>, Error> {
     let most: usize = if random.below(2) == 0 { 13 } else { 27 };
     let items = if random.below(2) == 0 {

@@ -179,7 +179,7 @@ fn checked_copies_have_the_same_bytes(rt: HostRuntime) {
     same_value(&rt, 1, copied.get(&1), Some(2));
 }
 
-// The error of the bytes comes also where the first request for memory would fail.
+// The error is that of the bytes. That it comes before memory is requested is run by `odht_memory`.
 #[test]
 fn refused_bytes_are_not_copied(rt: HostRuntime) {
     let slot = 15;

@@ -121,7 +121,7 @@ impl<'a> Reading<'a> {
         !self.is_occupied(slot) || self.is_free_in_mirror(slot)
     }
 
-    /// Whether a slot is free by its control byte and by its mirror, so that each search that reaches it ends there.
+    /// Whether some slot is free by its control byte and by its mirror, so that each search that reaches it ends there.
     pub fn has_free(&self) -> bool {
         for slot in 0..self.slots() {
             if !self.is_occupied(slot) && self.is_free_in_mirror(slot) {

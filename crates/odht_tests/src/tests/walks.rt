@@ -11,14 +11,14 @@ use odht::error::Error;
 use odht::{Config, HashTableOwned};
 use std::alloc::{AllocError, Global};
 
-// How many pairs come.
+// How many pairs a walk of the table gives.
 fn counted<C: Config>(table: &HashTableOwned<C>) -> usize
     ensures { (P : Table) → IsImage ⟦<C as Coded>⟧.coding.format P table.now → result ≡ count P }
 {
     table.iter().count()
 }
 
-// The pairs that come.
+// The pairs that a walk of the table gives.
 fn collected<C: Config>(
     alloc: Global,
     table: &HashTableOwned<C>,

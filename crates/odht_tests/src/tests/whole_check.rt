@@ -296,7 +296,7 @@ impl Changed {
     }
 }
 
-// A table of 16 or 64 slots with some of the items that it holds.
+// A table of 16 or 64 slots that the library made, by no more inserts than its maximum item count.
 fn made<C: Config<Key = u32, Value = u32>>(
     alloc: Global,
     random: &mut Random,

@@ -197,7 +197,8 @@ fn insert_batch<C: Config>(
     }
 }
 
-/// The key and the value of a line: on either side of its first tab, or, where values have no text, of a line with none.
+/// The key and the value of a line: on either side of its first tab, or, where the text of a value is empty, of a line
+/// without a tab.
 pub fn parse_pair<K: Text, V: Text>(line: &[u8]) -> Result<(K, V), LineFault> {
     let (key, value) = match split_at_tab(line) {
         Some(parts) => parts,

@@ -12,7 +12,9 @@ use crate::shapes::{
     Hash, Shape, U32ToU32, U64ToU32, U64ToU64, for_shape,
 };
 use odht::config::{Coded, Config};
-use odht::error::{Error, Part as Stated};
+use odht::bytes::Borrowed;
+use odht::error::{Error, Part as SizedPart};
+use odht::HashTable;
 use odht::memory_layout::check_all;
 use std::io::{self, Write};
 use std::rt::Files;
@@ -50,26 +52,31 @@ pub fn write_checked<O: Write>(checked: &Result<(), Error>, output: &mut O) -> i
 }
 
 /// The ready shape of these bytes, by the key and value sizes in the header. Where the check fails before it comes to
-/// the sizes, some shape is returned: the check has the same error for each.
+/// the sizes, some shape is returned: opening has the same error for each.
 pub fn shape_of(bytes: &[u8], hash: Option<Hash>) -> Result<Shape, Failure> {
     let Some((key_size, value_size)) = header_sizes(bytes) else {
         return Ok(Shape::U64ToU32);
     };
-    match Shape::of_sizes(key_size, value_size, hash) {
-        Some(shape) => Ok(shape),
-        None => match check_all::<U64ToU32>(bytes) {
-            Err(
-                Error::WrongSizeOf {
-                    part: Stated::EncodedKey | Stated::EncodedValue,
-                    ..
-                },
-            )
-            | Ok(()) => Err(Failure::NoShape {
-                key_size,
-                value_size,
-            }),
-            Err(_) => Ok(Shape::U64ToU32),
-        },
+    if let Some(shape) = Shape::of_sizes(key_size, value_size, hash) {
+        return Ok(shape);
+    }
+    let opened: Result<HashTable<U64ToU32, Borrowed<'_>>, Error> = HashTable::from_raw_bytes(
+        Borrowed::new(bytes),
+    );
+    match opened {
+        Err(
+            Error::TooShort { .. }
+            | Error::WrongTag { .. }
+            | Error::WrongVersion { .. }
+            | Error::WrongSizeOf {
+                part: SizedPart::EntryMetadata,
+                ..
+            },
+        ) => Ok(Shape::U64ToU32),
+        _ => Err(Failure::NoShape {
+            key_size,
+            value_size,
+        }),
     }
 }
 

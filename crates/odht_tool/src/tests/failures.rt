@@ -9,8 +9,11 @@ use std::process::Abort;
 use std::rt::{Clock, Files};
 use std::test::Fail;
 
+// A header for keys of 8 and values of 4 bytes and for three slots.
+const ODD_SLOTS: &str = "4f444854010804200000000000000000030000000000000000000002ffff0000";
+
 // Words, the status, what standard output begins with, and what standard error begins with.
-const REFUSED: [(&str, u8, &str, &str); 19] = [
+const REJECTED: [(&str, u8, &str, &str); 22] = [
     ("", 2, "", "odht: no command is named \"\"; there are info"),
     (
         "inf x",
@@ -115,13 +118,32 @@ const REFUSED: [(&str, u8, &str, &str); 19] = [
         "",
         "odht: odd_sizes.odht: no ready shape has keys of 3 and values of 5 bytes",
     ),
+    (
+        "check odd_slots.odht",
+        1,
+        "Slot count of hashtable should be a power of two but is 3\n",
+        "",
+    ),
+    (
+        "check odd_slots.odht --hash unhash",
+        1,
+        "",
+        "odht: odd_slots.odht: no ready shape has keys of 8 and values of 4 bytes",
+    ),
+    (
+        "get odd_slots.odht 1 --hash unhash",
+        1,
+        "",
+        "odht: odd_slots.odht: no ready shape has keys of 8 and values of 4 bytes",
+    ),
 ];
 
 #[test]
-fn refusals(rt: HostRuntime) -> Result<(), Fail> {
+fn rejected_words_and_files(rt: HostRuntime) -> Result<(), Fail> {
     write_hex(&rt, "wrong_tag.odht", WRONG_TAG)?;
     write_hex(&rt, "odd_sizes.odht", case_of("odd_sizes")?.bytes)?;
-    for (words, status, output, errors) in REFUSED {
+    write_hex(&rt, "odd_slots.odht", ODD_SLOTS)?;
+    for (words, status, output, errors) in REJECTED {
         let printed = printed(&rt, words, b"")?;
         assert!(&rt;
             printed.output.as_str().starts_with(output),
@@ -137,6 +159,7 @@ fn refusals(rt: HostRuntime) -> Result<(), Fail> {
     }
     fs::remove_file(&rt, "wrong_tag.odht")?;
     fs::remove_file(&rt, "odd_sizes.odht")?;
+    fs::remove_file(&rt, "odd_slots.odht")?;
     Ok(())
 }
 

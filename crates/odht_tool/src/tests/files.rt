@@ -37,7 +37,7 @@ fn tables_are_built(rt: HostRuntime) -> Result<(), Fail> {
     Ok(())
 }
 
-// A table of no pairs, to which the pairs are added: those of the first lines, then the others, with lines of both ends.
+// A table of no pairs, to which pairs are added: those of the first lines, then the others. Lines end in both ways.
 #[test]
 fn pairs_are_added(rt: HostRuntime) -> Result<(), Fail> {
     check_printed(

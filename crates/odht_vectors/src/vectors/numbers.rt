@@ -101,7 +101,7 @@ fn ranges(alloc: Global, numbers: &[usize]) -> Result<Answer, Fault> {
     Ok(Answer::words(text))
 }
 
-// The positions of a probe sequence of a group size.
+// The slots at which the groups of a probe sequence begin, for a group size.
 fn places(alloc: Global, args: &[&str]) -> Result<Answer, Fault> {
     let [size, home, slots] = args else {
         return Err(Fault::Unread);

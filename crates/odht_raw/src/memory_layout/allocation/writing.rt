@@ -1,4 +1,4 @@
-//! The three writes of an insert to the bytes of a table.
+//! The writes of an insert to the bytes of a table: an entry with its tag, a value alone, and the item count.
 ghost use Rattle.std.specs.Prelude.{◌≡◌, ◌<◌};
 ghost use Rattle.odht_base.specs.Numbers.{IsBytes};
 ghost use Rattle.odht_base.specs.Table.{Pair};
