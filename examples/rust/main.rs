@@ -5,7 +5,7 @@ mod refusals;
 mod say;
 
 use odht::{bytes_needed, empty_table, Builder, Error, Table, TableMut, B16U32, U64U32};
-use say::{say, told};
+use say::{say, printed};
 
 pub const PAIRS: usize = 40;
 pub const PERCENT: u8 = 87;
@@ -24,7 +24,7 @@ fn make_table() -> Result<Vec<u8>, Error> {
     let length = bytes_needed::<U64U32>(PAIRS, PERCENT);
     say::number("bytes_needed", length, "bytes");
     let mut bytes = vec![0; length?];
-    let mut table = told("init", TableMut::<U64U32>::init(&mut bytes, PAIRS, PERCENT))?;
+    let mut table = printed("init", TableMut::<U64U32>::init(&mut bytes, PAIRS, PERCENT))?;
     say::former("insert 1 to 10", table.insert(&1, 10));
     say::accepted("insert_all 2 to 20 until 40 to 400", table.insert_all(&keys[1..], &values[1..]));
     say::former("insert 7 to 1000", table.insert(&7, 1000));
@@ -32,7 +32,7 @@ fn make_table() -> Result<Vec<u8>, Error> {
 }
 
 fn look_up(bytes: &[u8]) -> Result<(), Error> {
-    let table = told("open", Table::<U64U32>::open(bytes))?;
+    let table = printed("open", Table::<U64U32>::open(bytes))?;
     for key in [1, 7, 40, 0, 41, 1000000] {
         say::value(&format!("get {key}"), table.get(&key));
     }
@@ -44,7 +44,7 @@ fn look_up(bytes: &[u8]) -> Result<(), Error> {
 
 /// A `Table` is what a view is in C: it is opened once, and does not check the header again.
 fn look_up_in_view(bytes: &[u8]) -> Result<(), Error> {
-    let table = told("open_view", Table::<U64U32>::open(bytes))?;
+    let table = printed("open_view", Table::<U64U32>::open(bytes))?;
     say("open_view without the last byte", Table::<U64U32>::open(&bytes[..LENGTH - 1]));
     for key in [7, 41] {
         say::value(&format!("view_get {key}"), table.get(&key));
@@ -94,7 +94,7 @@ fn fill_to_the_maximum() -> Result<(), Error> {
     let mut bytes = [0; 256];
     println!("\na table for 13 items at 87 percent");
     say::number("bytes_needed", bytes_needed::<U64U32>(13, PERCENT), "bytes");
-    let mut table = told("init", TableMut::<U64U32>::init(&mut bytes, 13, PERCENT))?;
+    let mut table = printed("init", TableMut::<U64U32>::init(&mut bytes, 13, PERCENT))?;
     say::accepted("insert_all 1 to 10 until 20 to 200", table.insert_all(&keys, &values));
     say::former("insert 14 to 140", table.insert(&14, 140));
     say::former("insert 7 to 1000", table.insert(&7, 1000));
@@ -118,7 +118,7 @@ fn insert_again(what: &str, pairs: impl Iterator<Item = (u64, u32)>, bytes: &[u8
 fn order_of_inserts() -> Result<(), Error> {
     let mut bytes = [0; 256];
     println!("\nan order of inserts");
-    let mut table = told("init", TableMut::<U64U32>::init(&mut bytes, 13, PERCENT))?;
+    let mut table = printed("init", TableMut::<U64U32>::init(&mut bytes, 13, PERCENT))?;
     say::accepted("insert_all 3 19 35", table.insert_all(&[3, 19, 35], &[30, 190, 350]));
     let table = Table::<U64U32>::open(&bytes)?;
     insert_again("inserts in slot order", table.iter(), &bytes)?;
@@ -156,7 +156,7 @@ fn look_up_bytes(table: Table<B16U32>, keys: &[[u8; 16]]) {
 
 /// A table to look up in borrows the bytes, so after an insert another one is needed.
 fn insert_between_views(bytes: &mut [u8], key: &[u8; 16]) -> Result<(), Error> {
-    let view = told("open_view", Table::<B16U32>::open(bytes))?;
+    let view = printed("open_view", Table::<B16U32>::open(bytes))?;
     say::value("view_get 6", view.get(key));
     let mut table = TableMut::<B16U32>::open(bytes)?;
     say::former("insert 6 to 600", table.insert(key, 600));
@@ -171,7 +171,7 @@ fn byte_keys() -> Result<(), Error> {
     let mut bytes = [0; 384];
     println!("\nkeys of 16 bytes, a table for 5 items at 50 percent");
     say::number("bytes_needed", bytes_needed::<B16U32>(5, 50), "bytes");
-    let mut table = told("init", TableMut::<B16U32>::init(&mut bytes, 5, 50))?;
+    let mut table = printed("init", TableMut::<B16U32>::init(&mut bytes, 5, 50))?;
     say::former("insert 1 to 100", table.insert(&keys[0], 100));
     say::former("insert 1 to 150", table.insert(&keys[0], 150));
     say::accepted("insert_all 2 to 200 until 5 to 500", table.insert_all(&keys[1..5], &values[1..5]));
@@ -190,7 +190,7 @@ fn byte_keys() -> Result<(), Error> {
 fn unmade_table() -> Result<(), Error> {
     let mut bytes = [0; 1392];
     println!("\na valid table that no inserts make");
-    let mut table = told("init", TableMut::<B16U32>::init(&mut bytes, 48, PERCENT))?;
+    let mut table = printed("init", TableMut::<B16U32>::init(&mut bytes, 48, PERCENT))?;
     for number in (0..33).chain(49..64) {
         let mut key = [0; 16];
         key[12] = number;
@@ -198,7 +198,7 @@ fn unmade_table() -> Result<(), Error> {
     }
     say("insert_order", table.as_table().insert_order());
     (bytes[44], bytes[64]) = (1, 0);
-    let table = told("check where 0 and 1 change places", Table::<B16U32>::checked(&bytes))?;
+    let table = printed("check where 0 and 1 change places", Table::<B16U32>::checked(&bytes))?;
     say::order("insert_order", &table.insert_order());
     Ok(())
 }

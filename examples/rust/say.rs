@@ -20,7 +20,7 @@ pub fn say<T>(what: &str, answer: Result<T, Error>) {
 }
 
 /// Prints a result, and returns it.
-pub fn told<T>(what: &str, answer: Result<T, Error>) -> Result<T, Error> {
+pub fn printed<T>(what: &str, answer: Result<T, Error>) -> Result<T, Error> {
     println!("{what}: {}", status(&answer));
     answer
 }

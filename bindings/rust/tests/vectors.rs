@@ -201,10 +201,10 @@ where
         Ok(table) => table,
         Err(error) => return Some(Err(error)),
     };
-    let mut told = Vec::new();
+    let mut answers = Vec::new();
     if call == "insert" {
         for (key, value) in pairs {
-            told.push(match table.insert(&key, value) {
+            answers.push(match table.insert(&key, value) {
                 Ok(former) => written_or(former, "none"),
                 Err(error) => error.to_string(),
             });
@@ -212,10 +212,10 @@ where
     } else {
         let (keys, values): (Vec<_>, Vec<_>) = pairs.into_iter().unzip();
         let (accepted, answer) = table.insert_all(&keys, &values);
-        told.push(accepted.to_string());
-        told.push(answer.map_or_else(|_| "Table is full".to_string(), |()| "ok".to_string()));
+        answers.push(accepted.to_string());
+        answers.push(answer.map_or_else(|_| "Table is full".to_string(), |()| "ok".to_string()));
     }
-    Some(Ok(Answer(told, Some(bytes))))
+    Some(Ok(Answer(answers, Some(bytes))))
 }
 
 /// Whether the call of this line is one that this crate has: then it was compared.

@@ -1,6 +1,5 @@
 //! The table over bytes of any kind.
-ghost use Rattle.std.specs.Prelude.{◌≡◌, ℕ, ◌/◌, ◌≤◌, ◌↔◌, length, map, take, option_map, IfOk, IfSome, IsOk, IsSome, IsNone, IsTrue, OnErr};
-ghost use Rattle.std.specs.List.{slice_range};
+ghost use Rattle.std.specs.Prelude.{◌≡◌, ℕ, ◌/◌, ◌≤◌, ◌↔◌, length, map, IfOk, IfSome, IsOk, IsSome, IsNone, IsTrue, OnErr};
 ghost use Rattle.std.specs.Result.{result_err};
 ghost use Rattle.odht_base.specs.Load.{factor_of, slots_for};
 ghost use Rattle.odht_base.specs.Image.{image_len};
@@ -11,11 +10,9 @@ ghost use Rattle.odht_base.specs.Search.{groups_read};
 ghost use Rattle.odht_base.specs.Decoded.{header_count, header_slots, entries_of, controls_of, decoded_pairs, HoldsKey};
 ghost use Rattle.odht_base.specs.Valid.{IsImage, IsPartsOf, IsValidBytes};
 ghost use Rattle.odht_raw.specs.Coding.{value_for, HasStored};
-ghost use Rattle.odht.specs.Lists.{encoded_all, IsAfterInserts, IsFramedRun, IsRefusedAt, IsStoppedAt};
 ghost use Rattle.odht.specs.Inserts.{IsFresh, IsInserted};
 ghost use Rattle.odht.specs.Lookups.{HaveStored};
 ghost use Rattle.odht_raw.specs.Frame.{IsAccepted, IsFramed};
-ghost use Rattle.odht_raw.specs.Runs.{IsPlacedBelow};
 ghost use Rattle.odht_raw.specs.Walks.{decoded_all};
 ghost use Rattle.odht_raw.specs.Refusals.{IsTooLarge, new_refusal, opening_refusal, view_refusal};
 

@@ -1,5 +1,5 @@
 //! The table that owns its bytes, and grows.
-ghost use Rattle.std.specs.Prelude.{◌≡◌, ℕ, List, ◌≤◌, ◌↔◌, ◌⊎◌, Some, length, take, option_map, IfOk, IsOk, IsSome, IsTrue, IsErrOf, OnErr, OnOk};
+ghost use Rattle.std.specs.Prelude.{◌≡◌, ℕ, List, ◌≤◌, ◌↔◌, ◌⊎◌, Some, length, IfOk, IsSome, IsTrue, IsErrOf, OnErr};
 ghost use Rattle.odht_base.specs.Load.{factor_of, slots_for};
 ghost use Rattle.odht_base.specs.Table.{Table, walk, count, empty};
 ghost use Rattle.odht_base.specs.Map.{map_of};
@@ -8,9 +8,8 @@ ghost use Rattle.odht_base.specs.Insert.{insert_owned, IsFullFor};
 ghost use Rattle.odht_base.specs.Valid.{IsImage, IsValidBytes};
 ghost use Rattle.odht_raw.specs.Coding.{value_for};
 ghost use Rattle.odht.specs.Growths.{IsGrownImage};
-ghost use Rattle.odht.specs.Lists.{encoded_all, IsAfterInserts, IsFreshAfterInserts, IsRefusedAt};
+ghost use Rattle.odht.specs.Lists.{IsFreshAfterInserts};
 ghost use Rattle.odht.specs.Inserts.{IsFresh, IsInserted};
-ghost use Rattle.odht.specs.LastValues.{HasLastValues};
 ghost use Rattle.odht_raw.specs.Walks.{decoded_all};
 ghost use Rattle.std.specs.Iterator.{Drains, IsFinite};
 ghost use Rattle.odht_raw.specs.Refusals.{IsTooLarge, check_refusal};

@@ -5,10 +5,10 @@
 ghost use Rattle.std.specs.Prelude.{◌≡◌, ℕ, ◌+◌, ◌*◌, ◌%◌, ◌<◌, ◌≤◌, ◌^◌, ◌++◌, ◌↔◌, List, [], ◌∷◌, length, drop, map, All, Some, IsTrue, IsPermutation, bytes_eq, if◌then◌else◌};
 ghost use Rattle.std.specs.List.{range_with_len};
 ghost use Rattle.odht_base.specs.Numbers.{num, le_bytes, IsBytes};
-ghost use Rattle.odht_base.specs.Load.{factor_of, IsSlotCount};
+ghost use Rattle.odht_base.specs.Load.{IsSlotCount};
 ghost use Rattle.odht_base.specs.Format.{Format, IsFormat};
 ghost use Rattle.odht_base.specs.Probe.{probe_slot, order};
-ghost use Rattle.odht_base.specs.Table.{Pair, Table, slot_count, is_free, walk, count, empty, fresh};
+ghost use Rattle.odht_base.specs.Table.{Pair, Table, slot_count, is_free, walk, empty, fresh};
 ghost use Rattle.odht_base.specs.SlotWalks.{walk_from, slots_from};
 ghost use Rattle.odht_base.specs.Map.{map_of, last, overwritten, KeysApart};
 ghost use Rattle.odht_base.specs.CountRule.{insert_owned_by_count, insert_view_by_count, NoneOverwritesFull};

@@ -6,7 +6,7 @@
 --     IsTableParts ml kl vl T   T has a slot count, and control bytes with their mirror and entries of this slot count;
 --                          a key is long enough for its hash
 --     IsZeros n bs         bs is n zeros, like key or value of a free slot's entry
---     DecodedGroups        control bytes with their mirror, and how many groups of sixteen of them were read
+--     ReadGroups        control bytes with their mirror, and how many groups of sixteen of them were read
 use Rattle.std.specs.Prelude.{◌≡◌, ℕ, ◌+◌, ◌*◌, ◌≤◌, List, length, replicate}
 use Rattle.odht_base.specs.Format.{Format, format_of}
 use Rattle.odht_base.specs.Load.{IsSlotCount}
@@ -36,6 +36,6 @@ pub record IsTableParts (min_len key_len value_len : ℕ) (T : TableParts) : Typ
 abbrev pub IsZeros : ℕ → List ℕ → Type 0
 IsZeros n bs = bs ≡ replicate n 0
 
-pub record DecodedGroups : Type 0 where
+pub record ReadGroups : Type 0 where
   pub control : List ℕ
   pub groups : ℕ

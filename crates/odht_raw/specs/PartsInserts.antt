@@ -4,8 +4,8 @@
 --     AnswersFormer F f P p r ..       an Ok answers the former value of P, and leaves such parts
 --     IsFullUnplaced F P p r           the answer is Full exactly where p has no place in P
 --     IsFullNoRoom P p r               the answer is Full exactly where each slot of P is occupied by another key
---     IsPlacing F f P p r ..           all three, for the parts of P
---     IsChange F f es ctrl p r ..      for any parts es and ctrl: the frame; Full is the only error and changes nothing
+--     IsPartsInsert F f P p r ..       all three, for the parts of P
+--     IsInsertChange F f es ctrl p r ..  for any parts es and ctrl: the frame; Full is the only error and changes nothing
 use Rattle.std.specs.Prelude.{◌≡◌, ℕ, ◌↔◌, List, Option, Some, None, option_map, Result, Err, IfOk, OnErr}
 use Rattle.odht_base.specs.Format.{Format}
 use Rattle.odht_base.specs.Insert.{place}
@@ -31,12 +31,12 @@ abbrev pub IsFullNoRoom : {V : Type 0} → Table → Pair → Result (Option V) 
 IsFullNoRoom P p r = (r ≡ Err Full) ↔ IsFullWithout P p.key
 
 module _ {V : Type 0} (F : Format) (f : List ℕ → V) where
-  pub record IsPlacing (P : Table) (p : Pair) (r : Result (Option V) Error) (es' ctrl' : List ℕ) : Type 0 where
+  pub record IsPartsInsert (P : Table) (p : Pair) (r : Result (Option V) Error) (es' ctrl' : List ℕ) : Type 0 where
     pub ok : AnswersFormer F f P p r es' ctrl'
     pub full : IsFullUnplaced F P p r
     pub no_room : IsFullNoRoom P p r
 
-  pub record IsChange (es ctrl : List ℕ) (p : Pair) (r : Result (Option V) Error) (es' ctrl' : List ℕ) : Type 0 where
+  pub record IsInsertChange (es ctrl : List ℕ) (p : Pair) (r : Result (Option V) Error) (es' ctrl' : List ℕ) : Type 0 where
     pub frame : IsPartsFramed F f es ctrl p r es' ctrl'
     pub only_full : OnErr r (r ≡ Err Full)
     pub refused_control : OnErr r (ctrl' ≡ ctrl)

@@ -1,5 +1,5 @@
 //! Lists of keys and values, whatever their form in memory.
-ghost use Rattle.std.specs.Prelude.{◌≡◌, ◌<◌, ℕ, List, Some, length, slice_get};
+ghost use Rattle.std.specs.Prelude.{◌≡◌, ◌<◌, List, Some, length, slice_get};
 ghost use Rattle.std.specs.List.{zip};
 
 use std::marker::Model;

@@ -1,5 +1,5 @@
 //! Runs a script: a list of lines, each of which makes, changes or prints a table, or checks bytes.
-ghost use Rattle.std.specs.Prelude.{◌≡◌, ◌≢◌, ◌↔◌, ◌⊎◌, ◌<◌, ◌≤◌, false, IfOk, OnOk, IfSome, IsErrOf, Some, ℕ, List, ◌∷◌, length, position, codes};
+ghost use Rattle.std.specs.Prelude.{◌≡◌, ◌≢◌, ◌↔◌, ◌⊎◌, ◌<◌, ◌≤◌, false, IfOk, OnOk, IfSome, IsErrOf, Some, ℕ, List, ◌∷◌, length, position};
 ghost use Rattle.std.specs.Io.KnownBytes.{IsAtEnd, Appends};
 ghost use Rattle.std.specs.Fmt.{digit_glyph};
 ghost use Rattle.odht_base.specs.Load.{factor_of, max_items, slots_for};

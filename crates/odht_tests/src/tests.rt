@@ -16,7 +16,7 @@ mod lossless;
 mod owned_tables;
 mod probe_sequences;
 mod random;
-mod refused_places;
+mod rejected_stores;
 mod second_reading;
 mod slow_check;
 mod walks;

@@ -1,5 +1,5 @@
 //! Runs the commands, each from its parsed words to its exit status.
-use crate::arguments::{Call, Misuse, Options, Request, Topic, parse};
+use crate::arguments::{Call, Options, Request, Topic, parse};
 use crate::failure::Failure;
 use crate::help::help_text;
 use std::alloc::Global;

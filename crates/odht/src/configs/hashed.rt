@@ -1,5 +1,5 @@
 //! Ready configurations for keys that are hashes already: bytes as they are, of which `UnHashFn` takes the last four.
-ghost use Rattle.std.specs.Prelude.{◌≡◌, ◌≤◌};
+ghost use Rattle.std.specs.Prelude.{◌≤◌};
 ghost use Rattle.std.proofs.Common.{lit≤};
 
 use super::numbers::Stored;

@@ -1,5 +1,4 @@
 //! What `Debug` writes of an owned table: the numbers of its header, and each slot on a line.
-ghost use Rattle.std.specs.Prelude.{ℕ, List};
 ghost use Rattle.std.specs.Fmt.{WritesOnOk};
 ghost use Rattle.odht_raw.specs.Dumps.{counts_text};
 

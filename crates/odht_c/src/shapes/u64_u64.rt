@@ -295,9 +295,9 @@ pub extern "C" fn odht_u64_u64_build(
 /// Builds a table of the pairs, the key and the value at each index, in memory of its own, copies it to the front of
 /// `out`, and writes its length in bytes to `len`: status 0. It begins with sixteen slots at 87 percent, and grows as
 /// the pairs are inserted; of equal keys the last value counts. `TOO_SMALL` where `out` is shorter than the table: then
-/// only `len` is written. `BAD_LENGTHS` where there are not as many keys as values, `MEMORY` when an allocation fails;
-/// then nothing is written. After the table `out` is unchanged. One insert for each pair, the growths, and one copy of
-/// the table.
+/// only `len` is written. `BAD_LENGTHS` where there are not as many keys as values, `MEMORY` when an allocation fails
+/// or no table is large enough; then nothing is written. After the table `out` is unchanged. One insert for each pair,
+/// the growths, and one copy of the table.
 #[unsafe(no_mangle)]
 pub extern "C" fn odht_u64_u64_build_growing(
     alloc: Global,

@@ -8,7 +8,7 @@ use Rattle.odht_base.specs.declared.hash.HashFn.{Ghosts as HashFnOf}
 use Rattle.odht_base.specs.Insert.{place}
 use Rattle.odht_base.specs.Map.{map_of}
 use Rattle.odht_base.specs.Table.{Table, slot_count, is_free}
-use Rattle.odht_raw.specs.PartsInserts.{IsPlacing, IsChange}
+use Rattle.odht_raw.specs.PartsInserts.{IsPartsInsert, IsInsertChange}
 use Rattle.odht_raw.specs.PartsMut.{mut_control, mut_entries, control_loan, entries_loan, table_format, IsParts, pair_of, IsMutInsert}
 use Rattle.odht_raw.specs.declared.error.Error.{Error}
 use Rattle.odht_raw.specs.declared.error.Error.TheVariants.{Full, TooShort}
@@ -21,8 +21,8 @@ module _ {K V H : Type 0} {key : ByteArrayOf K} {key_eq : PartialEqOf K} {key_de
     (t' : RawTableMut K V H key key_eq key_debug value value_eq value_debug hash hash_eq) where
   -- an insert into the parts, of each table that they are of, is one through them, where both slices stay borrowed
   pub of_its_parts : (r : Result (Option V) Error)
-      → ((P : Table) → IsParts P t → IsPlacing (table_format t) value.of_bytes P (pair_of t k v) r (mut_entries t') (mut_control t'))
-      → IsChange (table_format t) value.of_bytes (mut_entries t) (mut_control t) (pair_of t k v) r (mut_entries t') (mut_control t')
+      → ((P : Table) → IsParts P t → IsPartsInsert (table_format t) value.of_bytes P (pair_of t k v) r (mut_entries t') (mut_control t'))
+      → IsInsertChange (table_format t) value.of_bytes (mut_entries t) (mut_control t) (pair_of t k v) r (mut_entries t') (mut_control t')
       → control_loan t' ≡ control_loan t → entries_loan t' ≡ entries_loan t
       → IsMutInsert t k v r t'
   of_its_parts r placing change control entries = record {

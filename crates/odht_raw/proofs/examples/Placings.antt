@@ -13,7 +13,7 @@ use Rattle.odht_base.proofs.lemmas.Options.{some_same}
 use Rattle.odht_base.proofs.lemmas.Placed.{IsPlaced-tests}
 use Rattle.odht_raw.specs.SearchResults.{answer, IsWherePlaced}
 use Rattle.odht_raw.specs.Frame.{PartsFrame, IsPartsFramed}
-use Rattle.odht_raw.specs.PartsInserts.{ArePartsPlaced, IsPlacing, IsChange}
+use Rattle.odht_raw.specs.PartsInserts.{ArePartsPlaced, IsPartsInsert, IsInsertChange}
 use Rattle.odht_raw.specs.declared.error.Error.{Error}
 use Rattle.odht_raw.specs.declared.error.Error.TheVariants.{Full, TooShort}
 use Rattle.odht_raw.specs.declared.raw_table.search_result.SearchResult.TheVariants.{Found, Free, Neither}
@@ -73,7 +73,7 @@ no_place_refused none = none-some _ (sym (none []))
 -- ---- an insert into the parts of a table
 -- of the pair (5, 5), which answers r and leaves the parts of Q
 abbrev inserts_five : Table → Result (Option (List ℕ)) Error → Table → Type 0
-inserts_five P r Q = IsPlacing direct_config (λ b. b) P (pair32 5 5) r (entries direct_config Q.cells) (controls direct_config Q.cells)
+inserts_five P r Q = IsPartsInsert direct_config (λ b. b) P (pair32 5 5) r (entries direct_config Q.cells) (controls direct_config Q.cells)
 
 abbrev are_parts : Table → Type 0
 are_parts P = IsPartsOf direct_config P (entries direct_config P.cells) (controls direct_config P.cells)
@@ -132,7 +132,7 @@ full_with_room_refused =
     (λ h. none-some _ (sym (h.full.0 refl)), λ h. not_full (fives_at []) five refl (lit< tt) (h.no_room.0 refl))
 
 -- where every slot has another key, the insert answers Full, and nothing else
-pub full_answered : IsPlacing direct_config (λ b. b) full (pair32 99 5) (Err Full) [] []
+pub full_answered : IsPartsInsert direct_config (λ b. b) full (pair32 99 5) (Err Full) [] []
 unfolding opened
 full_answered = record {
   ok = tt;
@@ -146,15 +146,15 @@ full_answered = record {
       not-true _ (tested (λ j. not (has_key (le_bytes 4 99) (cell_at full.cells j))) 16 i refl low),
     )
 
-pub other_answer_refused : (IsPlacing direct_config (λ b. b) full (pair32 99 5) (Err (TooShort 0)) [] [] → ⊥)
-    × (IsPlacing direct_config (λ b. b) full (pair32 99 5) (Ok None) [] [] → ⊥)
+pub other_answer_refused : (IsPartsInsert direct_config (λ b. b) full (pair32 99 5) (Err (TooShort 0)) [] [] → ⊥)
+    × (IsPartsInsert direct_config (λ b. b) full (pair32 99 5) (Ok None) [] [] → ⊥)
 unfolding opened
 other_answer_refused = (λ h. let is = h.full.1 refl in absurd cc, λ h. let is = h.full.1 refl in absurd cc)
 
 -- ---- an insert into any parts
 -- sixteen control bytes of 0 with their mirror, over entries of zeros: each slot is occupied, and has the key 0
 abbrev changes : Result (Option (List ℕ)) Error → List ℕ → List ℕ → Type 0
-changes r es' ctrl' = IsChange direct_config (λ b. b) no_entries occupied_controls (pair32 5 7) r es' ctrl'
+changes r es' ctrl' = IsInsertChange direct_config (λ b. b) no_entries occupied_controls (pair32 5 7) r es' ctrl'
 
 -- an insert of another key answers Full and leaves them
 pub unchanged : changes (Err Full) no_entries occupied_controls

@@ -8,7 +8,7 @@ ghost use Rattle.odht_raw.specs.SearchResults.{answer};
 ghost use Rattle.odht_raw.specs.Expected.{EndsIfFree, IsAhead};
 ghost use Rattle.odht_raw.specs.PartLengths.{ArePairLengths, ArePartLengths};
 ghost use Rattle.odht_raw.specs.Parts.{EntryBytes};
-ghost use Rattle.odht_raw.specs.PartsInserts.{IsPlacing, IsChange};
+ghost use Rattle.odht_raw.specs.PartsInserts.{IsPartsInsert, IsInsertChange};
 ghost use Rattle.odht_raw.specs.SearchEnds.{IsEnd};
 
 use super::writes::insert_at;
@@ -24,7 +24,8 @@ use crate::swisstable_group_query::{Group, GroupQuery, REFERENCE_GROUP_SIZE};
 /// finds it; else the slot count: where a key may have to be compared, or where none of these control bytes counts as
 /// free.
 ///
-/// No entry is read, so the calls for several keys do not depend on one another.
+/// The clause says what such a slot is, not when there is one: the slot count would always be right, and slower. No entry
+/// is read, so the calls for several keys do not depend on one another.
 #[inline(always)]
 pub(crate) fn expected_slot<K: ByteArray, V: ByteArray, H: HashFn, Q: Group>(
     control: &[EntryMetadata],
@@ -65,9 +66,9 @@ pub(crate) fn insert_expected<K: ByteArray, V: ByteArray, H: HashFn>(
         in (P : Table)
         → IsPartsOf (format_of K.LEN V.LEN H.hash) P entries.old control.old
         → EndsIfFree (format_of K.LEN V.LEN H.hash) P p.key slot
-        → IsPlacing (format_of K.LEN V.LEN H.hash) V.of_bytes P p result entries.new control.new }
+        → IsPartsInsert (format_of K.LEN V.LEN H.hash) V.of_bytes P p result entries.new control.new }
     ensures any { let p : Pair = record { key = K.bytes key; value = V.bytes value }
-        in IsChange (format_of K.LEN V.LEN H.hash) V.of_bytes entries.old control.old p result entries.new control.new }
+        in IsInsertChange (format_of K.LEN V.LEN H.hash) V.of_bytes entries.old control.old p result entries.new control.new }
 {
     let end = expected_end::<K, V, H>(control, entries, &key, hash, slot);
     insert_at::<K, V, H>(control, entries, key, value, tag_of(hash), end)

@@ -112,8 +112,8 @@ fn is_waiting(slot: usize, slots: &[usize]) -> bool
     requires { slot < 2 ^ 63 }
     ensures { AreRising slots.now → (IsTrue result ↔ Contains slots.now (waiting slot)) }
 {
-    let place = slots.partition_point(|listed| *listed % WAITING < slot);
-    slots.get(place) == Some(&(WAITING + slot))
+    let index = slots.partition_point(|listed| *listed % WAITING < slot);
+    slots.get(index) == Some(&(WAITING + slot))
 }
 
 // Lists the occupied slots, as many as `out` has room for, each as one that waits.

@@ -9,7 +9,7 @@ ghost use Rattle.odht_base.specs.Map.{map_of};
 ghost use Rattle.odht_base.specs.Valid.{IsPartsOf};
 ghost use Rattle.odht_raw.specs.SearchResults.{answer};
 ghost use Rattle.odht_raw.specs.PartLengths.{AreSearchLengths, ArePartLengths};
-ghost use Rattle.odht_raw.specs.PartsInserts.{IsPlacing, IsChange};
+ghost use Rattle.odht_raw.specs.PartsInserts.{IsPartsInsert, IsInsertChange};
 ghost use Rattle.odht_raw.specs.SearchEnds.{IsPlainEnd, IsBesideKey};
 
 use super::writes::insert_at;
@@ -61,9 +61,9 @@ pub fn plain_insert<K: ByteArray, V: ByteArray, H: HashFn>(
     ensures placed { let p : Pair = record { key = K.bytes key; value = V.bytes value }
         in (P : Table)
         → IsPartsOf (format_of K.LEN V.LEN H.hash) P entries.old control.old
-        → IsPlacing (format_of K.LEN V.LEN H.hash) V.of_bytes P p result entries.new control.new }
+        → IsPartsInsert (format_of K.LEN V.LEN H.hash) V.of_bytes P p result entries.new control.new }
     ensures any { let p : Pair = record { key = K.bytes key; value = V.bytes value }
-        in IsChange (format_of K.LEN V.LEN H.hash) V.of_bytes entries.old control.old p result entries.new control.new }
+        in IsInsertChange (format_of K.LEN V.LEN H.hash) V.of_bytes entries.old control.old p result entries.new control.new }
 {
     let slots = control.len() - REFERENCE_GROUP_SIZE;
     let hash = H::hash(key.as_slice());

@@ -20,9 +20,9 @@ pub struct Scan<'a> {
 impl<'a> Model for Scan<'a> {
     ghost use Rattle.std.specs.Prelude.{◌≡◌, ◌+◌, length};
     ghost use Rattle.odht_base.specs.Load.{IsSlotCount};
-    ghost use Rattle.odht_raw.specs.Parts.{DecodedGroups};
+    ghost use Rattle.odht_raw.specs.Parts.{ReadGroups};
 
-    ghost Value = { DecodedGroups };
+    ghost Value = { ReadGroups };
 
     ghost view = { λ s. record { control = s.control.now; groups = s.groups } };
 
@@ -60,7 +60,7 @@ impl<'a> Scan<'a> {
         requires { start < length self.old.control - 16 }
         ensures bytes { result.now ≡ bytes_at self.old.control start 16 }
         ensures len { length result.now ≡ 16 }
-        ensures shows { self.new ≡ record { control = self.old.control; groups = min (self.old.groups + 1) usize.MAX } }
+        ensures counted { self.new ≡ record { control = self.old.control; groups = min (self.old.groups + 1) usize.MAX } }
     {
         self.groups = self.groups.saturating_add(1);
         let control = self.control;

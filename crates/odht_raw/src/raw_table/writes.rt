@@ -9,7 +9,7 @@ ghost use Rattle.odht_base.specs.Writes.{tagged};
 ghost use Rattle.odht_raw.specs.SearchResults.{answer};
 ghost use Rattle.odht_raw.specs.PartLengths.{ArePartLengths};
 ghost use Rattle.odht_raw.specs.Parts.{EntryBytes};
-ghost use Rattle.odht_raw.specs.PartsInserts.{IsPlacing, IsChange};
+ghost use Rattle.odht_raw.specs.PartsInserts.{IsPartsInsert, IsInsertChange};
 ghost use Rattle.odht_raw.specs.SearchEnds.{IsEnd};
 
 use super::{Entries, EntryMetadata, SearchResult};
@@ -39,9 +39,9 @@ pub(crate) fn insert_at<K: ByteArray, V: ByteArray, H: HashFn>(
         in (P : Table)
         → IsPartsOf (format_of K.LEN V.LEN H.hash) P entries.old control.old
         → end ≡ answer (format_of K.LEN V.LEN H.hash) P.cells (K.bytes key)
-        → IsPlacing (format_of K.LEN V.LEN H.hash) V.of_bytes P p result entries.new control.new }
+        → IsPartsInsert (format_of K.LEN V.LEN H.hash) V.of_bytes P p result entries.new control.new }
     ensures any { let p : Pair = record { key = K.bytes key; value = V.bytes value }
-        in IsChange (format_of K.LEN V.LEN H.hash) V.of_bytes entries.old control.old p result entries.new control.new }
+        in IsInsertChange (format_of K.LEN V.LEN H.hash) V.of_bytes entries.old control.old p result entries.new control.new }
 {
     let slots = control.len() - REFERENCE_GROUP_SIZE;
     let stored: Entries<'_, K, V> = Entries::new(entries, slots);

@@ -1,7 +1,7 @@
 //! Tables that own their bytes, with ample memory: growth, copies, and bytes that are rejected.
 ghost use Rattle.std.specs.Prelude.{◌≤◌};
 
-use crate::tests::checks::{holds_at, same, same_answer, same_at, same_len, same_value};
+use crate::tests::checks::{holds_at, same_answer, same_at, same_len, same_value};
 use crate::tests::probe_sequences::slots_for;
 use odht::bytes::OwnedBytes;
 use odht::configs::U32ToU32;
@@ -29,7 +29,7 @@ fn fill(rt: &impl Abort, table: &mut HashTableOwned<U32ToU32>, end: u32)
 }
 
 // Asserts the values that `fill` gives the keys from `start` to below `end`.
-fn check_occupied(rt: &impl Abort, table: &HashTableOwned<U32ToU32>, start: u32, end: u32)
+fn check_values(rt: &impl Abort, table: &HashTableOwned<U32ToU32>, start: u32, end: u32)
     requires { end ≤ 100 }
 {
     for key in start..end {
@@ -118,7 +118,7 @@ fn a_hundred_items(rt: HostRuntime) {
     let mut table = table_for(&rt, rt.alloc(), 10);
     fill(&rt, &mut table, 100);
     same_len(&rt, "bytes", table.raw_bytes().len(), 1200);
-    check_occupied(&rt, &table, 0, 100);
+    check_values(&rt, &table, 0, 100);
     check_absent(&rt, &table, 100, 200);
 }
 
@@ -135,7 +135,7 @@ fn a_full_table_is_overwritten(rt: HostRuntime) {
     same_len(&rt, "bytes of 16 slots", table.raw_bytes().len(), 192);
     same_answer(&rt, 13, table.insert(&13, &113), Ok(None));
     same_len(&rt, "bytes of 32 slots", table.raw_bytes().len(), 336);
-    check_occupied(&rt, &table, 0, 14);
+    check_values(&rt, &table, 0, 14);
 }
 
 #[test]
@@ -203,7 +203,7 @@ fn refused_bytes_are_not_copied(rt: HostRuntime) {
             8,
             2,
             Error::WrongItemCount {
-                stated: 2,
+                header_count: 2,
                 found: 1,
             },
         ),

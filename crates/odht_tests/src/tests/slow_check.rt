@@ -240,15 +240,21 @@ impl<'a> SlowTable<'a> {
     }
 
     fn check_count(&self) -> Result<(), Error> {
-        let stated = self.reading.number(8, 8) as usize;
+        let header_count = self.reading.number(8, 8) as usize;
         let found = self.occupied();
-        if stated != found {
-            return Err(Error::WrongItemCount { stated, found });
+        if header_count != found {
+            return Err(Error::WrongItemCount {
+                header_count,
+                found,
+            });
         }
         let factor = self.reading.number(28, 2) as usize;
         let max = self.slots().wrapping_mul(factor) / 65536;
-        if stated > max {
-            return Err(Error::TooManyItems { count: stated, max });
+        if header_count > max {
+            return Err(Error::TooManyItems {
+                count: header_count,
+                max,
+            });
         }
         Ok(())
     }

@@ -11,10 +11,10 @@ use crate::shapes::{
     Bytes16Set, Bytes16ToU32, Bytes16ToU64, Bytes20ToU64, Bytes32Set, Bytes32ToU64, DirectU32ToU32,
     Hash, Shape, U32ToU32, U64ToU32, U64ToU64, for_shape,
 };
-use odht::config::{Coded, Config};
-use odht::bytes::Borrowed;
-use odht::error::{Error, Part as SizedPart};
 use odht::HashTable;
+use odht::bytes::Borrowed;
+use odht::config::{Coded, Config};
+use odht::error::{Error, Part as SizedPart};
 use odht::memory_layout::check_all;
 use std::io::{self, Write};
 use std::rt::Files;

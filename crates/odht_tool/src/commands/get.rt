@@ -21,7 +21,6 @@ use crate::text::Text;
 use odht::HashTable;
 use odht::bytes::Borrowed;
 use odht::config::{Coded, Config};
-use odht::error::Error;
 use std::alloc::{AllocError, Global};
 use std::io::{BufRead, Write};
 use std::rt::Files;

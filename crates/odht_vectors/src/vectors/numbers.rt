@@ -18,7 +18,7 @@ pub fn answer(words: &Words<'_>, call: &str, args: &[&str]) -> Result<Answer, Fa
         "factor" | "to_percent" | "apply" | "apply_inverse" => load_factor(alloc, call, args),
         "slots_needed" | "max_item_count" => slots(alloc, call, args),
         "probe_order" => order(alloc, args),
-        "probe_places" => places(alloc, args),
+        "probe_places" => starts(alloc, args),
         "words" | "lanes" => group(words, call, args),
         _ => Err(Fault::Unread),
     }
@@ -102,7 +102,7 @@ fn ranges(alloc: Global, numbers: &[usize]) -> Result<Answer, Fault> {
 }
 
 // The slots at which the groups of a probe sequence begin, for a group size.
-fn places(alloc: Global, args: &[&str]) -> Result<Answer, Fault> {
+fn starts(alloc: Global, args: &[&str]) -> Result<Answer, Fault> {
     let [size, home, slots] = args else {
         return Err(Fault::Unread);
     };

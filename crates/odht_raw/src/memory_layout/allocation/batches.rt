@@ -1,5 +1,5 @@
 //! Inserts of a list of items into the parts of a table, eight at a time where the table is large.
-ghost use Rattle.std.specs.Prelude.{◌≡◌, ◌+◌, ◌-◌, ◌≤◌, length};
+ghost use Rattle.std.specs.Prelude.{◌+◌, ◌-◌, ◌≤◌, length};
 ghost use Rattle.std.specs.List.{slice_range};
 ghost use Rattle.odht_base.specs.Load.{IsSlotCount};
 ghost use Rattle.odht_base.specs.Table.{Table};

@@ -77,6 +77,6 @@ fn insert_into<K: ByteArray, V: ByteArray, H: HashFn>(
     if is_plain {
         return plain_insert::<K, V, H>(control, entries, key, value);
     }
-    let mut after_borrow: RawTableMut<'_, '_, K, V, H> = RawTableMut::new(control, entries);
-    after_borrow.insert(key, value)
+    let mut table: RawTableMut<'_, '_, K, V, H> = RawTableMut::new(control, entries);
+    table.insert(key, value)
 }

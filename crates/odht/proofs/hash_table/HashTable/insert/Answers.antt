@@ -6,7 +6,7 @@ use Rattle.odht_base.specs.Valid.{IsImage, IsPartsOf}
 use Rattle.odht_base.proofs.lemmas.TableInserts.{HasRoom}
 use Rattle.odht_raw.specs.Coding.{Coding, coding_of, encoded}
 use Rattle.odht_raw.specs.Frame.{IsAccepted}
-use Rattle.odht_raw.specs.Parts.{DecodedGroups}
+use Rattle.odht_raw.specs.Parts.{ReadGroups}
 use Rattle.odht_raw.proofs.lemmas.Lookups.{answer-Found, answer-Free, answer-Neither}
 use Rattle.odht.proofs.lemmas.ViewInserts.{read_full, read_room, room_not_full, found_not_full, never_nowhere, held_twice}
 use Rattle.odht.proofs.lemmas.ViewInserts.{found_inserted, found_framed, free_inserted, free_framed, full_framed, nowhere_framed, header_full, header_room}
@@ -51,10 +51,10 @@ has_room g c P is low =
     c.item_count-count.ensures c.slot_count.ensures c.max_load_factor.ensures c.max_item_count_for-max.ensures.value low
 
 -- and their parts, as the scan reads them
-scanned : (g : Over) (P : Table) (es ctrl : List ℕ) (scan : DecodedGroups) → scan ≡ record { control = ctrl; groups = 0 }
+scanned : (g : Over) (P : Table) (es ctrl : List ℕ) (scan : ReadGroups) → scan ≡ record { control = ctrl; groups = 0 }
     → IsPartsOf (coding g).format P es ctrl → IsPartsOf (coding g).format P es scan.control
 scanned g P es ctrl scan new parts =
-    subst (λ (t : DecodedGroups). IsPartsOf (coding g).format P es t.control) (sym new) parts
+    subst (λ (t : ReadGroups). IsPartsOf (coding g).format P es t.control) (sym new) parts
 
 pub new-scan-requires-clause-slots : goal.new-scan-requires-clause-slots
 new-scan-requires-clause-slots g c = subst IsSlotCount (sym c.len.ensures) c.data_slices-entries.ensures.count
@@ -159,7 +159,7 @@ returns-else-count-max-clause-frame g c =
     c.item_count-count.ensures c.header-header.ensures.bytes c.hash-hash.ensures c.as_slice.ensures.value c.tag_of.ensures
     c.write_entry.ensures.bytes c.set_item_count.ensures.bytes
     _ (ap g.D.ByteStore.bytes c.self.view_is) c.new-scan.result.control
-    (ap (λ (t : DecodedGroups). t.control) c.new-scan.ensures ∙ c.data_slices-entries.ensures.control)
+    (ap (λ (t : ReadGroups). t.control) c.new-scan.ensures ∙ c.data_slices-entries.ensures.control)
     _ c.data_slices-entries.ensures.slots c.in-Free.ensures.slot.0 c.in-Free.ensures.slot.1
     (header_room c.header-header.ensures.bytes c.item_count-count.ensures c.slot_count.ensures c.max_load_factor.ensures
     c.max_item_count_for-max.ensures.value c.if-count-max.false)
@@ -167,7 +167,7 @@ returns-else-count-max-clause-frame g c =
 pub returns-in-Neither-clause-frame : goal.returns-in-Neither-clause-frame
 returns-in-Neither-clause-frame g c =
     nowhere_framed (coding g) _ _ c.args.key.now c.args.value.now (ap g.D.ByteStore.bytes c.self.view_is) c.new-scan.result.control
-    (ap (λ (t : DecodedGroups). t.control) c.new-scan.ensures ∙ c.data_slices-entries.ensures.control)
+    (ap (λ (t : ReadGroups). t.control) c.new-scan.ensures ∙ c.data_slices-entries.ensures.control)
     _ c.data_slices-entries.ensures.slots c.in-Neither.ensures.slot
 
 pub returns-then-count-max-clause-same_store : goal.returns-then-count-max-clause-same_store

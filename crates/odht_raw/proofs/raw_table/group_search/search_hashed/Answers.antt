@@ -29,7 +29,7 @@ groups-init g c =
     let place : c.new-probe.result.position ≡ 0 = ap (λ q. q.position) c.new-probe.ensures in
     record {
       control = refl;
-      stored = omega (arith, place);
+      read_so_far = omega (arith, place);
       few = omega (arith, place);
       home = ap (λ q. q.home) c.new-probe.ensures ∙ ap (λ n. c.args.hash % n) slots;
       mask = ap (λ q. q.mask + 1) c.new-probe.ensures ∙ slots;
@@ -65,7 +65,7 @@ returns-in-Some-clause-groups g c P h =
     let at = IsGroupAt-probe F P c.args.entries.now c.args.scan.now.control k f h c.requires.lengths.mirrored c.index-start.result c.args.hash c.groups.probe.home c.groups.probe.mask p c.group-bytes.result.now c.groups.scan.control
     v.aligned v.within c.index-start.ensures.slot v.home v.mask c.requires.hash c.group-bytes.ensures.bytes v.control (v.passed P h) in
     let reads = reads-to F P c.args.entries.now c.args.scan.now.control k f h c.requires.lengths.mirrored p v.aligned (c.in-Some.ensures.on_placed P p at).1 in
-    rw reads (omega (arith, ap (λ s. s.groups) c.group-bytes.ensures.shows, v.stored))
+    rw reads (omega (arith, ap (λ s. s.groups) c.group-bytes.ensures.counted, v.read_so_far))
 
 pub returns-in-Some-clause-slot : goal.returns-in-Some-clause-slot
 returns-in-Some-clause-slot g c =
@@ -102,7 +102,7 @@ returns-then-is_last-clause-groups g c P h =
     v.aligned v.within c.index-start.ensures.slot v.home v.mask c.requires.hash c.group-bytes.ensures.bytes v.control (v.passed P h) in
     let all : p + 16 ≡ c.args.entries.now.slots = omega (arith, v.within, v.mask, c.is_last.ensures.0 c.if-is_last.true) in
     let reads = reads-all F P c.args.entries.now c.args.scan.now.control k f h c.requires.lengths.mirrored (subst (Passed F P k) all (c.in_default.ensures.on_placed P p at)) in
-    rw reads (omega (arith, ap (λ s. s.groups) c.group-bytes.ensures.shows, v.stored, all))
+    rw reads (omega (arith, ap (λ s. s.groups) c.group-bytes.ensures.counted, v.read_so_far, all))
 
 -- the group at the probe, without a free byte, after those before it
 passed_group : (g : Over) (c : After-look_at_group g) → HasNoFree c.group-bytes.result.now 16
@@ -126,7 +126,7 @@ returns-then-is_last-clause-slot g c =
 pub groups-preserved : goal.groups-preserved
 groups-preserved g c =
     let v = c.groups.invariant in
-    let shows : c.group-bytes.new.self.groups ≡ min (c.groups.scan.groups + 1) 18446744073709551615 = ap (λ s. s.groups) c.group-bytes.ensures.shows in
+    let counted : c.group-bytes.new.self.groups ≡ min (c.groups.scan.groups + 1) 18446744073709551615 = ap (λ s. s.groups) c.group-bytes.ensures.counted in
     let place : c.advance.new.self.position ≡ c.groups.probe.position + 16 = ap (λ q. q.position) c.advance.ensures in
     let sixteen = sixteens c.slots-mask.result c.slots-mask.ensures.count in
     let slots : c.slots-mask.result ≡ c.args.entries.now.slots = omega (arith, c.slots-mask.ensures.control, c.requires.lengths.mirrored) in
@@ -141,9 +141,9 @@ groups-preserved g c =
     let next : p + 16 ≡ c.advance.new.self.position = omega (arith, place) in
     subst (Passed F P k) next (c.in_default.ensures.on_placed P p at)) in
     record {
-      control = ap (λ s. s.control) c.group-bytes.ensures.shows ∙ v.control;
-      stored = omega (arith, shows, v.stored, place);
-      few = omega (arith, shows, v.few, place);
+      control = ap (λ s. s.control) c.group-bytes.ensures.counted ∙ v.control;
+      read_so_far = omega (arith, counted, v.read_so_far, place);
+      few = omega (arith, counted, v.few, place);
       home = ap (λ q. q.home) c.advance.ensures ∙ v.home;
       mask = ap (λ q. q.mask + 1) c.advance.ensures ∙ v.mask;
       aligned = omega (arith, place, v.aligned);

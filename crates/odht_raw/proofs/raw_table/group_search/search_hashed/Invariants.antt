@@ -13,7 +13,7 @@ invariant-groups g l =
     let k = g.K.ByteArray.bytes l.key in
     record {
       control : l.scan.control ≡ l.fn.scan.control;
-      stored : min l.scan.groups 18446744073709551615 ≡ min (l.fn.scan.groups + l.probe.position / 16) 18446744073709551615;
+      read_so_far : min l.scan.groups 18446744073709551615 ≡ min (l.fn.scan.groups + l.probe.position / 16) 18446744073709551615;
       few : l.scan.groups ≤ l.fn.scan.groups + l.probe.position / 16;
       home : l.probe.home ≡ l.hash % l.entries.slots;
       mask : l.probe.mask + 1 ≡ l.entries.slots;

@@ -24,7 +24,7 @@ fn check_refused<const N: usize>(
 }
 
 #[test]
-fn refused_places_stay(rt: HostRuntime) {
+fn rejected_stores_stay(rt: HostRuntime) {
     let short = Error::InitLength {
         found: 191,
         expected: 192,
