@@ -38,7 +38,7 @@ pub trait Key: Copy + Default + Eq + Hash {
     type TableHash: BuildHasher + Default;
     /// How the columns of the two maps are headed.
     const MAPS: [&'static str; 2];
-    /// What stands in an array before a checked run. No table has it.
+    /// What is in an array before a checked run. No table has it.
     const SCRUB: Self;
 
     fn random(random: &mut Random) -> Self;

@@ -1,4 +1,4 @@
-//! Prints what the runs have told: a row for each line at each placement.
+//! Prints what the runs have printed: a row for each line at each placement.
 
 use crate::keys::Key;
 use crate::measure::{best, median};
@@ -66,7 +66,7 @@ fn print_rows(size: &Size, told: &Told, table: &Table) {
     }
 }
 
-/// Where the code begins that each run tells of.
+/// Where the code begins that each run reports.
 fn print_places(places: &[Vec<usize>; PLACEMENTS.len()]) {
     let original = if cfg!(original) {
         ", and the original's lookups"

@@ -9,7 +9,7 @@ use crate::work::{Work, PERCENT};
 
 /// The calls for one kind of table.
 pub trait Calls: Key {
-    /// One of them, to see where the library's code stands.
+    /// One of them, to see where the library's code is.
     const PLACE: *const ();
 
     fn bytes_needed(count: usize) -> usize;

@@ -1,4 +1,4 @@
-//! One run: all measures of one kind of table with so many items, in a process of its own. It tells
+//! One run: all measures of one kind of table with so many items, in a process of its own. It prints
 //! their times to the process that asked for it.
 
 use std::hint::black_box;

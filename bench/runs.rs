@@ -10,11 +10,11 @@ use crate::run::Plan;
 /// How many runs there are of each table and placement.
 const RUNS: usize = 5;
 
-/// The program as it is linked, and the same with all its code moved, which stands beside it.
+/// The program as it is linked, and the same with all its code moved, which is beside it.
 pub const PLACEMENTS: [&str; 2] = ["as linked", "moved"];
 const MOVED: &str = "bench_moved";
 
-/// What was told of one line at one placement: the times of each run.
+/// What was printed of one line at one placement: the times of each run.
 #[derive(Default)]
 pub struct Placed {
     pub ours: Vec<Vec<f64>>,
@@ -38,7 +38,7 @@ pub struct Line {
     pub placed: [Placed; PLACEMENTS.len()],
 }
 
-/// All that was told of tables of one size.
+/// All that was printed of tables of one size.
 #[derive(Default)]
 pub struct Told {
     pub lines: Vec<Line>,
@@ -115,7 +115,7 @@ pub fn ask(what: &str, size: &Size) -> Told {
     told
 }
 
-/// What the run tells. It ends this program where it fails.
+/// What the run prints. It ends this program where it fails.
 fn told_by(placement: usize, plan: &Plan) -> String {
     let linked = current_exe().expect("this program has a path");
     let program = [linked.clone(), linked.with_file_name(MOVED)][placement].clone();

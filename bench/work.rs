@@ -9,7 +9,7 @@ use crate::ours::Calls;
 
 pub const PERCENT: u8 = 87;
 
-/// What stands in a number or byte before a checked run, so that answers of another run do not
+/// What is in a number or byte before a checked run, so that answers of another run do not
 /// count.
 const SCRUB: u8 = 0xa5;
 
@@ -160,7 +160,7 @@ impl<K: Key> Work<K> {
         assert!(values.all(|value| *value == SCRUB.into()));
     }
 
-    /// The walked keys are those of the table, as far as their sum tells, with their values.
+    /// The walked keys are those of the table, as far as their sum says, with their values.
     pub fn check_walk(&self) {
         let sum = |keys: &[K]| {
             keys.iter()

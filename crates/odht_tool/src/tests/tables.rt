@@ -1,6 +1,6 @@
 //! The tables of data/ and their texts, as data/tables.py writes them here: a test has no files of its own.
 
-/// A table, the words with which it is built, and what is told of it.
+/// A table, the words with which it is built, and what is printed of it.
 #[derive(Clone, Copy)]
 pub struct Case {
     pub name: &'static str,

@@ -18,7 +18,7 @@ pub fn answer(words: &Words<'_>, call: &str, args: &[&str]) -> Result<Answer, Fa
         "factor" | "to_percent" | "apply" | "apply_inverse" => load_factor(alloc, call, args),
         "slots_needed" | "max_item_count" => slots(alloc, call, args),
         "probe_order" => order(alloc, args),
-        "probe_places" => starts(alloc, args),
+        "group_starts" => starts(alloc, args),
         "words" | "lanes" => group(words, call, args),
         _ => Err(Fault::Unread),
     }
