@@ -1,7 +1,7 @@
 //! Whole files: read at once, and written as a new file, which then replaces the old one.
 use crate::failure::Failure;
 use std::alloc::Global;
-use std::fs::{self, File};
+use std::fs::{self, File, OpenFile};
 use std::io::{self, Read, Write};
 use std::rt::Files;
 
