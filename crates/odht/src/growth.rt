@@ -110,8 +110,8 @@ pub(crate) fn write_grown<C: Config, D: ByteStore>(
     write_table::<C>(out, slot_count, item_count, factor, walk);
 }
 
-// Writes the table of so many slots with the items of the walk, whose keys are pairwise distinct, into bytes whose
-// entries are zeros. The new header gets `item_count`, whatever the walk gives.
+// Writes the table of so many slots with the items of the walk into bytes whose entries are zeros. The new header gets
+// `item_count`, whatever the walk gives. `placed` is for a walk whose keys are pairwise distinct, as on valid bytes.
 fn write_table<C: Config>(
     bytes: &mut [u8],
     slot_count: usize,
@@ -141,7 +141,8 @@ fn write_table<C: Config>(
     insert_walk::<C::EncodedKey, C::EncodedValue, C::H>(control, entries, walk);
 }
 
-// Places the items of a walk in turn into the parts of a table; their keys are pairwise distinct and new to it.
+// Places the items of a walk in turn into the parts of a table, each as long as a slot is free. The clause is for keys
+// that are pairwise distinct and new to the table, as on valid bytes; other walks are taken too.
 fn insert_walk<K: ByteArray, V: ByteArray, H: HashFn>(
     control: &mut [u8],
     entries: &mut [u8],

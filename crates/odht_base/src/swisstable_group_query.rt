@@ -31,7 +31,7 @@ pub trait Group: Sized + Drop {
     /// How many control bytes are searched at once.
     const SIZE: usize;
 
-    /// Searches a group, `SIZE` bytes, for a tag, which is below 128.
+    /// Searches a group, `SIZE` bytes, for the tag `h2`, which is below 128.
     fn of(bytes: &[u8], h2: u8) -> Self
         requires size { length bytes.now ≡ SIZE }
         requires tag { h2 < 128 }

@@ -13,7 +13,8 @@
 --     mirror_refusal ctrl          of the mirror, the sixteen control bytes after those of the slots
 --     reach_refusal F es ctrl      of a key that is not where the search for it ends among the decoded cells
 --     late_refusal F B             of what the whole check adds to opening a view: load factor, padding, all slots, the
---                                  mirror, the item count, its maximum, and that each key is reached by its search
+--                                  mirror, the item count, its maximum, and that the search for each key ends at its
+--                                  slot
 --     check_refusal F B            of everything: view_refusal, then late_refusal
 --     new_refusal F n f len        of a new table for n items at the load factor f in len bytes: capacity, then length
 --     IsTooLarge F n f             no slot count is enough for n items at f, or a table of the least one has 2 ^ 64

@@ -62,7 +62,7 @@ const LEAST_FREE: EntryMetadata = 128;
 // How many low bits of a hash are not part of its tag.
 const TAG_SHIFT: u32 = 25;
 
-/// Whether a control byte counts as free.
+/// Whether a control byte counts as free. The name is that of the Rust crate; no slot is ever deleted.
 #[inline]
 pub(crate) fn is_empty_or_deleted(control: EntryMetadata) -> bool
     ensures { result ≡ counts_as_free control }

@@ -27,7 +27,8 @@ impl<'a, K: ByteArray, V: ByteArray, H: HashFn> RawTable<'a, K, V, H> {
     /// Checks each slot once, in slot order, and answers the first error: `NonZeroEmpty`, then `BadFreeControl`, of a
     /// slot that counts as free, `ControlMismatch` of any other.
     ///
-    /// `unreachable` is right where no slot gives an error and the mirror has no mismatch.
+    /// `unreachable` is what its comment says only where no slot gives an error and the mirror has no mismatch. The
+    /// whole check reads it in no other case.
     // Inlined next to an opening, it would keep the first ten control bytes in registers.
     #[inline(never)]
     pub(crate) fn check_slots(&self) -> Result<SlotSummary, Error>
@@ -74,6 +75,8 @@ impl<'a, K: ByteArray, V: ByteArray, H: HashFn> RawTable<'a, K, V, H> {
 
     // Whether the search for the key of an occupied slot, slot by slot along the probe order, ends at that slot. The
     // key is compared only with keys at earlier positions that have its tag.
+    //
+    // This asks for more than `IsReached` does: the second copy of a key may be reached, but no search ends at it.
     #[inline]
     fn is_reached(&self, slot: usize, hash: u32) -> bool
         requires slot { slot < self.now.entries.slots }

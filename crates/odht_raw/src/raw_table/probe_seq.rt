@@ -15,6 +15,9 @@ use std::marker::Model;
 /// Whatever `GROUP_SIZE` is, a divisor of 16, the slots come in the same order: that of groups of sixteen. So a table
 /// that is written with one group search can be read with any other. In a contract it is the home slot, the mask and
 /// the position.
+///
+/// Beside these it keeps the slot at the position (`index`), the first slot of its group (`base`), how far the
+/// slot is behind that one (`chunk_index`), and sixteen times the number of the group (`stride`).
 #[derive(Drop)]
 pub struct ProbeSeq<const GROUP_SIZE: usize> {
     home: usize,
@@ -37,7 +40,7 @@ impl<const GROUP_SIZE: usize> Model for ProbeSeq<GROUP_SIZE> {
 }
 
 impl<const GROUP_SIZE: usize> ProbeSeq<GROUP_SIZE> {
-    /// The first position of the probe order of a hash among `mask + 1` slots.
+    /// The first position of the probe order of the hash `h1` among `mask + 1` slots.
     #[inline]
     pub fn new(h1: usize, mask: usize) -> Self
         requires slots { IsSlotCount (mask + 1) }

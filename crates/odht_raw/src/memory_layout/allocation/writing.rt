@@ -27,7 +27,7 @@ impl<C: Config, M: ByteStoreMut> Allocation<C, M> {
     }
 
     /// Writes the pair into the entry of a slot, and the tag into its control byte and, for a slot below 16, its
-    /// mirror. The item count stays.
+    /// mirror. The item count stays. The clause `pair` says that key and value have the lengths of the format.
     #[inline(always)]
     pub fn write_entry(
         &mut self,
@@ -52,7 +52,8 @@ impl<C: Config, M: ByteStoreMut> Allocation<C, M> {
         writes::write_tag(store, entry_at::<C>(slots), slots, slot, tag);
     }
 
-    /// Writes the value alone into the entry of a slot. No other byte changes.
+    /// Writes the value alone into the entry of a slot. No other byte changes. The clause `value` says that it has the
+    /// length of the format.
     #[inline(always)]
     pub fn write_value(&mut self, slot: usize, value: &C::EncodedValue)
         requires { slot < header_slots (M.bytes self.old) }
