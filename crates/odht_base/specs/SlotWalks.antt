@@ -2,7 +2,7 @@
 --     walk_from P i        the pairs at the slots from i on, in slot order
 --     numbered i cs        the pairs of the cells cs, each with its slot, where the first cell is slot i
 --     slots_from P i       the pairs at the slots from i on, each with its slot
-use Rattle.std.specs.Prelude.{ℕ, ◌+◌, List, [], ◌∷◌, drop, filter_map, Option, Some, None}
+use Rattle.std.specs.Prelude.{ℕ, ◌+◌, List, [], ◌∷◌, drop, filter_map, Some, None}
 use Rattle.odht_base.specs.Table.{Pair, Cells, Table}
 
 abbrev pub walk_from : Table → ℕ → List Pair

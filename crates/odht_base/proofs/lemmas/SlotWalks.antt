@@ -1,5 +1,5 @@
 -- A walk that begins at a slot, and one that goes on where another stopped.
-use Rattle.std.proofs.Common.{◌≡◌, ◌≤◌, ◌+◌, ◌∙◌, ℕ, zero, suc, sym, ap, refl, List, [], ◌∷◌, Option, Some, None, map, drop, length, arith, get_or, get_or-drop}
+use Rattle.std.proofs.Common.{◌≡◌, ◌≤◌, ◌+◌, ◌∙◌, ℕ, zero, suc, sym, ap, refl, List, [], ◌∷◌, Some, None, map, drop, arith, get_or, get_or-drop}
 use Rattle.std.proofs.lemmas.List.{drop-drop, drop-map, drop_all}
 use Rattle.std.specs.Prelude.{filter_map}
 use Rattle.odht_base.specs.SlotWalks.{walk_from, numbered, slots_from}

@@ -4,12 +4,12 @@
 --     weak                     the bytes of no items, with a load factor of 654 in the header; a growth rejects them
 --     crowded                  the same, with 2 ^ 63 items in the header
 --     nines, filled            bytes of a caller, one more than are needed; and what a growth leaves of them
-use Rattle.std.proofs.Common.{◌≡◌, ◌∙◌, ◌++◌, ℕ, List, [], ◌∷◌, refl, sym, ap, subst, lit≤, lit<, length, replicate, set, Some, None}
+use Rattle.std.proofs.Common.{◌≡◌, ◌∙◌, ◌++◌, ℕ, List, [], ◌∷◌, refl, sym, ap, subst, lit≤, lit<, replicate, set, Some, None}
 use Rattle.odht_base.specs.Bytes.{overwritten_at}
 use Rattle.odht_base.specs.Image.{image}
 use Rattle.odht_base.specs.Insert.{grown}
 use Rattle.odht_base.specs.Load.{factor_of}
-use Rattle.odht_base.specs.Table.{Table, empty}
+use Rattle.odht_base.specs.Table.{Table}
 use Rattle.odht_base.specs.Valid.{IsImage}
 use Rattle.odht_base.proofs.examples.Configs.{direct_config, pair32}
 use Rattle.odht_base.proofs.lemmas.Options.{some_same}
@@ -19,7 +19,7 @@ use Rattle.odht_raw.proofs.examples.Apart.{unequal, unequal_lists}
 use Rattle.odht_raw.proofs.examples.Opened.{opened}
 use Rattle.odht.specs.Growths.{grown_len, IsGrownImage}
 use Rattle.odht_c.specs.Grows.{growth_refusal, GrowAnswers, IsGrownFrom, IsGrownInto}
-use Rattle.odht_c.proofs.examples.Tables.{direct_coding, no_items, no_bytes, one_item, one_bytes, miscounted, one_image, same_table}
+use Rattle.odht_c.proofs.examples.Tables.{direct_coding, no_bytes, one_item, one_bytes, miscounted, one_image, same_table}
 use Rattle.odht_c.proofs.lemmas.Grown.{refused_grow, short_grow, done_grow}
 use Rattle.odht_c.proofs.lemmas.Refused.{not_none}
 

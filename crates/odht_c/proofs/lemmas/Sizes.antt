@@ -1,5 +1,5 @@
 -- The numbers in a table's header, of bytes that are accepted.
-use Rattle.std.proofs.Common.{◌≡◌, ◌∙◌, ℕ, List, sym, ap, subst, refl, None}
+use Rattle.std.proofs.Common.{◌≡◌, ◌∙◌, ℕ, List, sym, ap, subst, refl}
 use Rattle.odht_base.specs.Format.{Format}
 use Rattle.odht_base.specs.Load.{max_items, percent_of}
 use Rattle.odht_base.specs.Decoded.{header_slots, header_factor}

@@ -1,12 +1,12 @@
 -- A walk into arrays that is at its end, or full.
-use Rattle.std.proofs.Common.{◌≡◌, ◌<◌, ◌≤◌, ◌+◌, ◌*◌, ◌-◌, ◌∙◌, ◌++◌, ℕ, zero, suc, sym, ap, subst, refl, arith, List, [], ◌∷◌, Some, None, is_none, map, take, drop, length, length-append, length-drop}
+use Rattle.std.proofs.Common.{◌≡◌, ◌≤◌, ◌+◌, ◌*◌, ◌-◌, ◌∙◌, ◌++◌, ℕ, zero, suc, sym, ap, subst, refl, arith, List, [], ◌∷◌, None, is_none, map, take, drop, length, length-append, length-drop}
 use Rattle.std.proofs.Math.Seq.{take-append_seam}
 use Rattle.std.proofs.lemmas.List.{length-map, drop-map, drop_all, drop_at}
 use Rattle.std.specs.Prelude.{filter_map}
 use Rattle.odht_base.specs.Format.{entry_len}
 use Rattle.odht_base.specs.Decoded.{decoded_table, header_slots, entries_of, controls_of}
 use Rattle.odht_base.specs.SlotWalks.{walk_from, slots_from}
-use Rattle.odht_base.specs.Table.{Pair, Table, slot_count, is_free}
+use Rattle.odht_base.specs.Table.{Pair, Table, slot_count}
 use Rattle.odht_base.specs.Valid.{IsImage}
 use Rattle.odht_base.proofs.lemmas.Fits.{IsSized-IsPlaced}
 use Rattle.odht_base.proofs.lemmas.Image.{header_slots-image}
