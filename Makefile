@@ -1,16 +1,21 @@
 # make run: the program on its first script, or on SCRIPT=file, in a build without proofs
-# make test: the gate: each allocation failing in turn (make memory), then rt ci
+# make test: the tests, in a build without proofs; PARTS='vectors edits' for some of them
+# make prove: the gate: every proof from nothing, and the edits that must be rejected (rt ci)
+# make edits: each edit of the gate and of edits/, which must be rejected; NAMES='odht_raw odht' for those of some crates
 # make build: the program with its proofs, as a file
 # make lib: build/libodht.a and build/libodht.so, each with all that it needs but the C library
 # make install, make uninstall: these, the header and what pkg-config and CMake read, below PREFIX, and below DESTDIR
 # before it
 # make exports: include/odht.h and the exports of each shape of tables, of what is written once for all shapes
-# make examples: all examples, compiled against an installed copy and compared with what they must print
+# make examples: all examples, compiled against an installed copy and compared with what they must print, and the tests
+# of the calls for C once more
 # make bench: the tables of speeds; QUICK=1 for a short run, ODHT_RUST=folder for the Rust crate beside it, CHECK=1 for
 # the tables of the whole check alone, WORST=1 for the largest forged table too, about an hour, ORDER=1 for the line of
 # an order of inserts alone, MARKDOWN=1 for Markdown
 # make bounds: loops that tell what bounds these speeds; ODHT_RUST=folder is needed
 SCRIPT ?= crates/odht_table/stdin
+PARTS ?=
+NAMES ?=
 # lowest first
 LIBRARIES = odht_base odht_raw odht
 LIBRARY ?= crates/odht_c/out/libodht_c.a
@@ -20,7 +25,7 @@ WORST ?=
 ORDER ?=
 MARKDOWN ?=
 ODHT_RUST ?=
-.PHONY: run build test memory lib exports exports_are_current install uninstall examples bench
+.PHONY: run test prove edits build lib exports exports_are_current install uninstall examples bench
 run:
 	@cd crates/odht_table && rt try < $(abspath $(SCRIPT))
 
@@ -29,11 +34,14 @@ build:
 	@cd crates/odht_table && rt run < stdin >&2
 	@echo crates/odht_table/out/odht_table
 
-test: exports_are_current memory
-	rt ci
+test:
+	@python3 tests/run.py $(PARTS)
 
-memory:
-	@sh crates/odht_memory/refuse.sh
+prove:
+	@python3 tools/prove.py rt ci
+
+edits:
+	@python3 tools/edits.py run $(NAMES)
 
 # `rt lib` takes a quarter of a minute also where nothing changed, so it is asked only where something is newer
 SOURCES = crates.txt $(shell find $(foreach crate,$(LIBRARIES) odht_c,crates/$(crate)) -path '*/out' -prune -o \

@@ -1,6 +1,7 @@
 #!/bin/sh
 # Installs the library in a new folder, and there, outside of the repository, compiles and runs the examples as a user
-# of the library does. One line a program. What this machine does not have is left out, and the line does not name it.
+# of the library does. Then the tests of the calls for C and of the two programs run once more, over what was proved.
+# One line a program. What this machine does not have is left out, and the line does not name it. The last line counts.
 set -eu
 top=$(cd "$(dirname "$0")/.." && pwd)
 room=$(mktemp -d)
@@ -15,8 +16,17 @@ has() {
     command -v "$1" > /dev/null 2>&1
 }
 
+passed=0
+
+# Says that something went well.
+well() {
+    passed=$((passed + 1))
+    echo "$1"
+}
+
 fail() {
     echo "examples: $1" >&2
+    echo "$passed passed, 1 failed"
     exit 1
 }
 
@@ -76,7 +86,7 @@ try() {
         ways="$ways valgrind"
         run "$program" valgrind -q --error-exitcode=9 --leak-check=full "./$program.static"
     fi
-    echo "$program: well in $language by $1 ($(echo $ways | sed 's/ /, /g'))"
+    well "$program: well in $language by $1 ($(echo $ways | sed 's/ /, /g'))"
 }
 
 # The header alone, in each version of a language that the compiler knows.
@@ -94,7 +104,7 @@ header() {
             clean="$clean $version"
         fi
     done
-    echo "odht.h: no warnings by $compiler in$clean"
+    well "odht.h: no warnings by $compiler in$clean"
 }
 
 try_cmake() {
@@ -102,7 +112,7 @@ try_cmake() {
     cmake --build made > printed 2>&1 || { cat printed >&2; fail "cmake --build"; }
     run example made/example
     run null made/null
-    echo "example, null: well by cmake"
+    well "example, null: well by cmake"
 }
 
 # The tests of the crate for Rust, which read the repository's vectors too, and the example that uses it.
@@ -113,7 +123,7 @@ try_rust() {
     sed "s|path = \"\.\..*\"|path = \"$top/bindings/rust\"|" "$top/examples/rust/Cargo.toml" > rust/Cargo.toml
     (cd rust && cargo build --quiet --offline --release) || fail "example: cargo does not compile it"
     run example target/release/example
-    echo "example: well in Rust by cargo, and the tests of its crate"
+    well "example: well in Rust by cargo, and the tests of its crate"
 }
 
 sh "$top/crates/odht_c/exports/statuses.sh"
@@ -136,3 +146,17 @@ if has clang++; then
 fi
 if has cc && has cmake; then try_cmake; fi
 if has cargo; then try_rust; fi
+if has cc; then
+    sh "$top/tests/c/run.sh" usr/lib/libodht.a > printed || { cat printed; fail "the calls for C"; }
+    well "calls for C: $(tail -n 1 printed)"
+fi
+for program in tool table; do
+    built="$top/crates/odht_$program/out/odht_$program"
+    # there once the gate has proved and built it
+    if [ -x "$built" ] && has python3; then
+        cases=$([ "$program" = tool ] && echo tool || echo script)
+        python3 "$top/tests/cases.py" "$built" "$top/tests/$cases" > printed || { cat printed; fail "odht_$program"; }
+        well "odht_$program: $(tail -n 1 printed)"
+    fi
+done
+echo "$passed passed, 0 failed"

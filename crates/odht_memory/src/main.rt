@@ -1,8 +1,6 @@
-//! Runs one call with one of its requests for memory failing.
+//! Runs one call, whose name is what standard input has. Each result is a line on standard output.
 //!
-//! Standard input names the call and the request, as `insert 2`: the second request of a run that makes a table and
-//! inserts into it. So many requests are made first that this one is the 64th, which is the one that `make memory`
-//! makes fail. Each result is a line on standard output.
+//! The tests have each of its requests for memory fail in turn, and the gate runs it with ample memory.
 #![tactic(auto)]
 
 mod index;
@@ -14,33 +12,17 @@ mod report;
 use std::alloc::Global;
 use std::io::{self, ErrorKind, Read, Write};
 
-/// Which request of a run fails.
-const REFUSED: usize = 64;
-
 fn main(rt: HostRuntime) -> io::Result<()> {
-    let mut case = [0; 64];
-    let length = rt.stdin().read(&mut case)?;
-    let (call, request) = read_case(&case[..length]).ok_or(ErrorKind::InvalidInput)?;
-    for _ in request..REFUSED {
-        ask(rt.alloc());
+    let mut given = [0; 64];
+    let length = rt.stdin().read(&mut given)?;
+    match std::str::from_utf8(&given[..length]) {
+        Ok(call) => run(rt.alloc(), call, &mut rt.stdout()),
+        Err(_) => Err(io::Error::from(ErrorKind::InvalidInput)),
     }
-    run(rt.alloc(), call, &mut rt.stdout())
-}
-
-// The name of a call and the number of its request, with a space between them.
-fn read_case(case: &[u8]) -> Option<(&str, usize)> {
-    let (call, request) = std::str::from_utf8(case).ok()?.split_once(' ')?;
-    let request = request.strip_suffix("\n").unwrap_or(request).parse().ok()?;
-    Some((call, request))
-}
-
-// One request, of memory that is freed again.
-fn ask(alloc: Global) {
-    let _ = Vec::<u8>::with_capacity(alloc, 1);
 }
 
 fn run<W: Write>(alloc: Global, call: &str, output: &mut W) -> io::Result<()> {
-    match call {
+    match call.trim_end() {
         "with_capacity" => owned::with_capacity(alloc, output),
         "default" => owned::default(alloc, output),
         "from_iterator" => owned::from_iterator(alloc, output),

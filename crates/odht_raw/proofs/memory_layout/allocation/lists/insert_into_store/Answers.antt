@@ -20,3 +20,11 @@ pub returns-clause-placed : goal.returns-clause-placed
 returns-clause-placed g c P is =
     let F = format_of g.C.EncodedKey.ByteArray.LEN g.C.EncodedValue.ByteArray.LEN g.C.H.HashFn.hash in
     rw (same g (goal.at.returns-clause-placed g c).After-insert_into_bytes) (c.insert_into_bytes.ensures.placed P (subst (IsImage F P) (sym c.bytes_mut.ensures.value) is))
+
+pub returns-clause-accepted : goal.returns-clause-accepted
+returns-clause-accepted g c =
+    rw (same g (goal.at.returns-clause-accepted g c).After-insert_into_bytes) c.insert_into_bytes.ensures.accepted
+
+pub returns-clause-framed : goal.returns-clause-framed
+returns-clause-framed g c =
+    rw (same g (goal.at.returns-clause-framed g c).After-insert_into_bytes, sym c.bytes_mut.ensures.value) c.insert_into_bytes.ensures.framed

@@ -1,0 +1,78 @@
+#!/usr/bin/env python3
+"""Lets each request for memory of a call fail in turn, and compares all that is printed with tests/memory/expected.
+
+  tests/memory.py FOLDER      FOLDER has odht_memory and odht_table, built by tools/unproved.py, which counts requests
+
+Of each call, and of each script in tests/memory/scripts, the first request fails, then the second, and so on, up to
+the first run in which none was left to fail. A call that takes no memory has one run, in which it asked for none.
+"""
+import os
+import subprocess
+import sys
+import tempfile
+
+HERE = os.path.dirname(os.path.realpath(__file__))
+CALLS = """allocate below_the_maximum clone default from_iterator from_raw_bytes from_raw_bytes_unchecked index insert
+    insert_all insert_order numbers probe_order refused_bytes view with_capacity""".split()
+# more requests than any of these makes
+MOST = 20
+
+
+def run_failing(program, given, request, room):
+    """Runs a program with its request of this number failing. Returns what it printed, and how many it made."""
+    count = f"{room}/requests"
+    env = {**os.environ, "ODHT_FAIL_REQUEST": str(request), "ODHT_REQUESTS": count}
+    ran = subprocess.run([program], input=given, env=env, capture_output=True, timeout=60, cwd=room)
+    with open(count, encoding="utf-8") as it:
+        made = int(it.read())
+    # a program that ends early says why on standard error
+    printed = ran.stderr.decode() + ran.stdout.decode()
+    return f"{printed}{made} requests, status {ran.returncode}\n", made
+
+
+def sections(folder, room):
+    """Yields the title of each run, and what it printed."""
+    runs = [(call, "odht_memory", call.encode()) for call in CALLS]
+    for name in sorted(os.listdir(f"{HERE}/memory/scripts")):
+        with open(f"{HERE}/memory/scripts/{name}", "rb") as it:
+            runs.append((f"script {name}", "odht_table", it.read()))
+    for title, program, given in runs:
+        for request in range(1, MOST):
+            printed, made = run_failing(f"{folder}/{program}", given, request, room)
+            yield f"== {title}, request {request} fails\n", printed
+            if made < request:
+                break
+
+
+def expected():
+    """Returns what each run has to print, by its title."""
+    with open(f"{HERE}/memory/expected", encoding="utf-8") as it:
+        lines = it.read().splitlines(True)
+    found = {}
+    for line in lines:
+        if line.startswith("== "):
+            title = line
+            found[title] = ""
+        else:
+            found[title] += line
+    return found
+
+
+def main(folder):
+    wanted = expected()
+    passed, failed = 0, 0
+    with tempfile.TemporaryDirectory() as room:
+        for title, printed in sections(os.path.abspath(folder), room):
+            if wanted.pop(title, None) == printed:
+                passed += 1
+            else:
+                print(f"{title}{printed}this is not what tests/memory/expected has")
+                failed += 1
+    for title in wanted:
+        print(f"{title}this was not run")
+    print(f"{passed} passed, {failed + len(wanted)} failed")
+    return 1 if failed or wanted else 0
+
+
+if __name__ == "__main__":
+    sys.exit(main(*sys.argv[1:]))

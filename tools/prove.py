@@ -1,0 +1,121 @@
+#!/usr/bin/env python3
+"""The gate, `rt ci`, told as it goes: what it will do, each minute how far it is, and what each crate cost.
+
+  tools/prove.py [WORDS..]      runs `rt ci`, or the command of these words, with its output as it comes
+
+The processor time is read once a second from the running checks, so what ends within a second is not counted.
+"""
+import os
+import subprocess
+import sys
+import tempfile
+import threading
+import time
+from collections import Counter
+
+TOP = os.path.dirname(os.path.dirname(os.path.realpath(__file__)))
+KINDS = ("proof", "tests", "base of edits", "edits")
+TICK = os.sysconf("SC_CLK_TCK")
+
+
+def crates():
+    """Returns each crate of crates.txt, with the number of its edits in the gate."""
+    found = {}
+    with open(f"{TOP}/crates.txt", encoding="utf-8") as lines:
+        for line in lines:
+            name, colon, _ = line.partition("#")[0].partition(":")
+            if colon:
+                folder = f"{TOP}/crates/{name.split()[0]}/must-fail"
+                names = os.listdir(folder) if os.path.isdir(folder) else []
+                found[name.split()[0]] = sum(it.endswith(".edit") for it in names)
+    return found
+
+
+class Watch:
+    """Looks at the checks that run below a folder for temporary files, and adds up what they cost."""
+
+    def __init__(self, room):
+        self.room, self.cost, self.kinds, self.copies = room, {}, {}, {}
+
+    def look(self):
+        for pid in filter(str.isdigit, os.listdir("/proc")):
+            try:
+                with open(f"/proc/{pid}/cmdline", "rb") as it:
+                    words = it.read().decode(errors="replace").split("\0")
+                if "--crate-name" not in words or not words[0].endswith("/rattle"):
+                    continue
+                with open(f"/proc/{pid}/stat", encoding="utf-8") as it:
+                    fields = it.read().rpartition(") ")[2].split()
+                folder = os.readlink(f"/proc/{pid}/cwd")
+            except OSError:
+                continue
+            crate = words[words.index("--crate-name") + 1]
+            self.cost[pid, fields[19]] = (int(fields[11]) + int(fields[12])) / TICK
+            self.kinds.setdefault((pid, fields[19]), (crate, self.kind(crate, folder, words)))
+
+    def kind(self, crate, folder, words):
+        """Returns what a check is for. The first copy of a crate with an edit is proved whole, the later ones over it."""
+        if not folder.startswith(f"{self.room}/rt-edit-"):
+            return "tests" if "--test" in words else "proof"
+        copies = self.copies.setdefault(crate, [])
+        if folder not in copies:
+            copies.append(folder)
+        return "edits" if copies.index(folder) else "base of edits"
+
+    def edits_begun(self):
+        return sum(len(it) for it in self.copies.values())
+
+    def minutes(self):
+        """Returns the processor minutes of each crate and kind."""
+        found = Counter()
+        for check, seconds in self.cost.items():
+            found[self.kinds[check]] += seconds / 60
+        return found
+
+
+def pass_on(stream, proved):
+    """Prints what the gate prints, and notes the crates that are proved."""
+    for line in stream:
+        print(line, end="", flush=True)
+        if line.startswith("rt: ") and line.endswith(" proved\n") and "its tests" not in line:
+            proved.append(line.split()[1])
+
+
+def table(minutes, names):
+    lines = [f"{'processor minutes':20}" + "".join(f"{it:>15}" for it in KINDS) + f"{'all':>8}"]
+    for name in [*names, None]:
+        row = [sum(v for (crate, kind), v in minutes.items() if kind == it and name in (None, crate)) for it in KINDS]
+        lines.append(f"{name or 'all crates':20}" + "".join(f"{it:15.1f}" for it in row) + f"{sum(row):8.1f}")
+    return "\n".join(lines)
+
+
+def main(*words):
+    known = crates()
+    edits = sum(known.values())
+    lanes = len(os.sched_getaffinity(0))
+    print(f"proving {len(known)} crates from nothing, and trying {edits} edits that must be refused;")
+    print(f"on four quiet processors that takes about half an hour, on two about an hour; here are {lanes}", flush=True)
+    began, proved = time.monotonic(), []
+    with tempfile.TemporaryDirectory(prefix="odht-prove-") as room:
+        how = {"cwd": os.getcwd(), "env": {**os.environ, "TMPDIR": room}, "text": True, "errors": "replace"}
+        os.chmod(room, 0o755)
+        gate = subprocess.Popen(words or ["rt", "ci"], stdout=subprocess.PIPE, stderr=subprocess.STDOUT, **how)
+        printing = threading.Thread(target=pass_on, args=(gate.stdout, proved))
+        printing.start()
+        watch, told = Watch(room), 0
+        while gate.poll() is None:
+            watch.look()
+            minute = int((time.monotonic() - began) // 60)
+            if minute > told:
+                told = minute
+                done = min(watch.edits_begun(), edits)
+                print(f"minute {minute}: {len(proved)} of {len(known)} crates proved, {done} of {edits} edits begun", flush=True)
+            time.sleep(1)
+        printing.join()
+    print(table(watch.minutes(), known))
+    print(f"{(time.monotonic() - began) / 60:.1f} minutes")
+    return gate.returncode
+
+
+if __name__ == "__main__":
+    sys.exit(main(*sys.argv[1:]))
