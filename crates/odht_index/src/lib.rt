@@ -22,9 +22,6 @@ use odht::{HashTable, HashTableOwned, UnHashFn, laws};
 use std::alloc::Global;
 use std::marker::Model;
 
-#[cfg(test)]
-mod tests;
-
 /// From a path's hash to its number. The key is a hash already, so the hash function reads its bytes as they are.
 pub struct IndexConfig;
 

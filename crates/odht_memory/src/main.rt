@@ -1,4 +1,5 @@
-//! Runs one call, whose name is what standard input has. Each result is a line on standard output.
+//! Runs one call, whose name is what standard input has. What it returned, and what the table then holds, are lines on
+//! standard output.
 //!
 //! The tests have each of its requests for memory fail in turn, and the gate runs it with ample memory.
 #![tactic(auto)]
@@ -9,36 +10,44 @@ mod parts;
 mod quiet;
 mod report;
 
+use report::Report;
 use std::alloc::Global;
-use std::io::{self, ErrorKind, Read, Write};
+use std::io::{self, ErrorKind, Read};
 
 fn main(rt: HostRuntime) -> io::Result<()> {
     let mut given = [0; 64];
     let length = rt.stdin().read(&mut given)?;
-    match std::str::from_utf8(&given[..length]) {
-        Ok(call) => run(rt.alloc(), call, &mut rt.stdout()),
-        Err(_) => Err(io::Error::from(ErrorKind::InvalidInput)),
+    let mut report = Report::new();
+    let is_known = match std::str::from_utf8(&given[..length]) {
+        Ok(call) => run(rt.alloc(), call.trim_end(), &mut report),
+        Err(_) => false,
+    };
+    if !is_known {
+        return Err(io::Error::from(ErrorKind::InvalidInput));
     }
+    report.write(&mut rt.stdout())
 }
 
-fn run<W: Write>(alloc: Global, call: &str, output: &mut W) -> io::Result<()> {
-    match call.trim_end() {
-        "with_capacity" => owned::with_capacity(alloc, output),
-        "default" => owned::default(alloc, output),
-        "from_iterator" => owned::from_iterator(alloc, output),
-        "insert" => owned::insert(alloc, output),
-        "insert_all" => owned::insert_all(alloc, output),
-        "clone" => owned::clone(alloc, output),
-        "from_raw_bytes" => owned::from_raw_bytes(alloc, output),
-        "from_raw_bytes_unchecked" => owned::from_raw_bytes_unchecked(alloc, output),
-        "refused_bytes" => owned::refused_bytes(alloc, output),
-        "index" => index::build(alloc, output),
-        "allocate" => parts::allocation(alloc, output),
-        "probe_order" => parts::order(alloc, output),
-        "below_the_maximum" => quiet::below_the_maximum(alloc, output),
-        "insert_order" => quiet::insert_order(alloc, output),
-        "view" => quiet::view(output),
-        "numbers" => quiet::numbers(output),
-        _ => Err(io::Error::from(ErrorKind::InvalidInput)),
+// Runs a call by its name, and returns whether there is one of that name.
+fn run(alloc: Global, call: &str, report: &mut Report) -> bool {
+    match call {
+        "with_capacity" => owned::with_capacity(alloc, report),
+        "default" => owned::default(alloc, report),
+        "from_iterator" => owned::from_iterator(alloc, report),
+        "insert" => owned::insert(alloc, report),
+        "insert_all" => owned::insert_all(alloc, report),
+        "clone" => owned::clone(alloc, report),
+        "from_raw_bytes" => owned::from_raw_bytes(alloc, report),
+        "from_raw_bytes_unchecked" => owned::from_raw_bytes_unchecked(alloc, report),
+        "refused_bytes" => owned::refused_bytes(alloc, report),
+        "index" => index::build(alloc, report),
+        "allocate" => parts::allocation(alloc, report),
+        "probe_order" => parts::order(alloc, report),
+        "below_the_maximum" => quiet::below_the_maximum(alloc, report),
+        "insert_order" => quiet::insert_order(alloc, report),
+        "view" => quiet::view(report),
+        "numbers" => quiet::numbers(report),
+        _ => return false,
     }
+    true
 }

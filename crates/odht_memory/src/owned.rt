@@ -1,48 +1,40 @@
 //! Calls of tables that own their bytes.
-use crate::report::{Table, insert_thirteen, report, report_table, value_of};
+use crate::report::{Report, Table, insert_thirteen, value_of};
+use odht::error::Error;
 use std::alloc::Global;
-use std::io::{self, Write};
+
+// Adds whether a table was made, and the table.
+fn tell_made(report: &mut Report, call: &'static str, made: Result<Table, Error>) {
+    report.result(call, &made);
+    if let Ok(table) = made {
+        report.table(&table);
+    }
+}
 
 /// Makes a table for thirteen items.
-pub fn with_capacity<W: Write>(alloc: Global, output: &mut W) -> io::Result<()> {
-    let made = Table::with_capacity(alloc, 13, 87);
-    report("with_capacity", &made, output)?;
-    match made {
-        Ok(table) => report_table(&table, output),
-        Err(_) => Ok(()),
-    }
+pub fn with_capacity(alloc: Global, report: &mut Report) {
+    tell_made(report, "with_capacity", Table::with_capacity(alloc, 13, 87));
 }
 
 /// Makes the default table.
-pub fn default<W: Write>(alloc: Global, output: &mut W) -> io::Result<()> {
-    let made = Table::default(alloc);
-    report("default", &made, output)?;
-    match made {
-        Ok(table) => report_table(&table, output),
-        Err(_) => Ok(()),
-    }
+pub fn default(alloc: Global, report: &mut Report) {
+    tell_made(report, "default", Table::default(alloc));
 }
 
 /// Makes a table of four pairs, of which two have one key.
-pub fn from_iterator<W: Write>(alloc: Global, output: &mut W) -> io::Result<()> {
+pub fn from_iterator(alloc: Global, report: &mut Report) {
     let items = [(0, 7), (1, 101), (2, 102), (0, 100)];
     let made = Table::from_iterator(alloc, items.iter().copied(), 87);
-    report("from_iterator", &made, output)?;
-    match made {
-        Ok(table) => report_table(&table, output),
-        Err(_) => Ok(()),
-    }
+    tell_made(report, "from_iterator", made);
 }
 
 // A table at its maximum: the keys 0 to 12 in sixteen slots.
-fn full_table<W: Write>(alloc: Global, output: &mut W) -> io::Result<Option<Table>> {
+fn full_table(alloc: Global, report: &mut Report) -> Option<Table> {
     let made = Table::with_capacity(alloc, 13, 87);
-    report("with_capacity", &made, output)?;
-    let Ok(mut table) = made else {
-        return Ok(None);
-    };
-    writeln!(output, "{} inserted", insert_thirteen(&mut table))?;
-    Ok(Some(table))
+    report.result("with_capacity", &made);
+    let mut table = made.ok()?;
+    report.number("inserted", insert_thirteen(&mut table));
+    Some(table)
 }
 
 // The bytes of a table of sixteen slots.
@@ -54,90 +46,83 @@ fn bytes_of(table: &Table) -> [u8; 192] {
     bytes
 }
 
+// Adds whether a table of sixteen slots has these bytes.
+fn tell_unchanged(report: &mut Report, table: &Table, before: &[u8; 192]) {
+    report.holds(
+        "the bytes are those before",
+        table.raw_bytes() == before.as_slice(),
+    );
+}
+
 /// Inserts a new key into a full table, which grows; and once more where memory was exhausted.
-pub fn insert<W: Write>(alloc: Global, output: &mut W) -> io::Result<()> {
-    let Some(mut table) = full_table(alloc, output)? else {
-        return Ok(());
+pub fn insert(alloc: Global, report: &mut Report) {
+    let Some(mut table) = full_table(alloc, report) else {
+        return;
     };
     let before = bytes_of(&table);
-    let answer = table.insert(&13, &113);
-    report("insert of 13", &answer, output)?;
-    if answer.is_err() {
-        let same = table.raw_bytes() == before.as_slice();
-        writeln!(output, "the bytes are those before: {same}")?;
-        report_table(&table, output)?;
-        report("insert of 13", &table.insert(&13, &113), output)?;
+    let inserted = table.insert(&13, &113);
+    report.result("insert of 13", &inserted);
+    if inserted.is_err() {
+        tell_unchanged(report, &table, &before);
+        report.table(&table);
+        report.result("insert of 13", &table.insert(&13, &113));
     }
-    report_table(&table, output)
+    report.table(&table);
 }
 
 /// Inserts the keys 13 to 40 into a full table, which grows twice.
-pub fn insert_all<W: Write>(alloc: Global, output: &mut W) -> io::Result<()> {
-    let Some(mut table) = full_table(alloc, output)? else {
-        return Ok(());
+pub fn insert_all(alloc: Global, report: &mut Report) {
+    let Some(mut table) = full_table(alloc, report) else {
+        return;
     };
     let before = bytes_of(&table);
     let mut items = [(0, 0); 28];
     for (item, key) in items.iter_mut().zip(13..41) {
         *item = (key, value_of(key));
     }
-    let (accepted, answer) = table.insert_all(&items);
-    report("insert_all", &answer, output)?;
-    let same = table.raw_bytes() == before.as_slice();
-    writeln!(
-        output,
-        "{accepted} accepted, the bytes are those before: {same}"
-    )?;
-    report_table(&table, output)
+    let (accepted, result) = table.insert_all(&items);
+    report.result("insert_all", &result);
+    report.size("accepted", accepted);
+    tell_unchanged(report, &table, &before);
+    report.table(&table);
+}
+
+// Adds whether a copy was made, whether it has the bytes of its table, and the table.
+fn tell_copy(report: &mut Report, call: &'static str, copy: Result<Table, Error>, table: &Table) {
+    report.result(call, &copy);
+    if let Ok(copy) = copy {
+        report.holds(
+            "the bytes are the same",
+            copy.raw_bytes() == table.raw_bytes(),
+        );
+    }
+    report.table(table);
 }
 
 /// Copies a full table.
-pub fn clone<W: Write>(alloc: Global, output: &mut W) -> io::Result<()> {
-    let Some(table) = full_table(alloc, output)? else {
-        return Ok(());
-    };
-    let copy = table.clone();
-    report("clone", &copy, output)?;
-    if let Ok(copy) = copy {
-        let same = copy.raw_bytes() == table.raw_bytes();
-        writeln!(output, "the bytes are the same: {same}")?;
+pub fn clone(alloc: Global, report: &mut Report) {
+    if let Some(table) = full_table(alloc, report) {
+        tell_copy(report, "clone", table.clone(), &table);
     }
-    report_table(&table, output)
 }
 
 /// Makes a table of the bytes of a full one.
-pub fn from_raw_bytes<W: Write>(alloc: Global, output: &mut W) -> io::Result<()> {
-    let Some(table) = full_table(alloc, output)? else {
-        return Ok(());
-    };
-    let taken = Table::from_raw_bytes(alloc, table.raw_bytes());
-    report("from_raw_bytes", &taken, output)?;
-    if let Ok(taken) = taken {
-        let same = taken.raw_bytes() == table.raw_bytes();
-        writeln!(output, "the bytes are the same: {same}")?;
+pub fn from_raw_bytes(alloc: Global, report: &mut Report) {
+    if let Some(table) = full_table(alloc, report) {
+        let copy = Table::from_raw_bytes(alloc, table.raw_bytes());
+        tell_copy(report, "from_raw_bytes", copy, &table);
     }
-    report_table(&table, output)
-}
-
-/// Opens bytes of no table: they are rejected before memory is requested.
-pub fn refused_bytes<W: Write>(alloc: Global, output: &mut W) -> io::Result<()> {
-    report(
-        "from_raw_bytes",
-        &Table::from_raw_bytes(alloc, &[7; 192]),
-        output,
-    )
 }
 
 /// Makes a table of the bytes of a full one, without a check.
-pub fn from_raw_bytes_unchecked<W: Write>(alloc: Global, output: &mut W) -> io::Result<()> {
-    let Some(table) = full_table(alloc, output)? else {
-        return Ok(());
-    };
-    let taken = Table::from_raw_bytes_unchecked(alloc, table.raw_bytes());
-    report("from_raw_bytes_unchecked", &taken, output)?;
-    if let Ok(taken) = taken {
-        let same = taken.raw_bytes() == table.raw_bytes();
-        writeln!(output, "the bytes are the same: {same}")?;
+pub fn from_raw_bytes_unchecked(alloc: Global, report: &mut Report) {
+    if let Some(table) = full_table(alloc, report) {
+        let copy = Table::from_raw_bytes_unchecked(alloc, table.raw_bytes());
+        tell_copy(report, "from_raw_bytes_unchecked", copy, &table);
     }
-    report_table(&table, output)
+}
+
+/// Opens bytes of no table: they are rejected before memory is requested.
+pub fn refused_bytes(alloc: Global, report: &mut Report) {
+    report.result("from_raw_bytes", &Table::from_raw_bytes(alloc, &[7; 192]));
 }

@@ -1,7 +1,7 @@
 //! Calls that take no memory.
 ghost use Rattle.std.specs.Prelude.{◌≡◌, length};
 
-use crate::report::{Table, insert_thirteen, report, value_of};
+use crate::report::{Report, Table, insert_thirteen, value_of};
 use odht::bytes::{BorrowedMut, ByteArray, ByteStore};
 use odht::configs::DirectU32ToU32;
 use odht::error::Error;
@@ -11,169 +11,154 @@ use odht::memory_layout::{self, check_all};
 use odht::swisstable_group_query::{Group, lanes, no_simd};
 use odht::{HashTable, bytes_needed};
 use std::alloc::Global;
-use std::io::{self, Write};
+
+// The number in an option.
+fn number(size: Option<usize>) -> Option<u64> {
+    size.map(|size| size as u64)
+}
 
 /// A table that owns its bytes: inserts up to its maximum, and at the maximum of present keys. Making it is one
 /// request.
-pub fn below_the_maximum<W: Write>(alloc: Global, output: &mut W) -> io::Result<()> {
+pub fn below_the_maximum(alloc: Global, report: &mut Report) {
     let made = Table::with_capacity(alloc, 13, 87);
-    report("with_capacity", &made, output)?;
+    report.result("with_capacity", &made);
     let Ok(mut table) = made else {
-        return Ok(());
+        return;
     };
-    writeln!(output, "{} inserted", insert_thirteen(&mut table))?;
-    writeln!(output, "{} overwritten", insert_thirteen(&mut table))?;
-    let (accepted, answer) = table.insert_all(&[(0, 100), (12, 112)]);
-    report("insert_all", &answer, output)?;
+    report.number("inserted", insert_thirteen(&mut table));
+    report.number("overwritten", insert_thirteen(&mut table));
+    let (accepted, result) = table.insert_all(&[(0, 100), (12, 112)]);
+    report.result("insert_all", &result);
+    report.size("accepted", accepted);
+    tell_read(&table, report);
+    report.table(&table);
+}
+
+// Adds what the calls that read a table return.
+fn tell_read(table: &Table, report: &mut Report) {
     let (value, groups) = table.get_counted(&12);
+    report.value("the value of 12", value);
+    report.size("groups read", groups);
+    report.holds("13 is there", table.contains_key(&13));
+    report.size("walked", table.iter().count());
     let all = table.iter().all(|(key, value)| value == value_of(key));
-    writeln!(
-        output,
-        "{accepted} accepted, 12 has {value:?} in {groups} group, 13 is there: {}",
-        table.contains_key(&13)
-    )?;
-    writeln!(
-        output,
-        "{} walked, each with its value: {all}",
-        table.iter().count()
-    )?;
-    tell_checked(table.raw_bytes(), output)?;
-    crate::report::report_table(&table, output)
+    report.holds("each with its value", all);
+    tell_checked(table.raw_bytes(), report);
 }
 
 /// An order of inserts, of a table in which the key 31 waits for 15. Making it is one request.
-pub fn insert_order<W: Write>(alloc: Global, output: &mut W) -> io::Result<()> {
+pub fn insert_order(alloc: Global, report: &mut Report) {
     let made = Table::with_capacity(alloc, 13, 87);
-    report("with_capacity", &made, output)?;
+    report.result("with_capacity", &made);
     let Ok(mut table) = made else {
-        return Ok(());
+        return;
     };
-    let (accepted, answer) = table.insert_all(&[(15, 115), (31, 131)]);
-    report("insert_all", &answer, output)?;
+    let (accepted, result) = table.insert_all(&[(15, 115), (31, 131)]);
+    report.result("insert_all", &result);
+    report.size("accepted", accepted);
     let mut slots = [0; 16];
-    let Some(order) = slots.get_mut(..table.len()) else {
-        return Ok(());
-    };
-    let is_made = table.insert_order(order);
-    writeln!(
-        output,
-        "{accepted} accepted, made: {is_made}, by the slots {order:?}"
-    )
+    if let Some(order) = slots.get_mut(..table.len()) {
+        report.holds("there is an order", table.insert_order(order));
+    }
+    for slot in slots.iter().take(accepted) {
+        report.size("slot", *slot);
+    }
 }
 
 type View<'a> = HashTable<DirectU32ToU32, BorrowedMut<'a>>;
 
 /// A view, from making it in a buffer to taking its store back.
-pub fn view<W: Write>(output: &mut W) -> io::Result<()> {
+pub fn view(report: &mut Report) {
     let mut bytes = [7; 192];
     let made: Result<View<'_>, Error> = HashTable::init_in_place(
         BorrowedMut::new(&mut bytes),
         13,
         87,
     );
-    report("init_in_place", &made, output)?;
+    report.result("init_in_place", &made);
     let Ok(mut view) = made else {
-        return Ok(());
+        return;
     };
-    report("insert", &view.insert(&5, &7), output)?;
-    let (accepted, answer) = view.insert_all(&[(6, 106), (5, 105)]);
-    report("insert_all", &answer, output)?;
-    writeln!(output, "{accepted} accepted")?;
-    let opened: Result<View<'_>, Error> = HashTable::from_raw_bytes(view.into_data());
-    report("from_raw_bytes", &opened, output)?;
+    report.result("insert", &view.insert(&5, &7));
+    let (accepted, result) = view.insert_all(&[(6, 106), (5, 105)]);
+    report.result("insert_all", &result);
+    report.size("accepted", accepted);
+    open_again(view.into_data(), report);
+}
+
+// Opens the bytes of a view in each way.
+fn open_again(bytes: BorrowedMut<'_>, report: &mut Report) {
+    let opened: Result<View<'_>, Error> = HashTable::from_raw_bytes(bytes);
+    report.result("from_raw_bytes", &opened);
     let Ok(view) = opened else {
-        return Ok(());
+        return;
     };
     let view: View<'_> = HashTable::from_raw_bytes_unchecked(view.into_data());
-    tell_view(&view, output)?;
+    tell_view(&view, report);
     let opened: Result<View<'_>, Error> = HashTable::from_raw_bytes_by_header(view.into_data());
-    report("from_raw_bytes_by_header", &opened, output)
+    report.result("from_raw_bytes_by_header", &opened);
 }
 
-fn tell_view<D: ByteStore, W: Write>(
-    view: &HashTable<DirectU32ToU32, D>,
-    output: &mut W,
-) -> io::Result<()> {
+// Adds what the calls that read a view return.
+fn tell_view<D: ByteStore>(view: &HashTable<DirectU32ToU32, D>, report: &mut Report) {
+    report.value("the value of 5", view.get(&5));
     let (value, groups) = view.get_counted(&6);
-    writeln!(
-        output,
-        "5 has {:?}, 6 has {value:?} in {groups} group, 7 is there: {}",
-        view.get(&5),
-        view.contains_key(&7)
-    )?;
+    report.value("the value of 6", value);
+    report.size("groups read", groups);
+    report.holds("7 is there", view.contains_key(&7));
+    report.size("items", view.len());
+    report.size("walked", view.iter().count());
     let found = view.as_raw().find(&[5, 0, 0, 0]);
-    writeln!(
-        output,
-        "{} items, {} walked, raw {found:?}, whole: {}",
-        view.len(),
-        view.iter().count(),
-        view.verify()
-    )?;
-    tell_checked(view.raw_bytes(), output)
+    report.value("the raw value of 5", found.map(u32::from_le_bytes));
+    report.holds("verify", view.verify());
+    tell_checked(view.raw_bytes(), report);
 }
 
-fn tell_checked<W: Write>(bytes: &[u8], output: &mut W) -> io::Result<()> {
-    report("check_all", &check_all::<DirectU32ToU32>(bytes), output)
+fn tell_checked(bytes: &[u8], report: &mut Report) {
+    report.result("check_all", &check_all::<DirectU32ToU32>(bytes));
 }
 
 /// Sizes, hash values, arrays of bytes, and both group searches.
-pub fn numbers<W: Write>(output: &mut W) -> io::Result<()> {
-    let factor = Factor::from_percent(87);
-    writeln!(
-        output,
-        "factor {} of {} percent, slots {:?}, items {}",
-        factor.0,
-        factor.to_percent(),
-        slots_needed(13, factor),
-        max_item_count_for(16, factor)
-    )?;
-    writeln!(
-        output,
-        "apply {}, apply_inverse {}",
-        factor.apply(16),
-        factor.apply_inverse(13)
-    )?;
-    writeln!(
-        output,
-        "bytes_needed {:?} and {:?}",
-        bytes_needed::<DirectU32ToU32>(13, 87),
-        memory_layout::bytes_needed::<DirectU32ToU32>(16)
-    )?;
-    writeln!(
-        output,
-        "{} {}, {} {}",
-        FxHashFn::hash_name(),
-        FxHashFn::hash(&[1, 0, 0, 0]),
-        UnHashFn::hash_name(),
-        UnHashFn::hash(&[1, 0, 0, 0])
-    )?;
+pub fn numbers(report: &mut Report) {
+    tell_sizes(report);
+    report.number("FxHashFn", FxHashFn::hash(&[1, 0, 0, 0]) as u64);
+    report.number("UnHashFn", UnHashFn::hash(&[1, 0, 0, 0]) as u64);
     let zeros = <[u8; 4]>::zeroed();
     let ones = <[u8; 4]>::from_slice(&[1, 1, 1, 1]);
-    writeln!(
-        output,
-        "zeros: {}, {}, equal: {}, ones: {}",
-        zeros.is_all_zeros(),
-        ones.is_all_zeros(),
-        zeros.equals(&ones),
-        ones.as_slice() == [1; 4].as_slice()
-    )?;
+    report.holds("zeros are all zeros", zeros.is_all_zeros());
+    report.holds("ones are all zeros", ones.is_all_zeros());
+    report.holds("zeros and ones are equal", zeros.equals(&ones));
+    report.holds("ones are of ones", ones.as_slice() == [1; 4].as_slice());
     let mut group = [3; 16];
     group[5] = 255;
     group[9] = 255;
-    tell_group::<lanes::GroupQuery, W>(&group, output)?;
-    tell_group::<no_simd::GroupQuery, W>(&group[..8], output)
+    tell_group::<lanes::GroupQuery>(&group, report);
+    tell_group::<no_simd::GroupQuery>(&group[..8], report);
 }
 
-// The result of a search of a group for the tag 3.
-fn tell_group<Q: Group, W: Write>(group: &[u8], output: &mut W) -> io::Result<()>
+// Adds what the load factor of 87 percent gives.
+fn tell_sizes(report: &mut Report) {
+    let factor = Factor::from_percent(87);
+    report.number("factor", factor.0 as u64);
+    report.size("percent", factor.to_percent());
+    report.option("slots for 13", number(slots_needed(13, factor)));
+    report.size("the maximum of 16 slots", max_item_count_for(16, factor));
+    report.size("apply", factor.apply(16));
+    report.number("apply_inverse", factor.apply_inverse(13) as u64);
+    report.option(
+        "bytes for 13 items",
+        number(bytes_needed::<DirectU32ToU32>(13, 87)),
+    );
+    let bytes = memory_layout::bytes_needed::<DirectU32ToU32>(16);
+    report.option("bytes for 16 slots", number(bytes));
+}
+
+// Adds the result of a search of a group for the tag 3.
+fn tell_group<Q: Group>(group: &[u8], report: &mut Report)
     requires { length group.now ≡ Q.SIZE }
 {
     let query = Q::of(group, 3);
-    writeln!(
-        output,
-        "free: {} at {:?}, first match {:?}",
-        query.any_empty(),
-        query.first_empty(),
-        query.first_match()
-    )
+    report.holds("some are free", query.any_empty());
+    report.option("the first free", number(query.first_empty()));
+    report.option("the first match", number(query.first_match()));
 }

@@ -1,5 +1,5 @@
 //! What neither a contract nor a vector says: the tests that the Rust crate has, lists against a map of std, and tables
-//! without a free slot. Views and checks of changed tables are also run. `odht_memory` has exhausted memory.
+//! without a free slot. `odht_memory` has exhausted memory, and the calls for C have their own tests.
 mod builds;
 mod carried_items;
 mod changed_tables;
@@ -8,6 +8,7 @@ mod first_table;
 mod frame;
 mod full_tables;
 mod header_bytes;
+mod index;
 mod insert_orders;
 mod large_lists;
 mod list_properties;

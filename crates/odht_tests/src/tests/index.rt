@@ -1,8 +1,8 @@
 //! A small index and one of no pairs, byte for byte, and a cut one. The expected bytes were worked out by hand from
 //! docs/FORMAT.md.
 
-use crate::{Index, build, built_and_looked_up};
 use odht::error::Error;
+use odht_index::{Index, build, built_and_looked_up};
 use std::process::Abort;
 
 // Both are hashed to 5.
