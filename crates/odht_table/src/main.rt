@@ -9,8 +9,6 @@ ghost use Rattle.odht_table.specs.Scripts.{IsAnsweredBy};
 ghost use Rattle.odht_table.specs.declared.script.Fault.{Fault};
 
 mod script;
-#[cfg(test)]
-mod tests;
 
 use odht::config::Coded;
 use odht::configs::U64ToU32;

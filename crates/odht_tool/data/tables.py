@@ -1,9 +1,13 @@
-"""A reading of docs/FORMAT.md: writes the tables of this folder, and the texts that the commands have to write of them.
+"""A reading of docs/FORMAT.md: writes the tables of this folder, and the cases that say what the commands have to write
+of them: those in tests/tool/tables, and tests/script/hex.cases.
 
-It shares no code with the program. Run it in this folder, `python3 tables.py`, and lay out the crate by `rt fmt`."""
+It shares no code with the programs. Run it anywhere: `python3 tables.py`."""
+import os
 import struct
 
 FREE = 255
+HERE = os.path.dirname(os.path.abspath(__file__))
+TESTS = os.path.join(HERE, "..", "..", "..", "tests")
 
 
 def fx(key):
@@ -130,38 +134,51 @@ class Case:
         self.name, self.words, self.table = name, words, Table(key_size, value_size, hash, percent, capacity)
         for key, value in pairs:
             self.table.put(key, value)
-        self.texts = {
-            "info": info_text(self.table, percent),
-            "dump": dump_text(self.table, key_text, value_text),
-            "slots": slots_text(self.table, key_text, value_text),
-            "pairs": "".join(f"{key_text(k)}\t{value_text(v)}\n" for k, v in pairs),
-        }
+        self.hash_words = " --hash unhash" if hash is unhash and key_size == 4 else ""
+        self.info = info_text(self.table, percent)
+        self.dump = dump_text(self.table, key_text, value_text)
+        self.slots = slots_text(self.table, key_text, value_text)
+        self.keys = "".join(key_text(cell[0]) + "\r\n" for cell in filter(None, self.table.cells))
+        self.pairs = "".join(f"{key_text(k)}\t{value_text(v)}\n" for k, v in pairs)
 
     def write_file(self):
-        with open(f"{self.name}.odht", "wb") as file:
+        with open(os.path.join(HERE, f"{self.name}.odht"), "wb") as file:
             file.write(self.table.image())
 
-    def constant(self):
-        """The table and its texts in the language of the tests."""
-        text = "    Case {\n" + f"        name: \"{self.name}\",\n        words: \"{self.words}\",\n"
-        for kind, value in [("bytes", self.table.image().hex()), *self.texts.items()]:
-            text += f"        {kind}: {wrapped(value)},\n"
-        return text + "    },\n"
+    def run_text(self, title, args, stdin, stdout, kind="before"):
+        """A case: a run on the file of this table, or one that makes it."""
+        return (f"== {title}\nargs: {args}\n{kind} {self.name}.odht: < crates/odht_tool/data/{self.name}.odht\n"
+                + block("stdin", stdin) + block("stdout", stdout) + "\n")
+
+    def write_cases(self):
+        """The runs of all commands; `info` alone where no words build the table."""
+        file, hash = f"{self.name}.odht", self.hash_words
+        text = HEAD + self.run_text("info", f"info {file}", "", self.info)
+        if self.words:
+            text += self.run_text("check", f"check {file}{hash}", "", "valid\n")
+            text += self.run_text("dump", f"dump {file}{hash}", "", self.dump)
+            text += self.run_text("dump --slots", f"dump --slots {file}{hash}", "", self.slots)
+            text += self.run_text("get all keys, in lines that end with \\r\\n", f"get {file} -{hash}", self.keys,
+                                  self.dump)
+            text += self.run_text("build", f"build {file} {self.words}", self.pairs, "", "after")
+        write_test(f"tool/tables/{self.name}.cases", text)
 
 
-def wrapped(text):
-    """A string constant of lines of at most 110 signs."""
-    text = text.replace("\n", "\\n").replace("\t", "\\t")
-    if len(text) < 90:
-        return f'"{text}"'
-    lines = []
-    while text:
-        end = 110
-        while text[end - 1:end] in ("\\",) or text[end:end + 1] == " ":
-            end -= 1
-        lines.append(text[:end])
-        text = text[end:]
-    return '"\\\n' + "\\\n".join(lines) + '"'
+HEAD = "# Written by crates/odht_tool/data/tables.py, which reads docs/FORMAT.md and runs no program.\n\n"
+
+
+def block(key, text):
+    """A key of a case with its lines, whose ends are in sight."""
+    lines = [line.replace("\t", "\\t").replace("\r", "\\r") for line in text.split("\n")[:-1]]
+    lines = [line[:-1] + "\\s" if line.endswith(" ") else line for line in lines]
+    return f"{key}:\n" + "".join(f"    {line}\n" for line in lines) if lines else ""
+
+
+def write_test(name, text):
+    path = os.path.join(TESTS, name)
+    os.makedirs(os.path.dirname(path), exist_ok=True)
+    with open(path, "w") as file:
+        file.write(text.rstrip("\n") + "\n")
 
 
 def spread(at, size):
@@ -182,6 +199,10 @@ def cases():
                [(le(64 * k, 4), le(k, 4)) for k in range(33)])
     yield Case("u64_u32", "--key u64 --value u32 --percent 95 --capacity 3", 8, 4, fx, 95, 3,
                [(le(1, 8), le(2, 4)), (le(3, 8), le(4, 4)), (le(5, 8), le(2 ** 32 - 1, 4))])
+    # What u64_u32 is before its pairs are added, and after the first.
+    yield Case("no_pairs", "--key u64 --value u32 --percent 95 --capacity 3", 8, 4, fx, 95, 3, [])
+    yield Case("one_pair", "--key u64 --value u32 --percent 95 --capacity 3", 8, 4, fx, 95, 3,
+               [(le(1, 8), le(7, 4)), (le(1, 8), le(2, 4))])
     yield Case("u64_u64", "--key u64 --value u64 --percent 6 --capacity 0", 8, 8, fx, 6, 0,
                [(le(2 ** 64 - 1 - k, 8), le(k * 2 ** 40, 8)) for k in range(2)])
     yield Case("bytes16_u32", "--key hex16 --value u32", 16, 4, unhash, 87, 12,
@@ -211,31 +232,20 @@ def wrong_tag():
     return image
 
 
-HEAD = """//! The tables of data/ and their texts, as data/tables.py writes them here: a test has no files of its own.
+def write_hex_case():
+    """The bytes of the table of the largest key and the largest value, on one line of digits."""
+    table = Table(8, 4, fx, 95, 3)
+    table.put(le(2 ** 64 - 1, 8), le(2 ** 32 - 1, 4))
+    script = "new 3 95\nput 18446744073709551615 4294967295\nhex\n"
+    answers = "slots 16 max 15\nnone\n" + table.image().hex() + "\n"
+    text = "== hex of the largest key and the largest value\n"
+    write_test("script/hex.cases", HEAD + text + block("stdin", script) + block("stdout", answers))
 
-/// A table, the words with which it is built, and what is printed of it.
-#[derive(Clone, Copy)]
-pub struct Case {
-    pub name: &'static str,
-    /// Nothing where no ready shape has its sizes, or the table is not built.
-    pub words: &'static str,
-    /// Two digits a byte.
-    pub bytes: &'static str,
-    pub info: &'static str,
-    pub dump: &'static str,
-    pub slots: &'static str,
-    pub pairs: &'static str,
-}
-
-"""
 
 if __name__ == "__main__":
     for case in cases():
         case.write_file()
-    with open("wrong_tag.odht", "wb") as file:
+        case.write_cases()
+    with open(os.path.join(HERE, "wrong_tag.odht"), "wb") as file:
         file.write(wrong_tag())
-    all_cases = [case.constant() for case in cases()]
-    with open("../src/tests/tables.rt", "w") as file:
-        file.write(HEAD)
-        file.write("pub const WRONG_TAG: &str = " + wrapped(wrong_tag().hex()) + ";\n\n")
-        file.write(f"pub const CASES: [Case; {len(all_cases)}] = [\n" + "".join(all_cases) + "];\n")
+    write_hex_case()

@@ -14,8 +14,6 @@ mod lines;
 mod progress;
 mod shapes;
 mod stored;
-#[cfg(test)]
-mod tests;
 mod text;
 
 use std::alloc::Global;
