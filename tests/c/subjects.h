@@ -1,0 +1,19 @@
+/* The tables of tests, one a file. */
+#ifndef SUBJECTS_H
+#define SUBJECTS_H
+
+#include "test.h"
+
+extern const struct test build_tests[];
+extern const struct test check_tests[];
+extern const struct test grow_tests[];
+extern const struct test order_tests[];
+extern const struct test shape_tests[];
+extern const struct test view_tests[];
+extern const struct test walk_tests[];
+
+/* The tables in the order in which they are run. */
+#define SUBJECTS \
+    { build_tests, check_tests, grow_tests, order_tests, shape_tests, view_tests, walk_tests }
+
+#endif
