@@ -10,6 +10,7 @@
 
 #include "buffers.h"
 #include "odht.h"
+#include "requests.h"
 
 enum { SECONDS = 60, TEXT = 200, LINE = 1000 };
 
@@ -133,6 +134,7 @@ static bool passes(const struct test *test, enum placement placement)
 
     current_case[0] = '\0';
     place_buffers(placement);
+    count_requests(NO_REQUEST);
     ended = sigsetjmp(end_of_test, 1);
     if (ended == 0) {
         alarm(SECONDS);
