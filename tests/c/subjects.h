@@ -8,14 +8,16 @@ extern const struct test build_tests[];
 extern const struct test check_tests[];
 extern const struct test error_tests[];
 extern const struct test grow_tests[];
+extern const struct test init_tests[];
 extern const struct test memory_tests[];
 extern const struct test order_tests[];
 extern const struct test shape_tests[];
+extern const struct test status_tests[];
 extern const struct test view_tests[];
 extern const struct test walk_tests[];
 
 /* The tables in the order in which they are run. */
 #define SUBJECTS \
-    { build_tests, check_tests, error_tests, grow_tests, memory_tests, order_tests, shape_tests, view_tests, walk_tests }
+    { build_tests, check_tests, error_tests, grow_tests, init_tests, memory_tests, order_tests, shape_tests, status_tests, view_tests, walk_tests }
 
 #endif
