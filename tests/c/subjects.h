@@ -15,9 +15,10 @@ extern const struct test shape_tests[];
 extern const struct test status_tests[];
 extern const struct test view_tests[];
 extern const struct test walk_tests[];
+extern const struct test whole_check_tests[];
 
 /* The tables in the order in which they are run. */
 #define SUBJECTS \
-    { build_tests, check_tests, error_tests, grow_tests, init_tests, memory_tests, order_tests, shape_tests, status_tests, view_tests, walk_tests }
+    { build_tests, check_tests, error_tests, grow_tests, init_tests, memory_tests, order_tests, shape_tests, status_tests, view_tests, walk_tests, whole_check_tests }
 
 #endif
