@@ -1,6 +1,7 @@
 /* Buffers between two pages that fault. */
 #include "buffers.h"
 
+#include <stdbool.h>
 #include <stdio.h>
 #include <string.h>
 #include <sys/mman.h>
@@ -8,17 +9,23 @@
 #include "test.h"
 
 /* PAGE is that of x86-64. MARGIN is what stands in the pages of a buffer before and behind it. */
-enum { PAGE = 4096, MARGIN = 0xc5, MOST = 1024 };
+enum { PAGE = 4096, MARGIN = 0xc5, MOST = 1024, MOST_SPARE = 64 };
 
 struct buffer {
     uint8_t *pages;
     size_t pages_len;
     uint8_t *bytes;
     size_t len;
+    bool is_frozen;
 };
 
 static struct buffer buffers[MOST];
 static size_t count;
+
+/* Single pages of buffers that were dropped: taking them again is faster than new ones. */
+static uint8_t *spare[MOST_SPARE];
+static size_t spare_count;
+
 static enum placement placed;
 static size_t made;
 
@@ -51,7 +58,11 @@ static size_t offset_of(size_t len, size_t pages_len, size_t alignment)
 static uint8_t *guarded_pages(size_t len)
 {
     int flags = MAP_PRIVATE | MAP_ANONYMOUS;
-    uint8_t *all = mmap(NULL, len + 2 * PAGE, PROT_NONE, flags, -1, 0);
+    uint8_t *all;
+
+    if (len == PAGE && spare_count > 0)
+        return spare[--spare_count];
+    all = mmap(NULL, len + 2 * PAGE, PROT_NONE, flags, -1, 0);
 
     if (all == MAP_FAILED || mprotect(all + PAGE, len, PROT_READ | PROT_WRITE) != 0)
         fail(HERE("guarded_pages"), "no memory for a buffer");
@@ -69,6 +80,7 @@ static uint8_t *new_buffer(size_t len, size_t alignment)
     buffer->pages_len = pages_len;
     buffer->bytes = buffer->pages + offset_of(len, pages_len, alignment);
     buffer->len = len;
+    buffer->is_frozen = false;
     count++;
     memset(buffer->pages, MARGIN, pages_len);
     memset(buffer->bytes, FILL, len);
@@ -127,7 +139,10 @@ static void drop_last_buffer(void)
 {
     struct buffer *buffer = &buffers[--count];
 
-    munmap(buffer->pages - PAGE, buffer->pages_len + 2 * PAGE);
+    if (buffer->pages_len == PAGE && !buffer->is_frozen && spare_count < MOST_SPARE)
+        spare[spare_count++] = buffer->pages;
+    else
+        munmap(buffer->pages - PAGE, buffer->pages_len + 2 * PAGE);
 }
 
 void drop_buffers_since(size_t kept)
@@ -145,34 +160,25 @@ void drop_buffers(void)
 }
 
 /* The buffer whose pages, or those around them, have this address. */
-static const struct buffer *buffer_at(const void *address)
+static struct buffer *buffer_at(const void *address)
 {
     const uint8_t *byte = address;
 
     for (size_t index = count; index-- > 0;) {
-        const struct buffer *buffer = &buffers[index];
+        struct buffer *buffer = &buffers[index];
         if (byte >= buffer->pages - PAGE && byte < buffer->pages + buffer->pages_len + PAGE)
             return buffer;
     }
     return NULL;
 }
 
-static void protect(const void *address, int protection)
+void freeze(const void *bytes)
 {
-    const struct buffer *buffer = buffer_at(address);
+    struct buffer *buffer = buffer_at(bytes);
 
-    if (buffer == NULL || mprotect(buffer->pages, buffer->pages_len, protection) != 0)
-        fail(HERE("protect"), "no such buffer");
-}
-
-void freeze(const void *buffer)
-{
-    protect(buffer, PROT_READ);
-}
-
-void thaw(const void *buffer)
-{
-    protect(buffer, PROT_READ | PROT_WRITE);
+    if (buffer == NULL || mprotect(buffer->pages, buffer->pages_len, PROT_READ) != 0)
+        fail(HERE("freeze"), "no such buffer");
+    buffer->is_frozen = true;
 }
 
 void describe_address(const void *address, char *text, size_t len)

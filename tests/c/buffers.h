@@ -63,9 +63,8 @@ void check_margins(void);
 /* Drops all buffers. */
 void drop_buffers(void);
 
-/* Makes the pages of a buffer read-only, or writable again. */
-void freeze(const void *buffer);
-void thaw(const void *buffer);
+/* Makes the pages of a buffer read-only until it is dropped. */
+void freeze(const void *bytes);
 
 /* Writes where this address is beside the buffer whose pages have it. */
 void describe_address(const void *address, char *text, size_t len);

@@ -5,11 +5,14 @@
 #include "test.h"
 
 extern const struct test build_tests[];
+extern const struct test carried_tests[];
 extern const struct test changed_table_tests[];
 extern const struct test check_tests[];
 extern const struct test error_tests[];
 extern const struct test grow_tests[];
+extern const struct test header_tests[];
 extern const struct test init_tests[];
+extern const struct test lookup_tests[];
 extern const struct test memory_tests[];
 extern const struct test order_tests[];
 extern const struct test shape_tests[];
@@ -20,6 +23,10 @@ extern const struct test whole_check_tests[];
 
 /* The tables in the order in which they are run. */
 #define SUBJECTS \
-    { build_tests, changed_table_tests, check_tests, error_tests, grow_tests, init_tests, memory_tests, order_tests, shape_tests, status_tests, view_tests, walk_tests, whole_check_tests }
+    { \
+        build_tests, carried_tests, changed_table_tests, check_tests, error_tests, grow_tests, \
+        header_tests, init_tests, lookup_tests, memory_tests, order_tests, shape_tests, \
+        status_tests, view_tests, walk_tests, whole_check_tests \
+    }
 
 #endif
