@@ -96,3 +96,28 @@ void place_all(uint8_t *bytes, size_t len, const struct reading *table)
         if (is_occupied(table, slot))
             place_pair(bytes, len, table->shape, key_in(table, slot), value_in(table, slot));
 }
+
+/* Writes the table that this one grows into. Returns its length. */
+static size_t grow(const struct reading *table, uint8_t *out)
+{
+    size_t slots = grown_slots(count_of(table), factor_of(table));
+    size_t len = image_len(table->shape, slots);
+
+    place_nothing(out, table->shape, slots, factor_of(table));
+    place_all(out, len, table);
+    return len;
+}
+
+size_t place_growing(uint8_t *bytes, size_t len, uint8_t *spare, struct shape shape,
+                     const uint8_t *key, const uint8_t *value)
+{
+    struct reading table = { bytes, len, shape };
+    bool is_new = !is_occupied(&table, search_end(&table, key));
+
+    if (is_new && count_of(&table) >= maximum_of(&table)) {
+        len = grow(&table, spare);
+        memcpy(bytes, spare, len);
+    }
+    place_pair(bytes, len, shape, key, value);
+    return len;
+}

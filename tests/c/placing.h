@@ -31,4 +31,11 @@ void place_pair(uint8_t *bytes, size_t len, struct shape shape, const uint8_t *k
 /* Writes the pairs of a table, in slot order, into another that has none. */
 void place_all(uint8_t *bytes, size_t len, const struct reading *table);
 
+/*
+ * The same as place_pair, in a table that grows where it is at its maximum and the key is new: into `spare`, and then
+ * back. Both have room for the grown table. Returns the length of the table.
+ */
+size_t place_growing(uint8_t *bytes, size_t len, uint8_t *spare, struct shape shape,
+                     const uint8_t *key, const uint8_t *value);
+
 #endif

@@ -12,6 +12,8 @@ extern const struct test error_tests[];
 extern const struct test grow_tests[];
 extern const struct test header_tests[];
 extern const struct test init_tests[];
+extern const struct test large_tests[];
+extern const struct test list_tests[];
 extern const struct test lookup_tests[];
 extern const struct test memory_tests[];
 extern const struct test order_tests[];
@@ -25,8 +27,8 @@ extern const struct test whole_check_tests[];
 #define SUBJECTS \
     { \
         build_tests, carried_tests, changed_table_tests, check_tests, error_tests, grow_tests, \
-        header_tests, init_tests, lookup_tests, memory_tests, order_tests, shape_tests, \
-        status_tests, view_tests, walk_tests, whole_check_tests \
+        header_tests, init_tests, large_tests, list_tests, lookup_tests, memory_tests, \
+        order_tests, shape_tests, status_tests, view_tests, walk_tests, whole_check_tests \
     }
 
 #endif
