@@ -17,6 +17,7 @@ struct spoiled {
     uint8_t *bytes;
     size_t len;
     void *keys;
+    void *new_values;
     void *values;
     uint8_t *found;
     size_t *numbers;
@@ -40,6 +41,7 @@ static struct spoiled spoiled_table(const struct calls *calls, const struct spoi
         spoiled.len = len < spoiled.len ? len : spoiled.len;
     }
     spoiled.bytes = copy_of(scratch, spoiled.len);
+    spoiled.new_values = numbers_of(KEYS * calls->shape.value);
     spoiled.values = numbers_of(KEYS * calls->shape.value);
     spoiled.found = bytes_of(KEYS);
     spoiled.numbers = numbers_of(KEYS * sizeof *spoiled.numbers);
@@ -72,9 +74,10 @@ static void check_header_error(const struct spoiled *spoiled, uint32_t error)
     STATUS(calls->walk(bytes, len, numbers, spoiled->keys, KEYS, spoiled->values, KEYS, numbers + 1),
            error);
     STATUS(calls->grow(bytes, len, spoiled->out, OUT_LEN, numbers), error);
-    STATUS(calls->insert(spoiled->bytes, len, spoiled->keys, spoiled->keys, spoiled->values), error);
-    STATUS(calls->insert_all(spoiled->bytes, len, spoiled->keys, KEYS, spoiled->keys, KEYS, numbers),
+    STATUS(calls->insert(spoiled->bytes, len, spoiled->keys, spoiled->new_values, spoiled->values),
            error);
+    STATUS(calls->insert_all(spoiled->bytes, len, spoiled->keys, KEYS, spoiled->new_values, KEYS,
+                             numbers), error);
 }
 
 /* Opening returns this, and leaves the view where it is an error. */

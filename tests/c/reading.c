@@ -14,6 +14,10 @@ uint64_t number_at(const struct reading *table, size_t at, size_t len)
 {
     uint64_t number = 0;
 
+    if (at < table->len && len <= table->len - at) {
+        memcpy(&number, table->bytes + at, len);
+        return number;
+    }
     for (size_t index = len; index > 0; index--)
         number = number * 256 + byte_at(table, at + index - 1);
     return number;

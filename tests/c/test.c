@@ -88,6 +88,8 @@ void check_each_byte(struct place place, const void *found, size_t len, uint8_t 
 {
     const uint8_t *bytes = found;
 
+    if (len == 0 || (bytes[0] == byte && memcmp(bytes, bytes + 1, len - 1) == 0))
+        return;
     for (size_t at = 0; at < len; at++)
         if (bytes[at] != byte)
             fail_at(place, at, bytes[at], byte);
