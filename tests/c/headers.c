@@ -1,0 +1,58 @@
+/* Each header byte of a new table at each of its values, and the results of opening it. */
+#include <stdint.h>
+
+#include "buffers.h"
+#include "counts.h"
+#include "odht.h"
+#include "subjects.h"
+
+enum { LEN = 192, HEADER = 32 };
+
+/* Opens the bytes with each value at this offset, and counts the results. */
+static void count_values(struct counts *counts, uint8_t *bytes, size_t at)
+{
+    uint8_t kept = bytes[at];
+
+    for (unsigned value = 0; value < 256; value++) {
+        bytes[at] = (uint8_t)value;
+        count_status(counts, odht_u32_u32_open(bytes, LEN));
+    }
+    bytes[at] = kept;
+}
+
+static void header_bytes(void)
+{
+    static const size_t expected[KINDS] = { 3092, 0, 1020, 1020, 1020, 2033, 4, 3 };
+    struct counts counts = { { 0 } };
+    uint8_t *bytes = bytes_of(LEN);
+
+    STATUS(odht_u32_u32_init(bytes, LEN, 13, 87), ODHT_OK);
+    for (size_t at = 0; at < HEADER; at++)
+        count_values(&counts, bytes, at);
+    check_counts(&counts, expected);
+}
+
+/* Each length below that of the table, and some above it. What is cut off is not read: it is a page that faults. */
+static void each_length_of_a_table(void)
+{
+    uint8_t *whole = bytes_of(LEN);
+
+    STATUS(odht_u32_u32_init(whole, LEN, 13, 87), ODHT_OK);
+    for (size_t len = 0; len < LEN; len++) {
+        size_t kept = buffer_count();
+        const uint8_t *cut = copy_of(whole, len);
+        uint32_t expected = len < 32 ? ODHT_TOO_SHORT : ODHT_WRONG_LENGTH;
+
+        in_case("length", len);
+        STATUS(odht_u32_u32_open(cut, len), expected);
+        STATUS(odht_u32_u32_check(cut, len), expected);
+        STATUS(odht_u32_u32_get(cut, len, 1, NULL), expected);
+        drop_buffers_since(kept);
+    }
+}
+
+const struct test header_tests[] = {
+    TEST(header_bytes),
+    TEST(each_length_of_a_table),
+    END_OF_TESTS
+};

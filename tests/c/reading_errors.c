@@ -1,0 +1,145 @@
+/* A second reading of a table's bytes: the errors, as docs/FORMAT.md has them in "What is refused, and in which order". */
+#include <string.h>
+
+#include "odht.h"
+#include "reading.h"
+
+enum { FIRST_SLOTS = 10, LEAST_FACTOR = 655 };
+
+/* Steps 1 to 4. */
+static uint32_t field_error(const struct reading *table)
+{
+    const uint8_t *bytes = table->bytes;
+
+    if (table->len < 32)
+        return ODHT_TOO_SHORT;
+    if (memcmp(bytes, "ODHT", 4) != 0)
+        return ODHT_WRONG_TAG;
+    if (memcmp(bytes + 24, "\0\0\0\2", 4) != 0)
+        return ODHT_WRONG_VERSION;
+    if (bytes[4] != 1 || bytes[5] != table->shape.key || bytes[6] != table->shape.value || bytes[7] != 32)
+        return ODHT_WRONG_SIZE;
+    return ODHT_OK;
+}
+
+static bool is_power_of_two(uint64_t number)
+{
+    for (unsigned exponent = 0; exponent < 64; exponent++)
+        if (number == UINT64_C(1) << exponent)
+            return true;
+    return false;
+}
+
+/* Whether so many slots have the length of the bytes. A slot takes at least a byte, so more slots than bytes do not. */
+static bool is_long_enough(const struct reading *table, size_t slots)
+{
+    return slots <= table->len && image_len(table->shape, slots) == table->len;
+}
+
+uint32_t header_error(const struct reading *table)
+{
+    uint32_t error = field_error(table);
+    size_t slots = slots_of(table);
+
+    if (error != ODHT_OK)
+        return error;
+    if (!is_power_of_two(slots))
+        return ODHT_SLOT_COUNT_NOT_POWER_OF_TWO;
+    if (slots < 16)
+        return ODHT_SLOT_COUNT_TOO_SMALL;
+    return is_long_enough(table, slots) ? ODHT_OK : ODHT_WRONG_LENGTH;
+}
+
+/* A free slot's entry is not zero. */
+static uint32_t empty_error(const struct reading *table, size_t slot)
+{
+    for (size_t at = entry_at(table, slot); at < entry_at(table, slot + 1); at++)
+        if (byte_at(table, at) != 0)
+            return ODHT_NON_ZERO_EMPTY;
+    return ODHT_OK;
+}
+
+/* The error of a slot that opening finds. */
+static uint32_t slot_error(const struct reading *table, size_t slot)
+{
+    if (!is_occupied(table, slot))
+        return empty_error(table, slot);
+    if (byte_at(table, control_at(table, slot)) != tag_of(table->shape, key_in(table, slot)))
+        return ODHT_CONTROL_MISMATCH;
+    return ODHT_OK;
+}
+
+uint32_t opening_error(const struct reading *table)
+{
+    uint32_t error = header_error(table);
+
+    for (size_t slot = 0; slot < FIRST_SLOTS && error == ODHT_OK; slot++)
+        error = slot_error(table, slot);
+    return error;
+}
+
+/* Steps 9 and 10. */
+static uint32_t factor_error(const struct reading *table)
+{
+    if (factor_of(table) < LEAST_FACTOR)
+        return ODHT_LOAD_FACTOR_TOO_SMALL;
+    return number_at(table, 30, 2) == 0 ? ODHT_OK : ODHT_NON_ZERO_PADDING;
+}
+
+/* Step 11 of one slot. */
+static uint32_t contents_error(const struct reading *table, size_t slot)
+{
+    uint32_t error = slot_error(table, slot);
+    uint8_t control = byte_at(table, control_at(table, slot));
+
+    if (error == ODHT_OK && control >= 128 && control != 255)
+        return ODHT_BAD_FREE_CONTROL;
+    return error;
+}
+
+static uint32_t slots_error(const struct reading *table)
+{
+    uint32_t error = ODHT_OK;
+
+    for (size_t slot = 0; slot < slots_of(table) && error == ODHT_OK; slot++)
+        error = contents_error(table, slot);
+    return error;
+}
+
+static uint32_t mirror_error(const struct reading *table)
+{
+    size_t controls = control_at(table, 0);
+
+    for (size_t index = 0; index < 16; index++)
+        if (byte_at(table, controls + index) != byte_at(table, controls + slots_of(table) + index))
+            return ODHT_MIRROR_MISMATCH;
+    return ODHT_OK;
+}
+
+/* Steps 13 and 14. */
+static uint32_t count_error(const struct reading *table)
+{
+    if (count_of(table) != occupied_in(table))
+        return ODHT_WRONG_ITEM_COUNT;
+    return count_of(table) > maximum_of(table) ? ODHT_TOO_MANY_ITEMS : ODHT_OK;
+}
+
+static uint32_t reach_error(const struct reading *table)
+{
+    for (size_t slot = 0; slot < slots_of(table); slot++)
+        if (is_occupied(table, slot) && search_end(table, key_in(table, slot)) != slot)
+            return ODHT_UNREACHABLE;
+    return ODHT_OK;
+}
+
+uint32_t whole_error(const struct reading *table)
+{
+    uint32_t (*const steps[])(const struct reading *) = {
+        opening_error, factor_error, slots_error, mirror_error, count_error, reach_error,
+    };
+    uint32_t error = ODHT_OK;
+
+    for (size_t step = 0; step < sizeof steps / sizeof steps[0] && error == ODHT_OK; step++)
+        error = steps[step](table);
+    return error;
+}

@@ -1,0 +1,50 @@
+#!/bin/sh
+# run.sh LIBRARY [CC]: compiles the tests of the calls for C over this archive and runs them: with CC, or with cc and,
+# where there is one, with clang; and with each under the sanitizers, where they run here. Prints what the program
+# prints. The status is 0 only where each run went well.
+set -eu
+if [ $# -lt 1 ] || [ ! -f "$1" ]; then
+    echo 'usage: run.sh LIBRARY [CC]' >&2
+    exit 2
+fi
+library=$(cd "$(dirname "$1")" && pwd)/$(basename "$1")
+shift
+here=$(cd "$(dirname "$0")" && pwd)
+room=$(mktemp -d)
+trap 'rm -rf "$room"' EXIT
+flags='-std=c11 -D_DEFAULT_SOURCE -O2 -Wall -Wextra -Wpedantic -Werror'
+sanitizers='-g -fsanitize=address,undefined -fno-sanitize-recover=all'
+# the archive's requests for memory go through requests.c
+wrapped='-Wl,--wrap=malloc,--wrap=calloc,--wrap=realloc,--wrap=aligned_alloc,--wrap=posix_memalign,--wrap=free'
+
+has() {
+    command -v "$1" > /dev/null 2>&1
+}
+
+# Whether a compiler makes programs with sanitizers that run here.
+sanitizes() {
+    echo 'int main(void) { return 0; }' > "$room/empty.c"
+    # shellcheck disable=SC2086
+    "$1" $sanitizers "$room/empty.c" -o "$room/empty" 2> /dev/null && "$room/empty" 2> /dev/null
+}
+
+# Compiles with a compiler and further flags, and runs.
+try() {
+    # shellcheck disable=SC2086
+    if ! "$1" $flags $2 -I"$here/../../include" "$here"/*.c "$library" $wrapped -o "$room/tests" ||
+        ! "$room/tests"; then
+        echo "tests/c: failed with $1 $2" >&2
+        status=1
+    fi
+}
+
+status=0
+if [ $# = 0 ]; then
+    set -- cc
+    if has clang; then set -- cc clang; fi
+fi
+for compiler in "$@"; do
+    try "$compiler" ''
+    if sanitizes "$compiler"; then try "$compiler" "$sanitizers"; fi
+done
+exit "$status"
