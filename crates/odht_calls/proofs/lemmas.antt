@@ -12,7 +12,7 @@ pub mod Refused
 pub mod Sizes
 -- iterators that are called until they end
 pub mod Drained
--- tables that are handed out
+-- tables that are handed out, and what the call answers that builds a growing one
 pub mod HandedOut
 -- walks into arrays
 pub mod Walked
