@@ -16,8 +16,9 @@
 SCRIPT ?= crates/odht_table/stdin
 PARTS ?=
 NAMES ?=
-# lowest first
+# lowest first: what the programs use, and over it the calls for C
 LIBRARIES = odht_base odht_raw odht
+FOR_C = $(LIBRARIES) odht_calls odht_c
 LIBRARY ?= crates/odht_c/out/libodht_c.a
 QUICK ?=
 CHECK ?=
@@ -44,12 +45,12 @@ edits:
 	@python3 tools/edits.py run $(NAMES)
 
 # `rt lib` takes a quarter of a minute also where nothing changed, so it is asked only where something is newer
-SOURCES = crates.txt $(shell find $(foreach crate,$(LIBRARIES) odht_c,crates/$(crate)) -path '*/out' -prune -o \
+SOURCES = crates.txt $(shell find $(foreach crate,$(FOR_C),crates/$(crate)) -path '*/out' -prune -o \
   '(' -name '*.rt' -o -name '*.antt' ')' -print)
 crates/odht_c/out/libodht_c.a: $(SOURCES)
 	@mkdir -p build
 	@test -f $@ || echo 'proving the library first, ten to twenty minutes; build/lib.log tells how far it is' >&2
-	@for crate in $(LIBRARIES) odht_c; do \
+	@for crate in $(FOR_C); do \
 	  (cd crates/$$crate && rt lib) > build/lib.log 2>&1 || { cat build/lib.log >&2; exit 1; }; \
 	done
 	@touch $@

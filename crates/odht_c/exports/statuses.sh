@@ -1,5 +1,5 @@
 #!/bin/sh
-# Compares the numbers of the statuses in include/odht.h with those of docs/FORMAT.md and of src/status.rt.
+# Compares the numbers of the statuses in include/odht.h with those of docs/FORMAT.md and of status.rt in odht_calls.
 set -eu
 top=$(cd "$(dirname "$0")/../../.." && pwd)
 room=$(mktemp -d)
@@ -17,10 +17,10 @@ sed -n 's/^| [0-9]* | `\(ODHT_[A-Z_]*\)` | [^|]*| \(.*\) |$/\1 \2/p' "$top/docs/
 diff "$room/texts" "$room/format" >&2 || { echo "statuses: texts in odht.h and docs/FORMAT.md differ" >&2; exit 1; }
 
 grep ' [A-Za-z]*[a-z]$' "$room/header" | sed 's/ ODHT_[A-Z_]* / /' > "$room/errors"
-sed -n 's/^ *Error::\([A-Za-z]*\).* => \([0-9]*\),$/\2 \1/p' "$top/crates/odht_c/src/status.rt" > "$room/source"
+sed -n 's/^ *Error::\([A-Za-z]*\).* => \([0-9]*\),$/\2 \1/p' "$top/crates/odht_calls/src/status.rt" > "$room/source"
 diff "$room/errors" "$room/source" >&2 || { echo "statuses: odht.h and status.rt differ" >&2; exit 1; }
 
-sed -n 's/^pub(crate) const \([A-Z_]*\): u32 = \([0-9]*\);/\2 ODHT_\1/p' "$top/crates/odht_c/src/status.rt" |
+sed -n 's/^pub const \([A-Z_]*\): u32 = \([0-9]*\);/\2 ODHT_\1/p' "$top/crates/odht_calls/src/status.rt" |
     while read -r number name; do
         grep -q "^$number $name " "$room/header" || { echo "statuses: odht.h has no $name = $number" >&2; exit 1; }
     done

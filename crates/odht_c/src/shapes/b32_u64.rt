@@ -8,21 +8,21 @@
 ghost use Rattle.std.specs.Prelude.{◌≡◌};
 ghost use Rattle.odht_raw.specs.Frame.{IsAccepted};
 ghost use Rattle.odht_raw.specs.Refusals.{view_refusal, check_refusal};
-ghost use Rattle.odht_c.specs.Statuses.{status_or_ok};
-ghost use Rattle.odht_c.specs.Reads.{GetAnswers, GetAllAnswers, LenAnswers, SizesAnswers};
-ghost use Rattle.odht_c.specs.Walks.{WalkAnswers};
-ghost use Rattle.odht_c.specs.Views.{OpenViewAnswers, ViewGetAnswers, ViewGetAllAnswers, ViewLenAnswers};
-ghost use Rattle.odht_c.specs.Orders.{OrderAnswers};
-ghost use Rattle.odht_c.specs.Writes.{BytesNeededAnswers, InitAnswers, InsertAnswers, InsertAllAnswers};
-ghost use Rattle.odht_c.specs.Grows.{GrowAnswers};
-ghost use Rattle.odht_c.specs.Builds.{BuildAnswers, BuildGrowingAnswers};
+ghost use Rattle.odht_calls.specs.Statuses.{status_or_ok};
+ghost use Rattle.odht_calls.specs.Reads.{GetAnswers, GetAllAnswers, LenAnswers, SizesAnswers};
+ghost use Rattle.odht_calls.specs.Walks.{WalkAnswers};
+ghost use Rattle.odht_calls.specs.Views.{OpenViewAnswers, ViewGetAnswers, ViewGetAllAnswers, ViewLenAnswers};
+ghost use Rattle.odht_calls.specs.Orders.{OrderAnswers};
+ghost use Rattle.odht_calls.specs.Writes.{BytesNeededAnswers, InitAnswers, InsertAnswers, InsertAllAnswers};
+ghost use Rattle.odht_calls.specs.Grows.{GrowAnswers};
+ghost use Rattle.odht_calls.specs.Builds.{BuildAnswers, BuildGrowingAnswers};
 
-use crate::status::{BAD_LENGTHS, BAD_PERCENT};
-use crate::view::{self, View};
-use crate::{build, grow, order, read, walk, write};
 use odht::bytes::BorrowedMut;
 use odht::config::Coded;
 use odht::configs::Bytes32ToU64 as Shape;
+use odht_calls::status::{BAD_LENGTHS, BAD_PERCENT};
+use odht_calls::view::{self, View};
+use odht_calls::{build, grow, order, read, walk, write};
 use std::alloc::Global;
 
 /// Writes to `len` how many bytes a new table for so many items has: status 0. `BAD_PERCENT` where the load factor is

@@ -1,0 +1,182 @@
+-- Worked examples: what a call for a growth answers, of the table of one pair and of bytes that it rejects.
+--     grown_item, grown_bytes  the table into which that of one item grows: thirty-two slots, of which slot 5 has the
+--                              pair; and its 336 bytes
+--     weak                     the bytes of no items, with a load factor of 654 in the header; a growth rejects them
+--     crowded                  the same, with 2 ^ 63 items in the header
+--     nines, filled            bytes of a caller, one more than are needed; and what a growth leaves of them
+use Rattle.std.proofs.Common.{◌≡◌, ◌∙◌, ◌++◌, ℕ, List, [], ◌∷◌, refl, sym, ap, subst, lit≤, lit<, replicate, set, Some, None}
+use Rattle.odht_base.specs.Bytes.{overwritten_at}
+use Rattle.odht_base.specs.Image.{image}
+use Rattle.odht_base.specs.Insert.{grown}
+use Rattle.odht_base.specs.Load.{factor_of}
+use Rattle.odht_base.specs.Table.{Table}
+use Rattle.odht_base.specs.Valid.{IsImage}
+use Rattle.odht_base.proofs.examples.Configs.{direct_config, pair32}
+use Rattle.odht_base.proofs.lemmas.Options.{some_same}
+use Rattle.odht_base.proofs.lemmas.Placed.{IsPlaced-tests}
+use Rattle.odht_raw.specs.declared.error.Error.TheVariants.{TooShort, LoadFactorTooSmall, Capacity}
+use Rattle.odht_raw.proofs.examples.Apart.{unequal, unequal_lists}
+use Rattle.odht_raw.proofs.examples.Opened.{opened}
+use Rattle.odht.specs.Growths.{grown_len, IsGrownImage}
+use Rattle.odht_calls.specs.Grows.{growth_refusal, GrowAnswers, IsGrownFrom, IsGrownInto}
+use Rattle.odht_calls.proofs.examples.Tables.{direct_coding, no_bytes, one_item, one_bytes, miscounted, one_image, same_table}
+use Rattle.odht_calls.proofs.lemmas.Grown.{refused_grow, short_grow, done_grow}
+use Rattle.odht_calls.proofs.lemmas.Refused.{not_none}
+
+abbrev grown_item : Table
+grown_item = record { factor = factor_of 7; cells = set (replicate 32 None) 5 (Some (pair32 5 7)) }
+
+abbrev grown_bytes : List ℕ
+grown_bytes = image direct_config grown_item
+
+abbrev other_grown : List ℕ
+other_grown = image direct_config (record { factor = factor_of 7; cells = set (replicate 32 None) 5 (Some (pair32 5 8)) })
+
+abbrev weak : List ℕ
+weak = overwritten_at no_bytes 28 (142 ∷ 2 ∷ [])
+
+abbrev crowded : List ℕ
+crowded = overwritten_at no_bytes 15 (128 ∷ [])
+
+abbrev nines : List ℕ
+nines = replicate 337 9
+
+abbrev inserted : List ℕ
+inserted = grown_bytes ++ 9 ∷ []
+
+-- the table of one item grows into that of thirty-two slots
+grows : grown direct_config one_item ≡ Some grown_item
+unfolding opened
+grows = refl
+
+grown_item_image : IsImage direct_config grown_item grown_bytes
+unfolding opened
+grown_item_image = record {
+  valid = record {
+    placed = IsPlaced-tests direct_config grown_item (record { power = refl; least = lit≤ tt }) refl refl;
+    factor_low = lit≤ tt;
+    factor_high = lit≤ tt;
+    room = lit≤ tt;
+  };
+  bytes = refl;
+}
+
+-- and into no other
+only_grown : (T : List ℕ) → IsGrownImage direct_config one_item T → T ≡ grown_bytes
+only_grown T h = h.2.bytes ∙ ap (image direct_config) (some_same h.0 grown_item (sym h.1 ∙ grows))
+
+-- ---- IsGrownFrom
+pub one_grown : IsGrownFrom direct_config one_bytes grown_bytes
+unfolding opened
+one_grown = record {
+  accepted = refl;
+  count = refl;
+  factor = refl;
+  on_valid = λ P image. subst (λ (X : Table). IsGrownImage direct_config X grown_bytes) (same_table one_item P one_bytes one_image image) (grown_item, grows, grown_item_image);
+}
+
+-- no bytes are grown
+pub nothing_grown_refused : IsGrownFrom direct_config one_bytes [] → ⊥
+unfolding opened
+nothing_grown_refused h = not_none _ (TooShort 0) refl h.accepted
+
+-- the header has no other count
+pub other_count_refused : IsGrownFrom direct_config miscounted no_bytes → ⊥
+unfolding opened
+other_count_refused h = unequal 0 5 refl h.count
+
+-- nor another load factor
+pub other_factor_refused : IsGrownFrom direct_config weak no_bytes → ⊥
+unfolding opened
+other_factor_refused h = unequal (factor_of 7) 654 refl h.factor
+
+-- and no other table is grown
+pub other_table_refused : IsGrownFrom direct_config one_bytes other_grown → ⊥
+unfolding opened
+other_table_refused h = unequal_lists other_grown grown_bytes refl (only_grown other_grown (h.on_valid one_item one_image))
+
+-- ---- IsGrownInto
+pub one_grown_into : IsGrownInto direct_config one_bytes 336 nines inserted
+unfolding opened
+one_grown_into = record { table = one_grown; rest = refl }
+
+-- what is unchanged is no table
+pub unwritten_refused : IsGrownInto direct_config one_bytes 336 nines nines → ⊥
+unfolding opened
+unwritten_refused h = unequal_lists (replicate 336 9) grown_bytes refl (only_grown (replicate 336 9) (h.table.on_valid one_item one_image))
+
+-- and the byte after the table is unchanged
+pub behind_grown_refused : IsGrownInto direct_config one_bytes 336 nines (grown_bytes ++ 7 ∷ []) → ⊥
+unfolding opened
+behind_grown_refused h = unequal_lists (7 ∷ []) (9 ∷ []) refl h.rest
+
+-- ---- GrowAnswers
+-- the empty list of bytes has an error, and the buffers are unchanged
+pub too_short_grow : GrowAnswers direct_coding [] (9 ∷ []) 4 1 (9 ∷ []) 4
+unfolding opened growth_refusal
+too_short_grow = refused_grow direct_coding [] (9 ∷ []) 4 (TooShort 0) 1 refl refl
+
+-- so is a small load factor
+pub weak_grow : GrowAnswers direct_coding weak (9 ∷ []) 4 10 (9 ∷ []) 4
+unfolding opened growth_refusal
+weak_grow = refused_grow direct_coding weak (9 ∷ []) 4 (LoadFactorTooSmall 654) 10 refl refl
+
+-- and too many items
+pub crowded_grow : GrowAnswers direct_coding crowded (9 ∷ []) 4 20 (9 ∷ []) 4
+unfolding opened growth_refusal grown_len
+crowded_grow = refused_grow direct_coding crowded (9 ∷ []) 4 Capacity 20 refl refl
+
+-- one byte is too few, and is unchanged; the length is written
+pub small_grow : GrowAnswers direct_coding one_bytes (9 ∷ []) 4 36 (9 ∷ []) 336
+unfolding opened growth_refusal grown_len
+small_grow = short_grow direct_coding one_bytes (9 ∷ []) 4 336 refl refl (lit< tt)
+
+-- the table fits 337 bytes, and the last one is unchanged
+pub one_grow : GrowAnswers direct_coding one_bytes nines 4 0 inserted 336
+unfolding opened growth_refusal grown_len
+one_grow = done_grow direct_coding one_bytes nines 4 336 refl refl inserted (lit≤ tt) one_grown_into
+
+-- an error is not answered with another status
+pub grow_status_refused : GrowAnswers direct_coding weak (9 ∷ []) 4 20 (9 ∷ []) 4 → ⊥
+unfolding opened growth_refusal
+grow_status_refused h = unequal 20 10 refl (h.refused (LoadFactorTooSmall 654) refl).0
+
+-- and writes no byte
+pub grow_bytes_refused : GrowAnswers direct_coding weak (9 ∷ []) 4 10 (7 ∷ []) 4 → ⊥
+unfolding opened growth_refusal
+grow_bytes_refused h = unequal_lists (7 ∷ []) (9 ∷ []) refl (h.refused (LoadFactorTooSmall 654) refl).1
+
+-- and no length
+pub grow_length_refused : GrowAnswers direct_coding weak (9 ∷ []) 4 10 (9 ∷ []) 0 → ⊥
+unfolding opened growth_refusal
+grow_length_refused h = unequal 0 4 refl (h.refused (LoadFactorTooSmall 654) refl).2
+
+-- too few bytes are not answered with ODHT_OK
+pub grow_short_status_refused : GrowAnswers direct_coding one_bytes (9 ∷ []) 4 0 (9 ∷ []) 336 → ⊥
+unfolding opened growth_refusal grown_len
+grow_short_status_refused h = unequal 0 36 refl (h.short 336 refl refl (lit< tt)).0
+
+-- and are unchanged
+pub grow_short_bytes_refused : GrowAnswers direct_coding one_bytes (9 ∷ []) 4 36 (79 ∷ []) 336 → ⊥
+unfolding opened growth_refusal grown_len
+grow_short_bytes_refused h = unequal_lists (79 ∷ []) (9 ∷ []) refl (h.short 336 refl refl (lit< tt)).1
+
+-- and no other length is written
+pub grow_short_length_refused : GrowAnswers direct_coding one_bytes (9 ∷ []) 4 36 (9 ∷ []) 4 → ⊥
+unfolding opened growth_refusal grown_len
+grow_short_length_refused h = unequal 4 336 refl (h.short 336 refl refl (lit< tt)).2
+
+-- enough bytes are not answered with ODHT_TOO_SMALL
+pub grow_done_status_refused : GrowAnswers direct_coding one_bytes nines 4 36 nines 336 → ⊥
+unfolding opened growth_refusal grown_len
+grow_done_status_refused h = unequal 36 0 refl (h.grown 336 refl refl (lit≤ tt)).0
+
+-- and are not left unchanged
+pub grow_done_bytes_refused : GrowAnswers direct_coding one_bytes nines 4 0 nines 336 → ⊥
+unfolding opened growth_refusal grown_len
+grow_done_bytes_refused h = unwritten_refused (h.grown 336 refl refl (lit≤ tt)).1
+
+-- and their length is written
+pub grow_done_length_refused : GrowAnswers direct_coding one_bytes nines 4 0 inserted 337 → ⊥
+unfolding opened growth_refusal grown_len
+grow_done_length_refused h = unequal 337 336 refl (h.grown 336 refl refl (lit≤ tt)).2

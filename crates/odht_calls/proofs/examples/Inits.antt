@@ -1,0 +1,159 @@
+-- Worked examples: what the calls answer that ask for the length of a new table, and that make one.
+use Rattle.std.proofs.Common.{◌≤◌, ◌^◌, ◌-◌, ◌∙◌, ℕ, refl, sym, ap, arith, lit≤, lit<, List, [], ◌∷◌, replicate}
+use Rattle.std.proofs.lemmas.Option.{none-some}
+use Rattle.odht_base.specs.Image.{image, image_len}
+use Rattle.odht_base.specs.Load.{factor_of}
+use Rattle.odht_base.proofs.examples.Configs.{direct_config}
+use Rattle.odht_base.proofs.lemmas.Options.{some_same}
+use Rattle.odht_raw.specs.Refusals.{IsTooLarge, new_refusal}
+use Rattle.odht_raw.specs.declared.error.Error.TheVariants.{InitLength, Capacity}
+use Rattle.odht_raw.proofs.examples.Opened.{opened}
+use Rattle.odht_calls.specs.Statuses.{IsPercent}
+use Rattle.odht_calls.specs.Writes.{BytesNeededAnswers, InitAnswers}
+use Rattle.odht_calls.proofs.lemmas.Refused.{known, not_none}
+use Rattle.odht_calls.proofs.examples.Statuses.{zero_percent_refused}
+use Rattle.odht_raw.proofs.examples.Apart.{unequal, unequal_lists}
+use Rattle.odht_calls.proofs.examples.Tables.{direct_coding, no_items, no_bytes, one_bytes, no_image}
+
+-- 7 percent is a load factor
+pub seven : IsPercent 7
+seven = (lit≤ tt, lit≤ tt)
+
+-- and one hundred too
+hundred : IsPercent 100
+hundred = (lit≤ tt, lit≤ tt)
+
+-- one item at 7 percent is not too many
+pub one_fits : IsTooLarge direct_config 1 (factor_of 7) → ⊥
+unfolding opened
+one_fits h = let least : 2 ^ 64 ≤ 192 = h 16 refl in omega (arith, least)
+
+-- more items than 2 ^ 63 slots take are
+abbrev pub too_many : ℕ
+too_many = 2 ^ 64 - 1
+
+-- at no slot count are there enough
+pub too_many_items : IsTooLarge direct_config too_many (factor_of 100)
+unfolding opened
+too_many_items s is = absurd (none-some s is)
+
+-- ---- BytesNeededAnswers
+-- no percent
+pub zero_percent_needed : BytesNeededAnswers direct_coding 1 0 9 34 9
+zero_percent_needed = record {
+  percent = λ other. (refl, refl);
+  needed = λ slots ok is small. absurd (zero_percent_refused ok);
+  capacity = λ ok large. absurd (zero_percent_refused ok);
+}
+
+-- one item at 7 percent: sixteen slots, and 192 bytes
+pub one_needed : BytesNeededAnswers direct_coding 1 7 9 0 192
+unfolding opened
+one_needed = record {
+  percent = λ other. absurd (other seven);
+  needed = λ slots ok is small. (refl, ap (image_len direct_config) (some_same 16 slots is));
+  capacity = λ ok large. absurd (one_fits large);
+}
+
+-- too many items
+pub too_many_needed : BytesNeededAnswers direct_coding too_many 100 9 20 9
+unfolding opened
+too_many_needed = record {
+  percent = λ other. absurd (other hundred);
+  needed = λ slots ok is small. absurd (none-some slots is);
+  capacity = λ ok large. (refl, refl);
+}
+
+-- no percent is not answered with ODHT_OK
+pub needed_percent_status_refused : BytesNeededAnswers direct_coding 1 0 9 0 9 → ⊥
+needed_percent_status_refused h = unequal 0 34 refl (h.percent zero_percent_refused).0
+
+-- and writes no number
+pub needed_percent_written_refused : BytesNeededAnswers direct_coding 1 0 9 34 192 → ⊥
+needed_percent_written_refused h = unequal 192 9 refl (h.percent zero_percent_refused).1
+
+-- one item is answered with ODHT_OK
+pub needed_status_refused : BytesNeededAnswers direct_coding 1 7 9 20 192 → ⊥
+unfolding opened
+needed_status_refused h = unequal 20 0 refl (h.needed 16 seven refl (lit< tt)).0
+
+-- and with its own length
+pub needed_other_length_refused : BytesNeededAnswers direct_coding 1 7 9 0 191 → ⊥
+unfolding opened
+needed_other_length_refused h = unequal 191 192 refl (h.needed 16 seven refl (lit< tt)).1
+
+-- too many items are not answered with ODHT_OK
+pub needed_capacity_status_refused : BytesNeededAnswers direct_coding too_many 100 9 0 9 → ⊥
+needed_capacity_status_refused h = unequal 0 20 refl (h.capacity hundred too_many_items).0
+
+-- and write no number
+pub needed_capacity_written_refused : BytesNeededAnswers direct_coding too_many 100 9 20 192 → ⊥
+needed_capacity_written_refused h = unequal 192 9 refl (h.capacity hundred too_many_items).1
+
+-- ---- InitAnswers
+-- 192 bytes that are no table
+abbrev ones : List ℕ
+ones = replicate 192 1
+
+-- no percent
+pub zero_percent_init : InitAnswers direct_coding 1 0 ones 34 ones
+zero_percent_init = record {
+  percent = λ other. (refl, refl);
+  refused = λ e ok is. absurd (zero_percent_refused ok);
+  made = λ ok none. absurd (zero_percent_refused ok);
+}
+
+-- too few bytes
+pub short_init : InitAnswers direct_coding 1 7 [] 17 []
+unfolding opened new_refusal
+short_init = record {
+  percent = λ other. absurd (other seven);
+  refused = λ e ok is. (known _ (InitLength 0 192) e refl is, refl);
+  made = λ ok none. not_none _ (InitLength 0 192) refl none;
+}
+
+-- a new table for one item
+pub made_init : InitAnswers direct_coding 1 7 ones 0 no_bytes
+unfolding opened new_refusal
+made_init = record {
+  percent = λ other. absurd (other seven);
+  refused = λ e ok is. absurd (none-some e is);
+  made = λ ok none. (refl, (no_items, refl, no_image));
+}
+
+-- no percent is not answered with ODHT_OK
+pub init_percent_status_refused : InitAnswers direct_coding 1 0 ones 0 ones → ⊥
+init_percent_status_refused h = unequal 0 34 refl (h.percent zero_percent_refused).0
+
+-- and writes no table
+pub init_percent_written_refused : InitAnswers direct_coding 1 0 ones 34 no_bytes → ⊥
+unfolding opened new_refusal
+init_percent_written_refused h = unequal_lists no_bytes ones refl (h.percent zero_percent_refused).1
+
+-- too few bytes are answered with ODHT_INIT_LENGTH
+pub init_status_refused : InitAnswers direct_coding 1 7 [] 1 [] → ⊥
+unfolding opened new_refusal
+init_status_refused h = unequal 1 17 refl (h.refused (InitLength 0 192) seven refl).0
+
+-- and are unchanged
+pub init_refusal_written_refused : InitAnswers direct_coding 1 7 [] 17 (1 ∷ []) → ⊥
+unfolding opened new_refusal
+init_refusal_written_refused h = unequal_lists (1 ∷ []) [] refl (h.refused (InitLength 0 192) seven refl).1
+
+-- too many items are answered with ODHT_CAPACITY
+pub init_capacity_status_refused : InitAnswers direct_coding too_many 100 [] 17 [] → ⊥
+unfolding opened new_refusal
+init_capacity_status_refused h = unequal 17 20 refl (h.refused Capacity hundred refl).0
+
+-- a new table is answered with ODHT_OK
+pub init_made_status_refused : InitAnswers direct_coding 1 7 ones 33 no_bytes → ⊥
+unfolding opened new_refusal
+init_made_status_refused h = unequal 33 0 refl (h.made seven refl).0
+
+-- and is empty
+pub init_made_inserted_refused : InitAnswers direct_coding 1 7 ones 0 one_bytes → ⊥
+unfolding opened new_refusal
+init_made_inserted_refused h =
+    let made = (h.made seven refl).1 in
+    unequal_lists one_bytes no_bytes refl
+    (made.2.bytes ∙ ap (image direct_config) (sym (some_same no_items made.0 made.1)))

@@ -1,0 +1,189 @@
+-- Worked examples: what an insert answers.
+use Rattle.std.proofs.Common.{lit≤, ◌≡◌, ◌∙◌, ℕ, refl, ap, inl, List, [], ◌∷◌, Option, None, Some, Result, Ok, Err, lit<, subst}
+use Rattle.odht_base.proofs.examples.Configs.{direct_config}
+use Rattle.odht_base.specs.Numbers.{le_bytes}
+use Rattle.odht_base.specs.Table.{Pair}
+use Rattle.odht_raw.specs.Frame.{InsertFrame, IsFramed}
+use Rattle.odht_raw.specs.declared.error.Error.{Error}
+use Rattle.odht_raw.specs.declared.error.Error.TheVariants.{TooShort, Full}
+use Rattle.odht_raw.proofs.examples.Opened.{opened}
+use Rattle.odht_calls.specs.Statuses.{status_of}
+use Rattle.odht_calls.specs.Writes.{IsFormer, IsAnswered, IsAfterInsert, InsertAnswers}
+use Rattle.odht_calls.proofs.lemmas.Opened.{never_refused}
+use Rattle.odht_calls.proofs.lemmas.Refused.{refused_insert}
+use Rattle.odht_raw.proofs.examples.Apart.{unequal, unequal_lists}
+use Rattle.odht_calls.proofs.examples.Tables.{direct_coding, no_items, one_item, no_bytes, one_bytes, other_bytes, miscounted, no_image, one_image, other_image, accepted_bytes, same_table}
+
+-- ---- IsFormer
+-- a new key leaves the value 9, and one that was there writes the value 7 that it had
+pub formers : IsFormer {V = ℕ} None 9 0 9 × IsFormer {V = ℕ} (Some 7) 9 33 7
+formers = ((refl, refl), (refl, refl))
+
+-- a new key is not answered with ODHT_REPLACED
+pub new_as_replaced_refused : IsFormer {V = ℕ} None 9 33 9 → ⊥
+new_as_replaced_refused h = unequal 33 0 refl h.0
+
+-- and writes no value
+pub new_written_refused : IsFormer {V = ℕ} None 9 0 7 → ⊥
+new_written_refused h = unequal 7 9 refl h.1
+
+-- a key that was there is not answered with ODHT_OK
+pub replaced_as_new_refused : IsFormer {V = ℕ} (Some 7) 9 0 7 → ⊥
+replaced_as_new_refused h = unequal 0 33 refl h.0
+
+-- and does not leave the buffer unchanged
+pub replaced_unwritten_refused : IsFormer {V = ℕ} (Some 7) 9 33 9 → ⊥
+replaced_unwritten_refused h = unequal 9 7 refl h.1
+
+-- ---- IsAnswered
+-- an insert, one of a key that was there, and an error
+pub answers : IsAnswered {V = ℕ} (Ok None) 9 0 9
+    × IsAnswered {V = ℕ} (Ok (Some 7)) 9 33 7
+    × IsAnswered {V = ℕ} (Err Full) 9 18 9
+answers = ((refl, refl), (refl, refl), (refl, refl))
+
+-- an insert is not answered as one of a key that was there
+pub answered_as_replaced_refused : IsAnswered {V = ℕ} (Ok None) 9 33 9 → ⊥
+answered_as_replaced_refused h = unequal 33 0 refl h.0
+
+-- an error is not answered with ODHT_OK
+pub answered_refusal_refused : IsAnswered {V = ℕ} (Err Full) 9 0 9 → ⊥
+answered_refusal_refused h = unequal 0 18 refl h.0
+
+-- and writes no value
+pub answered_written_refused : IsAnswered {V = ℕ} (Err Full) 9 18 7 → ⊥
+answered_written_refused h = unequal 7 9 refl h.1
+
+-- ---- IsAfterInsert
+-- a new key
+pub insert_new : IsAfterInsert direct_coding no_items 5 7 one_bytes 9 0 9
+unfolding opened
+insert_new = (one_image, (refl, refl))
+
+-- a key that was there, though the table is full
+pub insert_again : IsAfterInsert direct_coding one_item 5 8 other_bytes 9 33 7
+unfolding opened
+insert_again = (other_image, (refl, refl))
+
+-- another key into the full table
+pub insert_full : IsAfterInsert direct_coding one_item 6 8 one_bytes 9 18 9
+unfolding opened
+insert_full = (one_image, refl, refl)
+
+-- a new key is written
+pub insert_unwritten_refused : IsAfterInsert direct_coding no_items 5 7 no_bytes 9 0 9 → ⊥
+unfolding opened
+insert_unwritten_refused h = unequal_lists no_bytes one_bytes refl h.0.bytes
+
+-- and not answered as one that was there
+pub insert_as_replaced_refused : IsAfterInsert direct_coding no_items 5 7 one_bytes 9 33 9 → ⊥
+unfolding opened
+insert_as_replaced_refused h = unequal 33 0 refl h.1.0
+
+-- for a key that was there the former value is written, not the new one
+pub insert_new_value_refused : IsAfterInsert direct_coding one_item 5 8 other_bytes 9 33 8 → ⊥
+unfolding opened
+insert_new_value_refused h = unequal 8 7 refl h.1.1
+
+-- a full table is unchanged
+pub insert_full_written_refused : IsAfterInsert direct_coding one_item 6 8 other_bytes 9 18 9 → ⊥
+unfolding opened
+insert_full_written_refused h = unequal_lists other_bytes one_bytes refl h.0.bytes
+
+-- and is not answered with ODHT_OK
+pub insert_full_status_refused : IsAfterInsert direct_coding one_item 6 8 one_bytes 9 0 9 → ⊥
+unfolding opened
+insert_full_status_refused h = unequal 0 18 refl h.1
+
+-- and writes no value
+pub insert_full_value_refused : IsAfterInsert direct_coding one_item 6 8 one_bytes 9 18 7 → ⊥
+unfolding opened
+insert_full_value_refused h = unequal 7 9 refl h.2
+
+-- ---- InsertAnswers
+-- the empty list of bytes has an error, and the buffers are unchanged
+pub too_short_insert : InsertAnswers direct_coding [] 5 7 9 1 [] 9
+unfolding opened
+too_short_insert = refused_insert direct_coding [] (TooShort 0) 1 refl refl 5 7 9
+
+-- a new key into a valid table
+pub new_insert : InsertAnswers direct_coding no_bytes 5 7 9 0 one_bytes 9
+unfolding opened
+new_insert = record {
+  refused = λ e is. never_refused direct_config no_items no_bytes e no_image is;
+  on_valid = λ P is. subst (λ T. IsAfterInsert direct_coding T 5 7 one_bytes 9 0 9)
+      (same_table no_items P no_bytes no_image is) insert_new;
+  on_any = λ is. (Ok None, (refl, refl), (Ok None, refl, InsertFrame.added 5 (lit< tt) (inl refl) (lit< tt)));
+}
+
+-- a key that was there
+pub again_insert : InsertAnswers direct_coding one_bytes 5 8 9 33 other_bytes 7
+unfolding opened
+again_insert = record {
+  refused = λ e is. never_refused direct_config one_item one_bytes e one_image is;
+  on_valid = λ P is. subst (λ T. IsAfterInsert direct_coding T 5 8 other_bytes 9 33 7)
+      (same_table one_item P one_bytes one_image is) insert_again;
+  on_any = λ is. (Ok (Some 7), (refl, refl), (Ok (Some (le_bytes 4 7)), refl, InsertFrame.overwrote 5 (lit< tt) refl));
+}
+
+-- another key into a full table
+pub full_insert : InsertAnswers direct_coding one_bytes 6 8 9 18 one_bytes 9
+unfolding opened
+full_insert = record {
+  refused = λ e is. never_refused direct_config one_item one_bytes e one_image is;
+  on_valid = λ P is. subst (λ T. IsAfterInsert direct_coding T 6 8 one_bytes 9 18 9)
+      (same_table one_item P one_bytes one_image is) insert_full;
+  on_any = λ is. (Err Full, (refl, refl), (Err Full, refl, InsertFrame.full (lit≤ tt)));
+}
+
+-- an error is not answered with another status
+pub insert_status_refused : InsertAnswers direct_coding [] 5 7 9 2 [] 9 → ⊥
+unfolding opened
+insert_status_refused h = unequal 2 1 refl (h.refused (TooShort 0) refl).0
+
+-- and the bytes are unchanged
+pub insert_bytes_refused : InsertAnswers direct_coding [] 5 7 9 1 (7 ∷ []) 9 → ⊥
+unfolding opened
+insert_bytes_refused h = unequal_lists (7 ∷ []) [] refl (h.refused (TooShort 0) refl).1
+
+-- and so does the value
+pub insert_written_refused : InsertAnswers direct_coding [] 5 7 9 1 [] 7 → ⊥
+unfolding opened
+insert_written_refused h = unequal 7 9 refl (h.refused (TooShort 0) refl).2
+
+-- a valid table that has room answers Full for no key
+pub insert_roomy_refused : InsertAnswers direct_coding no_bytes 5 7 9 18 no_bytes 9 → ⊥
+unfolding opened
+insert_roomy_refused h = unequal 18 0 refl (h.on_valid no_items no_image).1.0
+
+-- the error of an insert, and what it left
+left : (B D : List ℕ) (p : Pair) (e : Error) → InsertFrame direct_config B p (Err e) D → (e ≡ Full) × (D ≡ B)
+left B D p e (InsertFrame.full full) = (refl, refl)
+left B D p e (InsertFrame.no_slot none) = (refl, refl)
+
+-- of a key and a value
+framed_left : (B D : List ℕ) (k v : ℕ) (e : Error) → IsFramed direct_coding B k v (Err e) D → (e ≡ Full) × (D ≡ B)
+framed_left B D k v e (Ok o, same, frame) = absurd cc
+framed_left B D k v e (Err x, same, frame) =
+    let parts = left B D (record { key = le_bytes 4 k; value = le_bytes 4 v }) x frame in
+    (let only = parts.0 in cc, parts.1)
+
+-- bytes that are accepted and not valid are answered with no other status
+pub insert_other_status_refused : InsertAnswers direct_coding miscounted 6 8 9 50 miscounted 9 → ⊥
+insert_other_status_refused h = go (h.on_any accepted_bytes.2)
+  where
+    go : (r : Result (Option ℕ) Error) × IsAnswered r 9 50 9 × IsFramed direct_coding miscounted 6 8 r miscounted → ⊥
+    go (Ok None, answer, frame) = unequal 50 0 refl answer.0
+    go (Ok (Some v), answer, frame) = unequal 50 33 refl answer.0
+    go (Err e, answer, frame) =
+        unequal 50 18 refl (answer.0 ∙ ap status_of (framed_left miscounted miscounted 6 8 e frame).0)
+
+-- and are unchanged where the insert is answered with an error
+pub insert_other_bytes_refused : InsertAnswers direct_coding miscounted 6 8 9 18 no_bytes 9 → ⊥
+unfolding opened
+insert_other_bytes_refused h = go (h.on_any accepted_bytes.2)
+  where
+    go : (r : Result (Option ℕ) Error) × IsAnswered r 9 18 9 × IsFramed direct_coding miscounted 6 8 r no_bytes → ⊥
+    go (Ok None, answer, frame) = unequal 18 0 refl answer.0
+    go (Ok (Some v), answer, frame) = unequal 18 33 refl answer.0
+    go (Err e, answer, frame) = unequal_lists no_bytes miscounted refl (framed_left miscounted no_bytes 6 8 e frame).1

@@ -1,0 +1,132 @@
+-- Worked examples: the answers of a call for an order of inserts, of two tables and of bytes that the check rejects.
+--     fifteen_bytes            15 in slot 15, and after it 31 in slot 0, which would be in slot 15 if it came first
+--     padded                   the same bytes, where the padding is not zero
+--     unmade_bytes             the keys 0 and 1 each after the other, which no inserts make
+--     places                   an array of 48 elements
+use Rattle.std.proofs.Common.{◌≡◌, ℕ, List, [], ◌∷◌, refl, subst, lit≤, inl, replicate}
+use Rattle.odht_base.specs.Bytes.{overwritten_at}
+use Rattle.odht_base.specs.Image.{image}
+use Rattle.odht_base.specs.Made.{IsMade, IsInsertOrder}
+use Rattle.odht_base.specs.Table.{Table, count}
+use Rattle.odht_base.specs.Valid.{IsImage}
+use Rattle.odht_base.proofs.examples.Configs.{direct_config}
+use Rattle.odht_base.proofs.examples.InsertOrders.{fifteen_first, fifteen_made, fifteen_order, slot_order_refused}
+use Rattle.odht_base.proofs.examples.Unmade.{unmade, unmade_valid, unmade_refused}
+use Rattle.odht_base.proofs.lemmas.Placed.{IsPlaced-tests}
+use Rattle.odht_raw.specs.declared.error.Error.TheVariants.{TooShort, NonZeroPadding}
+use Rattle.odht_raw.proofs.examples.Apart.{unequal, unequal_lists}
+use Rattle.odht_raw.proofs.examples.Invalid.{unmade_accepted}
+use Rattle.odht_raw.proofs.examples.Opened.{opened}
+use Rattle.odht_raw.proofs.lemmas.WholeChecks.{valid_check}
+use Rattle.odht_calls.specs.Orders.{OrderAnswers}
+use Rattle.odht_calls.proofs.examples.Tables.{direct_coding, direct_format, same_table}
+use Rattle.odht_calls.proofs.lemmas.Opened.{never_refused}
+use Rattle.odht_calls.proofs.lemmas.Ordered.{refused_order, lengths_order, done_order, unmade_order}
+use Rattle.odht_calls.proofs.lemmas.Refused.{not_none}
+
+abbrev fifteen_bytes : List ℕ
+fifteen_bytes = image direct_config fifteen_first
+
+abbrev padded : List ℕ
+padded = overwritten_at fifteen_bytes 30 (1 ∷ [])
+
+abbrev unmade_bytes : List ℕ
+unmade_bytes = image direct_config unmade
+
+abbrev places : List ℕ
+places = replicate 48 9
+
+-- both tables are valid
+fifteen_image : IsImage direct_config fifteen_first fifteen_bytes
+unfolding opened
+fifteen_image = record {
+  valid = record {
+    placed = IsPlaced-tests direct_config fifteen_first (record { power = refl; least = lit≤ tt }) refl refl;
+    factor_low = lit≤ tt;
+    factor_high = lit≤ tt;
+    room = lit≤ tt;
+  };
+  bytes = refl;
+}
+
+unmade_image : IsImage direct_config unmade unmade_bytes
+unmade_image = record { valid = unmade_valid; bytes = refl }
+
+-- what is true of the table of these bytes
+of_fifteen : (X : Table → Type 0) → X fifteen_first → (P : Table) → IsImage direct_config P fifteen_bytes → X P
+of_fifteen X is P image = subst X (same_table fifteen_first P fifteen_bytes fifteen_image image) is
+
+of_unmade : (X : Table → Type 0) → X unmade → (P : Table) → IsImage direct_config P unmade_bytes → X P
+of_unmade X is P image = subst X (same_table unmade P unmade_bytes unmade_image image) is
+
+-- the empty list of bytes has an error, and the array is unchanged
+pub too_short_order : OrderAnswers direct_coding [] (9 ∷ []) 1 (9 ∷ [])
+unfolding opened
+too_short_order = refused_order direct_coding [] (9 ∷ []) (TooShort 0) 1 refl refl (λ valid. never_refused direct_config valid.0 [] (TooShort 0) valid.1 refl)
+
+-- so are bytes that opening accepts and the whole check rejects
+pub padded_order : OrderAnswers direct_coding padded (9 ∷ 9 ∷ []) 11 (9 ∷ 9 ∷ [])
+unfolding opened
+padded_order =
+    refused_order direct_coding padded (9 ∷ 9 ∷ []) (NonZeroPadding (1 ∷ 0 ∷ [])) 11 refl refl
+    (λ valid. not_none _ (NonZeroPadding (1 ∷ 0 ∷ [])) refl (valid_check direct_config padded direct_format valid))
+
+-- an array of three elements has one too many for two items
+pub lengths_order_three : OrderAnswers direct_coding fifteen_bytes (9 ∷ 9 ∷ 9 ∷ []) 35 (9 ∷ 9 ∷ 9 ∷ [])
+unfolding opened
+lengths_order_three =
+    lengths_order direct_coding fifteen_bytes (9 ∷ 9 ∷ 9 ∷ []) refl
+    (of_fifteen (λ P. 3 ≡ count P → ⊥) (unequal 3 2 refl))
+
+-- the order of inserts is 15 and then 0
+pub fifteen_answer : OrderAnswers direct_coding fifteen_bytes (9 ∷ 9 ∷ []) 0 (15 ∷ 0 ∷ [])
+unfolding opened
+fifteen_answer =
+    done_order direct_coding fifteen_bytes (9 ∷ 9 ∷ []) refl (15 ∷ 0 ∷ []) (of_fifteen (λ P. 2 ≡ count P) refl)
+    (of_fifteen (IsMade direct_config) (inl fifteen_made.0)) (of_fifteen (λ P. IsInsertOrder direct_config P (15 ∷ 0 ∷ [])) fifteen_order)
+
+-- and the other table has none
+pub unmade_answer : OrderAnswers direct_coding unmade_bytes places 37 places
+unfolding opened
+unmade_answer =
+    unmade_order direct_coding unmade_bytes places unmade_accepted.1 places (of_unmade (λ P. 48 ≡ count P) refl)
+    (of_unmade (λ P. IsMade direct_config P → ⊥) unmade_refused)
+
+-- what the whole check rejects is not answered with ODHT_OK
+pub order_status_refused : OrderAnswers direct_coding padded (9 ∷ 9 ∷ []) 0 (15 ∷ 0 ∷ []) → ⊥
+unfolding opened
+order_status_refused h = unequal 0 11 refl (h.refused (NonZeroPadding (1 ∷ 0 ∷ [])) refl).0
+
+-- and the array is unchanged
+pub order_kept_refused : OrderAnswers direct_coding padded (9 ∷ 9 ∷ []) 11 (15 ∷ 0 ∷ []) → ⊥
+unfolding opened
+order_kept_refused h = unequal_lists (15 ∷ 0 ∷ []) (9 ∷ 9 ∷ []) refl (h.refused (NonZeroPadding (1 ∷ 0 ∷ [])) refl).1
+
+-- an array of one element is not accepted for two items
+pub order_short_refused : OrderAnswers direct_coding fifteen_bytes (9 ∷ []) 0 (15 ∷ []) → ⊥
+unfolding opened
+order_short_refused h = unequal 0 35 refl (h.lengths fifteen_first fifteen_image (unequal 1 2 refl)).0
+
+-- and one of three elements is unchanged
+pub order_long_refused : OrderAnswers direct_coding fifteen_bytes (9 ∷ 9 ∷ 9 ∷ []) 35 (15 ∷ 0 ∷ 9 ∷ []) → ⊥
+unfolding opened
+order_long_refused h = unequal_lists (15 ∷ 0 ∷ 9 ∷ []) (9 ∷ 9 ∷ 9 ∷ []) refl (h.lengths fifteen_first fifteen_image (unequal 3 2 refl)).1
+
+-- a table that inserts make is not answered with ODHT_UNMADE
+pub order_given_up_refused : OrderAnswers direct_coding fifteen_bytes (9 ∷ 9 ∷ []) 37 (15 ∷ 0 ∷ []) → ⊥
+unfolding opened
+order_given_up_refused h = unequal 37 0 refl ((h.made fifteen_first fifteen_image refl).1 (inl fifteen_made.0))
+
+-- nor one that none make with ODHT_OK
+pub order_made_up_refused : OrderAnswers direct_coding unmade_bytes places 0 places → ⊥
+unfolding opened
+order_made_up_refused h = unmade_refused ((h.made unmade unmade_image refl).0 refl)
+
+-- nor with another number
+pub order_other_status_refused : OrderAnswers direct_coding unmade_bytes places 36 places → ⊥
+unfolding opened
+order_other_status_refused h = unequal 36 37 refl ((h.unmade unmade unmade_image refl).1 unmade_refused)
+
+-- slot order is none of inserts here
+pub order_by_slots_refused : OrderAnswers direct_coding fifteen_bytes (9 ∷ 9 ∷ []) 0 (0 ∷ 15 ∷ []) → ⊥
+order_by_slots_refused h = slot_order_refused (h.order fifteen_first fifteen_image refl)

@@ -1,0 +1,206 @@
+-- Worked examples: calls on opened tables. Views are slices at the address 640, openings are of slices at 64.
+--     at640, at64      the slice of these bytes at either address
+use Rattle.std.proofs.Common.{◌≡◌, ℕ, zero, suc, refl, sym, List, [], ◌∷◌, Option, Some, None, IfSome, lit<, ap, length, slice_get, subst}
+use Rattle.std.proofs.lemmas.Option.{none-some}
+use Rattle.std.specs.Borrow.{Bor}
+use Rattle.odht_base.specs.Numbers.{le_bytes}
+use Rattle.odht_base.specs.Table.{Table, count}
+use Rattle.odht_base.proofs.lemmas.Options.{some_same}
+use Rattle.odht_raw.specs.Coding.{value_for, HasStored}
+use Rattle.odht_raw.proofs.examples.Apart.{unequal, unequal_lists}
+use Rattle.odht_raw.proofs.examples.Opened.{opened}
+use Rattle.odht_calls.specs.Reads.{IsGot, IsGotAt}
+use Rattle.odht_calls.specs.Views.{OpenViewAnswers, ViewGetAnswers, ViewGetAllAnswers, ViewLenAnswers}
+use Rattle.odht_calls.proofs.examples.Tables.{direct_coding, one_item, one_bytes, no_bytes, miscounted, one_image, same_table, not_stored}
+
+abbrev at640 : List ℕ → Bor (List ℕ)
+at640 B = record { ref_ptr = (640, length B); now = B }
+
+abbrev at64 : List ℕ → Bor (List ℕ)
+at64 B = record { ref_ptr = (64, length B); now = B }
+
+-- ---- OpenViewAnswers
+-- the bytes of a valid table open, and the view is the very slice
+pub one_opens : OpenViewAnswers direct_coding.format (at64 one_bytes) (at640 no_bytes) 0 (at64 one_bytes)
+unfolding opened
+one_opens = record {
+  status = refl;
+  opened = λ ok. refl;
+  accepted = λ ok. refl;
+  refused = λ other. absurd (other refl);
+}
+
+-- the empty list of bytes does not, and the view is unchanged
+pub too_short_stays : OpenViewAnswers direct_coding.format (at64 []) (at640 no_bytes) 1 (at640 no_bytes)
+unfolding opened
+too_short_stays = record {
+  status = refl;
+  opened = λ ok. absurd (unequal 1 0 refl ok);
+  accepted = λ ok. absurd (unequal 1 0 refl ok);
+  refused = λ other. refl;
+}
+
+-- an error is not answered with ODHT_OK
+pub view_status_refused : OpenViewAnswers direct_coding.format (at64 []) (at640 no_bytes) 0 (at64 []) → ⊥
+unfolding opened
+view_status_refused h = unequal 0 1 refl h.status
+
+-- nor are accepted bytes left out of the view
+pub view_unwritten_refused : OpenViewAnswers direct_coding.format (at64 one_bytes) (at640 no_bytes) 0 (at640 no_bytes) → ⊥
+unfolding opened
+view_unwritten_refused h = unequal_lists no_bytes one_bytes refl (ap (λ b. b.now) (h.opened refl))
+
+-- and no other slice takes their place, even of the same bytes
+pub view_copied_refused : OpenViewAnswers direct_coding.format (at64 one_bytes) (at640 no_bytes) 0 (at640 one_bytes) → ⊥
+unfolding opened
+view_copied_refused h = unequal 640 64 refl (ap (λ b. b.ref_ptr.0) (h.opened refl))
+
+-- a view that is answered with ODHT_OK is of accepted bytes
+pub view_unaccepted_refused : OpenViewAnswers direct_coding.format (at64 one_bytes) (at640 no_bytes) 0 (at64 []) → ⊥
+unfolding opened
+view_unaccepted_refused h = none-some _ (sym (h.accepted refl))
+
+-- and an error leaves the view unchanged
+pub view_written_refused : OpenViewAnswers direct_coding.format (at64 []) (at640 no_bytes) 1 (at64 []) → ⊥
+unfolding opened
+view_written_refused h = unequal_lists [] no_bytes refl (ap (λ b. b.now) (h.refused (unequal 1 0 refl)))
+
+-- ---- ViewGetAnswers
+-- the key 5 of a valid table has the value 7
+pub view_present : ViewGetAnswers direct_coding one_bytes 5 9 0 7
+unfolding opened
+view_present = record {
+  on_valid = λ P is. subst (λ T. IsGot (value_for direct_coding T 5) 9 0 7)
+      (same_table one_item P one_bytes one_image is) (refl, refl);
+  on_any = (Some 7, (refl, refl), (le_bytes 4 7, refl, (5, lit< tt, refl, refl)));
+}
+
+-- and the key 6 has none
+pub view_absent : ViewGetAnswers direct_coding one_bytes 6 9 32 9
+unfolding opened
+view_absent = record {
+  on_valid = λ P is. subst (λ T. IsGot (value_for direct_coding T 6) 9 32 9)
+      (same_table one_item P one_bytes one_image is) (refl, refl);
+  on_any = (None, (refl, refl), tt);
+}
+
+-- a present key of a valid table is not answered as an absent one
+pub view_missed_refused : ViewGetAnswers direct_coding one_bytes 5 9 32 9 → ⊥
+unfolding opened
+view_missed_refused h = unequal 32 0 refl (h.on_valid one_item one_image).0
+
+-- bytes that are accepted and not valid are answered with no third status
+pub view_third_status_refused : ViewGetAnswers direct_coding miscounted 6 9 7 9 → ⊥
+view_third_status_refused h = go h.on_any
+  where
+    go : (o : Option ℕ) × IsGot o 9 7 9 × IfSome o (HasStored direct_coding miscounted 6) → ⊥
+    go (None, answer, stored) = unequal 7 32 refl answer.0
+    go (Some v, answer, stored) = unequal 7 0 refl answer.0
+
+-- and with no value that none of their slots has
+pub view_not_stored_refused : ViewGetAnswers direct_coding miscounted 6 9 0 7 → ⊥
+view_not_stored_refused h = go h.on_any
+  where
+    go : (o : Option ℕ) × IsGot o 9 0 7 × IfSome o (HasStored direct_coding miscounted 6) → ⊥
+    go (None, answer, stored) = unequal 0 32 refl answer.0
+    go (Some v, answer, stored) = not_stored v stored
+
+-- ---- ViewLenAnswers
+-- a valid table with one item
+pub view_one_len : ViewLenAnswers direct_coding one_bytes 1
+unfolding opened
+view_one_len = record {
+  by_header = refl;
+  on_valid = λ P is. subst (λ T. 1 ≡ count T) (same_table one_item P one_bytes one_image is) refl;
+}
+
+-- of bytes that are accepted and not valid, the number is that in the header
+pub view_recounted_refused : ViewLenAnswers direct_coding miscounted 0 → ⊥
+unfolding opened
+view_recounted_refused h = unequal 0 5 refl h.by_header
+
+-- and of a valid table it is its count
+pub view_uncounted_refused : ViewLenAnswers direct_coding one_bytes 0 → ⊥
+unfolding opened
+view_uncounted_refused h = unequal 0 1 refl (h.on_valid one_item one_image)
+
+-- ---- ViewGetAllAnswers, here of one key, into the arrays 9 ∷ [] and 3 ∷ []
+-- arrays of two lengths are answered with ODHT_BAD_LENGTHS, and are unchanged
+pub view_lengths : ViewGetAllAnswers direct_coding one_bytes (5 ∷ []) [] (3 ∷ []) 35 [] (3 ∷ [])
+view_lengths = record {
+  lengths = λ other. (refl, refl, refl);
+  looked_up = λ long. absurd (unequal 0 1 refl long.0);
+  on_valid = λ P i k long is at. absurd (unequal 0 1 refl long.0);
+  on_any = λ i k long at. absurd (unequal 0 1 refl long.0);
+}
+
+-- the key 5 of a valid table has the value 7, and is reported as found
+pub view_present_all : ViewGetAllAnswers direct_coding one_bytes (5 ∷ []) (9 ∷ []) (3 ∷ []) 0 (7 ∷ []) (1 ∷ [])
+unfolding opened
+view_present_all = record {
+  lengths = λ other. absurd (other (refl, refl));
+  looked_up = λ long. refl;
+  on_valid = λ P i k long is at. valid P (same_table one_item P one_bytes one_image is) i k at;
+  on_any = λ i k long at. any i k at;
+}
+  where
+    valid : (P : Table) → one_item ≡ P → (i k : ℕ) → slice_get (5 ∷ []) i ≡ Some k
+        → IsGotAt (value_for direct_coding P k) (slice_get (9 ∷ []) i) (slice_get (1 ∷ []) i) (slice_get (7 ∷ []) i)
+    valid P same zero k at =
+        subst (λ T. IsGotAt (value_for direct_coding T k) (Some 9) (Some 1) (Some 7)) same
+        (subst (λ x. IsGotAt (value_for direct_coding one_item x) (Some 9) (Some 1) (Some 7))
+        (some_same 5 k at) (refl, refl))
+    valid P same (suc i) k at = absurd (none-some k at)
+
+    any : (i k : ℕ) → slice_get (5 ∷ []) i ≡ Some k
+        → (o : Option ℕ) × IsGotAt o (slice_get (9 ∷ []) i) (slice_get (1 ∷ []) i) (slice_get (7 ∷ []) i)
+        × IfSome o (HasStored direct_coding one_bytes k)
+    any zero k at =
+        let stored : HasStored direct_coding one_bytes 5 7 = (le_bytes 4 7, refl, (5, lit< tt, refl, refl)) in
+        (Some 7, (refl, refl), subst (λ x. HasStored direct_coding one_bytes x 7) (some_same 5 k at) stored)
+    any (suc i) k at = absurd (none-some k at)
+
+-- arrays of two lengths are not answered with ODHT_OK
+pub view_lengths_status_refused : ViewGetAllAnswers direct_coding one_bytes (5 ∷ []) [] (3 ∷ []) 0 [] (3 ∷ []) → ⊥
+view_lengths_status_refused h = unequal 0 35 refl (h.lengths (λ long. unequal 0 1 refl long.0)).0
+
+-- and the values are unchanged
+pub view_lengths_values_refused : ViewGetAllAnswers direct_coding one_bytes (5 ∷ []) [] (3 ∷ []) 35 (7 ∷ []) (3 ∷ []) → ⊥
+view_lengths_values_refused h = unequal_lists (7 ∷ []) [] refl (h.lengths (λ long. unequal 0 1 refl long.0)).1
+
+-- and so does what was found
+pub view_lengths_found_refused : ViewGetAllAnswers direct_coding one_bytes (5 ∷ []) (9 ∷ []) [] 35 (9 ∷ []) (1 ∷ []) → ⊥
+view_lengths_found_refused h = unequal_lists (1 ∷ []) [] refl (h.lengths (λ long. unequal 0 1 refl long.1)).2
+
+-- arrays of one length are answered with ODHT_OK, also where the one key is found
+pub view_all_status_refused : ViewGetAllAnswers direct_coding one_bytes (5 ∷ []) (9 ∷ []) (3 ∷ []) 32 (7 ∷ []) (1 ∷ []) → ⊥
+view_all_status_refused h = unequal 32 0 refl (h.looked_up (refl, refl))
+
+-- a present key of a valid table is not reported as absent
+pub view_missed_all_refused : ViewGetAllAnswers direct_coding one_bytes (5 ∷ []) (9 ∷ []) (3 ∷ []) 0 (9 ∷ []) (0 ∷ [])
+    → ⊥
+unfolding opened
+view_missed_all_refused h = unequal 0 1 refl (some_same 0 1 (h.on_valid one_item 0 5 (refl, refl) one_image refl).0)
+
+-- and its value is written
+pub view_unwritten_all_refused : ViewGetAllAnswers direct_coding one_bytes (5 ∷ []) (9 ∷ []) (3 ∷ []) 0 (9 ∷ []) (1 ∷ [])
+    → ⊥
+unfolding opened
+view_unwritten_all_refused h =
+    unequal 9 7 refl (some_same 9 7 (h.on_valid one_item 0 5 (refl, refl) one_image refl).1)
+
+-- each element of what was found is 0 or 1, also of bytes that are accepted and not valid
+pub view_third_found_refused : ViewGetAllAnswers direct_coding miscounted (6 ∷ []) (9 ∷ []) (3 ∷ []) 0 (9 ∷ []) (2 ∷ []) → ⊥
+view_third_found_refused h = go (h.on_any 0 6 (refl, refl) refl)
+  where
+    go : (o : Option ℕ) × IsGotAt o (Some 9) (Some 2) (Some 9) × IfSome o (HasStored direct_coding miscounted 6) → ⊥
+    go (None, answer, stored) = unequal 2 0 refl (some_same 2 0 answer.0)
+    go (Some v, answer, stored) = unequal 2 1 refl (some_same 2 1 answer.0)
+
+-- and no value is found that none of their slots has
+pub view_not_stored_all_refused : ViewGetAllAnswers direct_coding miscounted (6 ∷ []) (9 ∷ []) (3 ∷ []) 0 (7 ∷ []) (1 ∷ []) → ⊥
+view_not_stored_all_refused h = go (h.on_any 0 6 (refl, refl) refl)
+  where
+    go : (o : Option ℕ) × IsGotAt o (Some 9) (Some 1) (Some 7) × IfSome o (HasStored direct_coding miscounted 6) → ⊥
+    go (None, answer, stored) = unequal 1 0 refl (some_same 1 0 answer.0)
+    go (Some v, answer, stored) = not_stored v stored

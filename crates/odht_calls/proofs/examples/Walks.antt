@@ -1,0 +1,268 @@
+-- Worked examples: what a call for the item count answers, and what a walk does, here into arrays of up to three
+-- elements.
+use Rattle.std.proofs.Common.{◌≡◌, ◌<◌, ◌≤◌, refl, ap, arith, length, true≢false, Some, None, [], ◌∷◌, lit<, lit≤, subst}
+use Rattle.odht_base.specs.Table.{Table, count}
+use Rattle.odht_base.proofs.examples.Configs.{pair32}
+use Rattle.odht_raw.specs.declared.error.Error.TheVariants.{TooShort}
+use Rattle.odht_raw.proofs.examples.Opened.{opened}
+use Rattle.odht_calls.specs.Reads.{LenAnswers}
+use Rattle.odht_calls.specs.Walks.{IsWalked, WalkAnswers}
+use Rattle.odht_calls.proofs.lemmas.Opened.{never_refused}
+use Rattle.odht_calls.proofs.lemmas.Refused.{refused_len, refused_walk}
+use Rattle.odht_raw.proofs.examples.Apart.{unequal, unequal_lists}
+use Rattle.odht_calls.proofs.examples.Tables.{direct_coding, one_item, one_bytes, miscounted, one_image, accepted_bytes, same_table}
+
+-- ---- LenAnswers
+-- the empty list of bytes has an error, and the buffer is unchanged
+pub too_short_len : LenAnswers direct_coding [] 9 1 9
+unfolding opened
+too_short_len = refused_len direct_coding [] (TooShort 0) 1 refl refl 9
+
+-- a valid table with one item
+pub one_len : LenAnswers direct_coding one_bytes 9 0 1
+unfolding opened
+one_len = record {
+  status = refl;
+  refused = λ e is. never_refused direct_coding.format one_item one_bytes e one_image is;
+  by_header = λ is. refl;
+  on_valid = λ P is. subst (λ T. 1 ≡ count T) (same_table one_item P one_bytes one_image is) refl;
+}
+
+-- an error is not answered with ODHT_OK
+pub len_status_refused : LenAnswers direct_coding [] 9 0 9 → ⊥
+unfolding opened
+len_status_refused h = unequal 0 1 refl h.status
+
+-- and writes no number
+pub len_written_refused : LenAnswers direct_coding [] 9 1 0 → ⊥
+unfolding opened
+len_written_refused h = unequal 0 9 refl (h.refused (TooShort 0) refl)
+
+-- of bytes that are accepted and not valid, the number is that in the header
+pub len_recounted_refused : LenAnswers direct_coding miscounted 9 0 0 → ⊥
+unfolding opened
+len_recounted_refused h = unequal 0 5 refl (h.by_header accepted_bytes.2)
+
+-- and of a valid table it is its count
+pub len_uncounted_refused : LenAnswers direct_coding one_bytes 9 0 0 → ⊥
+unfolding opened
+len_uncounted_refused h = unequal 0 1 refl (h.on_valid one_item one_image)
+
+-- ---- IsWalked
+-- a table of four slots, of which slots 1 and 3 hold a pair
+abbrev two : Table
+two = record { factor = 65535; cells = None ∷ Some (pair32 1 2) ∷ None ∷ Some (pair32 3 4) ∷ [] }
+
+-- both pairs fit arrays of three elements, whose last elements are unchanged
+pub walked_all : IsWalked direct_coding two 0 (9 ∷ 9 ∷ 9 ∷ []) (8 ∷ 8 ∷ 8 ∷ []) 0 4 (1 ∷ 3 ∷ 9 ∷ []) (2 ∷ 4 ∷ 8 ∷ []) 2
+unfolding opened
+walked_all = record {
+  known = refl;
+  keys = refl;
+  values = refl;
+  left = refl;
+  all = λ fits. (refl, refl);
+  more = λ less. let no : 3 < 2 = less in absurd (omega (arith, no));
+}
+
+-- both pairs fit arrays of two elements too
+pub walked_exactly : IsWalked direct_coding two 0 (9 ∷ 9 ∷ []) (8 ∷ 8 ∷ []) 0 4 (1 ∷ 3 ∷ []) (2 ∷ 4 ∷ []) 2
+unfolding opened
+walked_exactly = record {
+  known = refl;
+  keys = refl;
+  values = refl;
+  left = refl;
+  all = λ fits. (refl, refl);
+  more = λ less. let no : 2 < 2 = less in absurd (omega (arith, no));
+}
+
+-- arrays of one element take the first pair, and slot 3 is the one to continue at
+pub walked_first : IsWalked direct_coding two 0 (9 ∷ []) (8 ∷ []) 36 3 (1 ∷ []) (2 ∷ []) 1
+unfolding opened
+walked_first = record {
+  known = refl;
+  keys = refl;
+  values = refl;
+  left = refl;
+  all = λ fits. let no : 2 ≤ 1 = fits in absurd (omega (arith, no));
+  more = λ less. (refl, refl);
+}
+
+-- from there on they take the other
+pub walked_rest : IsWalked direct_coding two 3 (9 ∷ []) (8 ∷ []) 0 4 (3 ∷ []) (4 ∷ []) 1
+unfolding opened
+walked_rest = record {
+  known = refl;
+  keys = refl;
+  values = refl;
+  left = refl;
+  all = λ fits. (refl, refl);
+  more = λ less. let no : 1 < 1 = less in absurd (omega (arith, no));
+}
+
+-- past the last slot nothing is left
+pub walked_past : IsWalked direct_coding two 7 (9 ∷ []) (8 ∷ []) 0 4 (9 ∷ []) (8 ∷ []) 0
+unfolding opened
+walked_past = record {
+  known = refl;
+  keys = refl;
+  values = refl;
+  left = refl;
+  all = λ fits. (refl, refl);
+  more = λ less. let no : 1 < 0 = less in absurd (omega (arith, no));
+}
+
+-- the number of pairs is not less than the arrays take
+pub walked_fewer_refused : IsWalked direct_coding two 0 (9 ∷ 9 ∷ 9 ∷ []) (8 ∷ 8 ∷ 8 ∷ []) 0 4 (1 ∷ 9 ∷ 9 ∷ []) (2 ∷ 8 ∷ 8 ∷ []) 1
+    → ⊥
+unfolding opened
+walked_fewer_refused h = unequal 1 2 refl h.known
+
+-- the keys are in their order
+pub walked_keys_refused : IsWalked direct_coding two 0 (9 ∷ 9 ∷ 9 ∷ []) (8 ∷ 8 ∷ 8 ∷ []) 0 4 (3 ∷ 1 ∷ 9 ∷ []) (2 ∷ 4 ∷ 8 ∷ []) 2
+    → ⊥
+unfolding opened
+walked_keys_refused h = unequal_lists (3 ∷ 1 ∷ 9 ∷ []) (1 ∷ 3 ∷ 9 ∷ []) refl h.keys
+
+-- and no key after them changes
+pub walked_keys_behind_refused : IsWalked direct_coding two 0 (9 ∷ 9 ∷ 9 ∷ []) (8 ∷ 8 ∷ 8 ∷ []) 0 4 (1 ∷ 3 ∷ 0 ∷ []) (2 ∷ 4 ∷ 8 ∷ []) 2
+    → ⊥
+unfolding opened
+walked_keys_behind_refused h = unequal_lists (1 ∷ 3 ∷ 0 ∷ []) (1 ∷ 3 ∷ 9 ∷ []) refl h.keys
+
+-- each value has the index of its key
+pub walked_values_refused : IsWalked direct_coding two 0 (9 ∷ 9 ∷ 9 ∷ []) (8 ∷ 8 ∷ 8 ∷ []) 0 4 (1 ∷ 3 ∷ 9 ∷ []) (4 ∷ 2 ∷ 8 ∷ []) 2
+    → ⊥
+unfolding opened
+walked_values_refused h = unequal_lists (4 ∷ 2 ∷ 8 ∷ []) (2 ∷ 4 ∷ 8 ∷ []) refl h.values
+
+-- and no value after them changes
+pub walked_values_behind_refused : IsWalked direct_coding two 0 (9 ∷ 9 ∷ 9 ∷ []) (8 ∷ 8 ∷ 8 ∷ []) 0 4 (1 ∷ 3 ∷ 9 ∷ []) (2 ∷ 4 ∷ 0 ∷ []) 2
+    → ⊥
+unfolding opened
+walked_values_behind_refused h = unequal_lists (2 ∷ 4 ∷ 0 ∷ []) (2 ∷ 4 ∷ 8 ∷ []) refl h.values
+
+-- arrays that take all pairs, and no more, are not too small
+pub walked_all_status_refused : IsWalked direct_coding two 0 (9 ∷ 9 ∷ []) (8 ∷ 8 ∷ []) 36 4 (1 ∷ 3 ∷ []) (2 ∷ 4 ∷ []) 2 → ⊥
+unfolding opened
+walked_all_status_refused h = unequal 36 0 refl (h.all (lit≤ tt)).0
+
+-- and the cursor is past all slots
+pub walked_all_cursor_refused : IsWalked direct_coding two 0 (9 ∷ 9 ∷ []) (8 ∷ 8 ∷ []) 0 5 (1 ∷ 3 ∷ []) (2 ∷ 4 ∷ []) 2 → ⊥
+unfolding opened
+walked_all_cursor_refused h = unequal 5 4 refl (h.all (lit≤ tt)).1
+
+-- others are too small
+pub walked_more_status_refused : IsWalked direct_coding two 0 (9 ∷ []) (8 ∷ []) 0 3 (1 ∷ []) (2 ∷ []) 1 → ⊥
+unfolding opened
+walked_more_status_refused h = unequal 0 36 refl (h.more (lit< tt)).0
+
+-- no pair is left out by the cursor
+pub walked_cursor_skips_refused : IsWalked direct_coding two 0 (9 ∷ []) (8 ∷ []) 36 4 (1 ∷ []) (2 ∷ []) 1 → ⊥
+unfolding opened
+walked_cursor_skips_refused h = unequal 0 1 refl (ap length h.left)
+
+-- and none comes again
+pub walked_cursor_repeats_refused : IsWalked direct_coding two 0 (9 ∷ []) (8 ∷ []) 36 1 (1 ∷ []) (2 ∷ []) 1 → ⊥
+unfolding opened
+walked_cursor_repeats_refused h = unequal 2 1 refl (ap length h.left)
+
+-- it is the slot of the next pair, and no free one before it
+pub walked_cursor_early_refused : IsWalked direct_coding two 0 (9 ∷ []) (8 ∷ []) 36 2 (1 ∷ []) (2 ∷ []) 1 → ⊥
+unfolding opened
+walked_cursor_early_refused h = true≢false (h.more (lit< tt)).1
+
+-- ---- WalkAnswers
+-- the empty list of bytes has an error, and the buffers are unchanged
+pub too_short_walk : WalkAnswers direct_coding [] 2 (9 ∷ []) (8 ∷ []) 4 1 2 (9 ∷ []) (8 ∷ []) 4
+unfolding opened
+too_short_walk = refused_walk direct_coding [] (TooShort 0) 1 refl refl 2 (9 ∷ []) (8 ∷ []) 4 refl
+
+-- arrays of two lengths are answered with ODHT_BAD_LENGTHS, and the buffers are unchanged
+pub lengths_walk : WalkAnswers direct_coding one_bytes 2 (9 ∷ []) [] 4 35 2 (9 ∷ []) [] 4
+lengths_walk = record {
+  lengths = λ other. (refl, refl, refl, refl, refl);
+  refused = λ e long is. absurd (unequal 0 1 refl long);
+  on_valid = λ P long is. absurd (unequal 0 1 refl long);
+  on_any = λ long is. absurd (unequal 0 1 refl long);
+}
+
+-- the pair of a valid table with one item
+one_walked : IsWalked direct_coding one_item 0 (9 ∷ 9 ∷ []) (8 ∷ 8 ∷ []) 0 16 (5 ∷ 9 ∷ []) (7 ∷ 8 ∷ []) 1
+unfolding opened
+one_walked = record {
+  known = refl;
+  keys = refl;
+  values = refl;
+  left = refl;
+  all = λ fits. (refl, refl);
+  more = λ less. let no : 2 < 1 = less in absurd (omega (arith, no));
+}
+
+-- and the walk over its bytes
+pub one_walk : WalkAnswers direct_coding one_bytes 0 (9 ∷ 9 ∷ []) (8 ∷ 8 ∷ []) 4 0 16 (5 ∷ 9 ∷ []) (7 ∷ 8 ∷ []) 1
+unfolding opened
+one_walk = record {
+  lengths = λ other. absurd (other refl);
+  refused = λ e long is. never_refused direct_coding.format one_item one_bytes e one_image is;
+  on_valid = λ P long is. subst
+      (λ T. IsWalked direct_coding T 0 (9 ∷ 9 ∷ []) (8 ∷ 8 ∷ []) 0 16 (5 ∷ 9 ∷ []) (7 ∷ 8 ∷ []) 1)
+      (same_table one_item P one_bytes one_image is) one_walked;
+  on_any = λ long is. one_walked;
+}
+
+-- arrays of two lengths are not answered with ODHT_OK
+pub walk_lengths_status_refused : WalkAnswers direct_coding one_bytes 2 (9 ∷ []) [] 4 0 2 (9 ∷ []) [] 4 → ⊥
+walk_lengths_status_refused h = unequal 0 35 refl (h.lengths (unequal 0 1 refl)).0
+
+-- and the cursor is unchanged
+pub walk_lengths_cursor_refused : WalkAnswers direct_coding one_bytes 2 (9 ∷ []) [] 4 35 16 (9 ∷ []) [] 4 → ⊥
+walk_lengths_cursor_refused h = unequal 16 2 refl (h.lengths (unequal 0 1 refl)).1
+
+-- and the keys
+pub walk_lengths_keys_refused : WalkAnswers direct_coding one_bytes 2 (9 ∷ []) [] 4 35 2 (5 ∷ []) [] 4 → ⊥
+walk_lengths_keys_refused h = unequal_lists (5 ∷ []) (9 ∷ []) refl (h.lengths (unequal 0 1 refl)).2
+
+-- and the values
+pub walk_lengths_values_refused : WalkAnswers direct_coding one_bytes 2 [] (8 ∷ []) 4 35 2 [] (7 ∷ []) 4 → ⊥
+walk_lengths_values_refused h = unequal_lists (7 ∷ []) (8 ∷ []) refl (h.lengths (unequal 1 0 refl)).3
+
+-- and the number
+pub walk_lengths_number_refused : WalkAnswers direct_coding one_bytes 2 (9 ∷ []) [] 4 35 2 (9 ∷ []) [] 0 → ⊥
+walk_lengths_number_refused h = unequal 0 4 refl (h.lengths (unequal 0 1 refl)).4
+
+-- an error is not answered with another status
+pub walk_status_refused : WalkAnswers direct_coding [] 2 (9 ∷ []) (8 ∷ []) 4 2 2 (9 ∷ []) (8 ∷ []) 4 → ⊥
+unfolding opened
+walk_status_refused h = unequal 2 1 refl (h.refused (TooShort 0) refl refl).0
+
+-- and the cursor is unchanged
+pub walk_cursor_refused : WalkAnswers direct_coding [] 2 (9 ∷ []) (8 ∷ []) 4 1 0 (9 ∷ []) (8 ∷ []) 4 → ⊥
+unfolding opened
+walk_cursor_refused h = unequal 0 2 refl (h.refused (TooShort 0) refl refl).1
+
+-- and the keys
+pub walk_keys_refused : WalkAnswers direct_coding [] 2 (9 ∷ []) (8 ∷ []) 4 1 2 (5 ∷ []) (8 ∷ []) 4 → ⊥
+unfolding opened
+walk_keys_refused h = unequal_lists (5 ∷ []) (9 ∷ []) refl (h.refused (TooShort 0) refl refl).2
+
+-- and the values
+pub walk_values_refused : WalkAnswers direct_coding [] 2 (9 ∷ []) (8 ∷ []) 4 1 2 (9 ∷ []) (7 ∷ []) 4 → ⊥
+unfolding opened
+walk_values_refused h = unequal_lists (7 ∷ []) (8 ∷ []) refl (h.refused (TooShort 0) refl refl).3
+
+-- and the number
+pub walk_number_refused : WalkAnswers direct_coding [] 2 (9 ∷ []) (8 ∷ []) 4 1 2 (9 ∷ []) (8 ∷ []) 0 → ⊥
+unfolding opened
+walk_number_refused h = unequal 0 4 refl (h.refused (TooShort 0) refl refl).4
+
+-- no pair of a valid table is left out
+pub walk_missed_refused : WalkAnswers direct_coding one_bytes 0 (9 ∷ []) (8 ∷ []) 4 0 16 (9 ∷ []) (8 ∷ []) 0 → ⊥
+unfolding opened
+walk_missed_refused h = unequal 0 1 refl (h.on_valid one_item refl one_image).known
+
+-- for bytes that are accepted and not valid, a pair that no occupied slot has is not in the walk
+pub walk_made_up_refused : WalkAnswers direct_coding miscounted 0 (9 ∷ []) (8 ∷ []) 4 0 16 (5 ∷ []) (7 ∷ []) 1 → ⊥
+unfolding opened
+walk_made_up_refused h = unequal 1 0 refl (h.on_any refl accepted_bytes.2).known

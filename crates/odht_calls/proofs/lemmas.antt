@@ -1,0 +1,26 @@
+-- what opens
+pub mod Opened
+-- arrays that are written in turn
+pub mod Arrays
+-- lookups of many keys
+pub mod Got
+-- no error has the status `done`
+pub mod Statuses
+-- the status of an error
+pub mod Refused
+-- the numbers in a header
+pub mod Sizes
+-- iterators that are called until they end
+pub mod Drained
+-- tables that are handed out, and what the call answers that builds a growing one
+pub mod HandedOut
+-- walks into arrays
+pub mod Walked
+-- what an insert answers
+pub mod Inserted
+-- what the call for an order of inserts answers
+pub mod Ordered
+-- a new table for as many pairs as there are
+pub mod NewBuilds
+-- the errors of a growth, and what the call answers
+pub mod Grown

@@ -1,0 +1,56 @@
+-- What the call for an order of inserts answers.
+use Rattle.std.proofs.Common.{◌≡◌, ◌∙◌, ℕ, List, refl, arith, length, Some, None}
+use Rattle.odht_base.specs.Made.{IsMade, IsInsertOrder}
+use Rattle.odht_base.specs.Table.{Table, count}
+use Rattle.odht_base.specs.Valid.{IsImage, IsValidBytes}
+use Rattle.odht_raw.specs.Coding.{Coding}
+use Rattle.odht_raw.specs.Refusals.{check_refusal}
+use Rattle.odht_raw.specs.declared.error.Error.{Error}
+use Rattle.odht_calls.specs.Orders.{OrderAnswers}
+use Rattle.odht_calls.specs.Statuses.{status_of, done, bad_lengths, unmade}
+use Rattle.odht_calls.proofs.lemmas.Refused.{known, not_none}
+
+module _ {K V : Type 0} (c : Coding K V) (B out : List ℕ) where
+  -- for bytes that the whole check rejects
+  pub refused_order : (a : Error) (s : ℕ) → check_refusal c.format B ≡ Some a → s ≡ status_of a → (IsValidBytes c.format B → ⊥) → OrderAnswers c B out s out
+  refused_order a s is status invalid = record {
+    refused = λ e other. (status ∙ known _ a e is other, refl);
+    lengths = λ P image other. absurd (invalid (P, image));
+    made = λ P image long. absurd (invalid (P, image));
+    unmade = λ P image long. absurd (invalid (P, image));
+    order = λ P image is_done. absurd (invalid (P, image));
+  }
+
+  -- and of the others
+  module _ (none : check_refusal c.format B ≡ None) where
+    -- into an array of another length than the table has items
+    pub lengths_order : ((P : Table) → IsImage c.format P B → length out ≡ count P → ⊥) → OrderAnswers c B out bad_lengths out
+    lengths_order unlike = record {
+      refused = λ e is. not_none _ e is none;
+      lengths = λ P image other. (refl, refl);
+      made = λ P image long. absurd (unlike P image long);
+      unmade = λ P image long. absurd (unlike P image long);
+      order = λ P image is_done. absurd (omega (arith, is_done));
+    }
+
+    -- where inserts make the table
+    pub done_order : (out' : List ℕ) → ((P : Table) → IsImage c.format P B → length out ≡ count P) → ((P : Table) → IsImage c.format P B → IsMade c.format P) → ((P : Table) → IsImage c.format P B → IsInsertOrder c.format P out')
+        → OrderAnswers c B out done out'
+    done_order out' long made order = record {
+      refused = λ e is. not_none _ e is none;
+      lengths = λ P image other. absurd (other (long P image));
+      made = λ P image same. (λ is_done. made P image, λ is. refl);
+      unmade = λ P image same. (λ is_unmade. absurd (omega (arith, is_unmade)), λ never. absurd (never (made P image)));
+      order = λ P image is_done. order P image;
+    }
+
+    -- and where none do
+    pub unmade_order : (out' : List ℕ) → ((P : Table) → IsImage c.format P B → length out ≡ count P) → ((P : Table) → IsImage c.format P B → IsMade c.format P → ⊥)
+        → OrderAnswers c B out unmade out'
+    unmade_order out' long never = record {
+      refused = λ e is. not_none _ e is none;
+      lengths = λ P image other. absurd (other (long P image));
+      made = λ P image same. (λ is_done. absurd (omega (arith, is_done)), λ is. absurd (never P image is));
+      unmade = λ P image same. (λ is_unmade. never P image, λ is_none. refl);
+      order = λ P image is_done. absurd (omega (arith, is_done));
+    }

@@ -1,0 +1,43 @@
+use Rattle.std.proofs.Common.{rules, ◌≡◌, ◌∙◌, ap, refl, Err, None}
+use Rattle.odht_base.specs.Format.{Format, format_of}
+use Rattle.odht_raw.specs.Refusals.{opening_refusal}
+use Rattle.odht_raw.specs.declared.error.Error.TheVariants.{Full}
+use Rattle.odht_calls.specs.Statuses.{status_of}
+use Rattle.odht_calls.proofs.lemmas.Inserted.{accepted_insert, full_insert}
+use Rattle.odht_calls.proofs.lemmas.Refused.{refused_insert}
+use Rattle.odht_calls.proofs.write.insert.Goals as goal
+
+pub returns-in-Err-clause-answer : goal.returns-in-Err-clause-answer
+returns-in-Err-clause-answer g c =
+    let F : Format = format_of g.C.EncodedKey.ByteArray.LEN g.C.EncodedValue.ByteArray.LEN g.C.H.HashFn.hash in
+    refused_insert _ _ c.in-Err.refused _ (c.in-Err.ensures.err ∙ ap (opening_refusal F) c.bytes.ensures) c.status_of.ensures _ _ _
+
+pub returns-in-Ok-Some-clause-answer : goal.returns-in-Ok-Some-clause-answer
+returns-in-Ok-Some-clause-answer g c =
+    let F : Format = format_of g.C.EncodedKey.ByteArray.LEN g.C.EncodedValue.ByteArray.LEN g.C.H.HashFn.hash in
+    let bytes = g.M.ByteStore.bytes in
+    let accepted : None ≡ opening_refusal F (bytes c.args.store.now) = c.in_default.ensures.err ∙ ap (opening_refusal F) c.bytes.ensures in
+    let reads : bytes c.from_raw_bytes_unchecked-table.result.now ≡ bytes c.args.store.now = ap (λ s. bytes s.now) c.from_raw_bytes_unchecked-table.ensures in
+    accepted_insert _ _ _ _ _ _ _ _ _ _ accepted reads (ap bytes (search (rules, c.into_data-store.ensures.data, c.insert-answer.ensures.same_store, c.from_raw_bytes_unchecked-table.ensures)))
+    c.in-Ok-Some.field-0 (rw c.in-Ok-Some.field-0-is (refl, refl)) c.in-Ok-Some.ensures.ok c.in-Ok-Some.ensures.frame
+
+pub returns-in-Ok-None-clause-answer : goal.returns-in-Ok-None-clause-answer
+returns-in-Ok-None-clause-answer g c =
+    let F : Format = format_of g.C.EncodedKey.ByteArray.LEN g.C.EncodedValue.ByteArray.LEN g.C.H.HashFn.hash in
+    let bytes = g.M.ByteStore.bytes in
+    let accepted : None ≡ opening_refusal F (bytes c.args.store.now) = c.in_default.ensures.err ∙ ap (opening_refusal F) c.bytes.ensures in
+    let reads : bytes c.from_raw_bytes_unchecked-table.result.now ≡ bytes c.args.store.now = ap (λ s. bytes s.now) c.from_raw_bytes_unchecked-table.ensures in
+    accepted_insert _ _ _ _ _ _ _ _ _ _ accepted reads (ap bytes (search (rules, c.into_data-store.ensures.data, c.insert-answer.ensures.same_store, c.from_raw_bytes_unchecked-table.ensures)))
+    c.in-Ok-None.field-0 (rw c.in-Ok-None.field-0-is (refl, refl)) c.in-Ok-None.ensures.ok c.in-Ok-None.ensures.frame
+
+pub returns-in-Err-answer-clause-answer : goal.returns-in-Err-answer-clause-answer
+returns-in-Err-answer-clause-answer g c =
+    let F : Format = format_of g.C.EncodedKey.ByteArray.LEN g.C.EncodedValue.ByteArray.LEN g.C.H.HashFn.hash in
+    let bytes = g.M.ByteStore.bytes in
+    let accepted : None ≡ opening_refusal F (bytes c.args.store.now) = c.in_default.ensures.err ∙ ap (opening_refusal F) c.bytes.ensures in
+    let reads : bytes c.from_raw_bytes_unchecked-table.result.now ≡ bytes c.args.store.now = ap (λ s. bytes s.now) c.from_raw_bytes_unchecked-table.ensures in
+    let full : c.insert-answer.result ≡ Err Full = c.in-Err-answer.is ∙ c.in-Err-answer.ensures.only_full in
+    let only : c.in-Err-answer.refused ≡ Full = (let both = c.in-Err-answer.ensures.only_full in cc) in
+    full_insert _ _ _ _ _ _ _ _ _ _ accepted reads (ap bytes (search (rules, c.into_data-store.ensures.data, c.insert-answer.ensures.same_store, c.from_raw_bytes_unchecked-table.ensures)))
+    c.insert-answer.result full (ap (λ s. bytes s.now) c.in-Err-answer.ensures.refused) (c.status_of-in-Err-answer.ensures ∙ ap status_of only) refl
+    c.insert-answer.ensures.full c.insert-answer.ensures.frame

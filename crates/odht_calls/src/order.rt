@@ -1,0 +1,29 @@
+//! The call for an order of inserts that makes a table, for every configuration.
+ghost use Rattle.odht_calls.specs.Orders.{OrderAnswers};
+
+use crate::status::{BAD_LENGTHS, OK, UNMADE, status_of};
+use odht::bytes::Borrowed;
+use odht::config::{Coded, Config};
+use odht::{HashTable, memory_layout};
+
+/// Writes to `out` the occupied slots in an order in which inserts of their pairs make the table. UNMADE where there is
+/// none: what `out` then holds is unspecified. Errors of the whole check and BAD_LENGTHS leave `out` unchanged.
+#[inline]
+pub fn insert_order<C: Config>(bytes: &[u8], out: &mut [usize]) -> u32
+    ensures { OrderAnswers ⟦<C as Coded>⟧.coding bytes.now out.old result out.new }
+{
+    if let Err(refused) = memory_layout::check_all::<C>(bytes) {
+        return status_of(&refused);
+    }
+    let table: HashTable<C, Borrowed<'_>> = HashTable::from_raw_bytes_unchecked(Borrowed::new(
+        bytes,
+    ));
+    if out.len() != table.len() {
+        return BAD_LENGTHS;
+    }
+    if table.as_raw().insert_order(out) {
+        OK
+    } else {
+        UNMADE
+    }
+}

@@ -1,0 +1,121 @@
+//! The calls that read the bytes of a table, for every configuration.
+ghost use Rattle.std.specs.Prelude.{◌≡◌, length, IfOk};
+ghost use Rattle.std.specs.Result.{result_err};
+ghost use Rattle.odht_raw.specs.Refusals.{opening_refusal, view_refusal, check_refusal};
+ghost use Rattle.odht_calls.specs.Statuses.{status_or_ok};
+ghost use Rattle.odht_calls.specs.Reads.{GetAnswers, GetAllAnswers, LenAnswers, SizesAnswers};
+
+use crate::lookups::look_up_all;
+use crate::status::{OK, status_of};
+use crate::view;
+use odht::bytes::Borrowed;
+use odht::config::{Coded, Config};
+use odht::error::Error;
+use odht::load::max_item_count_for;
+use odht::memory_layout::Header;
+use odht::{HashTable, memory_layout};
+
+/// Opens the bytes by their header and length. Reads no slot.
+#[inline(always)]
+pub(crate) fn view<C: Config>(bytes: &[u8]) -> Result<HashTable<C, Borrowed<'_>>, Error>
+    ensures ok { IfOk result (λ t. t.0.now ≡ bytes.now) }
+    ensures err { result_err result ≡ opening_refusal ⟦<C as Coded>⟧.coding.format bytes.now }
+{
+    HashTable::from_raw_bytes_by_header(Borrowed::new(bytes))
+}
+
+/// OK where the header, the length and the first ten slots are accepted, else the number of the first error.
+#[inline]
+pub fn open<C: Config>(bytes: &[u8]) -> u32
+    ensures { result ≡ status_or_ok (view_refusal ⟦<C as Coded>⟧.coding.format bytes.now) }
+{
+    let opened: Result<HashTable<C, Borrowed<'_>>, Error> = HashTable::from_raw_bytes(Borrowed::new(
+        bytes,
+    ));
+    match opened {
+        Ok(_) => OK,
+        Err(refused) => status_of(&refused),
+    }
+}
+
+/// OK where the bytes are valid, else the number of the first error of the whole check.
+#[inline]
+pub fn check<C: Config>(bytes: &[u8]) -> u32
+    ensures { result ≡ status_or_ok (check_refusal ⟦<C as Coded>⟧.coding.format bytes.now) }
+{
+    match memory_layout::check_all::<C>(bytes) {
+        Ok(()) => OK,
+        Err(refused) => status_of(&refused),
+    }
+}
+
+/// Writes the value of a key to `value`. ABSENT and errors leave `value` unchanged.
+#[inline]
+pub fn get<C: Config>(bytes: &[u8], key: &C::Key, value: &mut C::Value) -> u32
+    ensures { GetAnswers ⟦<C as Coded>⟧.coding bytes.now key.now value.old result value.new }
+{
+    let table = match view::<C>(bytes) {
+        Ok(table) => table,
+        Err(refused) => return status_of(&refused),
+    };
+    view::get(&table, key, value)
+}
+
+/// Looks up many keys: at the index of a key that is found, its value is written to `values` and 1 to `found`; at any
+/// other index 0 is written to `found`. An error leaves both unchanged.
+#[inline]
+pub fn get_all<C: Config>(
+    bytes: &[u8],
+    keys: &[C::Key],
+    values: &mut [C::Value],
+    found: &mut [u8],
+) -> u32
+    requires values { length values.old ≡ length keys.now }
+    requires found { length found.old ≡ length keys.now }
+    ensures { GetAllAnswers ⟦<C as Coded>⟧.coding bytes.now keys.now
+        values.old found.old result values.new found.new }
+{
+    let table = match view::<C>(bytes) {
+        Ok(table) => table,
+        Err(refused) => return status_of(&refused),
+    };
+    look_up_all::<C>(&table.as_raw(), keys, values, found);
+    OK
+}
+
+/// Writes the header's item count to `item_count`. An error leaves it unchanged.
+pub fn len<C: Config>(bytes: &[u8], item_count: &mut usize) -> u32
+    ensures { LenAnswers ⟦<C as Coded>⟧.coding bytes.now item_count.old result item_count.new }
+{
+    match view::<C>(bytes) {
+        Ok(table) => {
+            *item_count = table.len();
+            OK
+        }
+        Err(refused) => status_of(&refused),
+    }
+}
+
+/// Writes the slot count, the maximum item count and the load factor in percent of slots, rounded down, by the header.
+/// An error leaves all three unchanged.
+pub fn sizes<C: Config>(
+    bytes: &[u8],
+    slot_count: &mut usize,
+    max_item_count: &mut usize,
+    max_load_factor_percent: &mut u8,
+) -> u32
+    ensures { SizesAnswers ⟦<C as Coded>⟧.coding.format bytes.now
+        slot_count.old max_item_count.old max_load_factor_percent.old result
+        slot_count.new max_item_count.new max_load_factor_percent.new }
+{
+    if let Err(refused) = view::<C>(bytes) {
+        return status_of(&refused);
+    }
+    let header = Header::of(bytes);
+    let slots = header.slot_count();
+    let factor = header.max_load_factor();
+    *slot_count = slots;
+    *max_item_count = max_item_count_for(slots, factor);
+    *max_load_factor_percent = factor.to_percent() as u8;
+    OK
+}

@@ -1,0 +1,80 @@
+//! Opened tables as a caller in C keeps them, and lookups that skip the header, for every configuration.
+ghost use Rattle.std.specs.Prelude.{◌≡◌, length};
+ghost use Rattle.odht_raw.specs.Frame.{IsAccepted};
+ghost use Rattle.odht_calls.specs.Views.{OpenViewAnswers, ViewGetAnswers, ViewGetAllAnswers};
+
+use crate::lookups::look_up_all;
+use crate::status::{ABSENT, OK, status_of};
+use odht::HashTable;
+use odht::bytes::Borrowed;
+use odht::config::{Coded, Config};
+use odht::error::Error;
+
+/// The bytes of an opened table, as C keeps them: a pointer and a length. The calls that read a view require that the
+/// header and the length of its bytes are accepted, and do not check it.
+#[repr(C)]
+#[derive(Clone, Copy)]
+pub struct View<'a> {
+    /// All bytes of the table.
+    pub bytes: &'a [u8],
+}
+
+/// OK, and `view` is a view of the bytes; or the number of the first error, and `view` is unchanged. Reads the header,
+/// the length and the first ten slots.
+#[inline]
+pub fn open<'a, C: Config>(bytes: &'a [u8], view: &mut View<'a>) -> u32
+    ensures { OpenViewAnswers ⟦<C as Coded>⟧.coding.format bytes.entry view.old.bytes result view.new.bytes }
+{
+    let opened: Result<HashTable<C, Borrowed<'_>>, Error> = HashTable::from_raw_bytes(Borrowed::new(
+        bytes,
+    ));
+    match opened {
+        Ok(_) => {
+            *view = View { bytes };
+            OK
+        }
+        Err(refused) => status_of(&refused),
+    }
+}
+
+/// The table of a view. Reads none of its bytes.
+#[inline(always)]
+pub fn table<'a, C: Config>(view: &View<'a>) -> HashTable<C, Borrowed<'a>>
+    requires { IsAccepted ⟦<C as Coded>⟧.coding.format view.now.bytes.now }
+    ensures { result.0.now ≡ view.now.bytes.now }
+{
+    HashTable::from_raw_bytes_unchecked(Borrowed::new(view.bytes))
+}
+
+/// Writes the value of a key of an opened table to `value`. ABSENT leaves `value` unchanged.
+#[inline(always)]
+pub fn get<C: Config>(table: &HashTable<C, Borrowed<'_>>, key: &C::Key, value: &mut C::Value) -> u32
+    ensures { ViewGetAnswers ⟦<C as Coded>⟧.coding table.now.0.now key.now value.old result value.new }
+{
+    match table.get(key) {
+        Some(found) => {
+            *value = found;
+            OK
+        }
+        None => ABSENT,
+    }
+}
+
+/// Looks up many keys in an opened table: at the index of a key that is found, its value is written to `values` and 1
+/// to `found`; at any other index 0 is written to `found`.
+#[inline]
+pub fn get_all<C: Config>(
+    table: &HashTable<C, Borrowed<'_>>,
+    keys: &[C::Key],
+    values: &mut [C::Value],
+    found: &mut [u8],
+) -> u32
+    requires values { length values.old ≡ length keys.now }
+    requires found { length found.old ≡ length keys.now }
+    ensures { ViewGetAllAnswers ⟦<C as Coded>⟧.coding table.now.0.now keys.now
+        values.old found.old result values.new found.new }
+{
+    let raw = table.as_raw();
+    look_up_all::<C>(&raw, keys, values, found);
+    OK
+}
