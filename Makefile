@@ -12,7 +12,7 @@
 # make bounds: loops that tell what bounds these speeds; ODHT_RUST=folder is needed
 SCRIPT ?= crates/odht_table/stdin
 # lowest first
-LIBRARIES = odht_base odht_raw odht
+LIBRARIES = odht_base odht_header odht_raw odht
 LIBRARY ?= crates/odht_c/out/libodht_c.a
 QUICK ?=
 CHECK ?=
