@@ -17,7 +17,7 @@ SCRIPT ?= crates/odht_table/stdin
 PARTS ?=
 NAMES ?=
 # lowest first: what the programs use, and over it the calls for C
-LIBRARIES = odht_base odht_raw odht
+LIBRARIES = odht_base odht_header odht_raw odht
 FOR_C = $(LIBRARIES) odht_calls odht_c
 LIBRARY ?= crates/odht_c/out/libodht_c.a
 QUICK ?=

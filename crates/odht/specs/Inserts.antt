@@ -7,7 +7,7 @@ use Rattle.odht_base.specs.Format.{Format}
 use Rattle.odht_base.specs.Map.{map_of}
 use Rattle.odht_base.specs.Table.{Pair, Table, fresh}
 use Rattle.odht_base.specs.Valid.{IsImage}
-use Rattle.odht_raw.specs.Coding.{Coding, encoded, value_for}
+use Rattle.odht_header.specs.Coding.{Coding, encoded, value_for}
 
 pub record IsFresh (F : Format) (n percent : ℕ) (B : List ℕ) : Type 0 where
   pub table : Table

@@ -7,7 +7,7 @@ use Rattle.std.specs.Prelude.{◌≡◌, ◌≢◌, ℕ, List, ◌∷◌, ◌++�
 use Rattle.odht_base.specs.Map.{map_of, last}
 use Rattle.odht_base.specs.Table.{Table}
 use Rattle.odht_base.specs.Valid.{IsImage}
-use Rattle.odht_raw.specs.Coding.{Coding}
+use Rattle.odht_header.specs.Coding.{Coding}
 use Rattle.odht.specs.Lists.{encoded_all}
 
 abbrev pub HasNoKey : {K V : Type 0} → List (K × V) → K → Type 0

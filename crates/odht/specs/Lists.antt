@@ -14,10 +14,10 @@ use Rattle.odht_base.specs.Load.{max_items}
 use Rattle.odht_base.specs.Map.{map_of, last, overwritten}
 use Rattle.odht_base.specs.Table.{Pair, Table, fresh, slot_count, count}
 use Rattle.odht_base.specs.Valid.{IsImage}
-use Rattle.odht_raw.specs.Coding.{Coding}
+use Rattle.odht_header.specs.Coding.{Coding}
 use Rattle.odht_raw.specs.Frame.{IsFramed}
 pub use Rattle.odht_raw.specs.Runs.{encoded_all, IsFramedRun}
-use Rattle.odht_raw.specs.declared.error.Error.TheVariants.{Full}
+use Rattle.odht_header.specs.declared.error.Error.TheVariants.{Full}
 
 abbrev pub HasSizeOf : Table → Table → Type 0
 HasSizeOf P Q = (slot_count Q ≡ slot_count P) × (Q.factor ≡ P.factor)

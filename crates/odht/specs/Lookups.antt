@@ -7,7 +7,7 @@
 use Rattle.std.specs.Prelude.{◌≡◌, ◌<◌, ℕ, List, Option, Some, IfSome, slice_get}
 use Rattle.odht_base.specs.Table.{Table}
 use Rattle.odht_base.specs.Valid.{IsPartsOf}
-use Rattle.odht_raw.specs.Coding.{Coding, value_for, HasStored}
+use Rattle.odht_header.specs.Coding.{Coding, value_for, HasStored}
 use Rattle.odht_raw.specs.FirstLooks.{FirstLookOf, first_look_of}
 use Rattle.odht_raw.specs.Parts.{TableParts}
 use Rattle.odht_raw.specs.SearchEnds.{IsBesideKey}

@@ -4,7 +4,7 @@
 use Rattle.std.specs.Prelude.{◌≡◌, ℕ, List, Some}
 use Rattle.odht_base.specs.Made.{IsInsertOrder, pairs_of}
 use Rattle.odht_base.specs.Table.{Table, slot_count, empty, fresh}
-use Rattle.odht_raw.specs.Coding.{Coding}
+use Rattle.odht_header.specs.Coding.{Coding}
 use Rattle.odht.specs.Lists.{encoded_all}
 
 abbrev pub IsNewSizeOf : Table → ℕ → ℕ → Type 0

@@ -10,7 +10,7 @@ ghost use Rattle.odht_base.specs.Decoded.{header_count, header_factor};
 ghost use Rattle.odht_base.specs.Table.{Table, empty};
 ghost use Rattle.odht_base.specs.Valid.{IsImage, IsPartsOf};
 ghost use Rattle.odht_raw.specs.Frame.{IsAccepted};
-ghost use Rattle.odht_raw.specs.Layouts.{IsLayout};
+ghost use Rattle.odht_header.specs.Layouts.{IsLayout};
 ghost use Rattle.odht_raw.specs.PartsPlacings.{IsNewTo};
 ghost use Rattle.odht.specs.Growths.{grown_len, grown_slots_of, table_len, IsGrownImage};
 

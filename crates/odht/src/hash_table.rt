@@ -9,12 +9,12 @@ ghost use Rattle.odht_base.specs.Insert.{insert_view, IsFullFor};
 ghost use Rattle.odht_base.specs.Search.{groups_read};
 ghost use Rattle.odht_base.specs.Decoded.{header_count, header_slots, entries_of, controls_of, decoded_pairs, HoldsKey};
 ghost use Rattle.odht_base.specs.Valid.{IsImage, IsPartsOf, IsValidBytes};
-ghost use Rattle.odht_raw.specs.Coding.{value_for, HasStored};
+ghost use Rattle.odht_header.specs.Coding.{value_for, HasStored};
 ghost use Rattle.odht.specs.Inserts.{IsFresh, IsInserted};
 ghost use Rattle.odht.specs.Lookups.{HaveStored};
 ghost use Rattle.odht_raw.specs.Frame.{IsAccepted, IsFramed};
 ghost use Rattle.odht_raw.specs.Walks.{decoded_all};
-ghost use Rattle.odht_raw.specs.Refusals.{IsTooLarge, new_refusal, opening_refusal, view_refusal};
+ghost use Rattle.odht_header.specs.Refusals.{IsTooLarge, new_refusal, opening_refusal, view_refusal};
 
 use crate::bytes::{ByteArray, ByteStore, ByteStoreMut};
 use crate::config::{Coded, Config};

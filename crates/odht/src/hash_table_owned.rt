@@ -6,13 +6,13 @@ ghost use Rattle.odht_base.specs.Map.{map_of};
 ghost use Rattle.odht_base.specs.Search.{groups_read};
 ghost use Rattle.odht_base.specs.Insert.{insert_owned, IsFullFor};
 ghost use Rattle.odht_base.specs.Valid.{IsImage, IsValidBytes};
-ghost use Rattle.odht_raw.specs.Coding.{value_for};
+ghost use Rattle.odht_header.specs.Coding.{value_for};
 ghost use Rattle.odht.specs.Growths.{IsGrownImage};
 ghost use Rattle.odht.specs.Lists.{IsFreshAfterInserts};
 ghost use Rattle.odht.specs.Inserts.{IsFresh, IsInserted};
 ghost use Rattle.odht_raw.specs.Walks.{decoded_all};
 ghost use Rattle.std.specs.Iterator.{Drains, IsFinite};
-ghost use Rattle.odht_raw.specs.Refusals.{IsTooLarge, check_refusal};
+ghost use Rattle.odht_header.specs.Refusals.{IsTooLarge, check_refusal};
 
 use crate::bytes::OwnedBytes;
 use crate::config::{Coded, Config};

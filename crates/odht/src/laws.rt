@@ -8,9 +8,9 @@ ghost use Rattle.odht.specs.LastValues.{IsLastValue, HasLastValues};
 ghost use Rattle.odht.specs.Rebuilds.{IsNewSizeOf, AreInOrder};
 ghost use Rattle.odht_base.specs.Table.{Table};
 ghost use Rattle.odht_base.specs.Valid.{IsImage, IsValid, IsValidBytes};
-ghost use Rattle.odht_raw.specs.Coding.{value_for};
+ghost use Rattle.odht_header.specs.Coding.{value_for};
 ghost use Rattle.odht_raw.specs.Frame.{IsAccepted};
-ghost use Rattle.odht_raw.specs.Refusals.{IsTooLarge};
+ghost use Rattle.odht_header.specs.Refusals.{IsTooLarge};
 
 use crate::config::{Coded, Config, Lossless};
 use crate::error::Error;

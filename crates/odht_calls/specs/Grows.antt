@@ -11,11 +11,11 @@ use Rattle.odht_base.specs.Format.{Format}
 use Rattle.odht_base.specs.Decoded.{header_count, header_factor}
 use Rattle.odht_base.specs.Table.{Table}
 use Rattle.odht_base.specs.Valid.{IsImage}
-use Rattle.odht_raw.specs.Coding.{Coding}
+use Rattle.odht_header.specs.Coding.{Coding}
 use Rattle.odht_raw.specs.Frame.{IsAccepted}
-use Rattle.odht_raw.specs.Refusals.{◌gives◌, first_of, factor_refusal, opening_refusal}
-use Rattle.odht_raw.specs.declared.error.Error.{Error}
-use Rattle.odht_raw.specs.declared.error.Error.TheVariants.{Capacity}
+use Rattle.odht_header.specs.Refusals.{◌gives◌, first_of, factor_refusal, opening_refusal}
+use Rattle.odht_header.specs.declared.error.Error.{Error}
+use Rattle.odht_header.specs.declared.error.Error.TheVariants.{Capacity}
 use Rattle.odht.specs.Growths.{grown_len, IsGrownImage}
 use Rattle.odht_calls.specs.Statuses.{status_of, done, too_small}
 

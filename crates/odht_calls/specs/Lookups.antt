@@ -2,7 +2,7 @@
 --     AreGot c T ks old vs fs n  the first n keys are looked up: fs says whether a key is found, and vs has its value
 --                          where it is, and otherwise the value of old; the values from n on are those of old
 use Rattle.std.specs.Prelude.{◌≡◌, ◌<◌, ◌≤◌, ℕ, List, Option, Some, slice_get}
-use Rattle.odht_raw.specs.Coding.{Coding}
+use Rattle.odht_header.specs.Coding.{Coding}
 use Rattle.odht_raw.specs.Parts.{TableParts}
 use Rattle.odht.specs.Lookups.{IsLookup}
 use Rattle.odht_calls.specs.Reads.{IsGotAt}

@@ -8,9 +8,9 @@ use Rattle.std.specs.Prelude.{◌≡◌, ◌↔◌, ℕ, List, length, Some}
 use Rattle.odht_base.specs.Made.{IsMade, IsInsertOrder}
 use Rattle.odht_base.specs.Table.{Table, count}
 use Rattle.odht_base.specs.Valid.{IsImage}
-use Rattle.odht_raw.specs.Coding.{Coding}
-use Rattle.odht_raw.specs.Refusals.{check_refusal}
-use Rattle.odht_raw.specs.declared.error.Error.{Error}
+use Rattle.odht_header.specs.Coding.{Coding}
+use Rattle.odht_header.specs.Refusals.{check_refusal}
+use Rattle.odht_header.specs.declared.error.Error.{Error}
 use Rattle.odht_calls.specs.Statuses.{status_of, done, bad_lengths, unmade}
 
 pub record OrderAnswers {K V : Type 0} (c : Coding K V) (B : List ℕ) (out : List ℕ) (s : ℕ) (out' : List ℕ)

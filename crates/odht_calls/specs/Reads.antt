@@ -16,10 +16,10 @@ use Rattle.odht_base.specs.Load.{max_items, percent_of}
 use Rattle.odht_base.specs.Table.{Table, slot_count, count}
 use Rattle.odht_base.specs.Decoded.{header_count, header_slots, header_factor}
 use Rattle.odht_base.specs.Valid.{IsImage}
-use Rattle.odht_raw.specs.Coding.{Coding, value_for, HasStored}
+use Rattle.odht_header.specs.Coding.{Coding, value_for, HasStored}
 use Rattle.odht_raw.specs.Frame.{IsAccepted, header_maximum}
-use Rattle.odht_raw.specs.Refusals.{opening_refusal}
-use Rattle.odht_raw.specs.declared.error.Error.{Error}
+use Rattle.odht_header.specs.Refusals.{opening_refusal}
+use Rattle.odht_header.specs.declared.error.Error.{Error}
 use Rattle.odht_calls.specs.Statuses.{status_of, status_or_ok, AreAsLong, done, absent, bad_lengths}
 
 abbrev pub IsGot : {V : Type 0} → Option V → V → ℕ → V → Type 0

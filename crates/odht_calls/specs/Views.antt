@@ -16,9 +16,9 @@ use Rattle.odht_base.specs.Format.{Format}
 use Rattle.odht_base.specs.Table.{Table, count}
 use Rattle.odht_base.specs.Decoded.{header_count}
 use Rattle.odht_base.specs.Valid.{IsImage}
-use Rattle.odht_raw.specs.Coding.{Coding, value_for, HasStored}
+use Rattle.odht_header.specs.Coding.{Coding, value_for, HasStored}
 use Rattle.odht_raw.specs.Frame.{IsAccepted}
-use Rattle.odht_raw.specs.Refusals.{view_refusal}
+use Rattle.odht_header.specs.Refusals.{view_refusal}
 use Rattle.odht_calls.specs.Reads.{IsGot, IsGotAt}
 use Rattle.odht_calls.specs.Statuses.{status_or_ok, AreAsLong, done, bad_lengths}
 

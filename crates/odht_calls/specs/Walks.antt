@@ -12,11 +12,11 @@ use Rattle.odht_base.specs.Decoded.{decoded_table}
 use Rattle.odht_base.specs.SlotWalks.{walk_from}
 use Rattle.odht_base.specs.Table.{Table, slot_count, is_free}
 use Rattle.odht_base.specs.Valid.{IsImage}
-use Rattle.odht_raw.specs.Coding.{Coding}
+use Rattle.odht_header.specs.Coding.{Coding}
 use Rattle.odht_raw.specs.Frame.{IsAccepted}
-use Rattle.odht_raw.specs.Refusals.{opening_refusal}
+use Rattle.odht_header.specs.Refusals.{opening_refusal}
 use Rattle.odht_raw.specs.Walks.{decoded_all}
-use Rattle.odht_raw.specs.declared.error.Error.{Error}
+use Rattle.odht_header.specs.declared.error.Error.{Error}
 use Rattle.odht_calls.specs.Statuses.{status_of, done, bad_lengths, too_small}
 
 pub record IsWalked {K V : Type 0} (c : Coding K V) (P : Table) (at : ℕ) (ks : List K) (vs : List V) (s at' : ℕ)

@@ -21,11 +21,11 @@ use Rattle.odht_base.specs.Insert.{insert_view}
 use Rattle.odht_base.specs.Load.{factor_of, slots_for}
 use Rattle.odht_base.specs.Table.{Table, fresh}
 use Rattle.odht_base.specs.Valid.{IsImage}
-use Rattle.odht_raw.specs.Coding.{Coding, value_for, encoded}
+use Rattle.odht_header.specs.Coding.{Coding, value_for, encoded}
 use Rattle.odht_raw.specs.Frame.{IsAccepted, IsFramed}
-use Rattle.odht_raw.specs.Refusals.{IsTooLarge, new_refusal, opening_refusal}
-use Rattle.odht_raw.specs.declared.error.Error.{Error}
-use Rattle.odht_raw.specs.declared.error.Error.TheVariants.{Full, Capacity}
+use Rattle.odht_header.specs.Refusals.{IsTooLarge, new_refusal, opening_refusal}
+use Rattle.odht_header.specs.declared.error.Error.{Error}
+use Rattle.odht_header.specs.declared.error.Error.TheVariants.{Full, Capacity}
 use Rattle.odht.specs.Lists.{encoded_all, IsAfterInserts, IsFramedRun, IsRefusedAt, IsStoppedAt}
 use Rattle.odht_calls.specs.Statuses.{status_of, IsPercent, done, replaced, bad_percent, bad_lengths}
 

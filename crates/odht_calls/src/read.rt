@@ -1,7 +1,7 @@
 //! The calls that read the bytes of a table, for every configuration.
 ghost use Rattle.std.specs.Prelude.{◌≡◌, length, IfOk};
 ghost use Rattle.std.specs.Result.{result_err};
-ghost use Rattle.odht_raw.specs.Refusals.{opening_refusal, view_refusal, check_refusal};
+ghost use Rattle.odht_header.specs.Refusals.{opening_refusal, view_refusal, check_refusal};
 ghost use Rattle.odht_calls.specs.Statuses.{status_or_ok};
 ghost use Rattle.odht_calls.specs.Reads.{GetAnswers, GetAllAnswers, LenAnswers, SizesAnswers};
 

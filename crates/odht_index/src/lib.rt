@@ -10,8 +10,8 @@ ghost use Rattle.std.proofs.Common.{lit≤};
 ghost use Rattle.odht_base.specs.Load.{factor_of};
 ghost use Rattle.odht_base.specs.Table.{Table};
 ghost use Rattle.odht_base.specs.Valid.{IsImage};
-ghost use Rattle.odht_raw.specs.Coding.{value_for, HasStored};
-ghost use Rattle.odht_raw.specs.Refusals.{IsTooLarge, view_refusal};
+ghost use Rattle.odht_header.specs.Coding.{value_for, HasStored};
+ghost use Rattle.odht_header.specs.Refusals.{IsTooLarge, view_refusal};
 ghost use Rattle.odht.specs.Lists.{IsFreshAfterInserts};
 ghost use Rattle.odht.specs.LastValues.{HasLastValues, IsLastValue};
 

@@ -1,15 +1,5 @@
--- Worked examples of what is rejected, each a closed theorem by computation.
--- one name that opens every definition
-pub mod Opened
--- what makes two things differ
-pub mod Apart
--- forged headers and cut bytes
-pub mod Refused
--- each header byte set to each of its values
-pub mod HeaderBytes
--- bytes that a view accepts and the whole check rejects
-pub mod Invalid
--- inserts into such bytes
+-- Worked examples of the definitions, each a closed theorem by computation.
+-- inserts into bytes that a view accepts and the whole check rejects
 pub mod Frames
 -- what such an insert may not do
 pub mod FrameRefusals
@@ -29,8 +19,6 @@ pub mod MutPlacings
 pub mod FreePlacings
 -- inserts into any parts
 pub mod PartsFrames
--- how large a new table is, and which keys bytes hold
-pub mod Layouts
 -- the items of slots
 pub mod WalkedSlots
 -- slots that wait while an order of inserts is looked for

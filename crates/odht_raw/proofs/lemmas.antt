@@ -1,6 +1,4 @@
 -- The library of laws over the definitions in specs/; that of plain tables is in `odht_base`.
--- formats of short lengths and of a hash fit
-pub mod Formats
 -- the cells that the parts of a placed table decode to
 pub mod PartCells
 -- a search slot by slot
@@ -9,16 +7,10 @@ pub mod PlainSearch
 pub mod Lookups
 -- what the writes of an insert leave on the parts
 pub mod Inserts
--- the first error of a list
-pub mod FirstErrors
--- std's test for a power of two
-pub mod PowersOfTwo
 -- which error a view gives for one slot
 pub mod SlotChecks
 -- slots for which the whole check has no error
 pub mod SlotFits
--- which error a header gives
-pub mod HeaderChecks
 -- bytes whose header and length fit, and writes that leave them so
 pub mod Accepted
 -- which error bytes give, stage by stage
@@ -31,12 +23,8 @@ pub mod ImagesOpen
 pub mod WholeChecks
 -- a write of one byte again and again
 pub mod Fills
--- a header that is written field by field
-pub mod HeaderWrites
 -- what the writes of a new table leave
 pub mod NewTables
--- how an error's text writes bytes
-pub mod ErrorTexts
 -- a walk over the slots
 pub mod Walks
 -- the lines of a dump, joined as they are written

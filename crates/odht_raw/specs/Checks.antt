@@ -10,7 +10,7 @@ use Rattle.odht_base.specs.Search.{stops_at}
 use Rattle.odht_base.specs.Decoded.{counts_as_free, slot_key, decoded_cells}
 use Rattle.odht_base.specs.Table.{Cells}
 use Rattle.odht_raw.specs.Parts.{TableParts}
-use Rattle.odht_raw.specs.Refusals.{slots_refusal, mirror_refusal}
+use Rattle.odht_header.specs.Refusals.{slots_refusal, mirror_refusal}
 
 abbrev pub cells_of : Format → TableParts → Cells
 cells_of F T = decoded_cells F T.entries.bytes T.control

@@ -10,7 +10,7 @@ use Rattle.odht_base.specs.Format.{Format}
 use Rattle.odht_base.specs.Table.{Table, slot_count, is_free}
 use Rattle.odht_base.specs.Valid.{IsPartsOf}
 use Rattle.odht_raw.specs.SearchResults.{answer}
-use Rattle.odht_raw.specs.Coding.{Coding, encoded}
+use Rattle.odht_header.specs.Coding.{Coding, encoded}
 use Rattle.odht_raw.specs.declared.raw_table.search_result.SearchResult.TheVariants.{Free}
 
 abbrev pub IsExpected : Format → Table → List ℕ → ℕ → Type 0

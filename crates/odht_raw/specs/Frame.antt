@@ -18,10 +18,10 @@ use Rattle.odht_base.specs.Load.{max_items}
 use Rattle.odht_base.specs.Table.{Pair}
 use Rattle.odht_base.specs.Decoded.{header_count, header_slots, header_factor, controls_of, key_at, value_at, counts_as_free, slot_key, slot_value}
 use Rattle.odht_base.specs.Writes.{with_value, with_pair, with_count, tagged}
-use Rattle.odht_raw.specs.Coding.{Coding, encoded}
-use Rattle.odht_raw.specs.Refusals.{opening_refusal}
-use Rattle.odht_raw.specs.declared.error.Error.{Error}
-use Rattle.odht_raw.specs.declared.error.Error.TheVariants.{Full}
+use Rattle.odht_header.specs.Coding.{Coding, encoded}
+use Rattle.odht_header.specs.Refusals.{opening_refusal}
+use Rattle.odht_header.specs.declared.error.Error.{Error}
+use Rattle.odht_header.specs.declared.error.Error.TheVariants.{Full}
 
 abbrev pub IsAccepted : Format → List ℕ → Type 0
 IsAccepted F B = opening_refusal F B ≡ None

@@ -1,7 +1,5 @@
 -- The definitions about configurations, errors, and searches, inserts and walks in the parts of a table. Those about
 -- numbers, plain tables and their bytes are in `odht_base`.
--- how keys and values are encoded and decoded
-pub mod Coding
 -- the parts of a table as code reads them
 pub mod Parts
 -- the lengths that searches and inserts require
@@ -14,10 +12,6 @@ pub mod ProbeSeqs
 pub mod SearchSteps
 -- the first look of a search
 pub mod FirstLooks
--- how large a new table is
-pub mod Layouts
--- which bytes are rejected as a table, and by which error
-pub mod Refusals
 -- what the whole check reads in the parts
 pub mod Checks
 -- what an insert may do to bytes whose header and length fit, valid or not
@@ -32,8 +26,6 @@ pub mod Runs
 pub mod FreeSlots
 -- what placing a pair with a new key into parts answers and leaves
 pub mod PartsPlacings
--- what is written of an error
-pub mod ErrorTexts
 -- what a walk over the slots gives
 pub mod Walks
 -- what `Debug` writes of a table

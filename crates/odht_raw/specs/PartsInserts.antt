@@ -13,8 +13,8 @@ use Rattle.odht_base.specs.Map.{map_of}
 use Rattle.odht_base.specs.Table.{Pair, Table}
 use Rattle.odht_base.specs.Valid.{IsPartsOf, IsFullWithout}
 use Rattle.odht_raw.specs.Frame.{IsPartsFramed}
-use Rattle.odht_raw.specs.declared.error.Error.{Error}
-use Rattle.odht_raw.specs.declared.error.Error.TheVariants.{Full}
+use Rattle.odht_header.specs.declared.error.Error.{Error}
+use Rattle.odht_header.specs.declared.error.Error.TheVariants.{Full}
 
 abbrev pub ArePartsPlaced : Format → Table → Pair → List ℕ → List ℕ → Type 0
 ArePartsPlaced F P p es' ctrl' = (Q : Table) × (place F P p ≡ Some Q) × IsPartsOf F Q es' ctrl'

@@ -25,8 +25,8 @@ use Rattle.odht_raw.specs.Frame.{IsPartsFramed}
 use Rattle.odht_raw.specs.Parts.{TableParts}
 use Rattle.odht_raw.specs.PartsInserts.{AnswersFormer, ArePartsPlaced, IsFullUnplaced, IsFullNoRoom}
 use Rattle.odht_raw.specs.PartsPlacings.{IsNewTo, PlacingFrame}
-use Rattle.odht_raw.specs.declared.error.Error.{Error}
-use Rattle.odht_raw.specs.declared.error.Error.TheVariants.{Full}
+use Rattle.odht_header.specs.declared.error.Error.{Error}
+use Rattle.odht_header.specs.declared.error.Error.TheVariants.{Full}
 use Rattle.odht_raw.specs.declared.raw_table.table_mut.RawTableMut.{RawTableMut}
 
 module _ {K V H : Type 0} {key : ByteArrayOf K} {key_eq : PartialEqOf K} {key_debug : DebugOf K}

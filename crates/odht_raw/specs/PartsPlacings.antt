@@ -18,8 +18,8 @@ use Rattle.odht_base.specs.Writes.{tagged}
 use Rattle.odht_raw.specs.Frame.{HasNoFreeSlot}
 use Rattle.odht_raw.specs.FreeSlots.{IsFirstFree}
 use Rattle.odht_raw.specs.PartsInserts.{ArePartsPlaced}
-use Rattle.odht_raw.specs.declared.error.Error.{Error}
-use Rattle.odht_raw.specs.declared.error.Error.TheVariants.{Full}
+use Rattle.odht_header.specs.declared.error.Error.{Error}
+use Rattle.odht_header.specs.declared.error.Error.TheVariants.{Full}
 
 abbrev pub IsNewTo : Table → Pair → Type 0
 IsNewTo P p = map_of P p.key ≡ None

@@ -18,7 +18,7 @@ use Rattle.std.specs.List.{range_with_len, filter_map}
 use Rattle.odht_base.specs.Format.{Format}
 use Rattle.odht_base.specs.Table.{Pair}
 use Rattle.odht_base.specs.Decoded.{decoded_cell, counts_as_free}
-use Rattle.odht_raw.specs.Coding.{Coding}
+use Rattle.odht_header.specs.Coding.{Coding}
 use Rattle.odht_raw.specs.Parts.{TableParts}
 use Rattle.odht_raw.specs.declared.raw_table.entries.Entry.{Entry}
 

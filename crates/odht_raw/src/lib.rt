@@ -3,9 +3,8 @@
 #![tactic(auto)]
 
 pub use odht_base::{bytes, hash, load, swisstable_group_query};
+pub use odht_header::{config, error};
 
-pub mod config;
-pub mod error;
 pub mod items;
 pub mod memory_layout;
 pub mod raw_table;

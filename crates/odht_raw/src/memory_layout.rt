@@ -4,13 +4,11 @@
 
 mod allocation;
 mod check;
-mod header;
 mod new_tables;
-mod sizes;
 
 pub use crate::raw_table::{Entries, EntryMetadata};
 pub use allocation::Allocation;
 pub use check::check_all;
-pub use header::{HEADER_SIZE, Header, write_header};
 pub use new_tables::{allocate, init_in_place};
-pub use sizes::{bytes_needed, entry_at, layout_for};
+pub use odht_header::header::{HEADER_SIZE, Header, write_header};
+pub use odht_header::sizes::{bytes_needed, entry_at, layout_for};

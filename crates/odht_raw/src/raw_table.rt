@@ -15,7 +15,7 @@ ghost use Rattle.odht_raw.specs.Parts.{entry_format};
 ghost use Rattle.odht_raw.specs.Checks.{IsSlotHash};
 ghost use Rattle.odht_raw.specs.SearchEnds.{IsBesideKey};
 ghost use Rattle.odht_raw.specs.Walks.{items_from};
-ghost use Rattle.odht_raw.specs.Refusals.{checked, hashes_refusal, hashes_refusal_at};
+ghost use Rattle.odht_header.specs.Refusals.{checked, hashes_refusal, hashes_refusal_at};
 
 use crate::bytes::ByteArray;
 use crate::error::Error;

@@ -3,7 +3,7 @@ use Rattle.std.proofs.Common.{◌≡◌, ◌<◌, ◌≤◌, ◌↔◌, ◌⊎�
 use Rattle.std.specs.Result.{OnOk, IsErrOf}
 use Rattle.odht_base.specs.Format.{Format}
 use Rattle.odht_base.specs.Load.{factor_of}
-use Rattle.odht_raw.specs.Refusals.{IsTooLarge}
+use Rattle.odht_header.specs.Refusals.{IsTooLarge}
 use Rattle.odht_table.specs.declared.script.Refusal.{Refusal}
 use Rattle.odht_table.specs.declared.script.Refusal.TheVariants.{BadPercent, Capacity, Memory}
 use Rattle.odht_table.specs.Answers.{IsGoodPercent, IsRenewed}

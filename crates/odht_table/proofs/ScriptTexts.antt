@@ -9,7 +9,7 @@ use Rattle.std.specs.Io.KnownBytes.{Appends, Keeps}
 use Rattle.std.proofs.KnownBytes.{Appends-nil, Appends-trans, Appends-kept}
 use Rattle.odht_table.specs.Answers.{IsRenewed}
 use Rattle.odht_table.specs.Answers.IsRenewed.{bad_percent, capacity, memory, made}
-use Rattle.odht_raw.specs.Coding.{Coding}
+use Rattle.odht_header.specs.Coding.{Coding}
 use Rattle.odht_table.specs.Scripts.{ends_line, without_empty_last, script_lines, IsHeld, IsLineAnswered, AreAnswered, IsAnsweredBy}
 use Rattle.odht_table.specs.Scripts.IsLineAnswered.{other, renewed, no_table, answered}
 use Rattle.odht_table.specs.Scripts.AreAnswered.{no_lines, one_more}

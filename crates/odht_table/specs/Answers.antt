@@ -25,11 +25,11 @@ use Rattle.odht_base.specs.Table.{Table as Plain, count, walk, fresh}
 use Rattle.odht_base.specs.Image.{image}
 use Rattle.odht_base.specs.Insert.{insert_owned, IsFullFor}
 use Rattle.odht_base.specs.Valid.{IsImage}
-use Rattle.odht_raw.specs.Coding.{Coding, encoded, value_for}
+use Rattle.odht_header.specs.Coding.{Coding, encoded, value_for}
 use Rattle.odht_raw.specs.Dumps.{owned_dump_text}
-use Rattle.odht_raw.specs.ErrorTexts.{error_text}
-use Rattle.odht_raw.specs.Refusals.{IsTooLarge, check_refusal}
-use Rattle.odht_raw.specs.declared.error.Error.{Error}
+use Rattle.odht_header.specs.ErrorTexts.{error_text}
+use Rattle.odht_header.specs.Refusals.{IsTooLarge, check_refusal}
+use Rattle.odht_header.specs.declared.error.Error.{Error}
 use Rattle.odht_raw.specs.Walks.{decoded_all}
 use Rattle.odht_table.specs.declared.script.command.Request.{Request}
 use Rattle.odht_table.specs.declared.script.command.Request.TheVariants.{Put, Get, Len, Walk, Hex, Dump}

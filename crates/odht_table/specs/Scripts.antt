@@ -12,7 +12,7 @@ use Rattle.std.specs.List.{slice_split}
 use Rattle.odht_base.specs.Format.{Format}
 use Rattle.odht_base.specs.Table.{Table as Plain}
 use Rattle.odht_base.specs.Valid.{IsImage, IsValidBytes}
-use Rattle.odht_raw.specs.Coding.{Coding}
+use Rattle.odht_header.specs.Coding.{Coding}
 use Rattle.odht_table.specs.Answers.{line_of, IsAnswered, IsChecked, IsRenewed}
 use Rattle.odht_table.specs.Commands.{IsCheckText, IsCommandText}
 use Rattle.odht_table.specs.declared.script.command.Command.{Command}

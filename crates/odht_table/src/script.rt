@@ -5,7 +5,7 @@ ghost use Rattle.std.specs.Fmt.{digit_glyph};
 ghost use Rattle.odht_base.specs.Load.{factor_of, max_items, slots_for};
 ghost use Rattle.odht_base.specs.Table.{Table as Plain, fresh};
 ghost use Rattle.odht_base.specs.Valid.{IsImage};
-ghost use Rattle.odht_raw.specs.Refusals.{IsTooLarge};
+ghost use Rattle.odht_header.specs.Refusals.{IsTooLarge};
 ghost use Rattle.odht_table.specs.Answers.{line_of, hex_digits, hex_text, value_text, walk_text, IsPutAnswered, IsAnswered, IsRenewed, MayChange};
 ghost use Rattle.odht_table.specs.Scripts.{ends_line, script_lines, IsHeld, IsLineAnswered, IsAnsweredBy};
 

@@ -15,8 +15,8 @@ use Rattle.std.specs.Char.{is_ascii_hexdigit}
 use Rattle.std.specs.Fmt.{digit_glyph}
 use Rattle.std.specs.List.{AllPass, flat_map}
 use Rattle.std.specs.Str.{str_to_ascii_lowercase}
-use Rattle.odht_raw.specs.ErrorTexts.{error_text}
-use Rattle.odht_raw.specs.declared.error.Error.{Error}
+use Rattle.odht_header.specs.ErrorTexts.{error_text}
+use Rattle.odht_header.specs.declared.error.Error.{Error}
 use Rattle.std.specs.Str.Parse.{IsNumeral, digits_value}
 
 abbrev pub IsNumberWord : ℕ → List ℕ → Type 0

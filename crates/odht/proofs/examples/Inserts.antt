@@ -8,9 +8,9 @@ use Rattle.odht_base.specs.Numbers.{le_bytes}
 use Rattle.odht_base.specs.Table.{Pair, Table, empty}
 use Rattle.odht_base.proofs.lemmas.Options.{some_same}
 use Rattle.odht_base.proofs.examples.Configs.{my_config, pair64}
-use Rattle.odht_raw.proofs.examples.Opened.{opened}
+use Rattle.odht_header.proofs.examples.Opened.{opened}
 use Rattle.odht.specs.Inserts.{IsFresh, IsInserted}
-use Rattle.odht_raw.proofs.examples.Apart.{unequal_lists, some_unequal_lists}
+use Rattle.odht_header.proofs.examples.Apart.{unequal_lists, some_unequal_lists}
 use Rattle.odht.proofs.examples.SmallTables.{number_coding, no_pairs, one_pair, other_pair, one_of_32, bytes_of, no_pairs_image, one_pair_image}
 
 -- ---- new tables

@@ -6,9 +6,9 @@ use Rattle.odht_base.specs.Map.{map_of}
 use Rattle.odht_base.specs.Numbers.{le_bytes}
 use Rattle.odht_base.specs.Table.{Pair, Table}
 use Rattle.odht_base.proofs.examples.Configs.{pair64}
-use Rattle.odht_raw.proofs.examples.Opened.{opened}
+use Rattle.odht_header.proofs.examples.Opened.{opened}
 use Rattle.odht.specs.LastValues.{HasNoKey, IsLastItem, IsLastValue, HasLastValues}
-use Rattle.odht_raw.proofs.examples.Apart.{some_unequal_lists}
+use Rattle.odht_header.proofs.examples.Apart.{some_unequal_lists}
 use Rattle.odht.proofs.examples.SmallTables.{number_coding, one_pair, bytes_of, one_pair_image, the_table}
 
 -- the items of the examples

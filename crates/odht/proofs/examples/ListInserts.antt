@@ -12,14 +12,14 @@ use Rattle.odht_base.specs.Table.{Pair, Table, empty, slot_count}
 use Rattle.odht_base.proofs.lemmas.Options.{some_same}
 use Rattle.odht_base.proofs.examples.Configs.{my_config, direct_config, pair64, pair32}
 use Rattle.odht_raw.proofs.examples.FrameRefusals.{free_slot_refused}
-use Rattle.odht_raw.proofs.examples.Opened.{opened}
-use Rattle.odht_raw.specs.Coding.{encoded}
+use Rattle.odht_header.proofs.examples.Opened.{opened}
+use Rattle.odht_header.specs.Coding.{encoded}
 use Rattle.odht_raw.specs.Frame.{InsertFrame}
-use Rattle.odht_raw.specs.declared.error.Error.{Error}
-use Rattle.odht_raw.specs.declared.error.Error.TheVariants.{Full}
+use Rattle.odht_header.specs.declared.error.Error.{Error}
+use Rattle.odht_header.specs.declared.error.Error.TheVariants.{Full}
 use Rattle.std.specs.Result.{result_map_both}
 use Rattle.odht.specs.Lists.{encoded_all, HasSizeOf, IsAfterInserts, IsRefusedAt, IsStoppedAt, IsFreshAfterInserts}
-use Rattle.odht_raw.proofs.examples.Apart.{unequal_lists, some_unequal_lists}
+use Rattle.odht_header.proofs.examples.Apart.{unequal_lists, some_unequal_lists}
 use Rattle.odht.proofs.examples.SmallTables.{number_coding, no_pairs, one_pair, other_pair, full_of_none, one_of_32, bytes_of, one_pair_image, one_of_32_image}
 
 -- ---- items as pairs, in their order

@@ -9,8 +9,8 @@ use Rattle.odht_base.specs.Numbers.{le_bytes}
 use Rattle.odht_base.specs.Table.{Table, slot_count, empty}
 use Rattle.odht_base.proofs.examples.Configs.{my_config}
 use Rattle.odht_base.proofs.lemmas.Options.{some_same}
-use Rattle.odht_raw.proofs.examples.Apart.{some_unequal_lists}
-use Rattle.odht_raw.proofs.examples.Opened.{opened}
+use Rattle.odht_header.proofs.examples.Apart.{some_unequal_lists}
+use Rattle.odht_header.proofs.examples.Opened.{opened}
 use Rattle.odht.specs.Lists.{encoded_all}
 use Rattle.odht.specs.Rebuilds.{IsNewSizeOf, AreInOrder}
 use Rattle.odht.proofs.examples.SmallTables.{number_coding, one_pair}

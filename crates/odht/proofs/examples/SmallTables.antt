@@ -21,8 +21,8 @@ use Rattle.odht_base.specs.Valid.{IsImage}
 use Rattle.odht_base.proofs.examples.Configs.{my_config, pair64, owned_of}
 use Rattle.odht_base.proofs.lemmas.Image.{decoded_table-image}
 use Rattle.odht_base.proofs.lemmas.Placed.{IsPlaced-tests, pair_fits, all_arrive}
-use Rattle.odht_raw.specs.Coding.{Coding, coding_of, encoded}
-use Rattle.odht_raw.proofs.examples.Opened.{opened}
+use Rattle.odht_header.specs.Coding.{Coding, coding_of, encoded}
+use Rattle.odht_header.proofs.examples.Opened.{opened}
 
 abbrev pub number_coding : Coding ℕ ℕ
 number_coding =

@@ -19,8 +19,8 @@ use Rattle.odht_base.proofs.lemmas.Numbers.{num-le_bytes}
 use Rattle.odht_base.proofs.lemmas.Options.{some_same}
 use Rattle.odht_base.proofs.lemmas.SlotCounts.{few_slots}
 use Rattle.odht_raw.specs.Frame.{IsAccepted}
-use Rattle.odht_raw.specs.Layouts.{IsLayout}
-use Rattle.odht_raw.specs.Refusals.{IsTooLarge}
+use Rattle.odht_header.specs.Layouts.{IsLayout}
+use Rattle.odht_header.specs.Refusals.{IsTooLarge}
 use Rattle.odht_raw.proofs.lemmas.Accepted.{IsAccepted-headed}
 use Rattle.odht.specs.Growths.{table_len, grown_slots_of, grown_len}
 use Rattle.odht.proofs.lemmas.ViewInserts.{count_header, factor_header}

@@ -22,8 +22,8 @@ use Rattle.odht_base.proofs.lemmas.FreeSlots.{slot_count-empty, count-empty, emp
 use Rattle.odht_base.proofs.lemmas.SlotCounts.{slots_pos}
 use Rattle.odht_raw.specs.PartsInserts.{ArePartsPlaced}
 use Rattle.odht_raw.specs.PartsPlacings.{IsNewTo}
-use Rattle.odht_raw.specs.declared.error.Error.{Error}
-use Rattle.odht_raw.specs.declared.error.Error.TheVariants.{Full}
+use Rattle.odht_header.specs.declared.error.Error.{Error}
+use Rattle.odht_header.specs.declared.error.Error.TheVariants.{Full}
 
 -- what holds of an Ok result holds where the result is not `Full`
 pub accepted_holds : {T : Type 0} (X : Type 0) (r : Result T Error) → OnErr r (r ≡ Err Full) → (r ≡ Err Full → ⊥) → OnOk r X → X

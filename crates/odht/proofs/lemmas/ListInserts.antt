@@ -16,12 +16,12 @@ use Rattle.odht_base.proofs.lemmas.Grown.{slot_count-place_all}
 use Rattle.odht_base.proofs.lemmas.Places.{slot_count-place, factor-place, count-place_le}
 use Rattle.odht_base.proofs.lemmas.FreeSlots.{fresh-slots, slot_count-empty, count-empty, max_items-holds}
 use Rattle.odht_base.proofs.lemmas.InsertRuns.{IsInsert, run-append, run-push, last-append, last-cons, map_of-run, factor-run, count-run}
-use Rattle.odht_raw.specs.Coding.{Coding, encoded}
+use Rattle.odht_header.specs.Coding.{Coding, encoded}
 use Rattle.odht_raw.specs.Frame.{IsFramed}
 use Rattle.odht_raw.specs.Runs.{IsPlacedBelow}
 use Rattle.odht_raw.proofs.lemmas.PartRuns.{take-range}
-use Rattle.odht_raw.specs.declared.error.Error.{Error}
-use Rattle.odht_raw.specs.declared.error.Error.TheVariants.{Full}
+use Rattle.odht_header.specs.declared.error.Error.{Error}
+use Rattle.odht_header.specs.declared.error.Error.TheVariants.{Full}
 use Rattle.odht.specs.Lists.{encoded_all, HasSizeOf, IsAfterInserts, IsFramedRun, IsFreshAfterInserts, IsRefusedAt, IsStoppedAt}
 
 -- no pairs leave the table as it is

@@ -8,7 +8,7 @@ use Rattle.odht_base.specs.Format.{Format}
 use Rattle.odht_base.specs.Decoded.{Stores, entries_of, header_slots, slot_key, slot_value}
 use Rattle.odht_base.specs.Table.{Table}
 use Rattle.odht_base.specs.Valid.{IsPartsOf}
-use Rattle.odht_raw.specs.Coding.{Coding, value_for}
+use Rattle.odht_header.specs.Coding.{Coding, value_for}
 use Rattle.odht_raw.specs.Parts.{EntryBytes, TableParts}
 use Rattle.odht_raw.specs.SearchEnds.{IsBesideKey}
 use Rattle.odht.specs.Lookups.{IsLookup, AreLookups, HaveStored}

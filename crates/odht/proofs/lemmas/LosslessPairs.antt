@@ -9,7 +9,7 @@ use Rattle.odht_base.proofs.lemmas.Keys.{same_bytes, key_itself}
 use Rattle.odht_base.proofs.lemmas.Options.{option_or-none_right}
 use Rattle.odht_base.proofs.lemmas.FreeSlots.{map_of-fresh}
 use Rattle.odht_base.proofs.lemmas.InsertRuns.{last-cons}
-use Rattle.odht_raw.specs.Coding.{Coding, encoded}
+use Rattle.odht_header.specs.Coding.{Coding, encoded}
 use Rattle.odht.specs.LastValues.{IsLastValue, HasLastValues}
 use Rattle.odht.specs.Lists.{encoded_all, IsAfterInserts}
 

@@ -4,10 +4,10 @@ use Rattle.odht_base.specs.Format.{Format}
 use Rattle.odht_base.specs.Load.{slots_for, factor_of}
 use Rattle.odht_base.specs.Image.{image_len}
 use Rattle.std.specs.Option.{option_map_or}
-use Rattle.odht_raw.specs.Refusals.{IsTooLarge, new_refusal, slots_new_refusal, first_of, differs, ◌gives◌}
-use Rattle.odht_raw.specs.declared.error.Error.TheVariants.{Capacity, InitLength, Memory}
-use Rattle.odht_raw.specs.declared.error.Error.{Error}
-use Rattle.odht_raw.proofs.lemmas.FirstErrors.{false-differs}
+use Rattle.odht_header.specs.Refusals.{IsTooLarge, new_refusal, slots_new_refusal, first_of, differs, ◌gives◌}
+use Rattle.odht_header.specs.declared.error.Error.TheVariants.{Capacity, InitLength, Memory}
+use Rattle.odht_header.specs.declared.error.Error.{Error}
+use Rattle.odht_header.proofs.lemmas.FirstErrors.{false-differs}
 
 -- what is not below is no less
 not_le : (a b : ℕ) → b < a → nat_le a b ≡ false

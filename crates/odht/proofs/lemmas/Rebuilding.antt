@@ -6,7 +6,7 @@ use Rattle.odht_base.specs.Valid.{IsValid, IsImage}
 use Rattle.odht_base.proofs.lemmas.FreshRuns.{insert_owned-PlacesBelow}
 use Rattle.odht_base.proofs.lemmas.MadeTables.{order-runs}
 use Rattle.odht_base.proofs.lemmas.Options.{some_same}
-use Rattle.odht_raw.specs.Coding.{Coding}
+use Rattle.odht_header.specs.Coding.{Coding}
 use Rattle.odht.specs.Lists.{encoded_all, IsAfterInserts}
 use Rattle.odht.specs.Rebuilds.{IsNewSizeOf, AreInOrder}
 

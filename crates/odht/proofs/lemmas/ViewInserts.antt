@@ -1,6 +1,6 @@
 -- What the writes of an insert leave where its search ended, on the bytes of a valid table that takes the key.
 use Rattle.std.proofs.Common.{inl, inr, ◌≡◌, ◌≤◌, ◌<◌, ◌∙◌, ◌+◌, ◌/◌, ◌^◌, ℕ, sym, ap, refl, subst, arith, List, [], Option, Some, None, Ok, Err}
-use Rattle.odht_raw.specs.declared.error.Error.TheVariants.{Full}
+use Rattle.odht_header.specs.declared.error.Error.TheVariants.{Full}
 use Rattle.std.specs.Prelude.{option_map}
 use Rattle.std.proofs.lemmas.Option.{none-some}
 use Rattle.odht_base.specs.Format.{Format, tag}
@@ -18,7 +18,7 @@ use Rattle.odht_base.proofs.lemmas.FreeSlots.{place-IsValid_fits}
 use Rattle.odht_base.proofs.lemmas.Places.{written}
 use Rattle.odht_base.proofs.lemmas.TableInserts.{HasRoom, TakesKey, there, place-IsValid, insert_view-takes, insert_view-IsInsert}
 use Rattle.odht_base.proofs.lemmas.Writes.{with_value-image, with_pair-image_header}
-use Rattle.odht_raw.specs.Coding.{Coding, encoded}
+use Rattle.odht_header.specs.Coding.{Coding, encoded}
 use Rattle.odht_raw.specs.Frame.{CountsAsFree, HasNoFreeSlot, header_maximum, InsertFrame, IsFramed}
 use Rattle.odht_raw.proofs.lemmas.Inserts.{found_key, found_value}
 use Rattle.odht.specs.Inserts.{IsInserted}

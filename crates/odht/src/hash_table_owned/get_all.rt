@@ -2,7 +2,7 @@
 ghost use Rattle.std.specs.Prelude.{◌≡◌, length, map};
 ghost use Rattle.odht_base.specs.Table.{Table};
 ghost use Rattle.odht_base.specs.Valid.{IsImage};
-ghost use Rattle.odht_raw.specs.Coding.{value_for};
+ghost use Rattle.odht_header.specs.Coding.{value_for};
 
 use super::HashTableOwned;
 use crate::config::{Coded, Config};

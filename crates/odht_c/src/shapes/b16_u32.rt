@@ -7,7 +7,7 @@
 //! Written by exports/generate.sh from exports/shape.rt.in: edit that one.
 ghost use Rattle.std.specs.Prelude.{◌≡◌};
 ghost use Rattle.odht_raw.specs.Frame.{IsAccepted};
-ghost use Rattle.odht_raw.specs.Refusals.{view_refusal, check_refusal};
+ghost use Rattle.odht_header.specs.Refusals.{view_refusal, check_refusal};
 ghost use Rattle.odht_calls.specs.Statuses.{status_or_ok};
 ghost use Rattle.odht_calls.specs.Reads.{GetAnswers, GetAllAnswers, LenAnswers, SizesAnswers};
 ghost use Rattle.odht_calls.specs.Walks.{WalkAnswers};

@@ -14,11 +14,11 @@ use Rattle.odht_base.proofs.lemmas.Placed.{IsPlaced-tests}
 use Rattle.odht_base.proofs.lemmas.TableInserts.{insert_owned-IsInsert}
 use Rattle.odht_base.proofs.lemmas.InsertRuns.{map_of-run}
 use Rattle.odht_base.proofs.lemmas.FreeSlots.{empty-IsValid}
-use Rattle.odht_raw.proofs.examples.Opened.{opened}
+use Rattle.odht_header.proofs.examples.Opened.{opened}
 use Rattle.odht.specs.Lists.{IsAfterInserts, IsFreshAfterInserts}
 use Rattle.odht.proofs.lemmas.ListInserts.{inserted_more, fresh_inserted}
 use Rattle.odht_calls.specs.Builds.{IsGrownAfterInserts}
-use Rattle.odht_raw.proofs.examples.Apart.{unequal_lists}
+use Rattle.odht_header.proofs.examples.Apart.{unequal_lists}
 use Rattle.odht_calls.proofs.examples.Tables.{direct_coding, no_items, one_item, no_bytes, one_bytes, no_image, one_image}
 
 -- one pair, inserted into a valid table by the owned table

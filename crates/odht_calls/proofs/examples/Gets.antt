@@ -2,13 +2,13 @@
 use Rattle.std.proofs.Common.{ℕ, refl, [], Option, Some, None, IfSome, lit<, subst}
 use Rattle.odht_base.specs.Numbers.{le_bytes}
 use Rattle.odht_base.proofs.lemmas.Options.{some_same}
-use Rattle.odht_raw.specs.Coding.{value_for, HasStored}
-use Rattle.odht_raw.specs.declared.error.Error.TheVariants.{TooShort}
-use Rattle.odht_raw.proofs.examples.Opened.{opened}
+use Rattle.odht_header.specs.Coding.{value_for, HasStored}
+use Rattle.odht_header.specs.declared.error.Error.TheVariants.{TooShort}
+use Rattle.odht_header.proofs.examples.Opened.{opened}
 use Rattle.odht_calls.specs.Reads.{IsGot, IsGotAt, GetAnswers}
 use Rattle.odht_calls.proofs.lemmas.Opened.{never_refused}
 use Rattle.odht_calls.proofs.lemmas.Refused.{refused_get}
-use Rattle.odht_raw.proofs.examples.Apart.{unequal}
+use Rattle.odht_header.proofs.examples.Apart.{unequal}
 use Rattle.odht_calls.proofs.examples.Tables.{direct_coding, one_item, one_bytes, miscounted, one_image, accepted_bytes, same_table, not_stored}
 
 -- ---- IsGot

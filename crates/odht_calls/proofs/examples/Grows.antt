@@ -14,9 +14,9 @@ use Rattle.odht_base.specs.Valid.{IsImage}
 use Rattle.odht_base.proofs.examples.Configs.{direct_config, pair32}
 use Rattle.odht_base.proofs.lemmas.Options.{some_same}
 use Rattle.odht_base.proofs.lemmas.Placed.{IsPlaced-tests}
-use Rattle.odht_raw.specs.declared.error.Error.TheVariants.{TooShort, LoadFactorTooSmall, Capacity}
-use Rattle.odht_raw.proofs.examples.Apart.{unequal, unequal_lists}
-use Rattle.odht_raw.proofs.examples.Opened.{opened}
+use Rattle.odht_header.specs.declared.error.Error.TheVariants.{TooShort, LoadFactorTooSmall, Capacity}
+use Rattle.odht_header.proofs.examples.Apart.{unequal, unequal_lists}
+use Rattle.odht_header.proofs.examples.Opened.{opened}
 use Rattle.odht.specs.Growths.{grown_len, IsGrownImage}
 use Rattle.odht_calls.specs.Grows.{growth_refusal, GrowAnswers, IsGrownFrom, IsGrownInto}
 use Rattle.odht_calls.proofs.examples.Tables.{direct_coding, no_bytes, one_item, one_bytes, miscounted, one_image, same_table}

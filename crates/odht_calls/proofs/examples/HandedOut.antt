@@ -3,7 +3,7 @@
 use Rattle.std.proofs.Common.{◌≡◌, ◌≤◌, ◌<◌, ◌∙◌, ℕ, refl, sym, ap, arith, lit<, lit≤, List, [], ◌∷◌, length}
 use Rattle.odht_calls.specs.Builds.{IsHandedOut}
 use Rattle.odht_calls.proofs.lemmas.HandedOut.{IsHandedOut-none}
-use Rattle.odht_raw.proofs.examples.Apart.{unequal, unequal_lists}
+use Rattle.odht_header.proofs.examples.Apart.{unequal, unequal_lists}
 
 -- the bytes that take the part of a table
 abbrev AreOneTwo : List ℕ → Type 0

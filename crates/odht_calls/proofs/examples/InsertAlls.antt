@@ -10,12 +10,12 @@ use Rattle.odht_base.proofs.examples.Configs.{direct_config, pair32}
 use Rattle.odht_base.proofs.lemmas.FreshRuns.{insert_view-PlacesBelow}
 use Rattle.odht_base.proofs.lemmas.Options.{some_same}
 use Rattle.odht_base.proofs.lemmas.TableInserts.{insert_view-IsInsert}
-use Rattle.odht_raw.specs.declared.error.Error.TheVariants.{TooShort, Full}
-use Rattle.odht_raw.specs.declared.error.Error.{Error}
-use Rattle.odht_raw.specs.Coding.{encoded}
+use Rattle.odht_header.specs.declared.error.Error.TheVariants.{TooShort, Full}
+use Rattle.odht_header.specs.declared.error.Error.{Error}
+use Rattle.odht_header.specs.Coding.{encoded}
 use Rattle.odht_raw.specs.Frame.{IsFramed, InsertFrame}
 use Rattle.odht_raw.proofs.examples.FrameRefusals.{free_slot_refused}
-use Rattle.odht_raw.proofs.examples.Opened.{opened}
+use Rattle.odht_header.proofs.examples.Opened.{opened}
 use Rattle.std.specs.Result.{result_map_both}
 use Rattle.odht.specs.Lists.{IsAfterInserts}
 use Rattle.odht.proofs.lemmas.ListInserts.{inserted_none, inserted_more}
@@ -24,7 +24,7 @@ use Rattle.odht_calls.specs.Writes.{InsertAllAnswers}
 use Rattle.odht_calls.proofs.lemmas.Inserted.{accepted_insert_all, full_insert_all}
 use Rattle.odht_calls.proofs.lemmas.Refused.{refused_insert_all}
 use Rattle.odht_calls.proofs.examples.Runs.{one_run, unchanged, misplaced}
-use Rattle.odht_raw.proofs.examples.Apart.{unequal, unequal_lists}
+use Rattle.odht_header.proofs.examples.Apart.{unequal, unequal_lists}
 use Rattle.odht_calls.proofs.examples.Tables.{direct_coding, no_items, one_item, no_bytes, one_bytes, miscounted, no_image, one_image, accepted_bytes, same_table}
 
 -- the empty list of bytes has an error, and the buffers are unchanged

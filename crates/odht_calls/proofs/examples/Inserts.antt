@@ -4,14 +4,14 @@ use Rattle.odht_base.proofs.examples.Configs.{direct_config}
 use Rattle.odht_base.specs.Numbers.{le_bytes}
 use Rattle.odht_base.specs.Table.{Pair}
 use Rattle.odht_raw.specs.Frame.{InsertFrame, IsFramed}
-use Rattle.odht_raw.specs.declared.error.Error.{Error}
-use Rattle.odht_raw.specs.declared.error.Error.TheVariants.{TooShort, Full}
-use Rattle.odht_raw.proofs.examples.Opened.{opened}
+use Rattle.odht_header.specs.declared.error.Error.{Error}
+use Rattle.odht_header.specs.declared.error.Error.TheVariants.{TooShort, Full}
+use Rattle.odht_header.proofs.examples.Opened.{opened}
 use Rattle.odht_calls.specs.Statuses.{status_of}
 use Rattle.odht_calls.specs.Writes.{IsFormer, IsAnswered, IsAfterInsert, InsertAnswers}
 use Rattle.odht_calls.proofs.lemmas.Opened.{never_refused}
 use Rattle.odht_calls.proofs.lemmas.Refused.{refused_insert}
-use Rattle.odht_raw.proofs.examples.Apart.{unequal, unequal_lists}
+use Rattle.odht_header.proofs.examples.Apart.{unequal, unequal_lists}
 use Rattle.odht_calls.proofs.examples.Tables.{direct_coding, no_items, one_item, no_bytes, one_bytes, other_bytes, miscounted, no_image, one_image, other_image, accepted_bytes, same_table}
 
 -- ---- IsFormer

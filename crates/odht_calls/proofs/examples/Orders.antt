@@ -13,10 +13,10 @@ use Rattle.odht_base.proofs.examples.Configs.{direct_config}
 use Rattle.odht_base.proofs.examples.InsertOrders.{fifteen_first, fifteen_made, fifteen_order, slot_order_refused}
 use Rattle.odht_base.proofs.examples.Unmade.{unmade, unmade_valid, unmade_refused}
 use Rattle.odht_base.proofs.lemmas.Placed.{IsPlaced-tests}
-use Rattle.odht_raw.specs.declared.error.Error.TheVariants.{TooShort, NonZeroPadding}
-use Rattle.odht_raw.proofs.examples.Apart.{unequal, unequal_lists}
-use Rattle.odht_raw.proofs.examples.Invalid.{unmade_accepted}
-use Rattle.odht_raw.proofs.examples.Opened.{opened}
+use Rattle.odht_header.specs.declared.error.Error.TheVariants.{TooShort, NonZeroPadding}
+use Rattle.odht_header.proofs.examples.Apart.{unequal, unequal_lists}
+use Rattle.odht_header.proofs.examples.Invalid.{unmade_accepted}
+use Rattle.odht_header.proofs.examples.Opened.{opened}
 use Rattle.odht_raw.proofs.lemmas.WholeChecks.{valid_check}
 use Rattle.odht_calls.specs.Orders.{OrderAnswers}
 use Rattle.odht_calls.proofs.examples.Tables.{direct_coding, direct_format, same_table}

@@ -4,14 +4,14 @@ use Rattle.odht_base.specs.Numbers.{le_bytes}
 use Rattle.odht_base.specs.Table.{Pair}
 use Rattle.odht_base.specs.Writes.{with_pair, with_count}
 use Rattle.odht_base.proofs.examples.Configs.{direct_config, pair32}
-use Rattle.odht_raw.specs.Coding.{encoded}
+use Rattle.odht_header.specs.Coding.{encoded}
 use Rattle.odht_raw.specs.Frame.{InsertFrame}
-use Rattle.odht_raw.proofs.examples.Opened.{opened}
+use Rattle.odht_header.proofs.examples.Opened.{opened}
 use Rattle.odht.specs.Lists.{IsFramedRun}
-use Rattle.odht_raw.proofs.examples.Apart.{unequal_lists, tested}
+use Rattle.odht_header.proofs.examples.Apart.{unequal_lists, tested}
 use Rattle.odht_calls.proofs.examples.Tables.{direct_coding, no_bytes, one_bytes, other_bytes}
 use Rattle.odht_base.specs.Decoded.{key_at}
-use Rattle.odht_raw.specs.Refusals.{lists_differ}
+use Rattle.odht_header.specs.Refusals.{lists_differ}
 
 -- no inserts
 pub no_run : IsFramedRun direct_coding no_bytes [] no_bytes

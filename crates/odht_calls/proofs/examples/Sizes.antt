@@ -3,9 +3,9 @@
 use Rattle.std.proofs.Common.{◌≡◌, refl, [], subst}
 use Rattle.odht_base.specs.Load.{max_items, percent_of}
 use Rattle.odht_base.specs.Table.{slot_count}
-use Rattle.odht_raw.specs.declared.error.Error.TheVariants.{TooShort}
-use Rattle.odht_raw.proofs.examples.Apart.{unequal}
-use Rattle.odht_raw.proofs.examples.Opened.{opened}
+use Rattle.odht_header.specs.declared.error.Error.TheVariants.{TooShort}
+use Rattle.odht_header.proofs.examples.Apart.{unequal}
+use Rattle.odht_header.proofs.examples.Opened.{opened}
 use Rattle.odht_calls.specs.Reads.{SizesAnswers}
 use Rattle.odht_calls.proofs.lemmas.Opened.{never_refused}
 use Rattle.odht_calls.proofs.lemmas.Refused.{refused_sizes}

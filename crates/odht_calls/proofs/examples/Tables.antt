@@ -22,11 +22,11 @@ use Rattle.odht_base.proofs.examples.Configs.{direct_config, pair32}
 use Rattle.odht_base.proofs.lemmas.Image.{image-injective}
 use Rattle.odht_base.proofs.lemmas.Placed.{IsPlaced-tests}
 use Rattle.odht_base.proofs.lemmas.FreeSlots.{empty-IsValid}
-use Rattle.odht_raw.specs.Coding.{Coding, HasStored}
+use Rattle.odht_header.specs.Coding.{Coding, HasStored}
 use Rattle.odht_raw.specs.Frame.{IsAccepted}
-use Rattle.odht_raw.specs.Refusals.{lists_differ}
-use Rattle.odht_raw.proofs.examples.Apart.{unequal_lists, tested}
-use Rattle.odht_raw.proofs.examples.Opened.{opened}
+use Rattle.odht_header.specs.Refusals.{lists_differ}
+use Rattle.odht_header.proofs.examples.Apart.{unequal_lists, tested}
+use Rattle.odht_header.proofs.examples.Opened.{opened}
 
 abbrev pub direct_coding : Coding ℕ ℕ
 direct_coding = record {

@@ -6,9 +6,9 @@ use Rattle.std.specs.Borrow.{Bor}
 use Rattle.odht_base.specs.Numbers.{le_bytes}
 use Rattle.odht_base.specs.Table.{Table, count}
 use Rattle.odht_base.proofs.lemmas.Options.{some_same}
-use Rattle.odht_raw.specs.Coding.{value_for, HasStored}
-use Rattle.odht_raw.proofs.examples.Apart.{unequal, unequal_lists}
-use Rattle.odht_raw.proofs.examples.Opened.{opened}
+use Rattle.odht_header.specs.Coding.{value_for, HasStored}
+use Rattle.odht_header.proofs.examples.Apart.{unequal, unequal_lists}
+use Rattle.odht_header.proofs.examples.Opened.{opened}
 use Rattle.odht_calls.specs.Reads.{IsGot, IsGotAt}
 use Rattle.odht_calls.specs.Views.{OpenViewAnswers, ViewGetAnswers, ViewGetAllAnswers, ViewLenAnswers}
 use Rattle.odht_calls.proofs.examples.Tables.{direct_coding, one_item, one_bytes, no_bytes, miscounted, one_image, same_table, not_stored}

@@ -3,13 +3,13 @@
 use Rattle.std.proofs.Common.{◌≡◌, ◌<◌, ◌≤◌, refl, ap, arith, length, true≢false, Some, None, [], ◌∷◌, lit<, lit≤, subst}
 use Rattle.odht_base.specs.Table.{Table, count}
 use Rattle.odht_base.proofs.examples.Configs.{pair32}
-use Rattle.odht_raw.specs.declared.error.Error.TheVariants.{TooShort}
-use Rattle.odht_raw.proofs.examples.Opened.{opened}
+use Rattle.odht_header.specs.declared.error.Error.TheVariants.{TooShort}
+use Rattle.odht_header.proofs.examples.Opened.{opened}
 use Rattle.odht_calls.specs.Reads.{LenAnswers}
 use Rattle.odht_calls.specs.Walks.{IsWalked, WalkAnswers}
 use Rattle.odht_calls.proofs.lemmas.Opened.{never_refused}
 use Rattle.odht_calls.proofs.lemmas.Refused.{refused_len, refused_walk}
-use Rattle.odht_raw.proofs.examples.Apart.{unequal, unequal_lists}
+use Rattle.odht_header.proofs.examples.Apart.{unequal, unequal_lists}
 use Rattle.odht_calls.proofs.examples.Tables.{direct_coding, one_item, one_bytes, miscounted, one_image, accepted_bytes, same_table}
 
 -- ---- LenAnswers

@@ -4,11 +4,11 @@ use Rattle.std.specs.Prelude.{is_none}
 use Rattle.odht_base.specs.Format.{Format}
 use Rattle.odht_base.specs.Decoded.{header_factor}
 use Rattle.odht_base.proofs.lemmas.Options.{some_same}
-use Rattle.odht_raw.specs.Coding.{Coding}
+use Rattle.odht_header.specs.Coding.{Coding}
 use Rattle.odht_raw.specs.Frame.{IsAccepted}
-use Rattle.odht_raw.specs.Refusals.{◌gives◌, first_of, factor_refusal, opening_refusal}
-use Rattle.odht_raw.specs.declared.error.Error.{Error}
-use Rattle.odht_raw.specs.declared.error.Error.TheVariants.{LoadFactorTooSmall, Capacity}
+use Rattle.odht_header.specs.Refusals.{◌gives◌, first_of, factor_refusal, opening_refusal}
+use Rattle.odht_header.specs.declared.error.Error.{Error}
+use Rattle.odht_header.specs.declared.error.Error.TheVariants.{LoadFactorTooSmall, Capacity}
 use Rattle.odht.specs.Growths.{grown_len}
 use Rattle.odht_calls.specs.Grows.{growth_refusal, GrowAnswers, IsGrownFrom, IsGrownInto}
 use Rattle.odht_calls.specs.Statuses.{status_of, done, too_small}

@@ -1,8 +1,8 @@
 -- What is handed out of a table that was built.
 use Rattle.std.proofs.Common.{◌≡◌, ◌∙◌, ℕ, List, Result, Err, OnErr, ap, subst, refl, arith, length}
-use Rattle.odht_raw.specs.Coding.{Coding}
-use Rattle.odht_raw.specs.declared.error.Error.{Error}
-use Rattle.odht_raw.specs.declared.error.Error.TheVariants.{Memory}
+use Rattle.odht_header.specs.Coding.{Coding}
+use Rattle.odht_header.specs.declared.error.Error.{Error}
+use Rattle.odht_header.specs.declared.error.Error.TheVariants.{Memory}
 use Rattle.odht_calls.specs.Builds.{IsHandedOut, BuildGrowingAnswers}
 use Rattle.odht_calls.specs.Statuses.{status_of, done, too_small}
 

@@ -13,8 +13,8 @@ use Rattle.odht_base.proofs.lemmas.Image.{length-image}
 use Rattle.odht_base.proofs.lemmas.TableInserts.{insert_owned-IsInsert}
 use Rattle.odht_base.proofs.lemmas.FreeSlots.{count-fresh, max_items-fresh, fresh-IsValid}
 use Rattle.odht_base.proofs.lemmas.InsertRuns.{run-keeps, map_of-run, factor-run, count-run}
-use Rattle.odht_raw.specs.Coding.{Coding, encoded}
-use Rattle.odht_raw.specs.declared.error.Error.{Error}
+use Rattle.odht_header.specs.Coding.{Coding, encoded}
+use Rattle.odht_header.specs.declared.error.Error.{Error}
 use Rattle.odht.specs.Lists.{encoded_all, IsAfterInserts, IsFreshAfterInserts, IsRefusedAt}
 use Rattle.odht.proofs.lemmas.ListInserts.{fresh_inserted}
 

@@ -3,9 +3,9 @@ use Rattle.std.proofs.Common.{◌≡◌, ◌∙◌, ℕ, List, refl, arith, leng
 use Rattle.odht_base.specs.Made.{IsMade, IsInsertOrder}
 use Rattle.odht_base.specs.Table.{Table, count}
 use Rattle.odht_base.specs.Valid.{IsImage, IsValidBytes}
-use Rattle.odht_raw.specs.Coding.{Coding}
-use Rattle.odht_raw.specs.Refusals.{check_refusal}
-use Rattle.odht_raw.specs.declared.error.Error.{Error}
+use Rattle.odht_header.specs.Coding.{Coding}
+use Rattle.odht_header.specs.Refusals.{check_refusal}
+use Rattle.odht_header.specs.declared.error.Error.{Error}
 use Rattle.odht_calls.specs.Orders.{OrderAnswers}
 use Rattle.odht_calls.specs.Statuses.{status_of, done, bad_lengths, unmade}
 use Rattle.odht_calls.proofs.lemmas.Refused.{known, not_none}

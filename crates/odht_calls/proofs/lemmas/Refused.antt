@@ -1,9 +1,9 @@
 -- What the calls answer where opening has an error.
 use Rattle.std.proofs.Common.{◌≡◌, ◌∙◌, ℕ, List, sym, ap, refl, length, Option, Some, None}
 use Rattle.odht_base.specs.Format.{Format}
-use Rattle.odht_raw.specs.Coding.{Coding}
-use Rattle.odht_raw.specs.Refusals.{opening_refusal}
-use Rattle.odht_raw.specs.declared.error.Error.{Error}
+use Rattle.odht_header.specs.Coding.{Coding}
+use Rattle.odht_header.specs.Refusals.{opening_refusal}
+use Rattle.odht_header.specs.declared.error.Error.{Error}
 use Rattle.odht_calls.specs.Reads.{GetAnswers, GetAllAnswers, LenAnswers, SizesAnswers}
 use Rattle.odht_calls.specs.Walks.{WalkAnswers}
 use Rattle.odht_calls.specs.Statuses.{AreAsLong, status_of, status_or_ok}

@@ -11,9 +11,9 @@ use Rattle.odht_base.specs.Valid.{IsImage}
 use Rattle.odht_base.proofs.lemmas.Fits.{IsSized-IsPlaced}
 use Rattle.odht_base.proofs.lemmas.Image.{header_slots-image}
 use Rattle.odht_base.proofs.lemmas.SlotWalks.{pairs-slots_from, walk_from-goes_on, holds_there}
-use Rattle.odht_raw.specs.Coding.{Coding}
+use Rattle.odht_header.specs.Coding.{Coding}
 use Rattle.odht_raw.specs.Frame.{IsAccepted}
-use Rattle.odht_raw.specs.Refusals.{opening_refusal}
+use Rattle.odht_header.specs.Refusals.{opening_refusal}
 use Rattle.odht_raw.specs.Walks.{decoded, decoded_all, decoded_slots}
 use Rattle.odht_raw.proofs.lemmas.Accepted.{accepted_len}
 use Rattle.odht_raw.proofs.lemmas.SlotFits.{length-decoded_cells}

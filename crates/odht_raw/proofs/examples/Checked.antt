@@ -6,10 +6,10 @@ use Rattle.odht_base.specs.Search.{stops_at}
 use Rattle.odht_base.proofs.examples.Configs.{direct_config}
 use Rattle.odht_raw.specs.Checks.{cells_of, decoded_count, IsFitting, IsSlotHash, ArePassed}
 use Rattle.odht_raw.specs.Parts.{TableParts}
-use Rattle.odht_raw.proofs.lemmas.FirstErrors.{not-true}
+use Rattle.odht_header.proofs.lemmas.FirstErrors.{not-true}
 use Rattle.std.proofs.lemmas.Option.{none-some}
-use Rattle.odht_raw.proofs.examples.Apart.{unequal, tested}
-use Rattle.odht_raw.proofs.examples.Opened.{opened}
+use Rattle.odht_header.proofs.examples.Apart.{unequal, tested}
+use Rattle.odht_header.proofs.examples.Opened.{opened}
 
 -- sixteen slots: 5 beside 7 in slot 5 and 6 beside 8 in slot 6, both with their tag 0; the others are free
 abbrev entries_of_two : List ℕ

@@ -5,7 +5,7 @@ use Rattle.std.specs.Fmt.{debug_list, digits}
 use Rattle.std.specs.List.{range_with_len, flat_map}
 use Rattle.odht_base.specs.Image.{image}
 use Rattle.odht_base.proofs.examples.Configs.{test_config, pair32, view_of}
-use Rattle.odht_raw.proofs.examples.Opened.{opened}
+use Rattle.odht_header.proofs.examples.Opened.{opened}
 use Rattle.odht_raw.specs.Dumps.{DebugText, slot_text, parts_of, owned_dump_text}
 
 -- what `{:?}` writes of an array of bytes

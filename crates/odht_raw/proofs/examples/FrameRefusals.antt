@@ -9,13 +9,13 @@ use Rattle.odht_base.specs.Table.{Pair}
 use Rattle.odht_base.specs.Writes.{with_value, with_pair, with_count}
 use Rattle.odht_base.proofs.examples.Configs.{test_config, direct_config, pair32}
 use Rattle.odht_raw.specs.Frame.{InsertFrame, PartsFrame, CountsAsFree, CountsAsOccupied, HasNoFree, HasNoFreeSlot}
-use Rattle.odht_raw.specs.Refusals.{lists_differ}
-use Rattle.odht_raw.specs.declared.error.Error.{Error}
-use Rattle.odht_raw.specs.declared.error.Error.TheVariants.{Full, TooShort}
-use Rattle.odht_raw.proofs.examples.Apart.{unequal_lists, tested, untrue, neither}
-use Rattle.odht_raw.proofs.examples.Opened.{opened}
-use Rattle.odht_raw.proofs.examples.Refused.{test_bytes}
-use Rattle.odht_raw.proofs.examples.Invalid.{all_occupied}
+use Rattle.odht_header.specs.Refusals.{lists_differ}
+use Rattle.odht_header.specs.declared.error.Error.{Error}
+use Rattle.odht_header.specs.declared.error.Error.TheVariants.{Full, TooShort}
+use Rattle.odht_header.proofs.examples.Apart.{unequal_lists, tested, untrue, neither}
+use Rattle.odht_header.proofs.examples.Opened.{opened}
+use Rattle.odht_header.proofs.examples.Refused.{test_bytes}
+use Rattle.odht_header.proofs.examples.Invalid.{all_occupied}
 
 -- ---- Full
 -- a free slot whose mirror is free too does not count as occupied

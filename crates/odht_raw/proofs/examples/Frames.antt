@@ -8,11 +8,11 @@ use Rattle.odht_base.specs.Decoded.{header_count, header_slots}
 use Rattle.odht_base.specs.Table.{Pair}
 use Rattle.odht_base.specs.Writes.{with_pair, with_count}
 use Rattle.odht_base.proofs.examples.Configs.{test_config, direct_config, pair32, view_of}
-use Rattle.odht_raw.proofs.examples.Opened.{opened}
-use Rattle.odht_raw.proofs.examples.Refused.{test_bytes}
-use Rattle.odht_raw.proofs.examples.Invalid.{count_of_five, all_occupied}
+use Rattle.odht_header.proofs.examples.Opened.{opened}
+use Rattle.odht_header.proofs.examples.Refused.{test_bytes}
+use Rattle.odht_header.proofs.examples.Invalid.{count_of_five, all_occupied}
 use Rattle.odht_raw.specs.Frame.{InsertFrame, IsBytesFramed}
-use Rattle.odht_raw.specs.declared.error.Error.TheVariants.{Full}
+use Rattle.odht_header.specs.declared.error.Error.TheVariants.{Full}
 
 -- at the maximum of thirteen by the header, key 99 may be answered with Full
 pub refused : InsertFrame direct_config (all_occupied 13) (pair32 99 7) (Err Full) (all_occupied 13)

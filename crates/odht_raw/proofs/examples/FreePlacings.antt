@@ -13,13 +13,13 @@ use Rattle.odht_base.proofs.lemmas.Orders.{probe_slot-lt}
 use Rattle.odht_raw.specs.Frame.{CountsAsOccupied}
 use Rattle.odht_raw.specs.FreeSlots.{IsFirstFree, IsFirstFreeByte}
 use Rattle.odht_raw.specs.PartsPlacings.{PlacingFrame}
-use Rattle.odht_raw.specs.Refusals.{lists_differ}
-use Rattle.odht_raw.specs.declared.error.Error.{Error}
-use Rattle.odht_raw.specs.declared.error.Error.TheVariants.{Full}
-use Rattle.odht_raw.proofs.lemmas.FirstErrors.{not-true}
-use Rattle.odht_raw.proofs.examples.Apart.{unequal_lists, tested, untrue, neither}
+use Rattle.odht_header.specs.Refusals.{lists_differ}
+use Rattle.odht_header.specs.declared.error.Error.{Error}
+use Rattle.odht_header.specs.declared.error.Error.TheVariants.{Full}
+use Rattle.odht_header.proofs.lemmas.FirstErrors.{not-true}
+use Rattle.odht_header.proofs.examples.Apart.{unequal_lists, tested, untrue, neither}
 use Rattle.odht_raw.proofs.examples.FrameRefusals.{occupied_controls, no_entries, slot_five_free, counted_as_free, neighbour_not_free, free_slot_refused, no_free_slots}
-use Rattle.odht_raw.proofs.examples.Opened.{opened}
+use Rattle.odht_header.proofs.examples.Opened.{opened}
 
 -- ---- the first free slot
 -- slots 3 and 4 are occupied

@@ -10,8 +10,8 @@ use Rattle.odht_base.specs.Map.{map_of}
 use Rattle.odht_base.specs.Table.{Table, slot_count, is_free}
 use Rattle.odht_raw.specs.PartsInserts.{IsPartsInsert, IsInsertChange}
 use Rattle.odht_raw.specs.PartsMut.{mut_control, mut_entries, control_loan, entries_loan, table_format, IsParts, pair_of, IsMutInsert}
-use Rattle.odht_raw.specs.declared.error.Error.{Error}
-use Rattle.odht_raw.specs.declared.error.Error.TheVariants.{Full, TooShort}
+use Rattle.odht_header.specs.declared.error.Error.{Error}
+use Rattle.odht_header.specs.declared.error.Error.TheVariants.{Full, TooShort}
 use Rattle.odht_raw.specs.declared.raw_table.table_mut.RawTableMut.{RawTableMut}
 
 module _ {K V H : Type 0} {key : ByteArrayOf K} {key_eq : PartialEqOf K} {key_debug : DebugOf K}

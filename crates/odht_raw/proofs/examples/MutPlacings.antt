@@ -13,8 +13,8 @@ use Rattle.odht_raw.specs.FreeSlots.{IsFirstFree}
 use Rattle.odht_raw.specs.PartsInserts.{ArePartsPlaced}
 use Rattle.odht_raw.specs.PartsPlacings.{IsNewTo, IsNewPlacing, PlacingFrame, IsAddition}
 use Rattle.odht_raw.specs.PartsMut.{mut_control, mut_entries, control_loan, entries_loan, table_format, IsParts, pair_of, IsMutPlacing}
-use Rattle.odht_raw.specs.declared.error.Error.{Error}
-use Rattle.odht_raw.specs.declared.error.Error.TheVariants.{Full, TooShort}
+use Rattle.odht_header.specs.declared.error.Error.{Error}
+use Rattle.odht_header.specs.declared.error.Error.TheVariants.{Full, TooShort}
 use Rattle.odht_raw.specs.declared.raw_table.table_mut.RawTableMut.{RawTableMut}
 
 -- an Ok that the frame admits wrote into the first slot that counts as free

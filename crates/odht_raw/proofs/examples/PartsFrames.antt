@@ -7,10 +7,10 @@ use Rattle.odht_base.specs.Numbers.{le_bytes}
 use Rattle.odht_base.specs.Writes.{tagged}
 use Rattle.odht_base.proofs.examples.Configs.{test_config, pair32}
 use Rattle.odht_raw.specs.Frame.{PartsFrame}
-use Rattle.odht_raw.specs.Refusals.{lists_differ}
-use Rattle.odht_raw.proofs.examples.Apart.{unequal_lists, tested, neither}
+use Rattle.odht_header.specs.Refusals.{lists_differ}
+use Rattle.odht_header.proofs.examples.Apart.{unequal_lists, tested, neither}
 use Rattle.odht_raw.proofs.examples.FrameRefusals.{occupied_controls, no_entries, slot_five_free}
-use Rattle.odht_raw.proofs.examples.Opened.{opened}
+use Rattle.odht_header.proofs.examples.Opened.{opened}
 
 -- the entry of 1 in slot 5, beside a value below 256
 abbrev one_beside : ℕ → List ℕ

@@ -14,14 +14,14 @@ use Rattle.odht_base.proofs.lemmas.Placed.{IsPlaced-tests}
 use Rattle.odht_raw.specs.SearchResults.{answer, IsWherePlaced}
 use Rattle.odht_raw.specs.Frame.{PartsFrame, IsPartsFramed}
 use Rattle.odht_raw.specs.PartsInserts.{ArePartsPlaced, IsPartsInsert, IsInsertChange}
-use Rattle.odht_raw.specs.declared.error.Error.{Error}
-use Rattle.odht_raw.specs.declared.error.Error.TheVariants.{Full, TooShort}
+use Rattle.odht_header.specs.declared.error.Error.{Error}
+use Rattle.odht_header.specs.declared.error.Error.TheVariants.{Full, TooShort}
 use Rattle.odht_raw.specs.declared.raw_table.search_result.SearchResult.TheVariants.{Found, Free, Neither}
-use Rattle.odht_raw.proofs.lemmas.FirstErrors.{not-true}
-use Rattle.odht_raw.proofs.examples.Apart.{are_distinct, unequal_lists, tested}
+use Rattle.odht_header.proofs.lemmas.FirstErrors.{not-true}
+use Rattle.odht_header.proofs.examples.Apart.{are_distinct, unequal_lists, tested}
 use Rattle.odht_raw.proofs.examples.FrameRefusals.{occupied_controls, no_entries, no_free_slots, parts_entry_in_occupied_slot_refused}
-use Rattle.odht_raw.proofs.examples.Invalid.{fives_at}
-use Rattle.odht_raw.proofs.examples.Opened.{opened}
+use Rattle.odht_header.proofs.examples.Invalid.{fives_at}
+use Rattle.odht_header.proofs.examples.Opened.{opened}
 
 -- each slot i has the pair (i, i)
 abbrev full : Table

@@ -6,10 +6,10 @@ use Rattle.odht_base.specs.Numbers.{le_bytes}
 use Rattle.odht_base.specs.Decoded.{slot_key, slot_value, counts_as_free}
 use Rattle.odht_base.proofs.examples.Configs.{direct_config}
 use Rattle.odht_raw.specs.Parts.{EntryBytes}
-use Rattle.odht_raw.specs.Refusals.{lists_differ}
+use Rattle.odht_header.specs.Refusals.{lists_differ}
 use Rattle.odht_raw.specs.SearchEnds.{IsEnd, IsPlainEnd, IsEndAmong, IsBesideKey}
 use Rattle.odht_raw.specs.declared.raw_table.search_result.SearchResult.TheVariants.{Found, Free, Neither}
-use Rattle.odht_raw.proofs.examples.Apart.{unequal_lists, tested, untrue, neither}
+use Rattle.odht_header.proofs.examples.Apart.{unequal_lists, tested, untrue, neither}
 use Rattle.odht_raw.proofs.examples.FrameRefusals.{occupied_controls, slot_five_free, mirror_five_free, counted_as_free, neighbour_not_free, no_free_slots, one_free_slot_refused, none_free, one_free_refused}
 
 -- ---- in any parts

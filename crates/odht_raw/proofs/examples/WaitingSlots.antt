@@ -10,7 +10,7 @@ use Rattle.odht_base.proofs.lemmas.Placed.{IsPlaced-tests}
 use Rattle.odht_base.proofs.lemmas.SoFar.{so_far_none}
 use Rattle.odht_raw.specs.Parts.{TableParts}
 use Rattle.odht_raw.specs.Waiting.{waiting, slot_of, placed_of, IsWaiting, AreRising, IsPending, AreWholeParts}
-use Rattle.odht_raw.proofs.examples.Opened.{opened}
+use Rattle.odht_header.proofs.examples.Opened.{opened}
 
 -- ---- lists of slots
 -- how a slot that waits is listed, and which slots of a list do not wait

@@ -6,8 +6,8 @@ use Rattle.odht_base.specs.Table.{Table}
 use Rattle.odht_base.proofs.examples.Configs.{direct_config}
 use Rattle.odht_raw.specs.Parts.{TableParts}
 use Rattle.odht_raw.specs.Walks.{Item, items_of, items_from, AreOccupied}
-use Rattle.odht_raw.proofs.examples.Invalid.{fives_at}
-use Rattle.odht_raw.proofs.examples.Opened.{opened}
+use Rattle.odht_header.proofs.examples.Invalid.{fives_at}
+use Rattle.odht_header.proofs.examples.Opened.{opened}
 
 -- the parts of a table of sixteen slots
 abbrev parts : Table → TableParts

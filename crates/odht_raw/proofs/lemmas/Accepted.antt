@@ -20,11 +20,11 @@ use Rattle.odht_base.proofs.lemmas.SlotCounts.{slots_fit}
 use Rattle.odht_base.proofs.lemmas.Fits.{IsSized, IsSized-IsPlaced}
 use Rattle.odht_base.proofs.lemmas.Image.{length-image}
 use Rattle.odht_base.proofs.lemmas.ByteRanges.{bytes_at-take_front, bytes_at-drop, length-overwritten_at, overwritten_at-single, take-overwritten_at, drop-overwritten_at}
-use Rattle.odht_raw.specs.Refusals.{opening_refusal, header_refusal, first_of, differs, lists_differ, ◌gives◌}
+use Rattle.odht_header.specs.Refusals.{opening_refusal, header_refusal, first_of, differs, lists_differ, ◌gives◌}
 use Rattle.odht_raw.specs.Frame.{IsAccepted}
-use Rattle.odht_raw.specs.declared.error.Error.TheVariants.{WrongTag, WrongVersion, WrongSizeOf, TooShort, SlotCountNotPowerOfTwo, SlotCountTooSmall, WrongLength}
-use Rattle.odht_raw.specs.declared.error.Part.TheVariants.{EntryMetadata, EncodedKey, EncodedValue, Header}
-use Rattle.odht_raw.proofs.lemmas.FirstErrors.{option_or-None, None-option_or, gives-None, None-gives, not-false, differs-false, false-differs, lists_differ-false, false-lists_differ}
+use Rattle.odht_header.specs.declared.error.Error.TheVariants.{WrongTag, WrongVersion, WrongSizeOf, TooShort, SlotCountNotPowerOfTwo, SlotCountTooSmall, WrongLength}
+use Rattle.odht_header.specs.declared.error.Part.TheVariants.{EntryMetadata, EncodedKey, EncodedValue, Header}
+use Rattle.odht_header.proofs.lemmas.FirstErrors.{option_or-None, None-option_or, gives-None, None-gives, not-false, differs-false, false-differs, lists_differ-false, false-lists_differ}
 
 pub record IsHeader (F : Format) (n : ℕ) (B : List ℕ) : Type 0 where
   pub tag_is : bytes_at B 0 4 ≡ 79 ∷ 68 ∷ 72 ∷ 84 ∷ []

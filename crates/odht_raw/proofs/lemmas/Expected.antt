@@ -23,7 +23,7 @@ use Rattle.odht_base.proofs.lemmas.Options.{some_same, and_then_some}
 use Rattle.odht_base.proofs.lemmas.Orders.{find-order_some}
 use Rattle.odht_base.proofs.lemmas.Places.{written, written_here, written_other, place-written, place-IsPlaced}
 use Rattle.odht_raw.specs.SearchResults.{answer}
-use Rattle.odht_raw.specs.Coding.{Coding, encoded}
+use Rattle.odht_header.specs.Coding.{Coding, encoded}
 use Rattle.odht_raw.specs.Expected.{IsExpected, EndsIfFree, IsAhead}
 use Rattle.odht_raw.specs.Parts.{EntryBytes}
 use Rattle.odht_raw.specs.SearchSteps.{IsGroupAt}

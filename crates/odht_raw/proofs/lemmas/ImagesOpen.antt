@@ -9,10 +9,10 @@ use Rattle.odht_base.specs.Decoded.{counts_as_free, slot_key}
 use Rattle.odht_base.proofs.lemmas.Fits.{HasLengths, HasLengths-HasPairsOf, IsSized-IsPlaced}
 use Rattle.odht_base.proofs.lemmas.Image.{entries_of-image, controls_of-image}
 use Rattle.odht_base.proofs.lemmas.Parts.{length-controls, slice_index-controls, counts_as_free-control_byte, slot_key-entries, slot_entry-free}
-use Rattle.odht_raw.specs.declared.error.Error.{Error}
-use Rattle.odht_raw.specs.Refusals.{hashes_refusal_at, hashes_refusal, view_refusal}
+use Rattle.odht_header.specs.declared.error.Error.{Error}
+use Rattle.odht_header.specs.Refusals.{hashes_refusal_at, hashes_refusal, view_refusal}
 use Rattle.odht_raw.proofs.lemmas.Accepted.{IsAccepted-image}
-use Rattle.odht_raw.proofs.lemmas.FirstErrors.{None-gives, false-differs}
+use Rattle.odht_header.proofs.lemmas.FirstErrors.{None-gives, false-differs}
 use Rattle.odht_raw.proofs.lemmas.Openings.{view_refusal-slots}
 use Rattle.odht_raw.proofs.lemmas.SlotChecks.{zero_entry_passes, occupied_refusal, hashes_refusal-None}
 

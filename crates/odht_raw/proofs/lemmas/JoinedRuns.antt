@@ -19,10 +19,10 @@ use Rattle.odht_base.proofs.lemmas.Numbers.{num-le_bytes, le_bytes-num_at}
 use Rattle.odht_base.proofs.lemmas.PartsOf.{slot_within}
 use Rattle.odht_base.proofs.lemmas.InsertRuns.{count-run, factor-run}
 use Rattle.odht_base.proofs.lemmas.Writes.{with_count-append, with_value-append, with_pair-append}
-use Rattle.odht_raw.specs.Coding.{Coding, encoded}
+use Rattle.odht_header.specs.Coding.{Coding, encoded}
 use Rattle.odht_raw.specs.Frame.{IsAccepted, header_maximum, InsertFrame, PartsFrame, HasNoFreeSlot, CountsAsFree}
 use Rattle.odht_raw.specs.Runs.{IsFramedRun, IsPartsRun, ArePartsOfRun, IsPlacedBelow, count_after}
-use Rattle.odht_raw.specs.declared.error.Error.{Error}
+use Rattle.odht_header.specs.declared.error.Error.{Error}
 use Rattle.odht_raw.proofs.lemmas.NewTables.{bytes_at-overwritten_at, overwritten_at-same}
 use Rattle.odht_raw.proofs.lemmas.Accepted.{opening_refusal-same}
 

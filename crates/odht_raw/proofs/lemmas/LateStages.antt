@@ -7,11 +7,11 @@ use Rattle.odht_base.specs.Format.{Format}
 use Rattle.odht_base.specs.Decoded.{entries_of, controls_of, decoded_cells}
 use Rattle.odht_raw.specs.Checks.{decoded_count}
 use Rattle.odht_raw.specs.Parts.{TableParts}
-use Rattle.odht_raw.specs.Refusals.{first_of, factor_refusal, padding_refusal, slots_refusal, mirror_refusal, count_refusal, room_refusal, reach_refusal, late_refusals, late_refusal}
-use Rattle.odht_raw.specs.declared.error.Error.{Error}
-use Rattle.odht_raw.specs.declared.error.Error.TheVariants.{Unreachable}
-use Rattle.odht_raw.proofs.lemmas.FirstErrors.{option_or-None, option_or-first, option_or-second, two-first, last-first}
-use Rattle.odht_raw.proofs.lemmas.HeaderChecks.{IsPassed, first_of-behind}
+use Rattle.odht_header.specs.Refusals.{first_of, factor_refusal, padding_refusal, slots_refusal, mirror_refusal, count_refusal, room_refusal, reach_refusal, late_refusals, late_refusal}
+use Rattle.odht_header.specs.declared.error.Error.{Error}
+use Rattle.odht_header.specs.declared.error.Error.TheVariants.{Unreachable}
+use Rattle.odht_header.proofs.lemmas.FirstErrors.{option_or-None, option_or-first, option_or-second, two-first, last-first}
+use Rattle.odht_header.proofs.lemmas.HeaderChecks.{IsPassed, first_of-behind}
 
 -- its error once the first k stages have passed
 pub past_late : (F : Format) (B : List ℕ) (k : ℕ) → IsPassed (take k (late_refusals F B)) → late_refusal F B ≡ first_of (drop k (late_refusals F B))

@@ -16,7 +16,7 @@ use Rattle.odht_base.proofs.lemmas.ByteRanges.{bytes_at-take_front}
 use Rattle.odht_base.proofs.lemmas.Fits.{IsSized-IsPlaced}
 use Rattle.odht_base.proofs.lemmas.Image.{header_count-image, header_slots-image}
 use Rattle.odht_base.proofs.lemmas.Parts.{length-header_bytes, length-entries}
-use Rattle.odht_raw.specs.Coding.{Coding, encoded}
+use Rattle.odht_header.specs.Coding.{Coding, encoded}
 use Rattle.odht_raw.specs.Frame.{IsAccepted, HasNoFreeSlot, header_maximum}
 use Rattle.odht_raw.specs.Runs.{encoded_all, IsFramedRun, IsPartsRun, ArePartsOfRun, IsPlacedBelow, IsStop}
 use Rattle.odht_raw.proofs.lemmas.Accepted.{accepted_len}

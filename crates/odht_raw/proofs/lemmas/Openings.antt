@@ -2,11 +2,11 @@
 use Rattle.std.proofs.Common.{◌≡◌, ◌<◌, ◌≤◌, ◌∙◌, List, ℕ, Some, None, length, lt-ltb, le-ltb}
 use Rattle.odht_base.specs.Format.{Format}
 use Rattle.odht_base.specs.Decoded.{entries_of, controls_of}
-use Rattle.odht_raw.specs.declared.error.Error.{Error}
-use Rattle.odht_raw.specs.declared.error.Error.TheVariants.{TooShort}
+use Rattle.odht_header.specs.declared.error.Error.{Error}
+use Rattle.odht_header.specs.declared.error.Error.TheVariants.{TooShort}
 use Rattle.odht_raw.specs.Frame.{IsAccepted}
-use Rattle.odht_raw.specs.Refusals.{header_refusal, opening_refusal, hashes_refusal, view_refusal, late_refusal, check_refusal}
-use Rattle.odht_raw.proofs.lemmas.FirstErrors.{option_or-None, option_or-first, option_or-second, gives-Some, None-gives}
+use Rattle.odht_header.specs.Refusals.{header_refusal, opening_refusal, hashes_refusal, view_refusal, late_refusal, check_refusal}
+use Rattle.odht_header.proofs.lemmas.FirstErrors.{option_or-None, option_or-first, option_or-second, gives-Some, None-gives}
 
 module _ (F : Format) (B : List ℕ) where
   -- too few bytes for a header

@@ -16,11 +16,11 @@ use Rattle.odht_base.specs.Valid.{IsPairOf}
 use Rattle.odht_base.proofs.lemmas.Options.{some_same}
 use Rattle.odht_base.proofs.lemmas.Places.{count-place}
 use Rattle.odht_base.proofs.lemmas.InsertRuns.{run-push}
-use Rattle.odht_raw.specs.Coding.{Coding, encoded}
+use Rattle.odht_header.specs.Coding.{Coding, encoded}
 use Rattle.odht_raw.specs.Frame.{HasNoFreeSlot, PartsFrame, IsPartsFramed}
 use Rattle.odht_raw.specs.PartsInserts.{AnswersFormer, ArePartsPlaced}
 use Rattle.odht_raw.specs.Runs.{encoded_all, count_after, IsPartsRun, ArePartsOfRun}
-use Rattle.odht_raw.specs.declared.error.Error.{Error}
+use Rattle.odht_header.specs.declared.error.Error.{Error}
 
 -- an item that is read is the item there
 pub read_item : {X : Type 0} (xs : List X) (n : ℕ) (x : X) → n < length xs → slice_get xs n ≡ Some x → get_or xs n x ≡ x

@@ -8,7 +8,7 @@ use Rattle.odht_base.specs.Format.{Format}
 use Rattle.odht_base.specs.Insert.{place, place_all}
 use Rattle.odht_base.specs.Table.{Pair, Table}
 use Rattle.odht_base.proofs.lemmas.InsertRuns.{run-append}
-use Rattle.odht_raw.specs.Coding.{Coding, encoded}
+use Rattle.odht_header.specs.Coding.{Coding, encoded}
 use Rattle.odht_raw.specs.Runs.{encoded_all, count_after, IsPartsRun, ArePartsOfRun}
 use Rattle.odht_raw.proofs.lemmas.JoinedRuns.{count_after-add}
 

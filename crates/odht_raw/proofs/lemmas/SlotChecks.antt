@@ -7,10 +7,10 @@ use Rattle.std.proofs.lemmas.List.Folds.{list_all-append}
 use Rattle.odht_base.specs.Format.{Format, entry_len, tag}
 use Rattle.odht_base.specs.Decoded.{slot_entry, slot_key, slot_value, counts_as_free}
 use Rattle.odht_base.proofs.lemmas.PartsOf.{length-slot_entry}
-use Rattle.odht_raw.specs.declared.error.Error.{Error}
-use Rattle.odht_raw.specs.declared.error.Error.TheVariants.{NonZeroEmpty, ControlMismatch}
-use Rattle.odht_raw.specs.Refusals.{◌gives◌, differs, first_of, first_slot, hashes_refusal_at, hashes_refusal}
-use Rattle.odht_raw.proofs.lemmas.FirstErrors.{None-first_slot, first_slot-at}
+use Rattle.odht_header.specs.declared.error.Error.{Error}
+use Rattle.odht_header.specs.declared.error.Error.TheVariants.{NonZeroEmpty, ControlMismatch}
+use Rattle.odht_header.specs.Refusals.{◌gives◌, differs, first_of, first_slot, hashes_refusal_at, hashes_refusal}
+use Rattle.odht_header.proofs.lemmas.FirstErrors.{None-first_slot, first_slot-at}
 
 abbrev pub is_zero : ℕ → Bool
 is_zero x = x == 0

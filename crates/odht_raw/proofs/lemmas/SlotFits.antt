@@ -17,9 +17,9 @@ use Rattle.odht_base.specs.Table.{cell_at}
 use Rattle.odht_base.proofs.lemmas.ByteRanges.{bytes_at-take}
 use Rattle.odht_base.proofs.lemmas.PartsOf.{length-slot_entry}
 use Rattle.odht_base.proofs.lemmas.Placed.{is_at-true}
-use Rattle.odht_raw.specs.Refusals.{slot_refusal_at, mirror_refusal_at, slots_refusal, mirror_refusal, reach_refusal, unreachable, non_zero_empty, bad_free_control, control_mismatch}
-use Rattle.odht_raw.specs.declared.error.Error.TheVariants.{NonZeroEmpty, BadFreeControl, ControlMismatch}
-use Rattle.odht_raw.proofs.lemmas.FirstErrors.{option_or-None, None-option_or, gives-None, None-gives, gives_both-None, None-gives_both, not-true, not-false, differs-false, false-differs, first_slot-None, None-first_slot}
+use Rattle.odht_header.specs.Refusals.{slot_refusal_at, mirror_refusal_at, slots_refusal, mirror_refusal, reach_refusal, unreachable, non_zero_empty, bad_free_control, control_mismatch}
+use Rattle.odht_header.specs.declared.error.Error.TheVariants.{NonZeroEmpty, BadFreeControl, ControlMismatch}
+use Rattle.odht_header.proofs.lemmas.FirstErrors.{option_or-None, None-option_or, gives-None, None-gives, gives_both-None, None-gives_both, not-true, not-false, differs-false, false-differs, first_slot-None, None-first_slot}
 use Rattle.odht_raw.proofs.lemmas.SlotChecks.{zeros-list_all}
 
 pub record IsSlotFit (F : Format) (es ctrl : List ℕ) (i : ℕ) : Type 0 where

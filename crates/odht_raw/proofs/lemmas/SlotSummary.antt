@@ -10,10 +10,10 @@ use Rattle.odht_base.specs.Decoded.{counts_as_free, decoded_cell, decoded_cells,
 use Rattle.odht_base.specs.Table.{Pair}
 use Rattle.odht_raw.specs.Checks.{cells_of, decoded_count, IsFitting}
 use Rattle.odht_raw.specs.Parts.{TableParts}
-use Rattle.odht_raw.specs.declared.error.Error.{Error}
-use Rattle.odht_raw.specs.declared.error.Error.TheVariants.{NonZeroEmpty, BadFreeControl, ControlMismatch, Unreachable}
-use Rattle.odht_raw.specs.Refusals.{◌gives◌, differs, first_of, hashes_refusal_at, bad_free_control, slot_refusal_at, slots_refusal, mirror_refusal, unreachable, reach_refusal}
-use Rattle.odht_raw.proofs.lemmas.FirstErrors.{option_or-first, option_or-second, None-option_or, None-gives, gives-Some, None-first_slot, first_slot-at}
+use Rattle.odht_header.specs.declared.error.Error.{Error}
+use Rattle.odht_header.specs.declared.error.Error.TheVariants.{NonZeroEmpty, BadFreeControl, ControlMismatch, Unreachable}
+use Rattle.odht_header.specs.Refusals.{◌gives◌, differs, first_of, hashes_refusal_at, bad_free_control, slot_refusal_at, slots_refusal, mirror_refusal, unreachable, reach_refusal}
+use Rattle.odht_header.proofs.lemmas.FirstErrors.{option_or-first, option_or-second, None-option_or, None-gives, gives-Some, None-first_slot, first_slot-at}
 use Rattle.odht_raw.proofs.lemmas.SlotChecks.{is_zero}
 
 -- ---- one slot

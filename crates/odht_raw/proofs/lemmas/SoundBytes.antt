@@ -20,9 +20,9 @@ use Rattle.odht_base.proofs.lemmas.Options.{some_same}
 use Rattle.odht_base.proofs.lemmas.PartsOf.{length-slot_entry}
 use Rattle.odht_base.proofs.lemmas.Placed.{AllArrive, IsPlaced-AllArrive}
 use Rattle.odht_raw.specs.Frame.{IsAccepted}
-use Rattle.odht_raw.specs.Refusals.{factor_refusal, padding_refusal, slots_refusal, mirror_refusal, count_refusal, room_refusal, reach_refusal, late_refusal}
+use Rattle.odht_header.specs.Refusals.{factor_refusal, padding_refusal, slots_refusal, mirror_refusal, count_refusal, room_refusal, reach_refusal, late_refusal}
 use Rattle.odht_raw.proofs.lemmas.Accepted.{accepted_opening, accepted_slots, accepted_len}
-use Rattle.odht_raw.proofs.lemmas.FirstErrors.{option_or-None, None-option_or, gives-None, None-gives, differs-false, false-differs, lists_differ-false, false-lists_differ}
+use Rattle.odht_header.proofs.lemmas.FirstErrors.{option_or-None, None-option_or, gives-None, None-gives, differs-false, false-differs, lists_differ-false, false-lists_differ}
 use Rattle.odht_raw.proofs.lemmas.SlotFits.{AllFit, IsMirrored, AllFound, AllFit-slots_refusal, slots_refusal-AllFit, IsMirrored-mirror_refusal, mirror_refusal-IsMirrored, search_end-unreachable, unreachable-search_end, unreachable-reach_refusal, reach_refusal-unreachable, length-decoded_cells, cell_at-decoded_cells, entries-decoded_cells, controls-decoded_cells}
 
 pub record IsSound (F : Format) (B : List ℕ) : Type 0 where

@@ -14,7 +14,7 @@ use Rattle.odht_base.proofs.lemmas.Image.{header_slots-image, header_count-image
 use Rattle.odht_base.proofs.lemmas.Lookups.{AllArrive-IsPlaced}
 use Rattle.odht_base.proofs.lemmas.Parts.{length-controls, slice_index-controls, slice_index-mirror, slot_entry-free, decoded_cells-parts}
 use Rattle.odht_raw.specs.Frame.{IsAccepted}
-use Rattle.odht_raw.specs.Refusals.{view_refusal, late_refusal, check_refusal}
+use Rattle.odht_header.specs.Refusals.{view_refusal, late_refusal, check_refusal}
 use Rattle.odht_raw.proofs.lemmas.Accepted.{IsAccepted-image}
 use Rattle.odht_raw.proofs.lemmas.ImagesOpen.{view_refusal-image}
 use Rattle.odht_raw.proofs.lemmas.Openings.{check_refusal-late}

@@ -8,7 +8,7 @@ ghost use Rattle.odht_base.specs.Valid.{IsImage, IsPartsOf};
 ghost use Rattle.odht_base.specs.Decoded.{header_slots, entries_of, controls_of};
 ghost use Rattle.std.specs.Result.{result_err};
 ghost use Rattle.odht_raw.specs.Frame.{IsAccepted};
-ghost use Rattle.odht_raw.specs.Refusals.{opening_refusal, view_refusal};
+ghost use Rattle.odht_header.specs.Refusals.{opening_refusal, view_refusal};
 
 use super::{Entries, EntryMetadata, HEADER_SIZE, Header, entry_at};
 use crate::bytes::{ByteArray, ByteStore};

@@ -1,7 +1,7 @@
 //! The whole check of the bytes of a table.
 ghost use Rattle.std.specs.Prelude.{◌≡◌, ◌<◌, ◌↔◌, All, IsOk};
 ghost use Rattle.odht_base.specs.Valid.{IsValidBytes};
-ghost use Rattle.odht_raw.specs.Refusals.{checked, late_refusal, check_refusal};
+ghost use Rattle.odht_header.specs.Refusals.{checked, late_refusal, check_refusal};
 
 use super::Allocation;
 use crate::bytes::{Borrowed, ByteStore};

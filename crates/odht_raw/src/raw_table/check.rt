@@ -5,7 +5,7 @@ ghost use Rattle.odht_base.specs.Format.{format_of, tag as key_tag};
 ghost use Rattle.odht_base.specs.Search.{search_end, is_at};
 ghost use Rattle.odht_base.specs.Decoded.{counts_as_free, slot_key};
 ghost use Rattle.odht_raw.specs.Checks.{cells_of, decoded_count, IsFitting, ArePassed};
-ghost use Rattle.odht_raw.specs.Refusals.{checked, bad_free_control, slots_refusal, mirror_refusal, reach_refusal};
+ghost use Rattle.odht_header.specs.Refusals.{checked, bad_free_control, slots_refusal, mirror_refusal, reach_refusal};
 
 use super::{FREE, ProbeSeq, RawTable, tag_of};
 use crate::bytes::ByteArray;

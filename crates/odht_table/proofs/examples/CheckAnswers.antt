@@ -2,10 +2,10 @@
 use Rattle.std.proofs.Common.{◌≡◌, ◌∙◌, ℕ, inl, inr, List, [], ◌∷◌, None, ap, refl, sym}
 use Rattle.std.specs.Prelude.{codes}
 use Rattle.std.specs.Fmt.{digits}
-use Rattle.odht_raw.proofs.examples.Apart.{unequal_lists}
+use Rattle.odht_header.proofs.examples.Apart.{unequal_lists}
 use Rattle.odht_base.specs.Format.{Format}
 use Rattle.odht_base.proofs.examples.Configs.{my_config}
-use Rattle.odht_raw.specs.Refusals.{opening_refusal, view_refusal, check_refusal}
+use Rattle.odht_header.specs.Refusals.{opening_refusal, view_refusal, check_refusal}
 use Rattle.odht_table.specs.Answers.{refused_text, check_text, IsChecked}
 
 -- bytes in which no error is found are valid

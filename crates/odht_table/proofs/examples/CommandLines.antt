@@ -4,7 +4,7 @@ use Rattle.std.specs.Prelude.{codes}
 use Rattle.odht_table.specs.Commands.{IsPairText, IsNumberText, IsWordText, IsCommandText}
 use Rattle.odht_table.specs.declared.script.command.Command.TheVariants.{New, OnTable}
 use Rattle.odht_table.specs.declared.script.command.Request.TheVariants.{Put, Get, Len, Walk, Hex, Dump}
-use Rattle.odht_raw.proofs.examples.Apart.{are_distinct, unequal_lists}
+use Rattle.odht_header.proofs.examples.Apart.{are_distinct, unequal_lists}
 use Rattle.odht_table.proofs.examples.NumberTexts.{a_pair, a_number, another_number, another_second}
 
 -- two lines that differ in the byte at one index

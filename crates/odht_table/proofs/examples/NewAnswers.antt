@@ -11,7 +11,7 @@ use Rattle.odht_base.proofs.lemmas.Options.{some_same}
 use Rattle.odht_base.proofs.lemmas.FreeSlots.{fresh-IsValid}
 use Rattle.odht_base.proofs.examples.Configs.{my_config}
 use Rattle.odht_base.proofs.examples.Opened.{opened}
-use Rattle.odht_raw.specs.Refusals.{IsTooLarge}
+use Rattle.odht_header.specs.Refusals.{IsTooLarge}
 use Rattle.odht_table.specs.Answers.{IsGoodPercent, IsRenewed}
 use Rattle.odht.proofs.examples.SmallTables.{no_pairs}
 

@@ -11,9 +11,9 @@ use Rattle.odht_base.specs.Valid.{IsImage}
 use Rattle.odht_base.proofs.lemmas.Options.{some_same}
 use Rattle.odht_base.proofs.examples.Configs.{my_config}
 use Rattle.odht_base.proofs.examples.Opened.{opened}
-use Rattle.odht_raw.specs.Refusals.{IsTooLarge}
+use Rattle.odht_header.specs.Refusals.{IsTooLarge}
 use Rattle.odht_table.specs.Answers.{IsGoodPercent, IsRenewed, new_text}
-use Rattle.odht_raw.proofs.examples.Apart.{are_distinct, unequal_lists, some_unequal_lists}
+use Rattle.odht_header.proofs.examples.Apart.{are_distinct, unequal_lists, some_unequal_lists}
 use Rattle.odht_table.proofs.examples.NewAnswers.{bad_percents, good, too_large, not_too_large, new_bytes, old_bytes}
 use Rattle.odht.proofs.examples.SmallTables.{no_pairs}
 

@@ -7,7 +7,7 @@ use Rattle.odht_base.specs.Table.{Table}
 use Rattle.odht_base.proofs.examples.Opened.{opened}
 use Rattle.odht_table.specs.Answers.{IsPutAnswered}
 use Rattle.odht_table.proofs.Puts.{my_coding}
-use Rattle.odht_raw.proofs.examples.Apart.{are_distinct, unequal_lists}
+use Rattle.odht_header.proofs.examples.Apart.{are_distinct, unequal_lists}
 use Rattle.odht.proofs.examples.SmallTables.{no_pairs, one_pair, full_of_none, one_of_32}
 use Rattle.odht_table.proofs.examples.Tests.{has_pairs, has_value}
 

@@ -3,13 +3,13 @@ use Rattle.std.proofs.Common.{◌≡◌, ◌++◌, ℕ, refl, List}
 use Rattle.std.specs.Prelude.{codes}
 use Rattle.std.specs.Fmt.{decimal, digits}
 use Rattle.std.specs.List.{flat_map, range_with_len}
-use Rattle.odht_raw.proofs.examples.Opened.{opened}
+use Rattle.odht_header.proofs.examples.Opened.{opened}
 use Rattle.odht_base.specs.Table.{Table}
 use Rattle.odht_table.specs.Answers.{IsAnswered, MayChange}
 use Rattle.odht_table.specs.declared.script.command.Request.{Request}
 use Rattle.odht_table.specs.declared.script.command.Request.TheVariants.{Put, Get, Len, Walk, Hex, Dump}
 use Rattle.odht_table.proofs.Puts.{my_coding}
-use Rattle.odht_raw.proofs.examples.Apart.{are_distinct, unequal_lists, some_unequal_lists}
+use Rattle.odht_header.proofs.examples.Apart.{are_distinct, unequal_lists, some_unequal_lists}
 use Rattle.odht_table.proofs.examples.PutAnswers.{old_key, other_text}
 use Rattle.odht.proofs.examples.SmallTables.{no_pairs, one_pair}
 use Rattle.odht_table.proofs.examples.Tests.{has_pairs}

@@ -3,7 +3,7 @@ use Rattle.std.proofs.Common.{◌≡◌, ◌∙◌, ℕ, List, [], ◌∷◌, le
 use Rattle.std.proofs.lemmas.Option.{none-some}
 use lib.ListN.{length-append}
 use Rattle.std.specs.Prelude.{codes}
-use Rattle.odht_raw.proofs.examples.Apart.{unequal_lists}
+use Rattle.odht_header.proofs.examples.Apart.{unequal_lists}
 use Rattle.odht_base.proofs.examples.Configs.{my_config}
 use Rattle.odht_table.specs.Commands.{IsCheckText}
 use Rattle.odht_table.specs.Scripts.{script_lines, IsOtherAnswered, IsLineAnswered, AreAnswered, IsAnsweredBy}

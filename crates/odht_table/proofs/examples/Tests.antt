@@ -5,7 +5,7 @@ use Rattle.std.proofs.Common.{◌≡◌, ◌==◌, ℕ, Bool, refl, false}
 use Rattle.std.specs.Option.{option_map_or}
 use Rattle.odht_base.specs.Table.{Table, count}
 use Rattle.odht_base.proofs.examples.Configs.{pair64}
-use Rattle.odht_raw.specs.Coding.{encoded, value_for}
+use Rattle.odht_header.specs.Coding.{encoded, value_for}
 use Rattle.odht_table.proofs.Puts.{my_coding}
 
 abbrev pub has_pairs : ℕ → Table → Bool

@@ -1,7 +1,7 @@
 //! `odht check`: whether a file is a valid table.
 ghost use Rattle.std.specs.Prelude.{◌≡◌, OnOk};
 ghost use Rattle.std.specs.Io.KnownBytes.{Appends};
-ghost use Rattle.odht_raw.specs.Refusals.{checked, check_refusal};
+ghost use Rattle.odht_header.specs.Refusals.{checked, check_refusal};
 ghost use Rattle.odht_tool.specs.Texts.{checked_text};
 
 use super::{DONE, NOT_DONE};

@@ -4,7 +4,7 @@ ghost use Rattle.std.specs.Io.KnownBytes.{Appends};
 ghost use Rattle.std.specs.List.{AllPass};
 ghost use Rattle.odht_base.specs.Table.{Table};
 ghost use Rattle.odht_base.specs.Valid.{IsImage};
-ghost use Rattle.odht_raw.specs.Coding.{value_for};
+ghost use Rattle.odht_header.specs.Coding.{value_for};
 ghost use Rattle.odht_tool.specs.Texts.{answers_text};
 
 use super::check::shape_of;

@@ -7,7 +7,7 @@ use Rattle.odht_base.specs.Decoded.{decoded_cells, header_count, header_factor}
 use Rattle.odht_base.specs.Table.{walk, count, empty}
 use Rattle.odht_base.proofs.lemmas.DistinctKeys.{walk-KeysApart}
 use Rattle.odht_base.proofs.lemmas.Least.{slots_for-IsLeastSlots}
-use Rattle.odht_raw.proofs.lemmas.Formats.{IsFormat-format_of}
+use Rattle.odht_header.proofs.lemmas.Formats.{IsFormat-format_of}
 use Rattle.odht_raw.proofs.lemmas.Walks.{stored, stored-walk, decoded_pairs-image}
 use Rattle.odht.proofs.lemmas.GrownBytes.{grown_header, headed_accepted, headed_count, headed_factor}
 use Rattle.odht.proofs.lemmas.Growths.{grown_placed, grown_image}

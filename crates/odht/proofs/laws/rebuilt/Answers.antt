@@ -1,7 +1,7 @@
 use Rattle.std.proofs.Common.{◌≡◌, sym, subst, refl, take, List, IsOk, arith}
 use Rattle.std.proofs.lemmas.List.{take_all}
 use Rattle.odht_base.specs.Insert.{insert_owned}
-use Rattle.odht_raw.specs.Coding.{coding_of}
+use Rattle.odht_header.specs.Coding.{coding_of}
 use Rattle.odht.specs.Lists.{encoded_all, IsAfterInserts}
 use Rattle.odht.proofs.lemmas.Rebuilding.{rebuilt-IsImage}
 use Rattle.odht.proofs.laws.rebuilt.Goals as goal

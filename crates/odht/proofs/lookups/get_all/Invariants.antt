@@ -1,4 +1,4 @@
-use Rattle.odht_raw.specs.Coding.{coding_of}
+use Rattle.odht_header.specs.Coding.{coding_of}
 use Rattle.odht.specs.Lookups.{AreLookups}
 use Rattle.odht.proofs.lookups.get_all.Given as goal
 

@@ -1,5 +1,5 @@
 use Rattle.std.proofs.Common.{◌*◌}
-use Rattle.odht_raw.specs.Coding.{coding_of}
+use Rattle.odht_header.specs.Coding.{coding_of}
 use Rattle.odht.specs.Lookups.{AreLookups}
 use Rattle.odht.proofs.lookups.get_batches.Given as goal
 

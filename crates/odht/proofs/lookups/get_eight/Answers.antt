@@ -1,4 +1,4 @@
-use Rattle.odht_raw.specs.Coding.{coding_of}
+use Rattle.odht_header.specs.Coding.{coding_of}
 use Rattle.odht.specs.Lookups.{AreLookups}
 use Rattle.odht.proofs.lemmas.Lookups.{eight_steps}
 use Rattle.odht.proofs.lookups.get_eight.Goals as goal

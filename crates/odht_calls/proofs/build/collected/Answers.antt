@@ -5,7 +5,7 @@ use Rattle.odht_base.specs.Image.{image_len}
 use Rattle.odht_base.specs.Load.{factor_of, slots_for}
 use Rattle.odht_base.specs.Table.{empty}
 use Rattle.odht_base.proofs.lemmas.FreeSlots.{slot_count-empty}
-use Rattle.odht_raw.specs.Coding.{Coding, coding_of}
+use Rattle.odht_header.specs.Coding.{Coding, coding_of}
 use Rattle.odht_calls.proofs.lemmas.NewBuilds.{fresh_empty, new_exists}
 use Rattle.odht_calls.proofs.build.collected.Given.{Over}
 use Rattle.odht_calls.proofs.build.collected.Goals as goal

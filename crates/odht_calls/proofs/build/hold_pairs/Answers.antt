@@ -5,7 +5,7 @@ use Rattle.std.proofs.lemmas.Slice.Zip.{get_or-zip, length-zip}
 use Rattle.std.specs.List.{zip}
 use Rattle.odht_base.specs.Table.{Pair}
 use Rattle.odht_base.specs.Valid.{IsPairOf}
-use Rattle.odht_raw.specs.Coding.{Coding, coding_of, encoded}
+use Rattle.odht_header.specs.Coding.{Coding, coding_of, encoded}
 use Rattle.odht_raw.specs.Runs.{encoded_all}
 use Rattle.odht.proofs.lemmas.ListInserts.{encoded_all-more}
 use Rattle.odht_calls.proofs.build.hold_pairs.Given.{Over}

@@ -1,7 +1,7 @@
 use Rattle.std.proofs.Common.{All, take}
 use Rattle.std.specs.List.{zip}
 use Rattle.odht_base.specs.Valid.{IsPairOf}
-use Rattle.odht_raw.specs.Coding.{coding_of}
+use Rattle.odht_header.specs.Coding.{coding_of}
 use Rattle.odht_raw.specs.Runs.{encoded_all}
 use Rattle.odht_calls.proofs.build.hold_pairs.Given as goal
 

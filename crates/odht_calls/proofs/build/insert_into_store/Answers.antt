@@ -9,7 +9,7 @@ use Rattle.odht_base.specs.Valid.{IsImage}
 use Rattle.odht_base.specs.Writes.{with_count}
 use Rattle.odht_base.proofs.lemmas.Least.{slots_for-IsLeastSlots}
 use Rattle.odht_base.proofs.lemmas.FreeSlots.{fresh-IsValid}
-use Rattle.odht_raw.specs.Coding.{Coding, coding_of}
+use Rattle.odht_header.specs.Coding.{Coding, coding_of}
 use Rattle.odht_raw.specs.Frame.{IsAccepted}
 use Rattle.odht_raw.proofs.lemmas.NewTables.{IsAccepted-new, with_count-new}
 use Rattle.odht.specs.Lists.{encoded_all, IsAfterInserts, IsFreshAfterInserts, IsRefusedAt}

@@ -2,7 +2,7 @@ use Rattle.std.proofs.Common.{◌≡◌, ◌∙◌, sym, ap, subst, refl, arith,
 use Rattle.odht_base.specs.Format.{Format, format_of}
 use Rattle.odht_base.specs.Decoded.{header_count, header_factor}
 use Rattle.odht_base.specs.Valid.{IsImage}
-use Rattle.odht_raw.specs.declared.error.Error.TheVariants.{LoadFactorTooSmall, Capacity}
+use Rattle.odht_header.specs.declared.error.Error.TheVariants.{LoadFactorTooSmall, Capacity}
 use Rattle.odht_raw.proofs.lemmas.Accepted.{accepted_opening}
 use Rattle.odht.specs.Growths.{grown_len}
 use Rattle.odht_calls.specs.Grows.{IsGrownFrom}

@@ -1,4 +1,4 @@
-use Rattle.odht_raw.specs.Coding.{coding_of}
+use Rattle.odht_header.specs.Coding.{coding_of}
 use Rattle.odht_calls.specs.Lookups.{AreGot}
 use Rattle.odht_calls.proofs.lookups.look_up_all.Given as goal
 

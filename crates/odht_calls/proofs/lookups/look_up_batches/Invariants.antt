@@ -1,5 +1,5 @@
 use Rattle.std.proofs.Common.{◌*◌}
-use Rattle.odht_raw.specs.Coding.{coding_of}
+use Rattle.odht_header.specs.Coding.{coding_of}
 use Rattle.odht_calls.specs.Lookups.{AreGot}
 use Rattle.odht_calls.proofs.lookups.look_up_batches.Given as goal
 

@@ -1,5 +1,5 @@
 use Rattle.std.proofs.Common.{List, ℕ}
-use Rattle.odht_raw.specs.Coding.{coding_of}
+use Rattle.odht_header.specs.Coding.{coding_of}
 use Rattle.odht.proofs.lemmas.Lookups.{eight_steps}
 use Rattle.odht_calls.specs.Lookups.{AreGot}
 use Rattle.odht_calls.proofs.lookups.look_up_eight.Goals as goal

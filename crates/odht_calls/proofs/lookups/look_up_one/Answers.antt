@@ -1,5 +1,5 @@
 use Rattle.std.proofs.Common.{refl, ◌<◌, length, arith, Some, None}
-use Rattle.odht_raw.specs.Coding.{coding_of}
+use Rattle.odht_header.specs.Coding.{coding_of}
 use Rattle.odht_calls.proofs.lemmas.Got.{got-next}
 use Rattle.odht_calls.proofs.lookups.look_up_one.Goals as goal
 

@@ -3,10 +3,10 @@ use Rattle.std.proofs.lemmas.Bool.{false≢true}
 use Rattle.odht_base.specs.Format.{Format, format_of}
 use Rattle.odht_base.specs.Table.{Table, count}
 use Rattle.odht_base.specs.Valid.{IsImage}
-use Rattle.odht_raw.specs.Refusals.{opening_refusal, check_refusal}
+use Rattle.odht_header.specs.Refusals.{opening_refusal, check_refusal}
 use Rattle.odht_raw.specs.Waiting.{AreWholeParts}
 use Rattle.odht_raw.proofs.lemmas.Accepted.{IsAccepted-IsValidBytes}
-use Rattle.odht_raw.proofs.lemmas.FirstErrors.{Ok-checked, Err-checked}
+use Rattle.odht_header.proofs.lemmas.FirstErrors.{Ok-checked, Err-checked}
 use Rattle.odht_calls.proofs.lemmas.Ordered.{refused_order, done_order, unmade_order}
 use Rattle.odht_calls.proofs.order.insert_order.Given.{Over}
 use Rattle.odht_calls.proofs.order.insert_order.Goals.{After-insert_order}

@@ -2,7 +2,7 @@ use Rattle.std.proofs.Common.{◌≡◌, ◌∙◌, sym, ap, subst, refl, slice_
 use Rattle.std.proofs.lemmas.Option.{slice_get_within}
 use Rattle.odht_base.specs.Decoded.{entries_of, header_slots}
 use Rattle.odht_base.specs.Valid.{IsImage}
-use Rattle.odht_raw.specs.Coding.{coding_of, HasStored}
+use Rattle.odht_header.specs.Coding.{coding_of, HasStored}
 use Rattle.odht_calls.specs.Reads.{IsGotAt}
 use Rattle.odht_calls.proofs.lemmas.Got.{stored_answer}
 use Rattle.odht_calls.proofs.lemmas.Refused.{refused_get_all, not_none}

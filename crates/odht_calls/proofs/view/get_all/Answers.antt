@@ -1,6 +1,6 @@
 use Rattle.std.proofs.Common.{refl, subst, slice_get, IfSome}
 use Rattle.std.proofs.lemmas.Option.{slice_get_within}
-use Rattle.odht_raw.specs.Coding.{coding_of, HasStored}
+use Rattle.odht_header.specs.Coding.{coding_of, HasStored}
 use Rattle.odht_calls.specs.Reads.{IsGotAt}
 use Rattle.odht_calls.proofs.lemmas.Got.{stored_answer}
 use Rattle.odht_calls.proofs.view.get_all.Goals as goal

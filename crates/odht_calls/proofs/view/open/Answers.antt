@@ -1,6 +1,6 @@
 use Rattle.std.proofs.Common.{◌≡◌, ◌∙◌, sym, ap, refl, None}
 use Rattle.odht_base.specs.Format.{format_of}
-use Rattle.odht_raw.specs.Refusals.{view_refusal}
+use Rattle.odht_header.specs.Refusals.{view_refusal}
 use Rattle.odht_raw.proofs.lemmas.Openings.{view_refusal-accepted}
 use Rattle.odht_calls.specs.Statuses.{status_or_ok}
 use Rattle.odht_calls.proofs.lemmas.Statuses.{not_done}

@@ -6,8 +6,8 @@ use Rattle.odht_base.specs.Table.{empty}
 use Rattle.odht_base.specs.Image.{image}
 use Rattle.odht_base.specs.Writes.{with_count}
 use Rattle.odht_base.proofs.lemmas.FreeSlots.{empty-IsValid}
-use Rattle.odht_raw.specs.Layouts.{IsLayout}
-use Rattle.odht_raw.specs.Refusals.{IsTooLarge}
+use Rattle.odht_header.specs.Layouts.{IsLayout}
+use Rattle.odht_header.specs.Refusals.{IsTooLarge}
 use Rattle.odht_raw.proofs.lemmas.NewTables.{with_count-new}
 use Rattle.odht.proofs.lemmas.NewRefusals.{new_refusal-large, new_refusal-wrong, new_refusal-fits}
 use Rattle.odht_calls.proofs.lemmas.Refused.{known, not_none}

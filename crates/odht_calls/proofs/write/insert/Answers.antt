@@ -1,7 +1,7 @@
 use Rattle.std.proofs.Common.{rules, ◌≡◌, ◌∙◌, ap, refl, Err, None}
 use Rattle.odht_base.specs.Format.{Format, format_of}
-use Rattle.odht_raw.specs.Refusals.{opening_refusal}
-use Rattle.odht_raw.specs.declared.error.Error.TheVariants.{Full}
+use Rattle.odht_header.specs.Refusals.{opening_refusal}
+use Rattle.odht_header.specs.declared.error.Error.TheVariants.{Full}
 use Rattle.odht_calls.specs.Statuses.{status_of}
 use Rattle.odht_calls.proofs.lemmas.Inserted.{accepted_insert, full_insert}
 use Rattle.odht_calls.proofs.lemmas.Refused.{refused_insert}

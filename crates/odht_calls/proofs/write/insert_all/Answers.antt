@@ -6,10 +6,10 @@ use Rattle.odht_base.specs.Format.{Format, format_of}
 use Rattle.odht_base.specs.Insert.{insert_view}
 use Rattle.odht_base.specs.Table.{Table}
 use Rattle.odht_base.specs.Valid.{IsImage}
-use Rattle.odht_raw.specs.Coding.{Coding, coding_of}
-use Rattle.odht_raw.specs.Refusals.{opening_refusal}
-use Rattle.odht_raw.specs.declared.error.Error.{Error}
-use Rattle.odht_raw.specs.declared.error.Error.TheVariants.{Full}
+use Rattle.odht_header.specs.Coding.{Coding, coding_of}
+use Rattle.odht_header.specs.Refusals.{opening_refusal}
+use Rattle.odht_header.specs.declared.error.Error.{Error}
+use Rattle.odht_header.specs.declared.error.Error.TheVariants.{Full}
 use Rattle.odht.specs.Lists.{encoded_all, IsAfterInserts, IsFramedRun, IsRefusedAt, IsStoppedAt}
 use Rattle.odht_calls.specs.Writes.{InsertAllAnswers}
 use Rattle.odht_calls.specs.Statuses.{status_of}

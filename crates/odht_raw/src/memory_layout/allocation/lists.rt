@@ -15,9 +15,9 @@ use crate::config::{Coded, Config};
 use crate::items::Items;
 use crate::load::max_item_count_for;
 use crate::memory_layout::check::hold_bytes;
-use crate::memory_layout::header::ITEM_COUNT_AT;
 use crate::memory_layout::{EntryMetadata, HEADER_SIZE, Header, entry_at};
 use crate::raw_table::RawTableMut;
+use odht_header::header::ITEM_COUNT_AT;
 
 impl<C: Config, M: ByteStoreMut> Allocation<C, M> {
     /// Inserts the items from index `from` on in their order, at most as many as the maximum item count exceeds the

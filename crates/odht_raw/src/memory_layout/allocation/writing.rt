@@ -10,9 +10,9 @@ ghost use Rattle.odht_raw.specs.Frame.{IsAccepted};
 use super::Allocation;
 use crate::bytes::{ByteArray, ByteStoreMut};
 use crate::config::{Coded, Config};
-use crate::memory_layout::header::ITEM_COUNT_AT;
 use crate::memory_layout::{EntryMetadata, entry_at};
 use crate::writes;
+use odht_header::header::ITEM_COUNT_AT;
 
 impl<C: Config, M: ByteStoreMut> Allocation<C, M> {
     /// Writes the header's item count. No other byte changes.

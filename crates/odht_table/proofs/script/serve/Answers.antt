@@ -2,8 +2,8 @@ use Rattle.std.proofs.Common.{refl, sym, ap, subst, ◌∙◌, Some, List, ℕ}
 use Rattle.std.specs.Prelude.{codes, decimal, IfSome}
 use Rattle.std.specs.Fmt.{debug_list}
 use Rattle.std.specs.Io.KnownBytes.{Appends}
-use Rattle.odht_raw.specs.ErrorTexts.{bytes_text}
-use Rattle.odht_raw.proofs.lemmas.ErrorTexts.{debug_list-bytes}
+use Rattle.odht_header.specs.ErrorTexts.{bytes_text}
+use Rattle.odht_header.proofs.lemmas.ErrorTexts.{debug_list-bytes}
 use Rattle.odht_table.specs.Answers.{dump_of, IsAnswered}
 use Rattle.odht_table.specs.declared.script.command.Request.TheVariants.{Dump}
 use Rattle.odht_table.proofs.DumpTexts.{HasText, HasText-owned_dump}

@@ -1,5 +1,5 @@
 use Rattle.std.proofs.Common.{◌≡◌, length, arith}
-use Rattle.odht_raw.specs.Coding.{coding_of}
+use Rattle.odht_header.specs.Coding.{coding_of}
 use Rattle.odht.proofs.lemmas.Lookups.{lookups-values, lookups-stored}
 use Rattle.odht.proofs.hash_table.HashTable.get_all.Goals as goal
 

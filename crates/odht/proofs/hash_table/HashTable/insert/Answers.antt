@@ -4,7 +4,7 @@ use Rattle.odht_base.specs.Map.{map_of}
 use Rattle.odht_base.specs.Table.{Pair, Table}
 use Rattle.odht_base.specs.Valid.{IsImage, IsPartsOf}
 use Rattle.odht_base.proofs.lemmas.TableInserts.{HasRoom}
-use Rattle.odht_raw.specs.Coding.{Coding, coding_of, encoded}
+use Rattle.odht_header.specs.Coding.{Coding, coding_of, encoded}
 use Rattle.odht_raw.specs.Frame.{IsAccepted}
 use Rattle.odht_raw.specs.Parts.{ReadGroups}
 use Rattle.odht_raw.proofs.lemmas.Lookups.{answer-Found, answer-Free, answer-Neither}

@@ -5,7 +5,7 @@ use Rattle.odht_base.specs.Table.{Pair, Table}
 use Rattle.odht_base.specs.Valid.{IsImage}
 use Rattle.odht_base.proofs.lemmas.FreshRuns.{insert_view-PlacesBelow}
 use Rattle.odht_base.proofs.lemmas.TableInserts.{insert_view-IsInsert}
-use Rattle.odht_raw.specs.Coding.{Coding, coding_of}
+use Rattle.odht_header.specs.Coding.{Coding, coding_of}
 use Rattle.odht_raw.specs.Frame.{IsFramed}
 use Rattle.odht_raw.proofs.lemmas.PartRuns.{take-range, read_item}
 use Rattle.odht.specs.Lists.{encoded_all, IsAfterInserts, IsFramedRun}

@@ -2,7 +2,7 @@ use Rattle.std.proofs.Common.{◌≡◌, ◌-◌, ◌≤◌, take, length}
 use Rattle.odht_base.specs.Insert.{insert_view}
 use Rattle.odht_base.specs.Table.{Table}
 use Rattle.odht_base.specs.Valid.{IsImage}
-use Rattle.odht_raw.specs.Coding.{coding_of}
+use Rattle.odht_header.specs.Coding.{coding_of}
 use Rattle.odht.specs.Lists.{encoded_all, IsAfterInserts, IsFramedRun}
 use Rattle.odht.proofs.hash_table.HashTable.insert_items.Given as goal
 

@@ -5,7 +5,7 @@ use Rattle.odht_base.specs.Table.{Pair, Table}
 use Rattle.odht_base.specs.Valid.{IsImage}
 use Rattle.odht_base.proofs.lemmas.FreshRuns.{insert_owned-PlacesBelow}
 use Rattle.odht_base.proofs.lemmas.TableInserts.{insert_owned-IsInsert}
-use Rattle.odht_raw.specs.Coding.{Coding, coding_of}
+use Rattle.odht_header.specs.Coding.{Coding, coding_of}
 use Rattle.odht_raw.proofs.lemmas.PartRuns.{read_item}
 use Rattle.odht.specs.Lists.{encoded_all, IsAfterInserts}
 use Rattle.odht.proofs.lemmas.ListInserts.{inserted_none, inserted_more, inserted_placed, inserted_all, fresh_inserted, encoded_all-more, encoded_all-range, refused_at}

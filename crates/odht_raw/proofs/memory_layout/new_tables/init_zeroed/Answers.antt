@@ -5,7 +5,7 @@ use Rattle.odht_base.specs.Table.{empty}
 use Rattle.odht_base.specs.Image.{header_bytes, image, image_len}
 use Rattle.odht_base.specs.Writes.{with_count}
 use Rattle.odht_raw.specs.Frame.{IsAccepted}
-use Rattle.odht_raw.proofs.lemmas.HeaderWrites.{field-step, field-rest}
+use Rattle.odht_header.proofs.lemmas.HeaderWrites.{field-step, field-rest}
 use Rattle.odht_raw.proofs.lemmas.NewTables.{written-zeroed, IsAccepted-new}
 use Rattle.odht_raw.proofs.memory_layout.new_tables.init_zeroed.Given.{Over}
 use Rattle.odht_raw.proofs.memory_layout.new_tables.init_zeroed.Goals as goal

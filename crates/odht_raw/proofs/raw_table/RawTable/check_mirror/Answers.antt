@@ -1,6 +1,6 @@
 use Rattle.std.proofs.Common.{◌≡◌, ◌∙◌, ◌+◌, ◌-◌, length, sym, ap, subst, arith, slice_index}
 use Rattle.odht_raw.specs.Parts.{TableParts}
-use Rattle.odht_raw.specs.Refusals.{checked}
+use Rattle.odht_header.specs.Refusals.{checked}
 use Rattle.odht_raw.proofs.lemmas.MirrorChecks.{mirror_refusal-None, mirror_refusal-at}
 use Rattle.odht_raw.proofs.raw_table.RawTable.check_mirror.Goals as goal
 

@@ -1,5 +1,5 @@
 use Rattle.std.proofs.Common.{◌≡◌, ◌<◌, ℕ, None}
-use Rattle.odht_raw.specs.Refusals.{mirror_refusal_at}
+use Rattle.odht_header.specs.Refusals.{mirror_refusal_at}
 use Rattle.odht_raw.proofs.raw_table.RawTable.check_mirror.Given as goal
 
 abbrev pub invariant-loop-index : goal.invariant-loop-index

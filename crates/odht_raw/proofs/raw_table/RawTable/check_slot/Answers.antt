@@ -1,8 +1,8 @@
 use Rattle.std.proofs.Common.{◌≡◌, ◌<◌, ◌∙◌, sym, subst, true≢false, Some, None}
 use Rattle.odht_base.specs.Format.{Format, format_of}
 use Rattle.odht_raw.specs.Parts.{TableParts}
-use Rattle.odht_raw.specs.Refusals.{hashes_refusal_at}
-use Rattle.odht_raw.specs.declared.error.Error.TheVariants.{NonZeroEmpty}
+use Rattle.odht_header.specs.Refusals.{hashes_refusal_at}
+use Rattle.odht_header.specs.declared.error.Error.TheVariants.{NonZeroEmpty}
 use Rattle.odht_raw.proofs.lemmas.SlotChecks.{zeros_pass, key_refusal, value_refusal}
 use Rattle.odht_raw.proofs.raw_table.RawTable.check_slot.Goals.{else-is_all_zeros-via-then-is_all_zeros+else-is_all_zeros-2, else-is_all_zeros-via-else-is_all_zeros}
 use Rattle.odht_raw.proofs.raw_table.RawTable.check_slot.Goals as goal

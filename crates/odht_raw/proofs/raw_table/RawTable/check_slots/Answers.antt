@@ -2,7 +2,7 @@ use Rattle.std.proofs.Common.{rules, ◌≡◌, ◌∙◌, ◌+◌, ◌-◌, ◌
 use Rattle.std.specs.Result.{result_err}
 use Rattle.odht_base.specs.Format.{Format, format_of}
 use Rattle.odht_raw.specs.Parts.{TableParts}
-use Rattle.odht_raw.proofs.lemmas.FirstErrors.{Ok-checked, Err-checked}
+use Rattle.odht_header.proofs.lemmas.FirstErrors.{Ok-checked, Err-checked}
 use Rattle.odht_raw.proofs.lemmas.SlotSummary.{summary_free, summary_occupied, summary_unreachable, summary_refused, summary_stray, summary_few, all_passed, all_counted, all_reached}
 use Rattle.odht_raw.proofs.raw_table.RawTable.check_slots.Goals.{in-None+in_ok-check_free_control-in-None, in-Some+then-is_none+then-not-is_reached, in-Some+else-is_none, else-is_none-via-then-is_none+else-not-is_reached, else-is_none-via-else-is_none}
 use Rattle.odht_raw.proofs.raw_table.RawTable.check_slots.Given.{Over}

@@ -11,7 +11,7 @@ use Rattle.odht_base.specs.Valid.{IsPartsOf}
 use Rattle.odht_raw.proofs.lemmas.GroupLooks.{taken-first, taken-next, taken-all}
 use Rattle.odht_raw.proofs.lemmas.Inserts.{found_value}
 use Rattle.odht_raw.proofs.lemmas.Lookups.{answer-Found, answer-Free, answer-Neither}
-use Rattle.odht_raw.proofs.lemmas.Formats.{IsFormat-format_of}
+use Rattle.odht_header.proofs.lemmas.Formats.{IsFormat-format_of}
 use Rattle.odht_raw.proofs.lemmas.FirstLooks.{matches, home-lt, match-lt, first_look-found, first_look-absent}
 use Rattle.odht_raw.proofs.raw_table.RawTable.find_from.Given.{Over}
 use Rattle.odht_raw.proofs.raw_table.RawTable.find_from.Goals.{After-first_match}

@@ -9,7 +9,7 @@ use Rattle.odht_base.proofs.lemmas.MadeTables.{IsMade-IsInsertOrder}
 use Rattle.odht_base.proofs.lemmas.SlotCounts.{few_slots}
 use Rattle.odht_raw.specs.Parts.{TableParts}
 use Rattle.odht_raw.specs.Waiting.{waiting, IsWaiting, IsPending, AreWholeParts}
-use Rattle.odht_raw.proofs.lemmas.Formats.{IsFormat-format_of}
+use Rattle.odht_header.proofs.lemmas.Formats.{IsFormat-format_of}
 use Rattle.odht_raw.proofs.lemmas.PartCells.{slots_are, byte_is}
 use Rattle.odht_raw.proofs.lemmas.PendingSlots.{all_wait, all_pending, ended-length, ended-take, ended-drop, order_found, order_missing}
 use Rattle.odht_raw.proofs.raw_table.RawTable.insert_order.Given.{Over}

@@ -8,7 +8,7 @@ use Rattle.odht_base.specs.Decoded.{slot_key}
 use Rattle.odht_base.proofs.lemmas.SlotCounts.{few_slots}
 use Rattle.odht_raw.specs.Parts.{TableParts}
 use Rattle.odht_raw.specs.Waiting.{waiting}
-use Rattle.odht_raw.proofs.lemmas.Formats.{IsFormat-format_of}
+use Rattle.odht_header.proofs.lemmas.Formats.{IsFormat-format_of}
 use Rattle.odht_raw.proofs.lemmas.ReadyPositions.{ready_probed, waiting_probed, nowhere_probed}
 use Rattle.odht_raw.proofs.raw_table.RawTable.is_ready.Given.{Over}
 use Rattle.odht_raw.proofs.raw_table.RawTable.is_ready.Goals.{After-index, then-is_waiting-via-then-is_waiting, then-is_waiting-via-else-is_waiting+then-is_last}

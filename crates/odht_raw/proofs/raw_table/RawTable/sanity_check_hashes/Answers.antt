@@ -3,7 +3,7 @@ use Rattle.std.specs.Result.{result_err}
 use Rattle.std.proofs.lemmas.Bool.{cases_lt}
 use Rattle.odht_base.specs.Format.{Format, format_of}
 use Rattle.odht_raw.specs.Parts.{TableParts}
-use Rattle.odht_raw.specs.Refusals.{checked, hashes_refusal_at}
+use Rattle.odht_header.specs.Refusals.{checked, hashes_refusal_at}
 use Rattle.odht_raw.proofs.lemmas.SlotChecks.{hashes_refusal-None, hashes_refusal-at}
 use Rattle.odht_raw.proofs.raw_table.RawTable.sanity_check_hashes.Goals as goal
 

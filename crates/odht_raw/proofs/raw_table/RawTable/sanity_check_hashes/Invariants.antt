@@ -1,6 +1,6 @@
 use Rattle.std.proofs.Common.{◌≡◌, ◌<◌, ℕ, None}
 use Rattle.odht_base.specs.Format.{format_of}
-use Rattle.odht_raw.specs.Refusals.{hashes_refusal_at}
+use Rattle.odht_header.specs.Refusals.{hashes_refusal_at}
 use Rattle.odht_raw.proofs.raw_table.RawTable.sanity_check_hashes.Given as goal
 
 abbrev pub invariant-loop-slot : goal.invariant-loop-slot

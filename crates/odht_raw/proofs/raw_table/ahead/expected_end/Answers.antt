@@ -1,7 +1,7 @@
 use Rattle.std.proofs.Common.{◌∙◌, sym}
 use Rattle.odht_base.specs.Format.{Format, format_of}
 use Rattle.odht_raw.proofs.lemmas.Expected.{ends_here}
-use Rattle.odht_raw.proofs.lemmas.Formats.{IsFormat-format_of}
+use Rattle.odht_header.proofs.lemmas.Formats.{IsFormat-format_of}
 use Rattle.odht_raw.proofs.raw_table.ahead.expected_end.Goals as goal
 
 pub returns-then-is_empty_or_deleted-clause-placed :

@@ -5,7 +5,7 @@ use Rattle.odht_base.specs.Groups.{IsReport, first_free}
 use Rattle.odht_base.proofs.lemmas.SlotCounts.{bit_and-slots}
 use Rattle.odht_raw.specs.declared.raw_table.search_result.SearchResult.TheVariants.{Free}
 use Rattle.odht_raw.proofs.lemmas.Expected.{size_fits, no_match, home_free, no_slot}
-use Rattle.odht_raw.proofs.lemmas.Formats.{IsFormat-format_of}
+use Rattle.odht_header.proofs.lemmas.Formats.{IsFormat-format_of}
 use Rattle.odht_raw.proofs.raw_table.ahead.expected_slot.Goals as goal
 
 pub slice_bounds-of-end : goal.slice_bounds-of-end

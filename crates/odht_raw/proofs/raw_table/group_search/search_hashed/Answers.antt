@@ -8,7 +8,7 @@ use Rattle.odht_base.proofs.lemmas.SlotCounts.{sixteens}
 use Rattle.odht_base.specs.Probe.{probe_slot}
 use Rattle.odht_raw.specs.Frame.{HasNoFree}
 use Rattle.odht_raw.specs.SearchSteps.{Passed}
-use Rattle.odht_raw.proofs.lemmas.Formats.{IsFormat-format_of}
+use Rattle.odht_header.proofs.lemmas.Formats.{IsFormat-format_of}
 use Rattle.odht_raw.proofs.lemmas.GroupSearches.{IsGroupAt-probe, reads-to, reads-all, ends-free, OccupiedBefore, occupied-more, occupied-all}
 use Rattle.odht_raw.proofs.lemmas.Lookups.{answer-IsWherePlaced}
 use Rattle.odht_raw.proofs.lemmas.PlainSearch.{no_end}

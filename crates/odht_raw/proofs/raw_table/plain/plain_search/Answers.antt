@@ -4,7 +4,7 @@ use Rattle.std.proofs.lemmas.Bool.{cases_lt}
 use Rattle.odht_base.specs.Probe.{probe_slot}
 use Rattle.odht_base.specs.Decoded.{counts_as_free}
 use Rattle.odht_base.proofs.lemmas.Orders.{probe_slot-onto}
-use Rattle.odht_raw.proofs.lemmas.Formats.{IsFormat-format_of}
+use Rattle.odht_header.proofs.lemmas.Formats.{IsFormat-format_of}
 use Rattle.odht_raw.proofs.lemmas.PlainSearch.{free_end, key_end, passed_on, no_end}
 use Rattle.odht_raw.proofs.raw_table.plain.plain_search.Goals as goal
 

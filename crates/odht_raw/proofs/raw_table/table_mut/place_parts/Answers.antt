@@ -6,7 +6,7 @@ use Rattle.odht_base.specs.Valid.{IsPairOf, IsPartsOf}
 use Rattle.odht_base.proofs.lemmas.Places.{written, place-None}
 use Rattle.odht_raw.specs.FreeSlots.{IsFirstFree}
 use Rattle.odht_raw.specs.PartsPlacings.{PlacingFrame}
-use Rattle.odht_raw.proofs.lemmas.Formats.{IsFormat-format_of}
+use Rattle.odht_header.proofs.lemmas.Formats.{IsFormat-format_of}
 use Rattle.odht_raw.proofs.lemmas.FreeSearches.{first_free-answer, no_free-answer}
 use Rattle.odht_raw.proofs.lemmas.Inserts.{free_parts}
 use Rattle.odht_raw.proofs.lemmas.Lookups.{answer-Free, answer-Neither}

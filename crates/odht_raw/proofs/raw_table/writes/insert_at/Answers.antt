@@ -10,7 +10,7 @@ use Rattle.odht_base.specs.Decoded.{slot_value}
 use Rattle.odht_raw.specs.Frame.{PartsFrame}
 use Rattle.odht_raw.specs.Parts.{EntryBytes}
 use Rattle.odht_raw.specs.SearchEnds.{IsEnd}
-use Rattle.odht_raw.specs.declared.error.Error.TheVariants.{Full}
+use Rattle.odht_header.specs.declared.error.Error.TheVariants.{Full}
 use Rattle.odht_raw.specs.declared.raw_table.search_result.SearchResult.{SearchResult}
 use Rattle.odht_raw.specs.declared.raw_table.search_result.SearchResult.TheVariants.{Found, Free}
 use Rattle.odht_raw.proofs.lemmas.Lookups.{answer-Found, answer-Free, answer-Neither}

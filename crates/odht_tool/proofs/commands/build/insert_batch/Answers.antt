@@ -1,7 +1,7 @@
 use Rattle.std.proofs.Common.{◌≡◌, ◌∙◌, take, take_all, rules, subst, arith}
 use Rattle.std.specs.Prelude.{IsOk}
 use Rattle.odht_base.specs.Insert.{insert_owned}
-use Rattle.odht_raw.specs.Coding.{coding_of}
+use Rattle.odht_header.specs.Coding.{coding_of}
 use Rattle.odht.specs.Lists.{encoded_all, IsAfterInserts}
 use Rattle.odht_tool.proofs.commands.build.insert_batch.Goals as goal
 

@@ -3,9 +3,9 @@ use Rattle.std.specs.Option.{option_or}
 use Rattle.odht_base.specs.Format.{Format, format_of}
 use Rattle.odht_base.specs.Decoded.{entries_of, controls_of}
 use Rattle.odht_raw.specs.Parts.{TableParts}
-use Rattle.odht_raw.specs.Refusals.{checked, factor_refusal, padding_refusal, count_refusal, room_refusal}
-use Rattle.odht_raw.specs.declared.error.Error.TheVariants.{Unreachable}
-use Rattle.odht_raw.proofs.lemmas.FirstErrors.{Ok-checked, Err-checked}
+use Rattle.odht_header.specs.Refusals.{checked, factor_refusal, padding_refusal, count_refusal, room_refusal}
+use Rattle.odht_header.specs.declared.error.Error.TheVariants.{Unreachable}
+use Rattle.odht_header.proofs.lemmas.FirstErrors.{Ok-checked, Err-checked}
 use Rattle.odht_raw.proofs.lemmas.LateStages.{factor_stage, padding_stage, slots_stage, mirror_stage, count_stage, reach_stage}
 use Rattle.odht_raw.proofs.memory_layout.allocation.Allocation.check_late.Given.{Over}
 use Rattle.odht_raw.proofs.memory_layout.allocation.Allocation.check_late.Goals.{After-check_padding, After-new-table}

@@ -1,8 +1,8 @@
 use Rattle.std.proofs.Common.{◌<◌, sym, subst, All}
 use Rattle.std.specs.Prelude.{IsOk}
 use Rattle.odht_base.specs.Format.{Format, format_of}
-use Rattle.odht_raw.proofs.lemmas.FirstErrors.{IsOk-checked, checked-IsOk}
-use Rattle.odht_raw.proofs.lemmas.Formats.{IsFormat-format_of}
+use Rattle.odht_header.proofs.lemmas.FirstErrors.{IsOk-checked, checked-IsOk}
+use Rattle.odht_header.proofs.lemmas.Formats.{IsFormat-format_of}
 use Rattle.odht_raw.proofs.lemmas.WholeChecks.{valid_late, late_valid}
 use Rattle.odht_raw.proofs.memory_layout.allocation.Allocation.check_rest.Goals as goal
 

@@ -4,9 +4,9 @@ use Rattle.odht_base.specs.Format.{Format, format_of}
 use Rattle.odht_base.specs.Decoded.{entries_of, controls_of}
 use Rattle.odht_raw.specs.Frame.{IsAccepted}
 use Rattle.odht_raw.specs.Parts.{TableParts}
-use Rattle.odht_raw.specs.Refusals.{checked, hashes_refusal}
-use Rattle.odht_raw.proofs.lemmas.FirstErrors.{Ok-checked, Err-checked}
-use Rattle.odht_raw.proofs.lemmas.Formats.{IsFormat-format_of}
+use Rattle.odht_header.specs.Refusals.{checked, hashes_refusal}
+use Rattle.odht_header.proofs.lemmas.FirstErrors.{Ok-checked, Err-checked}
+use Rattle.odht_header.proofs.lemmas.Formats.{IsFormat-format_of}
 use Rattle.odht_raw.proofs.lemmas.ImagesOpen.{image_is_accepted}
 use Rattle.odht_raw.proofs.lemmas.Openings.{view_refusal-opening, view_refusal-slots}
 use Rattle.odht_raw.proofs.memory_layout.allocation.Allocation.from_raw_bytes.Goals as goal

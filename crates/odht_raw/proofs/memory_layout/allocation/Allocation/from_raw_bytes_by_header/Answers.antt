@@ -1,9 +1,9 @@
 use Rattle.std.proofs.Common.{rules, ◌≡◌, ◌∙◌, ◌≤◌, ◌<◌, ◌^◌, sym, ap, subst, arith, length, Err, Some}
 use Rattle.std.specs.Result.{result_err}
 use Rattle.odht_base.specs.Format.{Format, format_of}
-use Rattle.odht_raw.specs.declared.error.Error.TheVariants.{TooShort}
-use Rattle.odht_raw.specs.Refusals.{checked, header_refusal}
-use Rattle.odht_raw.proofs.lemmas.FirstErrors.{Ok-checked, Err-checked}
+use Rattle.odht_header.specs.declared.error.Error.TheVariants.{TooShort}
+use Rattle.odht_header.specs.Refusals.{checked, header_refusal}
+use Rattle.odht_header.proofs.lemmas.FirstErrors.{Ok-checked, Err-checked}
 use Rattle.odht_raw.proofs.lemmas.Openings.{opening_refusal-short, opening_refusal-header, accepted}
 use Rattle.odht_raw.proofs.memory_layout.allocation.Allocation.from_raw_bytes_by_header.Goals as goal
 

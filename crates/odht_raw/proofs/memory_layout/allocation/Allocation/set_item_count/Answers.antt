@@ -4,7 +4,7 @@ use Rattle.odht_base.specs.Format.{format_of}
 use Rattle.odht_base.specs.Writes.{with_count}
 use Rattle.odht_raw.specs.Frame.{IsAccepted}
 use Rattle.odht_raw.proofs.lemmas.Accepted.{accepted_opening, IsAccepted-with_count}
-use Rattle.odht_raw.proofs.lemmas.HeaderWrites.{le_bytes-w64}
+use Rattle.odht_header.proofs.lemmas.HeaderWrites.{le_bytes-w64}
 use Rattle.odht_raw.proofs.memory_layout.allocation.Allocation.set_item_count.Given.{Over}
 use Rattle.odht_raw.proofs.memory_layout.allocation.Allocation.set_item_count.Goals as goal
 

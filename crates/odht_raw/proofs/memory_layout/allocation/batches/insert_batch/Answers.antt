@@ -4,7 +4,7 @@ use Rattle.std.specs.List.{slice_range}
 use Rattle.std.proofs.lemmas.Option.{slice_get-get_or}
 use Rattle.odht_base.specs.Table.{Pair}
 use Rattle.odht_base.specs.Valid.{IsPairOf}
-use Rattle.odht_raw.specs.Coding.{Coding, coding_of, encoded}
+use Rattle.odht_header.specs.Coding.{Coding, coding_of, encoded}
 use Rattle.odht_raw.specs.Expected.{IsAhead, EndsIfFree}
 use Rattle.odht_raw.specs.Frame.{IsPartsFramed}
 use Rattle.odht_raw.specs.PartsInserts.{AnswersFormer}

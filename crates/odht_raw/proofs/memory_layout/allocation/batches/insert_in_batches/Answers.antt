@@ -1,5 +1,5 @@
 use Rattle.std.proofs.Common.{List, sym, subst, refl, arith}
-use Rattle.odht_raw.specs.Coding.{Coding, coding_of}
+use Rattle.odht_header.specs.Coding.{Coding, coding_of}
 use Rattle.odht_raw.specs.Runs.{encoded_all, IsPartsRun, ArePartsOfRun}
 use Rattle.odht_raw.proofs.lemmas.PartRuns.{range_none}
 use Rattle.odht_raw.proofs.lemmas.RunsInTurn.{range_run_then, range_placed_then}

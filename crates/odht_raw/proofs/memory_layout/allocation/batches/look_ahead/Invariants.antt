@@ -1,5 +1,5 @@
 use Rattle.std.proofs.Common.{◌≡◌, length}
-use Rattle.odht_raw.specs.Coding.{coding_of}
+use Rattle.odht_header.specs.Coding.{coding_of}
 use Rattle.odht_raw.proofs.lemmas.Expected.{AreAheadBefore}
 use Rattle.odht_raw.proofs.memory_layout.allocation.batches.look_ahead.Given as goal
 

@@ -9,12 +9,12 @@ use Rattle.odht_base.specs.Writes.{with_count}
 use Rattle.odht_base.proofs.lemmas.Fits.{IsSized-IsPlaced}
 use Rattle.odht_base.proofs.lemmas.Image.{header_count-image, header_slots-image, header_factor-image}
 use Rattle.odht_base.specs.Numbers.{le_bytes}
-use Rattle.odht_raw.specs.Coding.{Coding, coding_of}
+use Rattle.odht_header.specs.Coding.{Coding, coding_of}
 use Rattle.odht_raw.specs.Frame.{header_maximum}
 use Rattle.odht_raw.specs.Runs.{encoded_all, header_end}
 use Rattle.odht_raw.proofs.lemmas.Accepted.{accepted_opening, accepted_len, accepted_slots}
-use Rattle.odht_raw.proofs.lemmas.Formats.{IsFormat-format_of}
-use Rattle.odht_raw.proofs.lemmas.HeaderWrites.{le_bytes-w64}
+use Rattle.odht_header.proofs.lemmas.Formats.{IsFormat-format_of}
+use Rattle.odht_header.proofs.lemmas.HeaderWrites.{le_bytes-w64}
 use Rattle.odht_raw.proofs.lemmas.ListWrites.{IsCut, cut_accepted, cut-image, list_framed, list_accepted, list_length, list_control, list_stop, list_placed}
 use Rattle.odht_raw.proofs.lemmas.PartRuns.{length-range, run_fits}
 use Rattle.odht_raw.proofs.lemmas.RoundEnds.{goes_on}

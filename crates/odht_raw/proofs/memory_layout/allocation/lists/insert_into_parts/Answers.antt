@@ -3,7 +3,7 @@ use Rattle.std.specs.Prelude.{is_none}
 use Rattle.std.specs.List.{slice_range}
 use Rattle.odht_base.specs.Table.{Pair}
 use Rattle.odht_base.specs.Valid.{IsPairOf}
-use Rattle.odht_raw.specs.Coding.{Coding, coding_of, encoded}
+use Rattle.odht_header.specs.Coding.{Coding, coding_of, encoded}
 use Rattle.odht_raw.specs.Frame.{HasNoFreeSlot, IsPartsFramed}
 use Rattle.odht_raw.specs.PartsInserts.{AnswersFormer}
 use Rattle.odht_raw.specs.Runs.{encoded_all, IsPartsRun, ArePartsOfRun}

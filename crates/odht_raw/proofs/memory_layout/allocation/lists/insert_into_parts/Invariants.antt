@@ -2,7 +2,7 @@ use Rattle.std.proofs.Common.{◌≡◌, ◌+◌, ◌≤◌}
 use Rattle.std.specs.List.{slice_range}
 use Rattle.odht_base.specs.Table.{Table}
 use Rattle.odht_base.specs.Valid.{IsPartsOf}
-use Rattle.odht_raw.specs.Coding.{coding_of}
+use Rattle.odht_header.specs.Coding.{coding_of}
 use Rattle.odht_raw.specs.Runs.{encoded_all, IsPartsRun, ArePartsOfRun}
 use Rattle.odht_raw.proofs.memory_layout.allocation.lists.insert_into_parts.Given as goal
 

@@ -1,0 +1,16 @@
+use Rattle.std.proofs.Common.{◌∙◌, sym, ap, arith}
+use Rattle.odht_header.specs.Refusals.{checked}
+use Rattle.odht_header.proofs.lemmas.HeaderChecks.{power_refused, few_refused, slot_count_passes}
+use Rattle.odht_header.proofs.header.Header.check_slot_count.Goals as goal
+
+pub returns-then-not-is_power_of_two : goal.returns-then-not-is_power_of_two
+returns-then-not-is_power_of_two c =
+    sym (ap checked (power_refused c.args.self.now c.slot_count-found.result c.slot_count-found.ensures c.slot_count-found.type_inv (sym c.is_power_of_two.ensures ∙ c.if-not-is_power_of_two.true)))
+
+pub returns-then-found-lt-REFERENCE_GROUP_SIZE : goal.returns-then-found-lt-REFERENCE_GROUP_SIZE
+returns-then-found-lt-REFERENCE_GROUP_SIZE c =
+    sym (ap checked (few_refused c.args.self.now c.slot_count-found.result c.slot_count-found.ensures c.slot_count-found.type_inv (sym c.is_power_of_two.ensures ∙ c.if-not-is_power_of_two.false) c.if-found-lt-REFERENCE_GROUP_SIZE.true))
+
+pub returns-else-found-lt-REFERENCE_GROUP_SIZE : goal.returns-else-found-lt-REFERENCE_GROUP_SIZE
+returns-else-found-lt-REFERENCE_GROUP_SIZE c =
+    sym (ap checked (slot_count_passes c.args.self.now c.slot_count-found.result c.slot_count-found.ensures c.slot_count-found.type_inv (sym c.is_power_of_two.ensures ∙ c.if-not-is_power_of_two.false) (omega (arith, c.if-found-lt-REFERENCE_GROUP_SIZE.false))))

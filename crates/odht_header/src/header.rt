@@ -1,0 +1,280 @@
+//! The header of a table: its fields at their offsets, how it is written, and how it is checked.
+//!
+//! The fields are those of docs/FORMAT.md, "Layout".
+ghost use Rattle.std.specs.Prelude.{◌≡◌, ◌+◌, ◌-◌, ◌*◌, ◌<◌, ◌≤◌, length};
+ghost use Rattle.odht_base.specs.Bytes.{bytes_at};
+ghost use Rattle.odht_base.specs.Image.{header_bytes};
+ghost use Rattle.odht_base.specs.Decoded.{header_count, header_slots, header_factor};
+ghost use Rattle.std.specs.Option.{option_or};
+ghost use Rattle.odht_header.specs.Refusals.{checked, tag_refusal, version_refusal, wrong_size, power_refusal, few_slots_refusal, length_refusal, header_refusal, factor_refusal, padding_refusal, count_refusal, room_refusal};
+
+use crate::bytes::{ByteArray, read_u64, write_slice};
+use crate::config::{Coded, Config};
+use crate::error::{Error, Part};
+use crate::load::{Factor, max_item_count_for};
+use crate::sizes::table_len;
+use crate::swisstable_group_query::REFERENCE_GROUP_SIZE;
+use std::marker::Model;
+
+/// How many bytes the header has.
+pub const HEADER_SIZE: usize = 32;
+/// The first four bytes of each table.
+const HEADER_TAG: [u8; 4] = *b"ODHT";
+/// The version of the format that is written and read.
+const CURRENT_FILE_FORMAT_VERSION: [u8; 4] = [0, 0, 0, 2];
+// The offsets of the fields.
+const TAG_AT: usize = 0;
+
+const METADATA_SIZE_AT: usize = 4;
+
+const KEY_SIZE_AT: usize = 5;
+
+const VALUE_SIZE_AT: usize = 6;
+
+const HEADER_SIZE_AT: usize = 7;
+
+/// Where the item count begins in the header.
+pub const ITEM_COUNT_AT: usize = 8;
+
+const SLOT_COUNT_AT: usize = 16;
+
+const VERSION_AT: usize = 24;
+
+const LOAD_FACTOR_AT: usize = 28;
+
+const PADDING_AT: usize = 30;
+// How many bytes a control byte takes.
+const METADATA_SIZE: usize = 1;
+// The load factor of one percent, which is the least.
+const LEAST_FACTOR: u16 = 655;
+
+/// A reader of a table's header, field by field, at any alignment.
+#[derive(Drop)]
+pub struct Header<'a> {
+    bytes: &'a [u8],
+}
+
+impl<'a> Model for Header<'a> {
+    ghost use Rattle.std.specs.Prelude.{ℕ, List, ◌≤◌, length};
+
+    ghost Value = { List ℕ };
+
+    ghost view = { λ h. h.bytes.now };
+
+    ghost invariant = { λ h. 32 ≤ length h.bytes.now };
+}
+
+impl<'a> Header<'a> {
+    /// The header of the bytes, of which there are at least 32.
+    #[inline]
+    pub fn of(bytes: &'a [u8]) -> Self
+        requires { 32 ≤ length bytes.now }
+        ensures { result ≡ bytes.now }
+    {
+        Header { bytes }
+    }
+
+    /// Checks the header as that of a table of `raw_bytes_len` bytes, and answers the first error: `WrongTag`,
+    /// `WrongVersion`, `WrongSizeOf` of a control byte, key, value or header, `SlotCountNotPowerOfTwo`,
+    /// `SlotCountTooSmall`, `WrongLength`.
+    ///
+    /// The length of a table of the header's slot count is computed in 128 bits, so a forged slot count cannot make it
+    /// wrap.
+    #[inline(always)]
+    pub fn sanity_check<C: Config>(&self, raw_bytes_len: usize) -> Result<(), Error>
+        ensures { result ≡ checked (header_refusal ⟦<C as Coded>⟧.coding.format raw_bytes_len self.now) }
+    {
+        self.check_tag()?;
+        self.check_version()?;
+        self.check_expected_size(METADATA_SIZE_AT, Part::EntryMetadata, METADATA_SIZE)?;
+        self.check_expected_size(KEY_SIZE_AT, Part::EncodedKey, C::EncodedKey::LEN)?;
+        self.check_expected_size(VALUE_SIZE_AT, Part::EncodedValue, C::EncodedValue::LEN)?;
+        self.check_expected_size(HEADER_SIZE_AT, Part::Header, HEADER_SIZE)?;
+        self.check_slot_count()?;
+        self.check_length::<C>(raw_bytes_len)
+    }
+
+    #[inline(always)]
+    fn check_tag(&self) -> Result<(), Error>
+        ensures { result ≡ checked (tag_refusal self.now) }
+    {
+        let found = self.word(TAG_AT);
+        if found == HEADER_TAG {
+            Ok(())
+        } else {
+            Err(Error::WrongTag { found })
+        }
+    }
+
+    #[inline(always)]
+    fn check_version(&self) -> Result<(), Error>
+        ensures { result ≡ checked (version_refusal self.now) }
+    {
+        let found = self.word(VERSION_AT);
+        if found == CURRENT_FILE_FORMAT_VERSION {
+            Ok(())
+        } else {
+            Err(Error::WrongVersion { found })
+        }
+    }
+
+    // The four bytes from `at` on.
+    #[inline]
+    fn word(&self, at: usize) -> [u8; 4]
+        requires { at + 4 ≤ 32 }
+        ensures { result ≡ bytes_at self.now at 4 }
+    {
+        let bytes = self.bytes;
+        [bytes[at], bytes[at + 1], bytes[at + 2], bytes[at + 3]]
+    }
+
+    // Whether by the byte `at` the part has this size; else `WrongSizeOf`.
+    #[inline(always)]
+    fn check_expected_size(&self, at: usize, part: Part, expected: usize) -> Result<(), Error>
+        requires { at < 32 }
+        ensures { result ≡ checked (wrong_size self.now at part expected) }
+    {
+        let bytes = self.bytes;
+        let found = bytes[at];
+        if found as usize == expected {
+            Ok(())
+        } else {
+            Err(Error::WrongSizeOf {
+                part,
+                expected,
+                found,
+            })
+        }
+    }
+
+    #[inline(always)]
+    fn check_slot_count(&self) -> Result<(), Error>
+        ensures { result ≡ checked (option_or (power_refusal self.now) (few_slots_refusal self.now)) }
+    {
+        let found = self.slot_count();
+        if !found.is_power_of_two() {
+            Err(Error::SlotCountNotPowerOfTwo { found })
+        } else if found < REFERENCE_GROUP_SIZE {
+            Err(Error::SlotCountTooSmall { found })
+        } else {
+            Ok(())
+        }
+    }
+
+    // Whether a table of the header's slot count has so many bytes; else `WrongLength`.
+    #[inline(always)]
+    fn check_length<C: Config>(&self, found: usize) -> Result<(), Error>
+        ensures { result ≡ checked (length_refusal ⟦<C as Coded>⟧.coding.format found self.now) }
+    {
+        let slot_count = self.slot_count();
+        let expected = table_len::<C>(slot_count);
+        if found as u128 == expected {
+            Ok(())
+        } else {
+            Err(Error::WrongLength {
+                slot_count,
+                found,
+                expected,
+            })
+        }
+    }
+
+    /// Whether the load factor is at least that of one percent, 655; else `LoadFactorTooSmall`.
+    pub fn check_load_factor(&self) -> Result<(), Error>
+        ensures { result ≡ checked (factor_refusal self.now) }
+    {
+        let Factor(found) = self.max_load_factor();
+        if found < LEAST_FACTOR {
+            Err(Error::LoadFactorTooSmall { found })
+        } else {
+            Ok(())
+        }
+    }
+
+    /// Whether the padding is two zeros; else `NonZeroPadding`.
+    pub fn check_padding(&self) -> Result<(), Error>
+        ensures { result ≡ checked (padding_refusal self.now) }
+    {
+        let bytes = self.bytes;
+        let found = [bytes[PADDING_AT], bytes[PADDING_AT + 1]];
+        if found == [0, 0] {
+            Ok(())
+        } else {
+            Err(Error::NonZeroPadding { found })
+        }
+    }
+
+    /// Whether the header's item count is the number of occupied slots found, and at most the maximum; else
+    /// `WrongItemCount`, then `TooManyItems`.
+    pub fn check_item_count(&self, found: usize) -> Result<(), Error>
+        ensures { result ≡ checked (option_or (count_refusal found self.now) (room_refusal self.now)) }
+    {
+        let header_count = self.item_count();
+        if header_count != found {
+            return Err(Error::WrongItemCount {
+                header_count,
+                found,
+            });
+        }
+        let max = max_item_count_for(self.slot_count(), self.max_load_factor());
+        if max < header_count {
+            return Err(Error::TooManyItems {
+                count: header_count,
+                max,
+            });
+        }
+        Ok(())
+    }
+
+    /// The header's item count.
+    #[inline]
+    pub fn item_count(&self) -> usize
+        ensures { result ≡ header_count self.now }
+    {
+        let bytes = self.bytes;
+        read_u64(bytes, ITEM_COUNT_AT) as usize
+    }
+
+    /// The header's slot count.
+    #[inline]
+    pub fn slot_count(&self) -> usize
+        ensures { result ≡ header_slots self.now }
+    {
+        let bytes = self.bytes;
+        read_u64(bytes, SLOT_COUNT_AT) as usize
+    }
+
+    /// The header's load factor.
+    #[inline]
+    pub fn max_load_factor(&self) -> Factor
+        ensures { result.0 ≡ header_factor self.now }
+    {
+        let bytes = self.bytes;
+        Factor(u16::from_le_bytes([bytes[LOAD_FACTOR_AT], bytes[LOAD_FACTOR_AT + 1]]))
+    }
+}
+
+/// Writes the header of a table of `slot_count` slots with the item count `item_count`: all of its 32 bytes.
+pub fn write_header<C: Config>(
+    header: &mut [u8],
+    slot_count: usize,
+    item_count: usize,
+    max_load_factor: Factor,
+)
+    requires { length header.old ≡ 32 }
+    ensures { header.new ≡ header_bytes ⟦<C as Coded>⟧.coding.format slot_count item_count max_load_factor.0 }
+{
+    let sizes = [
+        METADATA_SIZE as u8,
+        C::EncodedKey::LEN as u8,
+        C::EncodedValue::LEN as u8,
+        HEADER_SIZE as u8,
+    ];
+    write_slice(header, TAG_AT, &HEADER_TAG);
+    write_slice(header, METADATA_SIZE_AT, &sizes);
+    write_slice(header, ITEM_COUNT_AT, &(item_count as u64).to_le_bytes());
+    write_slice(header, SLOT_COUNT_AT, &(slot_count as u64).to_le_bytes());
+    write_slice(header, VERSION_AT, &CURRENT_FILE_FORMAT_VERSION);
+    write_slice(header, LOAD_FACTOR_AT, &max_load_factor.0.to_le_bytes());
+    write_slice(header, PADDING_AT, &[0, 0]);
+}

@@ -1,0 +1,61 @@
+//! How long tables are.
+ghost use Rattle.std.specs.Prelude.{◌≡◌, ◌+◌, ◌-◌, ◌*◌, ◌<◌, ◌≤◌, ◌^◌, ◌↔◌, MatchOption, IfSome, IsNone};
+ghost use Rattle.odht_base.specs.Format.{entry_len};
+ghost use Rattle.odht_base.specs.Image.{image_len};
+ghost use Rattle.odht_header.specs.Layouts.{IsLayout};
+ghost use Rattle.odht_header.specs.Refusals.{IsTooLarge};
+
+use crate::bytes::ByteArray;
+use crate::config::{Coded, Config};
+use crate::header::HEADER_SIZE;
+use crate::load::{Factor, slots_needed};
+use crate::swisstable_group_query::REFERENCE_GROUP_SIZE;
+
+/// How many bytes a table of `slot_count` slots has. None exactly where that passes `usize::MAX`.
+#[inline]
+pub fn bytes_needed<C: Config>(slot_count: usize) -> Option<usize>
+    ensures len { let len = image_len ⟦<C as Coded>⟧.coding.format slot_count
+        in MatchOption result (usize.MAX < len) (λ n. n ≡ len) }
+    ensures fits { IfSome result (λ n. n < 2 ^ 64) }
+{
+    let len = table_len::<C>(slot_count);
+    if len > usize::MAX as u128 {
+        return None;
+    }
+    Some(len as usize)
+}
+
+/// The slot count of a new table for `max_item_count` items, and its length in bytes. None exactly where no slot count
+/// is enough, or the length passes `usize::MAX`.
+pub fn layout_for<C: Config>(
+    max_item_count: usize,
+    max_load_factor: Factor,
+) -> Option<(usize, usize)>
+    requires { 1 ≤ max_load_factor.0 }
+    ensures some { let F = ⟦<C as Coded>⟧.coding.format
+        in IfSome result (λ l. IsLayout F max_item_count max_load_factor.0 l.0 l.1) }
+    ensures none { IsNone result ↔ IsTooLarge ⟦<C as Coded>⟧.coding.format max_item_count max_load_factor.0 }
+{
+    let slot_count = slots_needed(max_item_count, max_load_factor)?;
+    let len = bytes_needed::<C>(slot_count)?;
+    Some((slot_count, len))
+}
+
+/// Where the entry of a slot begins in the bytes of a table; for the number of slots, where the control bytes begin.
+#[inline(always)]
+pub fn entry_at<C: Config>(slot: usize) -> usize
+    requires { 32 + slot * entry_len ⟦<C as Coded>⟧.coding.format ≤ usize.MAX }
+    ensures { result ≡ 32 + slot * entry_len ⟦<C as Coded>⟧.coding.format }
+{
+    HEADER_SIZE + slot * (C::EncodedKey::LEN + C::EncodedValue::LEN)
+}
+
+// How many bytes a table of `slot_count` slots has.
+#[inline]
+pub(crate) fn table_len<C: Config>(slot_count: usize) -> u128
+    ensures { result ≡ image_len ⟦<C as Coded>⟧.coding.format slot_count }
+{
+    let entry = C::EncodedKey::LEN as u128 + C::EncodedValue::LEN as u128;
+    let slots = slot_count as u128;
+    HEADER_SIZE as u128 + slots * entry + slots + REFERENCE_GROUP_SIZE as u128
+}
