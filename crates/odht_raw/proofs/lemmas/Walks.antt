@@ -4,7 +4,7 @@ use Rattle.std.proofs.lemmas.Bool.{lt-leb, cases_lt}
 use Rattle.std.specs.Prelude.{slice_index_or}
 use native.Mathlib.Decide.{dec_lt}
 use Rattle.std.proofs.lemmas.List.{drop-map}
-use Rattle.std.proofs.lemmas.Option.{none-some}
+use Rattle.std.proofs.lemmas.Option.{none-some, same_Some}
 use Rattle.std.proofs.lemmas.List.Elements.{All-head, All-tail, All-filter, filter_passes, filter_map-append}
 use Rattle.std.specs.Prelude.{option_map}
 use Rattle.std.specs.List.{filter_map, cons_option, range_with_len}
@@ -12,13 +12,14 @@ use Rattle.std.proofs.lemmas.List.FromFn.{length-range_with_len, get_or-range_wi
 use Rattle.odht_base.specs.Format.{Format, IsFormat, format_of}
 use Rattle.odht_base.specs.SlotWalks.{numbered, slots_from}
 use Rattle.odht_base.specs.Table.{Pair, Cells, Table, walk}
-use Rattle.odht_base.specs.Decoded.{counts_as_free, decoded_cell, decoded_cells, decoded_table, entries_of, controls_of, decoded_pairs}
+use Rattle.odht_base.specs.Decoded.{counts_as_free, slot_key, slot_value, decoded_cell, decoded_cells, decoded_table, entries_of, controls_of, decoded_pairs}
 use Rattle.odht_base.specs.Valid.{IsImage, IsPairOf, IsPlaced}
 use Rattle.odht_base.specs.Groups.{occupied}
 use Rattle.odht_base.proofs.lemmas.DistinctKeys.{walk-IsPairOf}
 use Rattle.odht_base.proofs.lemmas.Image.{decoded_table-image}
 use Rattle.odht_base.proofs.lemmas.MarkedPositions.{positions_of, occupied-positions}
 use Rattle.odht_raw.specs.Parts.{TableParts, entry_format}
+use Rattle.odht_raw.specs.declared.raw_table.entries.Entry.{Entry}
 use Rattle.odht_raw.specs.Walks.{Item, item, slot_item, slot_numbered, items_of, items_from, numbered_of, numbered_from, AreOccupied, decoded_items, decoded_numbered}
 
 -- ---- slots by groups
@@ -26,6 +27,11 @@ use Rattle.odht_raw.specs.Walks.{Item, item, slot_item, slot_numbered, items_of,
 pub list-none : (xs : List ℕ) → None ≡ slice_get xs 0 → xs ≡ []
 list-none [] e = refl
 list-none (y ∷ xs) e = absurd (none-some y e)
+
+-- a list with a first item
+pub list-first : (xs : List ℕ) (x : ℕ) → Some x ≡ slice_get xs 0 → xs ≡ x ∷ drop 1 xs
+list-first [] x e = absurd (none-some x (sym e))
+list-first (y ∷ xs) x e = ap (λ z. z ∷ xs) (sym (same_Some x y e))
 
 -- a range in two parts
 range-append : (a m n : ℕ) → range_with_len a (m + n) ≡ range_with_len a m ++ range_with_len (a + m) n
@@ -93,6 +99,13 @@ module _ {K V : Type 0} (f : List ℕ → K) (g : List ℕ → V) (F : Format) (
       ∙ ap (numbered_of f g F T) (range-append a n (T.entries.slots - (a + n)))
       ∙ filter_map-append (slot_numbered f g F T) (range_with_len a n) (range_with_len (a + n) (T.entries.slots - (a + n)))
       ∙ ap (λ xs. xs ++ numbered_from f g F T (a + n)) (sym (ap (λ m. numbered_of f g F T (range_with_len a m)) len) ∙ numbered_of-occupied a bs are ∙ ap (numbered_of f g F T) (sym slots))
+
+  -- the items of numbered slots of which the first is occupied
+  pub numbered_of-first : (i : ℕ) (is : List ℕ) (e : Entry K V) → counts_as_free (slice_index T.control i) ≡ false
+      → e.key ≡ f (slot_key F T.entries.bytes i) → e.value ≡ g (slot_value F T.entries.bytes i)
+      → numbered_of f g F T (i ∷ is) ≡ (i, (slice_index T.control i, e)) ∷ numbered_of f g F T is
+  numbered_of-first i is e used key value =
+      rw used (λ j. (i, (slice_index T.control i, record { key = sym key j; value = sym value j })) ∷ numbered_of f g F T is)
 
   -- the items of numbered slots
   items-numbered_of : (is : List ℕ) → map (λ (x : ℕ × Item K V). x.1) (numbered_of f g F T is) ≡ items_of f g F T is

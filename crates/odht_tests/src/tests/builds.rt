@@ -1,14 +1,16 @@
 //! Tables built slot by slot and with either group search.
 ghost use Rattle.std.specs.Prelude.{◌≤◌};
+ghost use Rattle.odht_base.specs.Load.{IsSlotCount};
 
-use odht::Config;
+use crate::tests::checks::{same_bytes, same_len};
 use odht::bytes::{ByteArray, OwnedBytes};
 use odht::error::Error;
 use odht::hash::HashFn;
 use odht::load::{Factor, slots_needed};
-use odht::memory_layout::{Allocation, allocate};
+use odht::memory_layout::{self, Allocation, HEADER_SIZE, allocate};
 use odht::raw_table::{Scan, SearchResult, plain_insert, search};
 use odht::swisstable_group_query::{Group, lanes, no_simd};
+use odht::{Config, HashTableOwned};
 use std::alloc::Global;
 use std::process::Abort;
 
@@ -21,48 +23,46 @@ fn factor(rt: &impl Abort) -> Factor
     factor
 }
 
-// Writes a pair slot by slot into parts for so many items.
+// The slot count of a new table for so many items.
+fn slots_for(rt: &impl Abort, items: usize) -> usize
+    ensures { IsSlotCount result }
+{
+    slots_needed(items, factor(rt)).expect(rt, "slots")
+}
+
+// Writes a pair slot by slot into the parts of a table of so many slots.
 fn insert_plainly<C: Config>(
     rt: &impl Abort,
-    items: usize,
-    control: &mut [u8],
-    entries: &mut [u8],
+    slots: usize,
+    bytes: &mut [u8],
     key: C::EncodedKey,
     value: C::EncodedValue,
-) {
-    let slots = slots_needed(items, factor(rt)).expect(rt, "slots");
-    assert!(rt; control.len() >= 16);
-    assert!(rt; control.len() - 16 == slots);
-    let width = C::EncodedKey::LEN + C::EncodedValue::LEN;
-    assert!(rt; entries.len() as u128 == slots as u128 * width as u128);
+)
+    requires { IsSlotCount slots }
+{
+    let needed = memory_layout::bytes_needed::<C>(slots).expect(rt, "a length");
+    same_len(rt, "bytes", bytes.len(), needed);
+    let (table, control) = bytes.split_at_mut(memory_layout::entry_at::<C>(slots));
+    let (_, entries) = table.split_at_mut(HEADER_SIZE);
     let inserted = plain_insert::<C::EncodedKey, C::EncodedValue, C::H>(
         control, entries, key, value,
     );
     assert!(rt; inserted.is_ok());
 }
 
-// Entries, then control bytes, as inserts of these pairs slot by slot leave them.
+// The bytes of a new table after inserts of these pairs slot by slot, which leave its header.
 fn built_plainly<C: Config>(
     rt: &impl Abort,
     alloc: Global,
     items: &[(C::EncodedKey, C::EncodedValue)],
 ) -> Result<Vec<u8>, Error> {
-    let slots = slots_needed(items.len(), factor(rt)).expect(rt, "slots");
-    let width = C::EncodedKey::LEN + C::EncodedValue::LEN;
-    let mut parts = vec![in alloc; 0; slots.wrapping_mul(width)]?;
-    let mut control = vec![in alloc; 255; slots.wrapping_add(16)]?;
+    let slots = slots_for(rt, items.len());
+    let table: HashTableOwned<C> = HashTableOwned::with_capacity(alloc, items.len(), 87)?;
+    let mut bytes = table.raw_bytes().to_vec(alloc)?;
     for (key, value) in items {
-        insert_plainly::<C>(
-            rt,
-            items.len(),
-            control.as_mut_slice(),
-            parts.as_mut_slice(),
-            *key,
-            *value,
-        );
+        insert_plainly::<C>(rt, slots, bytes.as_mut_slice(), *key, *value);
     }
-    parts.extend_from_slice(control.as_slice())?;
-    Ok(parts)
+    Ok(bytes)
 }
 
 // Writes a pair where the search with this group search ends.
@@ -82,20 +82,18 @@ fn insert_by<C: Config, Q: Group>(
     }
 }
 
-// Entries, then control bytes, as inserts of these pairs with this group search leave them.
+// A new table after inserts of these pairs with this group search, which leave its header.
 fn built_by<C: Config, Q: Group>(
     rt: &impl Abort,
     alloc: Global,
     items: &[(C::EncodedKey, C::EncodedValue)],
-) -> Result<Vec<u8>, Error> {
-    let slots = slots_needed(items.len(), factor(rt)).expect(rt, "slots");
+) -> Result<Allocation<C, OwnedBytes>, Error> {
+    let slots = slots_for(rt, items.len());
     let mut table: Allocation<C, OwnedBytes> = allocate(alloc, slots, 0, factor(rt))?;
     for (key, value) in items {
         insert_by::<C, Q>(rt, &mut table, key, value);
     }
-    let bytes = table.raw_bytes();
-    assert!(rt; bytes.len() >= 32);
-    Ok(bytes[32..].to_vec(alloc)?)
+    Ok(table)
 }
 
 /// Inserts slot by slot, with the search by a word and with the search by lanes leave the same bytes.
@@ -106,8 +104,8 @@ pub fn check_three_builds<C: Config>(
 ) -> Result<(), Error> {
     let plain = built_plainly::<C>(rt, alloc, items)?;
     let word = built_by::<C, no_simd::GroupQuery>(rt, alloc, items)?;
+    same_bytes(rt, "by a word", word.raw_bytes(), plain.as_slice());
     let lanes = built_by::<C, lanes::GroupQuery>(rt, alloc, items)?;
-    assert_eq!(rt; word.as_slice(), plain.as_slice());
-    assert_eq!(rt; lanes.as_slice(), plain.as_slice());
+    same_bytes(rt, "by lanes", lanes.raw_bytes(), plain.as_slice());
     Ok(())
 }

@@ -1,7 +1,6 @@
 //! Orders of inserts of tables of lists that look random: one is found, it lists the occupied slots, and its inserts
 //! make the table again. Single tables, and tables that no inserts make, are in vectors/insert_orders.txt.
 use crate::tests::checks::{same, same_bytes};
-use crate::tests::second_reading::Reading;
 use odht::bytes::ByteArray;
 use odht::error::Error;
 use odht::laws::rebuilt;
@@ -14,13 +13,14 @@ use std::process::Abort;
 struct Bytes<'a>(&'a [u8]);
 
 impl<'a> Bytes<'a> {
+    // The byte at an offset, and 0 past the end.
     fn byte(&self, at: usize) -> u8 {
-        Reading { bytes: self.0 }.byte(at)
+        self.0.get(at).copied().unwrap_or(0)
     }
 
-    // The slot count of the header.
+    // The slot count of the header, of tables with fewer than 2^16 slots.
     fn slots(&self) -> usize {
-        Reading { bytes: self.0 }.number(16, 8) as usize
+        u16::from_le_bytes([self.byte(16), self.byte(17)]) as usize
     }
 
     // Where the control bytes begin: with the sixteen of the mirror they are the last.

@@ -89,3 +89,9 @@ pub returns-in_default-clause-stop : goal.returns-in_default-clause-stop
 returns-in_default-clause-stop g c =
     let full = refused_full (coding g).format _ _ _ _ _ g.C.EncodedValue.ByteArray.of_bytes c.insert.result c.in_default.field-0 c.in_default.is c.insert.ensures.frame in
     inr (subst (λ (x : List ℕ). HasNoFreeSlot x (length x - 16)) (search rules) full)
+
+pub returns-in_default-clause-placed : goal.returns-in_default-clause-placed
+returns-in_default-clause-placed g c = search rules
+
+pub returns-clause-placed : goal.returns-clause-placed
+returns-clause-placed g c = search rules
