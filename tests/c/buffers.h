@@ -41,7 +41,8 @@ uint8_t *copy_of(const void *bytes, size_t len);
 void *copy_of_numbers(const void *numbers, size_t len);
 
 /* Arrays with these elements, and pointers to one number. */
-#define BYTES(...) copy_of((const uint8_t[]){ __VA_ARGS__ }, sizeof((const uint8_t[]){ __VA_ARGS__ }))
+#define BYTES(...)                                                                                \
+    copy_of((const uint8_t[]){ __VA_ARGS__ }, sizeof((const uint8_t[]){ __VA_ARGS__ }))
 #define U32S(...) NUMBERS_OF_TYPE(uint32_t, __VA_ARGS__)
 #define U64S(...) NUMBERS_OF_TYPE(uint64_t, __VA_ARGS__)
 #define SIZES(...) NUMBERS_OF_TYPE(size_t, __VA_ARGS__)

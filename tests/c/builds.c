@@ -47,7 +47,8 @@ static void of_equal_keys_the_last_counts(void)
     check_table(out, 256, 2);
     ALL_BYTES(out + 256, 44, FILL);
     memset(out, FILL, 300);
-    STATUS(odht_u64_u32_build_growing(U64S(1, 0, 1), 3, U32S(7, 0, 10), 3, out, 300, len), ODHT_OK);
+    STATUS(odht_u64_u32_build_growing(U64S(1, 0, 1), 3, U32S(7, 0, 10), 3, out, 300, len),
+           ODHT_OK);
     EQUAL(*len, 256);
     check_table(out, 256, 2);
     ALL_BYTES(out + 256, 44, FILL);
@@ -98,7 +99,8 @@ static void refused_arguments(void)
 
     STATUS(odht_u64_u32_build(U64S(1, 2), 2, U32S(10), 1, 95, out, 300, len), ODHT_BAD_LENGTHS);
     STATUS(odht_u64_u32_build(U64S(1, 2), 2, U32S(10), 1, 0, out, 300, len), ODHT_BAD_LENGTHS);
-    STATUS(odht_u64_u32_build_growing(U64S(1, 2), 2, U32S(10), 1, out, 300, len), ODHT_BAD_LENGTHS);
+    STATUS(odht_u64_u32_build_growing(U64S(1, 2), 2, U32S(10), 1, out, 300, len),
+           ODHT_BAD_LENGTHS);
     STATUS(odht_u64_u32_build(U64S(1), 1, U32S(10), 1, 0, out, 300, len), ODHT_BAD_PERCENT);
     STATUS(odht_u64_u32_build(U64S(1), 1, U32S(10), 1, 101, out, 300, len), ODHT_BAD_PERCENT);
     STATUS(odht_u64_u32_build(U64S(1), 1, U32S(10), 1, 255, out, 300, len), ODHT_BAD_PERCENT);

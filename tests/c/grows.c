@@ -171,7 +171,7 @@ static void keys_of_16_bytes_grow_in_slot_order(void)
     EQUAL(*value, 94);
 }
 
-/* Below the maximum, as docs/FORMAT.md says in "Into bytes of a caller": 1024 slots with 3 items at 87 percent give 16. */
+/* Below the maximum, docs/FORMAT.md, "Into bytes of a caller": 1024 slots with 3 items at 87 percent give 16. */
 static void a_table_with_few_items_shrinks(void)
 {
     size_t large = 32 + 1024 * 12 + 1024 + 16;

@@ -15,7 +15,8 @@ trap 'rm -rf "$room"' EXIT
 flags='-std=c11 -D_DEFAULT_SOURCE -O2 -Wall -Wextra -Wpedantic -Werror'
 sanitizers='-g -fsanitize=address,undefined -fno-sanitize-recover=all'
 # the archive's requests for memory go through requests.c
-wrapped='-Wl,--wrap=malloc,--wrap=calloc,--wrap=realloc,--wrap=aligned_alloc,--wrap=posix_memalign,--wrap=free'
+wrapped='-Wl,--wrap=malloc,--wrap=calloc,--wrap=realloc,--wrap=free'
+wrapped="$wrapped -Wl,--wrap=aligned_alloc,--wrap=posix_memalign"
 
 has() {
     command -v "$1" > /dev/null 2>&1
