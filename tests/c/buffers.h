@@ -23,10 +23,13 @@ enum placement {
 enum { FILL = 7 };
 
 /* New buffers are placed so from now on. */
-void place_buffers(enum placement placement);
+void place_buffers(enum placement wanted);
+
+/* How new buffers are placed. */
+enum placement placement(void);
 
 /* The words for a placement. */
-const char *placement_name(enum placement placement);
+const char *placement_name(enum placement of);
 
 /* A buffer of so many bytes, each FILL. */
 uint8_t *bytes_of(size_t len);

@@ -271,21 +271,7 @@ static void lists_in_each_shape(void)
         check_lists(&all_shapes[index]);
 }
 
-/* The bytes come from a second computation of the sequence: three keys of two bytes with values of four. */
-static void lists_that_look_random(void)
-{
-    static const uint8_t expected[] = {
-        108, 130, 165, 98, 203, 128, 141, 16, 214, 50, 190, 137, 200, 81, 62, 191, 108, 146
-    };
-    struct random random = { 1 };
-    uint8_t bytes[sizeof expected];
-
-    random_bytes(&random, bytes, sizeof bytes);
-    SAME_BYTES(bytes, expected, sizeof expected);
-}
-
 const struct test list_tests[] = {
-    TEST(lists_that_look_random),
     TEST(lists_in_each_shape),
     END_OF_TESTS
 };
