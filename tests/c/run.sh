@@ -9,7 +9,7 @@ if [ $# -lt 1 ] || [ ! -f "$1" ]; then
 fi
 library=$(cd "$(dirname "$1")" && pwd)/$(basename "$1")
 shift
-here=$(cd "$(dirname "$0")" && pwd)
+cd "$(dirname "$0")"
 room=$(mktemp -d)
 trap 'rm -rf "$room"' EXIT
 flags='-std=c11 -D_DEFAULT_SOURCE -O2 -Wall -Wextra -Wpedantic -Werror'
@@ -32,7 +32,7 @@ sanitizes() {
 # Compiles with a compiler and further flags, and runs.
 try() {
     # shellcheck disable=SC2086
-    if ! "$1" $flags $2 -I"$here/../../include" "$here"/*.c "$library" $wrapped -o "$room/tests" ||
+    if ! "$1" $flags $2 -I../../include ./*.c "$library" $wrapped -o "$room/tests" ||
         ! "$room/tests"; then
         echo "tests/c: failed with $1 $2" >&2
         status=1
