@@ -29,15 +29,20 @@ static size_t spare_count;
 static enum placement placed;
 static size_t made;
 
-void place_buffers(enum placement placement)
+void place_buffers(enum placement wanted)
 {
-    placed = placement;
+    placed = wanted;
     made = 0;
 }
 
-const char *placement_name(enum placement placement)
+enum placement placement(void)
 {
-    switch (placement) {
+    return placed;
+}
+
+const char *placement_name(enum placement of)
+{
+    switch (of) {
     case BEFORE_GUARD: return "right before a page that faults";
     case BEHIND_GUARD: return "right behind a page that faults";
     default: return "at odd addresses";

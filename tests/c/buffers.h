@@ -23,10 +23,13 @@ enum placement {
 enum { FILL = 7 };
 
 /* New buffers are placed so from now on. */
-void place_buffers(enum placement placement);
+void place_buffers(enum placement wanted);
+
+/* How new buffers are placed. */
+enum placement placement(void);
 
 /* The words for a placement. */
-const char *placement_name(enum placement placement);
+const char *placement_name(enum placement of);
 
 /* A buffer of so many bytes, each FILL. */
 uint8_t *bytes_of(size_t len);
@@ -41,7 +44,8 @@ uint8_t *copy_of(const void *bytes, size_t len);
 void *copy_of_numbers(const void *numbers, size_t len);
 
 /* Arrays with these elements, and pointers to one number. */
-#define BYTES(...) copy_of((const uint8_t[]){ __VA_ARGS__ }, sizeof((const uint8_t[]){ __VA_ARGS__ }))
+#define BYTES(...)                                                                                \
+    copy_of((const uint8_t[]){ __VA_ARGS__ }, sizeof((const uint8_t[]){ __VA_ARGS__ }))
 #define U32S(...) NUMBERS_OF_TYPE(uint32_t, __VA_ARGS__)
 #define U64S(...) NUMBERS_OF_TYPE(uint64_t, __VA_ARGS__)
 #define SIZES(...) NUMBERS_OF_TYPE(size_t, __VA_ARGS__)

@@ -47,10 +47,28 @@ static void of_equal_keys_the_last_counts(void)
     check_table(out, 256, 2);
     ALL_BYTES(out + 256, 44, FILL);
     memset(out, FILL, 300);
-    STATUS(odht_u64_u32_build_growing(U64S(1, 0, 1), 3, U32S(7, 0, 10), 3, out, 300, len), ODHT_OK);
+    STATUS(odht_u64_u32_build_growing(U64S(1, 0, 1), 3, U32S(7, 0, 10), 3, out, 300, len),
+           ODHT_OK);
     EQUAL(*len, 256);
     check_table(out, 256, 2);
     ALL_BYTES(out + 256, 44, FILL);
+}
+
+/* No pairs make an empty table of 16 slots. */
+static void a_table_of_nothing(void)
+{
+    uint8_t *expected = bytes_of(256);
+    uint8_t *out = bytes_of(256);
+    size_t *len = SIZES(0);
+
+    STATUS(odht_u64_u32_build(NULL, 0, NULL, 0, 100, out, 256, len), ODHT_OK);
+    EQUAL(*len, 256);
+    STATUS(odht_u64_u32_init(expected, 256, 0, 100), ODHT_OK);
+    SAME_BYTES(out, expected, 256);
+    STATUS(odht_u64_u32_get(out, 256, 1, NULL), ODHT_ABSENT);
+    STATUS(odht_u64_u32_build_growing(NULL, 0, NULL, 0, out, 256, len), ODHT_OK);
+    STATUS(odht_u64_u32_init(expected, 256, 0, 87), ODHT_OK);
+    SAME_BYTES(out, expected, 256);
 }
 
 /* The keys from 0 on, and ten times each as its value. */
@@ -98,7 +116,8 @@ static void refused_arguments(void)
 
     STATUS(odht_u64_u32_build(U64S(1, 2), 2, U32S(10), 1, 95, out, 300, len), ODHT_BAD_LENGTHS);
     STATUS(odht_u64_u32_build(U64S(1, 2), 2, U32S(10), 1, 0, out, 300, len), ODHT_BAD_LENGTHS);
-    STATUS(odht_u64_u32_build_growing(U64S(1, 2), 2, U32S(10), 1, out, 300, len), ODHT_BAD_LENGTHS);
+    STATUS(odht_u64_u32_build_growing(U64S(1, 2), 2, U32S(10), 1, out, 300, len),
+           ODHT_BAD_LENGTHS);
     STATUS(odht_u64_u32_build(U64S(1), 1, U32S(10), 1, 0, out, 300, len), ODHT_BAD_PERCENT);
     STATUS(odht_u64_u32_build(U64S(1), 1, U32S(10), 1, 101, out, 300, len), ODHT_BAD_PERCENT);
     STATUS(odht_u64_u32_build(U64S(1), 1, U32S(10), 1, 255, out, 300, len), ODHT_BAD_PERCENT);
@@ -149,6 +168,7 @@ static void fourteen_keys_of_16_bytes(void)
 const struct test build_tests[] = {
     TEST(three_pairs_in_256_bytes),
     TEST(of_equal_keys_the_last_counts),
+    TEST(a_table_of_nothing),
     TEST(forty_pairs_that_grow_to_64_slots),
     TEST(too_few_bytes_tell_the_length),
     TEST(refused_arguments),

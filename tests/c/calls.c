@@ -1,4 +1,4 @@
-/* The calls of every shape. Numbers in memory have the lowest byte first, as in a table: odht is for such processors. */
+/* The calls of every shape. Numbers in memory have the lowest byte first, as in a table: odht is for such machines. */
 #include "calls.h"
 
 #define JOINED(left, middle, right) left##middle##right

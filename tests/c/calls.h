@@ -29,26 +29,29 @@ struct calls {
     uint32_t (*open)(const uint8_t *bytes, size_t len);
     uint32_t (*check)(const uint8_t *bytes, size_t len);
     uint32_t (*len)(const uint8_t *bytes, size_t len, size_t *count);
-    uint32_t (*sizes)(const uint8_t *bytes, size_t len, size_t *slots, size_t *maximum, uint8_t *percent);
+    uint32_t (*sizes)(const uint8_t *bytes, size_t len, size_t *slots, size_t *maximum,
+                      uint8_t *percent);
     uint32_t (*insert_order)(const uint8_t *bytes, size_t len, size_t *slots, size_t slots_len);
-    uint32_t (*grow)(const uint8_t *bytes, size_t len, uint8_t *out, size_t out_len, size_t *grown);
+    uint32_t (*grow)(const uint8_t *bytes, size_t len, uint8_t *out, size_t out_len,
+                     size_t *grown);
     uint32_t (*open_view)(const uint8_t *bytes, size_t len, odht_view *view);
     size_t (*view_len)(const odht_view *view);
     uint32_t (*get)(const uint8_t *bytes, size_t len, const void *key, void *value);
     uint32_t (*get_all)(const uint8_t *bytes, size_t len, const void *keys, size_t keys_len,
                         void *values, size_t values_len, uint8_t *found, size_t found_len);
-    uint32_t (*insert)(uint8_t *bytes, size_t len, const void *key, const void *value, void *former);
+    uint32_t (*insert)(uint8_t *bytes, size_t len, const void *key, const void *value,
+                       void *former);
     uint32_t (*insert_all)(uint8_t *bytes, size_t len, const void *keys, size_t keys_len,
                            const void *values, size_t values_len, size_t *accepted);
     uint32_t (*walk)(const uint8_t *bytes, size_t len, size_t *cursor, void *keys, size_t keys_len,
                      void *values, size_t values_len, size_t *count);
     uint32_t (*view_get)(const odht_view *view, const void *key, void *value);
-    uint32_t (*view_get_all)(const odht_view *view, const void *keys, size_t keys_len, void *values,
-                             size_t values_len, uint8_t *found, size_t found_len);
+    uint32_t (*view_get_all)(const odht_view *view, const void *keys, size_t keys_len,
+                             void *values, size_t values_len, uint8_t *found, size_t found_len);
     uint32_t (*build)(const void *keys, size_t keys_len, const void *values, size_t values_len,
                       uint8_t percent, uint8_t *out, size_t out_len, size_t *len);
-    uint32_t (*build_growing)(const void *keys, size_t keys_len, const void *values, size_t values_len,
-                              uint8_t *out, size_t out_len, size_t *len);
+    uint32_t (*build_growing)(const void *keys, size_t keys_len, const void *values,
+                              size_t values_len, uint8_t *out, size_t out_len, size_t *len);
 };
 
 /* All shapes. */

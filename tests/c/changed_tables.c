@@ -11,10 +11,14 @@
 
 /* How the bytes of a table are changed. */
 enum way {
-    ANY_BYTES,    /* any bytes past the header */
-    HEADER_BYTES, /* these, the item count and the load factor */
-    OCCUPIED,     /* free control bytes become 0, and when none is left the item count is changed */
-    IN_MIRROR,    /* keys of slots past those that opening checks, with the tag in the mirror, and any bytes */
+    /* any bytes past the header */
+    ANY_BYTES,
+    /* these, the item count and the load factor */
+    HEADER_BYTES,
+    /* free control bytes become 0, and when none is left the item count is changed */
+    OCCUPIED,
+    /* keys of slots past those that opening checks, with the tag in the mirror, and any bytes */
+    IN_MIRROR,
     WAYS
 };
 
@@ -181,7 +185,8 @@ static void random_key_for(const struct changed *changed, struct random *random,
 }
 
 /* Inserts one by one stay in the frame. */
-static void check_inserts(const struct changed *changed, struct random *random, struct cases *cases)
+static void check_inserts(const struct changed *changed, struct random *random,
+                          struct cases *cases)
 {
     struct shape shape = changed->calls->shape;
     uint8_t *key = numbers_of(shape.key);

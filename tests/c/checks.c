@@ -72,7 +72,39 @@ static void changed_tables_of_bytes(void)
     }
 }
 
+/* 16 slots at 87 percent with the pair of 1 and 2 in slot 5, and one byte of it changed. */
+static void one_changed_byte_of_a_table_from_u32(void)
+{
+    static const struct {
+        struct change change;
+        uint32_t expected;
+    } rows[] = {
+        { { 8, 1 }, ODHT_OK },
+        { { 16, 17 }, ODHT_SLOT_COUNT_NOT_POWER_OF_TWO },
+        { { 72, 3 }, ODHT_CONTROL_MISMATCH },
+        { { 29, 1 }, ODHT_LOAD_FACTOR_TOO_SMALL },
+        { { 30, 1 }, ODHT_NON_ZERO_PADDING },
+        { { 159, 1 }, ODHT_NON_ZERO_EMPTY },
+        { { 175, 128 }, ODHT_BAD_FREE_CONTROL },
+        { { 191, 0 }, ODHT_MIRROR_MISMATCH },
+        { { 8, 2 }, ODHT_WRONG_ITEM_COUNT },
+        { { 29, 3 }, ODHT_TOO_MANY_ITEMS },
+        { { 72, 158 }, ODHT_UNREACHABLE },
+    };
+
+    for (size_t row = 0; row < sizeof rows / sizeof rows[0]; row++) {
+        uint8_t *bytes = bytes_of(192);
+
+        in_case("row", row);
+        STATUS(odht_u32_u32_init(bytes, 192, 13, 87), ODHT_OK);
+        STATUS(odht_u32_u32_insert(bytes, 192, 1, 2, NULL), ODHT_OK);
+        bytes[rows[row].change.at] = rows[row].change.byte;
+        STATUS(odht_u32_u32_check(bytes, 192), rows[row].expected);
+    }
+}
+
 const struct test check_tests[] = {
+    TEST(one_changed_byte_of_a_table_from_u32),
     TEST(changed_tables_of_numbers),
     TEST(changed_tables_of_bytes),
     END_OF_TESTS

@@ -69,10 +69,12 @@ static void check_header_error(const struct spoiled *spoiled, uint32_t error)
     STATUS(calls->len(bytes, len, numbers), error);
     STATUS(calls->sizes(bytes, len, numbers, numbers + 1, spoiled->found), error);
     STATUS(calls->get(bytes, len, spoiled->keys, spoiled->values), error);
-    STATUS(calls->get_all(bytes, len, spoiled->keys, KEYS, spoiled->values, KEYS, spoiled->found, KEYS),
+    STATUS(calls->get_all(bytes, len, spoiled->keys, KEYS, spoiled->values, KEYS, spoiled->found,
+                          KEYS),
            error);
-    STATUS(calls->walk(bytes, len, numbers, spoiled->keys, KEYS, spoiled->values, KEYS, numbers + 1),
-           error);
+    STATUS(
+        calls->walk(bytes, len, numbers, spoiled->keys, KEYS, spoiled->values, KEYS, numbers + 1),
+        error);
     STATUS(calls->grow(bytes, len, spoiled->out, OUT_LEN, numbers), error);
     STATUS(calls->insert(spoiled->bytes, len, spoiled->keys, spoiled->new_values, spoiled->values),
            error);
@@ -94,7 +96,8 @@ static void check_opening(const struct spoiled *spoiled, uint32_t expected)
 static void check_whole_check(const struct spoiled *spoiled, uint32_t error)
 {
     STATUS(spoiled->calls->check(spoiled->bytes, spoiled->len), error);
-    STATUS(spoiled->calls->insert_order(spoiled->bytes, spoiled->len, spoiled->numbers, KEYS), error);
+    STATUS(spoiled->calls->insert_order(spoiled->bytes, spoiled->len, spoiled->numbers, KEYS),
+           error);
 }
 
 /* Asserts what all calls return where these bytes have this first error. */
@@ -117,8 +120,9 @@ static void check_no_header_error(const struct spoiled *spoiled)
     size_t *numbers = spoiled->numbers;
 
     STATUS(spoiled->calls->len(spoiled->bytes, spoiled->len, numbers), ODHT_OK);
-    STATUS(spoiled->calls->sizes(spoiled->bytes, spoiled->len, numbers, numbers + 1, spoiled->found),
-           ODHT_OK);
+    STATUS(
+        spoiled->calls->sizes(spoiled->bytes, spoiled->len, numbers, numbers + 1, spoiled->found),
+        ODHT_OK);
 }
 
 static void check_each_error(const struct calls *calls)

@@ -37,7 +37,8 @@ static bool is_value_written(const struct inserted *inserted, size_t slot)
     uint8_t expected[FRAME_BYTES];
 
     memcpy(expected, before->bytes, before->len);
-    memcpy(expected + entry_at(before, slot) + before->shape.key, inserted->value, before->shape.value);
+    memcpy(expected + entry_at(before, slot) + before->shape.key, inserted->value,
+           before->shape.value);
     return memcmp(inserted->after.bytes, expected, before->len) == 0;
 }
 
@@ -64,7 +65,8 @@ static bool is_pair_written(const struct inserted *inserted, size_t slot)
 
     memcpy(expected, before->bytes, before->len);
     memcpy(expected + entry_at(before, slot), inserted->key, before->shape.key);
-    memcpy(expected + entry_at(before, slot) + before->shape.key, inserted->value, before->shape.value);
+    memcpy(expected + entry_at(before, slot) + before->shape.key, inserted->value,
+           before->shape.value);
     memcpy(expected + 8, &count, 8);
     expected[control_at(before, slot)] = tag;
     if (slot < 16)

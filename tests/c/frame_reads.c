@@ -136,7 +136,8 @@ static void check_lookups_at_once(const struct looked *looked)
 }
 
 /* The walk's next pair is that of this slot. Counts the key where it is not found. */
-static void check_walked(const struct looked *looked, size_t slot, size_t index, struct cases *cases)
+static void check_walked(const struct looked *looked, size_t slot, size_t index,
+                         struct cases *cases)
 {
     const struct reading *table = &looked->table;
     uint64_t value[5];
@@ -155,8 +156,9 @@ static void check_walk(const struct looked *looked, struct cases *cases)
     size_t *count = SIZES(0);
     size_t walked = 0;
 
-    STATUS(looked->calls->walk(table->bytes, table->len, cursor, looked->keys, KEYS, looked->values,
-                               KEYS, count), ODHT_OK);
+    STATUS(looked->calls->walk(table->bytes, table->len, cursor, looked->keys, KEYS,
+                               looked->values, KEYS, count),
+           ODHT_OK);
     EQUAL(*count, occupied_in(table));
     for (size_t slot = 0; slot < slots_of(table); slot++)
         if (is_occupied(table, slot))
@@ -190,8 +192,9 @@ static void check_growth(const struct looked *looked, struct cases *cases)
     size_t expected_len = 1;
     uint32_t expected = growth_answer(&looked->table, OUT_LEN, &expected_len);
 
-    STATUS(looked->calls->grow(looked->table.bytes, looked->table.len, (uint8_t *)out.bytes, OUT_LEN,
-                               len), expected);
+    STATUS(looked->calls->grow(looked->table.bytes, looked->table.len, (uint8_t *)out.bytes,
+                               OUT_LEN, len),
+           expected);
     EQUAL(*len, expected_len);
     if (expected != ODHT_OK) {
         ALL_BYTES(out.bytes, OUT_LEN, FILL);

@@ -171,7 +171,7 @@ static void keys_of_16_bytes_grow_in_slot_order(void)
     EQUAL(*value, 94);
 }
 
-/* Below the maximum, as docs/FORMAT.md says in "Into bytes of a caller": 1024 slots with 3 items at 87 percent give 16. */
+/* Below the maximum, docs/FORMAT.md, "Into bytes of a caller": 1024 slots with 3 items at 87 percent give 16. */
 static void a_table_with_few_items_shrinks(void)
 {
     size_t large = 32 + 1024 * 12 + 1024 + 16;
@@ -193,7 +193,46 @@ static void a_table_with_few_items_shrinks(void)
     SAME_BYTES(out, bytes, FULL_LEN);
 }
 
+/* A table of entries of twelve bytes with keys from 0 to below `items`, as many as it takes. */
+static uint8_t *table_at_maximum(size_t *len, size_t items, uint8_t percent)
+{
+    uint8_t *bytes;
+
+    STATUS(odht_u64_u32_bytes_needed(items, percent, len), ODHT_OK);
+    bytes = bytes_of(*len);
+    STATUS(odht_u64_u32_init(bytes, *len, items, percent), ODHT_OK);
+    for (uint64_t key = 0; key < items; key++)
+        STATUS(odht_u64_u32_insert(bytes, *len, key, 5, NULL), ODHT_OK);
+    STATUS(odht_u64_u32_insert(bytes, *len, items, 5, NULL), ODHT_FULL);
+    return bytes;
+}
+
+/* The rows of docs/FORMAT.md, "Growth", where another key comes: items, percent, slots, and slots after the growth. */
+static void slots_before_and_after_a_growth(void)
+{
+    static const struct {
+        size_t items;
+        uint8_t percent;
+        size_t before;
+        size_t after;
+    } rows[] = { { 0, 6, 16, 32 }, { 0, 1, 16, 128 }, { 13, 87, 16, 32 }, { 1, 6, 32, 64 } };
+    size_t *len = SIZES(0);
+
+    for (size_t row = 0; row < sizeof rows / sizeof rows[0]; row++) {
+        uint8_t *bytes = table_at_maximum(len, rows[row].items, rows[row].percent);
+        uint8_t *out = bytes_of(32 + 13 * rows[row].after + 16);
+
+        in_case("row", row);
+        EQUAL(*len, 32 + 13 * rows[row].before + 16);
+        STATUS(odht_u64_u32_grow(bytes, *len, out, 32 + 13 * rows[row].after + 16, len), ODHT_OK);
+        EQUAL(*len, 32 + 13 * rows[row].after + 16);
+        STATUS(odht_u64_u32_insert(out, *len, rows[row].items, 5, NULL), ODHT_OK);
+        STATUS(odht_u64_u32_check(out, *len), ODHT_OK);
+    }
+}
+
 const struct test grow_tests[] = {
+    TEST(slots_before_and_after_a_growth),
     TEST(a_full_table_grows),
     TEST(a_grown_table_takes_more),
     TEST(too_few_bytes_tell_the_grown_length),

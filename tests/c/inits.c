@@ -13,9 +13,13 @@ enum { LEN = 192, NO_LEN = 99 };
 /* The rows of docs/FORMAT.md, "Load factors": items, percent and slots. Entries have twelve bytes. */
 static void lengths_by_items_and_percent(void)
 {
-    static const struct { size_t items; uint8_t percent; size_t slots; } rows[] = {
-        { 0, 87, 16 }, { 13, 87, 16 }, { 14, 87, 32 }, { 40, 87, 64 }, { 3, 95, 16 }, { 15, 100, 16 },
-        { 16, 100, 32 }, { 1000, 100, 1024 }, { 1, 6, 32 }, { 1, 1, 128 },
+    static const struct {
+        size_t items;
+        uint8_t percent;
+        size_t slots;
+    } rows[] = {
+        { 0, 87, 16 }, { 13, 87, 16 }, { 14, 87, 32 }, { 40, 87, 64 }, { 3, 95, 16 },
+        { 15, 100, 16 }, { 16, 100, 32 }, { 1000, 100, 1024 }, { 1, 6, 32 }, { 1, 1, 128 },
     };
     size_t *len = SIZES(NO_LEN);
 

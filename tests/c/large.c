@@ -9,7 +9,13 @@
 #include "reading.h"
 #include "subjects.h"
 
-enum { LIST = 300003, LIST_SLOTS = 1 << 20, LIST_ITEMS = 900000, FULL_SLOTS = 65536, STRESS_SLOTS = 131072 };
+enum {
+    LIST = 300003,
+    LIST_SLOTS = 1 << 20,
+    LIST_ITEMS = 900000,
+    FULL_SLOTS = 65536,
+    STRESS_SLOTS = 131072
+};
 
 static const struct shape shape = { 4, 4, FX };
 
@@ -35,7 +41,8 @@ static void insert_each(uint8_t *single, uint8_t *placed, size_t len, const uint
         uint32_t status = odht_u32_u32_insert(single, len, keys[index], values[index], NULL);
 
         HOLDS(status == ODHT_OK || status == ODHT_REPLACED);
-        place_pair(placed, len, shape, (const uint8_t *)&keys[index], (const uint8_t *)&values[index]);
+        place_pair(placed, len, shape, (const uint8_t *)&keys[index],
+                   (const uint8_t *)&values[index]);
     }
 }
 
@@ -61,15 +68,18 @@ static void a_list_and_single_inserts_leave_the_same_bytes(void)
     STATUS(odht_u32_u32_check(at_once, len), ODHT_OK);
 }
 
-/* Inserts the keys from 0 to 65,535; each has the value that the multiplier gives it, and had that of the former one. */
-static void insert_numbers(uint8_t *bytes, size_t len, uint32_t multiplier, uint32_t former_one)
+/*
+ * Inserts the keys from 0 to 65,535, each with the multiplier times the key as its value. Before it was that with the
+ * multiplier `before`, or the key was absent where this is 0.
+ */
+static void insert_numbers(uint8_t *bytes, size_t len, uint32_t multiplier, uint32_t before)
 {
     for (uint32_t key = 0; key < 65536; key++) {
         uint32_t former = 5;
 
         STATUS(odht_u32_u32_insert(bytes, len, key, multiplier * key, &former),
-               former_one == 0 ? ODHT_OK : ODHT_REPLACED);
-        EQUAL(former, former_one == 0 ? 5 : former_one * key);
+               before == 0 ? ODHT_OK : ODHT_REPLACED);
+        EQUAL(former, before == 0 ? 5 : before * key);
     }
 }
 

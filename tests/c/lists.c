@@ -1,6 +1,6 @@
 /*
- * Lists that look random, in each shape: built at once, pair by pair, growing, and by the order of inserts that is found
- * for the table. All must be the bytes of the second writing, and what a map has that is kept beside them.
+ * Lists that look random, in each shape: built at once, pair by pair, growing, and by the order of inserts that is
+ * found for the table. All must be the bytes of the second writing, and what a map has that is kept beside them.
  */
 #include <stdint.h>
 #include <string.h>
@@ -132,7 +132,8 @@ static void check_insert(const struct list *list, size_t index)
     bool is_new = before == index;
 
     memset(former, FILL, sizeof former);
-    STATUS(list->calls->insert(list->out, list->len, key_at(list, index), value_at(list, index), former),
+    STATUS(list->calls->insert(list->out, list->len, key_at(list, index), value_at(list, index),
+                               former),
            is_new ? ODHT_OK : ODHT_REPLACED);
     if (is_new)
         ALL_BYTES(former, sizeof former, FILL);
@@ -151,8 +152,9 @@ static void check_inserts(const struct list *list)
         check_insert(list, index);
     SAME_BYTES(list->out, list->expected, list->len);
     STATUS(calls->init(list->out, list->len, list->count, 87), ODHT_OK);
-    STATUS(calls->insert_all(list->out, list->len, list->keys, list->count, list->values, list->count,
-                             accepted), ODHT_OK);
+    STATUS(calls->insert_all(list->out, list->len, list->keys, list->count, list->values,
+                             list->count, accepted),
+           ODHT_OK);
     EQUAL(*accepted, list->count);
     SAME_BYTES(list->out, list->expected, list->len);
 }
@@ -193,8 +195,9 @@ static void check_walk(const struct list *list)
     size_t *count = SIZES(0);
     size_t walked = 0;
 
-    STATUS(list->calls->walk(table.bytes, table.len, SIZES(0), keys, MOST_PAIRS, values, MOST_PAIRS,
-                             count), ODHT_OK);
+    STATUS(list->calls->walk(table.bytes, table.len, SIZES(0), keys, MOST_PAIRS, values,
+                             MOST_PAIRS, count),
+           ODHT_OK);
     EQUAL(*count, occupied_in(&table));
     for (size_t slot = 0; slot < slots_of(&table); slot++) {
         if (!is_occupied(&table, slot))
@@ -211,8 +214,10 @@ static void insert_slot(const struct list *list, size_t slot)
     struct reading table = { list->expected, list->len, list->calls->shape };
 
     HOLDS(slot < slots_of(&table) && is_occupied(&table, slot));
-    STATUS(list->calls->insert(list->out, list->len, copy_of_numbers(key_in(&table, slot), table.shape.key),
-                               copy_of_numbers(value_in(&table, slot), table.shape.value), NULL), ODHT_OK);
+    STATUS(list->calls->insert(list->out, list->len,
+                               copy_of_numbers(key_in(&table, slot), table.shape.key),
+                               copy_of_numbers(value_in(&table, slot), table.shape.value), NULL),
+           ODHT_OK);
 }
 
 /* An order of inserts is found, lists each occupied slot once, and makes the table again. */
@@ -229,7 +234,8 @@ static void check_order(const struct list *list)
 }
 
 /* All properties of a list that one of the functions fills. */
-static void check_list(const struct calls *calls, uint64_t seed, void (*fill)(struct list *, uint64_t))
+static void check_list(const struct calls *calls, uint64_t seed,
+                       void (*fill)(struct list *, uint64_t))
 {
     size_t kept = buffer_count();
     struct list list = { .calls = calls, .count = 3 * seed };
@@ -265,21 +271,7 @@ static void lists_in_each_shape(void)
         check_lists(&all_shapes[index]);
 }
 
-/* The bytes come from a second computation of the sequence: three keys of two bytes with values of four. */
-static void lists_that_look_random(void)
-{
-    static const uint8_t expected[] = {
-        108, 130, 165, 98, 203, 128, 141, 16, 214, 50, 190, 137, 200, 81, 62, 191, 108, 146
-    };
-    struct random random = { 1 };
-    uint8_t bytes[sizeof expected];
-
-    random_bytes(&random, bytes, sizeof bytes);
-    SAME_BYTES(bytes, expected, sizeof expected);
-}
-
 const struct test list_tests[] = {
-    TEST(lists_that_look_random),
     TEST(lists_in_each_shape),
     END_OF_TESTS
 };

@@ -15,7 +15,9 @@
 enum { PRESENT = 31, KEYS = 17 };
 
 /* The keys that are looked up. The even ones up to 60 are present, with 100 and their half as their value. */
-static const uint32_t numbers[KEYS] = { 4, 5, 0, 60, 61, 62, 2, 2, 1, 30, 31, 58, 3, 8, 6, 99, 10 };
+static const uint32_t numbers[KEYS] = {
+    4, 5, 0, 60, 61, 62, 2, 2, 1, 30, 31, 58, 3, 8, 6, 99, 10
+};
 
 /* A table of 32 slots with all but one occupied, and the keys to look up. */
 struct looked {
@@ -83,7 +85,8 @@ static void check_alone(const struct looked *looked)
 }
 
 /* What was found of the first so many numbers. */
-static void check_found(struct shape shape, const uint8_t *values, const uint8_t *found, size_t count)
+static void check_found(struct shape shape, const uint8_t *values, const uint8_t *found,
+                        size_t count)
 {
     for (size_t index = 0; index < count; index++) {
         EQUAL(found[index], is_present(numbers[index]));

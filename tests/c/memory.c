@@ -116,7 +116,8 @@ static void errors_of_a_growing_build(void)
     struct build build = build_of(u64_u32_calls, 3);
 
     refuse_requests();
-    STATUS(odht_u64_u32_build_growing(build.keys, 3, build.values, 2, build.out, MOST_BYTES, build.len),
+    STATUS(odht_u64_u32_build_growing(build.keys, 3, build.values, 2, build.out, MOST_BYTES,
+                                      build.len),
            ODHT_BAD_LENGTHS);
     EQUAL(requests(), 0);
     EQUAL(*build.len, 99);
@@ -144,8 +145,9 @@ static size_t make_full(const struct calls *calls, uint8_t *bytes)
     STATUS(calls->insert_all(bytes, *len, keys, 14, values, 14, accepted), ODHT_FULL);
     EQUAL(*accepted, 13);
     STATUS(calls->insert(bytes, *len, keys, values, numbers_of(8)), ODHT_REPLACED);
-    STATUS(calls->insert(bytes, *len, (uint8_t *)keys + 13 * calls->shape.key, values, numbers_of(8)),
-           ODHT_FULL);
+    STATUS(
+        calls->insert(bytes, *len, (uint8_t *)keys + 13 * calls->shape.key, values, numbers_of(8)),
+        ODHT_FULL);
     return *len;
 }
 

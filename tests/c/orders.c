@@ -123,6 +123,7 @@ static void a_table_that_no_inserts_make(void)
      */
     bytes[44] = 1;
     bytes[64] = 0;
+    freeze(bytes);
     STATUS(odht_b16_u32_check(bytes, HOME_LEN), ODHT_OK);
     STATUS(odht_b16_u32_insert_order(bytes, HOME_LEN, slots, 48), ODHT_UNMADE);
     STATUS(odht_b16_u32_insert_order(bytes, HOME_LEN, fewer, 47), ODHT_BAD_LENGTHS);

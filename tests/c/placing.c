@@ -68,7 +68,8 @@ void place_nothing(uint8_t *bytes, struct shape shape, size_t slots, uint64_t fa
 }
 
 /* Writes a new pair to a free slot. */
-static void write_pair(uint8_t *bytes, const struct reading *table, size_t slot, const uint8_t *key)
+static void write_pair(uint8_t *bytes, const struct reading *table, size_t slot,
+                       const uint8_t *key)
 {
     uint8_t tag = tag_of(table->shape, key);
 

@@ -1,4 +1,4 @@
-/* A second reading of a table's bytes: the errors, as docs/FORMAT.md has them in "What is refused, and in which order". */
+/* A second reading of a table's bytes: the errors of docs/FORMAT.md, "What is refused, and in which order". */
 #include <string.h>
 
 #include "odht.h"
@@ -17,7 +17,8 @@ static uint32_t field_error(const struct reading *table)
         return ODHT_WRONG_TAG;
     if (memcmp(bytes + 24, "\0\0\0\2", 4) != 0)
         return ODHT_WRONG_VERSION;
-    if (bytes[4] != 1 || bytes[5] != table->shape.key || bytes[6] != table->shape.value || bytes[7] != 32)
+    if (bytes[4] != 1 || bytes[5] != table->shape.key || bytes[6] != table->shape.value
+        || bytes[7] != 32)
         return ODHT_WRONG_SIZE;
     return ODHT_OK;
 }

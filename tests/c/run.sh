@@ -9,13 +9,14 @@ if [ $# -lt 1 ] || [ ! -f "$1" ]; then
 fi
 library=$(cd "$(dirname "$1")" && pwd)/$(basename "$1")
 shift
-here=$(cd "$(dirname "$0")" && pwd)
+cd "$(dirname "$0")"
 room=$(mktemp -d)
 trap 'rm -rf "$room"' EXIT
 flags='-std=c11 -D_DEFAULT_SOURCE -O2 -Wall -Wextra -Wpedantic -Werror'
 sanitizers='-g -fsanitize=address,undefined -fno-sanitize-recover=all'
 # the archive's requests for memory go through requests.c
-wrapped='-Wl,--wrap=malloc,--wrap=calloc,--wrap=realloc,--wrap=aligned_alloc,--wrap=posix_memalign,--wrap=free'
+wrapped='-Wl,--wrap=malloc,--wrap=calloc,--wrap=realloc,--wrap=free'
+wrapped="$wrapped -Wl,--wrap=aligned_alloc,--wrap=posix_memalign"
 
 has() {
     command -v "$1" > /dev/null 2>&1
@@ -31,7 +32,7 @@ sanitizes() {
 # Compiles with a compiler and further flags, and runs.
 try() {
     # shellcheck disable=SC2086
-    if ! "$1" $flags $2 -I"$here/../../include" "$here"/*.c "$library" $wrapped -o "$room/tests" ||
+    if ! "$1" $flags $2 -I../../include ./*.c "$library" $wrapped -o "$room/tests" ||
         ! "$room/tests"; then
         echo "tests/c: failed with $1 $2" >&2
         status=1

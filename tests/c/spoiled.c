@@ -85,8 +85,8 @@ static void write_pair(struct shape shape, uint8_t *bytes, const struct pair *pa
 void write_three_pairs(struct shape shape, uint8_t *bytes)
 {
     const uint8_t header[32] = {
-        'O', 'D', 'H', 'T', 1, (uint8_t)shape.key, (uint8_t)shape.value, 32, 3, 0, 0, 0, 0, 0, 0, 0,
-        16, 0, 0, 0, 0, 0, 0, 0, 0, 0, 0, 2, 0x32, 0xf3, 0, 0
+        'O', 'D', 'H', 'T', 1, (uint8_t)shape.key, (uint8_t)shape.value, 32,
+        3, 0, 0, 0, 0, 0, 0, 0, 16, 0, 0, 0, 0, 0, 0, 0, 0, 0, 0, 2, 0x32, 0xf3, 0, 0
     };
 
     memset(bytes, 0, three_pairs_len(shape));
@@ -106,8 +106,8 @@ void *three_keys(struct shape shape)
 }
 
 /*
- * The key 158 has the tag of the key 1 and the home 6, and so has the hash 0x26000006 beside 0x26000005: the lowest byte
- * is changed.
+ * The key 158 has the tag of the key 1 and another home, and so has the hash 0x26000006 beside 0x26000005: the lowest
+ * byte is changed.
  */
 static size_t home_at(struct shape shape)
 {

@@ -30,9 +30,9 @@ struct edit {
 
 /* A way to spoil the table. */
 struct spoiling {
-    uint32_t error;       /* what the whole check returns */
-    bool is_found_early;  /* whether opening returns it too */
-    size_t cut;           /* how many bytes are left of the end of the table: CUT_TO_31, or so many fewer */
+    uint32_t error;      /* what the whole check returns */
+    bool is_found_early; /* whether opening returns it too */
+    size_t cut;          /* how many bytes are cut off at the end, or CUT_TO_31 */
     struct edit edits[4];
 };
 
@@ -47,8 +47,8 @@ extern const struct spoiling spoilings[SPOILINGS];
 size_t three_pairs_len(struct shape shape);
 
 /*
- * Writes the table: 16 slots at 95 percent, as in docs/FORMAT.md, "A worked example". In slots 5, 9 and 15 are keys with
- * the tags 0x13, 0x61 and 0x3a: the numbers 1, 5 and 3, or the keys with such hashes. The values are 2, 6 and 4.
+ * Writes the table: 16 slots at 95 percent, as in docs/FORMAT.md, "A worked example". In slots 5, 9 and 15 are keys
+ * with the tags 0x13, 0x61 and 0x3a: the numbers 1, 5 and 3, or the keys with such hashes. The values are 2, 6 and 4.
  */
 void write_three_pairs(struct shape shape, uint8_t *bytes);
 
@@ -59,6 +59,7 @@ void *three_keys(struct shape shape);
 size_t spoil(struct shape shape, uint8_t *bytes, const struct spoiling *spoiling);
 
 /* Whether two ways change a byte in common, or cut both. */
-bool are_in_conflict(struct shape shape, const struct spoiling *left, const struct spoiling *right);
+bool are_in_conflict(struct shape shape, const struct spoiling *left,
+                     const struct spoiling *right);
 
 #endif

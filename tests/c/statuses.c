@@ -156,7 +156,8 @@ static uint32_t bad_lengths(void)
 
 static uint32_t too_small(void)
 {
-    return odht_u64_u32_walk(number_table(), LEN, SIZES(0), U64S(0, 0), 2, U32S(0, 0), 2, SIZES(0));
+    return odht_u64_u32_walk(number_table(), LEN, SIZES(0), U64S(0, 0), 2, U32S(0, 0), 2,
+                             SIZES(0));
 }
 
 /* The keys 1 and 0 in slots 0 and 1, and all others in their homes: docs/FORMAT.md, "Valid bytes". */

@@ -4,6 +4,7 @@
 
 #include "test.h"
 
+extern const struct test harness_tests[];
 extern const struct test build_tests[];
 extern const struct test carried_tests[];
 extern const struct test changed_table_tests[];
@@ -12,6 +13,7 @@ extern const struct test error_tests[];
 extern const struct test grow_tests[];
 extern const struct test header_tests[];
 extern const struct test init_tests[];
+extern const struct test insert_tests[];
 extern const struct test large_tests[];
 extern const struct test list_tests[];
 extern const struct test lookup_tests[];
@@ -26,9 +28,10 @@ extern const struct test whole_check_tests[];
 /* The tables in the order in which they are run. */
 #define SUBJECTS \
     { \
-        build_tests, carried_tests, changed_table_tests, check_tests, error_tests, grow_tests, \
-        header_tests, init_tests, large_tests, list_tests, lookup_tests, memory_tests, \
-        order_tests, shape_tests, status_tests, view_tests, walk_tests, whole_check_tests \
+        harness_tests, build_tests, carried_tests, changed_table_tests, check_tests, \
+        error_tests, grow_tests, header_tests, init_tests, insert_tests, large_tests, \
+        list_tests, lookup_tests, memory_tests, order_tests, shape_tests, status_tests, \
+        view_tests, walk_tests, whole_check_tests \
     }
 
 #endif

@@ -130,12 +130,12 @@ static void describe_signal(void)
 }
 
 /* Whether the test passes with its buffers in this placement. */
-static bool passes(const struct test *test, enum placement placement)
+static bool passes(const struct test *test, enum placement wanted)
 {
     int ended;
 
     current_case[0] = '\0';
-    place_buffers(placement);
+    place_buffers(wanted);
     count_requests(NO_REQUEST);
     ended = sigsetjmp(end_of_test, 1);
     if (ended == 0) {
@@ -154,10 +154,10 @@ static void run_test(const struct test *test)
 {
     printf("test %s ... ", test->name);
     fflush(stdout);
-    for (int placement = 0; placement < PLACEMENTS; placement++) {
-        if (!passes(test, (enum placement)placement)) {
+    for (int index = 0; index < PLACEMENTS; index++) {
+        if (!passes(test, (enum placement)index)) {
             printf("FAILED\n    %s\n    with buffers %s\n", failure,
-                   placement_name((enum placement)placement));
+                   placement_name((enum placement)index));
             failed++;
             return;
         }

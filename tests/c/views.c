@@ -67,8 +67,10 @@ static void a_view_finds_many_keys_at_once(void)
     STATUS(odht_u64_u32_view_get_all(view, U64S(19, 4, 3), 3, values, 3, found, 3), ODHT_OK);
     SAME_BYTES(values, expected, sizeof expected);
     SAME_BYTES(found, ((const uint8_t[]){ 1, 0, 1 }), 3);
-    STATUS(odht_u64_u32_view_get_all(view, U64S(3, 19, 4), 3, values, 3, found, 2), ODHT_BAD_LENGTHS);
-    STATUS(odht_u64_u32_view_get_all(view, U64S(3, 19, 4), 3, values, 2, found, 3), ODHT_BAD_LENGTHS);
+    STATUS(odht_u64_u32_view_get_all(view, U64S(3, 19, 4), 3, values, 3, found, 2),
+           ODHT_BAD_LENGTHS);
+    STATUS(odht_u64_u32_view_get_all(view, U64S(3, 19, 4), 3, values, 2, found, 3),
+           ODHT_BAD_LENGTHS);
     STATUS(odht_u64_u32_view_get_all(view, U64S(3, 19), 2, values, 3, found, 3), ODHT_BAD_LENGTHS);
     SAME_BYTES(values, expected, sizeof expected);
     SAME_BYTES(found, ((const uint8_t[]){ 1, 0, 1 }), 3);

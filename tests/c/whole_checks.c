@@ -153,18 +153,13 @@ static struct changed made(const struct calls *calls, struct random *random)
     return made_table(calls, slots, maximum, inserts, random);
 }
 
-/* How many changed tables of a shape are checked, and how often each error comes. */
-struct row {
-    size_t tables;
-    size_t expected[KINDS];
-};
-
-static void check_changed(const struct calls *calls, const struct row *row)
+/* Checks so many changed tables of a shape, and asserts how often each error comes. */
+static void check_changed(const struct calls *calls, size_t tables, const size_t *expected)
 {
     struct counts counts = { { 0 } };
     struct random random = { 1 };
 
-    for (size_t table = 0; table < row->tables; table++) {
+    for (size_t table = 0; table < tables; table++) {
         size_t kept = buffer_count();
         struct changed changed = made(calls, &random);
 
@@ -173,26 +168,27 @@ static void check_changed(const struct calls *calls, const struct row *row)
         check_errors(calls, changed.bytes, changed.len, &counts);
         drop_buffers_since(kept);
     }
-    check_counts(&counts, row->expected);
+    check_counts(&counts, expected);
 }
 
-/* A row for each shape, in their order. */
+/* A row for each shape, in their order: 7,500 tables from 32-bit numbers and from 16 bytes to 32-bit numbers. */
 static void changed_tables_in_each_shape(void)
 {
-    static const struct row rows[SHAPES] = {
-        { 7500, { 545, 0, 221, 164, 200, 1174, 162, 85, 820, 690, 42, 429, 57, 482, 1768, 36, 625 } },
-        { 2000, { 166, 0, 52, 42, 51, 299, 47, 19, 214, 185, 8, 91, 15, 144, 486, 8, 173 } },
-        { 2000, { 169, 0, 51, 43, 50, 294, 46, 20, 217, 179, 11, 91, 12, 150, 491, 7, 169 } },
-        { 7500, { 748, 0, 209, 147, 192, 1159, 160, 88, 871, 454, 58, 406, 55, 508, 1820, 34, 591 } },
-        { 2000, { 208, 0, 50, 38, 48, 294, 47, 20, 221, 137, 13, 88, 12, 150, 496, 8, 170 } },
-        { 2000, { 204, 0, 49, 36, 48, 295, 47, 20, 229, 130, 14, 91, 13, 146, 494, 8, 176 } },
-        { 2000, { 212, 0, 49, 38, 48, 294, 47, 20, 225, 127, 15, 89, 13, 145, 498, 7, 173 } },
-        { 2000, { 200, 0, 51, 40, 50, 294, 46, 21, 223, 140, 12, 87, 14, 150, 493, 8, 171 } },
-        { 2000, { 215, 0, 49, 36, 49, 295, 47, 20, 217, 134, 13, 88, 13, 146, 501, 8, 169 } },
+    static const size_t tables[SHAPES] = { 7500, 2000, 2000, 7500, 2000, 2000, 2000, 2000, 2000 };
+    static const size_t expected[SHAPES][KINDS] = {
+        { 545, 0, 221, 164, 200, 1174, 162, 85, 820, 690, 42, 429, 57, 482, 1768, 36, 625 },
+        { 166, 0, 52, 42, 51, 299, 47, 19, 214, 185, 8, 91, 15, 144, 486, 8, 173 },
+        { 169, 0, 51, 43, 50, 294, 46, 20, 217, 179, 11, 91, 12, 150, 491, 7, 169 },
+        { 748, 0, 209, 147, 192, 1159, 160, 88, 871, 454, 58, 406, 55, 508, 1820, 34, 591 },
+        { 208, 0, 50, 38, 48, 294, 47, 20, 221, 137, 13, 88, 12, 150, 496, 8, 170 },
+        { 204, 0, 49, 36, 48, 295, 47, 20, 229, 130, 14, 91, 13, 146, 494, 8, 176 },
+        { 212, 0, 49, 38, 48, 294, 47, 20, 225, 127, 15, 89, 13, 145, 498, 7, 173 },
+        { 200, 0, 51, 40, 50, 294, 46, 21, 223, 140, 12, 87, 14, 150, 493, 8, 171 },
+        { 215, 0, 49, 36, 49, 295, 47, 20, 217, 134, 13, 88, 13, 146, 501, 8, 169 },
     };
 
     for (size_t index = 0; index < SHAPES; index++)
-        check_changed(&all_shapes[index], &rows[index]);
+        check_changed(&all_shapes[index], tables[index], expected[index]);
 }
 
 const struct test whole_check_tests[] = {
