@@ -7,7 +7,7 @@
     rattle     the tests of odht_tests                        vectors    all vectors
     memory     each request for memory fails in turn          edits      each edit's text is where it says
     tool       the program for table files, by tests/tool     generated  generated text is current
-    script     the program for scripts, by tests/script
+    script     the program for scripts, by tests/script      runner     that the runner of cases reports faults
 
 What a part needs is built first, by tools/unproved.py, into build/unproved/; what is current there is kept.
 """
@@ -92,6 +92,10 @@ def calls_for_c():
     return counted(*run(["sh", "tests/c/run.sh", f"{BUILT}/libodht.a"]))
 
 
+def runner():
+    return counted(*run([sys.executable, "tests/planted.py"]))
+
+
 def cases(program, folder):
     return counted(*run([sys.executable, "tests/cases.py", f"{BUILT}/{program}", folder]))
 
@@ -119,6 +123,7 @@ PARTS = {
     "tool": (["odht_tool"], lambda: cases("odht_tool", "tests/tool")),
     "script": (["odht_table"], lambda: cases("odht_table", "tests/script")),
     "edits": ([], edits),
+    "runner": ([], runner),
     "generated": ([], generated),
 }
 
