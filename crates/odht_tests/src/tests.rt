@@ -3,12 +3,17 @@
 //! memory, and tests/c the calls for C.
 mod builds;
 mod checks;
+mod collected_items;
 mod first_table;
 mod full_tables;
 mod index;
 mod insert_orders;
+mod large_lists;
 mod list_properties;
+mod lookups;
 mod lossless;
 mod owned_tables;
 mod probe_sequences;
 mod random;
+mod rejected_stores;
+mod walks;

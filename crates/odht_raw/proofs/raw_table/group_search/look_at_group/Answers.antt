@@ -4,7 +4,7 @@ use Rattle.odht_base.proofs.lemmas.SlotCounts.{few_slots}
 use Rattle.odht_base.specs.Bytes.{bytes_at}
 use Rattle.odht_raw.specs.Frame.{HasNoFree}
 use Rattle.odht_raw.specs.SearchSteps.{IsLook, Passed}
-use Rattle.odht_raw.proofs.lemmas.GroupLooks.{piece-fits, pieces-all, IsGroupAt-piece, look-piece, look-none, no_free-more}
+use Rattle.odht_raw.proofs.lemmas.GroupLooks.{piece-fits, pieces-all, IsGroupAt-piece, look-piece, look-none, end-piece, no_free-more}
 use Rattle.odht_raw.proofs.raw_table.group_search.look_at_group.Goals as goal
 
 pub overflow_add-start : goal.overflow_add-start
@@ -23,6 +23,14 @@ returns-then-is_some-clause-on_placed g c P p at =
     let there = IsGroupAt-piece F P c.args.entries.now k p c.args.start c.args.bytes.now n g.Q.Group.SIZE (omega (arith, c.requires.len, fits)) at (c.loop-piece.invariant.passed P p at) in
     let known : IsLook F P k (p + n) g.Q.Group.SIZE c.look_at_piece-end.result = c.look_at_piece-end.ensures.on_placed P (p + n) (rw (c.SIZE.ensures, c.SIZE-in-loop-piece.ensures) there) in
     look-piece F P k p n g.Q.Group.SIZE c.look_at_piece-end.result fits (sym c.is_some.ensures ∙ c.if-is_some.true) known
+
+pub returns-then-is_some-clause-slot : goal.returns-then-is_some-clause-slot
+returns-then-is_some-clause-slot g c =
+    let F : Format = format_of g.K.ByteArray.LEN g.V.ByteArray.LEN g.H.HashFn.hash in
+    let n : ℕ = c.loop-piece.piece * g.Q.Group.SIZE in
+    let fits = piece-fits g.Q.Group.SIZE c.loop-piece.piece (omega (arith, c.loop-piece-test.true, ap (λ n. 16 / n) c.SIZE-piece-end.ensures)) in
+    end-piece F c.args.entries.now c.args.bytes.now c.args.start n g.Q.Group.SIZE (g.K.ByteArray.bytes c.args.key.now) c.look_at_piece-end.result fits
+    (rw (c.SIZE.ensures, c.SIZE-in-loop-piece.ensures) at c.look_at_piece-end.ensures.slot)
 
 pub loop-piece-init : goal.loop-piece-init
 loop-piece-init g c =

@@ -1,4 +1,4 @@
-use Rattle.std.proofs.Common.{arith, refl, ◌≡◌, ◌∙◌, ℕ, ◌+◌, ◌-◌, ◌%◌, ◌<◌, sym, ap, subst, true≢false, List, min}
+use Rattle.std.proofs.Common.{arith, refl, ◌≡◌, ◌∙◌, ℕ, ◌+◌, ◌-◌, ◌%◌, ◌/◌, ◌<◌, ◌≤◌, sym, ap, subst, true≢false, List, min}
 use Rattle.odht_base.specs.Bytes.{bytes_at}
 use Rattle.odht_base.specs.Format.{Format, format_of}
 use Rattle.odht_base.specs.Load.{IsSlotCount}
@@ -38,6 +38,25 @@ groups-init g c =
       occupied = λ q l. absurd (omega (arith, l, place));
       passed = λ P h q l. absurd (omega (arith, place));
     }
+
+-- one more group is read, and it is one of the table's
+one_more : (read before first position slots : ℕ) → read ≡ min (before + 1) 18446744073709551615 → before ≤ first + position / 16 → position + 16 ≤ slots → read ≤ first + slots / 16
+one_more read before first position slots counted few within = omega arith
+
+-- the next group is nearer to the end
+nearer : (next position slots : ℕ) → next ≡ position + 16 → position + 16 ≤ slots → slots - next < slots - position
+nearer next position slots place within = omega arith
+
+pub groups-smaller : goal.groups-smaller
+groups-smaller g c = nearer _ _ _ (ap (λ q. q.position) c.advance.ensures) c.groups.invariant.within
+
+pub returns-in-Some-clause-few : goal.returns-in-Some-clause-few
+returns-in-Some-clause-few g c =
+    one_more _ _ _ _ _ (ap (λ s. s.groups) c.group-bytes.ensures.counted) c.groups.invariant.few c.groups.invariant.within
+
+pub returns-then-is_last-clause-few : goal.returns-then-is_last-clause-few
+returns-then-is_last-clause-few g c =
+    one_more _ _ _ _ _ (ap (λ s. s.groups) c.group-bytes.ensures.counted) c.groups.invariant.few c.groups.invariant.within
 
 pub returns-in-Some-clause-on_placed : goal.returns-in-Some-clause-on_placed
 returns-in-Some-clause-on_placed g c P h =

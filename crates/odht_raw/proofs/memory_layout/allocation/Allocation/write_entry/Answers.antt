@@ -9,6 +9,13 @@ use Rattle.odht_raw.proofs.lemmas.Accepted.{accepted_entry, accepted_control, ac
 use Rattle.odht_raw.proofs.memory_layout.allocation.Allocation.write_entry.Given.{Over}
 use Rattle.odht_raw.proofs.memory_layout.allocation.Allocation.write_entry.Goals as goal
 
+pub entry_at-requires-after_bounds : goal.entry_at-requires-after_bounds
+entry_at-requires-after_bounds g c κs within =
+    let F = format_of g.C.EncodedKey.ByteArray.LEN g.C.EncodedValue.ByteArray.LEN g.C.H.HashFn.hash in
+    let entry = accepted_entry F (g.M.ByteStore.bytes c.args.self.now) c.header.ensures.accepted c.args.slot c.requires in
+    let long = ap (λ s. length (g.M.ByteStore.bytes s)) c.self.view_is in
+    omega (arith, entry, long, c.self.invariant.1)
+
 -- the bytes with the entry and the tag are accepted
 accepted : (g : Over) (c : goal.After-write_tag g) → IsAccepted (format_of g.C.EncodedKey.ByteArray.LEN g.C.EncodedValue.ByteArray.LEN g.C.H.HashFn.hash) (g.M.ByteStore.bytes c.write_tag.new.store)
 accepted g c =

@@ -108,3 +108,26 @@ loop-offset-preserved g c =
 pub returns-in_default-clause-stop : goal.returns-in_default-clause-stop
 returns-in_default-clause-stop g c =
     inr (refused_full (coding g).format _ _ _ _ _ g.C.EncodedValue.ByteArray.of_bytes c.insert_expected-answer.result c.in_default.field-0 c.in_default.is c.insert_expected-answer.ensures.any.frame)
+
+pub returns-in_default-clause-run : goal.returns-in_default-clause-run
+returns-in_default-clause-run g c =
+    let refused = c.in_default.ensures.any in
+    rw (refused.refused_entries, refused.refused_control) c.loop-offset.invariant.run
+
+pub returns-in_default-clause-placed : goal.returns-in_default-clause-placed
+returns-in_default-clause-placed g c P parts =
+    let refused = c.in_default.ensures.any in
+    rw (refused.refused_entries, refused.refused_control) (c.loop-offset.invariant.placed P parts)
+
+-- the loop ends at the last index
+pub returns-clause-run : goal.returns-clause-run
+returns-clause-run g c =
+    let end : c.loop-offset.offset ≡ 8 = omega arith in
+    let items = g.I.Items.items c.args.items.now in
+    subst (λ n. IsPartsRun (coding g) c.args.entries.now c.args.control.now (slice_range items c.args.from (c.args.from + n)) c.loop-offset.added c.loop-offset.entries c.loop-offset.control) end c.loop-offset.invariant.run
+
+pub returns-clause-placed : goal.returns-clause-placed
+returns-clause-placed g c P parts =
+    let end : c.loop-offset.offset ≡ 8 = omega arith in
+    let items = g.I.Items.items c.args.items.now in
+    subst (λ n. ArePartsOfRun (coding g).format P (encoded_all (coding g) (slice_range items c.args.from (c.args.from + n))) c.loop-offset.added c.loop-offset.entries c.loop-offset.control) end (c.loop-offset.invariant.placed P parts)

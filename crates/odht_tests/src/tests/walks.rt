@@ -1,0 +1,45 @@
+//! Walks as a caller counts and collects them.
+ghost use Rattle.std.specs.Prelude.{◌≡◌, IfOk};
+ghost use Rattle.odht_base.specs.Table.{Table, walk, count};
+ghost use Rattle.odht_base.specs.Valid.{IsImage};
+ghost use Rattle.odht_raw.specs.Walks.{decoded_all};
+
+use crate::tests::checks::{same_answer, same_len, same_pairs};
+use odht::config::Coded;
+use odht::configs::U32ToU32;
+use odht::error::Error;
+use odht::{Config, HashTableOwned};
+use std::alloc::{AllocError, Global};
+
+// How many pairs a walk of the table gives.
+fn counted<C: Config>(table: &HashTableOwned<C>) -> usize
+    ensures { (P : Table) → IsImage ⟦<C as Coded>⟧.coding.format P table.now → result ≡ count P }
+{
+    table.iter().count()
+}
+
+// The pairs that a walk of the table gives.
+fn collected<C: Config>(
+    alloc: Global,
+    table: &HashTableOwned<C>,
+) -> Result<Vec<(C::Key, C::Value)>, AllocError>
+    ensures { let c = ⟦<C as Coded>⟧.coding
+        in (P : Table)
+        → IsImage c.format P table.now
+        → IfOk result (λ pairs. pairs.items ≡ decoded_all c (walk P)) }
+{
+    table.iter().collect(alloc)
+}
+
+// The keys 1 and 3 have the slots 5 and 15.
+#[test]
+fn pairs_in_slot_order(rt: HostRuntime) -> Result<(), Error> {
+    let mut table: HashTableOwned<U32ToU32> = HashTableOwned::default(rt.alloc())?;
+    same_len(&rt, "pairs that come", counted(&table), 0);
+    same_answer(&rt, 3, table.insert(&3, &4), Ok(None));
+    same_answer(&rt, 1, table.insert(&1, &2), Ok(None));
+    same_len(&rt, "pairs that come", counted(&table), 2);
+    let found = collected(rt.alloc(), &table)?;
+    same_pairs(&rt, found.as_slice(), &[(1, 2), (3, 4)]);
+    Ok(())
+}
