@@ -1,8 +1,10 @@
-use Rattle.std.proofs.Common.{◌≡◌, ◌∙◌, ℕ, List, sym, ap, Some, slice_get}
+use Rattle.std.proofs.Common.{◌≡◌, ◌∙◌, ℕ, List, sym, ap, Some, slice_get, arith}
 use Rattle.std.specs.Prelude.{option_map}
 use Rattle.std.proofs.lemmas.Option.{slice_get-get_or}
+use Rattle.odht_base.specs.Format.{format_of}
 use Rattle.odht_base.specs.Map.{map_of}
 use Rattle.odht_base.proofs.lemmas.Options.{some_same}
+use Rattle.odht_raw.specs.FirstLooks.{first_look_of}
 use Rattle.odht.proofs.lemmas.Lookups.{option_map-twice}
 use Rattle.odht.proofs.lookups.find_at.Given.{Over}
 use Rattle.odht.proofs.lookups.find_at.Goals.{After-encode_key-key}
@@ -39,3 +41,16 @@ returns-in-None g c k at =
           ∙ option_map-twice g.C.EncodedValue.ByteArray.of_bytes g.C.Config.decode_value (map_of P bytes);
       on_any = tt;
     }
+
+pub bounds-keys-index : goal.bounds-keys-index
+bounds-keys-index g c = c.requires.index
+
+pub offset_bounds-keys-index : goal.offset_bounds-keys-index
+offset_bounds-keys-index g c = omega (arith, c.requires.index)
+
+pub find_from-requires-after_bounds : goal.find_from-requires-after_bounds
+find_from-requires-after_bounds g c κs within =
+    let F = format_of g.C.EncodedKey.ByteArray.LEN g.C.EncodedValue.ByteArray.LEN g.C.H.HashFn.hash in
+    let at = slice_get-get_or c.args.keys.now c.args.index c.index-keys-index.result c.requires.index ∙ ap Some (sym c.index-keys-index.is) in
+    c.requires.look _ at
+    ∙ ap (λ k. first_look_of F c.args.raw.now (g.C.EncodedKey.ByteArray.bytes k)) (sym c.encode_key-key.ensures)

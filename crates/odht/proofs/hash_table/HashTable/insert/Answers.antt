@@ -1,4 +1,5 @@
 use Rattle.std.proofs.Common.{◌≡◌, ◌+◌, ◌<◌, ◌∙◌, ℕ, List, sym, ap, subst, refl}
+use Rattle.std.proofs.lemmas.Result.{IfErr-at_err}
 use Rattle.odht_base.specs.Load.{IsSlotCount}
 use Rattle.odht_base.specs.Map.{map_of}
 use Rattle.odht_base.specs.Table.{Pair, Table}
@@ -104,7 +105,7 @@ returns-in-Found-clause-full g c P is =
     let parts = scanned g P _ _ _ c.new-scan.ensures (c.data_slices-entries.ensures.parts P read) in
     let end = answer-Found (coding g).format P _ is.valid.placed _ (c.in-Found.ensures.on_placed P parts) in
     let same = ap (map_of P) (read_key g _ _ c.encode_key-key.ensures) in
-    (λ e. cc, λ full. absurd (found_not_full (coding g).format P _ _ end (full.0, same ∙ full.1)))
+    (λ e. absurd (IfErr-at_err (λ _. ⊥) e tt), λ full. absurd (found_not_full (coding g).format P _ _ end (full.0, same ∙ full.1)))
 
 pub returns-else-count-max-clause-ok : goal.returns-else-count-max-clause-ok
 returns-else-count-max-clause-ok g c P is =
@@ -125,7 +126,7 @@ pub returns-else-count-max-clause-full : goal.returns-else-count-max-clause-full
 returns-else-count-max-clause-full g c P is =
     let header = (goal.at.returns-else-count-max-clause-full g c).After-max_item_count_for-max in
     let room = has_room g header P is c.if-count-max.false in
-    (λ e. cc, λ full. absurd (room_not_full P _ room full))
+    (λ e. absurd (IfErr-at_err (λ _. ⊥) e tt), λ full. absurd (room_not_full P _ room full))
 
 pub returns-in-Neither-clause-full : goal.returns-in-Neither-clause-full
 returns-in-Neither-clause-full g c P is =

@@ -1,9 +1,15 @@
-use Rattle.std.proofs.Common.{◌∙◌}
+use Rattle.std.proofs.Common.{◌≡◌, ◌∙◌, ℕ, List, refl}
+use Rattle.std.proofs.lemmas.Result.{on_err_weaker}
 use Rattle.odht_base.specs.Format.{Format, format_of}
-use Rattle.odht_base.specs.Table.{Pair}
+use Rattle.odht_base.specs.Table.{Pair, Table}
 use Rattle.odht_base.specs.Valid.{IsImage}
 use Rattle.odht_base.proofs.lemmas.TableInserts.{insert_owned-view}
+use Rattle.odht.proofs.hash_table_owned.HashTableOwned.insert.Given.{Over}
 use Rattle.odht.proofs.hash_table_owned.HashTableOwned.insert.Goals as goal
+
+-- the format of the configuration
+abbrev format : Over → Format
+format g = format_of g.C.EncodedKey.ByteArray.LEN g.C.EncodedValue.ByteArray.LEN g.C.H.HashFn.hash
 
 pub returns-in-Ok-clause-ok : goal.returns-in-Ok-clause-ok
 returns-in-Ok-clause-ok g c P is =
@@ -18,3 +24,38 @@ returns-in-Ok-clause-ok g c P is =
       image = insert.image;
       maps = insert.maps;
     }
+
+-- the bytes that were not changed are those of the table
+here : (g : Over) (P : Table) (B C D : List ℕ) → B ≡ C → C ≡ D → IsImage (format g) P D → IsImage (format g) P B
+here g P B C D same view is = record { valid = is.valid; bytes = same ∙ view ∙ is.bytes }
+
+pub invariant_of-self : goal.invariant_of-self
+invariant_of-self g c =
+    let insert = c.in-Ok.ensures.ok c.self.invariant.0 c.self.invariant.1 in
+    (insert.table, insert.image)
+
+pub invariant_of-self-in-Err : goal.invariant_of-self-in-Err
+invariant_of-self-in-Err g c =
+    (c.self.invariant.0, here g _ _ _ _ c.in-Err.ensures.refused refl c.self.invariant.1)
+
+pub invariant_of-self-in-Err-Full : goal.invariant_of-self-in-Err-Full
+invariant_of-self-in-Err-Full g c =
+    (c.self.invariant.0, here g _ _ _ _ c.in-Err-Full.ensures.refused refl c.self.invariant.1)
+
+pub returns-in-Err-Full-clause-ok : goal.returns-in-Err-Full-clause-ok
+returns-in-Err-Full-clause-ok g c P is =
+    c.insert_grown.ensures.ok P (here g _ _ _ _ c.in-Err-Full.ensures.refused c.self.view_is is)
+    ((c.in-Err-Full.ensures.full P (here g _ _ _ _ refl c.self.view_is is)).0 c.in-Err-Full.ensures.only_full)
+
+pub returns-in-Err-Full-clause-at_maximum : goal.returns-in-Err-Full-clause-at_maximum
+returns-in-Err-Full-clause-at_maximum g c P is =
+    let full = (c.in-Err-Full.ensures.full P (here g _ _ _ _ refl c.self.view_is is)).0 c.in-Err-Full.ensures.only_full in
+    on_err_weaker c.insert_grown.result (λ _. full) c.insert_grown.ensures.memory
+
+pub returns-in-Err-Full-clause-memory : goal.returns-in-Err-Full-clause-memory
+returns-in-Err-Full-clause-memory g c = c.insert_grown.ensures.memory
+
+pub returns-in-Err-Full-clause-refused : goal.returns-in-Err-Full-clause-refused
+returns-in-Err-Full-clause-refused g c =
+    on_err_weaker c.insert_grown.result (λ e. e ∙ c.in-Err-Full.ensures.refused ∙ c.self.view_is)
+    c.insert_grown.ensures.refused

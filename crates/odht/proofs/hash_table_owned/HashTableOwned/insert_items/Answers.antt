@@ -1,4 +1,5 @@
-use Rattle.std.proofs.Common.{◌<◌, ◌∙◌, sym, subst, take, length, List, arith}
+use Rattle.std.proofs.Common.{◌<◌, ◌∙◌, sym, subst, refl, take, length, List, arith}
+use Rattle.std.proofs.lemmas.Bool.{false≢true}
 use Rattle.std.specs.List.{slice_range}
 use Rattle.odht_base.specs.Insert.{insert_owned}
 use Rattle.odht_base.specs.Table.{Pair, Table}
@@ -99,3 +100,32 @@ rounds-preserved g c =
           subst (λ (ps : List Pair). IsAfterInserts K.format insert P ps c.insert.new.self) (sym (encoded_all-more K items n item low at))
           (inserted_more K.format insert (insert_owned-IsInsert K.format) (insert_owned-PlacesBelow K.format) P (encoded_all K (take n items)) _ _ c.insert.new.self h done.table done.inserted done.image));
     }
+
+pub insert_below_maximum-accepted-requires-after_bounds :
+    goal.insert_below_maximum-accepted-requires-after_bounds
+insert_below_maximum-accepted-requires-after_bounds g c κs within = c.rounds.invariant.within
+
+pub invariant_of-self : goal.invariant_of-self
+invariant_of-self g c =
+    let below = c.insert_below_maximum-accepted.ensures.placed c.self.invariant.0 c.self.invariant.1 in
+    (below.table, below.image)
+
+pub invariant_of-self-in-rounds : goal.invariant_of-self-in-rounds
+invariant_of-self-in-rounds g c =
+    let below = c.insert_below_maximum-accepted.ensures.placed c.self.invariant.0 c.self.invariant.1 in
+    (below.table, below.image)
+
+pub returns-then-accepted-count-clause-bound : goal.returns-then-accepted-count-clause-bound
+returns-then-accepted-count-clause-bound g c = c.insert_below_maximum-accepted.ensures.bound
+
+pub returns-then-accepted-count-clause-all : goal.returns-then-accepted-count-clause-all
+returns-then-accepted-count-clause-all g c =
+    let bound = c.insert_below_maximum-accepted.ensures.bound in
+    (λ _. omega (arith, bound, c.if-accepted-count.true, c.count.ensures), λ _. refl)
+
+pub returns-in-Err-clause-bound : goal.returns-in-Err-clause-bound
+returns-in-Err-clause-bound g c = c.insert_below_maximum-accepted.ensures.bound
+
+pub returns-in-Err-clause-all : goal.returns-in-Err-clause-all
+returns-in-Err-clause-all g c =
+    (λ e. absurd (false≢true e), λ e. absurd (omega (arith, e, c.if-accepted-count.false, c.count.ensures)))
