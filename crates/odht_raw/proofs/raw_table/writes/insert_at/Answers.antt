@@ -1,6 +1,7 @@
-use Rattle.std.proofs.Common.{rules, arith, ℕ, List, ◌≡◌, ◌≤◌, ◌<◌, ◌+◌, ◌*◌, ◌-◌, length, subst, ◌∙◌, sym, ap, Some, None, Ok, Err, refl}
+use Rattle.std.proofs.Common.{rules, arith, ℕ, List, ◌≡◌, ◌≤◌, ◌<◌, ◌+◌, ◌*◌, ◌-◌, length, subst, ◌∙◌, sym, ap, Option, Some, None, Ok, Err, refl}
 use Rattle.std.specs.Prelude.{option_map}
 use Rattle.std.proofs.lemmas.Option.{none-some}
+use Rattle.odht_base.specs.Bytes.{overwritten_at}
 use Rattle.odht_base.specs.Format.{Format, format_of, entry_len}
 use Rattle.odht_base.specs.Table.{Pair}
 use Rattle.odht_base.specs.Valid.{IsPartsOf, IsPairOf}
@@ -16,6 +17,10 @@ use Rattle.odht_raw.specs.declared.raw_table.search_result.SearchResult.TheVaria
 use Rattle.odht_raw.proofs.lemmas.Lookups.{answer-Found, answer-Free, answer-Neither}
 use Rattle.odht_raw.proofs.lemmas.Inserts.{found_value, found_key, found_parts, free_parts}
 use Rattle.odht_raw.proofs.raw_table.writes.insert_at.Goals as goal
+
+-- an Ok is not an error
+not_full : {V : Type 0} (o : Option V) → Ok o ≡ Err Full → ⊥
+not_full o e = cc
 
 -- a slot's entry lies within the bytes of the entries
 within : (F : Format) (es ctrl : List ℕ) (i : ℕ) → length es ≡ (length ctrl - 16) * entry_len F → i < length ctrl - 16
@@ -69,14 +74,16 @@ returns-in-Found-clause-placed g c P h e =
     let old = rw c.new-stored.ensures at c.get-old.ensures.value in
     let at = answer-Found F P p.key h.placed c.in-Found.slot (sym c.in-Found.is ∙ e) in
     let fits : IsPairOf F p = record { key = found_key F P _ _ h p.key _ at; value = c.as_slice.ensures.bytes } in
+    let bytes : c.write_at.new.self.0.now ≡ overwritten_at c.args.entries.now (c.in-Found.slot * entry_len F + F.key_len) p.value =
+    c.write_at.ensures.bytes ∙ (λ i. overwritten_at (c.new-store.ensures.bytes i) (c.in-Found.slot * (c.LEN.ensures i + c.LEN-in-Found.ensures i) + c.LEN-in-Found-2.ensures i) (c.as_slice.ensures.value i)) in
     let parts : IsPartsOf F (written P c.in-Found.slot p) c.write_at.new.self.0.now c.args.control.now =
-    rw (c.write_at.ensures.bytes, c.new-store.ensures.bytes, c.LEN.ensures, c.LEN-in-Found.ensures, c.LEN-in-Found-2.ensures, c.as_slice.ensures.value) (found_parts F P _ _ h p.key c.in-Found.slot p refl fits at) in
+    subst (λ (es : List ℕ). IsPartsOf F (written P c.in-Found.slot p) es c.args.control.now) (sym bytes) (found_parts F P _ _ h p.key c.in-Found.slot p refl fits at) in
     let some = at.places p refl in
     let former = ap Some (old ∙ ap g.V.ByteArray.of_bytes (found_value F P _ _ h p.key c.in-Found.slot at)) ∙ sym (ap (option_map g.V.ByteArray.of_bytes) at.value) in
     record {
-      ok = (former, (written P c.in-Found.slot p, some, search (rules, parts)));
-      full = (λ d. cc, λ d. absurd (none-some _ (sym d ∙ some)));
-      no_room = (λ d. cc, λ n. absurd (none-some _ (sym ((place-None F P p h.placed).1 n) ∙ some)));
+      ok = (former, (written P c.in-Found.slot p, some, subst (λ (es : List ℕ). IsPartsOf F (written P c.in-Found.slot p) es c.args.control.now) (search rules) parts));
+      full = (λ d. absurd (not_full _ d), λ d. absurd (none-some _ (sym d ∙ some)));
+      no_room = (λ d. absurd (not_full _ d), λ n. absurd (none-some _ (sym ((place-None F P p h.placed).1 n) ∙ some)));
     }
 
 pub returns-in-Free-clause-placed : goal.returns-in-Free-clause-placed
@@ -90,9 +97,9 @@ returns-in-Free-clause-placed g c P h e =
     let some = at.places p refl in
     let former = sym (ap (option_map g.V.ByteArray.of_bytes) at.value) in
     record {
-      ok = (former, (written P c.in-Free.slot p, some, search (rules, parts)));
-      full = (λ d. cc, λ d. absurd (none-some _ (sym d ∙ some)));
-      no_room = (λ d. cc, λ n. absurd (none-some _ (sym ((place-None F P p h.placed).1 n) ∙ some)));
+      ok = (former, (written P c.in-Free.slot p, some, parts));
+      full = (λ d. absurd (not_full _ d), λ d. absurd (none-some _ (sym d ∙ some)));
+      no_room = (λ d. absurd (not_full _ d), λ n. absurd (none-some _ (sym ((place-None F P p h.placed).1 n) ∙ some)));
     }
 
 pub returns-in-Neither-clause-placed : goal.returns-in-Neither-clause-placed
@@ -113,10 +120,12 @@ returns-in-Found-clause-any g c =
     let decoded_table : EntryBytes = record { slots = length ctrl - 16; bytes = es } in
     let known = subst (IsEnd F decoded_table ctrl p.key) c.in-Found.is c.requires.end in
     let old = rw c.new-stored.ensures at c.get-old.ensures.value in
+    let bytes : c.write_at.new.self.0.now ≡ overwritten_at es (slot * entry_len F + F.key_len) p.value =
+    c.write_at.ensures.bytes ∙ (λ i. overwritten_at (c.new-store.ensures.bytes i) (slot * (c.LEN.ensures i + c.LEN-in-Found.ensures i) + c.LEN-in-Found-2.ensures i) (c.as_slice.ensures.value i)) in
     let framed : PartsFrame F es ctrl p (Ok (Some (slot_value F es slot))) c.write_at.new.self.0.now ctrl =
-    rw (c.write_at.ensures.bytes, c.new-store.ensures.bytes, c.LEN.ensures, c.LEN-in-Found.ensures, c.LEN-in-Found-2.ensures, c.as_slice.ensures.value) (PartsFrame.overwrote slot known.0 known.1) in
+    subst (λ (new : List ℕ). PartsFrame F es ctrl p (Ok (Some (slot_value F es slot))) new ctrl) (sym bytes) (PartsFrame.overwrote slot known.0 known.1) in
     record {
-      frame = (Ok (Some (slot_value F es slot)), ap (λ o. Ok (Some o)) old, search (rules, framed));
+      frame = (Ok (Some (slot_value F es slot)), ap (λ o. Ok (Some o)) old, subst (λ (new : List ℕ). PartsFrame F es ctrl p (Ok (Some (slot_value F es slot))) new ctrl) (search rules) framed);
       only_full = tt;
       refused_control = tt;
       refused_entries = tt;
@@ -133,7 +142,7 @@ returns-in-Free-clause-any g c =
     let known = subst (IsEnd F decoded_table ctrl p.key) c.in-Free.is c.requires.end in
     let framed : PartsFrame F es ctrl p (Ok None) c.write_entry.new.entries c.write_entry.new.control =
     rw (c.write_entry.ensures.control, c.write_entry.ensures.entries) (PartsFrame.added slot known.0 known.1) in
-    record { frame = (Ok None, refl, search (rules, framed)); only_full = tt; refused_control = tt; refused_entries = tt }
+    record { frame = (Ok None, refl, framed); only_full = tt; refused_control = tt; refused_entries = tt }
 
 pub returns-in-Neither-clause-any : goal.returns-in-Neither-clause-any
 returns-in-Neither-clause-any g c =

@@ -90,6 +90,7 @@ returns-in_default-clause-stop g c =
     let full = refused_full (coding g).format _ _ _ _ _ g.C.EncodedValue.ByteArray.of_bytes c.insert.result c.in_default.field-0 c.in_default.is c.insert.ensures.frame in
     inr (subst (λ (x : List ℕ). HasNoFreeSlot x (length x - 16)) (search rules) full)
 
+-- the invariant, where the slices hold what the table left in them
 pub returns-in_default-clause-placed : goal.returns-in_default-clause-placed
 returns-in_default-clause-placed g c = search rules
 

@@ -16,6 +16,7 @@ use Rattle.odht_raw.proofs.raw_table.walk.RawSlotsIterator.next.Goals as goal
 in_control : (i slots n : ℕ) → i < slots → n ≡ slots + 16 → i < n
 in_control i slots n below long = omega arith
 
+-- and its index fits a `usize`
 in_word : (i n m : ℕ) → i < n → n ≡ m → m < 2 ^ 64 → Fits w64 i
 in_word i n m below same word = omega arith
 
