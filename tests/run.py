@@ -130,6 +130,7 @@ PARTS = {
 
 def built(name):
     """Builds what a part needs. Returns whether it is there."""
+    say(f"build {name}: begins")
     began = time.monotonic()
     try:
         is_new = unproved.build(BUILT, name)
