@@ -2,7 +2,7 @@
 """The wrong bodies that the prover must refuse: those of the gate, crates/NAME/must-fail/, and those of edits/NAME/.
 
   tools/edits.py check       that each `old:` text stands once in its file; in a second
-  tools/edits.py run [NAME..]   has the prover try each edit, of all crates or of these, on a copy; some 50 minutes
+  tools/edits.py run [NAME..]   has the prover try each edit, of all crates or of these, on a copy
 """
 import os
 import re
@@ -14,6 +14,8 @@ import time
 from concurrent.futures import ThreadPoolExecutor
 
 TOP = os.path.dirname(os.path.dirname(os.path.realpath(__file__)))
+# edits that are tried one after the other, over one proof of their crate
+BATCH = 20
 
 
 def folders_of(crate):
@@ -72,43 +74,71 @@ def check():
 
 
 def copied(room):
-    """Copies what is committed or about to be, with all edits where the prover looks for them."""
+    """Copies what is committed or about to be, without edits, and the libraries that were proved already."""
     listed = ["git", "ls-files", "-z", "--cached", "--others", "--exclude-standard"]
     files = subprocess.run(listed, cwd=TOP, stdout=subprocess.PIPE, check=True, text=True).stdout
     for file in filter(None, files.split("\0")):
-        if os.path.isfile(f"{TOP}/{file}") and not os.path.islink(f"{TOP}/{file}"):
+        if os.path.isfile(f"{TOP}/{file}") and not os.path.islink(f"{TOP}/{file}") and not file.endswith(".edit"):
             os.makedirs(os.path.dirname(f"{room}/{file}") or room, exist_ok=True)
             shutil.copy(f"{TOP}/{file}", f"{room}/{file}")
     for crate in crates():
-        os.makedirs(f"{room}/crates/{crate}/must-fail", exist_ok=True)
-        for edit in edits_of(crate):
-            shutil.copy(edit, f"{room}/crates/{crate}/must-fail")
+        # rt looks whether it is of these sources, and proves it anew where it is not
+        if os.path.isdir(f"{TOP}/crates/{crate}/out/rlib"):
+            shutil.copytree(f"{TOP}/crates/{crate}/out/rlib", f"{room}/crates/{crate}/out/rlib")
 
 
-def tried(crate, room):
-    """Has the prover try the edits of a crate, and returns how many were refused, and how many not."""
-    began = time.monotonic()
-    ran = subprocess.run(["rt", "must-fail", crate], cwd=room, stdout=subprocess.PIPE, stderr=subprocess.STDOUT, text=True)
+def libraries_below(chosen, room):
+    """Proves the libraries that crates with edits use, once, so that no two batches prove them side by side."""
+    with open(f"{TOP}/crates.txt", encoding="utf-8") as lines:
+        uses = dict(it.partition("#")[0].partition(":")[::2] for it in lines if ":" in it.partition("#")[0])
+    below = {it for name, words in uses.items() if name.split()[0] in chosen for it in words.split()}
+    for crate in (it for it in crates() if it in below):
+        began = time.monotonic()
+        subprocess.run(["rt", "lib"], cwd=f"{room}/crates/{crate}", stdout=subprocess.DEVNULL, check=True)
+        print(f"{crate}: proved, as a library below; {time.monotonic() - began:.0f} s", flush=True)
+
+
+def tried(crate, edits, at, room):
+    """Has the prover try some edits of a crate, and returns how many were refused, and how many not."""
+    began, copy = time.monotonic(), f"{room}-{crate}-{at}"
+    shutil.copytree(room, copy, copy_function=os.link)
+    os.makedirs(f"{copy}/crates/{crate}/must-fail")
+    for edit in edits:
+        shutil.copy(edit, f"{copy}/crates/{crate}/must-fail")
+    how = {"stdout": subprocess.PIPE, "stderr": subprocess.STDOUT, "text": True}
+    ran = subprocess.run(["rt", "must-fail", crate], cwd=copy, **how)
+    shutil.rmtree(copy)
     refused = len(re.findall(r"^(?:rt: )?must-fail .*: refused", ran.stdout, re.M))
-    failed = len(edits_of(crate)) - refused
+    failed = len(edits) - refused
     if failed or ran.returncode:
         print(ran.stdout)
     print(f"{crate}: {refused} refused, {failed} not; {time.monotonic() - began:.0f} s", flush=True)
     return refused, max(failed, 1 if ran.returncode else 0)
 
 
+def batches_of(crate):
+    """Returns the edits of a crate in lists of at most BATCH, since those of a list are tried one after the other."""
+    edits = edits_of(crate)
+    number = -(-len(edits) // BATCH)
+    return [edits[at::number] for at in range(number)]
+
+
 def run(names):
+    unknown = [it for it in names if it not in crates()]
+    if unknown:
+        sys.exit(f"crates.txt names no {unknown[0]}")
+    chosen = [it for it in crates() if edits_of(it) and (not names or it in names)]
+    began = time.monotonic()
     with tempfile.TemporaryDirectory(prefix="odht-edits-") as room:
-        copied(room)
-        # the libraries first, once, so that no two crates prove them side by side
-        below = [it for it in crates() if os.path.isfile(f"{room}/crates/{it}/src/lib.rt")]
-        with_edits = [it for it in crates() if edits_of(it) and (not names or it in names)]
-        last = max((crates().index(it) for it in with_edits), default=0)
-        for crate in (it for it in below if crates().index(it) < last):
-            print(f"{crate}: is proved first", flush=True)
-            subprocess.run(["rt", "check"], cwd=f"{room}/crates/{crate}", stdout=subprocess.DEVNULL, check=True)
+        tree = f"{room}/tree"
+        copied(tree)
+        libraries_below(chosen, tree)
+        batches = [(it, edits, at) for it in chosen for at, edits in enumerate(batches_of(it))]
+        # the longest first
+        batches.sort(key=lambda it: -len(it[1]))
         with ThreadPoolExecutor(len(os.sched_getaffinity(0))) as pool:
-            counts = [*pool.map(lambda it: tried(it, room), with_edits)]
+            counts = [*pool.map(lambda it: tried(*it, tree), batches)]
+    print(f"{(time.monotonic() - began) / 60:.1f} minutes")
     print(f"{sum(it[0] for it in counts)} passed, {sum(it[1] for it in counts)} failed")
     return 1 if any(it[1] for it in counts) else 0
 
