@@ -1,5 +1,6 @@
 -- The errors of a new table, case by case.
 use Rattle.std.proofs.Common.{◌≡◌, ◌≢◌, ◌≤◌, ◌<◌, ◌^◌, ◌∙◌, ℕ, Bool, true, false, not, nat_le, ap, refl, [], ◌∷◌, Option, Some, None, Result, Ok, Err, OnErr, ◌⊎◌, inl, inr, arith, leb-true, le-leb, ne_eqb}
+use Rattle.std.proofs.lemmas.Result.{IfErr-at_err}
 use Rattle.odht_base.specs.Format.{Format}
 use Rattle.odht_base.specs.Load.{slots_for, factor_of}
 use Rattle.odht_base.specs.Image.{image_len}
@@ -67,3 +68,30 @@ pub only_memory : {T : Type 0} (r : Result T Error) → OnErr r ((r ≡ Err Capa
 only_memory (Ok t) either fits = tt
 only_memory (Err e) (inl large) fits = absurd (fits large)
 only_memory (Err e) (inr refused) fits = refused
+
+-- ---- an error that is passed on
+-- a result is one error
+pub not_both : {T : Type 0} (r : Result T Error) → r ≡ Err Capacity → r ≡ Err Memory → ⊥
+not_both r a b = cc
+
+-- a result is not both a value and an error
+pub not_ok : {T : Type 0} {t : T} {e : Error} (r : Result T Error) → r ≡ Ok t → r ≡ Err e → ⊥
+not_ok r a b = cc
+
+-- the same error in a result of another type
+pub passed_on : {T U : Type 0} (r : Result T Error) (s : Result U Error) {x y z : Error} → r ≡ Err x → x ≡ y → s ≡ Err y → s ≡ Err z → r ≡ Err z
+passed_on r s a same b c = cc
+
+-- what holds holds of an error too
+pub on_err : {T X : Type 0} (r : Result T Error) → X → OnErr r X
+on_err (Ok t) x = tt
+on_err (Err e) x = x
+
+-- the one of the two errors that is passed on
+pub either : {T U : Type 0} (r : Result T Error) {s : Result U Error} {y : Error} → r ≡ Err y → s ≡ Err y
+    → OnErr s ((s ≡ Err Capacity) ⊎ (s ≡ Err Memory)) → OnErr r ((r ≡ Err Capacity) ⊎ (r ≡ Err Memory))
+either r {s = s} {y = y} a b h = on_err r (go (IfErr-at_err (λ _. (s ≡ Err Capacity) ⊎ (s ≡ Err Memory)) b h))
+  where
+    go : (s ≡ Err Capacity) ⊎ (s ≡ Err Memory) → (r ≡ Err Capacity) ⊎ (r ≡ Err Memory)
+    go (inl large) = inl (passed_on r s a refl b large)
+    go (inr memory) = inr (passed_on r s a refl b memory)

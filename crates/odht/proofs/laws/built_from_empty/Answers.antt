@@ -1,7 +1,9 @@
-use Rattle.std.proofs.Common.{subst}
+use Rattle.std.proofs.Common.{◌∙◌, sym, ap, subst, refl, Err, inr}
+use Rattle.std.proofs.lemmas.Result.{IfOk-from_err, IfErr-at_err, err_from_is_err_and}
 use Rattle.std.specs.Prelude.{OnOk}
 use Rattle.odht_header.specs.Coding.{coding_of}
 use Rattle.odht.specs.LastValues.{HasLastValues}
+use Rattle.odht.proofs.lemmas.NewRefusals.{not_both, not_ok, passed_on, either, on_err}
 use Rattle.odht.proofs.laws.built_from_empty.Goals as goal
 
 pub last_value-requires-after_bounds : goal.last_value-requires-after_bounds
@@ -9,3 +11,54 @@ last_value-requires-after_bounds g c κs within =
     let K = coding_of g.C.EncodedKey.ByteArray.LEN g.C.EncodedKey.ByteArray.bytes g.C.EncodedKey.ByteArray.of_bytes g.C.EncodedValue.ByteArray.LEN g.C.EncodedValue.ByteArray.bytes g.C.EncodedValue.ByteArray.of_bytes g.C.H.HashFn.hash g.C.Config.encode_key g.C.Config.encode_value g.C.Config.decode_key g.C.Config.decode_value in
     subst (λ r. OnOk r (HasLastValues K c.args.items.now c.insert_all.new.self)) c.in_ok-insert_all.was
     (c.insert_all.ensures.last_values _ c.args.max_load_factor_percent c.in_ok-table.ensures.ok)
+
+pub with_capacity-requires-clause-low : goal.with_capacity-requires-clause-low
+with_capacity-requires-clause-low g c κs within = c.requires.low
+
+pub with_capacity-requires-clause-high : goal.with_capacity-requires-clause-high
+with_capacity-requires-clause-high g c κs within = c.requires.high
+
+pub returns-in_err-table-clause-ok : goal.returns-in_err-table-clause-ok
+returns-in_err-table-clause-ok g c = IfOk-from_err c.from_residual.result _ c.from_residual.ensures.0
+
+pub returns-in_err-table-clause-capacity : goal.returns-in_err-table-clause-capacity
+returns-in_err-table-clause-capacity g c =
+    let r = c.from_residual.result in
+    let made = c.with_capacity.result in
+    let h = err_from_is_err_and r c.from_residual.ensures.1 in
+    let was = c.in_err-table.was in (
+      λ e. c.with_capacity.ensures.capacity.0 (passed_on made r was (sym h.2) h.1 e),
+      λ large. passed_on r made h.1 h.2 was (c.with_capacity.ensures.capacity.1 large),
+    )
+
+pub returns-in_err-table-clause-memory : goal.returns-in_err-table-clause-memory
+returns-in_err-table-clause-memory g c =
+    let h = err_from_is_err_and c.from_residual.result c.from_residual.ensures.1 in
+    either c.from_residual.result (h.1 ∙ ap Err h.2) c.in_err-table.was c.with_capacity.ensures.memory
+
+pub returns-in_err-insert_all-clause-ok : goal.returns-in_err-insert_all-clause-ok
+returns-in_err-insert_all-clause-ok g c =
+    IfOk-from_err c.from_residual-in_err-insert_all.result _ c.from_residual-in_err-insert_all.ensures.0
+
+pub returns-in_err-insert_all-clause-capacity : goal.returns-in_err-insert_all-clause-capacity
+returns-in_err-insert_all-clause-capacity g c =
+    let r = c.from_residual-in_err-insert_all.result in
+    let h = err_from_is_err_and r c.from_residual-in_err-insert_all.ensures.1 in
+    let was = c.in_err-insert_all.was in
+    let memory = passed_on r c.insert_all.result.1 h.1 h.2 was (IfErr-at_err _ was c.insert_all.ensures.memory) in (
+      λ e. absurd (not_both r e memory),
+      λ large. absurd (not_ok c.with_capacity.result c.in_ok-table.was (c.with_capacity.ensures.capacity.1 large)),
+    )
+
+pub returns-in_err-insert_all-clause-memory : goal.returns-in_err-insert_all-clause-memory
+returns-in_err-insert_all-clause-memory g c =
+    let r = c.from_residual-in_err-insert_all.result in
+    let h = err_from_is_err_and r c.from_residual-in_err-insert_all.ensures.1 in
+    let was = c.in_err-insert_all.was in
+    on_err r (inr (passed_on r c.insert_all.result.1 h.1 h.2 was (IfErr-at_err _ was c.insert_all.ensures.memory)))
+
+pub returns-clause-capacity : goal.returns-clause-capacity
+returns-clause-capacity g c = (
+  λ e. absurd (not_ok _ refl e),
+  λ large. absurd (not_ok c.with_capacity.result c.in_ok-table.was (c.with_capacity.ensures.capacity.1 large)),
+)

@@ -1,4 +1,4 @@
-use Rattle.std.proofs.Common.{◌≡◌, ◌+◌, ◌<◌, ◌∙◌, ℕ, List, sym, ap, subst, refl}
+use Rattle.std.proofs.Common.{◌≡◌, ◌+◌, ◌<◌, ◌∙◌, ℕ, List, sym, ap, subst, refl, arith}
 use Rattle.std.proofs.lemmas.Result.{IfErr-at_err}
 use Rattle.odht_base.specs.Load.{IsSlotCount}
 use Rattle.odht_base.specs.Map.{map_of}
@@ -202,3 +202,36 @@ returns-else-count-max-clause-accepted g c = c.set_item_count.ensures.accepted
 pub returns-in-Neither-clause-accepted : goal.returns-in-Neither-clause-accepted
 returns-in-Neither-clause-accepted g c =
     subst (λ s. IsAccepted (coding g).format (g.D.ByteStore.bytes s)) c.self.view_is c.header-header.ensures.accepted
+
+pub overflow_add-count : goal.overflow_add-count
+overflow_add-count g c = omega (arith, c.if-count-max.false, c.max_item_count_for-max.type_inv)
+
+pub returns-in-Found-clause-only_full : goal.returns-in-Found-clause-only_full
+returns-in-Found-clause-only_full g c = tt
+
+pub returns-in-Found-clause-refused : goal.returns-in-Found-clause-refused
+returns-in-Found-clause-refused g c = tt
+
+pub returns-then-count-max-clause-ok : goal.returns-then-count-max-clause-ok
+returns-then-count-max-clause-ok g c P is = tt
+
+pub returns-then-count-max-clause-only_full : goal.returns-then-count-max-clause-only_full
+returns-then-count-max-clause-only_full g c = refl
+
+pub returns-then-count-max-clause-refused : goal.returns-then-count-max-clause-refused
+returns-then-count-max-clause-refused g c = refl
+
+pub returns-else-count-max-clause-only_full : goal.returns-else-count-max-clause-only_full
+returns-else-count-max-clause-only_full g c = tt
+
+pub returns-else-count-max-clause-refused : goal.returns-else-count-max-clause-refused
+returns-else-count-max-clause-refused g c = tt
+
+pub returns-in-Neither-clause-ok : goal.returns-in-Neither-clause-ok
+returns-in-Neither-clause-ok g c P is = tt
+
+pub returns-in-Neither-clause-only_full : goal.returns-in-Neither-clause-only_full
+returns-in-Neither-clause-only_full g c = refl
+
+pub returns-in-Neither-clause-refused : goal.returns-in-Neither-clause-refused
+returns-in-Neither-clause-refused g c = refl
