@@ -36,9 +36,10 @@ impl Report {
 
     // A line past the last place is left out, and so is missing from what is printed.
     fn add(&mut self, label: &'static str, found: Found) {
-        if let Some(line) = self.lines.get_mut(self.used) {
+        let at = self.used;
+        if let Some(line) = self.lines.get_mut(at) {
             *line = (label, found);
-            self.used = self.used.wrapping_add(1);
+            self.used = at.wrapping_add(1);
         }
     }
 
