@@ -94,7 +94,7 @@ def main(*words):
     edits = sum(known.values())
     lanes = len(os.sched_getaffinity(0))
     print(f"proving {len(known)} crates from nothing, and trying {edits} edits that must be refused;")
-    print(f"on four quiet processors that takes about half an hour, on two about an hour; here are {lanes}", flush=True)
+    print(f"on four processors expect more than half an hour; here are {lanes}", flush=True)
     began, proved = time.monotonic(), []
     with tempfile.TemporaryDirectory(prefix="odht-prove-") as room:
         how = {"cwd": os.getcwd(), "env": {**os.environ, "TMPDIR": room}, "text": True, "errors": "replace"}
