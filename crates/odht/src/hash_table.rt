@@ -25,7 +25,7 @@ use crate::iter::Iter;
 use crate::load::{Factor, max_item_count_for};
 use crate::lookups;
 use crate::memory_layout::{self, Allocation};
-use crate::raw_table::{RawIter, RawTable, Scan, SearchResult, search_hashed, tag_of};
+use crate::raw_table::{RawIter, RawTable, Scan, Search, search_hashed, tag_of};
 use crate::swisstable_group_query::GroupQuery;
 use std::marker::Model;
 
@@ -341,12 +341,12 @@ impl<C: Config, D: ByteStoreMut> HashTable<C, D> {
         match search_hashed::<C::EncodedKey, C::EncodedValue, C::H, GroupQuery>(
             &mut scan, &entries, &key, hash,
         ) {
-            SearchResult::Found(slot) => {
+            Search::Found(slot) => {
                 let old = entries.get(slot).value;
                 self.allocation.write_value(slot, &value);
                 Ok(Some(C::decode_value(&old)))
             }
-            SearchResult::Free(slot) => {
+            Search::Free(slot) => {
                 let count = header.item_count();
                 let max = max_item_count_for(header.slot_count(), header.max_load_factor());
                 if count >= max {
@@ -357,7 +357,7 @@ impl<C: Config, D: ByteStoreMut> HashTable<C, D> {
                 self.allocation.set_item_count(count + 1);
                 Ok(None)
             }
-            SearchResult::Neither => Err(Error::Full),
+            Search::Neither => Err(Error::Full),
         }
     }
 }

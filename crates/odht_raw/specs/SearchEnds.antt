@@ -13,23 +13,23 @@ use Rattle.odht_base.specs.Decoded.{slot_key, slot_value, counts_as_free}
 use Rattle.odht_raw.specs.SearchResults.{MatchSearchResult}
 use Rattle.odht_raw.specs.Frame.{CountsAsFree, HasNoFree, HasNoFreeSlot}
 use Rattle.odht_raw.specs.Parts.{EntryBytes}
-use Rattle.odht_raw.specs.declared.raw_table.search_result.SearchResult.{SearchResult}
+use Rattle.odht_raw.specs.declared.raw_table.search_result.Search.{Search}
 
 abbrev pub HoldsKeyAt : Format → EntryBytes → List ℕ → ℕ → Type 0
 HoldsKeyAt F E k i = (i < E.slots) × (slot_key F E.bytes i ≡ k)
 
-abbrev pub IsEnd : Format → EntryBytes → List ℕ → List ℕ → SearchResult → Type 0
+abbrev pub IsEnd : Format → EntryBytes → List ℕ → List ℕ → Search → Type 0
 IsEnd F E ctrl k r =
     MatchSearchResult r (HoldsKeyAt F E k) (λ i. (i < E.slots) × CountsAsFree ctrl i) (HasNoFreeSlot ctrl E.slots)
 
-abbrev pub IsPlainEnd : Format → EntryBytes → List ℕ → List ℕ → SearchResult → Type 0
+abbrev pub IsPlainEnd : Format → EntryBytes → List ℕ → List ℕ → Search → Type 0
 IsPlainEnd F E ctrl k r =
     MatchSearchResult r
     (HoldsKeyAt F E k)
     (λ i. (i < E.slots) × IsTrue (counts_as_free (slice_index ctrl i)))
     (HasNoFree ctrl E.slots)
 
-abbrev pub IsEndAmong : Format → EntryBytes → List ℕ → ℕ → ℕ → List ℕ → SearchResult → Type 0
+abbrev pub IsEndAmong : Format → EntryBytes → List ℕ → ℕ → ℕ → List ℕ → Search → Type 0
 IsEndAmong F E bs b n k r =
     MatchSearchResult r
     (HoldsKeyAt F E k)

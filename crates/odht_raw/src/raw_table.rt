@@ -46,7 +46,7 @@ pub use group_search::{search, search_hashed};
 pub use plain::{plain_find, plain_insert};
 pub use probe_seq::{ProbeSeq, probe_order};
 pub use scan::Scan;
-pub use search_result::SearchResult;
+pub use search_result::Search;
 pub use table_mut::RawTableMut;
 pub use walk::{RawIter, RawSlots};
 
@@ -148,9 +148,9 @@ impl<'a, K: ByteArray, V: ByteArray, H: HashFn> RawTable<'a, K, V, H> {
         let end = search::<K, V, H, GroupQuery>(&mut scan, &self.entries, key);
         let groups = scan.groups();
         match end {
-            SearchResult::Found(slot) => (Some(self.entries.get(slot).value), groups),
-            SearchResult::Free(_) => (None, groups),
-            SearchResult::Neither => (None, groups),
+            Search::Found(slot) => (Some(self.entries.get(slot).value), groups),
+            Search::Free(_) => (None, groups),
+            Search::Neither => (None, groups),
         }
     }
 

@@ -8,7 +8,7 @@ use Rattle.odht_base.proofs.examples.Configs.{direct_config}
 use Rattle.odht_raw.specs.Parts.{EntryBytes}
 use Rattle.odht_header.specs.Refusals.{lists_differ}
 use Rattle.odht_raw.specs.SearchEnds.{IsEnd, IsPlainEnd, IsEndAmong, IsBesideKey}
-use Rattle.odht_raw.specs.declared.raw_table.search_result.SearchResult.TheVariants.{Found, Free, Neither}
+use Rattle.odht_raw.specs.declared.raw_table.search_result.Search.TheVariants.{Found, Free, Neither}
 use Rattle.odht_header.proofs.examples.Apart.{unequal_lists, tested, untrue, neither}
 use Rattle.odht_raw.proofs.examples.FrameRefusals.{occupied_controls, slot_five_free, mirror_five_free, counted_as_free, neighbour_not_free, no_free_slots, one_free_slot_refused, none_free, one_free_refused}
 

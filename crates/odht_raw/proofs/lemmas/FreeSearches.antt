@@ -21,7 +21,7 @@ use Rattle.odht_raw.specs.SearchResults.{answer}
 use Rattle.odht_raw.specs.Frame.{CountsAsFree, CountsAsOccupied, HasNoFree, HasNoFreeSlot}
 use Rattle.odht_raw.specs.FreeSlots.{IsFirstFree, IsFirstFreeByte}
 use Rattle.odht_raw.specs.SearchSteps.{slot_of, Passed}
-use Rattle.odht_raw.specs.declared.raw_table.search_result.SearchResult.TheVariants.{Free, Neither}
+use Rattle.odht_raw.specs.declared.raw_table.search_result.Search.TheVariants.{Free, Neither}
 use Rattle.odht_raw.proofs.lemmas.GroupLooks.{index-bytes_at, no_free-more, position-None}
 use Rattle.odht_raw.proofs.lemmas.GroupSearches.{OccupiedBefore, group-free, group-occupied}
 use Rattle.odht_raw.proofs.lemmas.PartCells.{slots_are, byte_is}

@@ -29,8 +29,8 @@ use Rattle.odht_raw.specs.Frame.{HasNoFree}
 use Rattle.odht_raw.specs.Parts.{EntryBytes}
 use Rattle.odht_raw.specs.SearchEnds.{IsEndAmong}
 use Rattle.odht_raw.specs.SearchSteps.{slot_of, Passed, IsGroupAt, EndsWithin, IsLook}
-use Rattle.odht_raw.specs.declared.raw_table.search_result.SearchResult.{SearchResult}
-use Rattle.odht_raw.specs.declared.raw_table.search_result.SearchResult.TheVariants.{Found, Free, Neither}
+use Rattle.odht_raw.specs.declared.raw_table.search_result.Search.{Search}
+use Rattle.odht_raw.specs.declared.raw_table.search_result.Search.TheVariants.{Found, Free, Neither}
 use Rattle.odht_raw.proofs.lemmas.PartCells.{byte_is as control_is, key_is, cell_occupied}
 
 -- byte i of some bytes at an offset
@@ -203,12 +203,12 @@ IsGroupAt-piece F P E k p start bs at n l s passed =
     }
 
 -- an answer of a piece is one of the group
-pub look-piece : (F : Format) (P : Table) (k : List ℕ) (p at n : ℕ) (r : Option SearchResult) → at + n ≤ 16 → is_some r ≡ true → IsLook F P k (p + at) n r → IsLook F P k p 16 r
+pub look-piece : (F : Format) (P : Table) (k : List ℕ) (p at n : ℕ) (r : Option Search) → at + n ≤ 16 → is_some r ≡ true → IsLook F P k (p + at) n r → IsLook F P k p 16 r
 look-piece F P k p at n None l some look = absurd (true≢false (sym some))
 look-piece F P k p at n (Some a) l some look = (look.0, (look.1.0, omega (arith, look.1.1), omega (arith, look.1.2), look.1.3))
 
 -- where a look at a part of a group ends is where one at the group may end
-pub end-piece : (F : Format) (E : EntryBytes) (bs : List ℕ) (start at n : ℕ) (k : List ℕ) (r : Option SearchResult) → at + n ≤ 16
+pub end-piece : (F : Format) (E : EntryBytes) (bs : List ℕ) (start at n : ℕ) (k : List ℕ) (r : Option Search) → at + n ≤ 16
     → IfSome r (IsEndAmong F E (bytes_at bs at n) (start + at) n k) → IfSome r (IsEndAmong F E bs start 16 k)
 end-piece F E bs start at n k None l end = end
 end-piece F E bs start at n k (Some (Found i)) l end = end
@@ -218,6 +218,6 @@ end-piece F E bs start at n k (Some (Free i)) l (j, below, place, free) =
 end-piece F E bs start at n k (Some Neither) l end = end
 
 -- without an answer its positions are passed
-pub look-none : (F : Format) (P : Table) (k : List ℕ) (p n : ℕ) (r : Option SearchResult) → is_some r ≡ false → IsLook F P k p n r → Passed F P k (p + n)
+pub look-none : (F : Format) (P : Table) (k : List ℕ) (p n : ℕ) (r : Option Search) → is_some r ≡ false → IsLook F P k p n r → Passed F P k (p + n)
 look-none F P k p n None none look = look
 look-none F P k p n (Some a) none look = absurd (true≢false none)

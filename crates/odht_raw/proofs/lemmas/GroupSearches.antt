@@ -18,8 +18,8 @@ use Rattle.odht_raw.specs.SearchResults.{MatchSearchResult}
 use Rattle.odht_raw.specs.Frame.{CountsAsFree, CountsAsOccupied, HasNoFree, HasNoFreeSlot}
 use Rattle.odht_raw.specs.Parts.{EntryBytes}
 use Rattle.odht_raw.specs.SearchSteps.{slot_of, Passed, IsGroupAt, EndsWithin}
-use Rattle.odht_raw.specs.declared.raw_table.search_result.SearchResult.{SearchResult}
-use Rattle.odht_raw.specs.declared.raw_table.search_result.SearchResult.TheVariants.{Found, Free, Neither}
+use Rattle.odht_raw.specs.declared.raw_table.search_result.Search.{Search}
+use Rattle.odht_raw.specs.declared.raw_table.search_result.Search.TheVariants.{Found, Free, Neither}
 use Rattle.odht_raw.proofs.lemmas.GroupLooks.{index-bytes_at}
 use Rattle.odht_raw.proofs.lemmas.PartCells.{slots_are}
 use Rattle.odht_raw.proofs.lemmas.ProbeSteps.{probe_slot-step}
@@ -136,7 +136,7 @@ module _ (F : Format) (P : Table) (E : EntryBytes) (ctrl k : List ℕ) (f : IsFo
       rw (position-order_none _ (home F k (slot_count P)) (slot_count P) (subst (Passed F P k) count passed)) (ap (λ n. n / 16) (sym count))
 
 -- a free byte of a group is that of a slot that counts as free, on any parts
-pub ends-free : (ctrl : List ℕ) (s start : ℕ) (A : ℕ → Type 0) (N : Type 0) (r : SearchResult) → length ctrl ≡ s + 16 → 16 ≤ s → start < s
+pub ends-free : (ctrl : List ℕ) (s start : ℕ) (A : ℕ → Type 0) (N : Type 0) (r : Search) → length ctrl ≡ s + 16 → 16 ≤ s → start < s
     → MatchSearchResult r A (λ i. (j : ℕ) × (j < 16) × (i ≡ (start + j) % s) × IsTrue (counts_as_free (slice_index (bytes_at ctrl start 16) j))) ⊥
     → MatchSearchResult r A (λ i. (i < s) × CountsAsFree ctrl i) N
 ends-free ctrl s start A N (Found i) len few low m = m

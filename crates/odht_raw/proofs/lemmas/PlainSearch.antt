@@ -13,7 +13,7 @@ use Rattle.odht_base.proofs.lemmas.Lookups.{search_end-at, search_end-nowhere}
 use Rattle.odht_raw.proofs.lemmas.PartCells.{slots_are, byte_is, key_is}
 use Rattle.odht_raw.specs.SearchResults.{answer}
 use Rattle.odht_raw.specs.SearchSteps.{slot_of, Passed}
-use Rattle.odht_raw.specs.declared.raw_table.search_result.SearchResult.TheVariants.{Found, Free, Neither}
+use Rattle.odht_raw.specs.declared.raw_table.search_result.Search.TheVariants.{Found, Free, Neither}
 
 module _ (F : Format) (P : Table) (k es ctrl : List ℕ) (f : IsFormat F) (h : IsPartsOf F P es ctrl) where
   -- an occupied cell has the key that is in its entry, and no other

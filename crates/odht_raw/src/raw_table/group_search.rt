@@ -11,7 +11,7 @@ ghost use Rattle.odht_raw.specs.PartLengths.{ArePairLengths, AreSearchLengths};
 ghost use Rattle.odht_raw.specs.SearchEnds.{IsEnd, IsEndAmong};
 ghost use Rattle.odht_raw.specs.SearchSteps.{IsGroupAt, IsLook};
 
-use super::{Entries, EntryMetadata, ProbeSeq, Scan, SearchResult, tag_of};
+use super::{Entries, EntryMetadata, ProbeSeq, Scan, Search, tag_of};
 use crate::bytes::ByteArray;
 use crate::hash::HashFn;
 use crate::swisstable_group_query::{Group, REFERENCE_GROUP_SIZE};
@@ -28,7 +28,7 @@ pub fn search<K: ByteArray, V: ByteArray, H: HashFn, Q: Group>(
     scan: &mut Scan<'_>,
     entries: &Entries<'_, K, V>,
     key: &K,
-) -> SearchResult
+) -> Search
     requires { AreSearchLengths H.MIN_LEN K.LEN V.LEN entries.now.slots (length scan.old.control) }
     ensures on_placed { (P : Table)
         → IsPartsOf (format_of K.LEN V.LEN H.hash) P entries.now.bytes scan.old.control
@@ -55,7 +55,7 @@ pub fn search_hashed<K: ByteArray, V: ByteArray, H: HashFn, Q: Group>(
     entries: &Entries<'_, K, V>,
     key: &K,
     hash: u32,
-) -> SearchResult
+) -> Search
     requires lengths { AreSearchLengths H.MIN_LEN K.LEN V.LEN entries.now.slots (length scan.old.control) }
     requires hash { hash ≡ H.hash (K.bytes key.now) }
     ensures on_placed { (P : Table)
@@ -82,7 +82,7 @@ pub fn search_hashed<K: ByteArray, V: ByteArray, H: HashFn, Q: Group>(
             return end;
         }
         if probe.is_last() {
-            return SearchResult::Neither;
+            return Search::Neither;
         }
         probe.advance(mask);
     }
@@ -96,7 +96,7 @@ fn look_at_group<K: ByteArray, V: ByteArray, H: HashFn, Q: Group>(
     entries: &Entries<'_, K, V>,
     key: &K,
     tag: u8,
-) -> Option<SearchResult>
+) -> Option<Search>
     requires len { length bytes.now ≡ 16 }
     requires slots { IsSlotCount entries.now.slots }
     requires start { start < entries.now.slots }
@@ -134,7 +134,7 @@ fn look_at_piece<K: ByteArray, V: ByteArray, H: HashFn, Q: Group>(
     entries: &Entries<'_, K, V>,
     key: &K,
     tag: u8,
-) -> Option<SearchResult>
+) -> Option<Search>
     requires len { length bytes.now ≡ Q.SIZE }
     requires slots { IsSlotCount entries.now.slots }
     requires start { start + Q.SIZE ≤ entries.now.slots + 16 }
@@ -153,12 +153,12 @@ fn look_at_piece<K: ByteArray, V: ByteArray, H: HashFn, Q: Group>(
     'matches: while let Some(index) = group.first_match() {
         let slot = (start + index) & mask;
         if entries.get(slot).key.equals(key) {
-            return Some(SearchResult::Found(slot));
+            return Some(Search::Found(slot));
         }
         group.drop_match();
     }
     match group.first_empty() {
-        Some(index) => Some(SearchResult::Free((start + index) & mask)),
+        Some(index) => Some(Search::Free((start + index) & mask)),
         None => None,
     }
 }
