@@ -12,9 +12,7 @@ ghost use Rattle.odht_raw.specs.PartsInserts.{IsPartsInsert, IsInsertChange};
 ghost use Rattle.odht_raw.specs.SearchEnds.{IsEnd};
 
 use super::writes::insert_at;
-use super::{
-    Entries, EntryMetadata, Scan, Search, is_empty_or_deleted, search_hashed, tag_of,
-};
+use super::{Entries, EntryMetadata, Scan, Search, is_empty_or_deleted, search_hashed, tag_of};
 use crate::bytes::ByteArray;
 use crate::error::Error;
 use crate::hash::HashFn;

@@ -6,9 +6,8 @@ ghost use Rattle.odht_base.specs.Table.{Table};
 ghost use Rattle.odht_base.specs.Search.{groups_read};
 ghost use Rattle.odht_base.specs.Valid.{IsPartsOf};
 ghost use Rattle.odht_raw.specs.SearchResults.{answer, IsWherePlaced};
-ghost use Rattle.odht_raw.specs.Frame.{HasNoFree};
 ghost use Rattle.odht_raw.specs.PartLengths.{ArePairLengths, AreSearchLengths};
-ghost use Rattle.odht_raw.specs.SearchEnds.{IsEnd, IsEndAmong};
+ghost use Rattle.odht_raw.specs.SearchEnds.{IsAfter, IsEnd, IsEndAmong, GoesOnAmong};
 ghost use Rattle.odht_raw.specs.SearchSteps.{IsGroupAt, IsLook};
 
 use super::{Entries, EntryMetadata, ProbeSeq, Scan, Search, tag_of};
@@ -41,6 +40,7 @@ pub fn search<K: ByteArray, V: ByteArray, H: HashFn, Q: Group>(
         → let read = groups_read (format_of K.LEN V.LEN H.hash) P.cells (K.bytes key.now)
         in scan.new.groups ≡ min (scan.old.groups + read) usize.MAX }
     ensures slot { IsEnd (format_of K.LEN V.LEN H.hash) entries.now scan.old.control (K.bytes key.now) result }
+    ensures earlier { IsAfter (format_of K.LEN V.LEN H.hash) entries.now scan.old.control (K.bytes key.now) result }
     ensures few { scan.new.groups ≤ scan.old.groups + entries.now.slots / 16 }
     ensures control { scan.new.control ≡ scan.old.control }
 {
@@ -69,6 +69,7 @@ pub fn search_hashed<K: ByteArray, V: ByteArray, H: HashFn, Q: Group>(
         → let read = groups_read (format_of K.LEN V.LEN H.hash) P.cells (K.bytes key.now)
         in scan.new.groups ≡ min (scan.old.groups + read) usize.MAX }
     ensures slot { IsEnd (format_of K.LEN V.LEN H.hash) entries.now scan.old.control (K.bytes key.now) result }
+    ensures earlier { IsAfter (format_of K.LEN V.LEN H.hash) entries.now scan.old.control (K.bytes key.now) result }
     ensures few { scan.new.groups ≤ scan.old.groups + entries.now.slots / 16 }
     ensures control { scan.new.control ≡ scan.old.control }
 {
@@ -105,7 +106,8 @@ fn look_at_group<K: ByteArray, V: ByteArray, H: HashFn, Q: Group>(
     requires lengths { ArePairLengths H.MIN_LEN K.LEN V.LEN }
     ensures slot { IfSome result
         (IsEndAmong (format_of K.LEN V.LEN H.hash) entries.now bytes.now start 16 (K.bytes key.now)) }
-    ensures occupied { IsNone result → HasNoFree bytes.now 16 }
+    ensures none { IsNone result
+        → GoesOnAmong (format_of K.LEN V.LEN H.hash) entries.now bytes.now start (K.bytes key.now) 16 }
     ensures on_placed { (P : Table) (p : ℕ)
         → IsGroupAt (format_of K.LEN V.LEN H.hash) P entries.now (K.bytes key.now) p start bytes.now
         → IsLook (format_of K.LEN V.LEN H.hash) P (K.bytes key.now) p 16 result }
@@ -143,7 +145,8 @@ fn look_at_piece<K: ByteArray, V: ByteArray, H: HashFn, Q: Group>(
     requires lengths { ArePairLengths H.MIN_LEN K.LEN V.LEN }
     ensures slot { IfSome result
         (IsEndAmong (format_of K.LEN V.LEN H.hash) entries.now bytes.now start Q.SIZE (K.bytes key.now)) }
-    ensures occupied { IsNone result → HasNoFree bytes.now Q.SIZE }
+    ensures none { IsNone result
+        → GoesOnAmong (format_of K.LEN V.LEN H.hash) entries.now bytes.now start (K.bytes key.now) Q.SIZE }
     ensures on_placed { (P : Table) (p : ℕ)
         → IsGroupAt (format_of K.LEN V.LEN H.hash) P entries.now (K.bytes key.now) p start bytes.now
         → IsLook (format_of K.LEN V.LEN H.hash) P (K.bytes key.now) p Q.SIZE result }

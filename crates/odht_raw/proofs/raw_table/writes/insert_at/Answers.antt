@@ -14,6 +14,7 @@ use Rattle.odht_raw.specs.SearchEnds.{IsEnd}
 use Rattle.odht_header.specs.declared.error.Error.TheVariants.{Full}
 use Rattle.odht_raw.specs.declared.raw_table.search_result.Search.{Search}
 use Rattle.odht_raw.specs.declared.raw_table.search_result.Search.TheVariants.{Found, Free}
+use Rattle.odht_raw.proofs.lemmas.GroupSearches.{missing-neither}
 use Rattle.odht_raw.proofs.lemmas.Lookups.{answer-Found, answer-Free, answer-Neither}
 use Rattle.odht_raw.proofs.lemmas.Inserts.{found_value, found_key, found_parts, free_parts}
 use Rattle.odht_raw.proofs.raw_table.writes.insert_at.Goals as goal
@@ -150,4 +151,4 @@ returns-in-Neither-clause-any g c =
     let ctrl = c.args.control.now in
     let decoded_table : EntryBytes = record { slots = length ctrl - 16; bytes = c.args.entries.now } in
     let known = subst (IsEnd F decoded_table ctrl (g.K.ByteArray.bytes c.args.key)) c.in-Neither.is c.requires.end in
-    record { frame = (Err Full, refl, PartsFrame.no_slot known); only_full = refl; refused_control = refl; refused_entries = refl }
+    record { frame = (Err Full, refl, PartsFrame.no_slot known.0 (missing-neither F decoded_table ctrl (g.K.ByteArray.bytes c.args.key) known.1)); only_full = refl; refused_control = refl; refused_entries = refl }
