@@ -107,7 +107,7 @@ impl<C: Config, D: ByteStore> HashTable<C, D> {
 
     /// The value of a key, or None. On valid bytes it is the value of the key's last insert; on any bytes it is one
     /// that is stored with this very key. [`HashTable::get_counted`] says how many groups the search reads.
-    #[inline]
+    #[inline(always)]
     pub fn get(&self, key: &C::Key) -> Option<C::Value>
         ensures on_valid { (P : Table)
             → IsImage ⟦<C as Coded>⟧.coding.format P (D.bytes self.now)

@@ -22,7 +22,7 @@ use crate::swisstable_group_query::Group;
 
 impl<C: Config, D: ByteStore> HashTable<C, D> {
     /// `get` by a group search of the caller's choice. On valid bytes all searches give the same.
-    #[inline]
+    #[inline(always)]
     pub fn get_by<Q: Group>(&self, key: &C::Key) -> Option<C::Value>
         ensures on_valid { (P : Table)
             → IsImage ⟦<C as Coded>⟧.coding.format P (D.bytes self.now)
