@@ -8,8 +8,10 @@
     memory     each request for memory fails in turn          edits      each edit's text is where it says
     tool       the program for table files, by tests/tool     generated  generated text is current
     script     the program for scripts, by tests/script      runner     that the runner of cases reports faults
+    word       all vectors and the tests of odht_tests once more, with the word search compiled in
 
-What a part needs is built first, by tools/unproved.py, into build/unproved/; what is current there is kept.
+What a part needs is built first, by tools/unproved.py, into build/unproved/; what is current there is kept. For `word`
+the sources are copied to build/word/, and built there.
 """
 import os
 import re
@@ -23,7 +25,10 @@ TOP = os.path.dirname(os.path.dirname(os.path.realpath(__file__)))
 BUILT = f"{TOP}/build/unproved"
 sys.path.insert(0, f"{TOP}/tools")
 import unproved
+import word_search
 
+# a name below it is built of the copy with the word search
+WORD = "word"
 PRINTING = threading.Lock()
 # seconds, for one part
 LIMIT = 600
@@ -72,11 +77,11 @@ def edits():
     return counted(*run([sys.executable, "tools/edits.py", "check"]))
 
 
-def vectors():
+def vectors(built=BUILT):
     folder = f"{TOP}/crates/odht_vectors"
     with open(f"{folder}/args", encoding="utf-8") as it:
         words = it.read().split()
-    status, printed = run([f"{BUILT}/odht_vectors", *words], cwd=f"{folder}/data")
+    status, printed = run([f"{built}/odht_vectors", *words], cwd=f"{folder}/data")
     passed, failed, _ = counted(status, printed, r"(\d+) cases held, (\d+) did not")
     with open(f"{folder}/stdout", encoding="utf-8") as it:
         if printed != it.read():
@@ -84,8 +89,14 @@ def vectors():
     return passed, failed, printed
 
 
-def tests_in_rattle():
-    return counted(*run([f"{unproved.KIT}/bin/rattle-test", "--seconds", "60", f"{BUILT}/odht_tests"]))
+def tests_in_rattle(built=BUILT):
+    return counted(*run([f"{unproved.KIT}/bin/rattle-test", "--seconds", "60", f"{built}/odht_tests"]))
+
+
+def with_word_search():
+    ran = [it(f"{BUILT}/{WORD}") for it in (vectors, tests_in_rattle)]
+    passed, failed = (sum(it[at] for it in ran) for at in (0, 1))
+    return passed, failed, "\n".join(printed for _, failures, printed in ran if failures)
 
 
 def calls_for_c():
@@ -119,6 +130,7 @@ PARTS = {
     "rust": (["libodht.a"], crate_for_rust),
     "rattle": (["odht_tests"], tests_in_rattle),
     "vectors": (["odht_vectors"], vectors),
+    "word": ([f"{WORD}/odht_tests", f"{WORD}/odht_vectors"], with_word_search),
     "memory": (["odht_memory", "odht_table"], memory),
     "tool": (["odht_tool"], lambda: cases("odht_tool", "tests/tool")),
     "script": (["odht_table"], lambda: cases("odht_table", "tests/script")),
@@ -128,12 +140,25 @@ PARTS = {
 }
 
 
+def build(name):
+    """Builds a name, of the copy with the word search where it says so. Returns whether it was built."""
+    of_copy, _, crate = name.rpartition("/")
+    if not of_copy:
+        return unproved.build(BUILT, name)
+    to = f"{BUILT}/{name}.stamp"
+    before = os.stat(to).st_mtime_ns if os.path.exists(to) else 0
+    status, printed = run([sys.executable, f"{TOP}/build/{WORD}/tools/unproved.py", f"{BUILT}/{WORD}", crate])
+    if status:
+        raise unproved.BuildError(printed)
+    return os.stat(to).st_mtime_ns != before
+
+
 def built(name):
     """Builds what a part needs. Returns whether it is there."""
     say(f"build {name}: begins")
     began = time.monotonic()
     try:
-        is_new = unproved.build(BUILT, name)
+        is_new = build(name)
     except unproved.BuildError as error:
         say(f"build {name}: FAILED\n{error}")
         return False
@@ -162,6 +187,9 @@ def main(*names):
     os.makedirs(BUILT, exist_ok=True)
     parts = {it: PARTS[it] for it in PARTS if not names or it in names}
     needed = dict.fromkeys(name for needs, _ in parts.values() for name in needs)
+    if WORD in parts:
+        crates = unproved.crates()
+        word_search.copy_sources(f"{TOP}/build/{WORD}", ["odht_vectors", *crates["odht_vectors"]])
     lanes = len(os.sched_getaffinity(0))
     with ThreadPoolExecutor(lanes) as builders, ThreadPoolExecutor(len(parts)) as runners:
         ready = {it: builders.submit(built, it) for it in needed}
