@@ -89,7 +89,12 @@ fn byte_arrays(rt: HostRuntime) {
     let bytes: &[u8] = ByteArray::as_slice(&array);
     same(&rt, "LEN", len, 8);
     same_bytes(&rt, "as_slice", bytes, &[1, 2, 3, 4, 5, 6, 7, 8]);
-    same(&rt, "equals, is_all_zeros", (is_zero, has_zeros), (false, true));
+    same(
+        &rt,
+        "equals, is_all_zeros",
+        (is_zero, has_zeros),
+        (false, true),
+    );
 }
 
 // The bytes of a store.

@@ -130,8 +130,18 @@ fn texts_of_errors(rt: HostRuntime) -> Result<(), AllocError> {
     };
     let text: String = format!(in rt.alloc(); "{error}")?;
     let debug: String = format!(in rt.alloc(); "{error:?}")?;
-    same(&rt, "the text", text.as_str(), "Header states 5 items but 0 were found");
-    same(&rt, "Debug", debug.as_str(), "WrongItemCount { stated: 5, found: 0 }");
+    same(
+        &rt,
+        "the text",
+        text.as_str(),
+        "Header states 5 items but 0 were found",
+    );
+    same(
+        &rt,
+        "Debug",
+        debug.as_str(),
+        "WrongItemCount { stated: 5, found: 0 }",
+    );
     Ok(())
 }
 

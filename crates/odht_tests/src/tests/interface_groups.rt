@@ -47,8 +47,18 @@ fn group_searches(rt: HostRuntime) {
     let (matches, free) = taken::<lanes::GroupQuery>(&LANES, 3_u8);
     same(&rt, "lanes", matches, [Some(0), None, None]);
     same(&rt, "their first free byte", free, Some(2));
-    same(&rt, "a word", is_free::<no_simd::GroupQuery>(&WORD), (true, 8));
-    same(&rt, "lanes", is_free::<lanes::GroupQuery>(&LANES), (true, 16));
+    same(
+        &rt,
+        "a word",
+        is_free::<no_simd::GroupQuery>(&WORD),
+        (true, 8),
+    );
+    same(
+        &rt,
+        "lanes",
+        is_free::<lanes::GroupQuery>(&LANES),
+        (true, 16),
+    );
 }
 
 // Compiles only at iterators of indices.

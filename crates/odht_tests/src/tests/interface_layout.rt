@@ -72,8 +72,10 @@ fn slot_of<C: Config, M: ByteStore>(
     table: &Allocation<C, M>,
     slot: usize,
 ) -> (Entry<C::EncodedKey, C::EncodedValue>, EntryMetadata) {
-    let (control, entries): (&[EntryMetadata], Entries<'_, C::EncodedKey, C::EncodedValue>)
-        = table.data_slices();
+    let (control, entries): (
+        &[EntryMetadata],
+        Entries<'_, C::EncodedKey, C::EncodedValue>,
+    ) = table.data_slices();
     let slots: usize = entries.len();
     assert!(rt; slot < slots);
     let entry: Entry<C::EncodedKey, C::EncodedValue> = entries.get(slot);
@@ -138,5 +140,10 @@ fn tables_in_place(rt: HostRuntime) {
         Factor(57015),
     );
     same(&rt, "items", table.header().item_count(), 0);
-    same(&rt, "check_all", check_all::<U32ToU32>(table.raw_bytes()), Ok(()));
+    same(
+        &rt,
+        "check_all",
+        check_all::<U32ToU32>(table.raw_bytes()),
+        Ok(()),
+    );
 }

@@ -142,9 +142,7 @@ fn is_debug<T: Debug>(_value: &T) {}
 fn raw_tables(rt: HostRuntime) {
     let bytes = entry_bytes();
     let entries: Entries<'_, Bytes, Bytes> = Entries::new(&bytes, sixteen(&rt));
-    let plain: Option<Bytes> = plain_find::<Bytes, Bytes, UnHashFn>(
-        &CONTROL, &entries, &FIRST.key,
-    );
+    let plain: Option<Bytes> = plain_find::<Bytes, Bytes, UnHashFn>(&CONTROL, &entries, &FIRST.key);
     let table: RawTable<'_, Bytes, Bytes, UnHashFn> = RawTable::new(&CONTROL, entries);
     is_debug(&table);
     let value: Option<Bytes> = table.find(&FIRST.key);
@@ -182,7 +180,10 @@ fn insert_two(
     is_debug(&table);
     let by_groups: Result<Option<Bytes>, Error> = table.insert(LAST.key, LAST.value);
     let plainly: Result<Option<Bytes>, Error> = plain_insert::<Bytes, Bytes, UnHashFn>(
-        control, entries, FIRST.key, FIRST.value,
+        control,
+        entries,
+        FIRST.key,
+        FIRST.value,
     );
     [by_groups, plainly]
 }

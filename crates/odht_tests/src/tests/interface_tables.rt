@@ -5,9 +5,7 @@ use crate::tests::checks::{same, same_bytes};
 use odht::bytes::{Borrowed, BorrowedMut, ByteStore, ByteStoreMut};
 use odht::configs::{U32ToU32, U64ToU32};
 use odht::error::Error;
-use odht::{
-    Config, FxHashFn, HashFn, HashTable, HashTableOwned, Iter, UnHashFn, bytes_needed,
-};
+use odht::{Config, FxHashFn, HashFn, HashTable, HashTableOwned, Iter, UnHashFn, bytes_needed};
 use odht_index::{Index, IndexConfig, build};
 use std::alloc::{AllocError, Global};
 use std::fmt::Debug;
@@ -65,7 +63,12 @@ fn owned_walks(rt: HostRuntime) -> Result<(), Error> {
     let mut walk: Iter<'_, U64ToU32> = table.iter();
     is_walk::<U64ToU32, Iter<'_, U64ToU32>>(&walk);
     let pairs: [Option<(u64, u32)>; 4] = [walk.next(), walk.next(), walk.next(), walk.next()];
-    same(&rt, "pairs", pairs, [Some((1, 2)), Some((5, 6)), Some((3, 4)), None]);
+    same(
+        &rt,
+        "pairs",
+        pairs,
+        [Some((1, 2)), Some((5, 6)), Some((3, 4)), None],
+    );
     Ok(())
 }
 
@@ -99,7 +102,12 @@ fn other_owned_tables(rt: HostRuntime) -> Result<(), Error> {
         95_u8,
     );
     let expected = three_pairs(rt.alloc())?;
-    same_bytes(&rt, "from_iterator", made?.raw_bytes(), expected.raw_bytes());
+    same_bytes(
+        &rt,
+        "from_iterator",
+        made?.raw_bytes(),
+        expected.raw_bytes(),
+    );
     Ok(())
 }
 
