@@ -136,9 +136,7 @@ impl<'a> Index<'a> {
     }
 
     /// The number of a path, or None. On bytes that were opened and are not valid it is a number that is stored with
-    /// this very path, or None.
-    ///
-    /// Each group of sixteen control bytes is read at most once.
+    /// this very path, or None. [`HashTable::get_counted`] says how many groups such a search reads.
     #[inline]
     pub fn lookup(&self, path: &[u8; 16]) -> Option<u32>
         ensures on_valid { let c = ⟦<IndexConfig as Coded>⟧.coding
