@@ -7,6 +7,7 @@
 # make install, make uninstall: these, the header and what pkg-config and CMake read, below PREFIX, and below DESTDIR
 # before it
 # make exports: include/odht.h and the exports of each shape of tables, of what is written once for all shapes
+# make rust: the source of the crate for Rust, rust/src/proved, of the proved crates
 # make examples: all examples, compiled against an installed copy and compared with what they must print, and the tests
 # of the calls for C once more
 # make bench: the tables of speeds; QUICK=1 for a short run, ODHT_RUST=folder for the Rust crate beside it, CHECK=1 for
@@ -26,7 +27,7 @@ WORST ?=
 ORDER ?=
 MARKDOWN ?=
 ODHT_RUST ?=
-.PHONY: run test prove edits build lib exports exports_are_current install uninstall examples bench
+.PHONY: run test prove edits build lib rust exports exports_are_current install uninstall examples bench
 run:
 	@cd crates/odht_table && rt try < $(abspath $(SCRIPT))
 
@@ -56,6 +57,11 @@ crates/odht_c/out/libodht_c.a: $(SOURCES)
 	@touch $@
 
 include packaging/library.mk
+
+# the proved crates without their contracts, as Rust
+rust:
+	@CARGO_TARGET_DIR=$(abspath build/cargo) cargo run --quiet --offline --manifest-path tools/erase/Cargo.toml -- crates rust/src
+	@rustfmt --edition 2021 --config-path rust/rustfmt.toml $$(find rust/src/proved -name '*.rs')
 
 LINK_RUST = -L native=build -l static=odht
 

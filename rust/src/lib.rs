@@ -1,0 +1,39 @@
+//! A hash table that is used in the form in which it is stored: it is built once, written to a file or into another
+//! program, and read from there, at any alignment, with nothing to decode first.
+//!
+//! (being written)
+#![deny(unsafe_code, missing_docs)]
+
+#[macro_use]
+mod shim;
+
+mod config;
+pub mod configs;
+mod iter;
+mod opened;
+mod owned;
+mod sizes;
+mod view;
+
+// The source of the proved library with its contracts taken out, made by `make rust` in the repository of this crate.
+// It is whole, also where nothing here uses it; the fields of its errors are documented by their type.
+#[allow(dead_code, unused_imports, unused_variables, missing_docs, clippy::all)]
+#[cfg_attr(not(feature = "fast"), forbid(unsafe_code))]
+#[cfg_attr(feature = "fast", allow(unsafe_code))]
+mod proved {
+    pub mod base;
+    pub mod header;
+    pub mod raw;
+    pub mod tables;
+}
+
+pub use config::{ByteArray, Config, HashFn};
+pub use iter::{Iter, Slots};
+pub use owned::HashTableOwned;
+pub use proved::base::hash::{FxHashFn, UnHashFn};
+pub use proved::header::error::{Error, Part};
+pub use sizes::{bytes_needed, check_all, try_bytes_needed};
+pub use view::HashTable;
+
+// The proofs are of counts of 64 bits.
+const _: () = assert!(usize::BITS == 64, "odht is for targets whose `usize` has 64 bits");
