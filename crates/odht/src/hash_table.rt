@@ -109,7 +109,7 @@ impl<C: Config, D: ByteStore> HashTable<C, D> {
     /// that is stored with this very key.
     ///
     /// Each group of control bytes is read at most once.
-    #[inline]
+    #[inline(always)]
     pub fn get(&self, key: &C::Key) -> Option<C::Value>
         ensures on_valid { (P : Table)
             → IsImage ⟦<C as Coded>⟧.coding.format P (D.bytes self.now)

@@ -43,6 +43,7 @@ impl<'a, C: Config> Iterator for Iter<'a, C> {
 
     ghost remaining = { item_count (λ left. left) };
 
+    #[inline(always)]
     fn next(&mut self) -> Option<(C::Key, C::Value)> {
         let (_, entry) = self.raw.next()?;
         Some((C::decode_key(&entry.key), C::decode_value(&entry.value)))
@@ -87,6 +88,7 @@ impl<'a, C: Config> Iterator for Slots<'a, C> {
 
     ghost remaining = { item_count (λ left. left) };
 
+    #[inline(always)]
     fn next(&mut self) -> Option<(usize, (C::Key, C::Value))> {
         let (slot, (_, entry)) = self.raw.next()?;
         Some((

@@ -135,6 +135,7 @@ impl<'a, K: ByteArray, V: ByteArray> Iterator for RawIter<'a, K, V> {
 
     ghost remaining = { item_count (λ left. left) };
 
+    #[inline(always)]
     fn next(&mut self) -> Option<(EntryMetadata, Entry<K, V>)> {
         let (_, item) = self.slots.next()?;
         Some(item)
