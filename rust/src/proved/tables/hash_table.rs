@@ -71,7 +71,7 @@ impl<C: Config, D: ByteStore> HashTable<C, D> {
     /// that is stored with this very key.
     ///
     /// Each group of control bytes is read at most once.
-    #[inline]
+    #[inline(always)]
     pub fn get(&self, key: &C::Key) -> Option<C::Value> {
         let table = self.as_raw();
         let key = C::encode_key(key);

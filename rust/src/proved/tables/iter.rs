@@ -23,6 +23,7 @@ impl<'a, C: Config> Iter<'a, C> {
 impl<'a, C: Config> Iterator for Iter<'a, C> {
     type Item = (C::Key, C::Value);
 
+    #[inline(always)]
     fn next(&mut self) -> Option<(C::Key, C::Value)> {
         let (_, entry) = self.raw.next()?;
         Some((C::decode_key(&entry.key), C::decode_value(&entry.value)))
@@ -50,6 +51,7 @@ impl<'a, C: Config> Slots<'a, C> {
 impl<'a, C: Config> Iterator for Slots<'a, C> {
     type Item = (usize, (C::Key, C::Value));
 
+    #[inline(always)]
     fn next(&mut self) -> Option<(usize, (C::Key, C::Value))> {
         let (slot, (_, entry)) = self.raw.next()?;
         Some((slot, (C::decode_key(&entry.key), C::decode_value(&entry.value))))

@@ -82,6 +82,7 @@ impl<'a, K: ByteArray, V: ByteArray> RawIter<'a, K, V> {
 impl<'a, K: ByteArray, V: ByteArray> Iterator for RawIter<'a, K, V> {
     type Item = (EntryMetadata, Entry<K, V>);
 
+    #[inline(always)]
     fn next(&mut self) -> Option<(EntryMetadata, Entry<K, V>)> {
         let (_, item) = self.slots.next()?;
         Some(item)
