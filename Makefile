@@ -7,7 +7,7 @@
 # make install, make uninstall: these, the header and what pkg-config and CMake read, below PREFIX, and below DESTDIR
 # before it
 # make exports: include/odht.h and the exports of each shape of tables, of what is written once for all shapes
-# make rust: the source of the crate for Rust, rust/src/proved, of the proved crates
+# make rust: what is generated of the crate for Rust, rust/src/proved and rust/c/src/erased, of the proved crates
 # make examples: all examples, compiled against an installed copy and compared with what they must print, and the tests
 # of the calls for C once more
 # make bench: the tables of speeds; QUICK=1 for a short run, ODHT_RUST=folder for the Rust crate beside it, CHECK=1 for
@@ -59,9 +59,12 @@ crates/odht_c/out/libodht_c.a: $(SOURCES)
 include packaging/library.mk
 
 # the proved crates without their contracts, as Rust
+ERASE = CARGO_TARGET_DIR=$(abspath build/cargo) cargo run --quiet --offline --manifest-path tools/erase/Cargo.toml --
 rust:
-	@CARGO_TARGET_DIR=$(abspath build/cargo) cargo run --quiet --offline --manifest-path tools/erase/Cargo.toml -- crates rust/src
-	@rustfmt --edition 2021 --config-path rust/rustfmt.toml $$(find rust/src/proved -name '*.rs')
+	@$(ERASE) crates build/erased
+	@find build/erased -name '*.rs' -exec rustfmt --edition 2021 --config-path rust/rustfmt.toml {} +
+	@rm -rf rust/src/proved rust/c/src/erased
+	@cp -R build/erased/. rust/ && rm -rf build/erased
 
 LINK_RUST = -L native=build -l static=odht
 

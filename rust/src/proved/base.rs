@@ -1,4 +1,4 @@
-// Made by `make rust` of crates/odht_base/src/lib.rt, which is proved.
+// Made by `make rust` of crates/odht_base/src/lib.rt.
 //! The base of `odht`: load factors, hashes, byte arrays and stores of bytes.
 //!
 //! The definitions that all contracts cite are in `specs/`, from numbers up to tables and their bytes.

@@ -1,4 +1,4 @@
-// Made by `make rust` of crates/odht_header/src/lib.rt, which is proved.
+// Made by `make rust` of crates/odht_header/src/lib.rt.
 //! `odht_header`: the error type, configurations, and the header of a table. `odht_raw` has what comes behind the
 //! header.
 

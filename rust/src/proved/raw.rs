@@ -1,4 +1,4 @@
-// Made by `make rust` of crates/odht_raw/src/lib.rt, which is proved.
+// Made by `make rust` of crates/odht_raw/src/lib.rt.
 //! `odht_raw`: the bytes of a table, its parts, and searches, inserts and walks in them. `odht` has the tables over
 //! them.
 

@@ -1,4 +1,4 @@
-// Made by `make rust` of crates/odht/src/lib.rt, which is proved.
+// Made by `make rust` of crates/odht/src/lib.rt.
 //! `odht`: a hash table that is used in the form in which it is stored.
 //!
 //! [`HashTableOwned`] owns its bytes and grows; [`HashTable`] is a view of bytes of any kind, and does not grow. Both

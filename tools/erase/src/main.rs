@@ -1,54 +1,56 @@
-//! `erase CRATES OUT`: the Rust of the proved crates of `odht`, in OUT.
+//! `erase CRATES RUST`: makes the sources of the Rust crates in RUST, of the proved crates in CRATES.
 
-use erase::{erase_all, Plan};
+use erase::{erase_all, Crate, Plan};
 use std::path::Path;
+use std::process::ExitCode;
 
-fn main() -> Result<(), String> {
-    let args: Vec<String> = std::env::args().collect();
-    let [_, crates, out, rest @ ..] = &args[..] else {
-        return Err("erase CRATES OUT [--report] [--c]".into());
+const PLAN: Plan<'static> = Plan {
+    crates: &[
+        Crate { name: "odht_base", module: "proved::base", to: "src/proved/base" },
+        Crate { name: "odht_header", module: "proved::header", to: "src/proved/header" },
+        Crate { name: "odht_raw", module: "proved::raw", to: "src/proved/raw" },
+        Crate { name: "odht", module: "proved::tables", to: "src/proved/tables" },
+        Crate { name: "odht_calls", module: "erased::calls", to: "c/src/erased/calls" },
+        Crate { name: "odht_c", module: "erased::exports", to: "c/src/erased/exports" },
+    ],
+    dropped_traits: &["Model", "Coded", "Lossless"],
+    dropped_modules: &["odht_base::laws", "odht::laws"],
+    // What lookups, inserts, walks and opening do most. Each index in them is in bounds by lengths alone.
+    indexed: &[
+        "odht/lookups",
+        "odht_base/bytes/arrays",
+        "odht_base/bytes/stores",
+        "odht_header/header",
+        "odht_raw/items",
+        "odht_raw/memory_layout/allocation",
+        "odht_raw/memory_layout/allocation/batches",
+        "odht_raw/raw_table",
+        "odht_raw/raw_table/ahead",
+        "odht_raw/raw_table/entries",
+        "odht_raw/raw_table/first_look",
+        "odht_raw/raw_table/free_search",
+        "odht_raw/raw_table/group_search",
+        "odht_raw/raw_table/scan",
+        "odht_raw/raw_table/walk",
+    ],
+};
+
+fn main() -> ExitCode {
+    let words: Vec<String> = std::env::args().collect();
+    let [_, crates, rust] = &words[..] else {
+        eprintln!("usage: erase CRATES RUST");
+        return ExitCode::from(2);
     };
-    let all = [
-        ("odht_base", "proved::base"),
-        ("odht_header", "proved::header"),
-        ("odht_raw", "proved::raw"),
-        ("odht", "proved::tables"),
-    ];
-    let plan = Plan {
-        crates: &all,
-        dropped_traits: &["Model", "Coded", "Lossless"],
-        dropped_modules: &["odht_base::laws", "odht::laws"],
-        shim: "crate::shim",
-        indexed: &[
-            "odht_base/bytes/arrays",
-            "odht_base/bytes/stores",
-            "odht_header/header",
-            "odht_raw/items",
-            "odht_raw/memory_layout/allocation",
-            "odht_raw/memory_layout/allocation/batches",
-            "odht_raw/raw_table",
-            "odht_raw/raw_table/ahead",
-            "odht_raw/raw_table/entries",
-            "odht_raw/raw_table/first_look",
-            "odht_raw/raw_table/free_search",
-            "odht_raw/raw_table/group_search",
-            "odht_raw/raw_table/scan",
-            "odht_raw/raw_table/walk",
-            "odht/lookups",
-        ],
-    };
-    let done = erase_all(&plan, Path::new(crates), Path::new(out))?;
-    let (mut all, mut dropped, mut replaced) = (0, 0, 0);
-    for (file, erased) in &done {
-        all += erased.counts.0;
-        dropped += erased.counts.1;
-        for (line, old, new) in &erased.replaced {
-            replaced += 1;
-            if rest.iter().any(|r| r == "--report") {
-                println!("{file}:{line}: {old:?} -> {new:?}");
-            }
+    match erase_all(&PLAN, Path::new(crates), Path::new(rust)) {
+        Ok(counts) => {
+            let (files, tokens) = (counts.files, counts.tokens);
+            let (dropped, replaced) = (counts.dropped, counts.replaced);
+            println!("{files} files, {tokens} tokens, {dropped} dropped, {replaced} replacements");
+            ExitCode::SUCCESS
+        }
+        Err(what) => {
+            eprintln!("{what}");
+            ExitCode::FAILURE
         }
     }
-    println!("{} files, {all} tokens, {dropped} dropped, {replaced} replacements", done.len());
-    Ok(())
 }

@@ -1,4 +1,4 @@
-// Made by `make rust` of crates/odht_base/src/hash.rt, which is proved.
+// Made by `make rust` of crates/odht_base/src/hash.rt.
 //! Hash functions of encoded keys.
 //!
 //! The rules are those of docs/FORMAT.md, "Hashes".

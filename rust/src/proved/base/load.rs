@@ -1,4 +1,4 @@
-// Made by `make rust` of crates/odht_base/src/load.rt, which is proved.
+// Made by `make rust` of crates/odht_base/src/load.rt.
 //! Load factors: how many items a table may hold, and how many slots it needs for them.
 //!
 //! The rules are those of docs/FORMAT.md, "Load factors".

@@ -1,4 +1,4 @@
-// Made by `make rust` of crates/odht_base/src/swisstable_group_query.rt, which is proved.
+// Made by `make rust` of crates/odht_base/src/swisstable_group_query.rt.
 //! Searches of a group of control bytes.
 //!
 //! A group is searched for a tag, and for the first byte that counts as free. [`Group`] is what a search of a table

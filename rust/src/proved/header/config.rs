@@ -1,4 +1,4 @@
-// Made by `make rust` of crates/odht_header/src/config.rt, which is proved.
+// Made by `make rust` of crates/odht_header/src/config.rt.
 //! Configurations: the key and value types of a table, their encodings and the hash function.
 
 use crate::proved::header::bytes::ByteArray;

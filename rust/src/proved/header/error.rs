@@ -1,4 +1,4 @@
-// Made by `make rust` of crates/odht_header/src/error.rt, which is proved.
+// Made by `make rust` of crates/odht_header/src/error.rt.
 //! The errors of opening and checking bytes, and of calls.
 //!
 //! The conditions and their order are those of docs/FORMAT.md, "What is refused, and in which order".

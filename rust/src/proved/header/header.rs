@@ -1,4 +1,4 @@
-// Made by `make rust` of crates/odht_header/src/header.rt, which is proved.
+// Made by `make rust` of crates/odht_header/src/header.rt.
 //! The header of a table: its fields at their offsets, how it is written, and how it is checked.
 //!
 //! The fields are those of docs/FORMAT.md, "Layout".

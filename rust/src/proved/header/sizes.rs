@@ -1,4 +1,4 @@
-// Made by `make rust` of crates/odht_header/src/sizes.rt, which is proved.
+// Made by `make rust` of crates/odht_header/src/sizes.rt.
 //! How long tables are.
 
 use crate::proved::header::bytes::ByteArray;

@@ -1,4 +1,4 @@
-// Made by `make rust` of crates/odht_raw/src/items.rt, which is proved.
+// Made by `make rust` of crates/odht_raw/src/items.rt.
 //! Lists of keys and values, whatever their form in memory.
 
 /// A list of keys and their values, each read where it is in memory.

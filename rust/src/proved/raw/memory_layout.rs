@@ -1,4 +1,4 @@
-// Made by `make rust` of crates/odht_raw/src/memory_layout.rt, which is proved.
+// Made by `make rust` of crates/odht_raw/src/memory_layout.rt.
 //! The bytes of a table: the header, the entries, and the control bytes with their mirror.
 //!
 //! Offsets and lengths are those of docs/FORMAT.md, "Layout".

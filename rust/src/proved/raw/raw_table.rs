@@ -1,4 +1,4 @@
-// Made by `make rust` of crates/odht_raw/src/raw_table.rt, which is proved.
+// Made by `make rust` of crates/odht_raw/src/raw_table.rt.
 //! The parts of a table, control bytes and entries, and searches, inserts and walks in them.
 //!
 //! Where a comment says "on the parts of a table whose keys are all reached", its clause says `IsPartsOf`: no key is in

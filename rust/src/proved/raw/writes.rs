@@ -1,4 +1,4 @@
-// Made by `make rust` of crates/odht_raw/src/writes.rt, which is proved.
+// Made by `make rust` of crates/odht_raw/src/writes.rt.
 //! The writes of an insert to a store of bytes, each at an offset that its caller knows.
 //!
 //! They are used both for the bytes of a whole table and for each of its two parts.

@@ -1,4 +1,4 @@
-// Made by `make rust` of crates/odht/src/configs.rt, which is proved.
+// Made by `make rust` of crates/odht/src/configs.rt.
 //! Ready configurations: integers, keys that are hashes already, and bytes as they are.
 //!
 //! docs/FORMAT.md says in "Hashes" how a key is hashed, and in "Probe order" where its probe order begins.

@@ -1,4 +1,4 @@
-// Made by `make rust` of crates/odht/src/growth.rt, which is proved.
+// Made by `make rust` of crates/odht/src/growth.rt.
 //! Growth: a table with the slots for twice as many items, written into larger bytes.
 
 use crate::proved::tables::bytes::{ByteArray, ByteStore};

@@ -1,4 +1,4 @@
-// Made by `make rust` of crates/odht/src/hash_table.rt, which is proved.
+// Made by `make rust` of crates/odht/src/hash_table.rt.
 //! The table over bytes of any kind.
 
 use crate::proved::tables::bytes::{ByteArray, ByteStore, ByteStoreMut};

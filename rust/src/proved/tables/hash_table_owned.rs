@@ -1,4 +1,4 @@
-// Made by `make rust` of crates/odht/src/hash_table_owned.rt, which is proved.
+// Made by `make rust` of crates/odht/src/hash_table_owned.rt.
 //! The table that owns its bytes, and grows.
 
 use crate::proved::tables::bytes::OwnedBytes;

@@ -1,4 +1,4 @@
-// Made by `make rust` of crates/odht/src/iter.rt, which is proved.
+// Made by `make rust` of crates/odht/src/iter.rt.
 //! A walk over the pairs of a table.
 
 use crate::proved::tables::config::Config;

@@ -1,4 +1,4 @@
-// Made by `make rust` of crates/odht/src/lookups.rt, which is proved.
+// Made by `make rust` of crates/odht/src/lookups.rt.
 //! Lookups of many keys. A first look hashes a key and reads the group of control bytes at its home. The first looks of
 //! eight keys are taken before any of their searches goes on, so that the loads from memory overlap.
 

@@ -1,4 +1,4 @@
-// Made by `make rust` of crates/odht_base/src/bytes/arrays.rt, which is proved.
+// Made by `make rust` of crates/odht_base/src/bytes/arrays.rt.
 //! Byte arrays of a fixed length, which keys and values are encoded to.
 
 use std::fmt::Debug;

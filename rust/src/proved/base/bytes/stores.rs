@@ -1,4 +1,4 @@
-// Made by `make rust` of crates/odht_base/src/bytes/stores.rt, which is proved.
+// Made by `make rust` of crates/odht_base/src/bytes/stores.rt.
 //! Stores of bytes, which hold tables.
 
 /// A store of bytes.

@@ -1,4 +1,4 @@
-// Made by `make rust` of crates/odht_base/src/swisstable_group_query/lanes.rt, which is proved.
+// Made by `make rust` of crates/odht_base/src/swisstable_group_query/lanes.rt.
 //! The search of sixteen control bytes at once, in the lanes of one vector.
 
 use super::mask::{lowest_bit, without_lowest_bit};

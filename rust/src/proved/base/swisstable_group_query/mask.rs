@@ -1,4 +1,4 @@
-// Made by `make rust` of crates/odht_base/src/swisstable_group_query/mask.rt, which is proved.
+// Made by `make rust` of crates/odht_base/src/swisstable_group_query/mask.rt.
 //! The set bits of a mask, taken from the lowest on.
 
 /// The index of the lowest bit that is set; None where none is.

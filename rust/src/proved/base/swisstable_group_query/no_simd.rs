@@ -1,4 +1,4 @@
-// Made by `make rust` of crates/odht_base/src/swisstable_group_query/no_simd.rt, which is proved.
+// Made by `make rust` of crates/odht_base/src/swisstable_group_query/no_simd.rt.
 //! The search of eight control bytes in one word of 64 bits.
 
 use super::mask::{lowest_bit, without_lowest_bit};

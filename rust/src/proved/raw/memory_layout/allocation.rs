@@ -1,4 +1,4 @@
-// Made by `make rust` of crates/odht_raw/src/memory_layout/allocation.rt, which is proved.
+// Made by `make rust` of crates/odht_raw/src/memory_layout/allocation.rt.
 //! The bytes of a table in a store: opening and reading.
 
 use super::{entry_at, Entries, EntryMetadata, Header, HEADER_SIZE};

@@ -1,4 +1,4 @@
-// Made by `make rust` of crates/odht_raw/src/memory_layout/check.rt, which is proved.
+// Made by `make rust` of crates/odht_raw/src/memory_layout/check.rt.
 //! The whole check of the bytes of a table.
 
 use super::Allocation;

@@ -1,4 +1,4 @@
-// Made by `make rust` of crates/odht_raw/src/memory_layout/new_tables.rt, which is proved.
+// Made by `make rust` of crates/odht_raw/src/memory_layout/new_tables.rt.
 //! New tables, in given bytes and in newly allocated memory.
 
 use super::{bytes_needed, write_header, Allocation, HEADER_SIZE};

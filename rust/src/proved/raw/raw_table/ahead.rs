@@ -1,4 +1,4 @@
-// Made by `make rust` of crates/odht_raw/src/raw_table/ahead.rt, which is proved.
+// Made by `make rust` of crates/odht_raw/src/raw_table/ahead.rt.
 //! Inserts of several keys whose slots are looked up ahead, so that the memory accesses to their control bytes overlap.
 
 use super::writes::insert_at;

@@ -1,4 +1,4 @@
-// Made by `make rust` of crates/odht_raw/src/raw_table/check.rt, which is proved.
+// Made by `make rust` of crates/odht_raw/src/raw_table/check.rt.
 //! The whole check of the parts of a table: each slot, the mirror, and that the search for each key ends at its slot.
 
 use super::{tag_of, ProbeSeq, RawTable, FREE};

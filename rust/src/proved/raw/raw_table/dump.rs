@@ -1,4 +1,4 @@
-// Made by `make rust` of crates/odht_raw/src/raw_table/dump.rt, which is proved.
+// Made by `make rust` of crates/odht_raw/src/raw_table/dump.rt.
 //! What `Debug` writes of a table: each slot on a line.
 
 use super::{is_empty_or_deleted, Entry, RawTable};

@@ -1,4 +1,4 @@
-// Made by `make rust` of crates/odht_raw/src/raw_table/entries.rt, which is proved.
+// Made by `make rust` of crates/odht_raw/src/raw_table/entries.rt.
 //! The entries of a table, read from their bytes.
 
 use crate::proved::raw::bytes::ByteArray;

@@ -1,4 +1,4 @@
-// Made by `make rust` of crates/odht_raw/src/raw_table/first_look.rt, which is proved.
+// Made by `make rust` of crates/odht_raw/src/raw_table/first_look.rt.
 //! The first look of a search. To look up many keys, take the first looks of several keys before the first search ends:
 //! then their memory accesses overlap.
 

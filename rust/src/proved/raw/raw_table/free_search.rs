@@ -1,4 +1,4 @@
-// Made by `make rust` of crates/odht_raw/src/raw_table/free_search.rt, which is proved.
+// Made by `make rust` of crates/odht_raw/src/raw_table/free_search.rt.
 //! The search for the first slot of a probe order that counts as free.
 
 use super::{is_empty_or_deleted, tag_of, EntryMetadata, ProbeSeq};

@@ -1,4 +1,4 @@
-// Made by `make rust` of crates/odht_raw/src/raw_table/group_search.rt, which is proved.
+// Made by `make rust` of crates/odht_raw/src/raw_table/group_search.rt.
 //! The search by groups of control bytes along the probe order.
 
 use super::{tag_of, Entries, EntryMetadata, ProbeSeq, Scan, SearchResult};

@@ -1,4 +1,4 @@
-// Made by `make rust` of crates/odht_raw/src/raw_table/insert_order.rt, which is proved.
+// Made by `make rust` of crates/odht_raw/src/raw_table/insert_order.rt.
 //! An order of inserts that makes a table, found within the buffer that it is written to.
 
 use super::{is_empty_or_deleted, EntryMetadata, ProbeSeq, RawTable};

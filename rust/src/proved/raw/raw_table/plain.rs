@@ -1,4 +1,4 @@
-// Made by `make rust` of crates/odht_raw/src/raw_table/plain.rt, which is proved.
+// Made by `make rust` of crates/odht_raw/src/raw_table/plain.rt.
 //! The search slot by slot along the probe order, and find and insert by it: the reference forms of the searches by
 //! groups.
 

@@ -1,4 +1,4 @@
-// Made by `make rust` of crates/odht_raw/src/raw_table/probe_seq.rt, which is proved.
+// Made by `make rust` of crates/odht_raw/src/raw_table/probe_seq.rt.
 //! The probe order of the slots of a table, a group at a time.
 
 use crate::proved::raw::error::Error;

@@ -1,4 +1,4 @@
-// Made by `make rust` of crates/odht_raw/src/raw_table/scan.rt, which is proved.
+// Made by `make rust` of crates/odht_raw/src/raw_table/scan.rt.
 //! The control bytes of a table as a search reads them.
 
 use super::EntryMetadata;

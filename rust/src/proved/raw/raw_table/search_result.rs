@@ -1,4 +1,4 @@
-// Made by `make rust` of crates/odht_raw/src/raw_table/search_result.rt, which is proved.
+// Made by `make rust` of crates/odht_raw/src/raw_table/search_result.rt.
 //! What a search answers.
 
 /// The slot where a search ended.

@@ -1,4 +1,4 @@
-// Made by `make rust` of crates/odht_raw/src/raw_table/table_mut.rt, which is proved.
+// Made by `make rust` of crates/odht_raw/src/raw_table/table_mut.rt.
 //! The parts of a table, borrowed to be written.
 
 use super::free_search::first_free;

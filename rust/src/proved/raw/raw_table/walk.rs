@@ -1,4 +1,4 @@
-// Made by `make rust` of crates/odht_raw/src/raw_table/walk.rt, which is proved.
+// Made by `make rust` of crates/odht_raw/src/raw_table/walk.rt.
 //! Walks over the occupied slots.
 
 use super::{Entries, Entry, EntryMetadata};

@@ -1,4 +1,4 @@
-// Made by `make rust` of crates/odht_raw/src/raw_table/writes.rt, which is proved.
+// Made by `make rust` of crates/odht_raw/src/raw_table/writes.rt.
 //! The writes of an insert on the parts of a table.
 
 use super::{Entries, EntryMetadata, SearchResult};

@@ -1,4 +1,4 @@
-// Made by `make rust` of crates/odht/src/configs/hashed.rt, which is proved.
+// Made by `make rust` of crates/odht/src/configs/hashed.rt.
 //! Ready configurations for keys that are hashes already: bytes as they are, of which `UnHashFn` takes the last four.
 
 use super::numbers::Stored;

@@ -1,4 +1,4 @@
-// Made by `make rust` of crates/odht/src/configs/numbers.rt, which is proved.
+// Made by `make rust` of crates/odht/src/configs/numbers.rt.
 //! Ready configurations for integers: keys and values are little-endian, and keys are hashed by `FxHashFn`.
 
 use crate::proved::tables::bytes::ByteArray;

@@ -1,4 +1,4 @@
-// Made by `make rust` of crates/odht/src/hash_table/lists.rt, which is proved.
+// Made by `make rust` of crates/odht/src/hash_table/lists.rt.
 //! Lists of inserts into the table over bytes of any kind.
 
 use super::HashTable;

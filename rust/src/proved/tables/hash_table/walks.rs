@@ -1,4 +1,4 @@
-// Made by `make rust` of crates/odht/src/hash_table/walks.rt, which is proved.
+// Made by `make rust` of crates/odht/src/hash_table/walks.rt.
 //! Walks over the table that begin at a slot.
 
 use super::HashTable;

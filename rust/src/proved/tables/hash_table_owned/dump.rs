@@ -1,4 +1,4 @@
-// Made by `make rust` of crates/odht/src/hash_table_owned/dump.rt, which is proved.
+// Made by `make rust` of crates/odht/src/hash_table_owned/dump.rt.
 //! What `Debug` writes of an owned table: the numbers of its header, and each slot on a line.
 
 use super::HashTableOwned;

@@ -1,4 +1,4 @@
-// Made by `make rust` of crates/odht/src/hash_table_owned/get_all.rt, which is proved.
+// Made by `make rust` of crates/odht/src/hash_table_owned/get_all.rt.
 //! Lookups of many keys in a table that grows.
 
 use super::HashTableOwned;

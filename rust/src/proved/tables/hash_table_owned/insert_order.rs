@@ -1,4 +1,4 @@
-// Made by `make rust` of crates/odht/src/hash_table_owned/insert_order.rt, which is proved.
+// Made by `make rust` of crates/odht/src/hash_table_owned/insert_order.rt.
 //! An order of inserts that makes a table.
 
 use super::HashTableOwned;

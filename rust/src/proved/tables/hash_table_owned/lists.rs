@@ -1,4 +1,4 @@
-// Made by `make rust` of crates/odht/src/hash_table_owned/lists.rt, which is proved.
+// Made by `make rust` of crates/odht/src/hash_table_owned/lists.rt.
 //! Lists of inserts into the table that grows.
 
 use super::HashTableOwned;

@@ -1,4 +1,4 @@
-// Made by `make rust` of crates/odht_raw/src/memory_layout/allocation/batches.rt, which is proved.
+// Made by `make rust` of crates/odht_raw/src/memory_layout/allocation/batches.rt.
 //! Inserts of a list of items into the parts of a table, eight at a time where the table is large.
 
 use super::lists::insert_into_parts;

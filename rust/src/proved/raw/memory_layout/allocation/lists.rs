@@ -1,4 +1,4 @@
-// Made by `make rust` of crates/odht_raw/src/memory_layout/allocation/lists.rt, which is proved.
+// Made by `make rust` of crates/odht_raw/src/memory_layout/allocation/lists.rt.
 //! Inserts of lists of items into the bytes of a table: the header is read once, and the item count written once.
 
 use super::batches::insert_by_size;

@@ -1,4 +1,4 @@
-// Made by `make rust` of crates/odht_raw/src/memory_layout/allocation/writing.rt, which is proved.
+// Made by `make rust` of crates/odht_raw/src/memory_layout/allocation/writing.rt.
 //! The writes of an insert to the bytes of a table: an entry with its tag, a value alone, and the item count.
 
 use super::Allocation;
