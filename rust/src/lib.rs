@@ -13,6 +13,8 @@ mod iter;
 mod opened;
 mod owned;
 mod sizes;
+#[cfg(test)]
+mod tests;
 mod view;
 
 // The source of the proved library with its contracts taken out, made by `make rust` in the repository of this crate.
