@@ -25,6 +25,12 @@ impl<'a, C: Config> Iter<'a, C> {
         let (control, entries) = parts::<C>(bytes);
         Iter(tables::Iter::new(RawIter::new(control, entries)))
     }
+
+    /// How many slots of the table of these bytes are occupied. No key and no value is decoded.
+    pub(crate) fn occupied(bytes: &'a [u8]) -> usize {
+        let (control, entries) = parts::<C>(bytes);
+        RawIter::new(control, entries).count()
+    }
 }
 
 impl<'a, C: Config> Slots<'a, C> {

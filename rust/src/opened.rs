@@ -1,8 +1,11 @@
-//! What was seen of the bytes of a table when it was opened.
+//! What was seen of the bytes of a table when it was opened, and the item count in its header.
 //!
 //! A table over a `D: Borrow<[u8]>` asks for the bytes at each call, and a `D` that is badly written may give others. What
 //! the proved library takes for granted of them is their length and the slot count in their header, so both are kept,
 //! and compared at each call.
+
+use crate::config::Config;
+use crate::iter::Iter;
 
 /// The length and the slot count of a table's bytes.
 #[derive(Clone, Copy)]
@@ -44,4 +47,10 @@ fn slots_of(bytes: &[u8]) -> u64 {
         Some(field) => u64::from_le_bytes(field.try_into().unwrap_or([0; 8])),
         None => 0,
     }
+}
+
+/// Writes the number of the occupied slots to the header. The header and the length of the bytes fit.
+pub fn count_again<C: Config>(bytes: &mut [u8]) {
+    let count = Iter::<C>::occupied(bytes) as u64;
+    bytes[8..16].copy_from_slice(&count.to_le_bytes());
 }

@@ -1,7 +1,9 @@
 //! Inserts into the table that grows.
 
-use super::{refused, tables, Config, Error, HashTableOwned, Proved};
+use super::{refused, tables, Config, Error, Global, HashTableOwned, Proved};
+use crate::opened::count_again;
 use crate::proved::base::bytes::Borrowed;
+use crate::shim::to_vec;
 
 impl<C: Config> HashTableOwned<C> {
     /// Gives the key this value, and returns its former one. At the maximum the table grows for a new key: to the slots
@@ -78,7 +80,10 @@ impl<C: Config> HashTableOwned<C> {
     ///
     /// [`Error::Memory`] as of [`try_insert`](HashTableOwned::try_insert). The table is then as the items before left it.
     pub fn try_insert_all(&mut self, items: &[(C::Key, C::Value)]) -> (usize, Result<(), Error>) {
-        self.0.insert_all(items)
+        let list = List(self);
+        let done = list.0 .0.insert_all(items);
+        std::mem::forget(list);
+        done
     }
 
     // Ends an insert whose growth failed.
@@ -88,5 +93,20 @@ impl<C: Config> HashTableOwned<C> {
         let bytes = Borrowed::new(self.raw_bytes());
         let table = tables::HashTable::<Proved<C>, _>::from_raw_bytes_unchecked(bytes);
         refused(error, table.grown_len().unwrap_or(0))
+    }
+}
+
+// A table while a list is inserted. Its item count is written behind the list; so where the configuration's own code
+// panics within the list, the items that were inserted are counted here.
+struct List<'t, C: Config>(&'t mut HashTableOwned<C>);
+
+impl<C: Config> Drop for List<'_, C> {
+    #[cold]
+    fn drop(&mut self) {
+        let Ok(mut bytes) = to_vec(self.0.raw_bytes(), Global) else { return };
+        count_again::<C>(&mut bytes);
+        if let Ok(table) = tables::HashTableOwned::from_raw_bytes_unchecked(Global, &bytes) {
+            self.0 .0 = table;
+        }
     }
 }

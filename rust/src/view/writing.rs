@@ -2,7 +2,7 @@
 
 use super::HashTable;
 use crate::config::{Config, Proved};
-use crate::opened::Opened;
+use crate::opened::{count_again, Opened};
 use crate::proved::base::bytes::BorrowedMut;
 use crate::proved::header::error::Error;
 use crate::proved::tables;
@@ -151,6 +151,27 @@ impl<C: Config, D: Borrow<[u8]> + BorrowMut<[u8]>> HashTable<C, D> {
     /// [`Error::Full`] where the table is at its maximum and the next key is new. The table is then as the items before
     /// it left it.
     pub fn try_insert_all(&mut self, items: &[(C::Key, C::Value)]) -> (usize, Result<(), Error>) {
-        self.view_mut().insert_all(items)
+        let bytes = self.data.borrow_mut();
+        self.opened.check(bytes);
+        let list = List { bytes, config: PhantomData::<C> };
+        let store = BorrowedMut::new(&mut *list.bytes);
+        let mut view = tables::HashTable::<Proved<C>, _>::from_raw_bytes_unchecked(store);
+        let done = view.insert_all(items);
+        std::mem::forget(list);
+        done
+    }
+}
+
+// The bytes of a table while a list is inserted. The item count is written behind the list; so where the configuration's
+// own code panics within the list, the items that were inserted are counted here.
+struct List<'b, C: Config> {
+    bytes: &'b mut [u8],
+    config: PhantomData<C>,
+}
+
+impl<C: Config> Drop for List<'_, C> {
+    #[cold]
+    fn drop(&mut self) {
+        count_again::<C>(self.bytes);
     }
 }
