@@ -18,8 +18,15 @@ mod tests;
 mod view;
 
 // The source of the proved library with its contracts taken out, made by `make rust` in the repository of this crate.
-// It is whole, also where nothing here uses it; the fields of its errors are documented by their type.
-#[allow(dead_code, unused_imports, unused_variables, missing_docs, clippy::all)]
+// It is whole, also where nothing here uses it; the fields of its errors are documented by their type; and it is written
+// as it could be proved.
+#[allow(dead_code, unused_imports, unused_variables, missing_docs)]
+#[allow(
+    clippy::collapsible_if,
+    clippy::manual_map,
+    clippy::module_inception,
+    clippy::needless_range_loop
+)]
 #[cfg_attr(not(feature = "fast"), forbid(unsafe_code))]
 #[cfg_attr(feature = "fast", allow(unsafe_code))]
 mod proved {

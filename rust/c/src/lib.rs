@@ -10,7 +10,13 @@ mod shim;
 mod lists;
 
 // The modules of the crate `odht`. They are whole, also where nothing here uses them.
-#[allow(dead_code, unused_imports, unused_variables, clippy::all)]
+#[allow(dead_code, unused_imports, unused_variables)]
+#[allow(
+    clippy::collapsible_if,
+    clippy::manual_map,
+    clippy::module_inception,
+    clippy::needless_range_loop
+)]
 #[path = "../../src/proved"]
 mod proved {
     pub mod base;

@@ -50,9 +50,8 @@ mod tests {
     #[test]
     fn an_empty_list_may_be_null() {
         // SAFETY: the length is zero.
-        let (read, written) = unsafe {
-            (list::<u64>(std::ptr::null(), 0), list_mut::<u64>(std::ptr::null_mut(), 0))
-        };
+        let (read, written) =
+            unsafe { (list::<u64>(std::ptr::null(), 0), list_mut::<u64>(std::ptr::null_mut(), 0)) };
         assert_eq!((read.len(), written.len()), (0, 0));
     }
 }
