@@ -13,6 +13,7 @@
 # make bench: the tables of speeds; QUICK=1 for a short run, ODHT_RUST=folder for the Rust crate beside it, CHECK=1 for
 # the tables of the whole check alone, WORST=1 for the largest forged table too, about an hour, ORDER=1 for the line of
 # an order of inserts alone, MARKDOWN=1 for Markdown
+# make bench-crate: the crate for Rust beside the Rust crate, whose folder is ODHT_RUST; ITEMS=100000 for no larger tables
 # make bounds: loops that tell what bounds these speeds; ODHT_RUST=folder is needed
 SCRIPT ?= crates/odht_table/stdin
 PARTS ?=
@@ -27,6 +28,7 @@ WORST ?=
 ORDER ?=
 MARKDOWN ?=
 ODHT_RUST ?=
+ITEMS ?=
 .PHONY: run test prove edits build lib rust exports exports_are_current install uninstall examples bench
 run:
 	@cd crates/odht_table && rt try < $(abspath $(SCRIPT))
@@ -85,6 +87,16 @@ bench: build/libodht.a $(if $(ODHT_RUST),original)
 	@$(if $(MARKDOWN),sh bench/machine.sh)
 	@build/bench $(if $(QUICK),quick) $(if $(CHECK),check) $(if $(WORST),worst) $(if $(ORDER),order) \
 	  $(if $(MARKDOWN),markdown)
+
+# the crate for Rust, as it is and with the feature `fast`, beside the original; it needs ODHT_RUST and nothing proved
+.PHONY: bench-crate
+bench-crate: original
+	@$(BENCH_RUST) --edition 2021 --crate-type rlib --crate-name odht_default rust/src/lib.rs -o build/original/libodht_default.rlib
+	@$(BENCH_RUST) --edition 2021 --crate-type rlib --crate-name odht_fast --cfg 'feature="fast"' rust/src/lib.rs \
+	  -o build/original/libodht_fast.rlib
+	@$(BENCH_RUST) --edition 2021 -D warnings bench/crate.rs -L dependency=build/original --extern odht=build/original/libodht.rlib \
+	  --extern odht_default=build/original/libodht_default.rlib --extern odht_fast=build/original/libodht_fast.rlib -o build/bench_crate
+	@build/bench_crate $(ITEMS)
 
 # what bounds the lines of the tables: loops that do only what a job cannot do without; it needs ODHT_RUST
 .PHONY: bounds
