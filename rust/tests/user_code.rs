@@ -35,7 +35,7 @@ struct FickleHash;
 
 impl HashFn for FickleHash {
     fn hash(bytes: &[u8]) -> u32 {
-        at_random(UnHashFn::hash(bytes), |random| random.next() as u32)
+        at_random(UnHashFn::hash(bytes), |random| random.number() as u32)
     }
 }
 
@@ -55,10 +55,10 @@ impl Config for Fickle {
         at_random(value.to_le_bytes(), Random::array)
     }
     fn decode_key(key: &[u8; 4]) -> u32 {
-        at_random(u32::from_le_bytes(*key), |random| random.next() as u32)
+        at_random(u32::from_le_bytes(*key), |random| random.number() as u32)
     }
     fn decode_value(value: &[u8; 2]) -> u16 {
-        at_random(u16::from_le_bytes(*value), |random| random.next() as u16)
+        at_random(u16::from_le_bytes(*value), |random| random.number() as u16)
     }
 }
 
@@ -76,7 +76,7 @@ fn run<T>(call: impl FnOnce() -> T) -> Option<T> {
 
 fn items(random: &mut Random) -> Vec<(u32, u16)> {
     let count = random.below(60);
-    (0..count).map(|_| (random.next() as u32 & 0x0f00_00ff, random.next() as u16)).collect()
+    (0..count).map(|_| (random.number() as u32 & 0x0f00_00ff, random.number() as u16)).collect()
 }
 
 // All calls that read, on both tables.

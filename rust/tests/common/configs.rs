@@ -2,6 +2,7 @@
 
 use odht::{Config, FxHashFn, HashFn, UnHashFn};
 use std::marker::PhantomData;
+use std::mem::size_of;
 
 /// Keys and values that are bytes already.
 pub struct Plain<const K: usize, const V: usize, H = FxHashFn>(PhantomData<H>);

@@ -92,10 +92,10 @@ fn reads_stay_in_frame<const K: usize, const V: usize, H: Named>(
         let (value, groups) = view.get_counted(key);
         assert!((1..=slots / 16).contains(&groups));
         assert_eq!((view.get(key), view.contains_key(key)), (value, value.is_some()));
-        let is_stored = |value: [u8; V]| {
+        let mut answers = value.into_iter().chain(found);
+        assert!(answers.all(|value| {
             (0..slots).any(|slot| reading.key(slot) == key && reading.value(slot) == value)
-        };
-        assert!(value.is_none_or(is_stored) && found.is_none_or(is_stored));
+        }));
     }
 }
 
