@@ -6,9 +6,10 @@
     current    what is generated is what tools/erase and rustfmt make of the proved crates, and tests/erased.py reads the same
     planted    tests/erased.py reports faults that are planted in the erased text, one after the other
     erase      the tests of tools/erase
-    crate      those of the crate, its examples too; and with the feature `fast`, which asserts each index there
+    crate      those of the crate; `examples`: those of its documentation
+    fast       the same with the feature `fast`, which asserts each index there; `no_simd`: some of them with that feature
     compat     code that is written for odht 0.3.1
-    beside     the crate beside the library for C and the Rust crate, where these are
+    beside     the crate beside the library for C (in ODHT_LIB_DIR) and the Rust crate (in ODHT_RUST), where these are
     lints      no warning of clippy and rustdoc, and the layout of rustfmt
     package    `cargo package` verifies the crate
     c          libodht of the erased exports has the calls of include/odht.h, and the examples in C go over it
@@ -22,6 +23,7 @@ import subprocess
 import sys
 import tempfile
 import time
+from concurrent.futures import ThreadPoolExecutor
 
 TOP = os.path.dirname(os.path.dirname(os.path.realpath(__file__)))
 CARGO_FILES = f"{TOP}/build/cargo"
@@ -133,13 +135,11 @@ def is_told(room, fault):
         raise Failed(f"planted, and not told: {fault}")
 
 
-def tests_of_crate():
-    return cargo("rust", "test") + cargo("rust", "test", "--lib", "--tests", "--features", "fast")
+NO_SIMD = ["--lib", "--test", "vectors", "--test", "properties"]
 
 
-def in_folder(folder):
-    """Returns the test of a package that stands in a folder, if it does."""
-    return lambda: cargo(folder, "test") if os.path.isfile(f"{TOP}/{folder}/Cargo.toml") else "it is not there"
+def beside():
+    return cargo("rust/beside", "test") + cargo("rust/beside", "test", "--features", "fast")
 
 
 def lints():
@@ -185,13 +185,28 @@ TESTS = {
     "current": current,
     "planted": planted,
     "erase": lambda: cargo("tools/erase", "test"),
-    "crate": tests_of_crate,
-    "compat": in_folder("rust/compat"),
-    "beside": in_folder("rust/beside"),
+    "crate": lambda: cargo("rust", "test", "--lib", "--tests"),
+    "examples": lambda: cargo("rust", "test", "--doc"),
+    "fast": lambda: cargo("rust", "test", "--lib", "--tests", "--features", "fast"),
+    "no_simd": lambda: cargo("rust", "test", "--features", "no_simd", *NO_SIMD),
+    "compat": lambda: cargo("rust/compat", "test"),
+    "beside": beside,
     "lints": lints,
     "package": package,
     "c": library_for_c,
 }
+
+
+def ended(name):
+    """Runs a test, and returns how many passed and failed."""
+    began = time.monotonic()
+    try:
+        passed = TESTS[name]()
+    except Failed as what:
+        print(f"{name}: FAILED\n{what}", flush=True)
+        return 0, 1
+    print(f"{name}: {passed} passed; {time.monotonic() - began:.0f} s", flush=True)
+    return passed, 0
 
 
 def main(*names):
@@ -201,18 +216,10 @@ def main(*names):
     if not has("cargo", "--version") or not has("rustfmt", "--version"):
         print("there is no cargo here\n0 passed, 0 failed")
         return 0
-    passed = failed = 0
-    for name in [it for it in TESTS if not names or it in names]:
-        began = time.monotonic()
-        try:
-            done = TESTS[name]()
-        except Failed as what:
-            failed += 1
-            print(f"{name}: FAILED\n{what}", flush=True)
-            continue
-        passed += done if isinstance(done, int) else 0
-        said = f"{done} passed" if isinstance(done, int) else done
-        print(f"{name}: {said}; {time.monotonic() - began:.0f} s", flush=True)
+    # cargo builds one after the other, and runs what it has built at the same time
+    with ThreadPoolExecutor(len(os.sched_getaffinity(0))) as pool:
+        counts = list(pool.map(ended, [it for it in TESTS if not names or it in names]))
+    passed, failed = (sum(it[at] for it in counts) for at in (0, 1))
     print(f"{passed} passed, {failed} failed")
     return 1 if failed else 0
 
