@@ -1,7 +1,4 @@
-//! A hash table that is used in the form in which it is stored: it is built once, written to a file or into another
-//! program, and read from there, at any alignment, with nothing to decode first.
-//!
-//! (being written)
+#![doc = include_str!("../README.md")]
 #![deny(unsafe_code, missing_docs)]
 
 #[macro_use]

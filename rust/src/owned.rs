@@ -135,6 +135,11 @@ impl<C: Config> HashTableOwned<C> {
     }
 
     /// Whether there is no item.
+    ///
+    /// ```
+    /// # use odht::{configs::U64ToU32, HashTableOwned};
+    /// assert!(HashTableOwned::<U64ToU32>::default().is_empty());
+    /// ```
     #[inline]
     pub fn is_empty(&self) -> bool {
         self.len() == 0

@@ -95,7 +95,16 @@ impl<C: Config, D: Borrow<[u8]>> HashTable<C, D> {
     /// # Safety
     ///
     /// `from_raw_bytes` accepted these bytes, or `raw_bytes` of a table of this configuration returned them. Without the
-    /// feature `fast` no other bytes do any harm: calls may panic or return anything.
+    /// feature `fast` other bytes are no danger to memory: calls may panic, return anything or not return.
+    ///
+    /// ```
+    /// # use odht::{configs::U64ToU32, HashTable, HashTableOwned};
+    /// # let mut table = HashTableOwned::<U64ToU32>::default();
+    /// # table.insert(&1, &2);
+    /// // SAFETY: these are the bytes of a table of this configuration.
+    /// let view = unsafe { HashTable::<U64ToU32, _>::from_raw_bytes_unchecked(table.raw_bytes()) };
+    /// assert_eq!(view.get(&1), Some(2));
+    /// ```
     #[inline]
     #[allow(unsafe_code)]
     pub unsafe fn from_raw_bytes_unchecked(data: D) -> Self {
@@ -241,6 +250,15 @@ impl<C: Config, D: Borrow<[u8]>> HashTable<C, D> {
     }
 
     /// Whether there is no item, by the header.
+    ///
+    /// ```
+    /// # use odht::{configs::U64ToU32, HashTable, HashTableOwned};
+    /// # let mut table = HashTableOwned::<U64ToU32>::default();
+    /// # table.insert(&1, &2);
+    /// # let view = HashTable::<U64ToU32, _>::from_raw_bytes(table.raw_bytes())?;
+    /// assert!(!view.is_empty());
+    /// # Ok::<(), Box<dyn std::error::Error>>(())
+    /// ```
     #[inline]
     pub fn is_empty(&self) -> bool {
         self.len() == 0
@@ -265,17 +283,45 @@ impl<C: Config, D: Borrow<[u8]>> HashTable<C, D> {
     }
 
     /// Whether all of the bytes are those of a table: whether [`check_all`](HashTable::check_all) finds no error.
+    ///
+    /// ```
+    /// # use odht::{configs::U64ToU32, HashTable, HashTableOwned};
+    /// # let mut table = HashTableOwned::<U64ToU32>::default();
+    /// # table.insert(&1, &2);
+    /// # let view = HashTable::<U64ToU32, _>::from_raw_bytes(table.raw_bytes())?;
+    /// assert!(view.verify());
+    /// # Ok::<(), Box<dyn std::error::Error>>(())
+    /// ```
     pub fn verify(&self) -> bool {
         self.view().verify()
     }
 
     /// The bytes of the table.
+    ///
+    /// ```
+    /// # use odht::{configs::U64ToU32, HashTable, HashTableOwned};
+    /// # let mut table = HashTableOwned::<U64ToU32>::default();
+    /// # table.insert(&1, &2);
+    /// # let view = HashTable::<U64ToU32, _>::from_raw_bytes(table.raw_bytes())?;
+    /// assert_eq!(view.raw_bytes(), table.raw_bytes());
+    /// # Ok::<(), Box<dyn std::error::Error>>(())
+    /// ```
     #[inline]
     pub fn raw_bytes(&self) -> &[u8] {
         self.data.borrow()
     }
 
     /// What holds the bytes of the table.
+    ///
+    /// ```
+    /// # use odht::{configs::U64ToU32, HashTable, HashTableOwned};
+    /// # let mut table = HashTableOwned::<U64ToU32>::default();
+    /// # table.insert(&1, &2);
+    /// # let view = HashTable::<U64ToU32, _>::from_raw_bytes(table.raw_bytes())?;
+    /// let bytes: &[u8] = view.into_data();
+    /// assert_eq!(bytes, table.raw_bytes());
+    /// # Ok::<(), Box<dyn std::error::Error>>(())
+    /// ```
     #[inline]
     pub fn into_data(self) -> D {
         self.data
@@ -283,6 +329,15 @@ impl<C: Config, D: Borrow<[u8]>> HashTable<C, D> {
 
     /// The length in bytes of the table that this one grows into: with the slots for twice its items, and for one at
     /// least. `None` where no table is that large.
+    ///
+    /// ```
+    /// # use odht::{configs::U64ToU32, HashTable, HashTableOwned};
+    /// # let mut table = HashTableOwned::<U64ToU32>::default();
+    /// # table.insert(&1, &2);
+    /// # let view = HashTable::<U64ToU32, _>::from_raw_bytes(table.raw_bytes())?;
+    /// assert_eq!(view.grown_len(), Some(256)); // sixteen slots are enough for two items
+    /// # Ok::<(), Box<dyn std::error::Error>>(())
+    /// ```
     pub fn grown_len(&self) -> Option<usize> {
         self.view().grown_len()
     }

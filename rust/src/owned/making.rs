@@ -126,6 +126,13 @@ impl<C: Config> HashTableOwned<C> {
 
     /// [`from_raw_bytes`](HashTableOwned::from_raw_bytes), with the error as it is.
     ///
+    /// ```
+    /// use odht::{configs::U64ToU32, Error, HashTableOwned};
+    ///
+    /// let error = HashTableOwned::<U64ToU32>::try_from_raw_bytes(b"no table").unwrap_err();
+    /// assert_eq!(error, Error::TooShort { found: 8 });
+    /// ```
+    ///
     /// # Errors
     ///
     /// The first that [`check_all`](crate::check_all) finds, else [`Error::Memory`] where memory is refused.
@@ -139,7 +146,16 @@ impl<C: Config> HashTableOwned<C> {
     /// # Safety
     ///
     /// [`check_all`](crate::check_all) accepts these bytes, as it does those of each table of this configuration.
-    /// Without the feature `fast` no other bytes do any harm: calls may panic or return anything.
+    /// Without the feature `fast` other bytes are no danger to memory: calls may panic, return anything or not return.
+    ///
+    /// ```
+    /// # use odht::{configs::U64ToU32, HashTableOwned};
+    /// # let mut table = HashTableOwned::<U64ToU32>::default();
+    /// # table.insert(&1, &2);
+    /// // SAFETY: these are the bytes of a table of this configuration.
+    /// let copy = unsafe { HashTableOwned::<U64ToU32>::from_raw_bytes_unchecked(table.raw_bytes()) };
+    /// assert_eq!(copy.get(&1), Some(2));
+    /// ```
     #[allow(unsafe_code)]
     pub unsafe fn from_raw_bytes_unchecked(data: &[u8]) -> Self {
         let () = Proved::<C>::FITS;
@@ -148,6 +164,14 @@ impl<C: Config> HashTableOwned<C> {
     }
 
     /// A table of the same bytes.
+    ///
+    /// ```
+    /// # use odht::{configs::U64ToU32, HashTableOwned};
+    /// # let mut table = HashTableOwned::<U64ToU32>::default();
+    /// let copy = table.try_clone()?;
+    /// assert_eq!(copy.raw_bytes(), table.raw_bytes());
+    /// # Ok::<(), odht::Error>(())
+    /// ```
     ///
     /// # Errors
     ///

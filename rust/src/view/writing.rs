@@ -85,6 +85,16 @@ impl<C: Config, D: Borrow<[u8]> + BorrowMut<[u8]>> HashTable<C, D> {
     ///
     /// The key is hashed once, and each group of control bytes is read at most once.
     ///
+    /// ```
+    /// use odht::{bytes_needed, configs::U64ToU32, HashTable};
+    ///
+    /// let mut bytes = vec![0; bytes_needed::<U64ToU32>(3, 95)];
+    /// let mut table = HashTable::<U64ToU32, _>::init_in_place(&mut bytes[..], 3, 95)?;
+    /// assert_eq!(table.insert(&1, &2), None);
+    /// assert_eq!(table.insert(&1, &5), Some(2));
+    /// # Ok::<(), Box<dyn std::error::Error>>(())
+    /// ```
+    ///
     /// # Panics
     ///
     /// Where the table is at its maximum and the key is new. Nothing has changed then.
@@ -124,6 +134,16 @@ impl<C: Config, D: Borrow<[u8]> + BorrowMut<[u8]>> HashTable<C, D> {
 
     /// `insert` of all items in their order. The header is read and written once a list, and in a large table the loads
     /// of eight keys overlap, so it is faster than one `insert` after the other.
+    ///
+    /// ```
+    /// use odht::{bytes_needed, configs::U64ToU32, HashTable};
+    ///
+    /// let bytes = vec![0; bytes_needed::<U64ToU32>(3, 95)];
+    /// let mut table = HashTable::<U64ToU32, _>::init_in_place(bytes, 3, 95)?;
+    /// table.insert_all(&[(1, 2), (3, 4), (5, 6)]);
+    /// assert_eq!(table.len(), 3);
+    /// # Ok::<(), Box<dyn std::error::Error>>(())
+    /// ```
     ///
     /// # Panics
     ///
