@@ -102,7 +102,7 @@ fn rejected_bytes_take_no_memory() {
     let mut bytes = Owned::from_iterator(pairs(30), 87).raw_bytes().to_vec();
     bytes[8] = 31;
     let (result, made) = granting(0, || Owned::try_from_raw_bytes(&bytes));
-    assert_eq!(result.err(), Some(Error::WrongItemCount { header_count: 31, found: 30 }));
+    assert_eq!(result.err(), Some(Error::WrongItemCount { stated: 31, found: 30 }));
     assert_eq!(made, 0);
     let (result, made) = granting(0, || Owned::try_with_capacity(usize::MAX, 87));
     assert_eq!((result.err(), made), (Some(Error::Capacity), 0));

@@ -55,5 +55,16 @@ pub trait Group: Sized + Drop {
         ensures rest { matches self.new ≡ drop 1 (matches self.old) }
         ensures free { free self.new ≡ free self.old };
 
+    /// Takes the least match that is left: returns and drops it; None once all were taken.
+    fn next_match(&mut self) -> Option<usize>
+        ensures found { result ≡ slice_get (matches self.old) 0 }
+        ensures rest { matches self.new ≡ drop 1 (matches self.old) }
+        ensures free { free self.new ≡ free self.old }
+    {
+        let found = self.first_match();
+        self.drop_match();
+        found
+    }
+
     ghost divides: { 16 % SIZE ≡ 0 };
 }

@@ -8,7 +8,7 @@ ghost use Rattle.odht_raw.specs.Frame.{IsAccepted};
 ghost use Rattle.odht_calls.specs.Writes.{BytesNeededAnswers, InitAnswers, InsertAnswers, InsertAllAnswers};
 
 use crate::read::view;
-use crate::status::{BAD_PERCENT, CAPACITY, INIT_LENGTH, OK, REPLACED, status_of};
+use crate::status::{BAD_PERCENT, CAPACITY, OK, REPLACED, status_of};
 use odht::bytes::ByteStoreMut;
 use odht::config::{Coded, Config};
 use odht::items::Zipped;
@@ -49,15 +49,10 @@ pub fn init<C: Config, M: ByteStoreMut>(
     if max_load_factor_percent < 1 || max_load_factor_percent > 100 {
         return BAD_PERCENT;
     }
-    let factor = Factor::from_percent(max_load_factor_percent);
-    let Some((slot_count, expected)) = memory_layout::layout_for::<C>(max_item_count, factor) else {
-        return CAPACITY;
-    };
-    if store.bytes().len() != expected {
-        return INIT_LENGTH;
+    match HashTable::<C, M>::init_store(store, max_item_count, max_load_factor_percent) {
+        Ok(()) => OK,
+        Err(refused) => status_of(&refused),
     }
-    make::<C, M>(store, slot_count, factor);
-    OK
 }
 
 /// Makes an empty table of `slot_count` slots in the store, whatever it holds. One pass over the bytes.

@@ -41,8 +41,8 @@ error_text (NonZeroPadding found) = codes "Header padding should be zero but is 
 error_text (BadFreeControl slot found) =
     codes "Free slot " ++ decimal slot ++ codes " should have control byte 255 but has " ++ decimal found
 error_text (MirrorMismatch index) = codes "Mirror control byte " ++ decimal index ++ codes " does not match its slot"
-error_text (WrongItemCount header_count found) =
-    codes "Header states " ++ decimal header_count ++ codes " items but " ++ decimal found ++ codes " were found"
+error_text (WrongItemCount stated found) =
+    codes "Header states " ++ decimal stated ++ codes " items but " ++ decimal found ++ codes " were found"
 error_text (TooManyItems count max) =
     codes "Header states " ++ decimal count ++ codes " items but at most " ++ decimal max ++ codes " are allowed"
 error_text (Unreachable slot) = codes "Key in slot " ++ decimal slot ++ codes " is not reachable by its search"

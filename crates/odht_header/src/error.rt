@@ -100,7 +100,7 @@ pub enum Error {
     },
     /// The header's item count is not the number of occupied slots.
     WrongItemCount {
-        header_count: usize,
+        stated: usize,
         found: usize,
     },
     /// The header's item count is above the maximum of the header's slot count and load factor.
@@ -210,14 +210,8 @@ fn write_contents_error<W: fmt::Write>(error: &Error, f: &mut fmt::Formatter<W>)
         Error::MirrorMismatch { index } => {
             write!(f, "Mirror control byte {index} does not match its slot")
         }
-        Error::WrongItemCount {
-            header_count,
-            found,
-        } => {
-            write!(
-                f,
-                "Header states {header_count} items but {found} were found"
-            )
+        Error::WrongItemCount { stated, found } => {
+            write!(f, "Header states {stated} items but {found} were found")
         }
         Error::TooManyItems { count, max } => write!(
             f,

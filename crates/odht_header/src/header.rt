@@ -209,17 +209,14 @@ impl<'a> Header<'a> {
     pub fn check_item_count(&self, found: usize) -> Result<(), Error>
         ensures { result ≡ checked (option_or (count_refusal found self.now) (room_refusal self.now)) }
     {
-        let header_count = self.item_count();
-        if header_count != found {
-            return Err(Error::WrongItemCount {
-                header_count,
-                found,
-            });
+        let stated = self.item_count();
+        if stated != found {
+            return Err(Error::WrongItemCount { stated, found });
         }
         let max = max_item_count_for(self.slot_count(), self.max_load_factor());
-        if max < header_count {
+        if max < stated {
             return Err(Error::TooManyItems {
-                count: header_count,
+                count: stated,
                 max,
             });
         }

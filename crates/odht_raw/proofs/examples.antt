@@ -1,4 +1,6 @@
 -- Worked examples of the definitions, each a closed theorem by computation.
+-- keys that a search does not find
+pub mod Missing
 -- inserts into bytes that a view accepts and the whole check rejects
 pub mod Frames
 -- what such an insert may not do

@@ -11,7 +11,7 @@ use Rattle.odht_base.specs.Table.{Table, slot_count, is_free}
 use Rattle.odht_base.specs.Valid.{IsPartsOf}
 use Rattle.odht_raw.specs.SearchResults.{answer}
 use Rattle.odht_header.specs.Coding.{Coding, encoded}
-use Rattle.odht_raw.specs.declared.raw_table.search_result.SearchResult.TheVariants.{Free}
+use Rattle.odht_raw.specs.declared.raw_table.search_result.Search.TheVariants.{Free}
 
 abbrev pub IsExpected : Format → Table → List ℕ → ℕ → Type 0
 IsExpected F P k i = i < slot_count P → Free i ≡ answer F P.cells k

@@ -1,49 +1,43 @@
 -- What an insert may do to bytes whose header and length fit, valid or not.
 --     IsAccepted F B       the header and the length fit
---     CountsAsFree ctrl i  the control byte of slot i, or for a slot below 16 its mirror, counts as free
---     HasNoFree bs n       none of the first n bytes of bs counts as free
---     CountsAsOccupied ctrl i  the control byte of slot i, or for a slot below 16 its mirror, does not count as free
---     HasNoFreeSlot ctrl s  each of the s slots counts as occupied
 --     header_maximum B     the maximum item count of the header's slot count and load factor
+--     entries_in F B       the entries, as many as the header's slot count
+--     IsAbsent F B k       the search for the key k ends without it
 --     InsertFrame F B p r B'              an insert of p, a pair of F, may answer r and leave B'
 --     IsBytesFramed F f B p r B'          the same with the answer decoded by f
 --     IsFramed c B k v r B'               the same of a key and a value
 --     PartsFrame F es ctrl p r es' ctrl'  the same of the parts
 --     IsPartsFramed F f es ctrl p r es' ctrl'  the same with the answer decoded by f
-use Rattle.std.specs.Prelude.{◌≡◌, ℕ, ◌+◌, ◌-◌, ◌*◌, ◌<◌, ◌≤◌, length, slice_index, List, ◌++◌, Option, option_map, Some, None, Result, Ok, Err, ◌⊎◌, IsTrue, IsFalse}
+use Rattle.std.specs.Prelude.{◌≡◌, ℕ, ◌+◌, ◌-◌, ◌*◌, ◌<◌, ◌≤◌, length, List, ◌++◌, Option, option_map, Some, None, Result, Ok, Err}
 use Rattle.std.specs.Result.{result_map_both}
 use Rattle.odht_base.specs.Bytes.{overwritten_at}
 use Rattle.odht_base.specs.Format.{Format, entry_len, tag}
 use Rattle.odht_base.specs.Load.{max_items}
 use Rattle.odht_base.specs.Table.{Pair}
-use Rattle.odht_base.specs.Decoded.{header_count, header_slots, header_factor, controls_of, key_at, value_at, counts_as_free, slot_key, slot_value}
+use Rattle.odht_base.specs.Decoded.{header_count, header_slots, header_factor, entries_of, controls_of, key_at, value_at, slot_key, slot_value}
 use Rattle.odht_base.specs.Writes.{with_value, with_pair, with_count, tagged}
 use Rattle.odht_header.specs.Coding.{Coding, encoded}
 use Rattle.odht_header.specs.Refusals.{opening_refusal}
+pub use Rattle.odht_raw.specs.ControlBytes.{CountsAsFree, CountsAsOccupied, HasNoFree, HasNoFreeSlot, IsMissing}
+use Rattle.odht_raw.specs.Parts.{EntryBytes}
 use Rattle.odht_header.specs.declared.error.Error.{Error}
 use Rattle.odht_header.specs.declared.error.Error.TheVariants.{Full}
 
 abbrev pub IsAccepted : Format → List ℕ → Type 0
 IsAccepted F B = opening_refusal F B ≡ None
 
-abbrev pub CountsAsFree : List ℕ → ℕ → Type 0
-CountsAsFree ctrl i = IsTrue (counts_as_free (slice_index ctrl i)) ⊎ ((i < 16) × IsTrue (counts_as_free (slice_index ctrl (length ctrl - 16 + i))))
-
-abbrev pub HasNoFree : List ℕ → ℕ → Type 0
-HasNoFree bs n = (i : ℕ) → i < n → IsFalse (counts_as_free (slice_index bs i))
-
-abbrev pub CountsAsOccupied : List ℕ → ℕ → Type 0
-CountsAsOccupied ctrl i = IsFalse (counts_as_free (slice_index ctrl i)) ⊎ ((i < 16) × IsFalse (counts_as_free (slice_index ctrl (length ctrl - 16 + i))))
-
-abbrev pub HasNoFreeSlot : List ℕ → ℕ → Type 0
-HasNoFreeSlot ctrl s = (i : ℕ) → i < s → CountsAsOccupied ctrl i
-
 abbrev pub header_maximum : List ℕ → ℕ
 header_maximum B = max_items (header_slots B) (header_factor B)
 
+abbrev pub entries_in : Format → List ℕ → EntryBytes
+entries_in F B = record { slots = header_slots B; bytes = entries_of F B }
+
+abbrev pub IsAbsent : Format → List ℕ → List ℕ → Type 0
+IsAbsent F B k = IsMissing F (entries_in F B) (controls_of F B) k
+
 pub data InsertFrame (F : Format) (B : List ℕ) (p : Pair) : Result (Option (List ℕ)) Error → List ℕ → Type 0 where
-  full : header_maximum B ≤ header_count B → InsertFrame F B p (Err Full) B
-  no_slot : HasNoFreeSlot (controls_of F B) (header_slots B) → InsertFrame F B p (Err Full) B
+  full : header_maximum B ≤ header_count B → IsAbsent F B p.key → InsertFrame F B p (Err Full) B
+  no_slot : HasNoFreeSlot (controls_of F B) (header_slots B) → IsAbsent F B p.key → InsertFrame F B p (Err Full) B
   overwrote : (i : ℕ) → i < header_slots B → key_at F B i ≡ p.key → InsertFrame F B p (Ok (Some (value_at F B i))) (with_value F B i p.value)
   added : (i : ℕ) → i < header_slots B → CountsAsFree (controls_of F B) i → header_count B < header_maximum B → InsertFrame F B p (Ok None) (with_count (with_pair F (header_slots B) B i p) (header_count B + 1))
 
@@ -54,7 +48,7 @@ abbrev pub IsFramed : {K V : Type 0} → Coding K V → List ℕ → K → V →
 IsFramed c B k v r B' = IsBytesFramed c.format c.value_of B (encoded c k v) r B'
 
 pub data PartsFrame (F : Format) (es ctrl : List ℕ) (p : Pair) : Result (Option (List ℕ)) Error → List ℕ → List ℕ → Type 0 where
-  no_slot : HasNoFreeSlot ctrl (length ctrl - 16) → PartsFrame F es ctrl p (Err Full) es ctrl
+  no_slot : HasNoFreeSlot ctrl (length ctrl - 16) → IsMissing F (record { slots = length ctrl - 16; bytes = es }) ctrl p.key → PartsFrame F es ctrl p (Err Full) es ctrl
   overwrote : (i : ℕ) → i < length ctrl - 16 → slot_key F es i ≡ p.key → PartsFrame F es ctrl p (Ok (Some (slot_value F es i))) (overwritten_at es (i * entry_len F + F.key_len) p.value) ctrl
   added : (i : ℕ) → i < length ctrl - 16 → CountsAsFree ctrl i → PartsFrame F es ctrl p (Ok None) (overwritten_at es (i * entry_len F) (p.key ++ p.value)) (tagged ctrl i (tag F p.key))
 

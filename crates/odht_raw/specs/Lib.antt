@@ -12,6 +12,8 @@ pub mod ProbeSeqs
 pub mod SearchSteps
 -- the first look of a search
 pub mod FirstLooks
+-- what control bytes say of a slot
+pub mod ControlBytes
 -- what the whole check reads in the parts
 pub mod Checks
 -- what an insert may do to bytes whose header and length fit, valid or not

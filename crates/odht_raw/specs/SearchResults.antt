@@ -14,13 +14,13 @@ use Rattle.odht_base.specs.Format.{Format}
 use Rattle.odht_base.specs.Table.{Pair, Table, Cells, cell_at, is_free, has_key}
 use Rattle.odht_base.specs.Insert.{place}
 use Rattle.odht_base.specs.Search.{search_end}
-use Rattle.odht_raw.specs.declared.raw_table.search_result.SearchResult.{SearchResult}
-use Rattle.odht_raw.specs.declared.raw_table.search_result.SearchResult.TheVariants.{Found, Free, Neither}
+use Rattle.odht_raw.specs.declared.raw_table.search_result.Search.{Search}
+use Rattle.odht_raw.specs.declared.raw_table.search_result.Search.TheVariants.{Found, Free, Neither}
 
-unfoldable pub answer : Format → Cells → List ℕ → SearchResult
+unfoldable pub answer : Format → Cells → List ℕ → Search
 answer F cs k = option_map_or (λ i. if is_free cs i then Free i else Found i) (search_end F cs k) Neither
 
-abbrev pub MatchSearchResult : SearchResult → (ℕ → Type 0) → (ℕ → Type 0) → Type 0 → Type 0
+abbrev pub MatchSearchResult : Search → (ℕ → Type 0) → (ℕ → Type 0) → Type 0 → Type 0
 MatchSearchResult (Found i) P Q S = P i
 MatchSearchResult (Free i) P Q S = Q i
 MatchSearchResult Neither P Q S = S
@@ -34,7 +34,7 @@ GoesInto F P k i = (v : List ℕ) → let p : Pair = record { key = k; value = v
 abbrev pub HasNoPlace : Format → Table → List ℕ → Type 0
 HasNoPlace F P k = (v : List ℕ) → place F P (record { key = k; value = v }) ≡ None
 
-abbrev pub IsWherePlaced : Format → Table → List ℕ → SearchResult → Type 0
+abbrev pub IsWherePlaced : Format → Table → List ℕ → Search → Type 0
 IsWherePlaced F P k r =
     MatchSearchResult r
     (λ i. IsTrue (has_key k (cell_at P.cells i)) × GoesInto F P k i)

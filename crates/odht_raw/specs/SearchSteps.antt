@@ -16,7 +16,7 @@ use Rattle.odht_base.specs.Table.{Table, slot_count, cell_at}
 use Rattle.odht_base.specs.Valid.{IsPlaced}
 use Rattle.odht_raw.specs.SearchResults.{answer}
 use Rattle.odht_raw.specs.Parts.{EntryBytes}
-use Rattle.odht_raw.specs.declared.raw_table.search_result.SearchResult.{SearchResult}
+use Rattle.odht_raw.specs.declared.raw_table.search_result.Search.{Search}
 
 abbrev pub slot_of : Format → Table → List ℕ → ℕ → ℕ
 slot_of F P k p = probe_slot (home F k (slot_count P)) (slot_count P) p
@@ -36,5 +36,5 @@ pub record IsGroupAt (F : Format) (P : Table) (E : EntryBytes) (k : List ℕ) (p
 abbrev pub EndsWithin : Format → Table → List ℕ → ℕ → ℕ → Type 0
 EndsWithin F P k p n = (q : ℕ) × (p ≤ q) × (q < p + n) × (reach F P.cells k ≡ Some q)
 
-abbrev pub IsLook : Format → Table → List ℕ → ℕ → ℕ → Option SearchResult → Type 0
+abbrev pub IsLook : Format → Table → List ℕ → ℕ → ℕ → Option Search → Type 0
 IsLook F P k p n r = MatchOption r (Passed F P k (p + n)) (λ a. (a ≡ answer F P.cells k) × EndsWithin F P k p n)

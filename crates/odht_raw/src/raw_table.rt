@@ -20,7 +20,7 @@ ghost use Rattle.odht_header.specs.Refusals.{checked, hashes_refusal, hashes_ref
 use crate::bytes::ByteArray;
 use crate::error::Error;
 use crate::hash::HashFn;
-use crate::swisstable_group_query::GroupQuery;
+use crate::swisstable_group_query::{Group, GroupQuery};
 use std::marker::{Model, PhantomData};
 
 mod ahead;
@@ -46,7 +46,7 @@ pub use group_search::{search, search_hashed};
 pub use plain::{plain_find, plain_insert};
 pub use probe_seq::{ProbeSeq, probe_order};
 pub use scan::Scan;
-pub use search_result::SearchResult;
+pub use search_result::Search;
 pub use table_mut::RawTableMut;
 pub use walk::{RawIter, RawSlots};
 
@@ -116,7 +116,7 @@ impl<'a, K: ByteArray, V: ByteArray, H: HashFn> RawTable<'a, K, V, H> {
     /// The value stored with the key, searched for group by group along the probe order (docs/FORMAT.md, "Search").
     ///
     /// On the parts of a table whose keys are all reached it is the map's answer. On any parts it is a value that is
-    /// stored with an equal key. Each group is read at most once.
+    /// stored with an equal key. `find_counted` says how many groups that takes.
     #[inline]
     pub fn find(&self, key: &K) -> Option<V>
         ensures on_placed { (P : Table)
@@ -144,13 +144,29 @@ impl<'a, K: ByteArray, V: ByteArray, H: HashFn> RawTable<'a, K, V, H> {
             (IsBesideKey (format_of K.LEN V.LEN H.hash) V.of_bytes self.now.entries (K.bytes key.now)) }
         ensures few { result.1 ≤ self.now.entries.slots / 16 }
     {
+        self.find_counted_by::<GroupQuery>(key)
+    }
+
+    /// `find_counted` by a group search of the caller's choice. All searches give the same.
+    #[inline]
+    pub fn find_counted_by<Q: Group>(&self, key: &K) -> (Option<V>, usize)
+        ensures on_placed { (P : Table)
+            → IsPartsOf (format_of K.LEN V.LEN H.hash) P self.now.entries.bytes self.now.control
+            → result.0 ≡ option_map V.of_bytes (map_of P (K.bytes key.now)) }
+        ensures groups { (P : Table)
+            → IsPartsOf (format_of K.LEN V.LEN H.hash) P self.now.entries.bytes self.now.control
+            → result.1 ≡ groups_read (format_of K.LEN V.LEN H.hash) P.cells (K.bytes key.now) }
+        ensures on_any { IfSome result.0
+            (IsBesideKey (format_of K.LEN V.LEN H.hash) V.of_bytes self.now.entries (K.bytes key.now)) }
+        ensures few { result.1 ≤ self.now.entries.slots / 16 }
+    {
         let mut scan = Scan::new(self.control, self.entries.len());
-        let end = search::<K, V, H, GroupQuery>(&mut scan, &self.entries, key);
+        let end = search::<K, V, H, Q>(&mut scan, &self.entries, key);
         let groups = scan.groups();
         match end {
-            SearchResult::Found(slot) => (Some(self.entries.get(slot).value), groups),
-            SearchResult::Free(_) => (None, groups),
-            SearchResult::Neither => (None, groups),
+            Search::Found(slot) => (Some(self.entries.get(slot).value), groups),
+            Search::Free(_) => (None, groups),
+            Search::Neither => (None, groups),
         }
     }
 

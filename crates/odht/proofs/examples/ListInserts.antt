@@ -14,7 +14,8 @@ use Rattle.odht_base.proofs.examples.Configs.{my_config, direct_config, pair64, 
 use Rattle.odht_raw.proofs.examples.FrameRefusals.{free_slot_refused}
 use Rattle.odht_header.proofs.examples.Opened.{opened}
 use Rattle.odht_header.specs.Coding.{encoded}
-use Rattle.odht_raw.specs.Frame.{InsertFrame}
+use Rattle.odht_raw.proofs.examples.Missing.{missing_at_home}
+use Rattle.odht_raw.specs.Frame.{InsertFrame, entries_in}
 use Rattle.odht_header.specs.declared.error.Error.{Error}
 use Rattle.odht_header.specs.declared.error.Error.TheVariants.{Full}
 use Rattle.std.specs.Result.{result_map_both}
@@ -137,7 +138,7 @@ with_room h = omega (arith, h.full.0)
 -- at the maximum by the header an insert may fail
 pub stopped_item : IsStoppedAt number_coding ((1, 5) ∷ (3, 4) ∷ []) 1 (bytes_of (one_of_32 6 2))
 unfolding opened
-stopped_item = record { item = (3, 4); at = refl; framed = (Err Full, refl, InsertFrame.full (lit≤ tt)) }
+stopped_item = record { item = (3, 4); at = refl; framed = (Err Full, refl, InsertFrame.full (lit≤ tt) (missing_at_home my_config (entries_in my_config (bytes_of (one_of_32 6 2))) (controls_of my_config (bytes_of (one_of_32 6 2))) (le_bytes 8 3) refl)) }
 
 -- no such item
 pub stopped_behind : IsStoppedAt number_coding ((1, 5) ∷ []) 1 (bytes_of (one_of_32 6 2)) → ⊥
@@ -146,8 +147,8 @@ stopped_behind h = none-some _ h.at
 -- below the maximum, with a free slot
 roomy : (p : Pair) (a : Result (Option (List ℕ)) Error) (D : List ℕ) → InsertFrame my_config (bytes_of no_pairs) p a D → (e : Error) → a ≡ Err e → ⊥
 unfolding opened
-roomy p a D (InsertFrame.full full) e is = omega (arith, full)
-roomy p a D (InsertFrame.no_slot none) e is =
+roomy p a D (InsertFrame.full full absent) e is = omega (arith, full)
+roomy p a D (InsertFrame.no_slot none absent) e is =
     free_slot_refused (controls_of my_config (bytes_of no_pairs)) 0 refl refl (none 0 (lit< tt))
 roomy p a D (InsertFrame.overwrote i low same) e is = absurd cc
 roomy p a D (InsertFrame.added i low free room) e is = absurd cc

@@ -19,7 +19,8 @@ use Rattle.odht_base.proofs.lemmas.Places.{written}
 use Rattle.odht_base.proofs.lemmas.TableInserts.{HasRoom, TakesKey, there, place-IsValid, insert_view-takes, insert_view-IsInsert}
 use Rattle.odht_base.proofs.lemmas.Writes.{with_value-image, with_pair-image_header}
 use Rattle.odht_header.specs.Coding.{Coding, encoded}
-use Rattle.odht_raw.specs.Frame.{CountsAsFree, HasNoFreeSlot, header_maximum, InsertFrame, IsFramed}
+use Rattle.odht_raw.specs.Frame.{CountsAsFree, HasNoFreeSlot, IsAbsent, IsMissing, header_maximum, InsertFrame, IsFramed}
+use Rattle.odht_raw.specs.Parts.{EntryBytes}
 use Rattle.odht_raw.proofs.lemmas.Inserts.{found_key, found_value}
 use Rattle.odht.specs.Inserts.{IsInserted}
 use Rattle.odht_raw.proofs.lemmas.Lookups.{IsFoundAt, IsFreeAt, IsNowhere}
@@ -197,12 +198,18 @@ module _ {K V : Type 0} (c : Coding K V) (A : List ℕ) (k : K) (v : V) (p : Pai
 
 -- ---- an error, on any bytes
 module _ {K V : Type 0} (c : Coding K V) (A B : List ℕ) (k : K) (v : V) (here : A ≡ B) where
+  -- a key that is missing in the parts is absent
+  pub absent_in : (E : EntryBytes) (ctrl key : List ℕ) → E.slots ≡ header_slots A → E.bytes ≡ entries_of c.format A → ctrl ≡ controls_of c.format A → key ≡ c.key_bytes k
+      → IsMissing c.format E ctrl key → IsAbsent c.format A (encoded c k v).key
+  absent_in E ctrl key slots entries controls is missing =
+      subst (λ (x : (ℕ × List ℕ) × List ℕ × List ℕ). IsMissing c.format (record { slots = x.0.0; bytes = x.0.1 }) x.1.0 x.1.1) (λ j. ((slots j, entries j), controls j, is j)) missing
+
   -- at the maximum by the header
-  pub full_framed : header_maximum A ≤ header_count A → IsFramed c B k v (Err Full) B
-  full_framed full = (Err Full, refl, subst (λ b. InsertFrame c.format b (encoded c k v) (Err Full) b) here (InsertFrame.full full))
+  pub full_framed : header_maximum A ≤ header_count A → IsAbsent c.format A (encoded c k v).key → IsFramed c B k v (Err Full) B
+  full_framed full absent = (Err Full, refl, subst (λ b. InsertFrame c.format b (encoded c k v) (Err Full) b) here (InsertFrame.full full absent))
 
   -- and where each slot counts as occupied
-  pub nowhere_framed : (ctrl : List ℕ) → ctrl ≡ controls_of c.format A → (n : ℕ) → n ≡ header_slots A → HasNoFreeSlot ctrl n → IsFramed c B k v (Err Full) B
-  nowhere_framed ctrl controls n slots none =
+  pub nowhere_framed : (ctrl : List ℕ) → ctrl ≡ controls_of c.format A → (n : ℕ) → n ≡ header_slots A → HasNoFreeSlot ctrl n → IsAbsent c.format A (encoded c k v).key → IsFramed c B k v (Err Full) B
+  nowhere_framed ctrl controls n slots none absent =
       let all : HasNoFreeSlot (controls_of c.format A) (header_slots A) = subst (HasNoFreeSlot (controls_of c.format A)) slots (subst (λ b. HasNoFreeSlot b n) controls none) in
-      (Err Full, refl, subst (λ b. InsertFrame c.format b (encoded c k v) (Err Full) b) here (InsertFrame.no_slot all))
+      (Err Full, refl, subst (λ b. InsertFrame c.format b (encoded c k v) (Err Full) b) here (InsertFrame.no_slot all absent))

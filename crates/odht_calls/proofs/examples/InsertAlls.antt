@@ -13,7 +13,8 @@ use Rattle.odht_base.proofs.lemmas.TableInserts.{insert_view-IsInsert}
 use Rattle.odht_header.specs.declared.error.Error.TheVariants.{TooShort, Full}
 use Rattle.odht_header.specs.declared.error.Error.{Error}
 use Rattle.odht_header.specs.Coding.{encoded}
-use Rattle.odht_raw.specs.Frame.{IsFramed, InsertFrame}
+use Rattle.odht_raw.proofs.examples.Missing.{missing_at_home}
+use Rattle.odht_raw.specs.Frame.{IsFramed, InsertFrame, entries_in}
 use Rattle.odht_raw.proofs.examples.FrameRefusals.{free_slot_refused}
 use Rattle.odht_header.proofs.examples.Opened.{opened}
 use Rattle.std.specs.Result.{result_map_both}
@@ -75,7 +76,7 @@ one_insert_all =
 -- an insert of the key 6 may be answered with Full there
 six_refused : IsFramed direct_coding one_bytes 6 8 (Err Full) one_bytes
 unfolding opened
-six_refused = (Err Full, refl, InsertFrame.full (lit≤ tt))
+six_refused = (Err Full, refl, InsertFrame.full (lit≤ tt) (missing_at_home direct_config (entries_in direct_config one_bytes) (controls_of direct_config one_bytes) (le_bytes 4 6) refl))
 
 -- another key into a full table
 pub full_insert_all_answers : InsertAllAnswers direct_coding one_bytes (6 ∷ []) (8 ∷ []) 9 18 one_bytes 0
@@ -168,8 +169,8 @@ roomy_refused h = unequal 0 1 refl (h.at_maximum no_items refl accepted_bytes.0 
 -- and neither do bytes with room by their header and control bytes
 roomy : (a : Result (Option (List ℕ)) Error) (p : Pair) (D : List ℕ) → InsertFrame direct_config no_bytes p a D → (e : Error) → a ≡ Err e → ⊥
 unfolding opened
-roomy a p D (InsertFrame.full full) e is = omega (arith, full)
-roomy a p D (InsertFrame.no_slot none) e is =
+roomy a p D (InsertFrame.full full absent) e is = omega (arith, full)
+roomy a p D (InsertFrame.no_slot none absent) e is =
     free_slot_refused (controls_of direct_config no_bytes) 0 refl refl (none 0 (lit< tt))
 roomy a p D (InsertFrame.overwrote i low same) e is = absurd cc
 roomy a p D (InsertFrame.added i low free room) e is = absurd cc

@@ -2,8 +2,10 @@
 use Rattle.std.proofs.Common.{lit≤, ◌≡◌, ◌∙◌, ℕ, refl, ap, inl, List, [], ◌∷◌, Option, None, Some, Result, Ok, Err, lit<, subst}
 use Rattle.odht_base.proofs.examples.Configs.{direct_config}
 use Rattle.odht_base.specs.Numbers.{le_bytes}
+use Rattle.odht_base.specs.Decoded.{controls_of}
 use Rattle.odht_base.specs.Table.{Pair}
-use Rattle.odht_raw.specs.Frame.{InsertFrame, IsFramed}
+use Rattle.odht_raw.proofs.examples.Missing.{missing_at_home}
+use Rattle.odht_raw.specs.Frame.{InsertFrame, IsFramed, entries_in}
 use Rattle.odht_header.specs.declared.error.Error.{Error}
 use Rattle.odht_header.specs.declared.error.Error.TheVariants.{TooShort, Full}
 use Rattle.odht_header.proofs.examples.Opened.{opened}
@@ -133,7 +135,7 @@ full_insert = record {
   refused = λ e is. never_refused direct_config one_item one_bytes e one_image is;
   on_valid = λ P is. subst (λ T. IsAfterInsert direct_coding T 6 8 one_bytes 9 18 9)
       (same_table one_item P one_bytes one_image is) insert_full;
-  on_any = λ is. (Err Full, (refl, refl), (Err Full, refl, InsertFrame.full (lit≤ tt)));
+  on_any = λ is. (Err Full, (refl, refl), (Err Full, refl, InsertFrame.full (lit≤ tt) (missing_at_home direct_config (entries_in direct_config one_bytes) (controls_of direct_config one_bytes) (le_bytes 4 6) refl)));
 }
 
 -- an error is not answered with another status
@@ -158,8 +160,8 @@ insert_roomy_refused h = unequal 18 0 refl (h.on_valid no_items no_image).1.0
 
 -- the error of an insert, and what it left
 left : (B D : List ℕ) (p : Pair) (e : Error) → InsertFrame direct_config B p (Err e) D → (e ≡ Full) × (D ≡ B)
-left B D p e (InsertFrame.full full) = (refl, refl)
-left B D p e (InsertFrame.no_slot none) = (refl, refl)
+left B D p e (InsertFrame.full full absent) = (refl, refl)
+left B D p e (InsertFrame.no_slot none absent) = (refl, refl)
 
 -- of a key and a value
 framed_left : (B D : List ℕ) (k v : ℕ) (e : Error) → IsFramed direct_coding B k v (Err e) D → (e ≡ Full) × (D ≡ B)

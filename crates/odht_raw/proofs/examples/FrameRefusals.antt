@@ -8,7 +8,8 @@ use Rattle.odht_base.specs.Decoded.{controls_of, counts_as_free, key_at, value_a
 use Rattle.odht_base.specs.Table.{Pair}
 use Rattle.odht_base.specs.Writes.{with_value, with_pair, with_count}
 use Rattle.odht_base.proofs.examples.Configs.{test_config, direct_config, pair32}
-use Rattle.odht_raw.specs.Frame.{InsertFrame, PartsFrame, CountsAsFree, CountsAsOccupied, HasNoFree, HasNoFreeSlot}
+use Rattle.odht_raw.proofs.examples.Missing.{held_at_home}
+use Rattle.odht_raw.specs.Frame.{InsertFrame, PartsFrame, IsAbsent, entries_in, CountsAsFree, CountsAsOccupied, HasNoFree, HasNoFreeSlot}
 use Rattle.odht_header.specs.Refusals.{lists_differ}
 use Rattle.odht_header.specs.declared.error.Error.{Error}
 use Rattle.odht_header.specs.declared.error.Error.TheVariants.{Full, TooShort}
@@ -27,8 +28,8 @@ free_slot_refused ctrl i own mirror (inr (low, e)) = true≢false (sym mirror �
 -- no error at all comes for a fresh table
 roomy : (p : Pair) (e : Error) (D : List ℕ) → InsertFrame test_config test_bytes p (Err e) D → ⊥
 unfolding opened
-roomy p e D (InsertFrame.full full) = omega (arith, full)
-roomy p e D (InsertFrame.no_slot none) = free_slot_refused (controls_of test_config test_bytes) 0 refl refl (none 0 (lit< tt))
+roomy p e D (InsertFrame.full full absent) = omega (arith, full)
+roomy p e D (InsertFrame.no_slot none absent) = free_slot_refused (controls_of test_config test_bytes) 0 refl refl (none 0 (lit< tt))
 
 -- a fresh table of sixteen slots is not answered with Full
 pub full_with_room_refused : (p : Pair) (D : List ℕ) → InsertFrame test_config test_bytes p (Err Full) D → ⊥
@@ -38,13 +39,27 @@ full_with_room_refused p D h = roomy p Full D h
 roomy_parts : (es ctrl : List ℕ) (p : Pair) (e : Error) (es' ctrl' : List ℕ) → 0 < length ctrl - 16
     → counts_as_free (slice_index ctrl 0) ≡ true → counts_as_free (slice_index ctrl (length ctrl - 16 + 0)) ≡ true
     → PartsFrame test_config es ctrl p (Err e) es' ctrl' → ⊥
-roomy_parts es ctrl p e es' ctrl' low own mirror (PartsFrame.no_slot none) = free_slot_refused ctrl 0 own mirror (none 0 low)
+roomy_parts es ctrl p e es' ctrl' low own mirror (PartsFrame.no_slot none missing) = free_slot_refused ctrl 0 own mirror (none 0 low)
 
 -- nor are sixteen slots of which slot 0 alone is free
 pub full_parts_with_room_refused : (es : List ℕ) (p : Pair) (es' ctrl' : List ℕ)
     → PartsFrame test_config es (set (set (replicate 32 0) 0 255) 16 255) p (Err Full) es' ctrl' → ⊥
 full_parts_with_room_refused es p es' ctrl' h =
     roomy_parts es (set (set (replicate 32 0) 0 255) 16 255) p Full es' ctrl' (lit< tt) refl refl h
+
+-- nor is a key that is found, also at the maximum by the header: 3 in slot 3 of sixteen occupied ones
+three_is_held : IsAbsent direct_config (all_occupied 13) (le_bytes 4 3) → ⊥
+unfolding opened
+three_is_held absent =
+    held_at_home direct_config (entries_in direct_config (all_occupied 13)) (controls_of direct_config (all_occupied 13)) (le_bytes 4 3) (lit< tt) refl refl refl refl refl absent
+
+found_key : (e : Error) (D : List ℕ) → InsertFrame direct_config (all_occupied 13) (pair32 3 7) (Err e) D → ⊥
+unfolding opened
+found_key e D (InsertFrame.full full absent) = three_is_held absent
+found_key e D (InsertFrame.no_slot none absent) = three_is_held absent
+
+pub full_for_found_key_refused : (D : List ℕ) → InsertFrame direct_config (all_occupied 13) (pair32 3 7) (Err Full) D → ⊥
+full_for_found_key_refused D h = found_key Full D h
 
 -- ---- a new entry at the maximum
 -- a fresh table's bytes with a count of 13
@@ -222,8 +237,8 @@ addition_in_two_slots_refused h =
 
 -- an error is Full, and leaves the bytes
 unchanged : (F : Format) (B : List ℕ) (p : Pair) (e : Error) (D : List ℕ) → InsertFrame F B p (Err e) D → (e ≡ Full) × (D ≡ B)
-unchanged F B p e D (InsertFrame.full full) = (refl, refl)
-unchanged F B p e D (InsertFrame.no_slot none) = (refl, refl)
+unchanged F B p e D (InsertFrame.full full absent) = (refl, refl)
+unchanged F B p e D (InsertFrame.no_slot none absent) = (refl, refl)
 
 -- an insert that answers Full writes nothing
 pub written_refusal_refused : InsertFrame direct_config (all_occupied 13) (pair32 99 7) (Err Full) (overwritten_at (all_occupied 13) 30 (1 ∷ [])) → ⊥
@@ -268,7 +283,16 @@ parts_overwrite_of_control_refused F es p v es' h =
 -- an error for parts is Full, and leaves them
 parts_unchanged : (F : Format) (es ctrl : List ℕ) (p : Pair) (e : Error) (es' ctrl' : List ℕ)
     → PartsFrame F es ctrl p (Err e) es' ctrl' → (es' ≡ es) × (ctrl' ≡ ctrl)
-parts_unchanged F es ctrl p e es' ctrl' (PartsFrame.no_slot none) = (refl, refl)
+parts_unchanged F es ctrl p e es' ctrl' (PartsFrame.no_slot none missing) = (refl, refl)
+
+-- a key that is found in parts is not answered with Full: the key 0 of the entries of zeros
+zero_key : (e : Error) (es' ctrl' : List ℕ) → PartsFrame direct_config no_entries occupied_controls (pair32 0 7) (Err e) es' ctrl' → ⊥
+unfolding opened
+zero_key e es' ctrl' (PartsFrame.no_slot none missing) =
+    held_at_home direct_config (record { slots = 16; bytes = no_entries }) occupied_controls (le_bytes 4 0) (lit< tt) refl refl refl refl refl missing
+
+pub full_parts_for_found_key_refused : (es' ctrl' : List ℕ) → PartsFrame direct_config no_entries occupied_controls (pair32 0 7) (Err Full) es' ctrl' → ⊥
+full_parts_for_found_key_refused es' ctrl' h = zero_key Full es' ctrl' h
 
 -- and an insert that answers Full writes no entry
 pub parts_written_refusal_refused : (F : Format) (p : Pair) (ctrl ctrl' : List ℕ)

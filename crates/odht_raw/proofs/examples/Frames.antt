@@ -4,20 +4,21 @@ use Rattle.odht_base.specs.Numbers.{le_bytes, num}
 use Rattle.odht_base.specs.Bytes.{overwritten_at}
 use Rattle.odht_base.specs.Format.{Format}
 use Rattle.odht_base.specs.Image.{image}
-use Rattle.odht_base.specs.Decoded.{header_count, header_slots}
+use Rattle.odht_base.specs.Decoded.{header_count, header_slots, controls_of}
 use Rattle.odht_base.specs.Table.{Pair}
 use Rattle.odht_base.specs.Writes.{with_pair, with_count}
 use Rattle.odht_base.proofs.examples.Configs.{test_config, direct_config, pair32, view_of}
 use Rattle.odht_header.proofs.examples.Opened.{opened}
 use Rattle.odht_header.proofs.examples.Refused.{test_bytes}
 use Rattle.odht_header.proofs.examples.Invalid.{count_of_five, all_occupied}
-use Rattle.odht_raw.specs.Frame.{InsertFrame, IsBytesFramed}
+use Rattle.odht_raw.specs.Frame.{InsertFrame, IsBytesFramed, entries_in}
+use Rattle.odht_raw.proofs.examples.Missing.{missing_everywhere}
 use Rattle.odht_header.specs.declared.error.Error.TheVariants.{Full}
 
 -- at the maximum of thirteen by the header, key 99 may be answered with Full
 pub refused : InsertFrame direct_config (all_occupied 13) (pair32 99 7) (Err Full) (all_occupied 13)
 unfolding opened
-refused = InsertFrame.full (lit≤ tt)
+refused = InsertFrame.full (lit≤ tt) (missing_everywhere direct_config (entries_in direct_config (all_occupied 13)) (controls_of direct_config (all_occupied 13)) (le_bytes 4 99) (lit< tt) refl refl)
 
 -- and 3 overwritten by 7, which changes byte 60 alone
 pub overwritten_value : InsertFrame direct_config (all_occupied 0) (pair32 3 7) (Ok (Some (le_bytes 4 3))) (overwritten_at (all_occupied 0) 60 (7 ∷ []))

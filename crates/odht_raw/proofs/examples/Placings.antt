@@ -16,9 +16,10 @@ use Rattle.odht_raw.specs.Frame.{PartsFrame, IsPartsFramed}
 use Rattle.odht_raw.specs.PartsInserts.{ArePartsPlaced, IsPartsInsert, IsInsertChange}
 use Rattle.odht_header.specs.declared.error.Error.{Error}
 use Rattle.odht_header.specs.declared.error.Error.TheVariants.{Full, TooShort}
-use Rattle.odht_raw.specs.declared.raw_table.search_result.SearchResult.TheVariants.{Found, Free, Neither}
+use Rattle.odht_raw.specs.declared.raw_table.search_result.Search.TheVariants.{Found, Free, Neither}
 use Rattle.odht_header.proofs.lemmas.FirstErrors.{not-true}
 use Rattle.odht_header.proofs.examples.Apart.{are_distinct, unequal_lists, tested}
+use Rattle.odht_raw.proofs.examples.Missing.{missing_everywhere}
 use Rattle.odht_raw.proofs.examples.FrameRefusals.{occupied_controls, no_entries, no_free_slots, parts_entry_in_occupied_slot_refused}
 use Rattle.odht_header.proofs.examples.Invalid.{fives_at}
 use Rattle.odht_header.proofs.examples.Opened.{opened}
@@ -159,7 +160,7 @@ changes r es' ctrl' = IsInsertChange direct_config (λ b. b) no_entries occupied
 -- an insert of another key answers Full and leaves them
 pub unchanged : changes (Err Full) no_entries occupied_controls
 unchanged = record {
-  frame = (Err Full, refl, PartsFrame.no_slot no_free_slots);
+  frame = (Err Full, refl, PartsFrame.no_slot no_free_slots (missing_everywhere direct_config (record { slots = 16; bytes = no_entries }) occupied_controls five (lit< tt) refl refl));
   only_full = refl;
   refused_control = refl;
   refused_entries = refl;

@@ -1,5 +1,6 @@
 -- Worked examples: where a search for the key 5 ends in sixteen slots, and what is no end of it.
-use Rattle.std.proofs.Common.{◌≡◌, ◌+◌, ◌%◌, ◌==◌, ◌||◌, ℕ, refl, sym, Bool, true, true≢false, List, [], ◌∷◌, replicate, set, slice_index, lit<, arith, eq-eqb}
+use Rattle.std.proofs.lemmas.Bool.{cases_lt, false_from_ne_true}
+use Rattle.std.proofs.Common.{◌≡◌, ◌<◌, ◌+◌, ◌%◌, ◌==◌, ◌||◌, ℕ, zero, suc, inl, inr, refl, sym, Bool, true, true≢false, List, [], ◌∷◌, replicate, set, slice_index, lit<, arith, eq-eqb}
 use Rattle.std.specs.List.{range_with_len, list_all}
 use Rattle.odht_base.specs.Bytes.{overwritten_at}
 use Rattle.odht_base.specs.Numbers.{le_bytes}
@@ -7,9 +8,12 @@ use Rattle.odht_base.specs.Decoded.{slot_key, slot_value, counts_as_free}
 use Rattle.odht_base.proofs.examples.Configs.{direct_config}
 use Rattle.odht_raw.specs.Parts.{EntryBytes}
 use Rattle.odht_header.specs.Refusals.{lists_differ}
-use Rattle.odht_raw.specs.SearchEnds.{IsEnd, IsPlainEnd, IsEndAmong, IsBesideKey}
-use Rattle.odht_raw.specs.declared.raw_table.search_result.SearchResult.TheVariants.{Found, Free, Neither}
-use Rattle.odht_header.proofs.examples.Apart.{unequal_lists, tested, untrue, neither}
+use Rattle.odht_raw.specs.ControlBytes.{order_slot, Differs, GoesOn, GoesOnTo}
+use Rattle.odht_raw.specs.SearchEnds.{IsEnd, IsAfter, IsPlainEnd, IsEndAmong, IsBesideKey}
+use Rattle.odht_header.proofs.examples.Opened.{opened}
+use Rattle.odht_raw.proofs.examples.Missing.{on_everywhere}
+use Rattle.odht_raw.specs.declared.raw_table.search_result.Search.TheVariants.{Found, Free, Neither}
+use Rattle.odht_header.proofs.examples.Apart.{unequal, unequal_lists, tested, untrue, neither}
 use Rattle.odht_raw.proofs.examples.FrameRefusals.{occupied_controls, slot_five_free, mirror_five_free, counted_as_free, neighbour_not_free, no_free_slots, one_free_slot_refused, none_free, one_free_refused}
 
 -- ---- in any parts
@@ -44,20 +48,64 @@ occupied_refused (low, is) = neighbour_not_free is
 pub free_behind_refused : IsEnd direct_config (five_in_three 5) slot_five_free five (Free 5) → ⊥
 free_behind_refused (low, is) = omega (arith, low)
 
--- the search ends nowhere where each slot counts as occupied
-pub nowhere : IsEnd direct_config (five_in_three 16) occupied_controls five Neither
-nowhere = no_free_slots
+-- the search for another key ends nowhere where each slot counts as occupied
+abbrev six : List ℕ
+six = le_bytes 4 6
+
+six_on : GoesOnTo direct_config (five_in_three 16) occupied_controls six 16
+six_on = on_everywhere direct_config (five_in_three 16) occupied_controls six (lit< tt) refl refl
+
+pub nowhere : IsEnd direct_config (five_in_three 16) occupied_controls six Neither
+nowhere = (no_free_slots, six_on)
 
 -- and only there
-pub nowhere_refused : IsEnd direct_config (five_in_three 16) slot_five_free five Neither → ⊥
-nowhere_refused h = one_free_slot_refused h
+pub nowhere_refused : IsEnd direct_config (five_in_three 16) slot_five_free six Neither → ⊥
+nowhere_refused h = one_free_slot_refused h.0
+
+-- and not where the key is found on the way
+goes_on_refused : GoesOn direct_config (five_in_three 16) occupied_controls five 3 → ⊥
+unfolding opened
+goes_on_refused (inl on) = on.1 refl refl
+goes_on_refused (inr on) = on.1.1 refl refl
+
+pub nowhere_past_key_refused : IsEnd direct_config (five_in_three 16) occupied_controls five Neither → ⊥
+unfolding opened
+nowhere_past_key_refused h = goes_on_refused (h.1 14 (lit< tt))
+
+-- ---- before the end
+-- 5 is in no slot before that
+found_after : (q : ℕ) → q < 14 → Differs direct_config (five_in_three 16) occupied_controls five (order_slot direct_config (five_in_three 16) five q)
+unfolding opened
+found_after q l =
+    inl (λ t e. unequal_lists (slot_key direct_config (five_in_three 16).bytes (order_slot direct_config (five_in_three 16) five q)) five
+    (tested (λ j. lists_differ (slot_key direct_config (five_in_three 16).bytes (order_slot direct_config (five_in_three 16) five j)) five) 14 q refl l) e)
+
+-- 5 is found at position 14, and 6 ends at the free slot 5 after the other fifteen, or at none
+pub after : IsAfter direct_config (five_in_three 16) occupied_controls five (Found 3)
+    × IsAfter direct_config (five_in_three 16) occupied_controls six Neither
+unfolding opened
+after = ((14, lit< tt, refl, (λ q l. absurd (omega (arith, l))), found_after), six_on)
+
+-- a free slot is not where a search ends that could have ended at one before
+pub free_after_free_refused : IsAfter direct_config (five_in_three 16) (replicate 32 255) six (Free 7) → ⊥
+unfolding opened
+free_after_free_refused (zero, low, is, on) = unequal 6 7 refl is
+free_after_free_refused (suc p, low, is, on) = elim (on 0 (omega arith)) [ inl g ↦ true≢false g.0 | inr g ↦ true≢false g.1.0 ]
 
 -- ---- slot by slot
 -- the end of a search slot by slot, which does not look at the mirror
 pub plain : IsPlainEnd direct_config (five_in_three 16) occupied_controls five (Found 3)
     × IsPlainEnd direct_config (five_in_three 16) slot_five_free five (Free 5)
-    × IsPlainEnd direct_config (five_in_three 16) occupied_controls five Neither
-plain = ((lit< tt, refl), (lit< tt, refl), none_free)
+    × IsPlainEnd direct_config (five_in_three 16) occupied_controls six Neither
+plain = (
+  (lit< tt, refl),
+  (lit< tt, refl),
+  (
+    none_free,
+    λ i low e. unequal_lists (slot_key direct_config (five_in_three 16).bytes i) six
+        (tested (λ j. lists_differ (slot_key direct_config (five_in_three 16).bytes j) six) 16 i refl low) e,
+  ),
+)
 
 -- so no slot is free by its mirror alone
 pub plain_mirror_refused : IsPlainEnd direct_config (five_in_three 16) mirror_five_free five (Free 5) → ⊥
@@ -75,31 +123,63 @@ plain_behind_refused (low, is) = omega (arith, low)
 
 -- and where one is free the search does not end nowhere
 pub plain_nowhere_refused : IsPlainEnd direct_config (five_in_three 16) slot_five_free five Neither → ⊥
-plain_nowhere_refused h = one_free_refused h
+plain_nowhere_refused h = one_free_refused h.0
+
+-- nor where a slot has the key
+pub plain_nowhere_past_key_refused : IsPlainEnd direct_config (five_in_three 16) occupied_controls five Neither → ⊥
+plain_nowhere_past_key_refused h = h.1 3 (lit< tt) refl
 
 -- ---- in one group, here the four slots 14, 15, 0 and 1
 -- slot 1 is free by the fourth byte
 pub free_in_group : IsEndAmong direct_config (five_in_three 16) (set (replicate 4 0) 3 255) 14 4 five (Free 1)
-free_in_group = (3, lit< tt, refl, refl)
+free_in_group = (
+  3,
+  lit< tt,
+  refl,
+  refl,
+  λ j l. (
+    false_from_ne_true _ (λ t. untrue (λ i. counts_as_free (slice_index (set (replicate 4 0) 3 255) i)) 3 j refl l t),
+    λ t e. unequal_lists (slot_key direct_config (five_in_three 16).bytes ((14 + j) % 16)) five
+        (tested (λ i. lists_differ (slot_key direct_config (five_in_three 16).bytes ((14 + i) % 16)) five) 3 j refl l) e,
+  ),
+)
 
 -- not where that byte is beyond those that are looked at
 pub free_beyond_refused : IsEndAmong direct_config (five_in_three 16) (set (replicate 4 0) 3 255) 14 3 five (Free 1) → ⊥
-free_beyond_refused (j, low, is, counts) = untrue (λ i. counts_as_free (slice_index (set (replicate 4 0) 3 255) i)) 3 j refl low counts
+free_beyond_refused (j, low, is, counts, on) = untrue (λ i. counts_as_free (slice_index (set (replicate 4 0) 3 255) i)) 3 j refl low counts
 
 -- nor where no byte is free
 pub occupied_in_group_refused : IsEndAmong direct_config (five_in_three 16) (replicate 4 0) 14 4 five (Free 1) → ⊥
-occupied_in_group_refused (j, low, is, counts) = untrue (λ i. counts_as_free (slice_index (replicate 4 0) i)) 4 j refl low counts
+occupied_in_group_refused (j, low, is, counts, on) = untrue (λ i. counts_as_free (slice_index (replicate 4 0) i)) 4 j refl low counts
 
 -- and no other slot is
 pub other_in_group_refused : IsEndAmong direct_config (five_in_three 16) (replicate 4 255) 14 4 five (Free 2) → ⊥
-other_in_group_refused (j, low, is, counts) = untrue (λ i. 2 == (14 + i) % 16) 4 j refl low (eq-eqb 2 ((14 + j) % 16) is)
+other_in_group_refused (j, low, is, counts, on) = untrue (λ i. 2 == (14 + i) % 16) 4 j refl low (eq-eqb 2 ((14 + j) % 16) is)
 
--- a group reports a key that was found, and it does not report that there is none
-pub found_in_group : IsEndAmong direct_config (five_in_three 16) (replicate 4 0) 14 4 five (Found 3)
-    × (IsEndAmong direct_config (five_in_three 16) (replicate 4 0) 14 4 five (Found 4) → ⊥)
-    × (IsEndAmong direct_config (five_in_three 16) (replicate 4 0) 14 4 five Neither → ⊥)
-found_in_group =
-    ((lit< tt, refl), λ h. unequal_lists (slot_key direct_config (five_in_three 16).bytes 4) five refl h.1, λ h. h)
+-- nor one behind a slot where the key is found, here in the slots 2 to 5
+pub free_past_key_refused : IsEndAmong direct_config (five_in_three 16) (set (replicate 4 0) 3 255) 2 4 five (Free 5) → ⊥
+unfolding opened
+free_past_key_refused (j, low, is, counts, on) = elim (cases_lt 1 j) [
+  | inl later ↦ (on 1 later).1 refl refl
+  | inr first ↦ untrue (λ i. counts_as_free (slice_index (set (replicate 4 0) 3 255) i)) 2 j refl (omega (arith, first)) counts
+]
+
+-- a group reports a key that was found, here in the slots 2 to 5, and it does not report that there is none
+pub found_in_group : IsEndAmong direct_config (five_in_three 16) (replicate 4 0) 2 4 five (Found 3)
+    × (IsEndAmong direct_config (five_in_three 16) (replicate 4 0) 2 4 five (Found 4) → ⊥)
+    × (IsEndAmong direct_config (five_in_three 16) (replicate 4 0) 2 4 five Neither → ⊥)
+found_in_group = (
+  (
+    1,
+    lit< tt,
+    refl,
+    refl,
+    λ j l t e. unequal_lists (slot_key direct_config (five_in_three 16).bytes ((2 + j) % 16)) five
+        (tested (λ i. lists_differ (slot_key direct_config (five_in_three 16).bytes ((2 + i) % 16)) five) 1 j refl l) e,
+  ),
+  λ h. unequal_lists (slot_key direct_config (five_in_three 16).bytes 4) five refl h.3,
+  λ h. h,
+)
 
 -- ---- the value of a find
 -- whether slot i does not hold the key k beside the value v

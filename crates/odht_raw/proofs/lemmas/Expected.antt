@@ -27,7 +27,7 @@ use Rattle.odht_header.specs.Coding.{Coding, encoded}
 use Rattle.odht_raw.specs.Expected.{IsExpected, EndsIfFree, IsAhead}
 use Rattle.odht_raw.specs.Parts.{EntryBytes}
 use Rattle.odht_raw.specs.SearchSteps.{IsGroupAt}
-use Rattle.odht_raw.specs.declared.raw_table.search_result.SearchResult.TheVariants.{Found, Free, Neither}
+use Rattle.odht_raw.specs.declared.raw_table.search_result.Search.TheVariants.{Found, Free, Neither}
 use Rattle.odht_raw.proofs.lemmas.GroupLooks.{index-bytes_at, taken-all, look_free}
 use Rattle.odht_raw.proofs.lemmas.GroupSearches.{IsGroupAt-group}
 use Rattle.odht_raw.proofs.lemmas.PartCells.{slots_are, byte_is}

@@ -17,7 +17,7 @@ use Rattle.odht_raw.specs.SearchResults.{answer}
 use Rattle.odht_raw.specs.FirstLooks.{home_group}
 use Rattle.odht_raw.specs.Parts.{TableParts}
 use Rattle.odht_raw.specs.SearchSteps.{IsGroupAt}
-use Rattle.odht_raw.specs.declared.raw_table.search_result.SearchResult.TheVariants.{Found}
+use Rattle.odht_raw.specs.declared.raw_table.search_result.Search.TheVariants.{Found}
 use Rattle.odht_raw.proofs.lemmas.GroupLooks.{look_found, look_free}
 use Rattle.odht_raw.proofs.lemmas.GroupSearches.{IsGroupAt-group}
 use Rattle.odht_raw.proofs.lemmas.Lookups.{answer-Free}

@@ -21,9 +21,9 @@ use Rattle.odht_raw.specs.SearchResults.{answer}
 use Rattle.odht_raw.specs.Frame.{CountsAsFree, CountsAsOccupied, HasNoFree, HasNoFreeSlot}
 use Rattle.odht_raw.specs.FreeSlots.{IsFirstFree, IsFirstFreeByte}
 use Rattle.odht_raw.specs.SearchSteps.{slot_of, Passed}
-use Rattle.odht_raw.specs.declared.raw_table.search_result.SearchResult.TheVariants.{Free, Neither}
+use Rattle.odht_raw.specs.declared.raw_table.search_result.Search.TheVariants.{Free, Neither}
 use Rattle.odht_raw.proofs.lemmas.GroupLooks.{index-bytes_at, no_free-more, position-None}
-use Rattle.odht_raw.proofs.lemmas.GroupSearches.{OccupiedBefore, group-free, group-occupied}
+use Rattle.odht_raw.proofs.lemmas.GroupSearches.{OccupiedBefore, group-byte}
 use Rattle.odht_raw.proofs.lemmas.PartCells.{slots_are, byte_is}
 use Rattle.odht_raw.proofs.lemmas.PlainSearch.{no_end}
 use Rattle.odht_raw.proofs.lemmas.ProbeSteps.{probe_slot-step, at_home}
@@ -67,7 +67,7 @@ first_in_group ctrl bs hash s start p i len few aligned within is read before by
       position = p + i;
       in_order = omega arith;
       slot_is = sym (step i here);
-      free = group-free ctrl s start i len few low here (subst (λ x. IsTrue (counts_as_free (slice_index x i))) read byte.free);
+      free = group-byte (λ c. IsTrue (counts_as_free c)) ctrl s start i len few low here (subst (λ x. IsTrue (counts_as_free (slice_index x i))) read byte.free);
       earlier_occupied = λ q l. elim (cases_lt q p) [
         | inl there ↦ before q there
         | inr past ↦
@@ -75,7 +75,7 @@ first_in_group ctrl bs hash s start p i len few aligned within is read before by
             let at : p + j ≡ q = omega arith in
             let less : j < 16 = omega arith in
             subst (CountsAsOccupied ctrl) (step j less ∙ ap (probe_slot (hash % s) s) at)
-            (group-occupied ctrl s start j len few low less (subst (λ x. counts_as_free (slice_index x j) ≡ false) read (byte.earlier_occupied j (omega arith))))
+            (group-byte (λ c. counts_as_free c ≡ false) ctrl s start j len few low less (subst (λ x. counts_as_free (slice_index x j) ≡ false) read (byte.earlier_occupied j (omega arith))))
       ];
     }
 

@@ -1,10 +1,12 @@
 -- A look at some positions of the probe order: the matches that are taken in turn, then the first free slot.
-use Rattle.std.proofs.Common.{◌≡◌, ◌⊎◌, ℕ, suc, ◌+◌, ◌-◌, ◌*◌, ◌/◌, ◌%◌, ◌<◌, ◌≤◌, inl, inr, sym, ap, ◌∙◌, subst, refl, arith, true, false, true≢false, List, [], ◌∷◌, length, drop, slice_get, slice_index, Contains, Option, Some, None, leb-true, lt-ltb, get_or, get_or-take, get_or-drop, position, Bool, add-mul, mul-le-mul_right}
+use Rattle.std.proofs.Common.{◌≡◌, ◌⊎◌, ℕ, zero, suc, ◌+◌, ◌-◌, ◌*◌, ◌/◌, ◌%◌, ◌<◌, ◌≤◌, inl, inr, sym, ap, ◌∙◌, subst, refl, arith, true, false, true≢false, List, [], ◌∷◌, length, drop, slice_get, slice_index, Contains, Option, Some, None, leb-true, lt-ltb, get_or, get_or-take, get_or-drop, position, Bool, add-mul, mul-le-mul_right}
 use Rattle.std.proofs.Math.Nat.{div-mul-le_self, div-mul_cancel}
 use Rattle.std.proofs.lemmas.Nat.Gcd.{dvd_of_mod-eq-zero}
 use Rattle.std.specs.List.{position_or_len}
-use Rattle.std.specs.Prelude.{is_some, IfSome}
+use Rattle.std.specs.List.Sorted.{IsStrictlyIncreasing}
+use Rattle.std.specs.Prelude.{is_some, IfSome, IsFalse}
 use Rattle.std.proofs.lemmas.Bool.{or_from, or_left, false_from_ne_true, cases_lt}
+use Rattle.std.proofs.lemmas.List.Kept.{AllPairs-from_increasing}
 use Rattle.std.proofs.lemmas.List.Quantifiers.{position-Some}
 use Rattle.std.proofs.lemmas.List.Sums.{fails_before_first}
 use Rattle.std.proofs.lemmas.Option.{none-some}
@@ -25,12 +27,12 @@ use Rattle.odht_base.proofs.lemmas.Pigeons.{contains_cases}
 use Rattle.odht_base.proofs.lemmas.Orders.{probe_slot-apart, probe_slot-lt, find-order_some, position-order}
 use Rattle.odht_base.proofs.lemmas.Parts.{counts_as_free-control_byte}
 use Rattle.odht_raw.specs.SearchResults.{answer}
-use Rattle.odht_raw.specs.Frame.{HasNoFree}
+use Rattle.odht_raw.specs.ControlBytes.{HasNoFree, IsOther}
 use Rattle.odht_raw.specs.Parts.{EntryBytes}
-use Rattle.odht_raw.specs.SearchEnds.{IsEndAmong}
+use Rattle.odht_raw.specs.SearchEnds.{Among, IsOtherAmong, GoesOnAmong, IsEndAmong}
 use Rattle.odht_raw.specs.SearchSteps.{slot_of, Passed, IsGroupAt, EndsWithin, IsLook}
-use Rattle.odht_raw.specs.declared.raw_table.search_result.SearchResult.{SearchResult}
-use Rattle.odht_raw.specs.declared.raw_table.search_result.SearchResult.TheVariants.{Found, Free, Neither}
+use Rattle.odht_raw.specs.declared.raw_table.search_result.Search.{Search}
+use Rattle.odht_raw.specs.declared.raw_table.search_result.Search.TheVariants.{Found, Free, Neither}
 use Rattle.odht_raw.proofs.lemmas.PartCells.{byte_is as control_is, key_is, cell_occupied}
 
 -- byte i of some bytes at an offset
@@ -74,16 +76,51 @@ position-None t xs d e i l = elim (cases_lt (position_or_len t xs) (length xs)) 
   | inr past ↦ fails_before_first t xs i d (omega arith)
 ]
 
--- pieces without a free byte, and one more
-pub no_free-more : (bs : List ℕ) (n size : ℕ) → HasNoFree bs (n * size) → HasNoFree (bytes_at bs (n * size) size) size → HasNoFree bs ((n + 1) * size)
-no_free-more bs n size before here i l = elim (cases_lt i (n * size)) [
+-- what holds of the first bytes and of the first of those behind them, holds of all these
+pub among-more : (T : ℕ → ℕ → Type 0) (bs : List ℕ) (b at n size : ℕ) → n ≤ size → Among T bs b at → Among T (bytes_at bs at size) (b + at) n → Among T bs b (at + n)
+among-more T bs b at n size fits before here i l = elim (cases_lt i at) [
   | inl low ↦ before i low
   | inr past ↦
-      let j : ℕ = i - n * size in
-      let at : n * size + j ≡ i = omega arith in
-      let less : j < size = omega arith in
-      subst (λ b. counts_as_free b ≡ false) (index-bytes_at bs (n * size) size j less ∙ ap (slice_index bs) at) (here j less)
+      let j : ℕ = i - at in
+      let is : at + j ≡ i = omega arith in
+      let slot : b + at + j ≡ b + i = omega arith in
+      let byte = index-bytes_at bs at size j (omega arith) ∙ ap (slice_index bs) is in
+      subst (λ (x : ℕ × ℕ). T x.0 x.1) (λ t. (slot t, byte t)) (here j (omega arith))
 ]
+
+-- pieces, and one more
+pub among-pieces : (T : ℕ → ℕ → Type 0) (bs : List ℕ) (b n size : ℕ) → Among T bs b (n * size) → Among T (bytes_at bs (n * size) size) (b + n * size) size → Among T bs b ((n + 1) * size)
+among-pieces T bs b n size before here =
+    let sum : n * size + size ≡ (n + 1) * size = (let one : n * size + size ≡ n * size + 1 * size = omega arith in one) ∙ sym (add-mul n 1 size) in
+    subst (Among T bs b) sum (among-more T bs b (n * size) size size (omega arith) before here)
+
+-- pieces without a free byte, and one more
+pub no_free-more : (bs : List ℕ) (n size : ℕ) → HasNoFree bs (n * size) → HasNoFree (bytes_at bs (n * size) size) size → HasNoFree bs ((n + 1) * size)
+no_free-more bs n size before here = among-pieces (λ x c. counts_as_free c ≡ false) bs 0 n size before here
+
+-- ---- matches that rise
+-- the rest of them rises
+pub rising-drop : (xs : List ℕ) → IsStrictlyIncreasing xs → IsStrictlyIncreasing (drop 1 xs)
+rising-drop [] h k l = h k l
+rising-drop (x ∷ xs) h k l =
+    let e : suc k + 1 ≡ suc (k + 1) = omega arith in
+    subst (λ n. slice_index xs k < slice_index (x ∷ xs) n) e (h (suc k) (omega (arith, l)))
+
+-- the first is the least
+rising-least : (xs : List ℕ) (x i : ℕ) → IsStrictlyIncreasing xs → Some x ≡ slice_get xs 0 → Contains xs i → x ≤ i
+rising-least [] x i h e c = absurd (none-some x (sym e))
+rising-least (y ∷ xs) x i h e (zero, l, is) = omega (arith, some_same x y e, is)
+rising-least (y ∷ xs) x i h e (suc m, l, is) = omega (arith, some_same x y e, is, AllPairs-from_increasing (y ∷ xs) h 0 (suc m) i (omega arith) l)
+
+-- before the first that is left no byte is the tag with the key in its slot
+pub other-before : (F : Format) (E : EntryBytes) (bs : List ℕ) (b : ℕ) (k all left : List ℕ) (x : ℕ) → IsReport bs (tag F k) all
+    → IsTaken all left (λ i. slot_key F E.bytes ((b + i) % E.slots) ≡ k → ⊥) → IsStrictlyIncreasing left → Some x ≡ slice_get left 0 → IsOtherAmong F E bs b k x
+other-before F E bs b k all left x report taken rising e j l is same =
+    let inside = (report.occupied x (taken-first all left _ x taken e)).0 in
+    elim (taken.others j (report.complete j (omega arith) is)) [
+      | inl more ↦ omega (arith, rising-least left x j rising e more)
+      | inr gone ↦ gone same
+    ]
 
 -- ---- where a search in a placed table ends
 module _ (F : Format) (P : Table) (k : List ℕ) (slots : IsSlotCount (slot_count P)) where
@@ -203,21 +240,33 @@ IsGroupAt-piece F P E k p start bs at n l s passed =
     }
 
 -- an answer of a piece is one of the group
-pub look-piece : (F : Format) (P : Table) (k : List ℕ) (p at n : ℕ) (r : Option SearchResult) → at + n ≤ 16 → is_some r ≡ true → IsLook F P k (p + at) n r → IsLook F P k p 16 r
+pub look-piece : (F : Format) (P : Table) (k : List ℕ) (p at n : ℕ) (r : Option Search) → at + n ≤ 16 → is_some r ≡ true → IsLook F P k (p + at) n r → IsLook F P k p 16 r
 look-piece F P k p at n None l some look = absurd (true≢false (sym some))
 look-piece F P k p at n (Some a) l some look = (look.0, (look.1.0, omega (arith, look.1.1), omega (arith, look.1.2), look.1.3))
 
--- where a look at a part of a group ends is where one at the group may end
-pub end-piece : (F : Format) (E : EntryBytes) (bs : List ℕ) (start at n : ℕ) (k : List ℕ) (r : Option SearchResult) → at + n ≤ 16
+-- where a look at a part of a group ends, after one at the parts before, is where one at the group ends
+pub end-piece : (F : Format) (E : EntryBytes) (bs : List ℕ) (start at n : ℕ) (k : List ℕ) (r : Option Search) → at + n ≤ 16 → GoesOnAmong F E bs start k at
     → IfSome r (IsEndAmong F E (bytes_at bs at n) (start + at) n k) → IfSome r (IsEndAmong F E bs start 16 k)
-end-piece F E bs start at n k None l end = end
-end-piece F E bs start at n k (Some (Found i)) l end = end
-end-piece F E bs start at n k (Some (Free i)) l (j, below, place, free) =
-    let sum : start + at + j ≡ start + (at + j) = omega arith in
-    (at + j, omega (arith, below), place ∙ ap (λ q. q % E.slots) sum, ap counts_as_free (sym (index-bytes_at bs at n j below)) ∙ free)
-end-piece F E bs start at n k (Some Neither) l end = end
+end-piece F E bs start at n k None l on end = end
+end-piece F E bs start at n k (Some (Found i)) l on (j, below, place, key, other) =
+    let sum : start + at + j ≡ start + (at + j) = omega arith in (
+      at + j,
+      omega (arith, below),
+      place ∙ ap (λ q. q % E.slots) sum,
+      key,
+      among-more (λ x c. IsOther F E k (x % E.slots) c) bs start at j n (omega (arith, below)) (λ m h. (on m h).1) other,
+    )
+end-piece F E bs start at n k (Some (Free i)) l on (j, below, place, free, more) =
+    let sum : start + at + j ≡ start + (at + j) = omega arith in (
+      at + j,
+      omega (arith, below),
+      place ∙ ap (λ q. q % E.slots) sum,
+      ap counts_as_free (sym (index-bytes_at bs at n j below)) ∙ free,
+      among-more (λ x c. IsFalse (counts_as_free c) × IsOther F E k (x % E.slots) c) bs start at j n (omega (arith, below)) on more,
+    )
+end-piece F E bs start at n k (Some Neither) l on end = end
 
 -- without an answer its positions are passed
-pub look-none : (F : Format) (P : Table) (k : List ℕ) (p n : ℕ) (r : Option SearchResult) → is_some r ≡ false → IsLook F P k p n r → Passed F P k (p + n)
+pub look-none : (F : Format) (P : Table) (k : List ℕ) (p n : ℕ) (r : Option Search) → is_some r ≡ false → IsLook F P k p n r → Passed F P k (p + n)
 look-none F P k p n None none look = look
 look-none F P k p n (Some a) none look = absurd (true≢false none)

@@ -1,5 +1,6 @@
 -- A search by groups on parts: where it is at each group, and what follows at its end.
 use Rattle.std.proofs.Common.{false, ◌≡◌, ℕ, ◌+◌, ◌-◌, ◌/◌, ◌%◌, ◌<◌, ◌≤◌, inl, inr, sym, ap, ◌∙◌, subst, arith, List, length, slice_index, IsTrue}
+use Rattle.std.specs.Prelude.{IsFalse}
 use Rattle.std.proofs.Math.Nat.{mod-eq_of_lt, add-mod_right}
 use Rattle.std.proofs.lemmas.Bool.{cases_lt}
 use Rattle.odht_base.specs.Bytes.{bytes_at}
@@ -14,12 +15,12 @@ use Rattle.odht_base.specs.Valid.{IsPartsOf}
 use Rattle.odht_base.proofs.lemmas.ByteRanges.{length-bytes_at}
 use Rattle.odht_base.proofs.lemmas.Orders.{probe_slot-lt, probe_slot-onto, position-order_none}
 use Rattle.odht_base.proofs.lemmas.Parts.{slice_index-controls, slice_index-mirror}
-use Rattle.odht_raw.specs.SearchResults.{MatchSearchResult}
-use Rattle.odht_raw.specs.Frame.{CountsAsFree, CountsAsOccupied, HasNoFree, HasNoFreeSlot}
+use Rattle.odht_raw.specs.ControlBytes.{OfSlot, CountsAsFree, CountsAsOccupied, HasNoFree, HasNoFreeSlot, order_slot, IsOther, Differs, GoesOn, GoesOnTo, IsMissing}
+use Rattle.odht_raw.specs.SearchEnds.{Among, IsOtherAmong, GoesOnAmong, IsEnd, IsEndAmong, IsAfter}
 use Rattle.odht_raw.specs.Parts.{EntryBytes}
 use Rattle.odht_raw.specs.SearchSteps.{slot_of, Passed, IsGroupAt, EndsWithin}
-use Rattle.odht_raw.specs.declared.raw_table.search_result.SearchResult.{SearchResult}
-use Rattle.odht_raw.specs.declared.raw_table.search_result.SearchResult.TheVariants.{Found, Free, Neither}
+use Rattle.odht_raw.specs.declared.raw_table.search_result.Search.{Search}
+use Rattle.odht_raw.specs.declared.raw_table.search_result.Search.TheVariants.{Found, Free, Neither}
 use Rattle.odht_raw.proofs.lemmas.GroupLooks.{index-bytes_at}
 use Rattle.odht_raw.proofs.lemmas.PartCells.{slots_are}
 use Rattle.odht_raw.proofs.lemmas.ProbeSteps.{probe_slot-step}
@@ -38,35 +39,30 @@ controls-group F cs b i few l h = elim (cases_lt (b + i) (length cs)) [
       ∙ ap (λ y. control_byte F (cell_at cs y)) (sym (ap (λ y. y % length cs) (sym turn) ∙ add-mod_right x (length cs) ∙ mod-eq_of_lt {n = x} {m = length cs} low))
 ]
 
--- on any parts a free one is that of a slot that counts as free
-pub group-free : (ctrl : List ℕ) (s b i : ℕ) → length ctrl ≡ s + 16 → 16 ≤ s → b < s → i < 16 → IsTrue (counts_as_free (slice_index (bytes_at ctrl b 16) i)) → CountsAsFree ctrl ((b + i) % s)
-group-free ctrl s b i len few l h free =
+-- on any parts one of them is a control byte of its slot
+pub group-byte : (T : ℕ → Type 0) (ctrl : List ℕ) (s b i : ℕ) → length ctrl ≡ s + 16 → 16 ≤ s → b < s → i < 16 → T (slice_index (bytes_at ctrl b 16) i) → OfSlot T ctrl ((b + i) % s)
+group-byte T ctrl s b i len few l h t =
     let byte = index-bytes_at ctrl b 16 i h in
     elim (cases_lt (b + i) s) [
-      | inl inside ↦ inl (rw (mod-eq_of_lt {n = b + i} {m = s} inside) (subst (λ c. IsTrue (counts_as_free c)) byte free))
+      | inl inside ↦ inl (rw (mod-eq_of_lt {n = b + i} {m = s} inside) (subst T byte t))
       | inr past ↦
           let x : ℕ = b + i - s in
           let turn : x + s ≡ b + i = omega arith in
           let low : x < s = omega arith in
           let is : (b + i) % s ≡ x = ap (λ y. y % s) (sym turn) ∙ add-mod_right x s ∙ mod-eq_of_lt {n = x} {m = s} low in
           let behind : b + i ≡ length ctrl - 16 + x = omega arith in
-          inr (rw is (omega arith, subst (λ c. IsTrue (counts_as_free c)) (byte ∙ ap (slice_index ctrl) behind) free))
+          inr (rw is (omega arith, subst T (byte ∙ ap (slice_index ctrl) behind) t))
     ]
 
--- and one that is not free is that of a slot that counts as occupied
-pub group-occupied : (ctrl : List ℕ) (s b i : ℕ) → length ctrl ≡ s + 16 → 16 ≤ s → b < s → i < 16 → counts_as_free (slice_index (bytes_at ctrl b 16) i) ≡ false → CountsAsOccupied ctrl ((b + i) % s)
-group-occupied ctrl s b i len few l h occupied =
-    let byte = index-bytes_at ctrl b 16 i h in
-    elim (cases_lt (b + i) s) [
-      | inl inside ↦ inl (rw (mod-eq_of_lt {n = b + i} {m = s} inside) (subst (λ c. counts_as_free c ≡ false) byte occupied))
-      | inr past ↦
-          let x : ℕ = b + i - s in
-          let turn : x + s ≡ b + i = omega arith in
-          let low : x < s = omega arith in
-          let is : (b + i) % s ≡ x = ap (λ y. y % s) (sym turn) ∙ add-mod_right x s ∙ mod-eq_of_lt {n = x} {m = s} low in
-          let behind : b + i ≡ length ctrl - 16 + x = omega arith in
-          inr (rw is (omega arith, subst (λ c. counts_as_free c ≡ false) (byte ∙ ap (slice_index ctrl) behind) occupied))
-    ]
+-- so what holds of the first bytes of the group at position p, holds of the slots of these positions
+pub among-slots : (T : ℕ → ℕ → Type 0) (ctrl : List ℕ) (b s start p n : ℕ) → length ctrl ≡ s + 16 → 16 ≤ s → p % 16 ≡ 0 → start ≡ probe_slot b s p → n ≤ 16
+    → Among (λ x c. T (x % s) c) (bytes_at ctrl start 16) start n → (q : ℕ) → p ≤ q → q < p + n → OfSlot (T (probe_slot b s q)) ctrl (probe_slot b s q)
+among-slots T ctrl b s start p n len few aligned is small all q from l =
+    let i : ℕ = q - p in
+    let at : p + i ≡ q = omega arith in
+    let low : start < s = omega (arith, is, probe_slot-lt b s p (omega arith)) in
+    let slot_is : (start + i) % s ≡ probe_slot b s q = ap (λ x. (x + i) % s) is ∙ probe_slot-step b s p i (omega arith) ∙ ap (probe_slot b s) at in
+    subst (λ x. OfSlot (T x) ctrl x) slot_is (group-byte (T ((start + i) % s)) ctrl s start i len few low (omega arith) (all i (omega arith)))
 
 -- the slots of the positions before p of the order from b on count as occupied
 abbrev pub OccupiedBefore : List ℕ → ℕ → ℕ → ℕ → Type 0
@@ -77,12 +73,7 @@ pub occupied-more : (ctrl bs : List ℕ) (b s start p : ℕ) → length ctrl ≡
     → HasNoFree bs 16 → OccupiedBefore ctrl b s p → OccupiedBefore ctrl b s (p + 16)
 occupied-more ctrl bs b s start p len few aligned is read none before q l = elim (cases_lt q p) [
   | inl low ↦ before q low
-  | inr past ↦
-      let i : ℕ = q - p in
-      let at : p + i ≡ q = omega arith in
-      let low : start < s = omega (arith, is, probe_slot-lt b s p (omega arith)) in
-      let slot_is : (start + i) % s ≡ probe_slot b s q = ap (λ x. (x + i) % s) is ∙ probe_slot-step b s p i (omega arith) ∙ ap (probe_slot b s) at in
-      subst (CountsAsOccupied ctrl) slot_is (group-occupied ctrl s start i len few low (omega arith) (subst (λ x. counts_as_free (slice_index x i) ≡ false) read (none i (omega arith))))
+  | inr past ↦ among-slots (λ x c. counts_as_free c ≡ false) ctrl b s start p 16 len few aligned is (omega arith) (λ i h. subst (λ x. counts_as_free (slice_index x i) ≡ false) read (none i h)) q (omega arith) l
 ]
 
 -- so does each slot after the last group
@@ -135,10 +126,62 @@ module _ (F : Format) (P : Table) (E : EntryBytes) (ctrl k : List ℕ) (f : IsFo
       let count : E.slots ≡ slot_count P = slots_are F f P E.bytes ctrl h E.slots len in
       rw (position-order_none _ (home F k (slot_count P)) (slot_count P) (subst (Passed F P k) count passed)) (ap (λ n. n / 16) (sym count))
 
--- a free byte of a group is that of a slot that counts as free, on any parts
-pub ends-free : (ctrl : List ℕ) (s start : ℕ) (A : ℕ → Type 0) (N : Type 0) (r : SearchResult) → length ctrl ≡ s + 16 → 16 ≤ s → start < s
-    → MatchSearchResult r A (λ i. (j : ℕ) × (j < 16) × (i ≡ (start + j) % s) × IsTrue (counts_as_free (slice_index (bytes_at ctrl start 16) j))) ⊥
-    → MatchSearchResult r A (λ i. (i < s) × CountsAsFree ctrl i) N
-ends-free ctrl s start A N (Found i) len few low m = m
-ends-free ctrl s start A N (Free i) len few low m = (omega (arith, m.2), subst (CountsAsFree ctrl) (sym m.2) (group-free ctrl s start m.0 len few low m.1 m.3))
-ends-free ctrl s start A N Neither len few low m = absurd m
+-- ---- any parts
+-- a slot from which the search goes on is not one where the key is found
+differs-on : (F : Format) (E : EntryBytes) (ctrl k : List ℕ) (i : ℕ) → GoesOn F E ctrl k i → Differs F E ctrl k i
+differs-on F E ctrl k i (inl on) = inl on.1
+differs-on F E ctrl k i (inr on) = inr (on.0, on.1.1)
+
+-- and counts as occupied
+occupied-on : (F : Format) (E : EntryBytes) (ctrl k : List ℕ) (i : ℕ) → GoesOn F E ctrl k i → CountsAsOccupied ctrl i
+occupied-on F E ctrl k i (inl on) = inl on.0
+occupied-on F E ctrl k i (inr on) = inr (on.0, on.1.0)
+
+-- where the search goes on from each position, each slot counts as occupied
+pub no_free-on : (F : Format) (E : EntryBytes) (ctrl k : List ℕ) → IsSlotCount E.slots → GoesOnTo F E ctrl k E.slots → HasNoFreeSlot ctrl E.slots
+no_free-on F E ctrl k count on = occupied-all ctrl (home F k E.slots) E.slots count (λ q l. occupied-on F E ctrl k _ (on q l))
+
+module _ (F : Format) (E : EntryBytes) (ctrl k : List ℕ) (start p : ℕ) (len : length ctrl ≡ E.slots + 16) (few : 16 ≤ E.slots) (aligned : p % 16 ≡ 0) (within : p + 16 ≤ E.slots) (is : start ≡ order_slot F E k p) where
+  abbrev group : List ℕ
+  group = bytes_at ctrl start 16
+
+  start_low : start < E.slots
+  start_low = omega (arith, is, probe_slot-lt (home F k E.slots) E.slots p (omega arith))
+
+  slot_at : (j : ℕ) → j < 16 → (start + j) % E.slots ≡ order_slot F E k (p + j)
+  slot_at j l = ap (λ x. (x + j) % E.slots) is ∙ probe_slot-step (home F k E.slots) E.slots p j (omega arith)
+
+  -- after n more positions from which it goes on
+  pub goes_on-more : (n : ℕ) → n ≤ 16 → GoesOnAmong F E group start k n → GoesOnTo F E ctrl k p → GoesOnTo F E ctrl k (p + n)
+  goes_on-more n small all before q l = elim (cases_lt q p) [
+    | inl low ↦ before q low
+    | inr past ↦ among-slots (λ i c. IsFalse (counts_as_free c) × IsOther F E k i c) ctrl (home F k E.slots) E.slots start p n len few aligned is small all q (omega arith) l
+  ]
+
+  -- the same of positions where the key is not found
+  differs-more : (n : ℕ) → n ≤ 16 → IsOtherAmong F E group start k n → GoesOnTo F E ctrl k p → (q : ℕ) → q < p + n → Differs F E ctrl k (order_slot F E k q)
+  differs-more n small all before q l = elim (cases_lt q p) [
+    | inl low ↦ differs-on F E ctrl k _ (before q low)
+    | inr past ↦ among-slots (IsOther F E k) ctrl (home F k E.slots) E.slots start p n len few aligned is small all q (omega arith) l
+  ]
+
+  -- where a look at the group ends, the search ends
+  pub group-end : (r : Search) → IsEndAmong F E group start 16 k r → IsEnd F E ctrl k r
+  group-end (Found i) (j, below, place, key, other) = (omega (arith, place), key)
+  group-end (Free i) (j, below, place, free, on) = (omega (arith, place), subst (CountsAsFree ctrl) (sym place) (group-byte (λ c. IsTrue (counts_as_free c)) ctrl E.slots start j len few start_low below free))
+  group-end Neither h = absurd h
+
+  -- and what comes before this end
+  pub group-after : GoesOnTo F E ctrl k p → (r : Search) → IsEndAmong F E group start 16 k r → IsAfter F E ctrl k r
+  group-after before (Found i) (j, below, place, key, other) =
+      let first : p ≡ p + j - (p + j) % 16 = omega arith in
+      (p + j, omega arith, sym (place ∙ slot_at j below), subst (GoesOnTo F E ctrl k) first before, differs-more j (omega arith) other before)
+  group-after before (Free i) (j, below, place, free, on) = (p + j, omega arith, sym (place ∙ slot_at j below), goes_on-more j (omega arith) on before)
+  group-after before Neither h = absurd h
+
+-- a search that goes on to a slot that counts as free, or goes on from each, ends without the key
+pub missing-free : (F : Format) (E : EntryBytes) (ctrl k : List ℕ) (i : ℕ) → IsEnd F E ctrl k (Free i) → IsAfter F E ctrl k (Free i) → IsMissing F E ctrl k
+missing-free F E ctrl k i end (p, low, is, on) = (p, omega arith, on, λ l. subst (CountsAsFree ctrl) (sym is) end.1)
+
+pub missing-neither : (F : Format) (E : EntryBytes) (ctrl k : List ℕ) → GoesOnTo F E ctrl k E.slots → IsMissing F E ctrl k
+missing-neither F E ctrl k on = (E.slots, omega arith, on, λ l. absurd (omega (arith, l)))

@@ -20,7 +20,7 @@ use Rattle.odht_base.proofs.lemmas.PartsOf.{slot_within}
 use Rattle.odht_base.proofs.lemmas.InsertRuns.{count-run, factor-run}
 use Rattle.odht_base.proofs.lemmas.Writes.{with_count-append, with_value-append, with_pair-append}
 use Rattle.odht_header.specs.Coding.{Coding, encoded}
-use Rattle.odht_raw.specs.Frame.{IsAccepted, header_maximum, InsertFrame, PartsFrame, HasNoFreeSlot, CountsAsFree}
+use Rattle.odht_raw.specs.Frame.{IsAccepted, header_maximum, InsertFrame, PartsFrame, IsAbsent, HasNoFreeSlot, CountsAsFree, IsMissing}
 use Rattle.odht_raw.specs.Runs.{IsFramedRun, IsPartsRun, ArePartsOfRun, IsPlacedBelow, count_after}
 use Rattle.odht_header.specs.declared.error.Error.{Error}
 use Rattle.odht_raw.proofs.lemmas.NewTables.{bytes_at-overwritten_at, overwritten_at-same}
@@ -83,10 +83,14 @@ module _ (F : Format) (H : List ℕ) (h : length H ≡ 32) (small : header_maxim
   pub frame_joined : (p : Pair) (n : ℕ) (es ctrl : List ℕ) (a : Result (Option (List ℕ)) Error) (es' ctrl' : List ℕ)
       → IsPairOf F p → n < header_maximum H → length es ≡ header_slots H * entry_len F → length ctrl ≡ header_slots H + 16
       → PartsFrame F es ctrl p a es' ctrl' → InsertFrame F (joined H n es ctrl) p a (joined H (count_after n a) es' ctrl')
-  frame_joined p n es ctrl a es' ctrl' fits room long mirrored (PartsFrame.no_slot none) =
+  frame_joined p n es ctrl a es' ctrl' fits room long mirrored (PartsFrame.no_slot none missing) =
       let slots = joined-slots H n es ctrl h in
       let same : length ctrl - 16 ≡ header_slots (joined H n es ctrl) = omega (arith, mirrored, slots) in
-      InsertFrame.no_slot (subst (λ c. HasNoFreeSlot c (header_slots (joined H n es ctrl))) (sym (joined-controls F H n es ctrl h long)) (subst (HasNoFreeSlot ctrl) same none))
+      let controls = joined-controls F H n es ctrl h long in
+      let entry = joined-entries F H n es ctrl h long in
+      let absent : IsAbsent F (joined H n es ctrl) p.key =
+      subst (λ (x : (ℕ × List ℕ) × List ℕ). IsMissing F (record { slots = x.0.0; bytes = x.0.1 }) x.1 p.key) (λ j. ((same j, sym entry j), sym controls j)) missing in
+      InsertFrame.no_slot (subst (λ c. HasNoFreeSlot c (header_slots (joined H n es ctrl))) (sym controls) (subst (HasNoFreeSlot ctrl) same none)) absent
   frame_joined p n es ctrl a es' ctrl' fits room long mirrored (PartsFrame.overwrote i low key) =
       let B = joined H n es ctrl in
       let slots = joined-slots H n es ctrl h in
@@ -133,7 +137,7 @@ pub record IsJoinedRun {K V : Type 0} (c : Coding K V) (H : List ℕ) (m : ℕ) 
 -- one insert keeps the lengths of the parts
 frame-lengths : (F : Format) (p : Pair) (es ctrl : List ℕ) (a : Result (Option (List ℕ)) Error) (es' ctrl' : List ℕ) (s : ℕ) → IsPairOf F p
     → length es ≡ s * entry_len F → length ctrl ≡ s + 16 → PartsFrame F es ctrl p a es' ctrl' → (length es' ≡ length es) × (length ctrl' ≡ length ctrl)
-frame-lengths F p es ctrl a es' ctrl' s fits long mirrored (PartsFrame.no_slot none) = (refl, refl)
+frame-lengths F p es ctrl a es' ctrl' s fits long mirrored (PartsFrame.no_slot none missing) = (refl, refl)
 frame-lengths F p es ctrl a es' ctrl' s fits long mirrored (PartsFrame.overwrote i low key) =
     let w = slot_within i s (entry_len F) (omega (arith, low, mirrored)) in
     (length-overwritten_at es (i * entry_len F + F.key_len) p.value (omega (arith, w, long, fits.value.len)), refl)

@@ -13,8 +13,8 @@ use Rattle.odht_base.proofs.lemmas.SearchEnds.{search_end-IsTarget}
 use Rattle.odht_base.proofs.lemmas.Places.{written, place-at, place-search_end, is_free-target, map_of-holds}
 use Rattle.odht_base.proofs.lemmas.Lookups.{map_of-search_end}
 use Rattle.odht_raw.specs.SearchResults.{answer, IsWherePlaced}
-use Rattle.odht_raw.specs.declared.raw_table.search_result.SearchResult.{SearchResult}
-use Rattle.odht_raw.specs.declared.raw_table.search_result.SearchResult.TheVariants.{Found, Free, Neither}
+use Rattle.odht_raw.specs.declared.raw_table.search_result.Search.{Search}
+use Rattle.odht_raw.specs.declared.raw_table.search_result.Search.TheVariants.{Found, Free, Neither}
 
 -- a found key: its slot's pair, the map's value, and that a pair with the key goes there
 pub record IsFoundAt (F : Format) (P : Table) (k : List ℕ) (i : ℕ) : Type 0 where
@@ -115,7 +115,7 @@ module _ (F : Format) (P : Table) (k : List ℕ) (ok : IsPlaced F P) where
       }
 
   -- an answer is where a pair with the key is placed
-  pub answer-IsWherePlaced : (r : SearchResult) → r ≡ answer F P.cells k → IsWherePlaced F P k r
+  pub answer-IsWherePlaced : (r : Search) → r ≡ answer F P.cells k → IsWherePlaced F P k r
   answer-IsWherePlaced (Found i) e =
       let at = answer-Found i e in (pair_key k (cell_at P.cells i) at.pair at.holds (sym at.key), λ v. at.places (record { key = k; value = v }) refl)
   answer-IsWherePlaced (Free i) e =

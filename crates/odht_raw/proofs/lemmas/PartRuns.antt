@@ -87,7 +87,7 @@ refused_full F es ctrl p es' ctrl' {W = W} f r e err framed = go es ctrl es' ctr
   where
     go : (es ctrl es' ctrl' : List ℕ) (a : Result (Option (List ℕ)) Error) → r ≡ result_map_both (option_map f) (λ e. e) a → PartsFrame F es ctrl p a es' ctrl'
         → HasNoFreeSlot ctrl' (length ctrl' - 16)
-    go es ctrl es' ctrl' a is (PartsFrame.no_slot none) = none
+    go es ctrl es' ctrl' a is (PartsFrame.no_slot none missing) = none
     go es ctrl es' ctrl' a is (PartsFrame.overwrote i low key) = absurd (let both : Err e ≡ Ok (Some (f (slot_value F es i))) = sym err ∙ is in cc)
     go es ctrl es' ctrl' a is (PartsFrame.added i low free) = absurd (let both : Err e ≡ Ok None = sym err ∙ is in cc)
 

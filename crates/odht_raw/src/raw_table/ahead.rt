@@ -12,9 +12,7 @@ ghost use Rattle.odht_raw.specs.PartsInserts.{IsPartsInsert, IsInsertChange};
 ghost use Rattle.odht_raw.specs.SearchEnds.{IsEnd};
 
 use super::writes::insert_at;
-use super::{
-    Entries, EntryMetadata, Scan, SearchResult, is_empty_or_deleted, search_hashed, tag_of,
-};
+use super::{Entries, EntryMetadata, Scan, Search, is_empty_or_deleted, search_hashed, tag_of};
 use crate::bytes::ByteArray;
 use crate::error::Error;
 use crate::hash::HashFn;
@@ -82,7 +80,7 @@ fn expected_end<K: ByteArray, V: ByteArray, H: HashFn>(
     key: &K,
     hash: u32,
     slot: usize,
-) -> SearchResult
+) -> Search
     requires lengths { ArePartLengths H.MIN_LEN K.LEN V.LEN (length entries.now) (length control.now) }
     requires hash { hash ≡ H.hash (K.bytes key.now) }
     ensures placed { (P : Table)
@@ -94,7 +92,7 @@ fn expected_end<K: ByteArray, V: ByteArray, H: HashFn>(
 {
     if slot < control.len() - REFERENCE_GROUP_SIZE {
         if is_empty_or_deleted(control[slot]) {
-            return SearchResult::Free(slot);
+            return Search::Free(slot);
         }
     }
     whole_search::<K, V, H>(control, entries, key, hash)
@@ -107,7 +105,7 @@ fn whole_search<K: ByteArray, V: ByteArray, H: HashFn>(
     entries: &[u8],
     key: &K,
     hash: u32,
-) -> SearchResult
+) -> Search
     requires lengths { ArePartLengths H.MIN_LEN K.LEN V.LEN (length entries.now) (length control.now) }
     requires hash { hash ≡ H.hash (K.bytes key.now) }
     ensures placed { (P : Table)

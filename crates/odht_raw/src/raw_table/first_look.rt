@@ -9,7 +9,7 @@ ghost use Rattle.odht_raw.specs.SearchResults.{answer};
 ghost use Rattle.odht_raw.specs.FirstLooks.{first_look_of};
 ghost use Rattle.odht_raw.specs.SearchEnds.{IsBesideKey, IsEnd};
 
-use super::{RawTable, Scan, SearchResult, search_hashed, tag_of};
+use super::{RawTable, Scan, Search, search_hashed, tag_of};
 use crate::bytes::ByteArray;
 use crate::hash::HashFn;
 use crate::swisstable_group_query::{Group, GroupQuery, REFERENCE_GROUP_SIZE, lanes};
@@ -75,15 +75,15 @@ impl<'a, K: ByteArray, V: ByteArray, H: HashFn> RawTable<'a, K, V, H> {
             return None;
         }
         match self.search_far(key, hash) {
-            SearchResult::Found(slot) => Some(self.entries.get(slot).value),
-            SearchResult::Free(_) => None,
-            SearchResult::Neither => None,
+            Search::Found(slot) => Some(self.entries.get(slot).value),
+            Search::Free(_) => None,
+            Search::Neither => None,
         }
     }
 
     // The search from its first group on, for a key whose search does not end within its first look.
     #[inline(never)]
-    fn search_far(&self, key: &K, hash: u32) -> SearchResult
+    fn search_far(&self, key: &K, hash: u32) -> Search
         requires { hash ≡ H.hash (K.bytes key.now) }
         ensures on_placed { (P : Table)
             → IsPartsOf (format_of K.LEN V.LEN H.hash) P self.now.entries.bytes self.now.control

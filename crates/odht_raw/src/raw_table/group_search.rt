@@ -6,12 +6,11 @@ ghost use Rattle.odht_base.specs.Table.{Table};
 ghost use Rattle.odht_base.specs.Search.{groups_read};
 ghost use Rattle.odht_base.specs.Valid.{IsPartsOf};
 ghost use Rattle.odht_raw.specs.SearchResults.{answer, IsWherePlaced};
-ghost use Rattle.odht_raw.specs.Frame.{HasNoFree};
 ghost use Rattle.odht_raw.specs.PartLengths.{ArePairLengths, AreSearchLengths};
-ghost use Rattle.odht_raw.specs.SearchEnds.{IsEnd, IsEndAmong};
+ghost use Rattle.odht_raw.specs.SearchEnds.{IsAfter, IsEnd, IsEndAmong, GoesOnAmong};
 ghost use Rattle.odht_raw.specs.SearchSteps.{IsGroupAt, IsLook};
 
-use super::{Entries, EntryMetadata, ProbeSeq, Scan, SearchResult, tag_of};
+use super::{Entries, EntryMetadata, ProbeSeq, Scan, Search, tag_of};
 use crate::bytes::ByteArray;
 use crate::hash::HashFn;
 use crate::swisstable_group_query::{Group, REFERENCE_GROUP_SIZE};
@@ -28,7 +27,7 @@ pub fn search<K: ByteArray, V: ByteArray, H: HashFn, Q: Group>(
     scan: &mut Scan<'_>,
     entries: &Entries<'_, K, V>,
     key: &K,
-) -> SearchResult
+) -> Search
     requires { AreSearchLengths H.MIN_LEN K.LEN V.LEN entries.now.slots (length scan.old.control) }
     ensures on_placed { (P : Table)
         → IsPartsOf (format_of K.LEN V.LEN H.hash) P entries.now.bytes scan.old.control
@@ -41,6 +40,7 @@ pub fn search<K: ByteArray, V: ByteArray, H: HashFn, Q: Group>(
         → let read = groups_read (format_of K.LEN V.LEN H.hash) P.cells (K.bytes key.now)
         in scan.new.groups ≡ min (scan.old.groups + read) usize.MAX }
     ensures slot { IsEnd (format_of K.LEN V.LEN H.hash) entries.now scan.old.control (K.bytes key.now) result }
+    ensures earlier { IsAfter (format_of K.LEN V.LEN H.hash) entries.now scan.old.control (K.bytes key.now) result }
     ensures few { scan.new.groups ≤ scan.old.groups + entries.now.slots / 16 }
     ensures control { scan.new.control ≡ scan.old.control }
 {
@@ -55,7 +55,7 @@ pub fn search_hashed<K: ByteArray, V: ByteArray, H: HashFn, Q: Group>(
     entries: &Entries<'_, K, V>,
     key: &K,
     hash: u32,
-) -> SearchResult
+) -> Search
     requires lengths { AreSearchLengths H.MIN_LEN K.LEN V.LEN entries.now.slots (length scan.old.control) }
     requires hash { hash ≡ H.hash (K.bytes key.now) }
     ensures on_placed { (P : Table)
@@ -69,6 +69,7 @@ pub fn search_hashed<K: ByteArray, V: ByteArray, H: HashFn, Q: Group>(
         → let read = groups_read (format_of K.LEN V.LEN H.hash) P.cells (K.bytes key.now)
         in scan.new.groups ≡ min (scan.old.groups + read) usize.MAX }
     ensures slot { IsEnd (format_of K.LEN V.LEN H.hash) entries.now scan.old.control (K.bytes key.now) result }
+    ensures earlier { IsAfter (format_of K.LEN V.LEN H.hash) entries.now scan.old.control (K.bytes key.now) result }
     ensures few { scan.new.groups ≤ scan.old.groups + entries.now.slots / 16 }
     ensures control { scan.new.control ≡ scan.old.control }
 {
@@ -82,7 +83,7 @@ pub fn search_hashed<K: ByteArray, V: ByteArray, H: HashFn, Q: Group>(
             return end;
         }
         if probe.is_last() {
-            return SearchResult::Neither;
+            return Search::Neither;
         }
         probe.advance(mask);
     }
@@ -96,7 +97,7 @@ fn look_at_group<K: ByteArray, V: ByteArray, H: HashFn, Q: Group>(
     entries: &Entries<'_, K, V>,
     key: &K,
     tag: u8,
-) -> Option<SearchResult>
+) -> Option<Search>
     requires len { length bytes.now ≡ 16 }
     requires slots { IsSlotCount entries.now.slots }
     requires start { start < entries.now.slots }
@@ -105,7 +106,8 @@ fn look_at_group<K: ByteArray, V: ByteArray, H: HashFn, Q: Group>(
     requires lengths { ArePairLengths H.MIN_LEN K.LEN V.LEN }
     ensures slot { IfSome result
         (IsEndAmong (format_of K.LEN V.LEN H.hash) entries.now bytes.now start 16 (K.bytes key.now)) }
-    ensures occupied { IsNone result → HasNoFree bytes.now 16 }
+    ensures none { IsNone result
+        → GoesOnAmong (format_of K.LEN V.LEN H.hash) entries.now bytes.now start (K.bytes key.now) 16 }
     ensures on_placed { (P : Table) (p : ℕ)
         → IsGroupAt (format_of K.LEN V.LEN H.hash) P entries.now (K.bytes key.now) p start bytes.now
         → IsLook (format_of K.LEN V.LEN H.hash) P (K.bytes key.now) p 16 result }
@@ -134,7 +136,7 @@ fn look_at_piece<K: ByteArray, V: ByteArray, H: HashFn, Q: Group>(
     entries: &Entries<'_, K, V>,
     key: &K,
     tag: u8,
-) -> Option<SearchResult>
+) -> Option<Search>
     requires len { length bytes.now ≡ Q.SIZE }
     requires slots { IsSlotCount entries.now.slots }
     requires start { start + Q.SIZE ≤ entries.now.slots + 16 }
@@ -143,7 +145,8 @@ fn look_at_piece<K: ByteArray, V: ByteArray, H: HashFn, Q: Group>(
     requires lengths { ArePairLengths H.MIN_LEN K.LEN V.LEN }
     ensures slot { IfSome result
         (IsEndAmong (format_of K.LEN V.LEN H.hash) entries.now bytes.now start Q.SIZE (K.bytes key.now)) }
-    ensures occupied { IsNone result → HasNoFree bytes.now Q.SIZE }
+    ensures none { IsNone result
+        → GoesOnAmong (format_of K.LEN V.LEN H.hash) entries.now bytes.now start (K.bytes key.now) Q.SIZE }
     ensures on_placed { (P : Table) (p : ℕ)
         → IsGroupAt (format_of K.LEN V.LEN H.hash) P entries.now (K.bytes key.now) p start bytes.now
         → IsLook (format_of K.LEN V.LEN H.hash) P (K.bytes key.now) p Q.SIZE result }
@@ -153,12 +156,12 @@ fn look_at_piece<K: ByteArray, V: ByteArray, H: HashFn, Q: Group>(
     'matches: while let Some(index) = group.first_match() {
         let slot = (start + index) & mask;
         if entries.get(slot).key.equals(key) {
-            return Some(SearchResult::Found(slot));
+            return Some(Search::Found(slot));
         }
         group.drop_match();
     }
     match group.first_empty() {
-        Some(index) => Some(SearchResult::Free((start + index) & mask)),
+        Some(index) => Some(Search::Free((start + index) & mask)),
         None => None,
     }
 }

@@ -13,7 +13,7 @@ ghost use Rattle.odht_raw.specs.PartsInserts.{IsPartsInsert, IsInsertChange};
 ghost use Rattle.odht_raw.specs.SearchEnds.{IsPlainEnd, IsBesideKey};
 
 use super::writes::insert_at;
-use super::{Entries, EntryMetadata, SearchResult, is_empty_or_deleted, tag_of};
+use super::{Entries, EntryMetadata, Search, is_empty_or_deleted, tag_of};
 use crate::bytes::ByteArray;
 use crate::error::Error;
 use crate::hash::HashFn;
@@ -38,9 +38,9 @@ pub fn plain_find<K: ByteArray, V: ByteArray, H: HashFn>(
 {
     let hash = H::hash(key.as_slice());
     match plain_search::<K, V, H>(control, entries, key, hash) {
-        SearchResult::Found(slot) => Some(entries.get(slot).value),
-        SearchResult::Free(_) => None,
-        SearchResult::Neither => None,
+        Search::Found(slot) => Some(entries.get(slot).value),
+        Search::Free(_) => None,
+        Search::Neither => None,
     }
 }
 
@@ -80,7 +80,7 @@ fn plain_search<K: ByteArray, V: ByteArray, H: HashFn>(
     entries: &Entries<'_, K, V>,
     key: &K,
     hash: u32,
-) -> SearchResult
+) -> Search
     requires slots { IsSlotCount entries.now.slots }
     requires lengths { AreSearchLengths H.MIN_LEN K.LEN V.LEN entries.now.slots (length control.now) }
     requires hash { hash ≡ H.hash (K.bytes key.now) }
@@ -93,13 +93,13 @@ fn plain_search<K: ByteArray, V: ByteArray, H: HashFn>(
     for position in 0..slots {
         let slot = slot_at(hash, slots, position);
         if is_empty_or_deleted(control[slot]) {
-            return SearchResult::Free(slot);
+            return Search::Free(slot);
         }
         if entries.get(slot).key.equals(key) {
-            return SearchResult::Found(slot);
+            return Search::Found(slot);
         }
     }
-    SearchResult::Neither
+    Search::Neither
 }
 
 // The slot at a position of the probe order of a hash.

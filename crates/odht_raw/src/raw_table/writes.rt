@@ -12,7 +12,7 @@ ghost use Rattle.odht_raw.specs.Parts.{EntryBytes};
 ghost use Rattle.odht_raw.specs.PartsInserts.{IsPartsInsert, IsInsertChange};
 ghost use Rattle.odht_raw.specs.SearchEnds.{IsEnd};
 
-use super::{Entries, EntryMetadata, SearchResult};
+use super::{Entries, EntryMetadata, Search};
 use crate::bytes::{BorrowedMut, ByteArray, ByteStoreMut};
 use crate::error::Error;
 use crate::hash::HashFn;
@@ -29,7 +29,7 @@ pub(crate) fn insert_at<K: ByteArray, V: ByteArray, H: HashFn>(
     key: K,
     value: V,
     tag: u8,
-    end: SearchResult,
+    end: Search,
 ) -> Result<Option<V>, Error>
     requires lengths { ArePartLengths H.MIN_LEN K.LEN V.LEN (length entries.old) (length control.old) }
     requires tag { tag ≡ key_tag (format_of K.LEN V.LEN H.hash) (K.bytes key) }
@@ -46,17 +46,17 @@ pub(crate) fn insert_at<K: ByteArray, V: ByteArray, H: HashFn>(
     let slots = control.len() - REFERENCE_GROUP_SIZE;
     let stored: Entries<'_, K, V> = Entries::new(entries, slots);
     match end {
-        SearchResult::Found(slot) => {
+        Search::Found(slot) => {
             let old = stored.get(slot).value;
             let mut store = BorrowedMut::new(entries);
             store.write_at(slot * (K::LEN + V::LEN) + K::LEN, value.as_slice());
             Ok(Some(old))
         }
-        SearchResult::Free(slot) => {
+        Search::Free(slot) => {
             write_entry::<K, V, H>(control, entries, &key, &value, tag, slot);
             Ok(None)
         }
-        SearchResult::Neither => Err(Error::Full),
+        Search::Neither => Err(Error::Full),
     }
 }
 

@@ -8,7 +8,7 @@ use odht::error::Error;
 use odht::hash::HashFn;
 use odht::load::{Factor, slots_needed};
 use odht::memory_layout::{self, Allocation, HEADER_SIZE, allocate};
-use odht::raw_table::{Scan, SearchResult, plain_insert, search};
+use odht::raw_table::{Scan, Search, plain_insert, search};
 use odht::swisstable_group_query::{Group, lanes, no_simd};
 use odht::{Config, HashTableOwned};
 use std::alloc::Global;
@@ -76,9 +76,9 @@ fn insert_by<C: Config, Q: Group>(
     let (control, entries) = table.data_slices();
     let mut scan = Scan::new(control, entries.len());
     match search::<C::EncodedKey, C::EncodedValue, C::H, Q>(&mut scan, &entries, key) {
-        SearchResult::Found(slot) => table.write_value(slot, value),
-        SearchResult::Free(slot) => table.write_entry(slot, key, value, tag),
-        SearchResult::Neither => panic!(rt; "no slot is free"),
+        Search::Found(slot) => table.write_value(slot, value),
+        Search::Free(slot) => table.write_entry(slot, key, value, tag),
+        Search::Neither => panic!(rt; "no slot is free"),
     }
 }
 

@@ -203,7 +203,7 @@ fn refused_bytes_are_not_copied(rt: HostRuntime) {
             8,
             2,
             Error::WrongItemCount {
-                header_count: 2,
+                stated: 2,
                 found: 1,
             },
         ),

@@ -38,4 +38,11 @@ pub trait Group: Sized {
 
     /// Drops the least match that is left, if there is one.
     fn drop_match(&mut self);
+
+    /// Takes the least match that is left: returns and drops it; None once all were taken.
+    fn next_match(&mut self) -> Option<usize> {
+        let found = self.first_match();
+        self.drop_match();
+        found
+    }
 }

@@ -61,7 +61,7 @@ pub enum Error {
     /// The mirror of control byte `index` differs from it.
     MirrorMismatch { index: usize },
     /// The header's item count is not the number of occupied slots.
-    WrongItemCount { header_count: usize, found: usize },
+    WrongItemCount { stated: usize, found: usize },
     /// The header's item count is above the maximum of the header's slot count and load factor.
     TooManyItems { count: usize, max: usize },
     /// The search slot by slot for the key of this occupied slot does not end at it.
@@ -154,14 +154,8 @@ fn write_contents_error(error: &Error, f: &mut fmt::Formatter<'_>) -> fmt::Resul
         Error::MirrorMismatch { index } => {
             write!(f, "Mirror control byte {index} does not match its slot")
         }
-        Error::WrongItemCount {
-            header_count,
-            found,
-        } => {
-            write!(
-                f,
-                "Header states {header_count} items but {found} were found"
-            )
+        Error::WrongItemCount { stated, found } => {
+            write!(f, "Header states {stated} items but {found} were found")
         }
         Error::TooManyItems { count, max } => write!(
             f,

@@ -159,13 +159,13 @@ impl<'a> Header<'a> {
     /// Whether the header's item count is the number of occupied slots found, and at most the maximum; else
     /// `WrongItemCount`, then `TooManyItems`.
     pub fn check_item_count(&self, found: usize) -> Result<(), Error> {
-        let header_count = self.item_count();
-        if header_count != found {
-            return Err(Error::WrongItemCount { header_count, found });
+        let stated = self.item_count();
+        if stated != found {
+            return Err(Error::WrongItemCount { stated, found });
         }
         let max = max_item_count_for(self.slot_count(), self.max_load_factor());
-        if max < header_count {
-            return Err(Error::TooManyItems { count: header_count, max });
+        if max < stated {
+            return Err(Error::TooManyItems { count: stated, max });
         }
         Ok(())
     }

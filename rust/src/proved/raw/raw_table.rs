@@ -7,7 +7,7 @@
 use crate::proved::raw::bytes::ByteArray;
 use crate::proved::raw::error::Error;
 use crate::proved::raw::hash::HashFn;
-use crate::proved::raw::swisstable_group_query::GroupQuery;
+use crate::proved::raw::swisstable_group_query::{Group, GroupQuery};
 use std::marker::PhantomData;
 
 mod ahead;
@@ -33,7 +33,7 @@ pub use group_search::{search, search_hashed};
 pub use plain::{plain_find, plain_insert};
 pub use probe_seq::{probe_order, ProbeSeq};
 pub use scan::Scan;
-pub use search_result::SearchResult;
+pub use search_result::Search;
 pub use table_mut::RawTableMut;
 pub use walk::{RawIter, RawSlots};
 
@@ -78,7 +78,7 @@ impl<'a, K: ByteArray, V: ByteArray, H: HashFn> RawTable<'a, K, V, H> {
     /// The value stored with the key, searched for group by group along the probe order (docs/FORMAT.md, "Search").
     ///
     /// On the parts of a table whose keys are all reached it is the map's answer. On any parts it is a value that is
-    /// stored with an equal key. Each group is read at most once.
+    /// stored with an equal key. `find_counted` says how many groups that takes.
     #[inline]
     pub fn find(&self, key: &K) -> Option<V> {
         let (value, _) = self.find_counted(key);
@@ -90,13 +90,19 @@ impl<'a, K: ByteArray, V: ByteArray, H: HashFn> RawTable<'a, K, V, H> {
     /// "Search".
     #[inline]
     pub fn find_counted(&self, key: &K) -> (Option<V>, usize) {
+        self.find_counted_by::<GroupQuery>(key)
+    }
+
+    /// `find_counted` by a group search of the caller's choice. All searches give the same.
+    #[inline]
+    pub fn find_counted_by<Q: Group>(&self, key: &K) -> (Option<V>, usize) {
         let mut scan = Scan::new(self.control, self.entries.len());
-        let end = search::<K, V, H, GroupQuery>(&mut scan, &self.entries, key);
+        let end = search::<K, V, H, Q>(&mut scan, &self.entries, key);
         let groups = scan.groups();
         match end {
-            SearchResult::Found(slot) => (Some(self.entries.get(slot).value), groups),
-            SearchResult::Free(_) => (None, groups),
-            SearchResult::Neither => (None, groups),
+            Search::Found(slot) => (Some(self.entries.get(slot).value), groups),
+            Search::Free(_) => (None, groups),
+            Search::Neither => (None, groups),
         }
     }
 

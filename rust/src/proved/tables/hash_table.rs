@@ -1,20 +1,18 @@
 // Made by `make rust` of crates/odht/src/hash_table.rt.
 //! The table over bytes of any kind.
 
-use crate::proved::tables::bytes::{ByteArray, ByteStore, ByteStoreMut};
+use crate::proved::tables::bytes::{ByteStore, ByteStoreMut};
 use crate::proved::tables::config::Config;
 use crate::proved::tables::error::Error;
-use crate::proved::tables::hash::HashFn;
 use crate::proved::tables::items::Items;
 use crate::proved::tables::iter::Iter;
-use crate::proved::tables::load::{max_item_count_for, Factor};
+use crate::proved::tables::load::Factor;
 use crate::proved::tables::lookups;
 use crate::proved::tables::memory_layout::{self, Allocation};
-use crate::proved::tables::raw_table::{
-    search_hashed, tag_of, RawIter, RawTable, Scan, SearchResult,
-};
+use crate::proved::tables::raw_table::{RawIter, RawTable};
 use crate::proved::tables::swisstable_group_query::GroupQuery;
 
+mod by_search;
 mod lists;
 mod walks;
 
@@ -68,24 +66,17 @@ impl<C: Config, D: ByteStore> HashTable<C, D> {
     }
 
     /// The value of a key, or None. On valid bytes it is the value of the key's last insert; on any bytes it is one
-    /// that is stored with this very key.
-    ///
-    /// Each group of control bytes is read at most once.
+    /// that is stored with this very key. [`HashTable::get_counted`] says how many groups the search reads.
     #[inline(always)]
     pub fn get(&self, key: &C::Key) -> Option<C::Value> {
-        let table = self.as_raw();
-        let key = C::encode_key(key);
-        match table.find(&key) {
-            Some(value) => Some(C::decode_value(&value)),
-            None => None,
-        }
+        self.get_by::<GroupQuery>(key)
     }
 
     /// `get` of many keys: the value of each key is written to its index. The loads of eight keys overlap, so that many
     /// lookups in a large table are faster than one `get` after the other.
     ///
-    /// Each key is encoded twice, and hashed once. For each key, a group of control bytes is read at most once, but the
-    /// group at the key's home twice where it has neither the key nor a free control byte.
+    /// Each key is encoded twice, and hashed once. Where the group at a key's home has neither the key nor a free
+    /// control byte it is read twice.
     #[inline]
     pub fn get_all(&self, keys: &[C::Key], values: &mut [Option<C::Value>]) {
         lookups::get_all::<C>(&self.as_raw(), keys, values);
@@ -96,22 +87,13 @@ impl<C: Config, D: ByteStore> HashTable<C, D> {
     /// "Search", counts them.
     #[inline]
     pub fn get_counted(&self, key: &C::Key) -> (Option<C::Value>, usize) {
-        let table = self.as_raw();
-        let key = C::encode_key(key);
-        match table.find_counted(&key) {
-            (Some(value), groups) => (Some(C::decode_value(&value)), groups),
-            (None, groups) => (None, groups),
-        }
+        self.get_counted_by::<GroupQuery>(key)
     }
 
     /// Whether the key has a value. On any bytes it is true only where the entry of some slot holds this very key.
-    ///
-    /// Each group of control bytes is read at most once.
     #[inline]
     pub fn contains_key(&self, key: &C::Key) -> bool {
-        let table = self.as_raw();
-        let key = C::encode_key(key);
-        table.find(&key).is_some()
+        self.contains_key_by::<GroupQuery>(key)
     }
 
     /// The keys and values of the slots whose own control byte is below 128, in slot order: on valid bytes each pair of
@@ -183,16 +165,33 @@ impl<C: Config, D: ByteStoreMut> HashTable<C, D> {
         max_item_count: usize,
         max_load_factor_percent: u8,
     ) -> Result<Self, Error> {
+        let mut store = data;
+        HashTable::<C, D>::init_store(&mut store, max_item_count, max_load_factor_percent)?;
+        Ok(HashTable::from_raw_bytes_unchecked(store))
+    }
+
+    /// Makes an empty table for `max_item_count` items in a store that stays the caller's, whatever its bytes were. The
+    /// load factor is in percent of the slots.
+    ///
+    /// The errors are those of [`HashTable::init_in_place`]. An error leaves the store as it was. Where there is none,
+    /// [`HashTable::from_raw_bytes_unchecked`] accepts the store.
+    pub fn init_store(
+        store: &mut D,
+        max_item_count: usize,
+        max_load_factor_percent: u8,
+    ) -> Result<(), Error> {
         let factor = Factor::from_percent(max_load_factor_percent);
         let Some((slot_count, expected)) = memory_layout::layout_for::<C>(max_item_count, factor)
         else {
             return Err(Error::Capacity);
         };
-        let found = data.bytes().len();
+        let found = store.bytes().len();
         if found != expected {
             return Err(Error::InitLength { found, expected });
         }
-        Ok(HashTable { allocation: memory_layout::init_in_place(data, slot_count, 0, factor) })
+        let table = memory_layout::init_in_place::<C, &mut D>(store, slot_count, 0, factor);
+        let _store = table.into_store();
+        Ok(())
     }
 
     /// Gives the key this value, and returns its former one: on valid bytes that of its last insert.
@@ -202,39 +201,14 @@ impl<C: Config, D: ByteStoreMut> HashTable<C, D> {
     /// is at its maximum and the key is absent: a present key is always given its value. docs/FORMAT.md, "Insert" and
     /// "At the maximum", has the rules.
     ///
-    /// The key is hashed once, and each group of control bytes is read at most once.
-    ///
     /// On any bytes either one value that is stored with an equal key changes; or, where the header's count is below
     /// its maximum, one entry and its tag are written to a slot that counted as free and the count rises by one. No
-    /// other byte changes. `Full` comes only where the header's count is its maximum or more, or where each slot counts
-    /// as occupied.
+    /// other byte changes. `Full` comes only where the search does not find the key, and the header's count is its
+    /// maximum or more, or each slot counts as occupied.
+    ///
+    /// The key is hashed once. [`HashTable::get_counted`] says how many groups the search reads.
     #[inline(always)]
     pub fn insert(&mut self, key: &C::Key, value: &C::Value) -> Result<Option<C::Value>, Error> {
-        let key = C::encode_key(key);
-        let value = C::encode_value(value);
-        let header = self.allocation.header();
-        let hash = C::H::hash(key.as_slice());
-        let (control, entries) = self.allocation.data_slices();
-        let mut scan = Scan::new(control, entries.len());
-        match search_hashed::<C::EncodedKey, C::EncodedValue, C::H, GroupQuery>(
-            &mut scan, &entries, &key, hash,
-        ) {
-            SearchResult::Found(slot) => {
-                let old = entries.get(slot).value;
-                self.allocation.write_value(slot, &value);
-                Ok(Some(C::decode_value(&old)))
-            }
-            SearchResult::Free(slot) => {
-                let count = header.item_count();
-                let max = max_item_count_for(header.slot_count(), header.max_load_factor());
-                if count >= max {
-                    return Err(Error::Full);
-                }
-                self.allocation.write_entry(slot, &key, &value, tag_of(hash));
-                self.allocation.set_item_count(count + 1);
-                Ok(None)
-            }
-            SearchResult::Neither => Err(Error::Full),
-        }
+        self.insert_by::<GroupQuery>(key, value)
     }
 }

@@ -2,7 +2,7 @@
 //! The calls that write the bytes of a table, for every configuration.
 
 use crate::erased::calls::read::view;
-use crate::erased::calls::status::{status_of, BAD_PERCENT, CAPACITY, INIT_LENGTH, OK, REPLACED};
+use crate::erased::calls::status::{status_of, BAD_PERCENT, CAPACITY, OK, REPLACED};
 use crate::proved::tables::bytes::ByteStoreMut;
 use crate::proved::tables::config::Config;
 use crate::proved::tables::items::Zipped;
@@ -37,16 +37,10 @@ pub fn init<C: Config, M: ByteStoreMut>(
     if max_load_factor_percent < 1 || max_load_factor_percent > 100 {
         return BAD_PERCENT;
     }
-    let factor = Factor::from_percent(max_load_factor_percent);
-    let Some((slot_count, expected)) = memory_layout::layout_for::<C>(max_item_count, factor)
-    else {
-        return CAPACITY;
-    };
-    if store.bytes().len() != expected {
-        return INIT_LENGTH;
+    match HashTable::<C, M>::init_store(store, max_item_count, max_load_factor_percent) {
+        Ok(()) => OK,
+        Err(refused) => status_of(&refused),
     }
-    make::<C, M>(store, slot_count, factor);
-    OK
 }
 
 /// Makes an empty table of `slot_count` slots in the store, whatever it holds. One pass over the bytes.

@@ -2,9 +2,7 @@
 //! Inserts of several keys whose slots are looked up ahead, so that the memory accesses to their control bytes overlap.
 
 use super::writes::insert_at;
-use super::{
-    is_empty_or_deleted, search_hashed, tag_of, Entries, EntryMetadata, Scan, SearchResult,
-};
+use super::{is_empty_or_deleted, search_hashed, tag_of, Entries, EntryMetadata, Scan, Search};
 use crate::proved::raw::bytes::ByteArray;
 use crate::proved::raw::error::Error;
 use crate::proved::raw::hash::HashFn;
@@ -58,10 +56,10 @@ fn expected_end<K: ByteArray, V: ByteArray, H: HashFn>(
     key: &K,
     hash: u32,
     slot: usize,
-) -> SearchResult {
+) -> Search {
     if slot < control.len() - REFERENCE_GROUP_SIZE {
         if is_empty_or_deleted(index!(control[slot])) {
-            return SearchResult::Free(slot);
+            return Search::Free(slot);
         }
     }
     whole_search::<K, V, H>(control, entries, key, hash)
@@ -74,7 +72,7 @@ fn whole_search<K: ByteArray, V: ByteArray, H: HashFn>(
     entries: &[u8],
     key: &K,
     hash: u32,
-) -> SearchResult {
+) -> Search {
     let slots = control.len() - REFERENCE_GROUP_SIZE;
     let stored: Entries<'_, K, V> = Entries::new(entries, slots);
     let mut scan = Scan::new(control, slots);

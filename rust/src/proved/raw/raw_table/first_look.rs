@@ -2,7 +2,7 @@
 //! The first look of a search. To look up many keys, take the first looks of several keys before the first search ends:
 //! then their memory accesses overlap.
 
-use super::{search_hashed, tag_of, RawTable, Scan, SearchResult};
+use super::{search_hashed, tag_of, RawTable, Scan, Search};
 use crate::proved::raw::bytes::ByteArray;
 use crate::proved::raw::hash::HashFn;
 use crate::proved::raw::swisstable_group_query::{lanes, Group, GroupQuery, REFERENCE_GROUP_SIZE};
@@ -46,15 +46,15 @@ impl<'a, K: ByteArray, V: ByteArray, H: HashFn> RawTable<'a, K, V, H> {
             return None;
         }
         match self.search_far(key, hash) {
-            SearchResult::Found(slot) => Some(self.entries.get(slot).value),
-            SearchResult::Free(_) => None,
-            SearchResult::Neither => None,
+            Search::Found(slot) => Some(self.entries.get(slot).value),
+            Search::Free(_) => None,
+            Search::Neither => None,
         }
     }
 
     // The search from its first group on, for a key whose search does not end within its first look.
     #[inline(never)]
-    fn search_far(&self, key: &K, hash: u32) -> SearchResult {
+    fn search_far(&self, key: &K, hash: u32) -> Search {
         let mut scan = Scan::new(self.control, self.entries.len());
         search_hashed::<K, V, H, GroupQuery>(&mut scan, &self.entries, key, hash)
     }

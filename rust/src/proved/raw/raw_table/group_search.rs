@@ -1,7 +1,7 @@
 // Made by `make rust` of crates/odht_raw/src/raw_table/group_search.rt.
 //! The search by groups of control bytes along the probe order.
 
-use super::{tag_of, Entries, EntryMetadata, ProbeSeq, Scan, SearchResult};
+use super::{tag_of, Entries, EntryMetadata, ProbeSeq, Scan, Search};
 use crate::proved::raw::bytes::ByteArray;
 use crate::proved::raw::hash::HashFn;
 use crate::proved::raw::swisstable_group_query::{Group, REFERENCE_GROUP_SIZE};
@@ -18,7 +18,7 @@ pub fn search<K: ByteArray, V: ByteArray, H: HashFn, Q: Group>(
     scan: &mut Scan<'_>,
     entries: &Entries<'_, K, V>,
     key: &K,
-) -> SearchResult {
+) -> Search {
     let hash = H::hash(key.as_slice());
     search_hashed::<K, V, H, Q>(scan, entries, key, hash)
 }
@@ -30,7 +30,7 @@ pub fn search_hashed<K: ByteArray, V: ByteArray, H: HashFn, Q: Group>(
     entries: &Entries<'_, K, V>,
     key: &K,
     hash: u32,
-) -> SearchResult {
+) -> Search {
     let tag = tag_of(hash);
     let mask = scan.slots() - 1;
     let mut probe = ProbeSeq::<REFERENCE_GROUP_SIZE>::new(hash as usize, mask);
@@ -41,7 +41,7 @@ pub fn search_hashed<K: ByteArray, V: ByteArray, H: HashFn, Q: Group>(
             return end;
         }
         if probe.is_last() {
-            return SearchResult::Neither;
+            return Search::Neither;
         }
         probe.advance(mask);
     }
@@ -55,7 +55,7 @@ fn look_at_group<K: ByteArray, V: ByteArray, H: HashFn, Q: Group>(
     entries: &Entries<'_, K, V>,
     key: &K,
     tag: u8,
-) -> Option<SearchResult> {
+) -> Option<Search> {
     for piece in 0..REFERENCE_GROUP_SIZE / Q::SIZE {
         let at = piece * Q::SIZE;
         let end = look_at_piece::<K, V, H, Q>(
@@ -80,18 +80,18 @@ fn look_at_piece<K: ByteArray, V: ByteArray, H: HashFn, Q: Group>(
     entries: &Entries<'_, K, V>,
     key: &K,
     tag: u8,
-) -> Option<SearchResult> {
+) -> Option<Search> {
     let mask = entries.len() - 1;
     let mut group = Q::of(bytes, tag);
     while let Some(index) = group.first_match() {
         let slot = (start + index) & mask;
         if entries.get(slot).key.equals(key) {
-            return Some(SearchResult::Found(slot));
+            return Some(Search::Found(slot));
         }
         group.drop_match();
     }
     match group.first_empty() {
-        Some(index) => Some(SearchResult::Free((start + index) & mask)),
+        Some(index) => Some(Search::Free((start + index) & mask)),
         None => None,
     }
 }

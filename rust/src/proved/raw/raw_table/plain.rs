@@ -3,7 +3,7 @@
 //! groups.
 
 use super::writes::insert_at;
-use super::{is_empty_or_deleted, tag_of, Entries, EntryMetadata, SearchResult};
+use super::{is_empty_or_deleted, tag_of, Entries, EntryMetadata, Search};
 use crate::proved::raw::bytes::ByteArray;
 use crate::proved::raw::error::Error;
 use crate::proved::raw::hash::HashFn;
@@ -20,9 +20,9 @@ pub fn plain_find<K: ByteArray, V: ByteArray, H: HashFn>(
 ) -> Option<V> {
     let hash = H::hash(key.as_slice());
     match plain_search::<K, V, H>(control, entries, key, hash) {
-        SearchResult::Found(slot) => Some(entries.get(slot).value),
-        SearchResult::Free(_) => None,
-        SearchResult::Neither => None,
+        Search::Found(slot) => Some(entries.get(slot).value),
+        Search::Free(_) => None,
+        Search::Neither => None,
     }
 }
 
@@ -54,18 +54,18 @@ fn plain_search<K: ByteArray, V: ByteArray, H: HashFn>(
     entries: &Entries<'_, K, V>,
     key: &K,
     hash: u32,
-) -> SearchResult {
+) -> Search {
     let slots = entries.len();
     for position in 0..slots {
         let slot = slot_at(hash, slots, position);
         if is_empty_or_deleted(control[slot]) {
-            return SearchResult::Free(slot);
+            return Search::Free(slot);
         }
         if entries.get(slot).key.equals(key) {
-            return SearchResult::Found(slot);
+            return Search::Found(slot);
         }
     }
-    SearchResult::Neither
+    Search::Neither
 }
 
 // The slot at a position of the probe order of a hash.

@@ -3,7 +3,7 @@
 
 /// The slot where a search ended.
 #[derive(Clone, Copy, PartialEq, Eq, Debug)]
-pub enum SearchResult {
+pub enum Search {
     /// This slot holds the key.
     Found(usize),
     /// The search met this slot, which counts as free. On the parts of a table whose keys are all reached no slot holds

@@ -7,7 +7,7 @@ use super::{search_hashed, tag_of, Entries, EntryMetadata, RawTable, Scan};
 use crate::proved::raw::bytes::ByteArray;
 use crate::proved::raw::error::Error;
 use crate::proved::raw::hash::HashFn;
-use crate::proved::raw::swisstable_group_query::{GroupQuery, REFERENCE_GROUP_SIZE};
+use crate::proved::raw::swisstable_group_query::{Group, GroupQuery, REFERENCE_GROUP_SIZE};
 use std::fmt;
 use std::marker::PhantomData;
 
@@ -33,11 +33,17 @@ impl<'c, 'e, K: ByteArray, V: ByteArray, H: HashFn> RawTableMut<'c, 'e, K, V, H>
     /// On the parts of a table whose keys are all reached it leaves the parts of the table with the pair placed, and
     /// answers `Full`, with nothing changed, exactly where each slot is occupied and none has the key. On any parts
     /// either one value stored with an equal key is overwritten, or one entry is written with its tag into a slot that
-    /// counted as free, and no other byte changes; `Full` is answered only where each slot counts as occupied. Each
-    /// group is read at most once.
+    /// counted as free, and no other byte changes; `Full` is answered only where each slot counts as occupied and the
+    /// search does not find the key.
     #[inline(always)]
     pub fn insert(&mut self, key: K, value: V) -> Result<Option<V>, Error> {
-        insert_parts::<K, V, H>(self.control, self.entries, key, value)
+        self.insert_by::<GroupQuery>(key, value)
+    }
+
+    /// `insert` by a group search of the caller's choice. All searches leave the same parts.
+    #[inline(always)]
+    pub fn insert_by<Q: Group>(&mut self, key: K, value: V) -> Result<Option<V>, Error> {
+        insert_parts::<K, V, H, Q>(self.control, self.entries, key, value)
     }
 
     /// Writes the pair into the first free slot of its key's probe order. No key is compared, so it is for a key that
@@ -46,17 +52,23 @@ impl<'c, 'e, K: ByteArray, V: ByteArray, H: HashFn> RawTableMut<'c, 'e, K, V, H>
     /// On the parts of a table whose keys are all reached, and none of which is this key, it leaves the parts of the
     /// table with the pair placed, and answers `Full`, with nothing changed, exactly where each slot is occupied. On
     /// any parts the entry is written with its tag into the first slot of the order that counted as free, and no other
-    /// byte changes; `Full` is answered only where each slot counts as occupied. Each group is read at most once.
+    /// byte changes; `Full` is answered only where each slot counts as occupied.
     #[inline(always)]
     pub fn place(&mut self, key: K, value: V) -> Result<(), Error> {
-        place_parts::<K, V, H>(self.control, self.entries, key, value)
+        self.place_by::<GroupQuery>(key, value)
+    }
+
+    /// `place` by a group search of the caller's choice. All searches leave the same parts.
+    #[inline(always)]
+    pub fn place_by<Q: Group>(&mut self, key: K, value: V) -> Result<(), Error> {
+        place_parts::<K, V, H, Q>(self.control, self.entries, key, value)
     }
 }
 
-// `insert` on the slices themselves, since a scan that borrows a slice from `self` cannot be kept while `self` is
+// `insert_by` on the slices themselves, since a scan that borrows a slice from `self` cannot be kept while `self` is
 // written.
 #[inline(always)]
-fn insert_parts<K: ByteArray, V: ByteArray, H: HashFn>(
+fn insert_parts<K: ByteArray, V: ByteArray, H: HashFn, Q: Group>(
     control: &mut [EntryMetadata],
     entries: &mut [u8],
     key: K,
@@ -66,20 +78,20 @@ fn insert_parts<K: ByteArray, V: ByteArray, H: HashFn>(
     let hash = H::hash(key.as_slice());
     let stored: Entries<'_, K, V> = Entries::new(entries, slots);
     let mut scan = Scan::new(control, slots);
-    let end = search_hashed::<K, V, H, GroupQuery>(&mut scan, &stored, &key, hash);
+    let end = search_hashed::<K, V, H, Q>(&mut scan, &stored, &key, hash);
     insert_at::<K, V, H>(control, entries, key, value, tag_of(hash), end)
 }
 
-// `place` on the slices themselves.
+// `place_by` on the slices themselves.
 #[inline(always)]
-fn place_parts<K: ByteArray, V: ByteArray, H: HashFn>(
+fn place_parts<K: ByteArray, V: ByteArray, H: HashFn, Q: Group>(
     control: &mut [EntryMetadata],
     entries: &mut [u8],
     key: K,
     value: V,
 ) -> Result<(), Error> {
     let hash = H::hash(key.as_slice());
-    let Some(slot) = first_free::<GroupQuery>(control, hash) else {
+    let Some(slot) = first_free::<Q>(control, hash) else {
         return Err(Error::Full);
     };
     write_entry::<K, V, H>(control, entries, &key, &value, tag_of(hash), slot);

@@ -1,7 +1,7 @@
 // Made by `make rust` of crates/odht_raw/src/raw_table/writes.rt.
 //! The writes of an insert on the parts of a table.
 
-use super::{Entries, EntryMetadata, SearchResult};
+use super::{Entries, EntryMetadata, Search};
 use crate::proved::raw::bytes::{BorrowedMut, ByteArray, ByteStoreMut};
 use crate::proved::raw::error::Error;
 use crate::proved::raw::hash::HashFn;
@@ -18,22 +18,22 @@ pub(crate) fn insert_at<K: ByteArray, V: ByteArray, H: HashFn>(
     key: K,
     value: V,
     tag: u8,
-    end: SearchResult,
+    end: Search,
 ) -> Result<Option<V>, Error> {
     let slots = control.len() - REFERENCE_GROUP_SIZE;
     let stored: Entries<'_, K, V> = Entries::new(entries, slots);
     match end {
-        SearchResult::Found(slot) => {
+        Search::Found(slot) => {
             let old = stored.get(slot).value;
             let mut store = BorrowedMut::new(entries);
             store.write_at(slot * (K::LEN + V::LEN) + K::LEN, value.as_slice());
             Ok(Some(old))
         }
-        SearchResult::Free(slot) => {
+        Search::Free(slot) => {
             write_entry::<K, V, H>(control, entries, &key, &value, tag, slot);
             Ok(None)
         }
-        SearchResult::Neither => Err(Error::Full),
+        Search::Neither => Err(Error::Full),
     }
 }
 

@@ -3,7 +3,7 @@ use Rattle.odht_base.specs.Bytes.{bytes_at}
 use Rattle.odht_base.specs.Format.{Format, format_of, home, tag}
 use Rattle.odht_base.specs.Groups.{IsReport, first_free}
 use Rattle.odht_base.proofs.lemmas.SlotCounts.{bit_and-slots}
-use Rattle.odht_raw.specs.declared.raw_table.search_result.SearchResult.TheVariants.{Free}
+use Rattle.odht_raw.specs.declared.raw_table.search_result.Search.TheVariants.{Free}
 use Rattle.odht_raw.proofs.lemmas.Expected.{size_fits, no_match, home_free, no_slot}
 use Rattle.odht_header.proofs.lemmas.Formats.{IsFormat-format_of}
 use Rattle.odht_raw.proofs.raw_table.ahead.expected_slot.Goals as goal

@@ -1,10 +1,13 @@
-use Rattle.std.proofs.Common.{rules, arith, ◌≡◌, ◌∙◌, ℕ, ◌+◌, ◌*◌, ◌/◌, sym, ap, subst, List}
+use Rattle.std.proofs.Common.{rules, arith, ◌≡◌, ◌∙◌, ℕ, ◌+◌, ◌*◌, ◌/◌, ◌%◌, sym, ap, subst, List}
 use Rattle.odht_base.specs.Format.{Format, format_of}
 use Rattle.odht_base.proofs.lemmas.SlotCounts.{few_slots}
 use Rattle.odht_base.specs.Bytes.{bytes_at}
-use Rattle.odht_raw.specs.Frame.{HasNoFree}
+use Rattle.std.specs.Prelude.{IsFalse}
+use Rattle.odht_base.specs.Decoded.{counts_as_free}
+use Rattle.odht_raw.specs.ControlBytes.{IsOther}
+use Rattle.odht_raw.specs.SearchEnds.{GoesOnAmong}
 use Rattle.odht_raw.specs.SearchSteps.{IsLook, Passed}
-use Rattle.odht_raw.proofs.lemmas.GroupLooks.{piece-fits, pieces-all, IsGroupAt-piece, look-piece, look-none, end-piece, no_free-more}
+use Rattle.odht_raw.proofs.lemmas.GroupLooks.{piece-fits, pieces-all, IsGroupAt-piece, look-piece, look-none, end-piece, among-pieces}
 use Rattle.odht_raw.proofs.raw_table.group_search.look_at_group.Goals as goal
 
 pub overflow_add-start : goal.overflow_add-start
@@ -29,7 +32,7 @@ returns-then-is_some-clause-slot g c =
     let F : Format = format_of g.K.ByteArray.LEN g.V.ByteArray.LEN g.H.HashFn.hash in
     let n : ℕ = c.loop-piece.piece * g.Q.Group.SIZE in
     let fits = piece-fits g.Q.Group.SIZE c.loop-piece.piece (omega (arith, c.loop-piece-test.true, ap (λ n. 16 / n) c.SIZE-piece-end.ensures)) in
-    end-piece F c.args.entries.now c.args.bytes.now c.args.start n g.Q.Group.SIZE (g.K.ByteArray.bytes c.args.key.now) c.look_at_piece-end.result fits
+    end-piece F c.args.entries.now c.args.bytes.now c.args.start n g.Q.Group.SIZE (g.K.ByteArray.bytes c.args.key.now) c.look_at_piece-end.result fits c.loop-piece.invariant.on
     (rw (c.SIZE.ensures, c.SIZE-in-loop-piece.ensures) at c.look_at_piece-end.ensures.slot)
 
 pub loop-piece-init : goal.loop-piece-init
@@ -37,7 +40,7 @@ loop-piece-init g c =
     let F : Format = format_of g.K.ByteArray.LEN g.V.ByteArray.LEN g.H.HashFn.hash in
     let k : List ℕ = g.K.ByteArray.bytes c.args.key.now in
     record {
-      occupied = λ i l. absurd (omega (arith, l));
+      on = λ i l. absurd (omega (arith, l));
       passed = λ P p at. (let same : p ≡ p + 0 * g.Q.Group.SIZE = omega arith in subst (Passed F P k) same at.passed);
     }
 
@@ -49,12 +52,10 @@ loop-piece-preserved g c =
     let fits = piece-fits g.Q.Group.SIZE c.loop-piece.piece (omega (arith, c.loop-piece-test.true, ap (λ n. 16 / n) c.SIZE-piece-end.ensures)) in
     let missed = sym c.is_some.ensures ∙ c.if-is_some.false in
     let bytes = c.args.bytes.now in
-    let piece = c.loop-piece.piece in
-    let occupied : HasNoFree (bytes_at bytes n g.Q.Group.SIZE) g.Q.Group.SIZE =
-    subst (λ m. HasNoFree (bytes_at bytes (piece * m) g.Q.Group.SIZE) g.Q.Group.SIZE) c.SIZE.ensures
-    (subst (λ m. HasNoFree (bytes_at bytes (piece * c.SIZE.result) m) g.Q.Group.SIZE) c.SIZE-in-loop-piece.ensures (c.look_at_piece-end.ensures.occupied missed)) in
+    let on : GoesOnAmong F c.args.entries.now (bytes_at bytes n g.Q.Group.SIZE) (c.args.start + n) k g.Q.Group.SIZE =
+    rw (c.SIZE.ensures, c.SIZE-in-loop-piece.ensures) at c.look_at_piece-end.ensures.none missed in
     record {
-      occupied = no_free-more c.args.bytes.now c.loop-piece.piece g.Q.Group.SIZE c.loop-piece.invariant.occupied occupied;
+      on = among-pieces (λ x b. IsFalse (counts_as_free b) × IsOther F c.args.entries.now k (x % c.args.entries.now.slots) b) bytes c.args.start c.loop-piece.piece g.Q.Group.SIZE c.loop-piece.invariant.on on;
       passed = λ P p at. (
           let there = IsGroupAt-piece F P c.args.entries.now k p c.args.start c.args.bytes.now n g.Q.Group.SIZE (omega (arith, c.requires.len, fits)) at (c.loop-piece.invariant.passed P p at) in
           let known : IsLook F P k (p + n) g.Q.Group.SIZE c.look_at_piece-end.result = c.look_at_piece-end.ensures.on_placed P (p + n) (rw (c.SIZE.ensures, c.SIZE-in-loop-piece.ensures) there) in
@@ -63,10 +64,11 @@ loop-piece-preserved g c =
           subst (Passed F P k) sum passed);
     }
 
-pub returns-clause-occupied : goal.returns-clause-occupied
-returns-clause-occupied g c none =
+pub returns-clause-none : goal.returns-clause-none
+returns-clause-none g c none =
+    let F : Format = format_of g.K.ByteArray.LEN g.V.ByteArray.LEN g.H.HashFn.hash in
     let all = pieces-all g.Q.Group.SIZE c.loop-piece.piece g.met.Q.Group.divides (omega (arith, c.loop-piece-test.false, c.loop-piece.auto.piece-end, ap (λ n. 16 / n) c.SIZE-piece-end.ensures)) in
-    subst (HasNoFree c.args.bytes.now) all c.loop-piece.invariant.occupied
+    subst (GoesOnAmong F c.args.entries.now c.args.bytes.now c.args.start (g.K.ByteArray.bytes c.args.key.now)) all c.loop-piece.invariant.on
 
 pub returns-clause-on_placed : goal.returns-clause-on_placed
 returns-clause-on_placed g c P p at =

@@ -6,10 +6,11 @@ use Rattle.odht_base.specs.Table.{Table}
 use Rattle.odht_base.specs.Valid.{IsPartsOf}
 use Rattle.odht_base.proofs.lemmas.SlotCounts.{sixteens}
 use Rattle.odht_base.specs.Probe.{probe_slot}
-use Rattle.odht_raw.specs.Frame.{HasNoFree}
+use Rattle.odht_raw.specs.ControlBytes.{order_slot, GoesOnTo}
+use Rattle.odht_raw.specs.SearchEnds.{GoesOnAmong}
 use Rattle.odht_raw.specs.SearchSteps.{Passed}
 use Rattle.odht_header.proofs.lemmas.Formats.{IsFormat-format_of}
-use Rattle.odht_raw.proofs.lemmas.GroupSearches.{IsGroupAt-probe, reads-to, reads-all, ends-free, OccupiedBefore, occupied-more, occupied-all}
+use Rattle.odht_raw.proofs.lemmas.GroupSearches.{IsGroupAt-probe, reads-to, reads-all, goes_on-more, no_free-on, group-end, group-after}
 use Rattle.odht_raw.proofs.lemmas.Lookups.{answer-IsWherePlaced}
 use Rattle.odht_raw.proofs.lemmas.PlainSearch.{no_end}
 use Rattle.odht_raw.proofs.raw_table.group_search.search_hashed.Given.{Over}
@@ -35,7 +36,7 @@ groups-init g c =
       mask = ap (λ q. q.mask + 1) c.new-probe.ensures ∙ slots;
       aligned = omega (arith, place);
       within = omega (arith, place, slots);
-      occupied = λ q l. absurd (omega (arith, l, place));
+      on = λ q l. absurd (omega (arith, l, place));
       passed = λ P h q l. absurd (omega (arith, place));
     }
 
@@ -86,12 +87,35 @@ returns-in-Some-clause-groups g c P h =
     let reads = reads-to F P c.args.entries.now c.args.scan.now.control k f h c.requires.lengths.mirrored p v.aligned (c.in-Some.ensures.on_placed P p at).1 in
     rw reads (omega (arith, ap (λ s. s.groups) c.group-bytes.ensures.counted, v.read_so_far))
 
+-- at least sixteen slots
+few_slots : (g : Over) (c : After-look_at_group g) → 16 ≤ c.args.entries.now.slots
+few_slots g c = let few = c.slots-mask.ensures.count.least in omega (arith, few, c.slots-mask.ensures.control, c.requires.lengths.mirrored)
+
+-- the group that is read begins at the slot of the position
+begins : (g : Over) (c : After-look_at_group g)
+    → c.index-start.result ≡ order_slot (format_of g.K.ByteArray.LEN g.V.ByteArray.LEN g.H.HashFn.hash) c.args.entries.now (g.K.ByteArray.bytes c.args.key.now) c.groups.probe.position
+begins g c =
+    let slots = c.args.entries.now.slots in
+    c.index-start.ensures.slot ∙ (λ i. probe_slot (c.groups.invariant.home i) (c.groups.invariant.mask i) c.groups.probe.position)
+    ∙ ap (λ x. probe_slot (x % slots) slots c.groups.probe.position) c.requires.hash
+
+-- and is of these control bytes
+read : (g : Over) (c : After-look_at_group g) → c.group-bytes.result.now ≡ bytes_at c.args.scan.now.control c.index-start.result 16
+read g c = c.group-bytes.ensures.bytes ∙ ap (λ ctrl. bytes_at ctrl c.index-start.result 16) c.groups.invariant.control
+
 pub returns-in-Some-clause-slot : goal.returns-in-Some-clause-slot
 returns-in-Some-clause-slot g c =
-    let bytes = c.group-bytes.ensures.bytes ∙ ap (λ ctrl. bytes_at ctrl c.index-start.result 16) c.groups.invariant.control in
-    let low : c.index-start.result < c.args.entries.now.slots = omega (arith, c.index-start.ensures.below, c.groups.invariant.mask) in
-    let few = c.slots-mask.ensures.count.least in
-    ends-free c.args.scan.now.control c.args.entries.now.slots c.index-start.result _ _ c.in-Some.end c.requires.lengths.mirrored (omega (arith, c.slots-mask.ensures.control, c.requires.lengths.mirrored)) low (rw bytes at c.in-Some.ensures.slot)
+    let F : Format = format_of g.K.ByteArray.LEN g.V.ByteArray.LEN g.H.HashFn.hash in
+    let at = (goal.at.returns-in-Some-clause-slot g c).After-look_at_group in
+    group-end F c.args.entries.now c.args.scan.now.control (g.K.ByteArray.bytes c.args.key.now) c.index-start.result c.groups.probe.position c.requires.lengths.mirrored (few_slots g at)
+    c.groups.invariant.aligned c.groups.invariant.within (begins g at) c.in-Some.end (rw (read g at) at c.in-Some.ensures.slot)
+
+pub returns-in-Some-clause-earlier : goal.returns-in-Some-clause-earlier
+returns-in-Some-clause-earlier g c =
+    let F : Format = format_of g.K.ByteArray.LEN g.V.ByteArray.LEN g.H.HashFn.hash in
+    let at = (goal.at.returns-in-Some-clause-earlier g c).After-look_at_group in
+    group-after F c.args.entries.now c.args.scan.now.control (g.K.ByteArray.bytes c.args.key.now) c.index-start.result c.groups.probe.position c.requires.lengths.mirrored (few_slots g at)
+    c.groups.invariant.aligned c.groups.invariant.within (begins g at) c.groups.invariant.on c.in-Some.end (rw (read g at) at c.in-Some.ensures.slot)
 
 pub returns-then-is_last-clause-on_placed : goal.returns-then-is_last-clause-on_placed
 returns-then-is_last-clause-on_placed g c P h =
@@ -123,24 +147,36 @@ returns-then-is_last-clause-groups g c P h =
     let reads = reads-all F P c.args.entries.now c.args.scan.now.control k f h c.requires.lengths.mirrored (subst (Passed F P k) all (c.in_default.ensures.on_placed P p at)) in
     rw reads (omega (arith, ap (λ s. s.groups) c.group-bytes.ensures.counted, v.read_so_far, all))
 
--- the group at the probe, without a free byte, after those before it
-passed_group : (g : Over) (c : After-look_at_group g) → HasNoFree c.group-bytes.result.now 16
-    → OccupiedBefore c.args.scan.now.control (c.args.hash % c.args.entries.now.slots) c.args.entries.now.slots (c.groups.probe.position + 16)
-passed_group g c none =
-    let v = c.groups.invariant in
-    let few = c.slots-mask.ensures.count.least in
-    let slots : c.slots-mask.result ≡ c.args.entries.now.slots = omega (arith, c.slots-mask.ensures.control, c.requires.lengths.mirrored) in
-    let start = c.index-start.ensures.slot ∙ (λ i. probe_slot (v.home i) (v.mask i) c.groups.probe.position) in
-    occupied-more c.args.scan.now.control c.group-bytes.result.now (c.args.hash % c.args.entries.now.slots) c.args.entries.now.slots c.index-start.result c.groups.probe.position
-    c.requires.lengths.mirrored (omega (arith, few, slots)) v.aligned start (c.group-bytes.ensures.bytes ∙ ap (λ ctrl. bytes_at ctrl c.index-start.result 16) v.control) none v.occupied
+-- the group at the probe, from which the search goes on, after those before it
+passed_group : (g : Over) (c : After-look_at_group g)
+    → (let F = format_of g.K.ByteArray.LEN g.V.ByteArray.LEN g.H.HashFn.hash in
+    let k = g.K.ByteArray.bytes c.args.key.now in
+    GoesOnAmong F c.args.entries.now c.group-bytes.result.now c.index-start.result k 16 → GoesOnTo F c.args.entries.now c.args.scan.now.control k (c.groups.probe.position + 16))
+passed_group g c on =
+    let F : Format = format_of g.K.ByteArray.LEN g.V.ByteArray.LEN g.H.HashFn.hash in
+    goes_on-more F c.args.entries.now c.args.scan.now.control (g.K.ByteArray.bytes c.args.key.now) c.index-start.result c.groups.probe.position c.requires.lengths.mirrored (few_slots g c)
+    c.groups.invariant.aligned c.groups.invariant.within (begins g c) 16 (omega arith) (rw (read g c) at on) c.groups.invariant.on
+
+-- after the last group the search went on from each position
+on_all : (g : Over) (c : After-look_at_group g) → c.groups.probe.mask < c.groups.probe.position + 16
+    → (let F = format_of g.K.ByteArray.LEN g.V.ByteArray.LEN g.H.HashFn.hash in
+    let k = g.K.ByteArray.bytes c.args.key.now in
+    GoesOnAmong F c.args.entries.now c.group-bytes.result.now c.index-start.result k 16 → GoesOnTo F c.args.entries.now c.args.scan.now.control k c.args.entries.now.slots)
+on_all g c last on =
+    let F : Format = format_of g.K.ByteArray.LEN g.V.ByteArray.LEN g.H.HashFn.hash in
+    let all : c.groups.probe.position + 16 ≡ c.args.entries.now.slots = omega (arith, c.groups.invariant.within, c.groups.invariant.mask, last) in
+    subst (GoesOnTo F c.args.entries.now c.args.scan.now.control (g.K.ByteArray.bytes c.args.key.now)) all (passed_group g c on)
 
 pub returns-then-is_last-clause-slot : goal.returns-then-is_last-clause-slot
 returns-then-is_last-clause-slot g c =
-    let v = c.groups.invariant in
+    let F : Format = format_of g.K.ByteArray.LEN g.V.ByteArray.LEN g.H.HashFn.hash in
     let slots : c.slots-mask.result ≡ c.args.entries.now.slots = omega (arith, c.slots-mask.ensures.control, c.requires.lengths.mirrored) in
-    let all : c.groups.probe.position + 16 ≡ c.args.entries.now.slots = omega (arith, v.within, v.mask, c.is_last.ensures.0 c.if-is_last.true) in
-    let before = passed_group g (goal.at.returns-then-is_last-clause-slot g c).After-look_at_group (c.in_default.ensures.occupied refl) in
-    occupied-all c.args.scan.now.control _ c.args.entries.now.slots (subst IsSlotCount slots c.slots-mask.ensures.count) (subst (OccupiedBefore _ _ _) all before)
+    let on = on_all g (goal.at.returns-then-is_last-clause-slot g c).After-look_at_group (c.is_last.ensures.0 c.if-is_last.true) (c.in_default.ensures.none refl) in
+    (no_free-on F c.args.entries.now c.args.scan.now.control (g.K.ByteArray.bytes c.args.key.now) (subst IsSlotCount slots c.slots-mask.ensures.count) on, on)
+
+pub returns-then-is_last-clause-earlier : goal.returns-then-is_last-clause-earlier
+returns-then-is_last-clause-earlier g c =
+    on_all g (goal.at.returns-then-is_last-clause-earlier g c).After-look_at_group (c.is_last.ensures.0 c.if-is_last.true) (c.in_default.ensures.none refl)
 
 pub groups-preserved : goal.groups-preserved
 groups-preserved g c =
@@ -167,6 +203,6 @@ groups-preserved g c =
       mask = ap (λ q. q.mask + 1) c.advance.ensures ∙ v.mask;
       aligned = omega (arith, place, v.aligned);
       within = omega (arith, place, v.aligned, v.mask, sixteen.2, slots, more);
-      occupied = subst (OccupiedBefore _ _ _) (sym place) (passed_group g (goal.at.groups-preserved g c).After-look_at_group (c.in_default.ensures.occupied refl));
+      on = subst (GoesOnTo (format_of g.K.ByteArray.LEN g.V.ByteArray.LEN g.H.HashFn.hash) c.args.entries.now c.args.scan.now.control (g.K.ByteArray.bytes c.args.key.now)) (sym place) (passed_group g (goal.at.groups-preserved g c).After-look_at_group (c.in_default.ensures.none refl));
       passed = passed;
     }

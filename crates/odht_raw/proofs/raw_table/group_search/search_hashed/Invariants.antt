@@ -2,8 +2,8 @@ use Rattle.std.proofs.Common.{◌≡◌, ◌+◌, ◌-◌, ◌/◌, ◌%◌, ◌
 use Rattle.odht_base.specs.Format.{format_of}
 use Rattle.odht_base.specs.Table.{Table}
 use Rattle.odht_base.specs.Valid.{IsPartsOf}
+use Rattle.odht_raw.specs.ControlBytes.{GoesOnTo}
 use Rattle.odht_raw.specs.SearchSteps.{Passed}
-use Rattle.odht_raw.proofs.lemmas.GroupSearches.{OccupiedBefore}
 use Rattle.odht_raw.proofs.raw_table.group_search.search_hashed.Given as goal
 
 -- the probe is at the first position of a group; each group before it is counted, has no free byte and was passed
@@ -19,7 +19,7 @@ invariant-groups g l =
       mask : l.probe.mask + 1 ≡ l.entries.slots;
       aligned : l.probe.position % 16 ≡ 0;
       within : l.probe.position + 16 ≤ l.entries.slots;
-      occupied : OccupiedBefore l.fn.scan.control (l.hash % l.entries.slots) l.entries.slots l.probe.position;
+      on : GoesOnTo F l.entries l.fn.scan.control k l.probe.position;
       passed : (P : Table) → IsPartsOf F P l.entries.bytes l.fn.scan.control → Passed F P k l.probe.position;
     }
 

@@ -1,8 +1,9 @@
-use Rattle.std.proofs.Common.{◌≡◌, ◌∙◌, ◌%◌, inl, inr, sym, ap, subst, true≢false, false, arith}
+use Rattle.std.proofs.Common.{◌≡◌, ◌∙◌, ℕ, ◌<◌, ◌%◌, inl, inr, sym, ap, subst, true≢false, false, arith}
 use Rattle.std.specs.Prelude.{slice_index}
 use Rattle.std.proofs.lemmas.Bool.{cases_lt}
 use Rattle.odht_base.specs.Probe.{probe_slot}
-use Rattle.odht_base.specs.Decoded.{counts_as_free}
+use Rattle.odht_base.specs.Decoded.{counts_as_free, slot_key}
+use Rattle.odht_base.specs.Format.{Format, format_of}
 use Rattle.odht_base.proofs.lemmas.Orders.{probe_slot-onto}
 use Rattle.odht_header.proofs.lemmas.Formats.{IsFormat-format_of}
 use Rattle.odht_raw.proofs.lemmas.PlainSearch.{free_end, key_end, passed_on, no_end}
@@ -34,6 +35,17 @@ loop-position-preserved g c = record {
             subst (λ n. counts_as_free (slice_index c.args.control.now (probe_slot (c.args.hash % c.args.entries.now.slots) c.args.entries.now.slots n)) ≡ false) last
             (subst (λ i. counts_as_free (slice_index c.args.control.now i) ≡ false) slot occupied)
       ]);
+  other = λ q l e. (
+      let F : Format = format_of g.K.ByteArray.LEN g.V.ByteArray.LEN g.H.HashFn.hash in
+      let slot = c.slot_at-slot.ensures.value ∙ ap (λ s. probe_slot (c.args.hash % s) s c.loop-position.position) c.len-slots.ensures in
+      elim (cases_lt q c.loop-position.position) [
+        | inl low ↦ c.loop-position.invariant.other q low e
+        | inr past ↦
+            let last : q ≡ c.loop-position.position = omega arith in
+            let here = ap (λ n. slot_key F c.args.entries.now.bytes (probe_slot (c.args.hash % c.args.entries.now.slots) c.args.entries.now.slots n)) last in
+            let same = ap (slot_key F c.args.entries.now.bytes) slot ∙ sym here ∙ e in
+            true≢false (sym (c.equals.ensures.1 (c.get.ensures.key_bytes ∙ same)) ∙ c.if-equals.false)
+      ]);
   passed = λ P h. (
       let f = IsFormat-format_of _ _ _ _ c.requires.lengths.pair.key c.requires.lengths.pair.value c.requires.lengths.pair.hashes g.met.H.HashFn.fits in
       passed_on _ P _ _ _ f h _ _ _ _ c.requires.hash (omega arith) c.loop-position-test.true c.slot_at-slot.ensures.value (c.loop-position.invariant.passed P h) (sym c.is_empty_or_deleted.ensures ∙ c.if-is_empty_or_deleted.false)
@@ -41,9 +53,16 @@ loop-position-preserved g c = record {
 }
 
 pub returns-clause-slot : goal.returns-clause-slot
-returns-clause-slot g c i l =
-    let q = probe_slot-onto (c.args.hash % c.args.entries.now.slots) c.args.entries.now.slots i c.requires.slots l in
-    subst (λ j. counts_as_free (slice_index c.args.control.now j) ≡ false) q.2 (c.loop-position.invariant.occupied q.0 (omega (arith, q.1, c.len-slots.ensures, c.loop-position-test.false)))
+returns-clause-slot g c =
+    let F : Format = format_of g.K.ByteArray.LEN g.V.ByteArray.LEN g.H.HashFn.hash in
+    let at = λ (i : ℕ) (l : i < c.args.entries.now.slots). probe_slot-onto (c.args.hash % c.args.entries.now.slots) c.args.entries.now.slots i c.requires.slots l in (
+      λ i l. (
+          let q = at i l in
+          subst (λ j. counts_as_free (slice_index c.args.control.now j) ≡ false) q.2 (c.loop-position.invariant.occupied q.0 (omega (arith, q.1, c.len-slots.ensures, c.loop-position-test.false)))),
+      λ i l e. (
+          let q = at i l in
+          c.loop-position.invariant.other q.0 (omega (arith, q.1, c.len-slots.ensures, c.loop-position-test.false)) (ap (slot_key F c.args.entries.now.bytes) q.2 ∙ e)),
+    )
 
 pub returns-clause-on_placed : goal.returns-clause-on_placed
 returns-clause-on_placed g c P h =

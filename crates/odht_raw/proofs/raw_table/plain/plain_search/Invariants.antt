@@ -1,8 +1,8 @@
-use Rattle.std.proofs.Common.{ℕ, ◌<◌, ◌%◌}
+use Rattle.std.proofs.Common.{ℕ, ◌<◌, ◌%◌, ◌≡◌}
 use Rattle.std.specs.Prelude.{slice_index, IsFalse}
 use Rattle.odht_base.specs.Format.{format_of}
 use Rattle.odht_base.specs.Probe.{probe_slot}
-use Rattle.odht_base.specs.Decoded.{counts_as_free}
+use Rattle.odht_base.specs.Decoded.{counts_as_free, slot_key}
 use Rattle.odht_base.specs.Table.{Table}
 use Rattle.odht_base.specs.Valid.{IsPartsOf}
 use Rattle.odht_raw.specs.SearchSteps.{Passed}
@@ -13,5 +13,6 @@ invariant-loop-position g l =
     let F = format_of g.K.ByteArray.LEN g.V.ByteArray.LEN g.H.HashFn.hash in
     record {
       occupied : (q : ℕ) → q < l.position → IsFalse (counts_as_free (slice_index l.control (probe_slot (l.hash % l.entries.slots) l.entries.slots q)));
+      other : (q : ℕ) → q < l.position → slot_key F l.entries.bytes (probe_slot (l.hash % l.entries.slots) l.entries.slots q) ≡ g.K.ByteArray.bytes l.key → ⊥;
       passed : (P : Table) → IsPartsOf F P l.entries.bytes l.control → Passed F P (g.K.ByteArray.bytes l.key) l.position;
     }

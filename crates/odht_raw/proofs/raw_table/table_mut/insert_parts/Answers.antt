@@ -4,3 +4,8 @@ pub returns-clause-placed : goal.returns-clause-placed
 returns-clause-placed g c P h =
     let known = rw c.new-stored.ensures at (rw c.new-scan.ensures at c.search_hashed-end.ensures) in
     c.insert_at.ensures.placed P h (known.on_placed P h)
+
+pub insert_at-requires-clause-end : goal.insert_at-requires-clause-end
+insert_at-requires-clause-end g c κs within =
+    let known = rw c.new-stored.ensures at (rw c.new-scan.ensures at c.search_hashed-end.ensures) in
+    known.slot

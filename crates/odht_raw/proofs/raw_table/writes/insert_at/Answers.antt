@@ -12,8 +12,9 @@ use Rattle.odht_raw.specs.Frame.{PartsFrame}
 use Rattle.odht_raw.specs.Parts.{EntryBytes}
 use Rattle.odht_raw.specs.SearchEnds.{IsEnd}
 use Rattle.odht_header.specs.declared.error.Error.TheVariants.{Full}
-use Rattle.odht_raw.specs.declared.raw_table.search_result.SearchResult.{SearchResult}
-use Rattle.odht_raw.specs.declared.raw_table.search_result.SearchResult.TheVariants.{Found, Free}
+use Rattle.odht_raw.specs.declared.raw_table.search_result.Search.{Search}
+use Rattle.odht_raw.specs.declared.raw_table.search_result.Search.TheVariants.{Found, Free}
+use Rattle.odht_raw.proofs.lemmas.GroupSearches.{missing-neither}
 use Rattle.odht_raw.proofs.lemmas.Lookups.{answer-Found, answer-Free, answer-Neither}
 use Rattle.odht_raw.proofs.lemmas.Inserts.{found_value, found_key, found_parts, free_parts}
 use Rattle.odht_raw.proofs.raw_table.writes.insert_at.Goals as goal
@@ -28,12 +29,12 @@ within : (F : Format) (es ctrl : List ℕ) (i : ℕ) → length es ≡ (length c
 within F es ctrl i long low = omega (arith, long, slot_within i (length ctrl - 16) (entry_len F) low)
 
 -- a found slot is one of the slots
-found_low : (F : Format) (es ctrl k : List ℕ) (r : SearchResult) (i : ℕ) → r ≡ Found i
+found_low : (F : Format) (es ctrl k : List ℕ) (r : Search) (i : ℕ) → r ≡ Found i
     → IsEnd F (record { slots = length ctrl - 16; bytes = es }) ctrl k r → i < length ctrl - 16
 found_low F es ctrl k r i is known = (subst (IsEnd F (record { slots = length ctrl - 16; bytes = es }) ctrl k) is known).0
 
 -- and so is a free one
-free_low : (F : Format) (es ctrl k : List ℕ) (r : SearchResult) (i : ℕ) → r ≡ Free i
+free_low : (F : Format) (es ctrl k : List ℕ) (r : Search) (i : ℕ) → r ≡ Free i
     → IsEnd F (record { slots = length ctrl - 16; bytes = es }) ctrl k r → i < length ctrl - 16
 free_low F es ctrl k r i is known = (subst (IsEnd F (record { slots = length ctrl - 16; bytes = es }) ctrl k) is known).0
 
@@ -150,4 +151,4 @@ returns-in-Neither-clause-any g c =
     let ctrl = c.args.control.now in
     let decoded_table : EntryBytes = record { slots = length ctrl - 16; bytes = c.args.entries.now } in
     let known = subst (IsEnd F decoded_table ctrl (g.K.ByteArray.bytes c.args.key)) c.in-Neither.is c.requires.end in
-    record { frame = (Err Full, refl, PartsFrame.no_slot known); only_full = refl; refused_control = refl; refused_entries = refl }
+    record { frame = (Err Full, refl, PartsFrame.no_slot known.0 (missing-neither F decoded_table ctrl (g.K.ByteArray.bytes c.args.key) known.1)); only_full = refl; refused_control = refl; refused_entries = refl }

@@ -5,7 +5,7 @@ use Rattle.odht_base.specs.Valid.{IsPartsOf}
 use Rattle.odht_raw.specs.Parts.{TableParts}
 use Rattle.odht_raw.proofs.lemmas.Lookups.{answer-Found, answer-Free, answer-Neither}
 use Rattle.odht_raw.proofs.lemmas.Inserts.{found_value}
-use Rattle.odht_raw.proofs.raw_table.RawTable.find_counted.Goals as goal
+use Rattle.odht_raw.proofs.raw_table.RawTable.find_counted_by.Goals as goal
 
 pub returns-in-Found-clause-on_placed : goal.returns-in-Found-clause-on_placed
 returns-in-Found-clause-on_placed g c P h =

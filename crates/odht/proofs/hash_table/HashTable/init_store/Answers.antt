@@ -10,7 +10,7 @@ use Rattle.odht_header.specs.Layouts.{IsLayout}
 use Rattle.odht_header.specs.Refusals.{IsTooLarge}
 use Rattle.odht_raw.proofs.lemmas.NewTables.{with_count-new}
 use Rattle.odht.proofs.lemmas.NewRefusals.{new_refusal-large, new_refusal-wrong, new_refusal-fits}
-use Rattle.odht.proofs.hash_table.HashTable.init_in_place.Goals as goal
+use Rattle.odht.proofs.hash_table.HashTable.init_store.Goals as goal
 
 pub returns-in_default-clause-err : goal.returns-in_default-clause-err
 returns-in_default-clause-err g c =
@@ -18,7 +18,7 @@ returns-in_default-clause-err g c =
     let n = c.args.max_item_count in
     let f = factor_of c.args.max_load_factor_percent in
     let large : IsTooLarge F n f = subst (IsTooLarge F n) c.from_percent-factor.ensures (c.in_default.ensures.none.0 refl) in
-    sym (new_refusal-large F n f (length (g.D.ByteStore.bytes c.args.data)) large)
+    sym (new_refusal-large F n f (length (g.D.ByteStore.bytes c.args.store.now)) large)
 
 pub returns-then-found-expected-clause-err : goal.returns-then-found-expected-clause-err
 returns-then-found-expected-clause-err g c =
@@ -27,7 +27,7 @@ returns-then-found-expected-clause-err g c =
     let f = factor_of c.args.max_load_factor_percent in
     let s = c.in-Some.slot_count in
     let layout : IsLayout F n f s c.in-Some.expected = subst (λ t. IsLayout F n t s c.in-Some.expected) c.from_percent-factor.ensures c.in-Some.ensures.some in
-    let B = g.D.ByteStore.bytes c.args.data in
+    let B = g.D.ByteStore.bytes c.args.store.now in
     let found : length c.bytes-found.result.now ≡ length B = ap length c.bytes-found.ensures in
     rw (found, layout.long) (sym (new_refusal-wrong F n f (length B) s layout.slots (omega (arith, layout.long, layout.fits)) (λ e. c.if-found-expected.true (found ∙ e ∙ sym layout.long))))
 
@@ -55,6 +55,6 @@ returns-clause-err g c =
     let f = factor_of c.args.max_load_factor_percent in
     let s = c.in-Some.slot_count in
     let layout : IsLayout F n f s c.in-Some.expected = subst (λ t. IsLayout F n t s c.in-Some.expected) c.from_percent-factor.ensures c.in-Some.ensures.some in
-    let B = g.D.ByteStore.bytes c.args.data in
+    let B = g.D.ByteStore.bytes c.args.store.now in
     let found : length c.bytes-found.result.now ≡ length B = ap length c.bytes-found.ensures in
     sym (new_refusal-fits F n f (length B) s layout.slots (omega (arith, layout.long, layout.fits)) (omega (arith, found, layout.long, c.if-found-expected.false)))

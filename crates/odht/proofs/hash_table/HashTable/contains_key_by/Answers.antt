@@ -6,7 +6,7 @@ use Rattle.odht_base.specs.Map.{map_of}
 use Rattle.odht_base.specs.Decoded.{header_slots, entries_of, slot_key, HoldsKey}
 use Rattle.odht_raw.specs.Parts.{EntryBytes}
 use Rattle.odht_raw.specs.SearchEnds.{IsBesideKey}
-use Rattle.odht.proofs.hash_table.HashTable.contains_key.Goals as goal
+use Rattle.odht.proofs.hash_table.HashTable.contains_key_by.Goals as goal
 
 -- a mapped option is Some exactly where the option is
 there : {V : Type 0} (f : List ℕ → V) (m : Option (List ℕ)) → IsTrue (is_some (option_map f m)) ↔ IsSome m
@@ -25,7 +25,7 @@ pub returns-clause-on_valid : goal.returns-clause-on_valid
 returns-clause-on_valid g c P is =
     let key = g.C.EncodedKey.ByteArray in
     let m = map_of P (key.bytes (g.C.Config.encode_key c.args.key.now)) in
-    let found = c.find.ensures.on_placed P (c.as_raw-table.ensures.parts P is)
+    let found = c.find_counted_by.ensures.on_placed P (c.as_raw-table.ensures.parts P is)
     ∙ ap (λ a. option_map g.C.EncodedValue.ByteArray.of_bytes (map_of P (key.bytes a))) c.encode_key-key.ensures in
     subst (λ b. IsTrue b ↔ IsSome m) (sym (c.is_some.ensures ∙ ap is_some found)) (there g.C.EncodedValue.ByteArray.of_bytes m)
 
@@ -35,5 +35,5 @@ returns-clause-on_any g c t =
     let F = format_of key.LEN g.C.EncodedValue.ByteArray.LEN g.C.H.HashFn.hash in
     let B = g.D.ByteStore.bytes c.args.self.now in
     subst (λ a. HoldsKey F B (key.bytes a)) c.encode_key-key.ensures
-    (held F B g.C.EncodedValue.ByteArray.of_bytes _ _ c.find.result c.as_raw-table.ensures.entries
-    c.as_raw-table.ensures.slots c.find.ensures.on_any (subst IsTrue c.is_some.ensures t))
+    (held F B g.C.EncodedValue.ByteArray.of_bytes _ _ c.find_counted_by.result c.as_raw-table.ensures.entries
+    c.as_raw-table.ensures.slots c.find_counted_by.ensures.on_any (subst IsTrue c.is_some.ensures t))
