@@ -144,7 +144,7 @@ macro_rules! properties {
             #[test]
             fn $name() {
                 let mut random = Random($key * 1000 + $value);
-                for _ in 0..60 {
+                for _ in 0..40 {
                     bytes_are_equal::<$key, $value, $hash>(&mut random);
                     growth_is_equal::<$key, $value, $hash>(&mut random);
                 }

@@ -128,7 +128,7 @@ fn writes(owned: &mut HashTableOwned<Fickle>, random: &mut Random) {
 #[test]
 fn answers_at_random_do_no_harm() {
     let mut random = Random(6);
-    for round in 0..400 {
+    for round in 0..200 {
         let percent = 1 + random.below(100) as u8;
         let mut owned = HashTableOwned::<Fickle>::with_capacity(random.below(20), percent);
         with_wrong([1, 5, 50, 100][round % 4], 0, || {
@@ -149,7 +149,7 @@ fn answers_at_random_do_no_harm() {
 #[test]
 fn a_panic_in_an_insert_leaves_a_table() {
     let mut random = Random(7);
-    for round in 0..400 {
+    for round in 0..200 {
         let mut owned = HashTableOwned::<Fickle>::with_capacity(random.below(20), 87);
         for _ in 0..4 {
             with_wrong(0, [1, 5, 20][round % 3], || {
@@ -166,7 +166,7 @@ fn a_panic_in_an_insert_leaves_a_table() {
 #[test]
 fn a_panic_in_a_list_leaves_a_table() {
     let mut random = Random(8);
-    for round in 0..400 {
+    for round in 0..200 {
         let mut owned = HashTableOwned::<Fickle>::with_capacity(random.below(20), 87);
         for _ in 0..8 {
             with_wrong(0, [1, 5, 20][round % 3], || {
