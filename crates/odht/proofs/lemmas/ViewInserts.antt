@@ -202,7 +202,7 @@ module _ {K V : Type 0} (c : Coding K V) (A B : List ℕ) (k : K) (v : V) (here 
   pub absent_in : (E : EntryBytes) (ctrl key : List ℕ) → E.slots ≡ header_slots A → E.bytes ≡ entries_of c.format A → ctrl ≡ controls_of c.format A → key ≡ c.key_bytes k
       → IsMissing c.format E ctrl key → IsAbsent c.format A (encoded c k v).key
   absent_in E ctrl key slots entries controls is missing =
-      subst (λ (x : (ℕ × List ℕ) × List ℕ × List ℕ). IsMissing c.format (record { slots = x.0.0; bytes = x.0.1 }) x.1.0 x.1.1) (λ j. ((slots j, entries j), controls j, is j)) missing
+      subst (λ (x : (ℕ × List ℕ) × List ℕ × List ℕ). IsMissing c.format (record { slots = x.0.0; bytes = x.0.1 }) x.1 x.2) (λ j. ((slots j, entries j), controls j, is j)) missing
 
   -- at the maximum by the header
   pub full_framed : header_maximum A ≤ header_count A → IsAbsent c.format A (encoded c k v).key → IsFramed c B k v (Err Full) B

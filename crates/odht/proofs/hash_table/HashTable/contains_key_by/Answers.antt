@@ -25,7 +25,7 @@ pub returns-clause-on_valid : goal.returns-clause-on_valid
 returns-clause-on_valid g c P is =
     let key = g.C.EncodedKey.ByteArray in
     let m = map_of P (key.bytes (g.C.Config.encode_key c.args.key.now)) in
-    let found = c.find_counted_by.ensures.on_placed P (c.as_raw-table.ensures.parts P is)
+    let found = c.find_counted_by-value.ensures.on_placed P (c.as_raw-table.ensures.parts P is)
     ∙ ap (λ a. option_map g.C.EncodedValue.ByteArray.of_bytes (map_of P (key.bytes a))) c.encode_key-key.ensures in
     subst (λ b. IsTrue b ↔ IsSome m) (sym (c.is_some.ensures ∙ ap is_some found)) (there g.C.EncodedValue.ByteArray.of_bytes m)
 
@@ -35,5 +35,5 @@ returns-clause-on_any g c t =
     let F = format_of key.LEN g.C.EncodedValue.ByteArray.LEN g.C.H.HashFn.hash in
     let B = g.D.ByteStore.bytes c.args.self.now in
     subst (λ a. HoldsKey F B (key.bytes a)) c.encode_key-key.ensures
-    (held F B g.C.EncodedValue.ByteArray.of_bytes _ _ c.find_counted_by.result c.as_raw-table.ensures.entries
-    c.as_raw-table.ensures.slots c.find_counted_by.ensures.on_any (subst IsTrue c.is_some.ensures t))
+    (held F B g.C.EncodedValue.ByteArray.of_bytes _ _ c.find_counted_by-value.result.0 c.as_raw-table.ensures.entries
+    c.as_raw-table.ensures.slots c.find_counted_by-value.ensures.on_any (subst IsTrue c.is_some.ensures t))

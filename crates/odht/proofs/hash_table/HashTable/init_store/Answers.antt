@@ -1,4 +1,4 @@
-use Rattle.std.proofs.Common.{◌≡◌, ◌∙◌, sym, ap, subst, refl, arith, length}
+use Rattle.std.proofs.Common.{rules, ◌≡◌, ◌∙◌, sym, ap, subst, refl, arith, length}
 use Rattle.std.specs.Prelude.{option_map}
 use Rattle.odht_base.specs.Format.{format_of}
 use Rattle.odht_base.specs.Load.{factor_of}
@@ -44,7 +44,7 @@ returns-clause-ok g c =
       new = ap (option_map (λ t. empty t f)) layout.slots;
       image = record {
         valid = empty-IsValid s f F count (omega (arith, c.requires.low)) (omega (arith, c.requires.high));
-        bytes = c.init_in_place.ensures.bytes ∙ ap (λ t. with_count (image F (empty s t)) 0) c.from_percent-factor.ensures ∙ with_count-new F s 0 f count;
+        bytes = (search rules) ∙ c.init_in_place-table.ensures.bytes ∙ ap (λ t. with_count (image F (empty s t)) 0) c.from_percent-factor.ensures ∙ with_count-new F s 0 f count;
       };
     }
 

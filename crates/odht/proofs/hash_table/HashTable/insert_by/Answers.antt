@@ -6,7 +6,7 @@ use Rattle.odht_base.specs.Table.{Pair, Table}
 use Rattle.odht_base.specs.Valid.{IsImage, IsPartsOf}
 use Rattle.odht_base.proofs.lemmas.TableInserts.{HasRoom}
 use Rattle.odht_header.specs.Coding.{Coding, coding_of, encoded}
-use Rattle.odht_raw.specs.Frame.{IsAccepted, IsAbsent, IsMissing}
+use Rattle.odht_raw.specs.Frame.{IsAccepted}
 use Rattle.odht_raw.specs.Parts.{ReadGroups}
 use Rattle.odht_raw.proofs.lemmas.GroupSearches.{missing-free, missing-neither}
 use Rattle.odht_raw.proofs.lemmas.Lookups.{answer-Found, answer-Free, answer-Neither}
@@ -14,7 +14,7 @@ use Rattle.odht.proofs.lemmas.ViewInserts.{read_full, read_room, room_not_full, 
 use Rattle.odht.proofs.lemmas.ViewInserts.{found_inserted, found_framed, free_inserted, free_framed, absent_in, full_framed, nowhere_framed, header_full, header_room}
 use Rattle.odht.proofs.hash_table.HashTable.insert_by.Given.{Over}
 use Rattle.odht.proofs.hash_table.HashTable.insert_by.Goals as goal
-use Rattle.odht.proofs.hash_table.HashTable.insert_by.Goals.{After-new-scan, After-max_item_count_for-max}
+use Rattle.odht.proofs.hash_table.HashTable.insert_by.Goals.{After-max_item_count_for-max}
 
 -- the coding of the configuration
 abbrev coding : (g : Over) → Coding g.row.C-Key.Denot g.row.C-Value.Denot
@@ -136,24 +136,17 @@ returns-in-Neither-clause-full g c P is =
     let end = answer-Neither (coding g).format P _ is.valid.placed (c.in-Neither.ensures.on_placed P parts) in
     absurd (never_nowhere (coding g).format P _ read _ end)
 
--- a key that the search does not find is absent from the bytes
-absent_here : (g : Over) (c : After-new-scan g)
-    → IsMissing (coding g).format c.data_slices-entries.result.1 c.new-scan.result.control (g.C.EncodedKey.ByteArray.bytes c.encode_key-key.result)
-    → IsAbsent (coding g).format (g.D.ByteStore.bytes c.self.result.now) ((coding g).key_bytes c.args.key.now)
-absent_here g c missing =
-    absent_in (coding g) _ _ c.args.key.now c.args.value.now refl c.data_slices-entries.result.1 c.new-scan.result.control _
-    c.data_slices-entries.ensures.slots c.data_slices-entries.ensures.entries
-    (ap (λ (t : ReadGroups). t.control) c.new-scan.ensures ∙ c.data_slices-entries.ensures.control)
-    (read_key g _ _ c.encode_key-key.ensures) missing
-
 pub returns-then-count-max-clause-frame : goal.returns-then-count-max-clause-frame
 returns-then-count-max-clause-frame g c =
     let here = ap g.D.ByteStore.bytes c.self.view_is in
-    let at = (goal.at.returns-then-count-max-clause-frame g c).After-new-scan in
     full_framed (coding g) _ _ c.args.key.now c.args.value.now here
     (header_full c.header-header.ensures.bytes c.item_count-count.ensures c.slot_count.ensures c.max_load_factor.ensures
     c.max_item_count_for-max.ensures.value c.if-count-max.true)
-    (absent_here g at (missing-free (coding g).format _ _ _ c.in-Free.slot c.in-Free.ensures.slot c.in-Free.ensures.earlier))
+    (absent_in (coding g) _ _ c.args.key.now c.args.value.now here c.data_slices-entries.result.1 c.new-scan.result.control _
+    c.data_slices-entries.ensures.slots c.data_slices-entries.ensures.entries
+    (ap (λ (t : ReadGroups). t.control) c.new-scan.ensures ∙ c.data_slices-entries.ensures.control)
+    (read_key g _ _ c.encode_key-key.ensures)
+    (missing-free (coding g).format _ _ _ c.in-Free.slot c.in-Free.ensures.slot c.in-Free.ensures.earlier))
 
 pub returns-in-Found-clause-frame : goal.returns-in-Found-clause-frame
 returns-in-Found-clause-frame g c =
@@ -184,8 +177,11 @@ returns-in-Neither-clause-frame g c =
     nowhere_framed (coding g) _ _ c.args.key.now c.args.value.now (ap g.D.ByteStore.bytes c.self.view_is) c.new-scan.result.control
     (ap (λ (t : ReadGroups). t.control) c.new-scan.ensures ∙ c.data_slices-entries.ensures.control)
     _ c.data_slices-entries.ensures.slots c.in-Neither.ensures.slot.0
-    (absent_here g (goal.at.returns-in-Neither-clause-frame g c).After-new-scan
-    (missing-neither (coding g).format _ _ _ c.in-Neither.ensures.slot.1))
+    (absent_in (coding g) _ _ c.args.key.now c.args.value.now (ap g.D.ByteStore.bytes c.self.view_is)
+    c.data_slices-entries.result.1 c.new-scan.result.control _
+    c.data_slices-entries.ensures.slots c.data_slices-entries.ensures.entries
+    (ap (λ (t : ReadGroups). t.control) c.new-scan.ensures ∙ c.data_slices-entries.ensures.control)
+    (read_key g _ _ c.encode_key-key.ensures) (missing-neither (coding g).format _ _ _ c.in-Neither.ensures.slot.1))
 
 pub returns-then-count-max-clause-same_store : goal.returns-then-count-max-clause-same_store
 returns-then-count-max-clause-same_store g c = sym (g.met.D.ByteStoreMut.held_same c.args.self.now)
