@@ -28,6 +28,8 @@ from concurrent.futures import ThreadPoolExecutor
 TOP = os.path.dirname(os.path.dirname(os.path.realpath(__file__)))
 CARGO_FILES = f"{TOP}/build/cargo"
 LIMIT = 600
+# what a failed test prints needs no lines of the standard library, and what is built is not built again in parts
+CARGO = {"CARGO_TERM_COLOR": "never", "CARGO_PROFILE_DEV_DEBUG": "0", "CARGO_INCREMENTAL": "0"}
 
 
 class Failed(Exception):
@@ -36,7 +38,7 @@ class Failed(Exception):
 
 def run(words, folder=TOP, **variables):
     """Runs a command that must succeed, and returns what it printed."""
-    env = {**os.environ, "CARGO_TARGET_DIR": CARGO_FILES, "CARGO_TERM_COLOR": "never", **variables}
+    env = {**os.environ, "CARGO_TARGET_DIR": CARGO_FILES, **CARGO, **variables}
     how = {"cwd": folder, "env": env, "stdin": subprocess.DEVNULL, "text": True, "errors": "replace", "timeout": LIMIT}
     try:
         ran = subprocess.run(words, capture_output=True, **how)
@@ -96,7 +98,7 @@ FAULTS = [
     ("src/proved/base/hash.rs", "rotate_left(5) ^ value", "rotate_left(5)"),
     ("src/proved/raw/raw_table/scan.rs", "start + 16", "start"),
     ("src/proved/raw/raw_table/scan.rs", "index!(control[start..start + 16])", "control[start..start + 15]"),
-    ("src/proved/raw/raw_table/plain.rs", "return SearchResult::Free(slot);", ""),
+    ("src/proved/raw/raw_table/plain.rs", "return Search::Free(slot);", ""),
     ("src/proved/tables/iter.rs", "self.raw.next()?", "self.raw.next()?; self.raw.next()?"),
     ("src/proved/tables/hash_table.rs", "count >= max", "count > max"),
     ("src/proved/tables/growth.rs", "'_", "'static"),
@@ -144,12 +146,13 @@ def beside():
 
 def lints():
     done = 0
-    for folder in ("tools/erase", "rust", "rust/c"):
+    for folder in ("tools/erase", "rust", "rust/c", "rust/compat", "rust/beside"):
         run(["cargo", "fmt", "--check"], f"{TOP}/{folder}")
         done += 1
     if not has("cargo", "clippy", "--version"):
         return done
-    for folder, *words in (["tools/erase"], ["rust"], ["rust", "--features", "fast"], ["rust/c"]):
+    fast = ["--features", "fast"]
+    for folder, *words in (["tools/erase"], ["rust"], ["rust", *fast], ["rust/c"], ["rust/compat"], ["rust/beside"]):
         cargo(folder, "clippy", "--all-targets", *words, "--", "-D", "warnings")
         done += 1
     cargo("rust", "doc", "--no-deps", RUSTDOCFLAGS="-D warnings")

@@ -4,8 +4,9 @@
 //! the proved library takes for granted of them is their length and the slot count in their header, so both are kept,
 //! and compared at each call.
 
-use crate::config::Config;
+use crate::config::{Config, Proved};
 use crate::iter::Iter;
+use crate::proved::header::sizes::table_len;
 use crate::proved::raw::memory_layout::HEADER_SIZE;
 
 /// The length and the slot count of a table's bytes.
@@ -16,12 +17,24 @@ pub struct Opened {
 }
 
 impl Opened {
-    /// Of bytes whose header and length fit, or whose owner says so.
+    /// Of bytes whose header and length fit.
     #[inline]
     pub fn of(bytes: &[u8]) -> Opened {
         // no table has no slot
         let slots = bytes.first_chunk().map_or(0, slots_in);
         Opened { len: bytes.len(), slots }
+    }
+
+    /// Of bytes that nobody has looked at. Panics where their length is not that of the slot count in their header: the
+    /// proved library takes no more than this for granted where it looks at memory.
+    pub fn unchecked<C: Config>(bytes: &[u8]) -> Opened {
+        let opened = Opened::of(bytes);
+        let is_count = opened.slots.is_power_of_two() && opened.slots >= 16;
+        assert!(
+            is_count && bytes.len() as u128 == table_len::<Proved<C>>(opened.slots()),
+            "the length of the bytes is not that of the slot count in their header"
+        );
+        opened
     }
 
     /// How many slots there are.

@@ -14,6 +14,7 @@ use std::error::Error as AnyError;
 use std::fmt;
 use std::marker::PhantomData;
 
+mod growth;
 mod writing;
 
 /// A table in bytes of any kind: a view. It cannot grow; [`grow_into`](HashTable::grow_into) writes the grown table into
@@ -89,13 +90,8 @@ impl<C: Config, D: Borrow<[u8]>> HashTable<C, D> {
         Ok(HashTable { data, opened, config: PhantomData })
     }
 
-    /// Opens bytes without a check. It is the same table as by [`from_raw_bytes`](HashTable::from_raw_bytes), which
-    /// takes constant time too.
-    ///
-    /// # Safety
-    ///
-    /// `from_raw_bytes` accepted these bytes, or `raw_bytes` of a table of this configuration returned them. Without the
-    /// feature `fast` other bytes are no danger to memory: calls may panic, return anything or not return.
+    /// Opens bytes as [`from_raw_bytes`](HashTable::from_raw_bytes) does, which takes constant time too, but looks at
+    /// their length and slot count alone.
     ///
     /// ```
     /// # use odht::{configs::U64ToU32, HashTable, HashTableOwned};
@@ -105,11 +101,20 @@ impl<C: Config, D: Borrow<[u8]>> HashTable<C, D> {
     /// let view = unsafe { HashTable::<U64ToU32, _>::from_raw_bytes_unchecked(table.raw_bytes()) };
     /// assert_eq!(view.get(&1), Some(2));
     /// ```
+    ///
+    /// # Safety
+    ///
+    /// It is unsafe since the original's is: `from_raw_bytes` is to accept these bytes. Others are no danger to memory;
+    /// calls may then panic or return anything.
+    ///
+    /// # Panics
+    ///
+    /// Where the length of the bytes is not that of the slot count in their header.
     #[inline]
     #[allow(unsafe_code)]
     pub unsafe fn from_raw_bytes_unchecked(data: D) -> Self {
         let () = Proved::<C>::FITS;
-        let opened = Opened::of(data.borrow());
+        let opened = Opened::unchecked::<C>(data.borrow());
         HashTable { data, opened, config: PhantomData }
     }
 
@@ -325,49 +330,6 @@ impl<C: Config, D: Borrow<[u8]>> HashTable<C, D> {
     #[inline]
     pub fn into_data(self) -> D {
         self.data
-    }
-
-    /// The length in bytes of the table that this one grows into: with the slots for twice its items, and for one at
-    /// least. `None` where no table is that large.
-    ///
-    /// ```
-    /// # use odht::{configs::U64ToU32, HashTable, HashTableOwned};
-    /// # let mut table = HashTableOwned::<U64ToU32>::default();
-    /// # table.insert(&1, &2);
-    /// # let view = HashTable::<U64ToU32, _>::from_raw_bytes(table.raw_bytes())?;
-    /// assert_eq!(view.grown_len(), Some(256)); // sixteen slots are enough for two items
-    /// # Ok::<(), Box<dyn std::error::Error>>(())
-    /// ```
-    pub fn grown_len(&self) -> Option<usize> {
-        self.view().grown_len()
-    }
-
-    /// Writes the table that this one grows into to `out`, whatever its bytes were. So a table in a file or in shared
-    /// memory grows too, and to the same bytes as a [`HashTableOwned`](crate::HashTableOwned).
-    ///
-    /// It is one pass over `out` and one over the slots of this table; each item is hashed once.
-    ///
-    /// ```
-    /// # use odht::{configs::U64ToU32, HashTable, HashTableOwned};
-    /// # let mut table = HashTableOwned::<U64ToU32>::from_iterator((0..13).map(|n| (n, 0)), 87);
-    /// let view = HashTable::<U64ToU32, _>::from_raw_bytes(table.raw_bytes())?;
-    /// let mut grown = vec![0; view.grown_len().ok_or("too large")?];
-    /// view.grow_into(&mut grown);
-    ///
-    /// let mut grown = HashTable::<U64ToU32, _>::from_raw_bytes(&mut grown[..])?;
-    /// grown.insert(&100, &7);
-    /// assert_eq!((grown.len(), grown.get(&12)), (14, Some(0)));
-    /// # Ok::<(), Box<dyn std::error::Error>>(())
-    /// ```
-    ///
-    /// # Panics
-    ///
-    /// Where `out` does not have [`grown_len`](HashTable::grown_len) bytes.
-    #[track_caller]
-    pub fn grow_into(&self, out: &mut [u8]) {
-        let view = self.view();
-        assert_eq!(view.grown_len(), Some(out.len()), "`out` is as long as the grown table");
-        view.grow_into(out);
     }
 }
 

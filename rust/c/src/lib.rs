@@ -26,7 +26,7 @@ mod proved {
 }
 
 // The exports, unsafe since C calls them.
-#[allow(unused_imports, unused_variables, improper_ctypes_definitions, clippy::all)]
+#[allow(dead_code, unused_imports, unused_variables, improper_ctypes_definitions, clippy::all)]
 mod erased {
     pub mod calls;
     pub mod exports;

@@ -1,6 +1,7 @@
 //! Where a table that owns its bytes comes from.
 
 use super::{percent_of, refused, tables, AnyError, Config, Error, Global, HashTableOwned, Proved};
+use crate::opened::Opened;
 use crate::try_bytes_needed;
 
 impl<C: Config> HashTableOwned<C> {
@@ -141,12 +142,8 @@ impl<C: Config> HashTableOwned<C> {
         tables::HashTableOwned::from_raw_bytes(Global, data).map(HashTableOwned)
     }
 
-    /// A copy of the bytes without a check. Where memory is refused it ends as Rust's collections do.
-    ///
-    /// # Safety
-    ///
-    /// [`check_all`](crate::check_all) accepts these bytes, as it does those of each table of this configuration.
-    /// Without the feature `fast` other bytes are no danger to memory: calls may panic, return anything or not return.
+    /// A copy of the bytes, of which length and slot count alone are looked at. Where memory is refused it ends as Rust's
+    /// collections do.
     ///
     /// ```
     /// # use odht::{configs::U64ToU32, HashTableOwned};
@@ -156,9 +153,19 @@ impl<C: Config> HashTableOwned<C> {
     /// let copy = unsafe { HashTableOwned::<U64ToU32>::from_raw_bytes_unchecked(table.raw_bytes()) };
     /// assert_eq!(copy.get(&1), Some(2));
     /// ```
+    ///
+    /// # Safety
+    ///
+    /// It is unsafe since the original's is: [`check_all`](crate::check_all) is to accept these bytes. Others are no
+    /// danger to memory; calls may then panic or return anything.
+    ///
+    /// # Panics
+    ///
+    /// Where the length of the bytes is not that of the slot count in their header.
     #[allow(unsafe_code)]
     pub unsafe fn from_raw_bytes_unchecked(data: &[u8]) -> Self {
         let () = Proved::<C>::FITS;
+        Opened::unchecked::<C>(data);
         tables::HashTableOwned::from_raw_bytes_unchecked(Global, data)
             .map_or_else(|e| refused(e, data.len()), HashTableOwned)
     }
