@@ -180,3 +180,20 @@ fn a_panic_in_a_list_leaves_a_table() {
         with_wrong(0, 3, || writes_in_place(&mut random));
     }
 }
+
+// Tables of 2^20 slots, where a list looks at eight keys ahead: each key is encoded twice, to two encodings.
+#[test]
+fn lists_in_a_large_table() {
+    let mut random = Random(10);
+    let mut owned = HashTableOwned::<Fickle>::with_capacity(900_000, 87);
+    for round in 0..60 {
+        let wrong = if round % 10 == 9 { (0, 1) } else { ([5, 50, 100][round % 3], 0) };
+        with_wrong(wrong.0, wrong.1, || {
+            let items: Vec<(u32, u16)> = (0..8).flat_map(|_| items(&mut random)).collect();
+            run(|| owned.try_insert_all(&items));
+            let keys: Vec<u32> = items.iter().map(|(key, _)| *key).collect();
+            run(|| owned.get_all(&keys, &mut vec![None; keys.len()]));
+        });
+    }
+    assert_eq!(owned.iter().count(), owned.len());
+}
