@@ -181,9 +181,12 @@ impl<C: Config> HashTableOwned<C> {
     ///
     /// # Panics
     ///
-    /// Where `out` does not have as many numbers as the table has items.
+    /// Where `out` does not have as many numbers as the table has items; and where the item count is not that of the
+    /// occupied slots, which only bytes that were opened unchecked can have.
     pub fn insert_order(&self, out: &mut [usize]) -> bool {
         assert_eq!(out.len(), self.len(), "`out` has a number for each item");
+        let occupied = Iter::<C>::occupied(self.raw_bytes());
+        assert_eq!(occupied, self.len(), "the item count is that of the occupied slots");
         self.0.insert_order(out)
     }
 }

@@ -97,7 +97,8 @@ impl<C: Config, D: Borrow<[u8]> + BorrowMut<[u8]>> HashTable<C, D> {
     ///
     /// # Panics
     ///
-    /// Where the table is at its maximum and the key is new. Nothing has changed then.
+    /// Where the table is at its maximum and the key is new; of bytes that are not those of a table also where no slot is
+    /// free. Nothing has changed then.
     #[inline]
     #[track_caller]
     pub fn insert(&mut self, key: &C::Key, value: &C::Value) -> Option<C::Value> {
@@ -122,7 +123,8 @@ impl<C: Config, D: Borrow<[u8]> + BorrowMut<[u8]>> HashTable<C, D> {
     ///
     /// # Errors
     ///
-    /// [`Error::Full`] where the table is at its maximum and the key is new. Nothing has changed then.
+    /// [`Error::Full`] where the table is at its maximum and the key is new; of bytes that are not those of a table also
+    /// where no slot is free. Nothing has changed then.
     #[inline]
     pub fn try_insert(
         &mut self,
