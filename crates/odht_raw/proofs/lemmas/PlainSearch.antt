@@ -1,22 +1,18 @@
 -- A search slot by slot on the parts of a placed table.
-use Rattle.std.proofs.Common.{◌≡◌, ◌<◌, ◌∙◌, ◌+◌, ◌%◌, ◌≤◌, inl, inr, ℕ, true, false, true≢false, sym, ap, subst, refl, List, Option, Some, None, length, arith}
+use Rattle.std.proofs.Common.{◌≡◌, ◌<◌, ◌∙◌, ◌+◌, ◌%◌, inl, inr, ℕ, true, false, true≢false, sym, ap, subst, refl, List, Option, Some, None, length, arith}
 use Rattle.std.specs.Prelude.{slice_index, is_none}
 use Rattle.std.proofs.lemmas.Bool.{cases_lt, or_left, or_right, or_from, false_from_ne_true}
-use Rattle.odht_base.specs.Format.{Format, IsFormat, home}
+use Rattle.odht_base.specs.Format.{Format, IsFormat}
 use Rattle.odht_base.specs.Probe.{probe_slot}
 use Rattle.odht_base.specs.Table.{Pair, Table, slot_count, cell_at, is_free, has_key}
 use Rattle.odht_base.specs.Search.{search_end, stops_at}
 use Rattle.odht_base.specs.Valid.{IsPartsOf}
 use Rattle.odht_base.specs.Decoded.{counts_as_free, slot_key}
 use Rattle.odht_base.proofs.lemmas.Keys.{pair_key, same_bytes}
-use Rattle.odht_base.proofs.lemmas.Orders.{probe_slot-lt}
 use Rattle.odht_base.proofs.lemmas.Lookups.{search_end-at, search_end-nowhere}
 use Rattle.odht_raw.proofs.lemmas.PartCells.{slots_are, byte_is, key_is}
 use Rattle.odht_raw.specs.SearchResults.{answer}
-use Rattle.odht_raw.specs.Parts.{EntryBytes}
-use Rattle.odht_raw.specs.SearchEnds.{IsEnd, IsPlainEnd}
 use Rattle.odht_raw.specs.SearchSteps.{slot_of, Passed}
-use Rattle.odht_raw.specs.declared.raw_table.search_result.Search.{Search}
 use Rattle.odht_raw.specs.declared.raw_table.search_result.Search.TheVariants.{Found, Free, Neither}
 
 module _ (F : Format) (P : Table) (k es ctrl : List ℕ) (f : IsFormat F) (h : IsPartsOf F P es ctrl) where
@@ -81,10 +77,3 @@ module _ (F : Format) (P : Table) (k es ctrl : List ℕ) (f : IsFormat F) (h : I
   no_end s control passed =
       let e = search_end-nowhere F P.cells k (subst (Passed F P k) (slots_are F f P es ctrl h s control) passed) in
       rw e refl
-
--- where a search slot by slot ends, a search by groups may end
-pub plain-end : (F : Format) (E : EntryBytes) (ctrl k : List ℕ) (r : Search) → 16 ≤ E.slots → IsPlainEnd F E ctrl k r → IsEnd F E ctrl k r
-plain-end F E ctrl k (Found i) few end = end
-plain-end F E ctrl k (Free i) few (low, free) = (low, inl free)
-plain-end F E ctrl k Neither few (none, other) =
-    (λ i l. inl (none i l), λ q l. let low = probe_slot-lt (home F k E.slots) E.slots q (omega arith) in inl (none _ low, λ t e. other _ low e))
