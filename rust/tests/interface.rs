@@ -6,7 +6,8 @@ mod common;
 use common::outcomes::outcome;
 use common::worked::{changed, three_pairs};
 use odht::configs::{DirectU32ToU32, U64ToU32};
-use odht::{bytes_needed, try_bytes_needed, Config, Error, HashTable, HashTableOwned, Iter, Part};
+use odht::{bytes_needed, try_bytes_needed, Config, Error, FxHashFn, HashFn};
+use odht::{HashTable, HashTableOwned, Iter, Part, UnHashFn};
 use std::borrow::{Borrow, Cow};
 use std::rc::Rc;
 use std::sync::Arc;
@@ -56,6 +57,16 @@ fn slices_are_as_long_as_they_have_to_be() {
     let view = View::from_raw_bytes(bytes).unwrap();
     assert_eq!(view.grown_len(), None);
     assert!(words(|| view.grow_into(&mut [])).contains("as long as the grown table"));
+}
+
+#[test]
+fn a_hash_needs_its_bytes() {
+    for length in 0..4 {
+        let bytes = &[7; 4][..length];
+        assert_eq!(words(|| UnHashFn::hash(bytes)), "UnHashFn needs four bytes");
+    }
+    assert_eq!(UnHashFn::hash(&[9, 1, 2, 3, 4]), 0x0403_0201);
+    assert_eq!((UnHashFn::MIN_LEN, FxHashFn::MIN_LEN, FxHashFn::hash(&[])), (4, 0, 0));
 }
 
 #[test]

@@ -1,7 +1,5 @@
-//! Bytes that are opened without a check, and are not those of a table. With the feature `fast` that is forbidden; without
-//! it each call returns or panics, which is what is tested here, and no call runs for ever.
-
-#![cfg(not(feature = "fast"))]
+//! Bytes that are opened without a check, and are not those of a table: opening panics where their length is not that of
+//! their slot count; else each call returns or panics, and is no danger to memory.
 
 mod common;
 
@@ -36,15 +34,17 @@ fn bytes<const K: usize, const V: usize, H: Named>(random: &mut Random) -> Vec<u
     bytes
 }
 
+const OTHER_LENGTH: &str = "the length of the bytes is not that of the slot count in their header";
+
 fn ignore<T>(_: T) {}
 
 fn view<const K: usize, const V: usize, H: Named>(bytes: &mut [u8], random: &mut Random) {
     let keys: Vec<[u8; K]> = (0..9).map(|_| random.array()).collect();
     let items: Vec<([u8; K], [u8; V])> = keys.iter().map(|key| (*key, random.array())).collect();
-    // SAFETY: without the feature `fast` any bytes may be opened so.
+    // SAFETY: any bytes may be opened so, by the documentation of the call.
     let opened =
         outcome(|| unsafe { HashTable::<Plain<K, V, H>, _>::from_raw_bytes_unchecked(bytes) });
-    let Ok(mut table) = opened else {
+    let Some(mut table) = opened.map_err(|words| assert_eq!(words, OTHER_LENGTH)).ok() else {
         return;
     };
     let calls: [&dyn Fn(); 9] = [
@@ -69,40 +69,45 @@ fn view<const K: usize, const V: usize, H: Named>(bytes: &mut [u8], random: &mut
     let _ = outcome(|| table.iter().count());
 }
 
-fn owned<const K: usize, const V: usize, H: Named>(bytes: &[u8], random: &mut Random) {
+// Whether the bytes are opened.
+fn owned<const K: usize, const V: usize, H: Named>(bytes: &[u8], random: &mut Random) -> bool {
     let keys: Vec<[u8; K]> = (0..9).map(|_| random.array()).collect();
     let items: Vec<([u8; K], [u8; V])> = keys.iter().map(|key| (*key, random.array())).collect();
     // SAFETY: as in `view`.
     let opened =
         outcome(|| unsafe { HashTableOwned::<Plain<K, V, H>>::from_raw_bytes_unchecked(bytes) });
-    let Ok(mut table) = opened else {
-        return;
+    let Some(mut table) = opened.map_err(|words| assert_eq!(words, OTHER_LENGTH)).ok() else {
+        return false;
     };
-    let calls: [&dyn Fn(); 6] = [
+    let calls: [&dyn Fn(); 5] = [
         &|| ignore((table.get(&keys[0]), table.get_counted(&keys[1]))),
         &|| table.get_all(&keys, &mut [None; 9]),
         &|| ignore((table.iter().count(), table.iter_from(3).count())),
-        &|| ignore(table.insert_order(&mut vec![0; table.len()])),
         &|| ignore(format!("{table:?}")),
         &|| ignore(table.clone().len()),
     ];
     for call in calls {
         let _ = outcome(call);
     }
+    // Where the header states more items than there are, the order has no room to be written.
+    let end = outcome(|| table.insert_order(&mut vec![1 << 40; table.len()]));
+    assert!(!end.is_err_and(|words| words.contains("overflow") || words.contains("bounds")));
     let _ = outcome(|| table.try_insert_all(&items));
     for (key, value) in &items {
         let _ = outcome(|| table.try_insert(key, value));
     }
     let _ = outcome(|| table.iter().count());
+    true
 }
 
 fn unchecked<const K: usize, const V: usize, H: Named>(count: usize) {
-    let mut random = Random((K * 300 + V) as u64);
+    let (mut random, mut opened) = (Random((K * 300 + V) as u64), 0);
     for _ in 0..count {
         let mut bytes = bytes::<K, V, H>(&mut random);
-        owned::<K, V, H>(&bytes, &mut random);
+        opened += usize::from(owned::<K, V, H>(&bytes, &mut random));
         view::<K, V, H>(&mut bytes, &mut random);
     }
+    assert!((count / 5..count / 2).contains(&opened), "{opened}");
 }
 
 #[test]
