@@ -107,7 +107,7 @@ fn unchecked<const K: usize, const V: usize, H: Named>(count: usize) {
         opened += usize::from(owned::<K, V, H>(&bytes, &mut random));
         view::<K, V, H>(&mut bytes, &mut random);
     }
-    assert!((count / 5..count / 2).contains(&opened), "{opened}");
+    assert!(opened > count / 10 && opened < count, "{opened}");
 }
 
 #[test]
