@@ -1,5 +1,5 @@
-//! What a user of the crate sees beside answers and bytes: the panics that are stated, traits of the types, what may hold
-//! the bytes, and errors.
+//! What a user of the crate sees beside answers and bytes: the panics that are stated, traits of the types, what may
+//! hold the bytes, and errors.
 
 mod common;
 

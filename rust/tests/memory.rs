@@ -1,5 +1,5 @@
-//! Out of memory: each request of each call is refused in turn. A `try_` call returns the error that it states and changes
-//! nothing; the other calls end as Rust's collections do; and calls that take no memory make no request.
+//! Out of memory: each request of each call is refused in turn. A `try_` call returns the error that it states and
+//! changes nothing; the other calls end as Rust's collections do; and calls that take no memory make no request.
 
 use odht::configs::U64ToU32;
 use odht::{bytes_needed, check_all, try_bytes_needed, Error, HashTable, HashTableOwned};
@@ -8,7 +8,8 @@ use std::cell::Cell;
 use std::process::Command;
 
 thread_local! {
-    // How many requests are still granted, `usize::MAX` for all, and how many were made. Both are of this thread alone.
+    // How many requests are still granted, `usize::MAX` for all, and how many were made. Both are of this thread
+    // alone.
     static GRANTED: Cell<usize> = const { Cell::new(usize::MAX) };
     static MADE: Cell<usize> = const { Cell::new(0) };
 }

@@ -1,5 +1,6 @@
-//! The tables in a Rust toolchain: rustc keeps with each crate's metadata a table from the hash of a definition's path to
-//! the definition's index, with the original crate. Each is opened, checked, searched, and made again byte for byte.
+//! The tables in a Rust toolchain: rustc keeps with each crate's metadata a table from the hash of a definition's
+//! path to the definition's index, with the original crate. Each is opened, checked, searched, and made again byte
+//! for byte.
 
 use odht::{check_all, Config, HashTable, HashTableOwned, UnHashFn};
 use std::io::BufRead;
@@ -48,8 +49,8 @@ fn metadata(folder: &Path) -> Vec<PathBuf> {
     files.into_iter().filter(is_metadata).chain(below).collect()
 }
 
-// The tables of this configuration in some bytes: behind each header tag, those whose lengths of keys and values, version
-// and slot count are right.
+// The tables of this configuration in some bytes: behind each header tag, those whose lengths of keys and values,
+// version and slot count are right.
 fn tables(bytes: &[u8]) -> Vec<&[u8]> {
     let (mut tables, mut rest, mut before) = (Vec::new(), bytes, Vec::new());
     while rest.read_until(b'T', &mut before).unwrap() > 0 {

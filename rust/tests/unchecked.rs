@@ -1,5 +1,5 @@
-//! Bytes that are opened without a check, and are not those of a table: opening panics where their length is not that of
-//! their slot count; else each call returns or panics, and is no danger to memory.
+//! Bytes that are opened without a check, and are not those of a table: opening panics where their length is not that
+//! of their slot count; else each call returns or panics, and is no danger to memory.
 
 mod common;
 
@@ -10,8 +10,8 @@ use common::random::Random;
 use common::writing::Writing;
 use odht::{FxHashFn, HashTable, HashTableOwned, UnHashFn};
 
-// Random bytes, or a table with its slot count, its length and other bytes changed. The item count stays small, so that no
-// growth asks for much memory.
+// Random bytes, or a table with its slot count, its length and other bytes changed. The item count stays small, so
+// that no growth asks for much memory.
 fn bytes<const K: usize, const V: usize, H: Named>(random: &mut Random) -> Vec<u8> {
     let slots = 16 << random.below(3);
     let mut table = Writing::with_slots(format::<K, V, H>(), slots, random.number() as u16);

@@ -174,12 +174,18 @@ macro_rules! shape {
 shape!(u32_u32, configs::U32ToU32, u32, u32, u32, key => *key, insert(value: u32));
 shape!(u64_u32, configs::U64ToU32, u64, u32, u64, key => *key, insert(value: u32));
 shape!(u64_u64, configs::U64ToU64, u64, u64, u64, key => *key, insert(value: u64));
-shape!(b16_u32, configs::Bytes16ToU32, [u8; 16], u32, *const [u8; 16], key => key, insert(value: u32));
-shape!(b16_u64, configs::Bytes16ToU64, [u8; 16], u64, *const [u8; 16], key => key, insert(value: u64));
-shape!(b20_u64, configs::Bytes20ToU64, [u8; 20], u64, *const [u8; 20], key => key, insert(value: u64));
-shape!(b32_u64, configs::Bytes32ToU64, [u8; 32], u64, *const [u8; 32], key => key, insert(value: u64));
-shape!(b16, configs::Bytes16Set, [u8; 16], (), *const [u8; 16], key => key, insert());
-shape!(b32, configs::Bytes32Set, [u8; 32], (), *const [u8; 32], key => key, insert());
+shape!(b16_u32, configs::Bytes16ToU32, [u8; 16], u32, *const [u8; 16],
+    key => key, insert(value: u32));
+shape!(b16_u64, configs::Bytes16ToU64, [u8; 16], u64, *const [u8; 16],
+    key => key, insert(value: u64));
+shape!(b20_u64, configs::Bytes20ToU64, [u8; 20], u64, *const [u8; 20],
+    key => key, insert(value: u64));
+shape!(b32_u64, configs::Bytes32ToU64, [u8; 32], u64, *const [u8; 32],
+    key => key, insert(value: u64));
+shape!(b16, configs::Bytes16Set, [u8; 16], (), *const [u8; 16],
+    key => key, insert());
+shape!(b32, configs::Bytes32Set, [u8; 32], (), *const [u8; 32],
+    key => key, insert());
 
 /// The status of a result.
 pub fn status<T>(result: &Result<T, Error>) -> u32 {

@@ -1,5 +1,5 @@
-//! The code in `../compat` is compiled against the original, with the line of the dependency changed alone. Its tests hold
-//! there too, and its program prints the same: the same bytes and answers.
+//! The code in `../compat` is compiled against the original, with the line of the dependency changed alone. Its tests
+//! hold there too, and its program prints the same: the same bytes and answers.
 
 use std::path::{Path, PathBuf};
 use std::process::Command;

@@ -1,5 +1,5 @@
-//! A map from the hash of a definition's path to the definition's index, as a compiler keeps it: it grows while the crate
-//! is compiled, is written into the crate's metadata, and is read there without being decoded.
+//! A map from the hash of a definition's path to the definition's index, as a compiler keeps it: it grows while the
+//! crate is compiled, is written into the crate's metadata, and is read there without being decoded.
 
 use odht::{Config, HashTable, HashTableOwned, UnHashFn};
 use std::borrow::Borrow;

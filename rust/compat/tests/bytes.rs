@@ -1,5 +1,5 @@
-//! The bytes of the tables, worked out by hand from docs/FORMAT.md of the repository. They are the same whichever crate
-//! the dependency names.
+//! The bytes of the tables, worked out by hand from docs/FORMAT.md of the repository. They are the same whichever
+//! crate the dependency names.
 
 use compat::definitions::{collect, hashes, Index, Map, PathHash};
 use compat::first_table::{build, look_up, Numbers};
@@ -44,8 +44,8 @@ fn the_first_table() {
     assert_eq!(look_up(&expected, &[1, 3, 5, 7]), [Some(2), Some(4), Some(6), None]);
 }
 
-// 87 percent are 57015 of 65536. The hash is the upper half: of the first 0x02000001, so slot 1 and tag 1; of the second
-// 0xfe000001, so slot 1 again, which is occupied, hence slot 2, and tag 127.
+// 87 percent are 57015 of 65536. The hash is the upper half: of the first 0x02000001, so slot 1 and tag 1; of the
+// second 0xfe000001, so slot 1 again, which is occupied, hence slot 2, and tag 127.
 #[test]
 fn definitions_are_kept() {
     let paths = [PathHash(0x0200_0001_0000_0009), PathHash(0xfe00_0001_0000_0007)];
@@ -82,8 +82,8 @@ fn many_definitions_are_read_in_metadata() {
     assert_eq!(read.index_of(&PathHash(5)), None);
 }
 
-// 80 percent are 52428 of 65536. "on" and "no" have the sum 221, 0xdd: slot 13, and the tag 0xdddddddd >> 25, which is
-// 110. The second goes to slot 14. "a" is 97, 0x61: slot 1, and the tag 0x61616161 >> 25, which is 48.
+// 80 percent are 52428 of 65536. "on" and "no" have the sum 221, 0xdd: slot 13, and the tag 0xdddddddd >> 25, which
+// is 110. The second goes to slot 14. "a" is 97, 0x61: slot 1, and the tag 0x61616161 >> 25, which is 48.
 #[test]
 fn a_set_with_a_hash_function_of_its_own() {
     let entries: [(usize, &[u8], u8); 3] =
