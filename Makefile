@@ -7,11 +7,13 @@
 # make install, make uninstall: these, the header and what pkg-config and CMake read, below PREFIX, and below DESTDIR
 # before it
 # make exports: include/odht.h and the exports of each shape of tables, of what is written once for all shapes
+# make rust: what is generated of the crate for Rust, rust/src/proved and rust/c/src/erased, of the proved crates
 # make examples: all examples, compiled against an installed copy and compared with what they must print, and the tests
 # of the calls for C once more
 # make bench: the tables of speeds; QUICK=1 for a short run, ODHT_RUST=folder for the Rust crate beside it, CHECK=1 for
 # the tables of the whole check alone, WORST=1 for the largest forged table too, about an hour, ORDER=1 for the line of
 # an order of inserts alone, MARKDOWN=1 for Markdown
+# make bench-crate: the crate for Rust beside the Rust crate, whose folder is ODHT_RUST; ITEMS=100000 for no larger tables
 # make bounds: loops that tell what bounds these speeds; ODHT_RUST=folder is needed
 SCRIPT ?= crates/odht_table/stdin
 PARTS ?=
@@ -26,7 +28,8 @@ WORST ?=
 ORDER ?=
 MARKDOWN ?=
 ODHT_RUST ?=
-.PHONY: run test prove edits build lib exports exports_are_current install uninstall examples bench
+ITEMS ?=
+.PHONY: run test prove edits build lib rust exports exports_are_current install uninstall examples bench
 run:
 	@cd crates/odht_table && rt try < $(abspath $(SCRIPT))
 
@@ -57,6 +60,14 @@ crates/odht_c/out/libodht_c.a: $(SOURCES)
 
 include packaging/library.mk
 
+# the proved crates without their contracts, as Rust
+ERASE = CARGO_TARGET_DIR=$(abspath build/cargo) cargo run --quiet --offline --manifest-path tools/erase/Cargo.toml --
+rust:
+	@$(ERASE) crates build/erased
+	@find build/erased -name '*.rs' -exec rustfmt --edition 2021 --config-path rust/rustfmt.toml {} +
+	@rm -rf rust/src/proved rust/c/src/erased
+	@cp -R build/erased/. rust/ && rm -rf build/erased
+
 LINK_RUST = -L native=build -l static=odht
 
 examples: lib
@@ -76,6 +87,16 @@ bench: build/libodht.a $(if $(ODHT_RUST),original)
 	@$(if $(MARKDOWN),sh bench/machine.sh)
 	@build/bench $(if $(QUICK),quick) $(if $(CHECK),check) $(if $(WORST),worst) $(if $(ORDER),order) \
 	  $(if $(MARKDOWN),markdown)
+
+# the crate for Rust, as it is and with the feature `fast`, beside the original; it needs ODHT_RUST and nothing proved
+.PHONY: bench-crate
+bench-crate: original
+	@$(BENCH_RUST) --edition 2021 --crate-type rlib --crate-name odht_default rust/src/lib.rs -o build/original/libodht_default.rlib
+	@$(BENCH_RUST) --edition 2021 --crate-type rlib --crate-name odht_fast --cfg 'feature="fast"' rust/src/lib.rs \
+	  -o build/original/libodht_fast.rlib
+	@$(BENCH_RUST) --edition 2021 -D warnings bench/crate.rs -L dependency=build/original --extern odht=build/original/libodht.rlib \
+	  --extern odht_default=build/original/libodht_default.rlib --extern odht_fast=build/original/libodht_fast.rlib -o build/bench_crate
+	@build/bench_crate $(ITEMS)
 
 # what bounds the lines of the tables: loops that do only what a job cannot do without; it needs ODHT_RUST
 .PHONY: bounds

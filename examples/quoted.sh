@@ -1,6 +1,6 @@
 #!/bin/sh
 # Each block of code in README is a run of whole lines of a file that is compiled: of Rattle of a test of odht_tests, of
-# C of c/readme.c, and of Rust of the example of bindings/rust, which is a test of its documentation.
+# C of c/readme.c, and of Rust of the example of rust/README.md, which is a test of its documentation.
 set -eu
 cd "$(dirname "$0")/.."
 awk '
@@ -8,7 +8,7 @@ awk '
   BEGIN {
     compiled["```rattle"] = lines("crates/odht_tests/src/tests/first_table.rt")
     compiled["```c"] = lines("examples/c/readme.c")
-    compiled["```rust"] = lines("bindings/rust/README.md")
+    compiled["```rust"] = lines("rust/README.md")
   }
   $0 in compiled { language = $0; block = ""; next }
   $0 == "```" && language != "" {

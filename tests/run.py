@@ -3,11 +3,12 @@
 
   tests/run.py [PART..]      all parts, or those that are named; status 1 where anything failed
 
-    calls      the calls for C, by tests/c                    rust       the crate for Rust, where cargo is
-    rattle     the tests of odht_tests                        vectors    all vectors
-    memory     each request for memory fails in turn          edits      each edit's text is where it says
-    tool       the program for table files, by tests/tool     generated  generated text is current
-    script     the program for scripts, by tests/script      runner     that the runner of cases reports faults
+    calls      the calls for C, by tests/c                    rust       the crate for Rust (rust/), by tests/rust.py
+    rattle     the tests of odht_tests                        ffi        the package odht-ffi (bindings/rust)
+    memory     each request for memory fails in turn          vectors    all vectors
+    tool       the program for table files, by tests/tool     edits      each edit's text is where it says
+    script     the program for scripts, by tests/script      generated  generated text is current
+    runner     that the runner of cases reports faults
     word       all vectors and the tests of odht_tests once more, with the word search compiled in
 
 What a part needs is built first, by tools/unproved.py, into build/unproved/; what is current there is kept. For `word`
@@ -116,11 +117,15 @@ def memory():
 
 
 def crate_for_rust():
+    return counted(*run([sys.executable, "tests/rust.py"], env={**os.environ, "ODHT_LIB_DIR": BUILT}))
+
+
+def package_over_the_archive():
     status, _ = run(["cargo", "--version"])
     if status:
         return 0, 0, "there is no cargo here"
     how = {"cwd": f"{TOP}/bindings/rust"}
-    how["env"] = {**os.environ, "ODHT_LIB_DIR": BUILT, "CARGO_TARGET_DIR": f"{TOP}/build/cargo"}
+    how["env"] = {**os.environ, "ODHT_LIB_DIR": BUILT, "CARGO_TARGET_DIR": f"{TOP}/build/cargo-ffi"}
     return counted(*run(["cargo", "test", "--quiet", "--offline"], **how))
 
 
@@ -128,6 +133,7 @@ def crate_for_rust():
 PARTS = {
     "calls": (["libodht.a"], calls_for_c),
     "rust": (["libodht.a"], crate_for_rust),
+    "ffi": (["libodht.a"], package_over_the_archive),
     "rattle": (["odht_tests"], tests_in_rattle),
     "vectors": (["odht_vectors"], vectors),
     "word": ([f"{WORD}/odht_tests", f"{WORD}/odht_vectors"], with_word_search),

@@ -4,7 +4,7 @@
 mod refusals;
 mod say;
 
-use odht::{bytes_needed, empty_table, Builder, Error, Table, TableMut, B16U32, U64U32};
+use odht_ffi::{bytes_needed, empty_table, Builder, Error, Table, TableMut, B16U32, U64U32};
 use say::{say, printed};
 
 pub const PAIRS: usize = 40;

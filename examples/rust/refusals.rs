@@ -1,6 +1,6 @@
 //! Errors: damaged tables, and arguments that do not fit.
 
-use odht::{bytes_needed, Error, Table, TableMut, U64U32};
+use odht_ffi::{bytes_needed, Error, Table, TableMut, U64U32};
 
 use crate::say::{say, status};
 use crate::{LENGTH, PAIRS, PERCENT};

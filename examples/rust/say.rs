@@ -1,6 +1,6 @@
 //! Prints answers as examples/c does: with the library's statuses, each a number and a text.
 
-use odht::Error;
+use odht_ffi::Error;
 
 const OK: &str = "0 ok";
 const ABSENT: &str = "32 absent";

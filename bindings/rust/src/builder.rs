@@ -11,10 +11,10 @@ pub const DEFAULT_PERCENT: u8 = 87;
 /// Collects pairs, and builds a table from them. Of equal keys the last value counts.
 ///
 /// ```
-/// # fn main() -> Result<(), odht::Error> {
-/// let squares: odht::Builder<odht::U32U32> = (0..100).map(|number| (number, number * number)).collect();
+/// # fn main() -> Result<(), odht_ffi::Error> {
+/// let squares: odht_ffi::Builder<odht_ffi::U32U32> = (0..100).map(|number| (number, number * number)).collect();
 /// let bytes = squares.build()?;
-/// assert_eq!(odht::Table::<odht::U32U32>::open(&bytes)?.get(&12), Some(144));
+/// assert_eq!(odht_ffi::Table::<odht_ffi::U32U32>::open(&bytes)?.get(&12), Some(144));
 /// # Ok(())
 /// # }
 /// ```

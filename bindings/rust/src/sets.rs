@@ -13,9 +13,9 @@ impl<S: Shape<Value = ()>> TableMut<'_, S> {
     /// As of [`TableMut::insert`].
     ///
     /// ```
-    /// # fn main() -> Result<(), odht::Error> {
-    /// let mut bytes = odht::empty_table::<odht::B16>(100, 87)?;
-    /// let mut set = odht::TableMut::<odht::B16>::open(&mut bytes)?;
+    /// # fn main() -> Result<(), odht_ffi::Error> {
+    /// let mut bytes = odht_ffi::empty_table::<odht_ffi::B16>(100, 87)?;
+    /// let mut set = odht_ffi::TableMut::<odht_ffi::B16>::open(&mut bytes)?;
     /// assert!(set.add(&[7; 16])?);
     /// assert!(!set.add(&[7; 16])?);
     /// assert!(set.as_table().contains(&[7; 16]));

@@ -25,8 +25,8 @@ use crate::zeros;
 /// While a table exists nobody can write its bytes:
 ///
 /// ```compile_fail,E0506
-/// # let mut bytes = odht::Builder::<odht::U64U32>::new(87).build().unwrap();
-/// let table = odht::Table::<odht::U64U32>::open(&bytes).unwrap();
+/// # let mut bytes = odht_ffi::Builder::<odht_ffi::U64U32>::new(87).build().unwrap();
+/// let table = odht_ffi::Table::<odht_ffi::U64U32>::open(&bytes).unwrap();
 /// bytes[16] = 0;
 /// table.get(&7);
 /// ```

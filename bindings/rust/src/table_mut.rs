@@ -149,12 +149,12 @@ pub fn empty_table<S: Shape>(max_items: usize, percent: u8) -> Result<Vec<u8>, E
 /// are unchanged.
 ///
 /// ```
-/// # fn main() -> Result<(), odht::Error> {
-/// let mut bytes = odht::empty_table::<odht::U64U32>(0, 87)?;
+/// # fn main() -> Result<(), odht_ffi::Error> {
+/// let mut bytes = odht_ffi::empty_table::<odht_ffi::U64U32>(0, 87)?;
 /// for key in 0..1000 {
-///     odht::insert_growing::<odht::U64U32>(&mut bytes, &key, 7)?;
+///     odht_ffi::insert_growing::<odht_ffi::U64U32>(&mut bytes, &key, 7)?;
 /// }
-/// assert_eq!(odht::Table::<odht::U64U32>::open(&bytes)?.len(), 1000);
+/// assert_eq!(odht_ffi::Table::<odht_ffi::U64U32>::open(&bytes)?.len(), 1000);
 /// # Ok(())
 /// # }
 /// ```

@@ -3,7 +3,7 @@
 mod common;
 
 use common::{changed, worked_example};
-use odht::{bytes_needed, Builder, Error, Table, TableMut, B16, B16U32, U64U32, U64U64};
+use odht_ffi::{bytes_needed, Builder, Error, Table, TableMut, B16, B16U32, U64U32, U64U64};
 
 /// The numbers and texts of include/odht.h.
 const ERRORS: [(u32, Error, &str); 23] = [
@@ -67,7 +67,7 @@ fn refused(bytes: &[u8], error: Error) {
     let mut copy = bytes.to_vec();
     assert_eq!(TableMut::<U64U32>::open(&mut copy).map(|_| ()), Err(error));
     assert_eq!(TableMut::<U64U32>::checked(&mut copy).map(|_| ()), Err(error));
-    assert_eq!(odht::insert_growing::<U64U32>(&mut copy, &1, 2), Err(error));
+    assert_eq!(odht_ffi::insert_growing::<U64U32>(&mut copy, &1, 2), Err(error));
     assert_eq!(copy, bytes);
 }
 
@@ -148,7 +148,7 @@ fn making_tables_refuses() {
     assert_eq!(bytes_needed::<U64U32>(usize::MAX, 87), Err(Error::Capacity));
     assert_eq!(Builder::<U64U32>::new(0).build(), Err(Error::BadPercent));
     // 2^58 slots and more need more memory than there is.
-    assert_eq!(odht::empty_table::<U64U32>(1 << 58, 87), Err(Error::Memory));
+    assert_eq!(odht_ffi::empty_table::<U64U32>(1 << 58, 87), Err(Error::Memory));
 }
 
 #[test]

@@ -4,7 +4,7 @@
 mod common;
 
 use common::{worked_example, Chance, Random};
-use odht::{Builder, Error, Shape, Sizes, Table, TableMut, B16U32, B32, U64U32};
+use odht_ffi::{Builder, Error, Shape, Sizes, Table, TableMut, B16U32, B32, U64U32};
 
 fn stating(count: u64) -> Vec<u8> {
     let mut bytes = worked_example();
@@ -66,7 +66,7 @@ fn inserts_of_new_keys_are_refused() {
         assert_eq!(table.insert(&5, 6), Ok(Some(6)));
         assert_eq!(table.insert_all(&[1, 7, 3], &[2, 8, 4]), (1, Err(Error::Full)));
         assert_eq!(table.grow_into(&mut Vec::new()).map(|_| ()), Err(Error::TooManyItems));
-        assert_eq!(odht::insert_growing::<U64U32>(&mut bytes, &7, 8), Err(Error::TooManyItems));
+        assert_eq!(odht_ffi::insert_growing::<U64U32>(&mut bytes, &7, 8), Err(Error::TooManyItems));
         assert_eq!(bytes, stating(count));
     }
 }

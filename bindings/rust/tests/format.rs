@@ -3,7 +3,7 @@
 mod common;
 
 use common::worked_example;
-use odht::{bytes_needed, empty_table, Builder, Error, Sizes, Table, TableMut, B16, B16U32, U64U32};
+use odht_ffi::{bytes_needed, empty_table, Builder, Error, Sizes, Table, TableMut, B16, B16U32, U64U32};
 
 const PAIRS: [(u64, u32); 3] = [(1, 2), (3, 4), (5, 6)];
 
@@ -116,13 +116,13 @@ fn a_table_for_no_items_grows() {
     let grown = table.as_table().grown().unwrap();
     assert_eq!(Table::<U64U32>::open(&grown).unwrap().sizes(), sizes);
     assert_eq!(table.as_table().grown_len(), Ok(32 + 128 * 12 + 128 + 16));
-    assert_eq!(odht::insert_growing::<U64U32>(&mut bytes, &1, 2), Ok(None));
-    assert_eq!(odht::insert_growing::<U64U32>(&mut bytes, &1, 3), Ok(Some(2)));
+    assert_eq!(odht_ffi::insert_growing::<U64U32>(&mut bytes, &1, 2), Ok(None));
+    assert_eq!(odht_ffi::insert_growing::<U64U32>(&mut bytes, &1, 3), Ok(Some(2)));
     assert_eq!(Table::<U64U32>::checked(&bytes).unwrap().sizes(), sizes);
 }
 
 #[test]
 fn the_version_is_that_of_the_package() {
     let parts = env!("CARGO_PKG_VERSION").split('.').map(|part| part.parse::<u32>().unwrap());
-    assert_eq!(odht::version(), parts.fold(0, |version, part| 100 * version + part));
+    assert_eq!(odht_ffi::version(), parts.fold(0, |version, part| 100 * version + part));
 }

@@ -5,8 +5,8 @@ mod common;
 use std::collections::HashMap;
 
 use common::{Chance, Random};
-use odht::{Builder, Error, Shape, Table, TableMut};
-use odht::{B16, B16U32, B16U64, B20U64, B32, B32U64, U32U32, U64U32, U64U64};
+use odht_ffi::{Builder, Error, Shape, Table, TableMut};
+use odht_ffi::{B16, B16U32, B16U64, B20U64, B32, B32U64, U32U32, U64U32, U64U64};
 
 const SEEDS: [u64; 3] = [1, 2, 0xdead_beef];
 const COUNTS: [usize; 6] = [0, 1, 13, 64, 200, 1500];
@@ -72,7 +72,7 @@ fn walk_in_blocks<S: Shape>(table: &Table<S>, block: usize) -> Pairs<S> {
 
 /// Inserts one after the other return the same as those into the map.
 fn insert<S: Shape>(pairs: &Pairs<S>, percent: u8) -> (Vec<u8>, Map<S>) {
-    let mut bytes = odht::empty_table::<S>(pairs.len(), percent).unwrap();
+    let mut bytes = odht_ffi::empty_table::<S>(pairs.len(), percent).unwrap();
     let mut table = TableMut::<S>::open(&mut bytes).unwrap();
     let mut map = HashMap::new();
     for (key, value) in pairs {
@@ -91,7 +91,7 @@ fn insert_in_order<S: Shape>(bytes: &[u8], made_for: usize, percent: u8) {
     slots.sort_unstable();
     let pair_in: HashMap<usize, (S::Key, S::Value)> = slots.into_iter().zip(&table).collect();
     assert_eq!(pair_in.len(), table.len());
-    let mut again = odht::empty_table::<S>(made_for, percent).unwrap();
+    let mut again = odht_ffi::empty_table::<S>(made_for, percent).unwrap();
     let mut copy = TableMut::<S>::open(&mut again).unwrap();
     for slot in order {
         let (key, value) = pair_in[&slot];
@@ -107,17 +107,17 @@ fn build<S: Shape>(pairs: &Pairs<S>, percent: u8, bytes: &[u8]) {
     assert_eq!((builder.len(), builder.is_empty()), (pairs.len(), pairs.is_empty()));
     assert_eq!(builder.build().unwrap(), bytes);
     let (keys, values) = unzip::<S>(pairs);
-    let mut at_once = odht::empty_table::<S>(pairs.len(), percent).unwrap();
+    let mut at_once = odht_ffi::empty_table::<S>(pairs.len(), percent).unwrap();
     let answer = TableMut::<S>::open(&mut at_once).unwrap().insert_all(&keys, &values);
     assert_eq!(answer, (pairs.len(), Ok(())));
     assert_eq!(at_once, bytes);
 }
 
 fn grow<S: Shape>(pairs: &Pairs<S>) -> Vec<u8> {
-    let mut bytes = odht::empty_table::<S>(0, 87).unwrap();
+    let mut bytes = odht_ffi::empty_table::<S>(0, 87).unwrap();
     let mut map = HashMap::new();
     for (key, value) in pairs {
-        let former = odht::insert_growing::<S>(&mut bytes, key, *value);
+        let former = odht_ffi::insert_growing::<S>(&mut bytes, key, *value);
         assert_eq!(former, Ok(map.insert(*key, *value)));
     }
     let built: Builder<S> = pairs.iter().copied().collect();
@@ -131,7 +131,7 @@ where
     S::Key: Chance,
     S::Value: Chance,
 {
-    let mut bytes = odht::empty_table::<S>(100, 87).unwrap();
+    let mut bytes = odht_ffi::empty_table::<S>(100, 87).unwrap();
     let mut table = TableMut::<S>::open(&mut bytes).unwrap();
     let mut map = HashMap::new();
     let (key, value) = loop {

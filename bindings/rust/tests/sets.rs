@@ -5,7 +5,7 @@ mod common;
 use std::collections::HashSet;
 
 use common::{Chance, Random};
-use odht::{Builder, Error, Shape, Table, TableMut, B16, B32};
+use odht_ffi::{Builder, Error, Shape, Table, TableMut, B16, B32};
 
 fn set<S: Shape<Value = ()>>()
 where
@@ -13,7 +13,7 @@ where
 {
     let random = &mut Random(5);
     let keys: Vec<S::Key> = (0..300).map(|_| S::Key::by_chance(random)).collect();
-    let mut bytes = odht::empty_table::<S>(200, 87).unwrap();
+    let mut bytes = odht_ffi::empty_table::<S>(200, 87).unwrap();
     let mut table = TableMut::<S>::open(&mut bytes).unwrap();
     let mut others = HashSet::new();
     for key in keys[..100].iter().chain(&keys[50..150]) {

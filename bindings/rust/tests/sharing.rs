@@ -3,7 +3,7 @@
 mod common;
 
 use common::worked_example;
-use odht::{Builder, Iter, Table, TableMut, B32, U64U32};
+use odht_ffi::{Builder, Iter, Table, TableMut, B32, U64U32};
 
 fn may_be_sent_and_shared<T: Send + Sync>(_: &T) {}
 

@@ -4,7 +4,7 @@
 use std::collections::HashMap;
 use std::path::Path;
 
-use odht::{bytes_needed, empty_table, Builder, Error, Shape, Table, TableMut, U32U32, U64U32};
+use odht_ffi::{bytes_needed, empty_table, Builder, Error, Shape, Table, TableMut, U32U32, U64U32};
 
 type Names = HashMap<String, Vec<u8>>;
 
@@ -136,7 +136,7 @@ where
         "with_capacity" => empty_table::<S>(number(0), percent(1)).and_then(|mut bytes| {
             let pairs = pairs::<S>(&args[2..]);
             for (key, value) in &pairs {
-                odht::insert_growing::<S>(&mut bytes, key, *value)?;
+                odht_ffi::insert_growing::<S>(&mut bytes, key, *value)?;
             }
             Ok(Answer(vec![pairs.len().to_string(), "ok".to_string()], Some(bytes)))
         }),

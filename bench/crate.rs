@@ -1,0 +1,324 @@
+//! Measures the crate for Rust beside the original Rust crate, in one process: as it is, and with the feature `fast`. It
+//! prints a line for each job, kind of key and size. README.md, "The crate for Rust", says how.
+
+use std::hint::black_box;
+use std::time::Instant;
+
+const PERCENT: u8 = 87;
+
+/// Items, and rounds of each job.
+const SIZES: [(usize, usize); 5] =
+    [(1_000, 2000), (10_000, 200), (100_000, 30), (1_000_000, 7), (10_000_000, 3)];
+
+/// A kind of key.
+trait Key: Copy {
+    const NAME: &'static str;
+
+    fn of(number: u64) -> Self;
+}
+
+impl Key for u64 {
+    const NAME: &'static str = "u64";
+
+    fn of(number: u64) -> u64 {
+        number
+    }
+}
+
+impl Key for [u8; 16] {
+    const NAME: &'static str = "16 bytes";
+
+    fn of(number: u64) -> [u8; 16] {
+        let other = number.rotate_left(32).wrapping_mul(0x9e37_79b9_7f4a_7c15);
+        (u128::from(number) | u128::from(other) << 64).to_le_bytes()
+    }
+}
+
+/// What the jobs work on.
+struct Work<K> {
+    pairs: Vec<(K, u32)>,
+    /// The keys in another order.
+    present: Vec<K>,
+    absent: Vec<K>,
+    /// A table of the pairs.
+    table: Vec<u8>,
+    /// A buffer of that length.
+    out: Vec<u8>,
+    values: Vec<Option<u32>>,
+}
+
+/// One job, by each contender: the original, the crate, the crate with `fast`.
+struct Line<K> {
+    name: &'static str,
+    jobs: [fn(&mut Work<K>); 3],
+}
+
+/// The jobs of a contender for a kind of key.
+struct Jobs<K> {
+    insert: fn(&mut Work<K>),
+    insert_all: fn(&mut Work<K>),
+    present: fn(&mut Work<K>),
+    present_all: fn(&mut Work<K>),
+    absent: fn(&mut Work<K>),
+    absent_all: fn(&mut Work<K>),
+    walk: fn(&mut Work<K>),
+    open: fn(&mut Work<K>),
+    grow: fn(&mut Work<K>),
+}
+
+/// The jobs of a crate; `insert_all` and `get_all` as they are given, since the original has neither.
+macro_rules! contender {
+    ($name:ident, $odht:ident, $insert_all:item, $get_all:item) => {
+        mod $name {
+            use super::*;
+            use $odht::{bytes_needed, Config, FxHashFn, HashTable, HashTableOwned, UnHashFn};
+
+            configured!(Numbers, u64, 8, FxHashFn, |k: &u64| k.to_le_bytes(), |k: &[u8; 8]| {
+                u64::from_le_bytes(*k)
+            });
+            configured!(Bytes, [u8; 16], 16, UnHashFn, |k: &[u8; 16]| *k, |k: &[u8; 16]| *k);
+
+            $insert_all
+            $get_all
+
+            fn open<C: Config>(bytes: &[u8]) -> HashTable<C, &[u8]> {
+                HashTable::from_raw_bytes(bytes).expect("it is a table")
+            }
+
+            fn new<C: Config>(out: &mut [u8], count: usize) -> HashTable<C, &mut [u8]> {
+                assert_eq!(out.len(), bytes_needed::<C>(count, PERCENT));
+                HashTable::init_in_place(out, count, PERCENT).expect("the length is right")
+            }
+
+            fn get<C: Config<Value = u32>>(table: &[u8], keys: &[C::Key], values: &mut [Option<u32>]) {
+                let table = open::<C>(table);
+                for (key, value) in keys.iter().zip(values) {
+                    *value = table.get(key);
+                }
+            }
+
+            pub fn jobs<C: Config<Value = u32>>() -> Jobs<C::Key> {
+                Jobs {
+                    insert: |work| {
+                        let mut table = new::<C>(&mut work.out, work.pairs.len());
+                        for (key, value) in &work.pairs {
+                            table.insert(key, value);
+                        }
+                    },
+                    insert_all: |work| {
+                        insert_all(&mut new::<C>(&mut work.out, work.pairs.len()), &work.pairs)
+                    },
+                    present: |work| get::<C>(&work.table, &work.present, &mut work.values),
+                    present_all: |work| {
+                        get_all(&open::<C>(&work.table), &work.present, &mut work.values)
+                    },
+                    absent: |work| get::<C>(&work.table, &work.absent, &mut work.values),
+                    absent_all: |work| {
+                        get_all(&open::<C>(&work.table), &work.absent, &mut work.values)
+                    },
+                    walk: |work| {
+                        let table = open::<C>(&work.table);
+                        for ((_, value), to) in table.iter().zip(&mut work.values) {
+                            *to = Some(value);
+                        }
+                    },
+                    open: |work| {
+                        for _ in 0..1000 {
+                            black_box(open::<C>(black_box(&work.table)).len());
+                        }
+                    },
+                    grow: |work| {
+                        let mut table = HashTableOwned::<C>::default();
+                        for (key, value) in &work.pairs {
+                            table.insert(key, value);
+                        }
+                        black_box(table.raw_bytes());
+                    },
+                }
+            }
+        }
+    };
+}
+
+macro_rules! configured {
+    ($name:ident, $key:ty, $len:literal, $hash:ty, $encode:expr, $decode:expr) => {
+        pub struct $name;
+
+        impl Config for $name {
+            type Key = $key;
+            type Value = u32;
+            type EncodedKey = [u8; $len];
+            type EncodedValue = [u8; 4];
+            type H = $hash;
+
+            #[inline]
+            fn encode_key(k: &$key) -> [u8; $len] {
+                $encode(k)
+            }
+
+            #[inline]
+            fn encode_value(v: &u32) -> [u8; 4] {
+                v.to_le_bytes()
+            }
+
+            #[inline]
+            fn decode_key(k: &[u8; $len]) -> $key {
+                $decode(k)
+            }
+
+            #[inline]
+            fn decode_value(v: &[u8; 4]) -> u32 {
+                u32::from_le_bytes(*v)
+            }
+        }
+    };
+}
+
+macro_rules! ours {
+    ($name:ident, $odht:ident) => {
+        contender!(
+            $name,
+            $odht,
+            fn insert_all<C: Config>(
+                table: &mut HashTable<C, &mut [u8]>,
+                pairs: &[(C::Key, C::Value)],
+            ) {
+                table.insert_all(pairs);
+            },
+            fn get_all<C: Config>(
+                table: &HashTable<C, &[u8]>,
+                keys: &[C::Key],
+                values: &mut [Option<C::Value>],
+            ) {
+                table.get_all(keys, values);
+            }
+        );
+    };
+}
+
+contender!(
+    original,
+    odht,
+    fn insert_all<C: Config>(table: &mut HashTable<C, &mut [u8]>, pairs: &[(C::Key, C::Value)]) {
+        for (key, value) in pairs {
+            table.insert(key, value);
+        }
+    },
+    fn get_all<C: Config>(
+        table: &HashTable<C, &[u8]>,
+        keys: &[C::Key],
+        values: &mut [Option<C::Value>],
+    ) {
+        for (key, value) in keys.iter().zip(values) {
+            *value = table.get(key);
+        }
+    }
+);
+ours!(checked, odht_default);
+ours!(fast, odht_fast);
+
+/// splitmix64: no number comes twice.
+fn random(state: &mut u64) -> u64 {
+    *state = state.wrapping_add(0x9e37_79b9_7f4a_7c15);
+    let mixed = (*state ^ (*state >> 30)).wrapping_mul(0xbf58_476d_1ce4_e5b9);
+    let mixed = (mixed ^ (mixed >> 27)).wrapping_mul(0x94d0_49bb_1331_11eb);
+    mixed ^ (mixed >> 31)
+}
+
+fn work<K: Key>(count: usize, table_len: usize) -> Work<K> {
+    let mut state = 7;
+    let mut keys = |count: usize| -> Vec<K> { (0..count).map(|_| K::of(random(&mut state))).collect() };
+    let (stored, absent) = (keys(count), keys(count));
+    let mut present = stored.clone();
+    for last in (1..count).rev() {
+        present.swap(last, random(&mut state) as usize % (last + 1));
+    }
+    Work {
+        pairs: stored.into_iter().zip(0..).collect(),
+        present,
+        absent,
+        table: vec![0; table_len],
+        out: vec![0; table_len],
+        values: vec![None; count],
+    }
+}
+
+fn lines<K>([original, checked, fast]: [Jobs<K>; 3]) -> [Line<K>; 9] {
+    macro_rules! line {
+        ($name:literal, $job:ident) => {
+            Line { name: $name, jobs: [original.$job, checked.$job, fast.$job] }
+        };
+    }
+    [
+        line!("insert", insert),
+        line!("insert_all", insert_all),
+        line!("get, present", present),
+        line!("get_all, present", present_all),
+        line!("get, absent", absent),
+        line!("get_all, absent", absent_all),
+        line!("walk", walk),
+        line!("open", open),
+        line!("insert growing", grow),
+    ]
+}
+
+/// The best time of each contender, in nanoseconds. In each round each has its turn, and another one begins.
+fn best<K>(line: &Line<K>, rounds: usize, work: &mut Work<K>) -> [f64; 3] {
+    let mut best = [f64::INFINITY; 3];
+    for turn in 0..3 * rounds {
+        let place = (turn + turn / 3) % 3;
+        let start = Instant::now();
+        (line.jobs[place])(work);
+        best[place] = best[place].min(start.elapsed().as_nanos() as f64);
+    }
+    best
+}
+
+/// Whether all three leave the same, in the buffer and in the values.
+fn check<K: Copy>(line: &Line<K>, work: &mut Work<K>) {
+    let mut first = None;
+    for job in line.jobs {
+        work.out.fill(0xa5);
+        work.values.fill(None);
+        job(work);
+        let left = (work.out.clone(), work.values.clone());
+        assert!(*first.get_or_insert_with(|| left.clone()) == left, "{}", line.name);
+    }
+}
+
+fn measure<K: Key>(count: usize, rounds: usize, table_len: usize, jobs: [Jobs<K>; 3]) {
+    let mut work = work::<K>(count, table_len);
+    (jobs[0].insert)(&mut work);
+    work.table.copy_from_slice(&work.out);
+    for line in lines(jobs) {
+        check(&line, &mut work);
+        let [original, checked, fast] = best(&line, rounds, &mut work);
+        let items = if line.name == "open" { 1000.0 } else { count as f64 };
+        println!(
+            "| {} | {} | {count} | {:.1} | {:.1} | {:.1} | {:.2} | {:.2} |",
+            line.name,
+            K::NAME,
+            original / items,
+            checked / items,
+            fast / items,
+            checked / original,
+            fast / original
+        );
+    }
+}
+
+fn main() {
+    let most = std::env::args().nth(1).and_then(|word| word.parse().ok()).unwrap_or(usize::MAX);
+    println!("| job | keys | items | original, ns | default, ns | fast, ns | default | fast |");
+    println!("|---|---|---|---|---|---|---|---|");
+    for (count, rounds) in SIZES {
+        if count <= most {
+            let len = odht::bytes_needed::<original::Numbers>(count, PERCENT);
+            let of = (original::jobs::<original::Numbers>(), checked::jobs::<checked::Numbers>());
+            measure(count, rounds, len, [of.0, of.1, fast::jobs::<fast::Numbers>()]);
+            let len = odht::bytes_needed::<original::Bytes>(count, PERCENT);
+            let of = (original::jobs::<original::Bytes>(), checked::jobs::<checked::Bytes>());
+            measure(count, rounds, len, [of.0, of.1, fast::jobs::<fast::Bytes>()]);
+        }
+    }
+}

@@ -1,0 +1,33 @@
+#!/bin/sh
+# examples.sh FOLDER: compiles the examples in C over the libodht.a and the libodht.so of a folder, runs them and compares
+# what they print. One line a program.
+set -eu
+top=$(cd "$(dirname "$0")/../.." && pwd)
+libraries=$(cd "$1" && pwd)
+room=$(mktemp -d)
+trap 'rm -rf "$room"' EXIT
+cd "$room"
+flags="-std=c11 -O1 -Wall -Wextra -Wpedantic -Werror -I$top/include"
+
+# A program of these sources, linked in both ways.
+try() {
+    program=$1
+    shift
+    # shellcheck disable=SC2086
+    {
+        cc $flags "$@" "$libraries/libodht.a" -o "$program.static"
+        cc $flags "$@" -L"$libraries" "-Wl,-rpath,$libraries" -l:libodht.so -o "$program.shared"
+    }
+    for way in static shared; do
+        "./$program.$way" stored.odht > "printed.$way"
+    done
+    cmp printed.static printed.shared
+    echo "$program: well"
+}
+
+cd "$room"
+try example "$top/examples/c/main.c" "$top/examples/c/orders.c" "$top/examples/c/views.c"
+diff "$top/examples/expected" printed.static
+for program in null forged sets readme; do
+    try "$program" "$top/examples/c/$program.c"
+done

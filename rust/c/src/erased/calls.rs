@@ -1,0 +1,13 @@
+// Made by `make rust` of crates/odht_calls/src/lib.rt.
+//! The calls for C, for every configuration: what each returns, and what it leaves in the arrays of its caller. The
+//! exports of each shape of table, in `odht_c`, hand on to them.
+
+pub mod build;
+pub mod grow;
+mod lookups;
+pub mod order;
+pub mod read;
+pub mod status;
+pub mod view;
+pub mod walk;
+pub mod write;

@@ -1,0 +1,96 @@
+// Made by `make rust` of crates/odht_calls/src/read.rt.
+//! The calls that read the bytes of a table, for every configuration.
+
+use crate::erased::calls::lookups::look_up_all;
+use crate::erased::calls::status::{status_of, OK};
+use crate::erased::calls::view;
+use crate::proved::tables::bytes::Borrowed;
+use crate::proved::tables::config::Config;
+use crate::proved::tables::error::Error;
+use crate::proved::tables::load::max_item_count_for;
+use crate::proved::tables::memory_layout::Header;
+use crate::proved::tables::{memory_layout, HashTable};
+
+/// Opens the bytes by their header and length. Reads no slot.
+#[inline(always)]
+pub(crate) fn view<C: Config>(bytes: &[u8]) -> Result<HashTable<C, Borrowed<'_>>, Error> {
+    HashTable::from_raw_bytes_by_header(Borrowed::new(bytes))
+}
+
+/// OK where the header, the length and the first ten slots are accepted, else the number of the first error.
+#[inline]
+pub fn open<C: Config>(bytes: &[u8]) -> u32 {
+    let opened: Result<HashTable<C, Borrowed<'_>>, Error> =
+        HashTable::from_raw_bytes(Borrowed::new(bytes));
+    match opened {
+        Ok(_) => OK,
+        Err(refused) => status_of(&refused),
+    }
+}
+
+/// OK where the bytes are valid, else the number of the first error of the whole check.
+#[inline]
+pub fn check<C: Config>(bytes: &[u8]) -> u32 {
+    match memory_layout::check_all::<C>(bytes) {
+        Ok(()) => OK,
+        Err(refused) => status_of(&refused),
+    }
+}
+
+/// Writes the value of a key to `value`. ABSENT and errors leave `value` unchanged.
+#[inline]
+pub fn get<C: Config>(bytes: &[u8], key: &C::Key, value: &mut C::Value) -> u32 {
+    let table = match view::<C>(bytes) {
+        Ok(table) => table,
+        Err(refused) => return status_of(&refused),
+    };
+    view::get(&table, key, value)
+}
+
+/// Looks up many keys: at the index of a key that is found, its value is written to `values` and 1 to `found`; at any
+/// other index 0 is written to `found`. An error leaves both unchanged.
+#[inline]
+pub fn get_all<C: Config>(
+    bytes: &[u8],
+    keys: &[C::Key],
+    values: &mut [C::Value],
+    found: &mut [u8],
+) -> u32 {
+    let table = match view::<C>(bytes) {
+        Ok(table) => table,
+        Err(refused) => return status_of(&refused),
+    };
+    look_up_all::<C>(&table.as_raw(), keys, values, found);
+    OK
+}
+
+/// Writes the header's item count to `item_count`. An error leaves it unchanged.
+pub fn len<C: Config>(bytes: &[u8], item_count: &mut usize) -> u32 {
+    match view::<C>(bytes) {
+        Ok(table) => {
+            *item_count = table.len();
+            OK
+        }
+        Err(refused) => status_of(&refused),
+    }
+}
+
+/// Writes the slot count, the maximum item count and the load factor in percent of slots, rounded down, by the header.
+/// An error leaves all three unchanged.
+pub fn sizes<C: Config>(
+    bytes: &[u8],
+    slot_count: &mut usize,
+    max_item_count: &mut usize,
+    max_load_factor_percent: &mut u8,
+) -> u32 {
+    if let Err(refused) = view::<C>(bytes) {
+        return status_of(&refused);
+    }
+    let header = Header::of(bytes);
+    let slots = header.slot_count();
+    let factor = header.max_load_factor();
+    *slot_count = slots;
+    *max_item_count = max_item_count_for(slots, factor);
+    *max_load_factor_percent = factor.to_percent() as u8;
+    OK
+}

@@ -1,0 +1,69 @@
+// Made by `make rust` of crates/odht_calls/src/view.rt.
+//! Opened tables as a caller in C keeps them, and lookups that skip the header, for every configuration.
+
+use crate::erased::calls::lookups::look_up_all;
+use crate::erased::calls::status::{status_of, ABSENT, OK};
+use crate::proved::tables::bytes::Borrowed;
+use crate::proved::tables::config::Config;
+use crate::proved::tables::error::Error;
+use crate::proved::tables::HashTable;
+
+/// The bytes of an opened table, as C keeps them: a pointer and a length. The calls that read a view require that the
+/// header and the length of its bytes are accepted, and do not check it.
+#[repr(C)]
+#[derive(Clone, Copy)]
+pub struct View<'a> {
+    /// All bytes of the table.
+    pub bytes: &'a [u8],
+}
+
+/// OK, and `view` is a view of the bytes; or the number of the first error, and `view` is unchanged. Reads the header,
+/// the length and the first ten slots.
+#[inline]
+pub fn open<'a, C: Config>(bytes: &'a [u8], view: &mut View<'a>) -> u32 {
+    let opened: Result<HashTable<C, Borrowed<'_>>, Error> =
+        HashTable::from_raw_bytes(Borrowed::new(bytes));
+    match opened {
+        Ok(_) => {
+            *view = View { bytes };
+            OK
+        }
+        Err(refused) => status_of(&refused),
+    }
+}
+
+/// The table of a view. Reads none of its bytes.
+#[inline(always)]
+pub fn table<'a, C: Config>(view: &View<'a>) -> HashTable<C, Borrowed<'a>> {
+    HashTable::from_raw_bytes_unchecked(Borrowed::new(view.bytes))
+}
+
+/// Writes the value of a key of an opened table to `value`. ABSENT leaves `value` unchanged.
+#[inline(always)]
+pub fn get<C: Config>(
+    table: &HashTable<C, Borrowed<'_>>,
+    key: &C::Key,
+    value: &mut C::Value,
+) -> u32 {
+    match table.get(key) {
+        Some(found) => {
+            *value = found;
+            OK
+        }
+        None => ABSENT,
+    }
+}
+
+/// Looks up many keys in an opened table: at the index of a key that is found, its value is written to `values` and 1
+/// to `found`; at any other index 0 is written to `found`.
+#[inline]
+pub fn get_all<C: Config>(
+    table: &HashTable<C, Borrowed<'_>>,
+    keys: &[C::Key],
+    values: &mut [C::Value],
+    found: &mut [u8],
+) -> u32 {
+    let raw = table.as_raw();
+    look_up_all::<C>(&raw, keys, values, found);
+    OK
+}

@@ -1,0 +1,12 @@
+// Made by `make rust` of crates/odht_c/src/shapes.rt.
+//! The exports of each shape of table, each file written by exports/generate.sh.
+
+pub(crate) mod b16;
+pub(crate) mod b16_u32;
+pub(crate) mod b16_u64;
+pub(crate) mod b20_u64;
+pub(crate) mod b32;
+pub(crate) mod b32_u64;
+pub(crate) mod u32_u32;
+pub(crate) mod u64_u32;
+pub(crate) mod u64_u64;

@@ -1,0 +1,45 @@
+#![doc = include_str!("../README.md")]
+#![deny(unsafe_code, missing_docs)]
+
+#[macro_use]
+mod shim;
+
+mod config;
+pub mod configs;
+mod iter;
+mod opened;
+mod owned;
+mod sizes;
+#[cfg(test)]
+mod tests;
+mod view;
+
+// The source of the proved library with its contracts taken out, made by `make rust` in the repository of this crate.
+// It is whole, also where nothing here uses it; the fields of its errors are documented by their type; and it is written
+// as it could be proved.
+#[allow(dead_code, unused_imports, unused_variables, missing_docs)]
+#[allow(
+    clippy::collapsible_if,
+    clippy::manual_map,
+    clippy::module_inception,
+    clippy::needless_range_loop
+)]
+#[cfg_attr(not(feature = "fast"), forbid(unsafe_code))]
+#[cfg_attr(feature = "fast", allow(unsafe_code))]
+mod proved {
+    pub mod base;
+    pub mod header;
+    pub mod raw;
+    pub mod tables;
+}
+
+pub use config::{ByteArray, Config, HashFn};
+pub use iter::{Iter, Slots};
+pub use owned::HashTableOwned;
+pub use proved::base::hash::{FxHashFn, UnHashFn};
+pub use proved::header::error::{Error, Part};
+pub use sizes::{bytes_needed, check_all, try_bytes_needed};
+pub use view::HashTable;
+
+// The proofs are of counts of 64 bits.
+const _: () = assert!(usize::BITS == 64, "odht is for targets whose `usize` has 64 bits");

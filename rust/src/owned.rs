@@ -1,0 +1,222 @@
+//! The table that owns its bytes, and grows.
+//!
+//! What the proved library requires is seen to here: its bytes are those that the proved library made or checked, a load
+//! factor is a percentage (`percent_of`), and slices are as long as they have to be.
+
+use crate::config::{Config, Proved};
+use crate::iter::{Iter, Slots};
+use crate::proved::header::error::Error;
+use crate::proved::tables;
+use crate::shim::Global;
+use crate::sizes::{percent_of, refused};
+use std::error::Error as AnyError;
+use std::fmt;
+
+mod inserts;
+mod making;
+
+/// A table that owns its bytes, and grows where a new key is inserted at the maximum.
+///
+/// ```
+/// use odht::{configs::U64ToU32, HashTableOwned};
+///
+/// let mut table = HashTableOwned::<U64ToU32>::with_capacity(3, 95);
+/// assert_eq!(table.insert(&1, &2), None);
+/// assert_eq!(table.insert(&1, &5), Some(2));
+/// assert_eq!(table.get(&1), Some(5));
+/// assert_eq!(table.raw_bytes().len(), 256);
+/// ```
+pub struct HashTableOwned<C: Config>(tables::HashTableOwned<Proved<C>>);
+
+impl<C: Config> HashTableOwned<C> {
+    /// The value of a key: that of its last insert.
+    ///
+    /// Each group of sixteen control bytes is read at most once.
+    ///
+    /// ```
+    /// # use odht::{configs::U64ToU32, HashTableOwned};
+    /// # let mut table = HashTableOwned::<U64ToU32>::default();
+    /// table.insert(&1, &2);
+    /// assert_eq!((table.get(&1), table.get(&3)), (Some(2), None));
+    /// ```
+    #[inline]
+    pub fn get(&self, key: &C::Key) -> Option<C::Value> {
+        self.0.get(key)
+    }
+
+    /// `get` of many keys, each to its index. The loads of eight keys overlap, so that in a large table it is faster than
+    /// one `get` after the other. Each key is encoded twice.
+    ///
+    /// ```
+    /// # use odht::{configs::U64ToU32, HashTableOwned};
+    /// # let mut table = HashTableOwned::<U64ToU32>::default();
+    /// table.insert(&1, &2);
+    /// let mut values = [None; 2];
+    /// table.get_all(&[1, 3], &mut values);
+    /// assert_eq!(values, [Some(2), None]);
+    /// ```
+    ///
+    /// # Panics
+    ///
+    /// Where there are more or fewer values than keys.
+    #[inline]
+    pub fn get_all(&self, keys: &[C::Key], values: &mut [Option<C::Value>]) {
+        assert_eq!(keys.len(), values.len(), "there is a value for each key");
+        self.0.get_all(keys, values);
+    }
+
+    /// `get`, and how many groups of sixteen control bytes it read: those up to the first slot that is free or holds the
+    /// key.
+    ///
+    /// ```
+    /// # use odht::{configs::U64ToU32, HashTableOwned};
+    /// # let mut table = HashTableOwned::<U64ToU32>::default();
+    /// table.insert(&1, &2);
+    /// assert_eq!(table.get_counted(&1), (Some(2), 1));
+    /// ```
+    #[inline]
+    pub fn get_counted(&self, key: &C::Key) -> (Option<C::Value>, usize) {
+        self.0.get_counted(key)
+    }
+
+    /// Whether the key has a value.
+    ///
+    /// ```
+    /// # use odht::{configs::U64ToU32, HashTableOwned};
+    /// # let mut table = HashTableOwned::<U64ToU32>::default();
+    /// table.insert(&1, &2);
+    /// assert!(table.contains_key(&1) && !table.contains_key(&3));
+    /// ```
+    #[inline]
+    pub fn contains_key(&self, key: &C::Key) -> bool {
+        self.0.contains_key(key)
+    }
+
+    /// The keys and values, in slot order.
+    ///
+    /// ```
+    /// # use odht::{configs::U64ToU32, HashTableOwned};
+    /// # let mut table = HashTableOwned::<U64ToU32>::default();
+    /// table.insert(&1, &2);
+    /// assert_eq!(table.iter().collect::<Vec<_>>(), [(1, 2)]);
+    /// ```
+    #[inline]
+    pub fn iter(&self) -> Iter<'_, C> {
+        Iter(self.0.iter())
+    }
+
+    /// The keys and values in the slots from `from` on, in slot order, each with its slot. There is none where `from` is
+    /// past the last slot.
+    ///
+    /// ```
+    /// # use odht::{configs::U64ToU32, HashTableOwned};
+    /// # let mut table = HashTableOwned::<U64ToU32>::default();
+    /// table.insert(&1, &2);
+    /// let (slot, pair) = table.iter_from(0).next().unwrap();
+    /// assert_eq!(pair, (1, 2));
+    /// assert!(table.iter_from(slot + 1).next().is_none());
+    /// ```
+    #[inline]
+    pub fn iter_from(&self, from: usize) -> Slots<'_, C> {
+        Slots::of(self.raw_bytes(), from)
+    }
+
+    /// How many items there are.
+    ///
+    /// ```
+    /// # use odht::{configs::U64ToU32, HashTableOwned};
+    /// # let mut table = HashTableOwned::<U64ToU32>::default();
+    /// table.insert(&1, &2);
+    /// assert_eq!(table.len(), 1);
+    /// ```
+    #[inline]
+    pub fn len(&self) -> usize {
+        self.0.len()
+    }
+
+    /// Whether there is no item.
+    ///
+    /// ```
+    /// # use odht::{configs::U64ToU32, HashTableOwned};
+    /// assert!(HashTableOwned::<U64ToU32>::default().is_empty());
+    /// ```
+    #[inline]
+    pub fn is_empty(&self) -> bool {
+        self.len() == 0
+    }
+
+    /// The bytes of the table, which can be stored as they are.
+    ///
+    /// ```
+    /// # use odht::{configs::U64ToU32, HashTableOwned};
+    /// # let mut table = HashTableOwned::<U64ToU32>::default();
+    /// assert_eq!(&table.raw_bytes()[..4], b"ODHT");
+    /// ```
+    #[inline]
+    pub fn raw_bytes(&self) -> &[u8] {
+        self.0.raw_bytes()
+    }
+
+    /// Whether some list of inserts, growths included, makes this table from an empty one of its load factor. Where one
+    /// does, `out` lists the occupied slots in such an order: their pairs, inserted in this order into an empty table of
+    /// as many slots and the same load factor, leave these very bytes. Where none does, what it writes means nothing.
+    ///
+    /// It takes no memory. There are at most as many passes over the items as there are slots that wait for one of a
+    /// higher number, and one more.
+    ///
+    /// ```
+    /// # use odht::{configs::U64ToU32, HashTableOwned};
+    /// # let mut table = HashTableOwned::<U64ToU32>::with_capacity(3, 95);
+    /// table.insert_all(&[(1, 2), (3, 4), (5, 6)]);
+    /// let mut slots = vec![0; table.len()];
+    /// assert!(table.insert_order(&mut slots));
+    ///
+    /// let mut again = HashTableOwned::<U64ToU32>::with_capacity(3, 95);
+    /// for slot in slots {
+    ///     let (_, (key, value)) = table.iter_from(slot).next().unwrap();
+    ///     again.insert(&key, &value);
+    /// }
+    /// assert_eq!(again.raw_bytes(), table.raw_bytes());
+    /// ```
+    ///
+    /// # Panics
+    ///
+    /// Where `out` does not have as many numbers as the table has items; and where the item count is not that of the
+    /// occupied slots, which only bytes that were opened unchecked can have.
+    pub fn insert_order(&self, out: &mut [usize]) -> bool {
+        assert_eq!(out.len(), self.len(), "`out` has a number for each item");
+        let occupied = Iter::<C>::occupied(self.raw_bytes());
+        assert_eq!(occupied, self.len(), "the item count is that of the occupied slots");
+        self.0.insert_order(out)
+    }
+}
+
+impl<C: Config> Default for HashTableOwned<C> {
+    /// An empty table made for twelve items at a load factor of 87 percent, which has sixteen slots.
+    fn default() -> Self {
+        Self::with_capacity(12, 87)
+    }
+}
+
+impl<C: Config> Clone for HashTableOwned<C> {
+    fn clone(&self) -> Self {
+        self.try_clone().unwrap_or_else(|e| refused(e, self.raw_bytes().len()))
+    }
+}
+
+impl<C: Config> fmt::Debug for HashTableOwned<C> {
+    /// The numbers of the header on a line, then each slot on one.
+    fn fmt(&self, f: &mut fmt::Formatter<'_>) -> fmt::Result {
+        self.0.fmt(f)
+    }
+}
+
+impl<'a, C: Config> IntoIterator for &'a HashTableOwned<C> {
+    type Item = (C::Key, C::Value);
+    type IntoIter = Iter<'a, C>;
+
+    #[inline]
+    fn into_iter(self) -> Iter<'a, C> {
+        self.iter()
+    }
+}

@@ -1,0 +1,8 @@
+// Made by `make rust` of crates/odht_base/src/bytes.rt.
+//! Byte arrays of a fixed length, which keys and values are encoded to, and stores of bytes, which hold tables.
+
+mod arrays;
+mod stores;
+
+pub use arrays::{read_u64, ByteArray};
+pub use stores::{write_slice, Borrowed, BorrowedMut, ByteStore, ByteStoreMut, OwnedBytes};

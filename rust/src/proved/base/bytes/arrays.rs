@@ -1,0 +1,86 @@
+// Made by `make rust` of crates/odht_base/src/bytes/arrays.rt.
+//! Byte arrays of a fixed length, which keys and values are encoded to.
+
+use std::fmt::Debug;
+
+/// An array of a fixed number of bytes, and nothing but these bytes: an encoded key or an encoded value.
+pub trait ByteArray: Sized + Copy + Eq + Debug + 'static {
+    /// How many bytes the array has.
+    const LEN: usize;
+
+    /// The array of zeros.
+    fn zeroed() -> Self;
+
+    /// The array of the bytes of `slice`, whose length is `LEN`.
+    fn from_slice(slice: &[u8]) -> Self;
+
+    /// The bytes.
+    fn as_slice(&self) -> &[u8];
+
+    /// Whether the bytes are equal.
+    fn equals(&self, other: &Self) -> bool;
+
+    /// Whether each byte is zero.
+    #[inline]
+    fn is_all_zeros(&self) -> bool {
+        self.as_slice().iter().all(|b| *b == 0)
+    }
+}
+
+impl<const LEN: usize> ByteArray for [u8; LEN] {
+    const LEN: usize = LEN;
+
+    #[inline]
+    fn zeroed() -> Self {
+        [0; LEN]
+    }
+
+    #[inline]
+    fn from_slice(slice: &[u8]) -> Self {
+        let Some(chunk) = slice.first_chunk::<LEN>() else { unreachable!() };
+        *chunk
+    }
+
+    #[inline]
+    fn as_slice(&self) -> &[u8] {
+        as_bytes(self)
+    }
+
+    // Arrays of one to four words are compared a word at a time.
+    #[inline]
+    fn equals(&self, other: &Self) -> bool {
+        let (left, right): (&[u8], &[u8]) = (self, other);
+        match LEN {
+            8 => is_same_word(left, right, 0),
+            16 => is_same_pair(left, right, 0),
+            24 => is_same_pair(left, right, 0) && is_same_word(left, right, 16),
+            32 => is_same_pair(left, right, 0) && is_same_pair(left, right, 16),
+            _ => *self == *other,
+        }
+    }
+}
+
+// The slice itself, of which each item is a byte.
+#[inline]
+fn as_bytes(slice: &[u8]) -> &[u8] {
+    slice
+}
+
+/// The number of the eight bytes from `at` on, lowest byte first, at any alignment.
+#[inline]
+pub fn read_u64(bytes: &[u8], at: usize) -> u64 {
+    let Some(chunk) = index!(bytes[at..at + 8]).first_chunk::<8>() else { unreachable!() };
+    u64::from_le_bytes(*chunk)
+}
+
+// Whether the eight bytes from `at` on are equal.
+#[inline]
+fn is_same_word(left: &[u8], right: &[u8], at: usize) -> bool {
+    read_u64(left, at) == read_u64(right, at)
+}
+
+// Whether the sixteen bytes from `at` on are equal.
+#[inline]
+fn is_same_pair(left: &[u8], right: &[u8], at: usize) -> bool {
+    is_same_word(left, right, at) && is_same_word(left, right, at + 8)
+}

@@ -1,0 +1,86 @@
+// Made by `make rust` of crates/odht_base/src/swisstable_group_query/lanes.rt.
+//! The search of sixteen control bytes at once, in the lanes of one vector.
+
+use super::mask::{lowest_bit, without_lowest_bit};
+use super::Group;
+use crate::shim::u8x16;
+
+/// How many control bytes are searched at once.
+pub const GROUP_SIZE: usize = 16;
+
+/// A search of sixteen control bytes. It iterates over its matches: exactly the indices of the tag.
+pub struct GroupQuery {
+    eq_mask: u64,
+    empty_mask: u64,
+}
+
+impl GroupQuery {
+    // Searches a group that is in lanes for a tag.
+    #[inline]
+    fn of_lanes(lanes: u8x16, h2: u8) -> GroupQuery {
+        GroupQuery {
+            eq_mask: lanes.simd_eq(u8x16::splat(h2)).to_bitmask(),
+            empty_mask: lanes.simd_ge(u8x16::splat(128)).to_bitmask(),
+        }
+    }
+
+    /// Searches a group for a tag, which is below 128.
+    #[inline]
+    pub fn from(group: &[u8; GROUP_SIZE], h2: u8) -> GroupQuery {
+        GroupQuery::of_lanes(u8x16::from_array(*group), h2)
+    }
+
+    /// Whether the group has a byte of 128 or more.
+    #[inline]
+    pub fn any_empty(&self) -> bool {
+        lowest_bit(self.empty_mask).is_some()
+    }
+
+    /// The least index of a byte of 128 or more, whether or not matches were dropped.
+    #[inline]
+    pub fn first_empty(&self) -> Option<usize> {
+        lowest_bit(self.empty_mask)
+    }
+}
+
+impl Group for GroupQuery {
+    const SIZE: usize = GROUP_SIZE;
+
+    /// Searches a group for a tag, which is below 128.
+    #[inline]
+    fn of(bytes: &[u8], h2: u8) -> GroupQuery {
+        GroupQuery::of_lanes(u8x16::from_slice(bytes), h2)
+    }
+
+    #[inline]
+    fn any_empty(&self) -> bool {
+        self.any_empty()
+    }
+
+    #[inline]
+    fn first_empty(&self) -> Option<usize> {
+        self.first_empty()
+    }
+
+    #[inline]
+    fn first_match(&self) -> Option<usize> {
+        lowest_bit(self.eq_mask)
+    }
+
+    #[inline]
+    fn drop_match(&mut self) {
+        self.eq_mask = without_lowest_bit(self.eq_mask);
+    }
+}
+
+impl Iterator for GroupQuery {
+    type Item = usize;
+
+    /// Takes the least match that is left.
+    #[inline]
+    fn next(&mut self) -> Option<usize> {
+        let index = self.first_match()?;
+        self.drop_match();
+        Some(index)
+    }
+}

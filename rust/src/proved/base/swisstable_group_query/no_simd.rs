@@ -1,0 +1,100 @@
+// Made by `make rust` of crates/odht_base/src/swisstable_group_query/no_simd.rt.
+//! The search of eight control bytes in one word of 64 bits.
+
+use super::mask::{lowest_bit, without_lowest_bit};
+use super::Group;
+
+/// How many control bytes are searched at once.
+pub const GROUP_SIZE: usize = 8;
+
+// One in each byte.
+const LOW_BITS: u64 = 0x0101_0101_0101_0101;
+
+// 128 in each byte.
+const HIGH_BITS: u64 = 0x8080_8080_8080_8080;
+
+/// A search of eight control bytes. It iterates over its matches.
+///
+/// Beside each byte that is the tag, a byte that differs from the tag in its lowest bit alone can match, but only where
+/// the byte before it matches too: the subtraction of that byte borrows from it.
+pub struct GroupQuery {
+    eq_mask: u64,
+    empty_mask: u64,
+}
+
+// The index of the lowest byte in which a bit is set.
+#[inline(always)]
+fn lowest_byte(mask: u64) -> Option<usize> {
+    match lowest_bit(mask) {
+        Some(position) => Some(position / 8),
+        None => None,
+    }
+}
+
+impl GroupQuery {
+    /// Searches a group for a tag, which is below 128.
+    #[inline]
+    pub fn from(group: &[u8; GROUP_SIZE], h2: u8) -> GroupQuery {
+        let group = u64::from_le_bytes(*group);
+        let cmp = group ^ (h2 as u64 * LOW_BITS);
+        GroupQuery {
+            eq_mask: cmp.wrapping_sub(LOW_BITS) & (!cmp & HIGH_BITS),
+            empty_mask: group & HIGH_BITS,
+        }
+    }
+
+    /// Whether the group has a byte of 128 or more.
+    #[inline]
+    pub fn any_empty(&self) -> bool {
+        lowest_byte(self.empty_mask).is_some()
+    }
+
+    /// The least index of a byte of 128 or more, whether or not matches were dropped.
+    #[inline]
+    pub fn first_empty(&self) -> Option<usize> {
+        lowest_byte(self.empty_mask)
+    }
+}
+
+impl Group for GroupQuery {
+    const SIZE: usize = GROUP_SIZE;
+
+    /// Searches a group for a tag, which is below 128.
+    #[inline]
+    fn of(bytes: &[u8], h2: u8) -> GroupQuery {
+        let Some(group) = bytes.first_chunk::<GROUP_SIZE>() else { unreachable!() };
+        GroupQuery::from(group, h2)
+    }
+
+    #[inline]
+    fn any_empty(&self) -> bool {
+        self.any_empty()
+    }
+
+    #[inline]
+    fn first_empty(&self) -> Option<usize> {
+        self.first_empty()
+    }
+
+    #[inline]
+    fn first_match(&self) -> Option<usize> {
+        lowest_byte(self.eq_mask)
+    }
+
+    #[inline]
+    fn drop_match(&mut self) {
+        self.eq_mask = without_lowest_bit(self.eq_mask);
+    }
+}
+
+impl Iterator for GroupQuery {
+    type Item = usize;
+
+    /// Takes the least match that is left.
+    #[inline]
+    fn next(&mut self) -> Option<usize> {
+        let index = self.first_match()?;
+        self.drop_match();
+        Some(index)
+    }
+}

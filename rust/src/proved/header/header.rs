@@ -1,0 +1,218 @@
+// Made by `make rust` of crates/odht_header/src/header.rt.
+//! The header of a table: its fields at their offsets, how it is written, and how it is checked.
+//!
+//! The fields are those of docs/FORMAT.md, "Layout".
+
+use crate::proved::header::bytes::{read_u64, write_slice, ByteArray};
+use crate::proved::header::config::Config;
+use crate::proved::header::error::{Error, Part};
+use crate::proved::header::load::{max_item_count_for, Factor};
+use crate::proved::header::sizes::table_len;
+use crate::proved::header::swisstable_group_query::REFERENCE_GROUP_SIZE;
+
+/// How many bytes the header has.
+pub const HEADER_SIZE: usize = 32;
+/// The first four bytes of each table.
+const HEADER_TAG: [u8; 4] = *b"ODHT";
+/// The version of the format that is written and read.
+const CURRENT_FILE_FORMAT_VERSION: [u8; 4] = [0, 0, 0, 2];
+// The offsets of the fields.
+const TAG_AT: usize = 0;
+
+const METADATA_SIZE_AT: usize = 4;
+
+const KEY_SIZE_AT: usize = 5;
+
+const VALUE_SIZE_AT: usize = 6;
+
+const HEADER_SIZE_AT: usize = 7;
+
+/// Where the item count begins in the header.
+pub const ITEM_COUNT_AT: usize = 8;
+
+const SLOT_COUNT_AT: usize = 16;
+
+const VERSION_AT: usize = 24;
+
+const LOAD_FACTOR_AT: usize = 28;
+
+const PADDING_AT: usize = 30;
+// How many bytes a control byte takes.
+const METADATA_SIZE: usize = 1;
+// The load factor of one percent, which is the least.
+const LEAST_FACTOR: u16 = 655;
+
+/// A reader of a table's header, field by field, at any alignment.
+pub struct Header<'a> {
+    bytes: &'a [u8],
+}
+
+impl<'a> Header<'a> {
+    /// The header of the bytes, of which there are at least 32.
+    #[inline]
+    pub fn of(bytes: &'a [u8]) -> Self {
+        Header { bytes }
+    }
+
+    /// Checks the header as that of a table of `raw_bytes_len` bytes, and answers the first error: `WrongTag`,
+    /// `WrongVersion`, `WrongSizeOf` of a control byte, key, value or header, `SlotCountNotPowerOfTwo`,
+    /// `SlotCountTooSmall`, `WrongLength`.
+    ///
+    /// The length of a table of the header's slot count is computed in 128 bits, so a forged slot count cannot make it
+    /// wrap.
+    #[inline(always)]
+    pub fn sanity_check<C: Config>(&self, raw_bytes_len: usize) -> Result<(), Error> {
+        self.check_tag()?;
+        self.check_version()?;
+        self.check_expected_size(METADATA_SIZE_AT, Part::EntryMetadata, METADATA_SIZE)?;
+        self.check_expected_size(KEY_SIZE_AT, Part::EncodedKey, C::EncodedKey::LEN)?;
+        self.check_expected_size(VALUE_SIZE_AT, Part::EncodedValue, C::EncodedValue::LEN)?;
+        self.check_expected_size(HEADER_SIZE_AT, Part::Header, HEADER_SIZE)?;
+        self.check_slot_count()?;
+        self.check_length::<C>(raw_bytes_len)
+    }
+
+    #[inline(always)]
+    fn check_tag(&self) -> Result<(), Error> {
+        let found = self.word(TAG_AT);
+        if found == HEADER_TAG {
+            Ok(())
+        } else {
+            Err(Error::WrongTag { found })
+        }
+    }
+
+    #[inline(always)]
+    fn check_version(&self) -> Result<(), Error> {
+        let found = self.word(VERSION_AT);
+        if found == CURRENT_FILE_FORMAT_VERSION {
+            Ok(())
+        } else {
+            Err(Error::WrongVersion { found })
+        }
+    }
+
+    // The four bytes from `at` on.
+    #[inline]
+    fn word(&self, at: usize) -> [u8; 4] {
+        let bytes = self.bytes;
+        [index!(bytes[at]), index!(bytes[at + 1]), index!(bytes[at + 2]), index!(bytes[at + 3])]
+    }
+
+    // Whether by the byte `at` the part has this size; else `WrongSizeOf`.
+    #[inline(always)]
+    fn check_expected_size(&self, at: usize, part: Part, expected: usize) -> Result<(), Error> {
+        let bytes = self.bytes;
+        let found = index!(bytes[at]);
+        if found as usize == expected {
+            Ok(())
+        } else {
+            Err(Error::WrongSizeOf { part, expected, found })
+        }
+    }
+
+    #[inline(always)]
+    fn check_slot_count(&self) -> Result<(), Error> {
+        let found = self.slot_count();
+        if !found.is_power_of_two() {
+            Err(Error::SlotCountNotPowerOfTwo { found })
+        } else if found < REFERENCE_GROUP_SIZE {
+            Err(Error::SlotCountTooSmall { found })
+        } else {
+            Ok(())
+        }
+    }
+
+    // Whether a table of the header's slot count has so many bytes; else `WrongLength`.
+    #[inline(always)]
+    fn check_length<C: Config>(&self, found: usize) -> Result<(), Error> {
+        let slot_count = self.slot_count();
+        let expected = table_len::<C>(slot_count);
+        if found as u128 == expected {
+            Ok(())
+        } else {
+            Err(Error::WrongLength { slot_count, found, expected })
+        }
+    }
+
+    /// Whether the load factor is at least that of one percent, 655; else `LoadFactorTooSmall`.
+    pub fn check_load_factor(&self) -> Result<(), Error> {
+        let Factor(found) = self.max_load_factor();
+        if found < LEAST_FACTOR {
+            Err(Error::LoadFactorTooSmall { found })
+        } else {
+            Ok(())
+        }
+    }
+
+    /// Whether the padding is two zeros; else `NonZeroPadding`.
+    pub fn check_padding(&self) -> Result<(), Error> {
+        let bytes = self.bytes;
+        let found = [index!(bytes[PADDING_AT]), index!(bytes[PADDING_AT + 1])];
+        if found == [0, 0] {
+            Ok(())
+        } else {
+            Err(Error::NonZeroPadding { found })
+        }
+    }
+
+    /// Whether the header's item count is the number of occupied slots found, and at most the maximum; else
+    /// `WrongItemCount`, then `TooManyItems`.
+    pub fn check_item_count(&self, found: usize) -> Result<(), Error> {
+        let stated = self.item_count();
+        if stated != found {
+            return Err(Error::WrongItemCount { stated, found });
+        }
+        let max = max_item_count_for(self.slot_count(), self.max_load_factor());
+        if max < stated {
+            return Err(Error::TooManyItems { count: stated, max });
+        }
+        Ok(())
+    }
+
+    /// The header's item count.
+    #[inline]
+    pub fn item_count(&self) -> usize {
+        let bytes = self.bytes;
+        read_u64(bytes, ITEM_COUNT_AT) as usize
+    }
+
+    /// The header's slot count.
+    #[inline]
+    pub fn slot_count(&self) -> usize {
+        let bytes = self.bytes;
+        read_u64(bytes, SLOT_COUNT_AT) as usize
+    }
+
+    /// The header's load factor.
+    #[inline]
+    pub fn max_load_factor(&self) -> Factor {
+        let bytes = self.bytes;
+        Factor(u16::from_le_bytes([
+            index!(bytes[LOAD_FACTOR_AT]),
+            index!(bytes[LOAD_FACTOR_AT + 1]),
+        ]))
+    }
+}
+
+/// Writes the header of a table of `slot_count` slots with the item count `item_count`: all of its 32 bytes.
+pub fn write_header<C: Config>(
+    header: &mut [u8],
+    slot_count: usize,
+    item_count: usize,
+    max_load_factor: Factor,
+) {
+    let sizes = [
+        METADATA_SIZE as u8,
+        C::EncodedKey::LEN as u8,
+        C::EncodedValue::LEN as u8,
+        HEADER_SIZE as u8,
+    ];
+    write_slice(header, TAG_AT, &HEADER_TAG);
+    write_slice(header, METADATA_SIZE_AT, &sizes);
+    write_slice(header, ITEM_COUNT_AT, &(item_count as u64).to_le_bytes());
+    write_slice(header, SLOT_COUNT_AT, &(slot_count as u64).to_le_bytes());
+    write_slice(header, VERSION_AT, &CURRENT_FILE_FORMAT_VERSION);
+    write_slice(header, LOAD_FACTOR_AT, &max_load_factor.0.to_le_bytes());
+    write_slice(header, PADDING_AT, &[0, 0]);
+}

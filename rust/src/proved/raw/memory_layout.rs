@@ -1,0 +1,15 @@
+// Made by `make rust` of crates/odht_raw/src/memory_layout.rt.
+//! The bytes of a table: the header, the entries, and the control bytes with their mirror.
+//!
+//! Offsets and lengths are those of docs/FORMAT.md, "Layout".
+
+mod allocation;
+mod check;
+mod new_tables;
+
+pub use crate::proved::header::header::{write_header, Header, HEADER_SIZE};
+pub use crate::proved::header::sizes::{bytes_needed, entry_at, layout_for};
+pub use crate::proved::raw::raw_table::{Entries, EntryMetadata};
+pub use allocation::Allocation;
+pub use check::check_all;
+pub use new_tables::{allocate, init_in_place};

@@ -1,0 +1,103 @@
+// Made by `make rust` of crates/odht_raw/src/memory_layout/allocation/batches.rt.
+//! Inserts of a list of items into the parts of a table, eight at a time where the table is large.
+
+use super::lists::insert_into_parts;
+use crate::proved::raw::bytes::ByteArray;
+use crate::proved::raw::config::Config;
+use crate::proved::raw::items::Items;
+use crate::proved::raw::memory_layout::EntryMetadata;
+use crate::proved::raw::raw_table::{expected_slot, insert_expected};
+use crate::proved::raw::swisstable_group_query::{GroupQuery, REFERENCE_GROUP_SIZE};
+
+// How many keys are looked up ahead.
+const BATCH: usize = 8;
+
+// The least slot count at which keys are looked up ahead. The control bytes of smaller tables are in a near cache.
+const LARGE: usize = 1 << 20;
+
+// `insert_into_parts`, in batches of eight items where the table is large.
+#[inline(always)]
+pub(super) fn insert_by_size<C: Config, I: Items<C::Key, C::Value>>(
+    control: &mut [EntryMetadata],
+    entries: &mut [u8],
+    items: &I,
+    from: usize,
+    to: usize,
+) -> (usize, usize) {
+    if control.len() - REFERENCE_GROUP_SIZE >= LARGE {
+        return insert_in_batches::<C, I>(control, entries, items, from, to);
+    }
+    insert_into_parts::<C, I>(control, entries, items, from, to)
+}
+
+// `insert_into_parts`, in batches of eight items.
+#[inline(never)]
+fn insert_in_batches<C: Config, I: Items<C::Key, C::Value>>(
+    control: &mut [EntryMetadata],
+    entries: &mut [u8],
+    items: &I,
+    from: usize,
+    to: usize,
+) -> (usize, usize) {
+    let mut index = from;
+    let mut added = 0;
+    while to - index >= BATCH {
+        let (end, more) = insert_batch::<C, I>(control, entries, items, index);
+        added += more;
+        if end < index + BATCH {
+            return (end, added);
+        }
+        index = end;
+    }
+    let (end, more) = insert_into_parts::<C, I>(control, entries, items, index, to);
+    (end, added + more)
+}
+
+// `insert_into_parts` of the eight items from `from` on. Their slots are looked up first, and no look-up depends on
+// another one.
+#[inline(always)]
+fn insert_batch<C: Config, I: Items<C::Key, C::Value>>(
+    control: &mut [EntryMetadata],
+    entries: &mut [u8],
+    items: &I,
+    from: usize,
+) -> (usize, usize) {
+    let ahead = look_ahead::<C, I>(control, items, from);
+    let mut added = 0;
+    for offset in 0..BATCH {
+        let (key, value) = items.at(from + offset);
+        let key = C::encode_key(key);
+        let value = C::encode_value(value);
+        // Key and value each have as many bytes as their type says.
+        let _ = key.as_slice();
+        let _ = value.as_slice();
+        let (hash, slot) = index!(ahead[offset]);
+        let answer = insert_expected::<C::EncodedKey, C::EncodedValue, C::H>(
+            control, entries, key, value, hash, slot,
+        );
+        let Ok(former) = answer else {
+            return (from + offset, added);
+        };
+        if former.is_none() {
+            added += 1;
+        }
+    }
+    (from + BATCH, added)
+}
+
+// The hashes of the keys of the eight items from `from` on, and the slots where their searches are expected to end.
+#[inline(always)]
+fn look_ahead<C: Config, I: Items<C::Key, C::Value>>(
+    control: &[EntryMetadata],
+    items: &I,
+    from: usize,
+) -> [(u32, usize); 8] {
+    let mut ahead = [(0, 0); 8];
+    for offset in 0..BATCH {
+        let (key, _) = items.at(from + offset);
+        let key = C::encode_key(key);
+        index_mut!(ahead[offset]) =
+            expected_slot::<C::EncodedKey, C::EncodedValue, C::H, GroupQuery>(control, &key);
+    }
+    ahead
+}

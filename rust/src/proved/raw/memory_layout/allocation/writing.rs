@@ -1,0 +1,42 @@
+// Made by `make rust` of crates/odht_raw/src/memory_layout/allocation/writing.rt.
+//! The writes of an insert to the bytes of a table: an entry with its tag, a value alone, and the item count.
+
+use super::Allocation;
+use crate::proved::header::header::ITEM_COUNT_AT;
+use crate::proved::raw::bytes::{ByteArray, ByteStoreMut};
+use crate::proved::raw::config::Config;
+use crate::proved::raw::memory_layout::{entry_at, EntryMetadata};
+use crate::proved::raw::writes;
+
+impl<C: Config, M: ByteStoreMut> Allocation<C, M> {
+    /// Writes the header's item count. No other byte changes.
+    #[inline]
+    pub fn set_item_count(&mut self, item_count: usize) {
+        let store = &mut self.store;
+        store.write_at(ITEM_COUNT_AT, &(item_count as u64).to_le_bytes());
+    }
+
+    /// Writes the pair into the entry of a slot, and the tag into its control byte and, for a slot below 16, its
+    /// mirror. The item count stays. The clause `pair` says that key and value have the lengths of the format.
+    #[inline(always)]
+    pub fn write_entry(
+        &mut self,
+        slot: usize,
+        key: &C::EncodedKey,
+        value: &C::EncodedValue,
+        tag: EntryMetadata,
+    ) {
+        let slots = self.header().slot_count();
+        let store = &mut self.store;
+        writes::write_pair(store, entry_at::<C>(slot), key, value);
+        writes::write_tag(store, entry_at::<C>(slots), slots, slot, tag);
+    }
+
+    /// Writes the value alone into the entry of a slot. No other byte changes. The clause `value` says that it has the
+    /// length of the format.
+    #[inline(always)]
+    pub fn write_value(&mut self, slot: usize, value: &C::EncodedValue) {
+        let store = &mut self.store;
+        store.write_at(entry_at::<C>(slot) + C::EncodedKey::LEN, value.as_slice());
+    }
+}

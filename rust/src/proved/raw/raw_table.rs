@@ -1,0 +1,146 @@
+// Made by `make rust` of crates/odht_raw/src/raw_table.rt.
+//! The parts of a table, control bytes and entries, and searches, inserts and walks in them.
+//!
+//! Where a comment says "on the parts of a table whose keys are all reached", its clause says `IsPartsOf`: no key is in
+//! two slots, the search for each key ends at its slot, and control bytes, mirror and entries are those of the table.
+
+use crate::proved::raw::bytes::ByteArray;
+use crate::proved::raw::error::Error;
+use crate::proved::raw::hash::HashFn;
+use crate::proved::raw::swisstable_group_query::{Group, GroupQuery};
+use std::marker::PhantomData;
+
+mod ahead;
+mod check;
+mod dump;
+mod entries;
+mod first_look;
+mod free_search;
+mod group_search;
+mod insert_order;
+mod plain;
+mod probe_seq;
+mod scan;
+mod search_result;
+mod table_mut;
+mod walk;
+mod writes;
+
+pub(crate) use ahead::{expected_slot, insert_expected};
+pub use entries::{Entries, Entry};
+pub use first_look::FirstLook;
+pub use group_search::{search, search_hashed};
+pub use plain::{plain_find, plain_insert};
+pub use probe_seq::{probe_order, ProbeSeq};
+pub use scan::Scan;
+pub use search_result::Search;
+pub use table_mut::RawTableMut;
+pub use walk::{RawIter, RawSlots};
+
+/// A control byte: the tag of an occupied slot, which is below 128, or `FREE`.
+pub type EntryMetadata = u8;
+
+/// The control byte of a free slot.
+pub const FREE: EntryMetadata = 255;
+
+// The least control byte that counts as free: one above each tag.
+const LEAST_FREE: EntryMetadata = 128;
+
+// How many low bits of a hash are not part of its tag.
+const TAG_SHIFT: u32 = 25;
+
+/// Whether a control byte counts as free. The name is that of the Rust crate; no slot is ever deleted.
+#[inline]
+pub(crate) fn is_empty_or_deleted(control: EntryMetadata) -> bool {
+    control >= LEAST_FREE
+}
+
+/// The tag of a key with this hash: the seven highest bits of the hash.
+#[inline]
+pub fn tag_of(hash: u32) -> u8 {
+    (hash >> TAG_SHIFT) as u8
+}
+
+/// The parts of a table, borrowed to be read: the control bytes with their mirror, and the entries of as many slots.
+pub struct RawTable<'a, K: ByteArray, V: ByteArray, H: HashFn> {
+    control: &'a [EntryMetadata],
+    entries: Entries<'a, K, V>,
+    hash: PhantomData<H>,
+}
+
+impl<'a, K: ByteArray, V: ByteArray, H: HashFn> RawTable<'a, K, V, H> {
+    /// The table of these parts. No control byte and no entry is checked.
+    #[inline]
+    pub fn new(control: &'a [EntryMetadata], entries: Entries<'a, K, V>) -> Self {
+        RawTable { control, entries, hash: PhantomData }
+    }
+
+    /// The value stored with the key, searched for group by group along the probe order (docs/FORMAT.md, "Search").
+    ///
+    /// On the parts of a table whose keys are all reached it is the map's answer. On any parts it is a value that is
+    /// stored with an equal key. `find_counted` says how many groups that takes.
+    #[inline]
+    pub fn find(&self, key: &K) -> Option<V> {
+        let (value, _) = self.find_counted(key);
+        value
+    }
+
+    /// `find`, and how many groups were read: on the parts of a table whose keys are all reached those up to the first
+    /// slot that is free or holds the key, and on any parts at most all groups. How they are counted: docs/FORMAT.md,
+    /// "Search".
+    #[inline]
+    pub fn find_counted(&self, key: &K) -> (Option<V>, usize) {
+        self.find_counted_by::<GroupQuery>(key)
+    }
+
+    /// `find_counted` by a group search of the caller's choice. All searches give the same.
+    #[inline]
+    pub fn find_counted_by<Q: Group>(&self, key: &K) -> (Option<V>, usize) {
+        let mut scan = Scan::new(self.control, self.entries.len());
+        let end = search::<K, V, H, Q>(&mut scan, &self.entries, key);
+        let groups = scan.groups();
+        match end {
+            Search::Found(slot) => (Some(self.entries.get(slot).value), groups),
+            Search::Free(_) => (None, groups),
+            Search::Neither => (None, groups),
+        }
+    }
+
+    /// The control byte and the entry of each slot whose own control byte does not count as free, in slot order.
+    #[inline]
+    pub fn iter(&self) -> RawIter<'a, K, V> {
+        RawIter::new(self.control, self.entries.copy())
+    }
+
+    /// Checks the first `slots_to_check` slots, or all where there are fewer, and answers the first error:
+    /// `NonZeroEmpty` of a slot that counts as free, `ControlMismatch` of any other.
+    ///
+    /// A mismatch can mean that the bytes were written with another hash function.
+    #[inline(always)]
+    pub fn sanity_check_hashes(&self, slots_to_check: usize) -> Result<(), Error> {
+        let slots = slots_to_check.min(self.entries.len());
+        for slot in 0..slots {
+            self.check_slot(slot)?;
+        }
+        Ok(())
+    }
+
+    // What opening checks of one slot. Answers the hash of the key where the slot does not count as free.
+    #[inline(always)]
+    fn check_slot(&self, slot: usize) -> Result<Option<u32>, Error> {
+        let found = index!(self.control[slot]);
+        let entry = self.entries.get(slot);
+        if is_empty_or_deleted(found) {
+            if entry.key.is_all_zeros() && entry.value.is_all_zeros() {
+                return Ok(None);
+            }
+            return Err(Error::NonZeroEmpty { slot });
+        }
+        let hash = H::hash(entry.key.as_slice());
+        let expected = tag_of(hash);
+        if found != expected {
+            return Err(Error::ControlMismatch { slot, expected, found });
+        }
+        Ok(Some(hash))
+    }
+}

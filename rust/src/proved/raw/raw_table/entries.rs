@@ -1,0 +1,61 @@
+// Made by `make rust` of crates/odht_raw/src/raw_table/entries.rt.
+//! The entries of a table, read from their bytes.
+
+use crate::proved::raw::bytes::ByteArray;
+use std::marker::PhantomData;
+
+/// An entry: an encoded key and its encoded value, as a slot holds them.
+#[derive(Clone, Copy, PartialEq, Eq, Debug)]
+pub struct Entry<K: ByteArray, V: ByteArray> {
+    /// The encoded key.
+    pub key: K,
+    /// The encoded value.
+    pub value: V,
+}
+
+impl<K: ByteArray, V: ByteArray> Default for Entry<K, V> {
+    /// The entry of a free slot: zeros.
+    #[inline]
+    fn default() -> Self {
+        Entry { key: K::zeroed(), value: V::zeroed() }
+    }
+}
+
+/// The entries of a number of slots, read from their bytes at any alignment.
+pub struct Entries<'a, K: ByteArray, V: ByteArray> {
+    bytes: &'a [u8],
+    slots: usize,
+    types: PhantomData<(K, V)>,
+}
+
+impl<'a, K: ByteArray, V: ByteArray> Entries<'a, K, V> {
+    /// The entries of `slots` slots in `bytes`, key then value, slot by slot.
+    #[inline]
+    pub fn new(bytes: &'a [u8], slots: usize) -> Self {
+        Entries { bytes, slots, types: PhantomData }
+    }
+
+    // A second reader of the same entries.
+    #[inline]
+    pub(crate) fn copy(&self) -> Self {
+        Entries { bytes: self.bytes, slots: self.slots, types: PhantomData }
+    }
+
+    /// How many slots there are.
+    #[inline]
+    pub fn len(&self) -> usize {
+        self.slots
+    }
+
+    /// The entry of a slot.
+    #[inline]
+    pub fn get(&self, slot: usize) -> Entry<K, V> {
+        let bytes = self.bytes;
+        let at = slot * (K::LEN + V::LEN);
+        let entry = &index!(bytes[at..at + K::LEN + V::LEN]);
+        Entry {
+            key: K::from_slice(&index!(entry[..K::LEN])),
+            value: V::from_slice(&index!(entry[K::LEN..])),
+        }
+    }
+}

@@ -1,0 +1,61 @@
+// Made by `make rust` of crates/odht_raw/src/raw_table/first_look.rt.
+//! The first look of a search. To look up many keys, take the first looks of several keys before the first search ends:
+//! then their memory accesses overlap.
+
+use super::{search_hashed, tag_of, RawTable, Scan, Search};
+use crate::proved::raw::bytes::ByteArray;
+use crate::proved::raw::hash::HashFn;
+use crate::proved::raw::swisstable_group_query::{lanes, Group, GroupQuery, REFERENCE_GROUP_SIZE};
+
+/// The hash of a key, and what the group of control bytes at its home slot has: the matches of the tag, and the first
+/// byte that counts as free. It is for the table and the key of which it was taken, and for no others.
+pub struct FirstLook {
+    hash: u32,
+    group: lanes::GroupQuery,
+}
+
+impl<'a, K: ByteArray, V: ByteArray, H: HashFn> RawTable<'a, K, V, H> {
+    /// The first look of the search for a key, from which [`RawTable::find_from`] goes on. It hashes the key and reads
+    /// one group of control bytes, and no entry.
+    #[inline(always)]
+    pub fn first_look(&self, key: &K) -> FirstLook {
+        let mask = self.entries.len() - 1;
+        let hash = H::hash(key.as_slice());
+        let home = hash as usize & mask;
+        let bytes = &index!(self.control[home..home + REFERENCE_GROUP_SIZE]);
+        FirstLook { hash, group: lanes::GroupQuery::of(bytes, tag_of(hash)) }
+    }
+
+    /// `find` of a key whose first look was taken.
+    ///
+    /// The matches of the look are compared in turn. Where none holds the key and the group has no free byte, the
+    /// search goes through the groups from the first on, so the first group is read twice.
+    #[inline(always)]
+    pub fn find_from(&self, look: FirstLook, key: &K) -> Option<V> {
+        let mask = self.entries.len() - 1;
+        let home = look.hash as usize & mask;
+        let FirstLook { hash, mut group } = look;
+        while let Some(index) = group.first_match() {
+            let entry = self.entries.get((home + index) & mask);
+            if entry.key.equals(key) {
+                return Some(entry.value);
+            }
+            group.drop_match();
+        }
+        if group.any_empty() {
+            return None;
+        }
+        match self.search_far(key, hash) {
+            Search::Found(slot) => Some(self.entries.get(slot).value),
+            Search::Free(_) => None,
+            Search::Neither => None,
+        }
+    }
+
+    // The search from its first group on, for a key whose search does not end within its first look.
+    #[inline(never)]
+    fn search_far(&self, key: &K, hash: u32) -> Search {
+        let mut scan = Scan::new(self.control, self.entries.len());
+        search_hashed::<K, V, H, GroupQuery>(&mut scan, &self.entries, key, hash)
+    }
+}

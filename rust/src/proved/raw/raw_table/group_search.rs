@@ -1,0 +1,98 @@
+// Made by `make rust` of crates/odht_raw/src/raw_table/group_search.rt.
+//! The search by groups of control bytes along the probe order.
+
+use super::{tag_of, Entries, EntryMetadata, ProbeSeq, Scan, Search};
+use crate::proved::raw::bytes::ByteArray;
+use crate::proved::raw::hash::HashFn;
+use crate::proved::raw::swisstable_group_query::{Group, REFERENCE_GROUP_SIZE};
+
+/// Searches for the key group by group along its probe order, and stops at the first slot that is free or holds it.
+///
+/// On the parts of a table whose keys are all reached the answer is the slot where a search slot by slot ends, which is
+/// where a pair with the key is placed, and exactly the groups up to this slot are read. On any parts `Found` is a slot
+/// whose entry has an equal key, `Free` is a slot that counts as free, `Neither` is answered only where each slot
+/// counts as occupied, by its control byte or its mirror; at no slot before in the probe order could the search have
+/// ended; and no more groups are read than there are. All this holds for every group search. The rules are those of
+/// docs/FORMAT.md, "Search".
+#[inline]
+pub fn search<K: ByteArray, V: ByteArray, H: HashFn, Q: Group>(
+    scan: &mut Scan<'_>,
+    entries: &Entries<'_, K, V>,
+    key: &K,
+) -> Search {
+    let hash = H::hash(key.as_slice());
+    search_hashed::<K, V, H, Q>(scan, entries, key, hash)
+}
+
+/// `search` of a key whose hash is known.
+#[inline]
+pub fn search_hashed<K: ByteArray, V: ByteArray, H: HashFn, Q: Group>(
+    scan: &mut Scan<'_>,
+    entries: &Entries<'_, K, V>,
+    key: &K,
+    hash: u32,
+) -> Search {
+    let tag = tag_of(hash);
+    let mask = scan.slots() - 1;
+    let mut probe = ProbeSeq::<REFERENCE_GROUP_SIZE>::new(hash as usize, mask);
+    loop {
+        let start = probe.index();
+        let bytes = scan.group(start);
+        if let Some(end) = look_at_group::<K, V, H, Q>(bytes, start, entries, key, tag) {
+            return end;
+        }
+        if probe.is_last() {
+            return Search::Neither;
+        }
+        probe.advance(mask);
+    }
+}
+
+// Searches the sixteen slots from `start` on, whose control bytes are `bytes`, in pieces of the group search's size.
+#[inline]
+fn look_at_group<K: ByteArray, V: ByteArray, H: HashFn, Q: Group>(
+    bytes: &[EntryMetadata],
+    start: usize,
+    entries: &Entries<'_, K, V>,
+    key: &K,
+    tag: u8,
+) -> Option<Search> {
+    for piece in 0..REFERENCE_GROUP_SIZE / Q::SIZE {
+        let at = piece * Q::SIZE;
+        let end = look_at_piece::<K, V, H, Q>(
+            &index!(bytes[at..at + Q::SIZE]),
+            start + at,
+            entries,
+            key,
+            tag,
+        );
+        if end.is_some() {
+            return end;
+        }
+    }
+    None
+}
+
+// Searches the slots from `start` on, modulo the slot count, whose control bytes are `bytes`.
+#[inline]
+fn look_at_piece<K: ByteArray, V: ByteArray, H: HashFn, Q: Group>(
+    bytes: &[EntryMetadata],
+    start: usize,
+    entries: &Entries<'_, K, V>,
+    key: &K,
+    tag: u8,
+) -> Option<Search> {
+    let mask = entries.len() - 1;
+    let mut group = Q::of(bytes, tag);
+    while let Some(index) = group.first_match() {
+        let slot = (start + index) & mask;
+        if entries.get(slot).key.equals(key) {
+            return Some(Search::Found(slot));
+        }
+        group.drop_match();
+    }
+    match group.first_empty() {
+        Some(index) => Some(Search::Free((start + index) & mask)),
+        None => None,
+    }
+}

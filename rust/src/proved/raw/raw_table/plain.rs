@@ -1,0 +1,77 @@
+// Made by `make rust` of crates/odht_raw/src/raw_table/plain.rt.
+//! The search slot by slot along the probe order, and find and insert by it: the reference forms of the searches by
+//! groups.
+
+use super::writes::insert_at;
+use super::{is_empty_or_deleted, tag_of, Entries, EntryMetadata, Search};
+use crate::proved::raw::bytes::ByteArray;
+use crate::proved::raw::error::Error;
+use crate::proved::raw::hash::HashFn;
+use crate::proved::raw::swisstable_group_query::REFERENCE_GROUP_SIZE;
+
+/// The value stored with the key, searched for slot by slot along the probe order.
+///
+/// On the parts of a table whose keys are all reached it is the map's answer. On any parts it is a value that is stored
+/// with an equal key. Each slot is read at most once.
+pub fn plain_find<K: ByteArray, V: ByteArray, H: HashFn>(
+    control: &[EntryMetadata],
+    entries: &Entries<'_, K, V>,
+    key: &K,
+) -> Option<V> {
+    let hash = H::hash(key.as_slice());
+    match plain_search::<K, V, H>(control, entries, key, hash) {
+        Search::Found(slot) => Some(entries.get(slot).value),
+        Search::Free(_) => None,
+        Search::Neither => None,
+    }
+}
+
+/// Overwrites the value stored with the key, or writes the pair into the first free slot of the key's probe order:
+/// entry, tag, and for a slot below 16 the mirror. Answers the former value.
+///
+/// On the parts of a table whose keys are all reached it leaves the parts of the table with the pair placed, and
+/// answers `Full`, with nothing changed, exactly where each slot is occupied and none has the key. On any parts either
+/// one value stored with an equal key is overwritten, or one entry is written with its tag into a slot that counted as
+/// free, and no other byte changes; `Full` is answered only where each slot counts as occupied.
+pub fn plain_insert<K: ByteArray, V: ByteArray, H: HashFn>(
+    control: &mut [EntryMetadata],
+    entries: &mut [u8],
+    key: K,
+    value: V,
+) -> Result<Option<V>, Error> {
+    let slots = control.len() - REFERENCE_GROUP_SIZE;
+    let hash = H::hash(key.as_slice());
+    let stored: Entries<'_, K, V> = Entries::new(entries, slots);
+    let end = plain_search::<K, V, H>(control, &stored, &key, hash);
+    insert_at::<K, V, H>(control, entries, key, value, tag_of(hash), end)
+}
+
+// Searches for the key with this hash slot by slot along its probe order, and stops at the first slot that is free or
+// holds it.
+#[inline]
+fn plain_search<K: ByteArray, V: ByteArray, H: HashFn>(
+    control: &[EntryMetadata],
+    entries: &Entries<'_, K, V>,
+    key: &K,
+    hash: u32,
+) -> Search {
+    let slots = entries.len();
+    for position in 0..slots {
+        let slot = slot_at(hash, slots, position);
+        if is_empty_or_deleted(control[slot]) {
+            return Search::Free(slot);
+        }
+        if entries.get(slot).key.equals(key) {
+            return Search::Found(slot);
+        }
+    }
+    Search::Neither
+}
+
+// The slot at a position of the probe order of a hash.
+#[inline]
+fn slot_at(hash: u32, slots: usize, position: usize) -> usize {
+    let group = (position / REFERENCE_GROUP_SIZE) as u128;
+    let from_home = 8 * group * (group + 1) + (position % REFERENCE_GROUP_SIZE) as u128;
+    ((hash as u128 + from_home) & (slots as u128 - 1)) as usize
+}

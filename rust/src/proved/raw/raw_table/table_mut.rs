@@ -1,0 +1,109 @@
+// Made by `make rust` of crates/odht_raw/src/raw_table/table_mut.rt.
+//! The parts of a table, borrowed to be written.
+
+use super::free_search::first_free;
+use super::writes::{insert_at, write_entry};
+use super::{search_hashed, tag_of, Entries, EntryMetadata, RawTable, Scan};
+use crate::proved::raw::bytes::ByteArray;
+use crate::proved::raw::error::Error;
+use crate::proved::raw::hash::HashFn;
+use crate::proved::raw::swisstable_group_query::{Group, GroupQuery, REFERENCE_GROUP_SIZE};
+use std::fmt;
+use std::marker::PhantomData;
+
+/// The parts of a table, borrowed to be written: the control bytes with their mirror, and the bytes of as many entries.
+///
+/// After the borrow both slices hold what the inserts left in them.
+pub struct RawTableMut<'c, 'e, K: ByteArray, V: ByteArray, H: HashFn> {
+    control: &'c mut [EntryMetadata],
+    entries: &'e mut [u8],
+    types: PhantomData<(K, V, H)>,
+}
+
+impl<'c, 'e, K: ByteArray, V: ByteArray, H: HashFn> RawTableMut<'c, 'e, K, V, H> {
+    /// The table of these parts. No control byte and no entry is checked or written.
+    #[inline]
+    pub fn new(control: &'c mut [EntryMetadata], entries: &'e mut [u8]) -> Self {
+        RawTableMut { control, entries, types: PhantomData }
+    }
+
+    /// Overwrites the value stored with the key, or writes the pair into the first free slot of the key's probe order,
+    /// as `plain_insert` does. Answers the former value.
+    ///
+    /// On the parts of a table whose keys are all reached it leaves the parts of the table with the pair placed, and
+    /// answers `Full`, with nothing changed, exactly where each slot is occupied and none has the key. On any parts
+    /// either one value stored with an equal key is overwritten, or one entry is written with its tag into a slot that
+    /// counted as free, and no other byte changes; `Full` is answered only where each slot counts as occupied and the
+    /// search does not find the key.
+    #[inline(always)]
+    pub fn insert(&mut self, key: K, value: V) -> Result<Option<V>, Error> {
+        self.insert_by::<GroupQuery>(key, value)
+    }
+
+    /// `insert` by a group search of the caller's choice. All searches leave the same parts.
+    #[inline(always)]
+    pub fn insert_by<Q: Group>(&mut self, key: K, value: V) -> Result<Option<V>, Error> {
+        insert_parts::<K, V, H, Q>(self.control, self.entries, key, value)
+    }
+
+    /// Writes the pair into the first free slot of its key's probe order. No key is compared, so it is for a key that
+    /// the table does not have.
+    ///
+    /// On the parts of a table whose keys are all reached, and none of which is this key, it leaves the parts of the
+    /// table with the pair placed, and answers `Full`, with nothing changed, exactly where each slot is occupied. On
+    /// any parts the entry is written with its tag into the first slot of the order that counted as free, and no other
+    /// byte changes; `Full` is answered only where each slot counts as occupied.
+    #[inline(always)]
+    pub fn place(&mut self, key: K, value: V) -> Result<(), Error> {
+        self.place_by::<GroupQuery>(key, value)
+    }
+
+    /// `place` by a group search of the caller's choice. All searches leave the same parts.
+    #[inline(always)]
+    pub fn place_by<Q: Group>(&mut self, key: K, value: V) -> Result<(), Error> {
+        place_parts::<K, V, H, Q>(self.control, self.entries, key, value)
+    }
+}
+
+// `insert_by` on the slices themselves, since a scan that borrows a slice from `self` cannot be kept while `self` is
+// written.
+#[inline(always)]
+fn insert_parts<K: ByteArray, V: ByteArray, H: HashFn, Q: Group>(
+    control: &mut [EntryMetadata],
+    entries: &mut [u8],
+    key: K,
+    value: V,
+) -> Result<Option<V>, Error> {
+    let slots = control.len() - REFERENCE_GROUP_SIZE;
+    let hash = H::hash(key.as_slice());
+    let stored: Entries<'_, K, V> = Entries::new(entries, slots);
+    let mut scan = Scan::new(control, slots);
+    let end = search_hashed::<K, V, H, Q>(&mut scan, &stored, &key, hash);
+    insert_at::<K, V, H>(control, entries, key, value, tag_of(hash), end)
+}
+
+// `place_by` on the slices themselves.
+#[inline(always)]
+fn place_parts<K: ByteArray, V: ByteArray, H: HashFn, Q: Group>(
+    control: &mut [EntryMetadata],
+    entries: &mut [u8],
+    key: K,
+    value: V,
+) -> Result<(), Error> {
+    let hash = H::hash(key.as_slice());
+    let Some(slot) = first_free::<Q>(control, hash) else {
+        return Err(Error::Full);
+    };
+    write_entry::<K, V, H>(control, entries, &key, &value, tag_of(hash), slot);
+    Ok(())
+}
+
+impl<'c, 'e, K: ByteArray, V: ByteArray, H: HashFn> fmt::Debug for RawTableMut<'c, 'e, K, V, H> {
+    // The same text as that of the `RawTable` of these parts.
+    fn fmt(&self, f: &mut fmt::Formatter<'_>) -> fmt::Result {
+        let slots = self.control.len() - REFERENCE_GROUP_SIZE;
+        let entries = Entries::new(self.entries, slots);
+        let table: RawTable<'_, K, V, H> = RawTable::new(self.control, entries);
+        write!(f, "{table:?}")
+    }
+}

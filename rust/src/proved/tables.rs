@@ -1,0 +1,20 @@
+// Made by `make rust` of crates/odht/src/lib.rt.
+//! `odht`: a hash table that is used in the form in which it is stored.
+//!
+//! [`HashTableOwned`] owns its bytes and grows; [`HashTable`] is a view of bytes of any kind, and does not grow. Both
+//! have the bytes of docs/FORMAT.md.
+
+pub use crate::proved::base::hash::{FxHashFn, HashFn, UnHashFn};
+pub use crate::proved::base::{bytes, hash, load, swisstable_group_query};
+pub use crate::proved::raw::config::Config;
+pub use crate::proved::raw::{config, error, items, memory_layout, raw_table};
+pub use hash_table::{bytes_needed, HashTable};
+pub use hash_table_owned::HashTableOwned;
+pub use iter::{Iter, Slots};
+
+pub mod configs;
+mod growth;
+mod hash_table;
+mod hash_table_owned;
+mod iter;
+pub mod lookups;

@@ -1,0 +1,54 @@
+// Made by `make rust` of crates/odht/src/hash_table/lists.rt.
+//! Lists of inserts into the table over bytes of any kind.
+
+use super::HashTable;
+use crate::proved::tables::bytes::ByteStoreMut;
+use crate::proved::tables::config::Config;
+use crate::proved::tables::error::Error;
+use crate::proved::tables::items::Items;
+
+impl<C: Config, D: ByteStoreMut> HashTable<C, D> {
+    /// Inserts the items from index `from` on in their order, as many as there is room for below the maximum, and
+    /// returns the index of the first that was not inserted. On any bytes, with the count and the maximum of the
+    /// header, it stops earlier only where each slot counts as occupied.
+    #[inline(always)]
+    pub(crate) fn insert_below_maximum<I: Items<C::Key, C::Value>>(
+        &mut self,
+        items: &I,
+        from: usize,
+    ) -> usize {
+        self.allocation.insert_below_maximum(items, from)
+    }
+
+    /// Inserts the items in their order, and stops at the first whose insert fails. Returns how many were accepted, and
+    /// `Full` where one failed. The table is then as the accepted ones left it; on valid bytes it is at its maximum,
+    /// and the key of the item that failed is absent.
+    ///
+    /// On any bytes each accepted item changes no more than `insert` may, and the item that failed is one for which
+    /// `insert` may return `Full`.
+    pub fn insert_all(&mut self, items: &[(C::Key, C::Value)]) -> (usize, Result<(), Error>) {
+        self.insert_items(&items)
+    }
+
+    /// `insert_all` of items in any form, such as the keys and the values of two slices
+    /// ([`Zipped`](crate::proved::tables::items::Zipped)).
+    #[inline(always)]
+    pub fn insert_items<I: Items<C::Key, C::Value>>(
+        &mut self,
+        items: &I,
+    ) -> (usize, Result<(), Error>) {
+        let mut accepted = 0;
+        loop {
+            accepted = self.insert_below_maximum(items, accepted);
+            if accepted >= items.count() {
+                return (accepted, Ok(()));
+            }
+            // At the maximum a present key is given its value.
+            let (key, value) = items.at(accepted);
+            if let Err(refused) = self.insert(key, value) {
+                return (accepted, Err(refused));
+            }
+            accepted += 1;
+        }
+    }
+}

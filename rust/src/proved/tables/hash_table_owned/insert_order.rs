@@ -1,0 +1,20 @@
+// Made by `make rust` of crates/odht/src/hash_table_owned/insert_order.rt.
+//! An order of inserts that makes a table.
+
+use super::HashTableOwned;
+use crate::proved::tables::config::Config;
+
+impl<C: Config> HashTableOwned<C> {
+    /// Whether some list of inserts, growths included, makes this table from an empty one of its load factor. Where one
+    /// does, `out`, whose length is the item count, lists the occupied slots in an insert order: their pairs, inserted
+    /// in this order into an empty table of as many slots and the same load factor, leave these very bytes. Where none
+    /// does, the numbers in `out` mean nothing. docs/PROOFS.md, "Orders of inserts", has the definitions.
+    ///
+    /// It takes no memory. A slot waits until all slots before it in its key's probe order are listed. There are at
+    /// most as many passes over the items as there are slots that wait for one of a higher number, and one more. A pass
+    /// looks for each earlier position of each waiting slot by a binary search among the slots that wait, and then
+    /// sorts these. bench/README.md has what an item costs in a table of 10^6.
+    pub fn insert_order(&self, out: &mut [usize]) -> bool {
+        self.table.as_raw().insert_order(out)
+    }
+}

@@ -1,0 +1,40 @@
+// Made by `make rust` of crates/odht/src/hash_table_owned/lists.rt.
+//! Lists of inserts into the table that grows.
+
+use super::HashTableOwned;
+use crate::proved::tables::config::Config;
+use crate::proved::tables::error::Error;
+use crate::proved::tables::items::Items;
+
+impl<C: Config> HashTableOwned<C> {
+    /// Inserts the items in their order, and stops at the first whose insert fails. Returns how many were accepted, and
+    /// `Memory` where one failed. The table is then as the accepted ones left it, at its maximum, and the key of the
+    /// item that failed is absent.
+    ///
+    /// A fresh table that accepted all has the items' last values; one made for as many as there are has not grown.
+    pub fn insert_all(&mut self, items: &[(C::Key, C::Value)]) -> (usize, Result<(), Error>) {
+        self.insert_items(&items)
+    }
+
+    /// `insert_all` of items in any form, such as the keys and the values of two slices
+    /// ([`Zipped`](crate::proved::tables::items::Zipped)).
+    #[inline(always)]
+    pub fn insert_items<I: Items<C::Key, C::Value>>(
+        &mut self,
+        items: &I,
+    ) -> (usize, Result<(), Error>) {
+        let mut accepted = 0;
+        loop {
+            accepted = self.table.insert_below_maximum(items, accepted);
+            if accepted >= items.count() {
+                return (accepted, Ok(()));
+            }
+            // At the maximum a present key is given its value, and for an absent one the table grows.
+            let (key, value) = items.at(accepted);
+            if let Err(refused) = self.insert(key, value) {
+                return (accepted, Err(refused));
+            }
+            accepted += 1;
+        }
+    }
+}

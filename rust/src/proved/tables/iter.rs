@@ -1,0 +1,61 @@
+// Made by `make rust` of crates/odht/src/iter.rt.
+//! A walk over the pairs of a table.
+
+use crate::proved::tables::config::Config;
+use crate::proved::tables::raw_table::{RawIter, RawSlots};
+use std::iter::FusedIterator;
+
+/// The keys and values of a table, decoded, in slot order.
+///
+/// A contract speaks of it as of the list of the pairs that are left. A whole walk reads each control byte once.
+pub struct Iter<'a, C: Config> {
+    raw: RawIter<'a, C::EncodedKey, C::EncodedValue>,
+}
+
+impl<'a, C: Config> Iter<'a, C> {
+    /// The pairs of what is left of a raw walk.
+    #[inline]
+    pub(crate) fn new(raw: RawIter<'a, C::EncodedKey, C::EncodedValue>) -> Self {
+        Iter { raw }
+    }
+}
+
+impl<'a, C: Config> Iterator for Iter<'a, C> {
+    type Item = (C::Key, C::Value);
+
+    #[inline(always)]
+    fn next(&mut self) -> Option<(C::Key, C::Value)> {
+        let (_, entry) = self.raw.next()?;
+        Some((C::decode_key(&entry.key), C::decode_value(&entry.value)))
+    }
+}
+
+impl<'a, C: Config> FusedIterator for Iter<'a, C> {}
+
+/// The slots that hold a pair, from a slot on, in slot order: the number of each, with its key and value, decoded. A
+/// caller that stops at a pair may go on later from the number that comes with it.
+///
+/// A contract speaks of it as of the list of the slots that are left. A whole walk reads each control byte once.
+pub struct Slots<'a, C: Config> {
+    raw: RawSlots<'a, C::EncodedKey, C::EncodedValue>,
+}
+
+impl<'a, C: Config> Slots<'a, C> {
+    /// The pairs of what is left of a raw walk.
+    #[inline]
+    pub(crate) fn new(raw: RawSlots<'a, C::EncodedKey, C::EncodedValue>) -> Self {
+        Slots { raw }
+    }
+}
+
+impl<'a, C: Config> Iterator for Slots<'a, C> {
+    type Item = (usize, (C::Key, C::Value));
+
+    #[inline(always)]
+    fn next(&mut self) -> Option<(usize, (C::Key, C::Value))> {
+        let (slot, (_, entry)) = self.raw.next()?;
+        Some((slot, (C::decode_key(&entry.key), C::decode_value(&entry.value))))
+    }
+}
+
+impl<'a, C: Config> FusedIterator for Slots<'a, C> {}

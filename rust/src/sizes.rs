@@ -1,0 +1,105 @@
+//! How long tables are, the whole check of their bytes, and what comes of an error where a call returns none.
+
+use crate::config::{Config, Proved};
+use crate::proved::header::error::Error;
+use crate::proved::{raw, tables};
+use std::alloc::{handle_alloc_error, Layout};
+
+/// The length in bytes of a new table for so many items, to be given to [`HashTable::init_in_place`]. The load factor
+/// is in percent of the slots.
+///
+/// ```
+/// use odht::{bytes_needed, configs::U64ToU32};
+///
+/// // 32 bytes of header, 16 entries of 12 bytes, 16 control bytes and 16 of their mirror
+/// assert_eq!(bytes_needed::<U64ToU32>(3, 95), 256);
+/// ```
+///
+/// # Panics
+///
+/// Where the percentage is not from 1 to 100, and where no table is large enough.
+///
+/// [`HashTable::init_in_place`]: crate::HashTable::init_in_place
+#[track_caller]
+pub fn bytes_needed<C: Config>(max_item_count: usize, max_load_factor_percent: u8) -> usize {
+    try_bytes_needed::<C>(max_item_count, max_load_factor_percent).unwrap_or_else(|e| refused(e, 0))
+}
+
+/// [`bytes_needed`], with an error in place of the second panic.
+///
+/// ```
+/// use odht::{configs::U64ToU32, try_bytes_needed, Error};
+///
+/// assert_eq!(try_bytes_needed::<U64ToU32>(3, 95), Ok(256));
+/// assert_eq!(try_bytes_needed::<U64ToU32>(usize::MAX, 95), Err(Error::Capacity));
+/// ```
+///
+/// # Errors
+///
+/// [`Error::Capacity`] where no slot count is enough for so many items, or the length is above `usize::MAX`.
+///
+/// # Panics
+///
+/// Where the percentage is not from 1 to 100.
+#[track_caller]
+pub fn try_bytes_needed<C: Config>(
+    max_item_count: usize,
+    max_load_factor_percent: u8,
+) -> Result<usize, Error> {
+    let percent = percent_of::<C>(max_load_factor_percent);
+    tables::bytes_needed::<Proved<C>>(max_item_count, percent).ok_or(Error::Capacity)
+}
+
+/// Checks all of the bytes. They are accepted exactly where they are those of a table that the format allows, to the
+/// last byte; lookups in such a table answer as a map does.
+///
+/// It takes no memory. Where hashes vary its time is linear in the bytes. At worst, where all keys of `s` slots have one
+/// hash, it makes `s*s/2` comparisons of keys: over an hour for 2^20 slots. So bound the length of bytes that come from
+/// a stranger.
+///
+/// ```
+/// use odht::{check_all, configs::U64ToU32, Error, HashTableOwned};
+///
+/// let mut table = HashTableOwned::<U64ToU32>::default();
+/// table.insert(&1, &2);
+/// let mut bytes = table.raw_bytes().to_vec();
+/// assert_eq!(check_all::<U64ToU32>(&bytes), Ok(()));
+///
+/// bytes[8] = 2; // the item count
+/// assert!(matches!(check_all::<U64ToU32>(&bytes), Err(Error::WrongItemCount { .. })));
+/// ```
+///
+/// # Errors
+///
+/// The first of the errors that [`HashTable::try_from_raw_bytes`] returns, then of `LoadFactorTooSmall`,
+/// `NonZeroPadding`, `NonZeroEmpty`, `BadFreeControl`, `ControlMismatch`, `MirrorMismatch`, `WrongItemCount`,
+/// `TooManyItems` and `Unreachable`.
+///
+/// [`HashTable::try_from_raw_bytes`]: crate::HashTable::try_from_raw_bytes
+pub fn check_all<C: Config>(bytes: &[u8]) -> Result<(), Error> {
+    let () = Proved::<C>::FITS;
+    raw::memory_layout::check_all::<Proved<C>>(bytes)
+}
+
+/// What the proved library requires of a load factor.
+#[track_caller]
+pub fn percent_of<C: Config>(max_load_factor_percent: u8) -> u8 {
+    let () = Proved::<C>::FITS;
+    assert!(
+        (1..=100).contains(&max_load_factor_percent),
+        "a load factor is from 1 to 100 percent, and not {max_load_factor_percent}"
+    );
+    max_load_factor_percent
+}
+
+/// Ends a call that returns no error. Where so many bytes of memory were refused it does what Rust's collections do.
+#[cold]
+#[track_caller]
+pub fn refused(error: Error, len: usize) -> ! {
+    if error == Error::Memory && len > 0 {
+        if let Ok(layout) = Layout::array::<u8>(len) {
+            handle_alloc_error(layout);
+        }
+    }
+    panic!("{error}")
+}

@@ -1,0 +1,361 @@
+//! The table over bytes of any kind.
+//!
+//! What the proved library requires is seen to here: the length and the slot count of the bytes are those that were
+//! opened (`Opened::check`), a load factor is a percentage (`percent_of`), and slices are as long as one another.
+
+use crate::config::{Config, Proved};
+use crate::iter::{Iter, Slots};
+use crate::opened::Opened;
+use crate::proved::base::bytes::Borrowed;
+use crate::proved::header::error::Error;
+use crate::proved::tables;
+use std::borrow::Borrow;
+use std::error::Error as AnyError;
+use std::fmt;
+use std::marker::PhantomData;
+
+mod growth;
+mod writing;
+
+/// A table in bytes of any kind: a view. It cannot grow; [`grow_into`](HashTable::grow_into) writes the grown table into
+/// other bytes.
+///
+/// The bytes may be a slice, a vector, a mapped file, or anything else that implements `Borrow<[u8]>`; where it
+/// implements `BorrowMut<[u8]>` too, pairs can be inserted. Any number of threads may read a table.
+///
+/// ```
+/// use odht::{configs::U64ToU32, HashTable, HashTableOwned};
+///
+/// let mut table = HashTableOwned::<U64ToU32>::default();
+/// table.insert(&1, &2);
+/// let stored = table.raw_bytes().to_vec();
+///
+/// let view = HashTable::<U64ToU32, _>::from_raw_bytes(&stored[..])?;
+/// assert_eq!(view.get(&1), Some(2));
+/// assert_eq!(view.get(&3), None);
+/// # Ok::<(), Box<dyn std::error::Error>>(())
+/// ```
+///
+/// # Panics
+///
+/// Every call that looks at the table panics where `D` gives bytes of another length, or with another slot count, than
+/// those that were opened.
+pub struct HashTable<C: Config, D: Borrow<[u8]>> {
+    data: D,
+    opened: Opened,
+    config: PhantomData<fn() -> C>,
+}
+
+impl<C: Config, D: Borrow<[u8]>> HashTable<C, D> {
+    /// Opens bytes as a table: the header, the length and the first ten slots are checked, in constant time. The error
+    /// is an [`Error`], which `downcast_ref` gives back; [`try_from_raw_bytes`](HashTable::try_from_raw_bytes) returns
+    /// it as it is.
+    ///
+    /// A view of bytes that are accepted and are not those of a table does no harm: each call returns, reads nothing
+    /// else, and gives only pairs that are stored. [`check_all`](HashTable::check_all) tells whether all of them are.
+    ///
+    /// ```
+    /// use odht::{configs::U64ToU32, HashTable};
+    ///
+    /// let error = HashTable::<U64ToU32, _>::from_raw_bytes(&b"no table"[..]).unwrap_err();
+    /// assert!(matches!(error.downcast_ref(), Some(odht::Error::TooShort { found: 8 })));
+    /// ```
+    ///
+    /// # Errors
+    ///
+    /// As [`try_from_raw_bytes`](HashTable::try_from_raw_bytes).
+    pub fn from_raw_bytes(data: D) -> Result<Self, Box<dyn AnyError>> {
+        Ok(Self::try_from_raw_bytes(data)?)
+    }
+
+    /// [`from_raw_bytes`](HashTable::from_raw_bytes), with the error as it is.
+    ///
+    /// ```
+    /// use odht::{configs::U64ToU32, Error, HashTable};
+    ///
+    /// let error = HashTable::<U64ToU32, _>::try_from_raw_bytes(vec![0; 256]).unwrap_err();
+    /// assert_eq!(error, Error::WrongTag { found: [0; 4] });
+    /// ```
+    ///
+    /// # Errors
+    ///
+    /// The first of `TooShort`, `WrongTag`, `WrongVersion`, `WrongSizeOf`, `SlotCountNotPowerOfTwo`,
+    /// `SlotCountTooSmall`, `WrongLength`, and of the first ten slots `NonZeroEmpty` and `ControlMismatch`, that the
+    /// bytes give.
+    pub fn try_from_raw_bytes(data: D) -> Result<Self, Error> {
+        let () = Proved::<C>::FITS;
+        let bytes = data.borrow();
+        tables::HashTable::<Proved<C>, _>::from_raw_bytes(Borrowed::new(bytes))?;
+        let opened = Opened::of(bytes);
+        Ok(HashTable { data, opened, config: PhantomData })
+    }
+
+    /// Opens bytes as [`from_raw_bytes`](HashTable::from_raw_bytes) does, which takes constant time too, but looks at
+    /// their length and slot count alone.
+    ///
+    /// ```
+    /// # use odht::{configs::U64ToU32, HashTable, HashTableOwned};
+    /// # let mut table = HashTableOwned::<U64ToU32>::default();
+    /// # table.insert(&1, &2);
+    /// // SAFETY: these are the bytes of a table of this configuration.
+    /// let view = unsafe { HashTable::<U64ToU32, _>::from_raw_bytes_unchecked(table.raw_bytes()) };
+    /// assert_eq!(view.get(&1), Some(2));
+    /// ```
+    ///
+    /// # Safety
+    ///
+    /// It is unsafe since the original's is: `from_raw_bytes` is to accept these bytes. Others are no danger to memory;
+    /// calls may then panic or return anything.
+    ///
+    /// # Panics
+    ///
+    /// Where the length of the bytes is not that of the slot count in their header.
+    #[inline]
+    #[allow(unsafe_code)]
+    pub unsafe fn from_raw_bytes_unchecked(data: D) -> Self {
+        let () = Proved::<C>::FITS;
+        let opened = Opened::unchecked::<C>(data.borrow());
+        HashTable { data, opened, config: PhantomData }
+    }
+
+    // The bytes, which are as long as they were, and have as many slots.
+    #[inline(always)]
+    fn bytes(&self) -> &[u8] {
+        let bytes = self.data.borrow();
+        self.opened.check(bytes);
+        bytes
+    }
+
+    // The proved table of the bytes. That their header fits is known from when they were opened.
+    #[inline(always)]
+    fn view(&self) -> tables::HashTable<Proved<C>, Borrowed<'_>> {
+        tables::HashTable::from_raw_bytes_unchecked(Borrowed::new(self.bytes()))
+    }
+
+    /// The value of a key: that of its last insert.
+    ///
+    /// Each group of sixteen control bytes is read at most once.
+    ///
+    /// ```
+    /// # use odht::{configs::U64ToU32, HashTable, HashTableOwned};
+    /// # let mut table = HashTableOwned::<U64ToU32>::default();
+    /// # table.insert(&1, &2);
+    /// let view = HashTable::<U64ToU32, _>::from_raw_bytes(table.raw_bytes())?;
+    /// assert_eq!(view.get(&1), Some(2));
+    /// # Ok::<(), Box<dyn std::error::Error>>(())
+    /// ```
+    #[inline]
+    pub fn get(&self, key: &C::Key) -> Option<C::Value> {
+        self.view().get(key)
+    }
+
+    /// `get` of many keys, each to its index. The loads of eight keys overlap, so that in a large table it is faster than
+    /// one `get` after the other. Each key is encoded twice.
+    ///
+    /// ```
+    /// # use odht::{configs::U64ToU32, HashTable, HashTableOwned};
+    /// # let mut table = HashTableOwned::<U64ToU32>::default();
+    /// # table.insert(&1, &2);
+    /// # let view = HashTable::<U64ToU32, _>::from_raw_bytes(table.raw_bytes())?;
+    /// let mut values = [None; 2];
+    /// view.get_all(&[1, 3], &mut values);
+    /// assert_eq!(values, [Some(2), None]);
+    /// # Ok::<(), Box<dyn std::error::Error>>(())
+    /// ```
+    ///
+    /// # Panics
+    ///
+    /// Where there are more or fewer values than keys.
+    #[inline]
+    pub fn get_all(&self, keys: &[C::Key], values: &mut [Option<C::Value>]) {
+        assert_eq!(keys.len(), values.len(), "there is a value for each key");
+        self.view().get_all(keys, values);
+    }
+
+    /// `get`, and how many groups of sixteen control bytes it read: in a table those up to the first slot that is free or
+    /// holds the key.
+    ///
+    /// ```
+    /// # use odht::{configs::U64ToU32, HashTable, HashTableOwned};
+    /// # let mut table = HashTableOwned::<U64ToU32>::default();
+    /// # table.insert(&1, &2);
+    /// # let view = HashTable::<U64ToU32, _>::from_raw_bytes(table.raw_bytes())?;
+    /// assert_eq!(view.get_counted(&1), (Some(2), 1));
+    /// # Ok::<(), Box<dyn std::error::Error>>(())
+    /// ```
+    #[inline]
+    pub fn get_counted(&self, key: &C::Key) -> (Option<C::Value>, usize) {
+        self.view().get_counted(key)
+    }
+
+    /// Whether the key has a value.
+    ///
+    /// ```
+    /// # use odht::{configs::U64ToU32, HashTable, HashTableOwned};
+    /// # let mut table = HashTableOwned::<U64ToU32>::default();
+    /// # table.insert(&1, &2);
+    /// # let view = HashTable::<U64ToU32, _>::from_raw_bytes(table.raw_bytes())?;
+    /// assert!(view.contains_key(&1) && !view.contains_key(&3));
+    /// # Ok::<(), Box<dyn std::error::Error>>(())
+    /// ```
+    #[inline]
+    pub fn contains_key(&self, key: &C::Key) -> bool {
+        self.view().contains_key(key)
+    }
+
+    /// The keys and values, in slot order.
+    ///
+    /// ```
+    /// # use odht::{configs::U64ToU32, HashTable, HashTableOwned};
+    /// # let mut table = HashTableOwned::<U64ToU32>::default();
+    /// # table.insert(&1, &2);
+    /// # let view = HashTable::<U64ToU32, _>::from_raw_bytes(table.raw_bytes())?;
+    /// assert_eq!(view.iter().collect::<Vec<_>>(), [(1, 2)]);
+    /// # Ok::<(), Box<dyn std::error::Error>>(())
+    /// ```
+    #[inline]
+    pub fn iter(&self) -> Iter<'_, C> {
+        Iter::of(self.bytes())
+    }
+
+    /// The keys and values in the slots from `from` on, in slot order, each with its slot. There is none where `from` is
+    /// past the last slot.
+    ///
+    /// ```
+    /// # use odht::{configs::U64ToU32, HashTable, HashTableOwned};
+    /// # let table = HashTableOwned::<U64ToU32>::from_iterator((0..3).map(|n| (n, 0)), 95);
+    /// # let view = HashTable::<U64ToU32, _>::from_raw_bytes(table.raw_bytes())?;
+    /// // one pair at a time
+    /// let (mut slot, mut keys) = (0, vec![]);
+    /// while let Some((found, (key, _))) = view.iter_from(slot).next() {
+    ///     keys.push(key);
+    ///     slot = found + 1;
+    /// }
+    /// assert_eq!(keys.len(), 3);
+    /// # Ok::<(), Box<dyn std::error::Error>>(())
+    /// ```
+    #[inline]
+    pub fn iter_from(&self, from: usize) -> Slots<'_, C> {
+        Slots::of(self.bytes(), from)
+    }
+
+    /// How many items there are, by the header.
+    ///
+    /// ```
+    /// # use odht::{configs::U64ToU32, HashTable, HashTableOwned};
+    /// # let mut table = HashTableOwned::<U64ToU32>::default();
+    /// # table.insert(&1, &2);
+    /// # let view = HashTable::<U64ToU32, _>::from_raw_bytes(table.raw_bytes())?;
+    /// assert_eq!(view.len(), 1);
+    /// # Ok::<(), Box<dyn std::error::Error>>(())
+    /// ```
+    #[inline]
+    pub fn len(&self) -> usize {
+        self.view().len()
+    }
+
+    /// Whether there is no item, by the header.
+    ///
+    /// ```
+    /// # use odht::{configs::U64ToU32, HashTable, HashTableOwned};
+    /// # let mut table = HashTableOwned::<U64ToU32>::default();
+    /// # table.insert(&1, &2);
+    /// # let view = HashTable::<U64ToU32, _>::from_raw_bytes(table.raw_bytes())?;
+    /// assert!(!view.is_empty());
+    /// # Ok::<(), Box<dyn std::error::Error>>(())
+    /// ```
+    #[inline]
+    pub fn is_empty(&self) -> bool {
+        self.len() == 0
+    }
+
+    /// Checks all of the bytes, as [`check_all`](crate::check_all) does, and costs what that costs.
+    ///
+    /// ```
+    /// # use odht::{configs::U64ToU32, HashTable, HashTableOwned};
+    /// # let mut table = HashTableOwned::<U64ToU32>::default();
+    /// # table.insert(&1, &2);
+    /// # let view = HashTable::<U64ToU32, _>::from_raw_bytes(table.raw_bytes())?;
+    /// assert_eq!(view.check_all(), Ok(()));
+    /// # Ok::<(), Box<dyn std::error::Error>>(())
+    /// ```
+    ///
+    /// # Errors
+    ///
+    /// The first that [`check_all`](crate::check_all) finds.
+    pub fn check_all(&self) -> Result<(), Error> {
+        crate::check_all::<C>(self.bytes())
+    }
+
+    /// Whether all of the bytes are those of a table: whether [`check_all`](HashTable::check_all) finds no error.
+    ///
+    /// ```
+    /// # use odht::{configs::U64ToU32, HashTable, HashTableOwned};
+    /// # let mut table = HashTableOwned::<U64ToU32>::default();
+    /// # table.insert(&1, &2);
+    /// # let view = HashTable::<U64ToU32, _>::from_raw_bytes(table.raw_bytes())?;
+    /// assert!(view.verify());
+    /// # Ok::<(), Box<dyn std::error::Error>>(())
+    /// ```
+    pub fn verify(&self) -> bool {
+        self.view().verify()
+    }
+
+    /// The bytes of the table.
+    ///
+    /// ```
+    /// # use odht::{configs::U64ToU32, HashTable, HashTableOwned};
+    /// # let mut table = HashTableOwned::<U64ToU32>::default();
+    /// # table.insert(&1, &2);
+    /// # let view = HashTable::<U64ToU32, _>::from_raw_bytes(table.raw_bytes())?;
+    /// assert_eq!(view.raw_bytes(), table.raw_bytes());
+    /// # Ok::<(), Box<dyn std::error::Error>>(())
+    /// ```
+    #[inline]
+    pub fn raw_bytes(&self) -> &[u8] {
+        self.data.borrow()
+    }
+
+    /// What holds the bytes of the table.
+    ///
+    /// ```
+    /// # use odht::{configs::U64ToU32, HashTable, HashTableOwned};
+    /// # let mut table = HashTableOwned::<U64ToU32>::default();
+    /// # table.insert(&1, &2);
+    /// # let view = HashTable::<U64ToU32, _>::from_raw_bytes(table.raw_bytes())?;
+    /// let bytes: &[u8] = view.into_data();
+    /// assert_eq!(bytes, table.raw_bytes());
+    /// # Ok::<(), Box<dyn std::error::Error>>(())
+    /// ```
+    #[inline]
+    pub fn into_data(self) -> D {
+        self.data
+    }
+}
+
+impl<C: Config, D: Borrow<[u8]> + Clone> Clone for HashTable<C, D> {
+    fn clone(&self) -> Self {
+        HashTable { data: self.data.clone(), opened: self.opened, config: PhantomData }
+    }
+}
+
+impl<C: Config, D: Borrow<[u8]> + Copy> Copy for HashTable<C, D> {}
+
+impl<C: Config, D: Borrow<[u8]>> fmt::Debug for HashTable<C, D> {
+    fn fmt(&self, f: &mut fmt::Formatter<'_>) -> fmt::Result {
+        f.debug_struct("HashTable")
+            .field("items", &self.len())
+            .field("slots", &self.opened.slots())
+            .finish_non_exhaustive()
+    }
+}
+
+impl<'a, C: Config, D: Borrow<[u8]>> IntoIterator for &'a HashTable<C, D> {
+    type Item = (C::Key, C::Value);
+    type IntoIter = Iter<'a, C>;
+
+    #[inline]
+    fn into_iter(self) -> Iter<'a, C> {
+        self.iter()
+    }
+}

@@ -1,0 +1,50 @@
+//! Growth of a table into other bytes.
+
+use super::HashTable;
+use crate::config::Config;
+use std::borrow::Borrow;
+
+impl<C: Config, D: Borrow<[u8]>> HashTable<C, D> {
+    /// The length in bytes of the table that this one grows into: with the slots for twice its items, and for one at
+    /// least. `None` where no table is that large.
+    ///
+    /// ```
+    /// # use odht::{configs::U64ToU32, HashTable, HashTableOwned};
+    /// # let mut table = HashTableOwned::<U64ToU32>::default();
+    /// # table.insert(&1, &2);
+    /// # let view = HashTable::<U64ToU32, _>::from_raw_bytes(table.raw_bytes())?;
+    /// assert_eq!(view.grown_len(), Some(256)); // sixteen slots are enough for two items
+    /// # Ok::<(), Box<dyn std::error::Error>>(())
+    /// ```
+    pub fn grown_len(&self) -> Option<usize> {
+        self.view().grown_len()
+    }
+
+    /// Writes the table that this one grows into to `out`, whatever its bytes were. So a table in a file or in shared
+    /// memory grows too, and to the same bytes as a [`HashTableOwned`](crate::HashTableOwned).
+    ///
+    /// It is one pass over `out` and one over the slots of this table; each item is hashed once.
+    ///
+    /// ```
+    /// # use odht::{configs::U64ToU32, HashTable, HashTableOwned};
+    /// # let mut table = HashTableOwned::<U64ToU32>::from_iterator((0..13).map(|n| (n, 0)), 87);
+    /// let view = HashTable::<U64ToU32, _>::from_raw_bytes(table.raw_bytes())?;
+    /// let mut grown = vec![0; view.grown_len().ok_or("too large")?];
+    /// view.grow_into(&mut grown);
+    ///
+    /// let mut grown = HashTable::<U64ToU32, _>::from_raw_bytes(&mut grown[..])?;
+    /// grown.insert(&100, &7);
+    /// assert_eq!((grown.len(), grown.get(&12)), (14, Some(0)));
+    /// # Ok::<(), Box<dyn std::error::Error>>(())
+    /// ```
+    ///
+    /// # Panics
+    ///
+    /// Where `out` does not have [`grown_len`](HashTable::grown_len) bytes.
+    #[track_caller]
+    pub fn grow_into(&self, out: &mut [u8]) {
+        let view = self.view();
+        assert_eq!(view.grown_len(), Some(out.len()), "`out` is as long as the grown table");
+        view.grow_into(out);
+    }
+}

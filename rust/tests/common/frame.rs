@@ -1,0 +1,205 @@
+//! What calls may answer and change on bytes that a view opens and that need not be valid: the frame of
+//! docs/FORMAT.md, "Accepted but invalid bytes", beside the second reading.
+
+use super::configs::Plain;
+use super::random::Random;
+use super::reading::{Format, Hash, Reading};
+use odht::{check_all, Error, FxHashFn, HashFn, HashTable, HashTableOwned, UnHashFn};
+
+/// The format's name of a hash function.
+pub trait Named: HashFn {
+    const HASH: Hash;
+}
+
+impl Named for FxHashFn {
+    const HASH: Hash = Hash::Fx;
+}
+
+impl Named for UnHashFn {
+    const HASH: Hash = Hash::Un;
+}
+
+/// The format of a configuration.
+pub const fn format<const K: usize, const V: usize, H: Named>() -> Format {
+    Format::new(K, V, H::HASH)
+}
+
+type View<'b, const K: usize, const V: usize, H> = HashTable<Plain<K, V, H>, &'b [u8]>;
+
+fn text<T, E: ToString>(result: Result<T, E>) -> Option<String> {
+    result.err().map(|error| error.to_string())
+}
+
+/// Compares what opening, the whole check and the table that owns its bytes say of the bytes with the second reading,
+/// and makes each call on the view, if there is one. Returns the error of the whole check.
+pub fn calls_stay_in_frame<const K: usize, const V: usize, H: Named>(
+    bytes: &[u8],
+    random: &mut Random,
+) -> Option<String> {
+    let reading = Reading::new(format::<K, V, H>(), bytes);
+    let (opening, whole) = (reading.open_error(), reading.check_error());
+    let view = View::<K, V, H>::from_raw_bytes(bytes);
+    assert_eq!(text(view.as_ref()), opening);
+    assert_eq!(text(View::<K, V, H>::try_from_raw_bytes(bytes)), opening);
+    assert_eq!(text(check_all::<Plain<K, V, H>>(bytes)), whole);
+    let owned = HashTableOwned::<Plain<K, V, H>>::from_raw_bytes(bytes);
+    assert_eq!(text(owned.as_ref()), whole);
+    if let Ok(owned) = owned {
+        assert_eq!(owned.raw_bytes(), bytes);
+    }
+    if let Ok(view) = view {
+        assert_eq!(text(view.check_all()), whole);
+        assert_eq!(view.verify(), whole.is_none());
+        reads_stay_in_frame(&view, &reading, random);
+        inserts_stay_in_frame::<K, V, H>(&reading, random);
+        grows(&view, &reading);
+    }
+    whole
+}
+
+// A key that is stored somewhere, or with one byte changed, or a random one.
+fn some_key<const K: usize>(reading: &Reading<'_>, random: &mut Random) -> [u8; K] {
+    let mut key: [u8; K] = reading.key(random.below(reading.slots())).try_into().unwrap();
+    match random.below(4) {
+        0 => random.array(),
+        1 if K > 0 => {
+            key[random.below(K)] = random.byte();
+            key
+        }
+        _ => key,
+    }
+}
+
+fn reads_stay_in_frame<const K: usize, const V: usize, H: Named>(
+    view: &View<'_, K, V, H>,
+    reading: &Reading<'_>,
+    random: &mut Random,
+) {
+    let (slots, occupied) = (reading.slots(), reading.occupied());
+    assert_eq!(view.len(), reading.count());
+    assert_eq!(view.is_empty(), reading.count() == 0);
+    let pair = |slot| (slot, (reading.key(slot), reading.value(slot)));
+    let walk: Vec<_> = occupied.map(pair).collect();
+    let found: Vec<_> = view.iter_from(0).collect();
+    assert!(found.iter().map(|(slot, (k, v))| (*slot, (&k[..], &v[..]))).eq(walk.iter().copied()));
+    assert!(view.iter().eq(found.iter().map(|(_, pair)| *pair)));
+    let from = random.below(slots + 4);
+    assert!(view.iter_from(from).eq(found.into_iter().filter(|(slot, _)| *slot >= from)));
+    let keys: Vec<[u8; K]> = (0..20).map(|_| some_key(reading, random)).collect();
+    let mut values = vec![None; keys.len()];
+    view.get_all(&keys, &mut values);
+    for (key, found) in keys.iter().zip(values) {
+        let (value, groups) = view.get_counted(key);
+        assert!((1..=slots / 16).contains(&groups));
+        assert_eq!((view.get(key), view.contains_key(key)), (value, value.is_some()));
+        let mut answers = value.into_iter().chain(found);
+        assert!(answers.all(|value| {
+            (0..slots).any(|slot| reading.key(slot) == key && reading.value(slot) == value)
+        }));
+    }
+}
+
+// One insert after the other into a copy, and a list into another.
+fn inserts_stay_in_frame<const K: usize, const V: usize, H: Named>(
+    reading: &Reading<'_>,
+    random: &mut Random,
+) {
+    let list: Vec<([u8; K], [u8; V])> =
+        (0..8).map(|_| (some_key(reading, random), random.array())).collect();
+    let mut before = reading.bytes.to_vec();
+    let mut accepted = 0;
+    for (key, value) in &list {
+        let mut table = HashTable::<Plain<K, V, H>, _>::from_raw_bytes(before.clone()).unwrap();
+        let result = table.try_insert(key, value);
+        let after = table.into_data();
+        assert!(is_framed_insert(reading.format, [&before, &after], (key, value), result));
+        before = after;
+        if result.is_err() {
+            break;
+        }
+        accepted += 1;
+        if HashTable::<Plain<K, V, H>, _>::from_raw_bytes(&before[..]).is_err() {
+            return;
+        }
+    }
+    let mut table = HashTable::<Plain<K, V, H>, _>::from_raw_bytes(reading.bytes.to_vec()).unwrap();
+    let (count, result) = table.try_insert_all(&list);
+    assert_eq!(count == list.len(), result.is_ok());
+    if reading.check_error().is_none() {
+        assert_eq!((count, table.raw_bytes()), (accepted, &before[..]));
+    }
+}
+
+// Whether an insert may leave these bytes, and return this.
+fn is_framed_insert<const V: usize>(
+    format: Format,
+    [before, after]: [&[u8]; 2],
+    (key, value): (&[u8], &[u8; V]),
+    result: Result<Option<[u8; V]>, Error>,
+) -> bool {
+    let reading = Reading::new(format, before);
+    let slots = reading.slots();
+    let is_open = |slot: usize| {
+        reading.control(slot) >= 128 || slot < 16 && reading.control(slots + slot) >= 128
+    };
+    match result {
+        Ok(Some(former)) => (0..slots).any(|slot| {
+            let place = reading.entry_at(slot) + format.key;
+            reading.key(slot) == key
+                && reading.value(slot) == former
+                && after == [&before[..place], value, &before[place + V..]].concat()
+        }),
+        Ok(None) => {
+            let written = |slot: &usize| Reading::new(format, after).key(*slot) == key;
+            let mut places = (0..slots).filter(|slot| is_open(*slot)).filter(written);
+            reading.count() < reading.maximum()
+                && places.any(|slot| after == with_pair(&reading, slot, key, value))
+        }
+        Err(error) => {
+            let is_refused = reading.count() >= reading.maximum() || !(0..slots).any(is_open);
+            error == Error::Full && before == after && is_refused
+        }
+    }
+}
+
+// The bytes with a pair in a slot.
+fn with_pair(reading: &Reading<'_>, slot: usize, key: &[u8], value: &[u8]) -> Vec<u8> {
+    let mut bytes = reading.bytes.to_vec();
+    let (entry, control) = (reading.entry_at(slot), reading.control_at(slot));
+    bytes[entry..][..key.len()].copy_from_slice(key);
+    bytes[entry + key.len()..][..value.len()].copy_from_slice(value);
+    let tag = reading.format.tag_of(key);
+    bytes[control] = tag;
+    if slot < 16 {
+        bytes[control + reading.slots()] = tag;
+    }
+    bytes[8..16].copy_from_slice(&(reading.count() as u64 + 1).to_le_bytes());
+    bytes
+}
+
+// The length of the grown table is that of the least slots for twice the stated items; the grown table states the same
+// items and load factor, and is opened by its header.
+fn grows<const K: usize, const V: usize, H: Named>(
+    view: &View<'_, K, V, H>,
+    reading: &Reading<'_>,
+) {
+    let items = (2 * reading.count() as u128).max(1);
+    let is_enough = |slots: &u128| slots * reading.factor() >= 65536 * items;
+    let slots = (4..64).map(|power| 1_u128 << power).find(is_enough);
+    let length = slots.map(|slots| reading.format.table_len(slots));
+    let length = length.filter(|it| *it <= usize::MAX as u128 && items <= usize::MAX as u128);
+    assert_eq!(view.grown_len().map(|it| it as u128), length);
+    let Some(length) = view.grown_len().filter(|it| *it < 1 << 16) else {
+        return;
+    };
+    let mut grown = vec![0x5a; length];
+    view.grow_into(&mut grown);
+    let grown = Reading::new(reading.format, &grown);
+    assert_eq!(grown.header_error(), None);
+    assert_eq!((grown.count(), grown.factor()), (reading.count(), reading.factor()));
+    assert!(grown.occupied().all(|slot| {
+        reading.occupied().any(|old| {
+            (reading.key(old), reading.value(old)) == (grown.key(slot), grown.value(slot))
+        })
+    }));
+}

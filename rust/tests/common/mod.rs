@@ -1,0 +1,11 @@
+//! What the tests share. Nothing here calls the crate but the configurations, which the crate asks.
+
+#![allow(dead_code)]
+
+pub mod configs;
+pub mod frame;
+pub mod outcomes;
+pub mod random;
+pub mod reading;
+pub mod worked;
+pub mod writing;

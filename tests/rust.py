@@ -1,0 +1,231 @@
+#!/usr/bin/env python3
+"""Tests the crate for Rust: what is generated of it, the program that generates it, and what cargo says of both.
+
+  tests/rust.py [TEST..]      all tests, or those that are named; cargo's files go to build/cargo
+
+    current    what is generated is what tools/erase and rustfmt make of the proved crates, and tests/erased.py reads the same
+    planted    tests/erased.py reports faults that are planted in the erased text, one after the other
+    erase      the tests of tools/erase
+    crate      those of the crate; `examples`: those of its documentation
+    fast       the same with the feature `fast`, which asserts each index there; `no_simd`: some of them with that feature
+    compat     code that is written for odht 0.3.1
+    beside     the crate beside the library for C (in ODHT_LIB_DIR) and the Rust crate (in ODHT_RUST), where these are
+    lints      no warning of clippy and rustdoc, and the layout of rustfmt
+    package    `cargo package` verifies the crate
+    c          libodht of the erased exports has the calls of include/odht.h, and the examples in C go over it
+
+What the machine does not have is left out, with a word. The last line counts.
+"""
+import os
+import re
+import shutil
+import subprocess
+import sys
+import tempfile
+import time
+from concurrent.futures import ThreadPoolExecutor
+
+TOP = os.path.dirname(os.path.dirname(os.path.realpath(__file__)))
+CARGO_FILES = f"{TOP}/build/cargo"
+LIMIT = 600
+# what a failed test prints needs no lines of the standard library, and what is built is not built again in parts
+CARGO = {"CARGO_TERM_COLOR": "never", "CARGO_PROFILE_DEV_DEBUG": "0", "CARGO_INCREMENTAL": "0"}
+
+
+class Failed(Exception):
+    """A test that failed, with what was printed."""
+
+
+def run(words, folder=TOP, **variables):
+    """Runs a command that must succeed, and returns what it printed."""
+    env = {**os.environ, "CARGO_TARGET_DIR": CARGO_FILES, **CARGO, **variables}
+    how = {"cwd": folder, "env": env, "stdin": subprocess.DEVNULL, "text": True, "errors": "replace", "timeout": LIMIT}
+    try:
+        ran = subprocess.run(words, capture_output=True, **how)
+    except (OSError, subprocess.TimeoutExpired) as error:
+        raise Failed(str(error)) from error
+    if ran.returncode:
+        raise Failed(f"{' '.join(words)}\n{ran.stdout}{ran.stderr}")
+    return ran.stdout + ran.stderr
+
+
+def has(*words):
+    """Whether a command is there and succeeds."""
+    try:
+        return subprocess.run(words, capture_output=True, stdin=subprocess.DEVNULL).returncode == 0
+    except OSError:
+        return False
+
+
+def cargo(folder, *words, **variables):
+    """Runs cargo in a folder, and returns how many tests passed."""
+    printed = run(["cargo", words[0], "--quiet", "--offline", *words[1:]], f"{TOP}/{folder}", **variables)
+    return sum(int(it) for it in re.findall(r"test result: ok\. (\d+) passed", printed))
+
+
+def erase(room):
+    """Makes the erased text in a folder."""
+    run(["cargo", "run", "--quiet", "--offline", "--manifest-path", "tools/erase/Cargo.toml", "--", "crates", room])
+
+
+def files_below(folder):
+    """Returns the text of each file below a folder, by its path from there."""
+    found = {}
+    for place, _, names in os.walk(folder):
+        for name in names:
+            with open(f"{place}/{name}", encoding="utf-8") as it:
+                found[os.path.relpath(f"{place}/{name}", folder)] = it.read()
+    return found
+
+
+def current():
+    with tempfile.TemporaryDirectory(prefix="erased-") as room:
+        erase(room)
+        read = run([sys.executable, "tests/erased.py", "crates", room])
+        made = [f"{room}/{it}" for it in files_below(room)]
+        run(["rustfmt", "--edition", "2021", "--config-path", "rust/rustfmt.toml", *made])
+        for part in ("src/proved", "c/src/erased"):
+            wanted, found = files_below(f"{room}/{part}"), files_below(f"{TOP}/rust/{part}")
+            names = sorted(it for it in wanted.keys() | found.keys() if wanted.get(it) != found.get(it))
+            if names:
+                raise Failed(f"not current: {', '.join(f'rust/{part}/{it}' for it in names)}: run `make rust`")
+    return 1 + int(re.search(r"(\d+) passed", read.splitlines()[-1])[1])
+
+
+# faults of the erased text: what is replaced in a file, once
+FAULTS = [
+    ("src/proved/base/load.rs", "self.0 as u128 / 65536", "self.0 as u128 / 65535"),
+    ("src/proved/base/hash.rs", "rotate_left(5) ^ value", "rotate_left(5)"),
+    ("src/proved/raw/raw_table/scan.rs", "start + 16", "start"),
+    ("src/proved/raw/raw_table/scan.rs", "index!(control[start..start + 16])", "control[start..start + 15]"),
+    ("src/proved/raw/raw_table/plain.rs", "return Search::Free(slot);", ""),
+    ("src/proved/tables/iter.rs", "self.raw.next()?", "self.raw.next()?; self.raw.next()?"),
+    ("src/proved/tables/hash_table/by_search.rs", "count >= max", "count > max"),
+    ("src/proved/tables/growth.rs", "'_", "'static"),
+    ("src/proved/header/error.rs", "Table is full", "The table is full"),
+    ("c/src/erased/calls/walk.rs", "*cursor = slot;", ""),
+    ("c/src/erased/exports/version.rs", "400", "401"),
+    ("c/src/erased/exports/shapes/u64_u32.rs", "lists::list(keys, keys_len)", "lists::list(keys, values_len)"),
+    ("c/src/erased/exports/shapes/u64_u32.rs", "let alloc = Global;", "let alloc = Other;"),
+]
+
+
+def planted():
+    with tempfile.TemporaryDirectory(prefix="erased-") as room:
+        erase(room)
+        text = files_below(room)
+        for name, old, new in FAULTS:
+            if old not in text[name]:
+                raise Failed(f"planted: {name} does not have {old}")
+            write(f"{room}/{name}", text[name].replace(old, new, 1))
+            is_told(room, f"{old} was {new} in {name}")
+            write(f"{room}/{name}", text[name])
+        write(f"{room}/src/proved/other.rs", "")
+        is_told(room, "a file of no source")
+        os.remove(f"{room}/src/proved/other.rs")
+        run([sys.executable, "tests/erased.py", "crates", room])
+    return len(FAULTS) + 1
+
+
+def write(file, text):
+    with open(file, "w", encoding="utf-8") as it:
+        it.write(text)
+
+
+def is_told(room, fault):
+    if has(sys.executable, f"{TOP}/tests/erased.py", f"{TOP}/crates", room):
+        raise Failed(f"planted, and not told: {fault}")
+
+
+NO_SIMD = ["--lib", "--test", "vectors", "--test", "properties"]
+
+
+def beside():
+    return cargo("rust/beside", "test") + cargo("rust/beside", "test", "--features", "fast")
+
+
+def lints():
+    done = 0
+    for folder in ("tools/erase", "rust", "rust/c", "rust/compat", "rust/beside"):
+        run(["cargo", "fmt", "--check"], f"{TOP}/{folder}")
+        done += 1
+    if not has("cargo", "clippy", "--version"):
+        return done
+    fast = ["--features", "fast"]
+    for folder, *words in (["tools/erase"], ["rust"], ["rust", *fast], ["rust/c"], ["rust/compat"], ["rust/beside"]):
+        cargo(folder, "clippy", "--all-targets", *words, "--", "-D", "warnings")
+        done += 1
+    cargo("rust", "doc", "--no-deps", RUSTDOCFLAGS="-D warnings")
+    return done + 1
+
+
+def package():
+    cargo("rust", "package", "--allow-dirty")
+    return 1
+
+
+def declared():
+    """Returns the symbols that include/odht.h declares."""
+    with open(f"{TOP}/include/odht.h", encoding="utf-8") as it:
+        return {"odht_version"} | {f"odht_{name}" for name in re.findall(r"^ +ODHT_SYMBOL\((\w+)\)", it.read(), re.M)}
+
+
+def library_for_c():
+    cargo("rust/c", "build", "--release")
+    passed = cargo("rust/c", "test", "--lib")
+    libraries = f"{CARGO_FILES}/release"
+    if has("nm", "--version"):
+        names = set(re.findall(r" T (odht_\w+)", run(["nm", "-D", "--defined-only", f"{libraries}/libodht.so"])))
+        if names != declared():
+            raise Failed(f"declared and not there, or there and not declared: {sorted(names ^ declared())}")
+        passed += 1
+    if has("cc", "--version"):
+        passed += len(re.findall("well", run(["sh", "rust/c/examples.sh", libraries])))
+    return passed
+
+
+TESTS = {
+    "current": current,
+    "planted": planted,
+    "erase": lambda: cargo("tools/erase", "test"),
+    "crate": lambda: cargo("rust", "test", "--lib", "--tests"),
+    "examples": lambda: cargo("rust", "test", "--doc"),
+    "fast": lambda: cargo("rust", "test", "--lib", "--tests", "--features", "fast"),
+    "no_simd": lambda: cargo("rust", "test", "--features", "no_simd", *NO_SIMD),
+    "compat": lambda: cargo("rust/compat", "test"),
+    "beside": beside,
+    "lints": lints,
+    "package": package,
+    "c": library_for_c,
+}
+
+
+def ended(name):
+    """Runs a test, and returns how many passed and failed."""
+    began = time.monotonic()
+    try:
+        passed = TESTS[name]()
+    except Failed as what:
+        print(f"{name}: FAILED\n{what}", flush=True)
+        return 0, 1
+    print(f"{name}: {passed} passed; {time.monotonic() - began:.0f} s", flush=True)
+    return passed, 0
+
+
+def main(*names):
+    unknown = [it for it in names if it not in TESTS]
+    if unknown:
+        sys.exit(f"no test is named {unknown[0]!r}; there are {', '.join(TESTS)}")
+    if not has("cargo", "--version") or not has("rustfmt", "--version"):
+        print("there is no cargo here\n0 passed, 0 failed")
+        return 0
+    # cargo builds one after the other, and runs what it has built at the same time
+    with ThreadPoolExecutor(len(os.sched_getaffinity(0))) as pool:
+        counts = list(pool.map(ended, [it for it in TESTS if not names or it in names]))
+    passed, failed = (sum(it[at] for it in counts) for at in (0, 1))
+    print(f"{passed} passed, {failed} failed")
+    return 1 if failed else 0
+
+
+if __name__ == "__main__":
+    sys.exit(main(*sys.argv[1:]))

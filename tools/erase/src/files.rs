@@ -1,0 +1,110 @@
+//! The files of crates.
+
+use crate::{erase, Crate, Erased, Plan};
+use std::collections::{BTreeMap, BTreeSet};
+use std::fs;
+use std::path::{Path, PathBuf};
+
+/// What was done with some sources.
+#[derive(Clone, Copy, Debug, Default, PartialEq, Eq)]
+pub struct Counts {
+    /// How many sources there were.
+    pub files: usize,
+    /// How many tokens, without spaces and comments.
+    pub tokens: usize,
+    /// How many tokens were dropped.
+    pub dropped: usize,
+    /// How often something was replaced.
+    pub replaced: usize,
+}
+
+/// Erases `CRATES/NAME/src` of each crate of the plan into OUT. A line at the head of each file says of which source it
+/// was made. An error has its file and line.
+pub fn erase_all(plan: &Plan<'_>, crates: &Path, out: &Path) -> Result<Counts, String> {
+    let mut all = BTreeMap::new();
+    for krate in plan.crates {
+        let root = crates.join(krate.name).join("src");
+        for path in sources(&root, &root)? {
+            all.insert((krate.name, path.clone()), (krate, read(&root, &path)?));
+        }
+    }
+    let declared = all.values().flat_map(|(_, source)| declared_in(source)).collect();
+    let mut counts = Counts::default();
+    for ((_, path), (krate, source)) in &all {
+        if let Some(erased) = erase_file(plan, krate, path, &declared, source)? {
+            write(krate, path, &out.join(file_of(krate, path)), &erased.text)?;
+            counts.files += 1;
+            counts.tokens += erased.tokens;
+            counts.dropped += erased.dropped;
+            counts.replaced += erased.replaced.len();
+        }
+    }
+    Ok(counts)
+}
+
+/// The names of the functions that a source declares.
+pub fn declared_in(source: &str) -> Vec<String> {
+    let words: Vec<&str> = source.split(|c: char| !c.is_alphanumeric() && c != '_').collect();
+    let names = words.windows(2).filter(|pair| pair[0] == "fn" && !pair[1].is_empty());
+    names.map(|pair| pair[1].to_string()).collect()
+}
+
+// Erases one source, but none of a module of laws.
+fn erase_file(
+    plan: &Plan<'_>,
+    krate: &Crate<'_>,
+    path: &str,
+    declared: &BTreeSet<String>,
+    source: &str,
+) -> Result<Option<Erased>, String> {
+    let module = format!("{}::{}", krate.name, path.replace('/', "::"));
+    if plan.dropped_modules.contains(&module.as_str()) {
+        return Ok(None);
+    }
+    let name = format!("{}/{path}", krate.name);
+    let erased = erase(plan, krate, &name, declared, source);
+    erased.map(Some).map_err(|what| format!("crates/{}/src/{path}.rt: {what}", krate.name))
+}
+
+// The sources below a folder, as paths from the root without their ending.
+fn sources(root: &Path, folder: &Path) -> Result<Vec<String>, String> {
+    let told = |e: std::io::Error| format!("{}: {e}", folder.display());
+    let mut entries: Vec<PathBuf> = Vec::new();
+    for entry in fs::read_dir(folder).map_err(told)? {
+        entries.push(entry.map_err(told)?.path());
+    }
+    entries.sort();
+    let mut found = Vec::new();
+    for path in entries {
+        if path.is_dir() {
+            found.extend(sources(root, &path)?);
+            continue;
+        }
+        let inside = path.strip_prefix(root).ok().and_then(Path::to_str);
+        match inside.and_then(|path| path.strip_suffix(".rt")) {
+            Some(stem) => found.push(stem.to_string()),
+            None => return Err(format!("{}: no source of Rattle", path.display())),
+        }
+    }
+    Ok(found)
+}
+
+fn read(root: &Path, path: &str) -> Result<String, String> {
+    let file = root.join(format!("{path}.rt"));
+    fs::read_to_string(&file).map_err(|e| format!("{}: {e}", file.display()))
+}
+
+// The file of a module: that of the root is the crate's.
+fn file_of(krate: &Crate<'_>, path: &str) -> String {
+    match path {
+        "lib" => format!("{}.rs", krate.to),
+        _ => format!("{}/{path}.rs", krate.to),
+    }
+}
+
+fn write(krate: &Crate<'_>, path: &str, file: &Path, text: &str) -> Result<(), String> {
+    let told = |e: std::io::Error| format!("{}: {e}", file.display());
+    let head = format!("// Made by `make rust` of crates/{}/src/{path}.rt.", krate.name);
+    fs::create_dir_all(file.parent().unwrap_or(file)).map_err(told)?;
+    fs::write(file, format!("{head}\n{text}")).map_err(told)
+}

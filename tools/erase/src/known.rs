@@ -1,0 +1,50 @@
+//! What means in Rust what it means in Rattle, and what is an error wherever it is met.
+
+/// Paths of std that are the same.
+pub const SAME_PATHS: [&str; 5] = [
+    "std::fmt",
+    "std::fmt::Debug",
+    "std::iter::FusedIterator",
+    "std::marker::PhantomData",
+    "std::error::Error",
+];
+
+/// Paths of std that the shim has, under the same last name.
+pub const SHIM_PATHS: [&str; 2] = ["std::alloc::AllocError", "std::alloc::Global"];
+
+/// Macros that are the same.
+pub const SAME_MACROS: [&str; 3] = ["write", "writeln", "unreachable"];
+
+/// Attributes that are the same.
+pub const SAME_ATTRIBUTES: [&str; 3] = ["inline", "repr", "unsafe"];
+
+/// Traits that are derived in the same way.
+pub const SAME_DERIVES: [&str; 5] = ["Clone", "Copy", "Debug", "Eq", "PartialEq"];
+
+/// Members of numbers that are the same.
+pub const SAME_OF_NUMBERS: [&str; 2] = ["MAX", "from_le_bytes"];
+
+/// Numbers.
+pub const NUMBERS: [&str; 6] = ["u8", "u16", "u32", "u64", "u128", "usize"];
+
+/// Methods of std that are the same. Those of `u8x16` are the shim's.
+pub const SAME_METHODS: &str = "all as_mut_slice as_slice checked_mul copy_from_slice div_ceil fill first_chunk \
+    first_chunk_mut get is_none is_ok is_power_of_two is_some iter last_chunk len max min next next_power_of_two \
+    partition_point push rotate_left saturating_add saturating_sub simd_eq simd_ge simd_lt sort_unstable split_at_mut \
+    split_first_chunk to_bitmask to_le_bytes trailing_zeros unwrap_or wrapping_mul wrapping_sub";
+
+/// Methods that allocate in Rust: in Rattle each takes an allocator, or returns that memory was refused. They are an
+/// error also where a function of this name is declared.
+pub const ALLOCATING_METHODS: &str =
+    "clone push extend reserve to_string to_owned insert_str append resize split_off \
+    into_boxed_slice concat join repeat cloned sort sort_by sort_by_key";
+
+/// Words that Rattle has and Rust does not, or that mean something else there, or that these sources do without.
+pub const OTHER_WORDS: &str = "ghost requires ensures final Drop static async await dyn macro_rules union f32 f64 \
+    String Box Rc Arc HashMap HashSet BTreeMap BTreeSet VecDeque Cow format prove assume decreases HostRuntime Abort \
+    Wait Threads Clock isize i8 i16 i32 i64 i128 unimplemented todo panic assert cfg test yield become";
+
+/// Whether a word is one of a list.
+pub fn is_in(word: &str, list: &str) -> bool {
+    list.split_whitespace().any(|it| it == word)
+}

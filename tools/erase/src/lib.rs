@@ -1,0 +1,85 @@
+//! Erases the ghost parts of Rattle sources, which leaves Rust. Each token is kept, dropped or replaced by a rule, and
+//! what no rule knows is an error with its file and line. README.md lists the rules.
+
+#![forbid(unsafe_code)]
+#![deny(missing_docs)]
+
+mod attributes;
+mod calls;
+mod exports;
+mod files;
+mod ghosts;
+mod indexes;
+mod known;
+mod rules;
+mod source;
+mod tokens;
+mod uses;
+
+use std::collections::BTreeSet;
+
+pub use files::{declared_in, erase_all, Counts};
+
+/// What is made of several Rattle crates: modules of Rust crates.
+#[derive(Clone, Copy)]
+pub struct Plan<'p> {
+    /// The crates, lowest first.
+    pub crates: &'p [Crate<'p>],
+    /// Traits that say something in contracts alone.
+    pub dropped_traits: &'p [&'p str],
+    /// Modules of laws, as `CRATE::MODULE`.
+    pub dropped_modules: &'p [&'p str],
+    /// Files, as `CRATE/PATH` without the ending, in which an index is written as `index!` or `index_mut!`.
+    pub indexed: &'p [&'p str],
+}
+
+/// A Rattle crate, and what becomes of it.
+#[derive(Clone, Copy)]
+pub struct Crate<'p> {
+    /// Its name.
+    pub name: &'p str,
+    /// The path of its module in the Rust crate, without `crate::`.
+    pub module: &'p str,
+    /// The file of this module without its ending, and the folder of the modules in it.
+    pub to: &'p str,
+}
+
+/// The Rust of a source.
+pub struct Erased {
+    /// The text. It is not in the layout of rustfmt.
+    pub text: String,
+    /// What was replaced.
+    pub replaced: Vec<Replaced>,
+    /// How many tokens there were, without spaces and comments.
+    pub tokens: usize,
+    /// How many of them were dropped, those that were replaced left out.
+    pub dropped: usize,
+}
+
+/// Code that was replaced.
+#[derive(Clone, Debug, PartialEq, Eq)]
+pub struct Replaced {
+    /// Its line, from 1.
+    pub line: usize,
+    /// What it was.
+    pub old: String,
+    /// What it is now.
+    pub new: String,
+}
+
+/// Erases a source of a crate of the plan. The path is that of [`Plan::indexed`]. `declared` are the functions of all
+/// sources; a method that is neither one of them nor known to be the same in Rust is an error.
+pub fn erase(
+    plan: &Plan<'_>,
+    krate: &Crate<'_>,
+    path: &str,
+    declared: &BTreeSet<String>,
+    source: &str,
+) -> Result<Erased, String> {
+    let source = source::Source::new(source, krate.module)?;
+    let is_indexed = plan.indexed.contains(&path);
+    let mut eraser = rules::Eraser { source, plan, krate, declared, is_indexed };
+    eraser.erase()?;
+    eraser.check()?;
+    Ok(eraser.source.erased())
+}
