@@ -64,9 +64,8 @@ impl<C: Config> HashTableOwned<C> {
         Ok(table)
     }
 
-    /// The value of a key, or None: that of its last insert.
-    ///
-    /// Each group of control bytes is read at most once.
+    /// The value of a key, or None: that of its last insert. [`HashTableOwned::get_counted`] says how many groups the
+    /// search reads.
     #[inline]
     pub fn get(&self, key: &C::Key) -> Option<C::Value> {
         self.table.get(key)
@@ -80,8 +79,6 @@ impl<C: Config> HashTableOwned<C> {
     }
 
     /// Whether the key has a value.
-    ///
-    /// Each group of control bytes is read at most once.
     #[inline]
     pub fn contains_key(&self, key: &C::Key) -> bool {
         self.table.contains_key(key)

@@ -8,7 +8,7 @@ use crate::proved::raw::swisstable_group_query::{Group, REFERENCE_GROUP_SIZE};
 /// slot counts as occupied. Matches of the tag are not used, and no key is compared.
 ///
 /// The home slot's own byte is read first: a load of sixteen bytes has to wait for a byte that was just written, a load
-/// of this byte alone does not. Then each group is read at most once. All this holds for every group search.
+/// of this byte alone does not. All this holds for every group search.
 #[inline]
 pub(super) fn first_free<Q: Group>(control: &[EntryMetadata], hash: u32) -> Option<usize> {
     let mask = control.len() - REFERENCE_GROUP_SIZE - 1;

@@ -12,7 +12,7 @@ use crate::proved::raw::swisstable_group_query::REFERENCE_GROUP_SIZE;
 /// The value stored with the key, searched for slot by slot along the probe order.
 ///
 /// On the parts of a table whose keys are all reached it is the map's answer. On any parts it is a value that is stored
-/// with an equal key. Each slot is read at most once.
+/// with an equal key.
 pub fn plain_find<K: ByteArray, V: ByteArray, H: HashFn>(
     control: &[EntryMetadata],
     entries: &Entries<'_, K, V>,

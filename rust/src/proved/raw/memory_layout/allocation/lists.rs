@@ -18,9 +18,8 @@ impl<C: Config, M: ByteStoreMut> Allocation<C, M> {
     /// many, or all that are left where these are fewer. On any bytes it stops earlier only where each slot counts as
     /// occupied.
     ///
-    /// The header is read once and the item count written once. For an item at most each group is read once. In tables
-    /// of 2^20 slots and more the group at the home slot may be read once more, ahead of the insert, for eight keys in
-    /// turn.
+    /// The header is read once and the item count written once. Each item costs a search. In tables of 2^20 slots and
+    /// more the group at the home slot may be read before it, ahead of the insert, for eight keys in turn.
     #[inline(always)]
     pub fn insert_below_maximum<I: Items<C::Key, C::Value>>(
         &mut self,
