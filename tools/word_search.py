@@ -28,8 +28,7 @@ def swap(folder):
 
 
 def copy_sources(folder, crates):
-    """Copies what the crates are built of, and what builds them without proofs, in place of an older copy."""
-    shutil.rmtree(folder, ignore_errors=True)
+    """Copies what the crates are built of, and what builds them without proofs."""
     for crate in crates:
         shutil.copytree(f"{TOP}/crates/{crate}/src", f"{folder}/crates/{crate}/src")
     os.makedirs(f"{folder}/tools")
