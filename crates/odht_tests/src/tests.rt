@@ -12,6 +12,7 @@ mod interface_base;
 mod interface_errors;
 mod interface_groups;
 mod interface_layout;
+mod interface_queries;
 mod interface_raw;
 mod interface_tables;
 mod large_lists;
