@@ -86,6 +86,21 @@ pub after : IsAfter direct_config (five_in_three 16) occupied_controls five (Fou
 unfolding opened
 after = ((14, lit< tt, refl, (λ q l. absurd (omega (arith, l))), found_after), six_on)
 
+-- sixteen occupied slots, each with the key 0
+abbrev zeros : EntryBytes
+zeros = record { slots = 16; bytes = replicate 128 0 }
+
+-- a key is not found behind a slot where it could have been found
+found_after_found_refused : IsAfter direct_config zeros occupied_controls (le_bytes 4 0) (Found 1) → ⊥
+unfolding opened
+found_after_found_refused (zero, low, is, on, other) = unequal 0 1 refl is
+found_after_found_refused (suc p, low, is, on, other) = elim (other 0 (omega arith)) [ inl d ↦ d refl refl | inr d ↦ d.1 refl refl ]
+
+-- nor is it passed on the way to the last slot
+nowhere_after_key_refused : IsAfter direct_config zeros occupied_controls (le_bytes 4 0) Neither → ⊥
+unfolding opened
+nowhere_after_key_refused on = elim (on 0 (lit< tt)) [ inl g ↦ g.1 refl refl | inr g ↦ g.1.1 refl refl ]
+
 -- a free slot is not where a search ends that could have ended at one before
 pub free_after_free_refused : IsAfter direct_config (five_in_three 16) (replicate 32 255) six (Free 7) → ⊥
 unfolding opened
@@ -163,6 +178,12 @@ free_past_key_refused (j, low, is, counts, on) = elim (cases_lt 1 j) [
   | inl later ↦ (on 1 later).1 refl refl
   | inr first ↦ untrue (λ i. counts_as_free (slice_index (set (replicate 4 0) 3 255) i)) 2 j refl (omega (arith, first)) counts
 ]
+
+-- nor is a key found behind a slot where it could have been found
+found_past_found_refused : IsEndAmong direct_config zeros (replicate 4 0) 2 4 (le_bytes 4 0) (Found 3) → ⊥
+unfolding opened
+found_past_found_refused (zero, low, is, same, other) = unequal 3 2 refl is
+found_past_found_refused (suc j, low, is, same, other) = other 0 (omega arith) refl refl
 
 -- a group reports a key that was found, here in the slots 2 to 5, and it does not report that there is none
 pub found_in_group : IsEndAmong direct_config (five_in_three 16) (replicate 4 0) 2 4 five (Found 3)
