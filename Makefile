@@ -1,6 +1,7 @@
 # make run: the program on its first script, or on SCRIPT=file, in a build without proofs
 # make test: the tests, in a build without proofs; PARTS='vectors edits' for some of them
-# make prove: the gate: every proof from nothing, and the edits that must be rejected (rt ci)
+# make prove: the gate: every proof from nothing, and the edits that must be rejected (rt ci); WORD=1 for the gate on a
+# copy that has the word search compiled in
 # make edits: each edit of the gate and of edits/, which must be rejected; NAMES='odht_raw odht' for those of some crates
 # make build: the program with its proofs, as a file
 # make lib: build/libodht.a and build/libodht.so, each with all that it needs but the C library
@@ -18,6 +19,7 @@
 SCRIPT ?= crates/odht_table/stdin
 PARTS ?=
 NAMES ?=
+WORD ?=
 # lowest first: what the programs use, and over it the calls for C
 LIBRARIES = odht_base odht_header odht_raw odht
 FOR_C = $(LIBRARIES) odht_calls odht_c
@@ -42,7 +44,7 @@ test:
 	@python3 tests/run.py $(PARTS)
 
 prove:
-	@python3 tools/prove.py rt ci
+	@python3 tools/prove.py $(if $(WORD),--word) rt ci
 
 edits:
 	@python3 tools/edits.py run $(NAMES)

@@ -12,12 +12,13 @@
     word       all vectors and the tests of odht_tests once more, with the word search compiled in
 
 What a part needs is built first, by tools/unproved.py, into build/unproved/; what is current there is kept. For `word`
-the sources are copied to build/word/, and built there.
+that is done of a copy of the sources, in a folder for temporary files: the gate takes no second crates.txt in here.
 """
 import os
 import re
 import subprocess
 import sys
+import tempfile
 import threading
 import time
 from concurrent.futures import ThreadPoolExecutor
@@ -28,8 +29,8 @@ sys.path.insert(0, f"{TOP}/tools")
 import unproved
 import word_search
 
-# a name below it is built of the copy with the word search
-WORD = "word"
+# the names of this folder are built of a copy of the sources, with the word search
+WORD = f"{BUILT}/word"
 PRINTING = threading.Lock()
 # seconds, for one part
 LIMIT = 600
@@ -95,7 +96,7 @@ def tests_in_rattle(built=BUILT):
 
 
 def with_word_search():
-    ran = [it(f"{BUILT}/{WORD}") for it in (vectors, tests_in_rattle)]
+    ran = [it(WORD) for it in (vectors, tests_in_rattle)]
     passed, failed = (sum(it[at] for it in ran) for at in (0, 1))
     return passed, failed, "\n".join(printed for _, failures, printed in ran if failures)
 
@@ -136,7 +137,7 @@ PARTS = {
     "ffi": (["libodht.a"], package_over_the_archive),
     "rattle": (["odht_tests"], tests_in_rattle),
     "vectors": (["odht_vectors"], vectors),
-    "word": ([f"{WORD}/odht_tests", f"{WORD}/odht_vectors"], with_word_search),
+    "word": (["word/odht_tests", "word/odht_vectors"], with_word_search),
     "memory": (["odht_memory", "odht_table"], memory),
     "tool": (["odht_tool"], lambda: cases("odht_tool", "tests/tool")),
     "script": (["odht_table"], lambda: cases("odht_table", "tests/script")),
@@ -147,16 +148,18 @@ PARTS = {
 
 
 def build(name):
-    """Builds a name, of the copy with the word search where it says so. Returns whether it was built."""
-    of_copy, _, crate = name.rpartition("/")
-    if not of_copy:
+    """Builds what a part needs. Returns whether it was built anew."""
+    if not name.startswith("word/"):
         return unproved.build(BUILT, name)
-    to = f"{BUILT}/{name}.stamp"
+    crate = name.removeprefix("word/")
+    to = f"{BUILT}/{name}"
     before = os.stat(to).st_mtime_ns if os.path.exists(to) else 0
-    status, printed = run([sys.executable, f"{TOP}/build/{WORD}/tools/unproved.py", f"{BUILT}/{WORD}", crate])
+    with tempfile.TemporaryDirectory(prefix="odht-word-") as copy:
+        word_search.copy_sources(copy, [crate, *unproved.crates()[crate]])
+        status, printed = run([sys.executable, f"{copy}/tools/unproved.py", WORD, crate])
     if status:
         raise unproved.BuildError(printed)
-    return os.stat(to).st_mtime_ns != before
+    return before != os.stat(to).st_mtime_ns
 
 
 def built(name):
@@ -193,9 +196,6 @@ def main(*names):
     os.makedirs(BUILT, exist_ok=True)
     parts = {it: PARTS[it] for it in PARTS if not names or it in names}
     needed = dict.fromkeys(name for needs, _ in parts.values() for name in needs)
-    if WORD in parts:
-        crates = unproved.crates()
-        word_search.copy_sources(f"{TOP}/build/{WORD}", ["odht_vectors", *crates["odht_vectors"]])
     lanes = len(os.sched_getaffinity(0))
     with ThreadPoolExecutor(lanes) as builders, ThreadPoolExecutor(len(parts)) as runners:
         ready = {it: builders.submit(built, it) for it in needed}

@@ -1,8 +1,9 @@
 #!/usr/bin/env python3
 """The gate, `rt ci`, told as it goes: what it will do, each minute how far it is, and what each crate cost.
 
-  tools/prove.py [WORDS..]      runs `rt ci`, or the command of these words, with its output as it comes
+  tools/prove.py [--word] [WORDS..]      runs `rt ci`, or the command of these words, with its output as it comes
 
+With --word the gate runs on a copy of the tracked files, outside of the repository, that has the word search compiled in.
 The processor time is read once a second from the running checks, so what ends within a second is not counted.
 """
 import os
@@ -12,6 +13,8 @@ import tempfile
 import threading
 import time
 from collections import Counter
+
+import word_search
 
 TOP = os.path.dirname(os.path.dirname(os.path.realpath(__file__)))
 KINDS = ("proof", "tests", "base of edits", "edits")
@@ -90,6 +93,7 @@ def table(minutes, names):
 
 
 def main(*words):
+    by_word, words = words[:1] == ("--word",), [it for it in words if it != "--word"]
     known = crates()
     edits = sum(known.values())
     lanes = len(os.sched_getaffinity(0))
@@ -97,7 +101,11 @@ def main(*words):
     print(f"on four processors expect more than half an hour; here are {lanes}", flush=True)
     began, proved = time.monotonic(), []
     with tempfile.TemporaryDirectory(prefix="odht-prove-") as room:
-        how = {"cwd": os.getcwd(), "env": {**os.environ, "TMPDIR": room}, "text": True, "errors": "replace"}
+        tree = f"{room}/word" if by_word else os.getcwd()
+        if by_word:
+            word_search.copy_tracked(tree)
+            print(f"on a copy with the word search compiled in, {tree}", flush=True)
+        how = {"cwd": tree, "env": {**os.environ, "TMPDIR": room}, "text": True, "errors": "replace"}
         os.chmod(room, 0o755)
         gate = subprocess.Popen(words or ["rt", "ci"], stdout=subprocess.PIPE, stderr=subprocess.STDOUT, **how)
         printing = threading.Thread(target=pass_on, args=(gate.stdout, proved))

@@ -1,9 +1,7 @@
 #!/usr/bin/env python3
-"""Copies of the sources with the other group search compiled in: one line of one file is swapped.
+"""Copies of the sources with the word search compiled in: one line of one file is changed.
 
-  tools/word_search.py FOLDER      copies the tracked files to FOLDER, which must not be there, and swaps the line
-
-The lanes are compiled in, so the copy has the word search; where the line names the word search, it has the lanes.
+  tools/word_search.py FOLDER      copies the tracked files to FOLDER, which must not be there, and changes the line
 """
 import os
 import shutil
@@ -15,27 +13,27 @@ FILE = "crates/odht_base/src/swisstable_group_query.rt"
 LINES = [f"pub use {it}::{{GROUP_SIZE, GroupQuery}};\n" for it in ("lanes", "no_simd")]
 
 
-def swap(folder):
-    """Swaps the line in a copy of the sources."""
+def name_word_search(folder):
+    """Changes the line in a copy of the sources."""
     with open(f"{folder}/{FILE}", encoding="utf-8") as it:
         text = it.read()
     found = [it for it in LINES if it in text]
     if len(found) != 1 or text.count(found[0]) != 1:
         sys.exit(f"{FILE} does not have one line that says which group search is compiled in")
-    [other] = set(LINES) - set(found)
+    if found[0] == LINES[1]:
+        sys.exit(f"{FILE} names the word search already")
     with open(f"{folder}/{FILE}", "w", encoding="utf-8") as it:
-        it.write(text.replace(found[0], other))
+        it.write(text.replace(LINES[0], LINES[1]))
 
 
 def copy_sources(folder, crates):
-    """Copies what the crates are built of, and what builds them without proofs, in place of an older copy."""
-    shutil.rmtree(folder, ignore_errors=True)
+    """Copies what the crates are built of, and what builds them without proofs."""
     for crate in crates:
         shutil.copytree(f"{TOP}/crates/{crate}/src", f"{folder}/crates/{crate}/src")
     os.makedirs(f"{folder}/tools")
     for file in ("crates.txt", "tools/unproved.py", "tools/requests.c"):
         shutil.copy(f"{TOP}/{file}", f"{folder}/{file}")
-    swap(folder)
+    name_word_search(folder)
 
 
 def copy_tracked(folder):
@@ -46,7 +44,7 @@ def copy_tracked(folder):
         if os.path.lexists(f"{TOP}/{file}"):
             os.makedirs(os.path.dirname(f"{folder}/{file}"), exist_ok=True)
             shutil.copy(f"{TOP}/{file}", f"{folder}/{file}", follow_symlinks=False)
-    swap(folder)
+    name_word_search(folder)
 
 
 if __name__ == "__main__":

@@ -281,7 +281,7 @@ impl<C: Config, D: ByteStoreMut> HashTable<C, D> {
     /// load factor is in percent of the slots.
     ///
     /// The errors are those of [`HashTable::init_in_place`]. An error leaves the store as it was. Where there is none,
-    /// [`HashTable::from_raw_bytes_unchecked`] accepts the store.
+    /// [`HashTable::from_raw_bytes_unchecked`] accepts the store. One pass over the bytes.
     pub fn init_store(
         store: &mut D,
         max_item_count: usize,
@@ -291,7 +291,8 @@ impl<C: Config, D: ByteStoreMut> HashTable<C, D> {
         requires high { max_load_factor_percent ≤ 100 }
         ensures ok { let F = ⟦<C as Coded>⟧.coding.format
             in OnOk result (IsFresh F max_item_count max_load_factor_percent (D.bytes store.new)) }
-        ensures accepted { OnOk result (IsAccepted ⟦<C as Coded>⟧.coding.format (D.bytes store.new)) }
+        ensures accepted { let F = ⟦<C as Coded>⟧.coding.format
+            in OnOk result (IsAccepted F (D.bytes store.new)) }
         ensures err { let F = ⟦<C as Coded>⟧.coding.format
             in let f = factor_of max_load_factor_percent
             in result_err result ≡ new_refusal F max_item_count f (length (D.bytes store.old)) }
@@ -321,8 +322,8 @@ impl<C: Config, D: ByteStoreMut> HashTable<C, D> {
     ///
     /// On any bytes either one value that is stored with an equal key changes; or, where the header's count is below
     /// its maximum, one entry and its tag are written to a slot that counted as free and the count rises by one. No
-    /// other byte changes. `Full` comes only where the search does not find the key, and the header's count is its
-    /// maximum or more, or each slot counts as occupied.
+    /// other byte changes. `Full` comes only where a search slot by slot can end without the key, and the header's count
+    /// is its maximum or more, or each slot counts as occupied.
     ///
     /// The key is hashed once. [`HashTable::get_counted`] says how many groups the search reads.
     #[inline(always)]

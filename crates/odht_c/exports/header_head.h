@@ -46,10 +46,10 @@
  * or find a value that is stored beside it in a slot whose control byte says free;
  * len answers the header's count; an insert, alone or of many, changes one value
  * beside an equal key, or adds one entry below the header's maximum; it answers FULL
- * only where its search does not find the key, at that maximum or where each slot is
- * occupied by its control byte or by the copy of that in the mirror; a growth makes
- * bytes in which these errors do not occur either, with the header's count and load
- * factor. docs/FORMAT.md has the details.
+ * only where a search slot by slot can miss the key, at that maximum or where each
+ * slot is occupied by its control byte or by the copy of that in the mirror; a growth
+ * makes bytes in which these errors do not occur either, with the header's count and
+ * load factor. docs/FORMAT.md has the details.
  *
  * odht_*_build_growing alone allocates memory, by malloc, and frees it before it
  * returns. libodht.a and libodht.so need the C library and nothing else.

@@ -11,7 +11,8 @@
 --     Differs F E ctrl k i by one of its control bytes, slot i is not one where k is found
 --     GoesOn F E ctrl k i  and by this byte the slot is not free either: a search for k goes on
 --     GoesOnTo F E ctrl k p  a search for k goes on from each position before p
---     IsMissing F E ctrl k the search for k ends without it: at a slot that counts as free, or after the last slot
+--     IsMissing F E ctrl k a search for k, slot by slot, can end without it: at a slot that counts as free, or after
+--                          the last slot. What is behind such a slot is not asked, though a search by groups looks there
 use Rattle.std.specs.Prelude.{◌≡◌, ℕ, ◌+◌, ◌-◌, ◌<◌, ◌≤◌, List, length, slice_index, ◌⊎◌, IsTrue, IsFalse}
 use Rattle.odht_base.specs.Format.{Format, home, tag}
 use Rattle.odht_base.specs.Decoded.{counts_as_free, slot_key}

@@ -2,7 +2,7 @@
 --     IsAccepted F B       the header and the length fit
 --     header_maximum B     the maximum item count of the header's slot count and load factor
 --     entries_in F B       the entries, as many as the header's slot count
---     IsAbsent F B k       the search for the key k ends without it
+--     IsAbsent F B k       a search for the key k, slot by slot, can end without it
 --     InsertFrame F B p r B'              an insert of p, a pair of F, may answer r and leave B'
 --     IsBytesFramed F f B p r B'          the same with the answer decoded by f
 --     IsFramed c B k v r B'               the same of a key and a value

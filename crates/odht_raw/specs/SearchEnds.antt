@@ -2,7 +2,7 @@
 --     HoldsKeyAt F E k i        slot i is one of E, and its entry has the key k
 --     IsEnd F E ctrl k r        a Found is a slot whose entry has the key k, a Free is a slot that counts as free by
 --                               its control byte or its mirror; on Neither each slot counts as occupied by one of
---                               the two, and the search goes on from each
+--                               the two, and the search goes on from each (as IsAfter says too)
 --     IsAfter F E ctrl k r      what comes before in the probe order: a Free is at a position before which the search
 --                               goes on; so is a Found up to its group of sixteen, in which k is at no earlier
 --                               position, but a free one may be; on Neither the search goes on from each position

@@ -80,7 +80,7 @@ found_after q l =
     inl (λ t e. unequal_lists (slot_key direct_config (five_in_three 16).bytes (order_slot direct_config (five_in_three 16) five q)) five
     (tested (λ j. lists_differ (slot_key direct_config (five_in_three 16).bytes (order_slot direct_config (five_in_three 16) five j)) five) 14 q refl l) e)
 
--- 5 is found at position 14, and 6 ends at the free slot 5 after the other fifteen, or at none
+-- 5 is found at position 14, and for 6 the search goes on from each
 pub after : IsAfter direct_config (five_in_three 16) occupied_controls five (Found 3)
     × IsAfter direct_config (five_in_three 16) occupied_controls six Neither
 unfolding opened

@@ -20,9 +20,10 @@ use crate::swisstable_group_query::{Group, REFERENCE_GROUP_SIZE};
 /// On the parts of a table whose keys are all reached the answer is the slot where a search slot by slot ends, which is
 /// where a pair with the key is placed, and exactly the groups up to this slot are read. On any parts `Found` is a slot
 /// whose entry has an equal key, `Free` is a slot that counts as free, `Neither` is answered only where each slot
-/// counts as occupied, by its control byte or its mirror; at no slot before in the probe order could the search have
-/// ended; and no more groups are read than there are. All this holds for every group search. The rules are those of
-/// docs/FORMAT.md, "Search".
+/// counts as occupied, by its control byte or its mirror. No slot before it in the probe order has this key with its
+/// tag; and none before a `Free`, none in a group before that of a `Found`, and none at all on `Neither`, counts as free:
+/// each by its control byte or its mirror. No more groups are read than there are. All this holds for every group
+/// search. The rules are those of docs/FORMAT.md, "Search".
 #[inline]
 pub fn search<K: ByteArray, V: ByteArray, H: HashFn, Q: Group>(
     scan: &mut Scan<'_>,
@@ -40,8 +41,10 @@ pub fn search<K: ByteArray, V: ByteArray, H: HashFn, Q: Group>(
         → IsPartsOf (format_of K.LEN V.LEN H.hash) P entries.now.bytes scan.old.control
         → let read = groups_read (format_of K.LEN V.LEN H.hash) P.cells (K.bytes key.now)
         in scan.new.groups ≡ min (scan.old.groups + read) usize.MAX }
-    ensures slot { IsEnd (format_of K.LEN V.LEN H.hash) entries.now scan.old.control (K.bytes key.now) result }
-    ensures earlier { IsAfter (format_of K.LEN V.LEN H.hash) entries.now scan.old.control (K.bytes key.now) result }
+    ensures slot { let F = format_of K.LEN V.LEN H.hash
+        in IsEnd F entries.now scan.old.control (K.bytes key.now) result }
+    ensures earlier { let F = format_of K.LEN V.LEN H.hash
+        in IsAfter F entries.now scan.old.control (K.bytes key.now) result }
     ensures few { scan.new.groups ≤ scan.old.groups + entries.now.slots / 16 }
     ensures control { scan.new.control ≡ scan.old.control }
 {
@@ -69,8 +72,10 @@ pub fn search_hashed<K: ByteArray, V: ByteArray, H: HashFn, Q: Group>(
         → IsPartsOf (format_of K.LEN V.LEN H.hash) P entries.now.bytes scan.old.control
         → let read = groups_read (format_of K.LEN V.LEN H.hash) P.cells (K.bytes key.now)
         in scan.new.groups ≡ min (scan.old.groups + read) usize.MAX }
-    ensures slot { IsEnd (format_of K.LEN V.LEN H.hash) entries.now scan.old.control (K.bytes key.now) result }
-    ensures earlier { IsAfter (format_of K.LEN V.LEN H.hash) entries.now scan.old.control (K.bytes key.now) result }
+    ensures slot { let F = format_of K.LEN V.LEN H.hash
+        in IsEnd F entries.now scan.old.control (K.bytes key.now) result }
+    ensures earlier { let F = format_of K.LEN V.LEN H.hash
+        in IsAfter F entries.now scan.old.control (K.bytes key.now) result }
     ensures few { scan.new.groups ≤ scan.old.groups + entries.now.slots / 16 }
     ensures control { scan.new.control ≡ scan.old.control }
 {
@@ -105,10 +110,10 @@ fn look_at_group<K: ByteArray, V: ByteArray, H: HashFn, Q: Group>(
     requires tag { tag ≡ key_tag (format_of K.LEN V.LEN H.hash) (K.bytes key.now) }
     requires small { tag < 128 }
     requires lengths { ArePairLengths H.MIN_LEN K.LEN V.LEN }
-    ensures slot { IfSome result
-        (IsEndAmong (format_of K.LEN V.LEN H.hash) entries.now bytes.now start 16 (K.bytes key.now)) }
-    ensures none { IsNone result
-        → GoesOnAmong (format_of K.LEN V.LEN H.hash) entries.now bytes.now start (K.bytes key.now) 16 }
+    ensures slot { let F = format_of K.LEN V.LEN H.hash
+        in IfSome result (IsEndAmong F entries.now bytes.now start 16 (K.bytes key.now)) }
+    ensures none { let F = format_of K.LEN V.LEN H.hash
+        in IsNone result → GoesOnAmong F entries.now bytes.now start (K.bytes key.now) 16 }
     ensures on_placed { (P : Table) (p : ℕ)
         → IsGroupAt (format_of K.LEN V.LEN H.hash) P entries.now (K.bytes key.now) p start bytes.now
         → IsLook (format_of K.LEN V.LEN H.hash) P (K.bytes key.now) p 16 result }
@@ -144,10 +149,10 @@ fn look_at_piece<K: ByteArray, V: ByteArray, H: HashFn, Q: Group>(
     requires tag { tag ≡ key_tag (format_of K.LEN V.LEN H.hash) (K.bytes key.now) }
     requires small { tag < 128 }
     requires lengths { ArePairLengths H.MIN_LEN K.LEN V.LEN }
-    ensures slot { IfSome result
-        (IsEndAmong (format_of K.LEN V.LEN H.hash) entries.now bytes.now start Q.SIZE (K.bytes key.now)) }
-    ensures none { IsNone result
-        → GoesOnAmong (format_of K.LEN V.LEN H.hash) entries.now bytes.now start (K.bytes key.now) Q.SIZE }
+    ensures slot { let F = format_of K.LEN V.LEN H.hash
+        in IfSome result (IsEndAmong F entries.now bytes.now start Q.SIZE (K.bytes key.now)) }
+    ensures none { let F = format_of K.LEN V.LEN H.hash
+        in IsNone result → GoesOnAmong F entries.now bytes.now start (K.bytes key.now) Q.SIZE }
     ensures on_placed { (P : Table) (p : ℕ)
         → IsGroupAt (format_of K.LEN V.LEN H.hash) P entries.now (K.bytes key.now) p start bytes.now
         → IsLook (format_of K.LEN V.LEN H.hash) P (K.bytes key.now) p Q.SIZE result }

@@ -59,8 +59,8 @@ impl<'c, 'e, K: ByteArray, V: ByteArray, H: HashFn> RawTableMut<'c, 'e, K, V, H>
     /// On the parts of a table whose keys are all reached it leaves the parts of the table with the pair placed, and
     /// answers `Full`, with nothing changed, exactly where each slot is occupied and none has the key. On any parts
     /// either one value stored with an equal key is overwritten, or one entry is written with its tag into a slot that
-    /// counted as free, and no other byte changes; `Full` is answered only where each slot counts as occupied and the
-    /// search does not find the key.
+    /// counted as free, and no other byte changes; `Full` is answered only where each slot counts as occupied and a
+    /// search slot by slot can end without the key.
     #[inline(always)]
     pub fn insert(&mut self, key: K, value: V) -> Result<Option<V>, Error>
         ensures { IsMutInsert self.old key value result self.new }
@@ -68,7 +68,8 @@ impl<'c, 'e, K: ByteArray, V: ByteArray, H: HashFn> RawTableMut<'c, 'e, K, V, H>
         self.insert_by::<GroupQuery>(key, value)
     }
 
-    /// `insert` by a group search of the caller's choice. All searches leave the same parts.
+    /// `insert` by a group search of the caller's choice. On the parts of a table whose keys are all reached all searches
+    /// leave the same parts.
     #[inline(always)]
     pub fn insert_by<Q: Group>(&mut self, key: K, value: V) -> Result<Option<V>, Error>
         ensures { IsMutInsert self.old key value result self.new }
@@ -90,7 +91,8 @@ impl<'c, 'e, K: ByteArray, V: ByteArray, H: HashFn> RawTableMut<'c, 'e, K, V, H>
         self.place_by::<GroupQuery>(key, value)
     }
 
-    /// `place` by a group search of the caller's choice. All searches leave the same parts.
+    /// `place` by a group search of the caller's choice. On the parts of a table whose keys are all reached all searches
+    /// leave the same parts.
     #[inline(always)]
     pub fn place_by<Q: Group>(&mut self, key: K, value: V) -> Result<(), Error>
         ensures { IsMutPlacing self.old key value result self.new }

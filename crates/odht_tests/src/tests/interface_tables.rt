@@ -111,7 +111,7 @@ fn other_owned_tables(rt: HostRuntime) -> Result<(), Error> {
     Ok(())
 }
 
-// The only order of inserts: the key 31 is in slot 0 since the key 15 is in slot 15.
+// The three pairs have an order of inserts.
 #[test]
 fn orders_of_inserts(rt: HostRuntime) -> Result<(), Error> {
     let table = three_pairs(rt.alloc())?;

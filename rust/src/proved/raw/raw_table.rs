@@ -93,7 +93,8 @@ impl<'a, K: ByteArray, V: ByteArray, H: HashFn> RawTable<'a, K, V, H> {
         self.find_counted_by::<GroupQuery>(key)
     }
 
-    /// `find_counted` by a group search of the caller's choice. All searches give the same.
+    /// `find_counted` by a group search of the caller's choice. On the parts of a table whose keys are all reached all
+    /// searches give the same.
     #[inline]
     pub fn find_counted_by<Q: Group>(&self, key: &K) -> (Option<V>, usize) {
         let mut scan = Scan::new(self.control, self.entries.len());

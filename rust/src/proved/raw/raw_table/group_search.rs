@@ -11,9 +11,10 @@ use crate::proved::raw::swisstable_group_query::{Group, REFERENCE_GROUP_SIZE};
 /// On the parts of a table whose keys are all reached the answer is the slot where a search slot by slot ends, which is
 /// where a pair with the key is placed, and exactly the groups up to this slot are read. On any parts `Found` is a slot
 /// whose entry has an equal key, `Free` is a slot that counts as free, `Neither` is answered only where each slot
-/// counts as occupied, by its control byte or its mirror; at no slot before in the probe order could the search have
-/// ended; and no more groups are read than there are. All this holds for every group search. The rules are those of
-/// docs/FORMAT.md, "Search".
+/// counts as occupied, by its control byte or its mirror. No slot before it in the probe order has this key with its
+/// tag; and none before a `Free`, none in a group before that of a `Found`, and none at all on `Neither`, counts as free:
+/// each by its control byte or its mirror. No more groups are read than there are. All this holds for every group
+/// search. The rules are those of docs/FORMAT.md, "Search".
 #[inline]
 pub fn search<K: ByteArray, V: ByteArray, H: HashFn, Q: Group>(
     scan: &mut Scan<'_>,
