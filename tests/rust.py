@@ -1,7 +1,7 @@
 #!/usr/bin/env python3
 """Tests the crate for Rust: what is generated of it, the program that generates it, and what cargo says of both.
 
-  tests/rust.py [TEST..]      all tests, or those that are named; cargo's files go to build/cargo
+  tests/rust.py [TEST..]      all tests, or those that are named; cargo's files go to build/cargo and build/cargo-*
 
     current    what is generated is what tools/erase and rustfmt make of the proved crates, and tests/erased.py reads the same
     planted    tests/erased.py reports faults that are planted in the erased text, one after the other
@@ -140,8 +140,9 @@ def is_told(room, fault):
 NO_SIMD = ["--lib", "--test", "vectors", "--test", "properties"]
 
 
-def beside():
-    return cargo("rust/beside", "test") + cargo("rust/beside", "test", "--features", "fast")
+def user(folder, *words):
+    """Tests a package that uses the crate, which it builds in a folder of its own: others may build it meanwhile."""
+    return cargo(folder, "test", *words, CARGO_TARGET_DIR=f"{CARGO_FILES}-{os.path.basename(folder)}")
 
 
 def lints():
@@ -192,8 +193,8 @@ TESTS = {
     "examples": lambda: cargo("rust", "test", "--doc"),
     "fast": lambda: cargo("rust", "test", "--lib", "--tests", "--features", "fast"),
     "no_simd": lambda: cargo("rust", "test", "--features", "no_simd", *NO_SIMD),
-    "compat": lambda: cargo("rust/compat", "test"),
-    "beside": beside,
+    "compat": lambda: user("rust/compat"),
+    "beside": lambda: user("rust/beside") + user("rust/beside", "--features", "fast"),
     "lints": lints,
     "package": package,
     "c": library_for_c,

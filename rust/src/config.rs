@@ -13,8 +13,8 @@ impl<const N: usize> ByteArray for [u8; N] {}
 ///
 /// Keys are all encoded to one number of bytes, at most 255, and values too. The bytes depend on the key or the value
 /// alone: each call gives the same, on every platform. What the proofs say of a table rests on that; where a
-/// configuration does not keep it, lookups may miss what was inserted, and its bytes may be rejected when they are opened;
-/// nothing worse comes of it. Where one of its functions panics, the table has what was inserted before.
+/// configuration does not keep it, lookups may miss what was inserted, and its bytes may be rejected when they are
+/// opened; nothing worse comes of it. Where one of its functions panics, the table has what was inserted before.
 ///
 /// Any bytes have to decode, since a table may come from anywhere.
 ///

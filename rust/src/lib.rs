@@ -15,8 +15,8 @@ mod tests;
 mod view;
 
 // The source of the proved library with its contracts taken out, made by `make rust` in the repository of this crate.
-// It is whole, also where nothing here uses it; the fields of its errors are documented by their type; and it is written
-// as it could be proved.
+// It is whole, also where nothing here uses it; the fields of its errors are documented by their type; and it is
+// written as it could be proved.
 #[allow(dead_code, unused_imports, unused_variables, missing_docs)]
 #[allow(
     clippy::collapsible_if,

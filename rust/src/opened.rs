@@ -1,8 +1,8 @@
 //! What was seen of the bytes of a table when it was opened, and the item count in its header.
 //!
-//! A table over a `D: Borrow<[u8]>` asks for the bytes at each call, and a `D` that is badly written may give others. What
-//! the proved library takes for granted of them is their length and the slot count in their header, so both are kept,
-//! and compared at each call.
+//! A table over a `D: Borrow<[u8]>` asks for the bytes at each call, and a `D` that is badly written may give others.
+//! What the proved library takes for granted of them is their length and the slot count in their header, so both are
+//! kept, and compared at each call.
 
 use crate::config::{Config, Proved};
 use crate::iter::Iter;

@@ -1,7 +1,7 @@
 //! The table that owns its bytes, and grows.
 //!
-//! What the proved library requires is seen to here: its bytes are those that the proved library made or checked, a load
-//! factor is a percentage (`percent_of`), and slices are as long as they have to be.
+//! What the proved library requires is seen to here: its bytes are those that the proved library made or checked, a
+//! load factor is a percentage (`percent_of`), and slices are as long as they have to be.
 
 use crate::config::{Config, Proved};
 use crate::iter::{Iter, Slots};
@@ -44,8 +44,8 @@ impl<C: Config> HashTableOwned<C> {
         self.0.get(key)
     }
 
-    /// `get` of many keys, each to its index. The loads of eight keys overlap, so that in a large table it is faster than
-    /// one `get` after the other. Each key is encoded twice.
+    /// `get` of many keys, each to its index. The loads of eight keys overlap, so that in a large table it is faster
+    /// than one `get` after the other. Each key is encoded twice.
     ///
     /// ```
     /// # use odht::{configs::U64ToU32, HashTableOwned};
@@ -65,8 +65,8 @@ impl<C: Config> HashTableOwned<C> {
         self.0.get_all(keys, values);
     }
 
-    /// `get`, and how many groups of sixteen control bytes it read: those up to the first slot that is free or holds the
-    /// key.
+    /// `get`, and how many groups of sixteen control bytes it read: those up to the first slot that is free or holds
+    /// the key.
     ///
     /// ```
     /// # use odht::{configs::U64ToU32, HashTableOwned};
@@ -105,8 +105,8 @@ impl<C: Config> HashTableOwned<C> {
         Iter(self.0.iter())
     }
 
-    /// The keys and values in the slots from `from` on, in slot order, each with its slot. There is none where `from` is
-    /// past the last slot.
+    /// The keys and values in the slots from `from` on, in slot order, each with its slot. There is none where `from`
+    /// is past the last slot.
     ///
     /// ```
     /// # use odht::{configs::U64ToU32, HashTableOwned};
@@ -158,8 +158,9 @@ impl<C: Config> HashTableOwned<C> {
     }
 
     /// Whether some list of inserts, growths included, makes this table from an empty one of its load factor. Where one
-    /// does, `out` lists the occupied slots in such an order: their pairs, inserted in this order into an empty table of
-    /// as many slots and the same load factor, leave these very bytes. Where none does, what it writes means nothing.
+    /// does, `out` lists the occupied slots in such an order: their pairs, inserted in this order into an empty table
+    /// of as many slots and the same load factor, leave these very bytes. Where none does, what it writes means
+    /// nothing.
     ///
     /// It takes no memory. There are at most as many passes over the items as there are slots that wait for one of a
     /// higher number, and one more.

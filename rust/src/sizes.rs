@@ -53,9 +53,9 @@ pub fn try_bytes_needed<C: Config>(
 /// Checks all of the bytes. They are accepted exactly where they are those of a table that the format allows, to the
 /// last byte; lookups in such a table answer as a map does.
 ///
-/// It takes no memory. Where hashes vary its time is linear in the bytes. At worst, where all keys of `s` slots have one
-/// hash, it makes `s*s/2` comparisons of keys: over an hour for 2^20 slots. So bound the length of bytes that come from
-/// a stranger.
+/// It takes no memory. Where hashes vary its time is linear in the bytes. At worst, where all keys of `s` slots have
+/// one hash, it makes `s*s/2` comparisons of keys: over an hour for 2^20 slots. So bound the length of bytes that come
+/// from a stranger.
 ///
 /// ```
 /// use odht::{check_all, configs::U64ToU32, Error, HashTableOwned};

@@ -17,8 +17,8 @@ use std::marker::PhantomData;
 mod growth;
 mod writing;
 
-/// A table in bytes of any kind: a view. It cannot grow; [`grow_into`](HashTable::grow_into) writes the grown table into
-/// other bytes.
+/// A table in bytes of any kind: a view. It cannot grow; [`grow_into`](HashTable::grow_into) writes the grown table
+/// into other bytes.
 ///
 /// The bytes may be a slice, a vector, a mapped file, or anything else that implements `Borrow<[u8]>`; where it
 /// implements `BorrowMut<[u8]>` too, pairs can be inserted. Any number of threads may read a table.
@@ -149,8 +149,8 @@ impl<C: Config, D: Borrow<[u8]>> HashTable<C, D> {
         self.view().get(key)
     }
 
-    /// `get` of many keys, each to its index. The loads of eight keys overlap, so that in a large table it is faster than
-    /// one `get` after the other. Each key is encoded twice.
+    /// `get` of many keys, each to its index. The loads of eight keys overlap, so that in a large table it is faster
+    /// than one `get` after the other. Each key is encoded twice.
     ///
     /// ```
     /// # use odht::{configs::U64ToU32, HashTable, HashTableOwned};
@@ -172,8 +172,8 @@ impl<C: Config, D: Borrow<[u8]>> HashTable<C, D> {
         self.view().get_all(keys, values);
     }
 
-    /// `get`, and how many groups of sixteen control bytes it read: in a table those up to the first slot that is free or
-    /// holds the key.
+    /// `get`, and how many groups of sixteen control bytes it read: in a table those up to the first slot that is free
+    /// or holds the key.
     ///
     /// ```
     /// # use odht::{configs::U64ToU32, HashTable, HashTableOwned};
@@ -218,8 +218,8 @@ impl<C: Config, D: Borrow<[u8]>> HashTable<C, D> {
         Iter::of(self.bytes())
     }
 
-    /// The keys and values in the slots from `from` on, in slot order, each with its slot. There is none where `from` is
-    /// past the last slot.
+    /// The keys and values in the slots from `from` on, in slot order, each with its slot. There is none where `from`
+    /// is past the last slot.
     ///
     /// ```
     /// # use odht::{configs::U64ToU32, HashTable, HashTableOwned};

@@ -38,8 +38,8 @@ impl<C: Config> HashTableOwned<C> {
     ///
     /// # Errors
     ///
-    /// [`Error::Memory`] at the maximum and for a new key, where memory is refused or the grown table would be too large.
-    /// Nothing has changed then.
+    /// [`Error::Memory`] at the maximum and for a new key, where memory is refused or the grown table would be too
+    /// large. Nothing has changed then.
     #[inline]
     pub fn try_insert(
         &mut self,
@@ -67,8 +67,8 @@ impl<C: Config> HashTableOwned<C> {
         self.try_insert_all(items).1.unwrap_or_else(|e| self.cannot_grow(e));
     }
 
-    /// [`insert_all`](HashTableOwned::insert_all), which stops at the first item whose insert fails, and returns how many
-    /// were inserted.
+    /// [`insert_all`](HashTableOwned::insert_all), which stops at the first item whose insert fails, and returns how
+    /// many were inserted.
     ///
     /// ```
     /// # use odht::{configs::U64ToU32, HashTableOwned};
@@ -78,7 +78,8 @@ impl<C: Config> HashTableOwned<C> {
     ///
     /// # Errors
     ///
-    /// [`Error::Memory`] as of [`try_insert`](HashTableOwned::try_insert). The table is then as the items before left it.
+    /// [`Error::Memory`] as of [`try_insert`](HashTableOwned::try_insert). The table is then as the items before left
+    /// it.
     pub fn try_insert_all(&mut self, items: &[(C::Key, C::Value)]) -> (usize, Result<(), Error>) {
         let list = List(self);
         let done = list.0 .0.insert_all(items);

@@ -16,8 +16,8 @@ impl<C: Config> HashTableOwned<C> {
     ///
     /// # Panics
     ///
-    /// Where the percentage is not from 1 to 100, and where no table is large enough. Where memory is refused it ends as
-    /// Rust's collections do.
+    /// Where the percentage is not from 1 to 100, and where no table is large enough. Where memory is refused it ends
+    /// as Rust's collections do.
     #[track_caller]
     pub fn with_capacity(max_item_count: usize, max_load_factor_percent: u8) -> Self {
         Self::try_with_capacity(max_item_count, max_load_factor_percent).unwrap_or_else(|e| {
@@ -142,8 +142,8 @@ impl<C: Config> HashTableOwned<C> {
         tables::HashTableOwned::from_raw_bytes(Global, data).map(HashTableOwned)
     }
 
-    /// A copy of the bytes, of which length and slot count alone are looked at. Where memory is refused it ends as Rust's
-    /// collections do.
+    /// A copy of the bytes, of which length and slot count alone are looked at. Where memory is refused it ends as
+    /// Rust's collections do.
     ///
     /// ```
     /// # use odht::{configs::U64ToU32, HashTableOwned};

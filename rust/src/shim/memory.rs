@@ -22,8 +22,8 @@ pub fn zeroed_bytes(_alloc: Global, len: usize) -> Result<Vec<u8>, AllocError> {
     if bytes.is_null() {
         return Err(AllocError);
     }
-    // SAFETY: the global allocator, which is that of `Vec`, gave `bytes` for the layout of `len` items of `u8`, and each
-    // of them is zero.
+    // SAFETY: the global allocator, which is that of `Vec`, gave `bytes` for the layout of `len` items of `u8`, and
+    // each of them is zero.
     Ok(unsafe { Vec::from_raw_parts(bytes, len, len) })
 }
 

@@ -13,7 +13,8 @@ use std::marker::PhantomData;
 
 impl<C: Config, D: Borrow<[u8]> + BorrowMut<[u8]>> HashTable<C, D> {
     /// Makes an empty table for so many items in `data`, whatever its bytes were. Its length is
-    /// [`bytes_needed`](crate::bytes_needed), and the load factor is in percent of the slots. The error is an [`Error`].
+    /// [`bytes_needed`](crate::bytes_needed), and the load factor is in percent of the slots. The error is an
+    /// [`Error`].
     ///
     /// ```
     /// use odht::{bytes_needed, configs::U64ToU32, HashTable};
@@ -97,8 +98,8 @@ impl<C: Config, D: Borrow<[u8]> + BorrowMut<[u8]>> HashTable<C, D> {
     ///
     /// # Panics
     ///
-    /// Where the table is at its maximum and the key is new; of bytes that are not those of a table also where no slot is
-    /// free. Nothing has changed then.
+    /// Where the table is at its maximum and the key is new; of bytes that are not those of a table also where no slot
+    /// is free. Nothing has changed then.
     #[inline]
     #[track_caller]
     pub fn insert(&mut self, key: &C::Key, value: &C::Value) -> Option<C::Value> {
@@ -123,8 +124,8 @@ impl<C: Config, D: Borrow<[u8]> + BorrowMut<[u8]>> HashTable<C, D> {
     ///
     /// # Errors
     ///
-    /// [`Error::Full`] where the table is at its maximum and the key is new; of bytes that are not those of a table also
-    /// where no slot is free. Nothing has changed then.
+    /// [`Error::Full`] where the table is at its maximum and the key is new; of bytes that are not those of a table
+    /// also where no slot is free. Nothing has changed then.
     #[inline]
     pub fn try_insert(
         &mut self,
@@ -155,8 +156,8 @@ impl<C: Config, D: Borrow<[u8]> + BorrowMut<[u8]>> HashTable<C, D> {
         self.try_insert_all(items).1.unwrap_or_else(|e| refused(e, 0));
     }
 
-    /// [`insert_all`](HashTable::insert_all), which stops at the first item whose insert fails, and returns how many were
-    /// inserted.
+    /// [`insert_all`](HashTable::insert_all), which stops at the first item whose insert fails, and returns how many
+    /// were inserted.
     ///
     /// ```
     /// use odht::{bytes_needed, configs::U64ToU32, Error, HashTable};
@@ -184,8 +185,8 @@ impl<C: Config, D: Borrow<[u8]> + BorrowMut<[u8]>> HashTable<C, D> {
     }
 }
 
-// The bytes of a table while a list is inserted. The item count is written behind the list; so where the configuration's
-// own code panics within the list, the items that were inserted are counted here.
+// The bytes of a table while a list is inserted. The item count is written behind the list; so where the
+// configuration's own code panics within the list, the items that were inserted are counted here.
 struct List<'b, C: Config> {
     bytes: &'b mut [u8],
     config: PhantomData<C>,
