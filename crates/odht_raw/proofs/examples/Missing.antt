@@ -1,5 +1,5 @@
 -- Worked examples: keys that a search in any parts does not find, and keys that it does.
-use Rattle.std.proofs.Common.{◌≡◌, ◌<◌, ◌≤◌, ℕ, zero, suc, refl, sym, inl, inr, Bool, true, false, true≢false, not, List, slice_index, length, arith, ◌-◌, ◌+◌, ◌∙◌}
+use Rattle.std.proofs.Common.{◌≡◌, ◌<◌, ℕ, zero, suc, sym, inl, inr, true, false, true≢false, not, List, slice_index, length, arith, ◌-◌, ◌+◌, ◌∙◌}
 use Rattle.std.specs.List.{range_with_len, list_all}
 use Rattle.odht_base.specs.Decoded.{counts_as_free, slot_key}
 use Rattle.odht_base.specs.Format.{Format, home, tag}

@@ -5,7 +5,6 @@ use Rattle.odht_base.specs.Load.{factor_of, slots_for}
 use Rattle.odht_base.specs.Insert.{insert_owned}
 use Rattle.odht_base.specs.Table.{fresh}
 use Rattle.odht_header.specs.Coding.{coding_of}
-use Rattle.odht_header.specs.declared.error.Error.TheVariants.{Capacity, Memory}
 use Rattle.odht.specs.Lists.{encoded_all, IsAfterInserts}
 use Rattle.odht.proofs.lemmas.ListInserts.{fresh_inserted}
 use Rattle.odht.proofs.lemmas.NewRefusals.{not_both, passed_on, either, on_err}
