@@ -3,7 +3,7 @@
 
   tools/prove.py [--word] [WORDS..]      runs `rt ci`, or the command of these words, with its output as it comes
 
-With --word the gate runs on a copy of the tracked files, outside of the repository, that has the word search compiled in.
+With --word the gate runs on a copy of the tracked files, outside of the repository, with the word search compiled in.
 The processor time is read once a second from the running checks, so what ends within a second is not counted.
 """
 import os
