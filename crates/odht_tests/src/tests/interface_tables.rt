@@ -24,9 +24,7 @@ fn root_names(rt: HostRuntime) {
     is_hash::<FxHashFn>();
     is_hash::<UnHashFn>();
     let len: Option<usize> = bytes_needed::<U64ToU32>(3_usize, 95_u8);
-    let none: Option<usize> = bytes_needed::<U64ToU32>(1_usize << 62, 100_u8);
     same(&rt, "bytes_needed", len, Some(256));
-    same(&rt, "of too many", none, None);
 }
 
 // The table of the pairs of 1 and 2, 3 and 4, and 5 and 6, made for three items at 95 percent.
