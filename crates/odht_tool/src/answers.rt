@@ -1,7 +1,7 @@
 //! The lines in which pairs and answers are printed.
-ghost use Rattle.std.specs.Prelude.{◌≡◌, ◌↔◌, IfOk, OnOk, IsTrue, is_some, length};
+ghost use Rattle.std.specs.Prelude.{◌≡◌, IfOk, OnOk, is_some, length};
 ghost use Rattle.std.specs.Io.KnownBytes.{Appends};
-ghost use Rattle.std.specs.List.{AllPass};
+ghost use Rattle.std.specs.List.{list_all};
 ghost use Rattle.odht_tool.specs.Texts.{answer_line, answers_text, pair_line};
 
 use crate::text::Text;
@@ -46,7 +46,7 @@ pub fn absent_values<V: Text>(alloc: Global, count: usize) -> Result<Vec<Option<
 
 /// Whether each key has a value.
 pub fn are_found<V>(values: &[Option<V>]) -> bool
-    ensures { IsTrue result ↔ AllPass is_some values.now }
+    ensures { result ≡ list_all is_some values.now }
 {
     values.iter().all(|value| value.is_some())
 }

@@ -74,6 +74,11 @@ impl fmt::Display for Failure {
 impl std::error::Error for Failure {}
 
 impl From<AllocError> for Failure {
+    ghost use Rattle.std.specs.Prelude.{◌≡◌};
+    ghost use Rattle.odht_tool.specs.declared.failure.Failure.TheVariants.{Memory};
+
+    ghost from_gives = { λ _ f. f ≡ Memory };
+
     fn from(_refused: AllocError) -> Failure {
         Failure::Memory
     }

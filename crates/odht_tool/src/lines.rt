@@ -1,21 +1,46 @@
 //! The lines of standard input.
+ghost use Rattle.std.specs.Prelude.{◌≡◌, IfOk, IsTrue, IsFalse};
+ghost use Rattle.std.specs.Io.BufRead.{ends_with_byte, strip_last};
+ghost use Rattle.std.specs.Io.KnownBytes.{IsAtEnd};
+ghost use Rattle.odht_tool.specs.InputLines.{IsNextLine, without_end};
+
 use std::io::{self, BufRead};
 
 /// Reads the next line into `line`, without its end, `\n` or `\r\n`, and replaces what `line` held. False at the end of
 /// the input. After an error do not use the line.
-pub fn read_line<R: BufRead>(reader: &mut R, line: &mut Vec<u8>) -> io::Result<bool> {
+pub fn read_line<R: BufRead>(reader: &mut R, line: &mut Vec<u8>) -> io::Result<bool>
+    ensures line { IfOk result (λ more. IsTrue more → IsNextLine (R.remaining reader.old) (R.remaining reader.new) line.new.items) }
+    ensures end { IfOk result (λ more. IsFalse more → IsAtEnd (R.remaining reader.old)) }
+{
     line.clear();
     let count = reader.read_until(b'\n', line)?;
     if count == 0 {
         return Ok(false);
     }
-    if line.as_slice().ends_with(b"\n") {
-        let _ = line.pop();
-        if line.as_slice().ends_with(b"\r") {
-            let _ = line.pop();
-        }
-    }
+    drop_end(line);
     Ok(true)
+}
+
+// Drops the end of a line, `\n` or `\r\n`, if it has one.
+fn drop_end(line: &mut Vec<u8>)
+    ensures { line.new.items ≡ without_end line.old.items }
+{
+    if drop_last(line, b'\n') {
+        let _ = drop_last(line, b'\r');
+    }
+}
+
+// Drops the last byte where it is this one. Returns whether it was.
+fn drop_last(line: &mut Vec<u8>, byte: u8) -> bool
+    ensures dropped { line.new.items ≡ strip_last byte line.old.items }
+    ensures was { result ≡ ends_with_byte byte line.old.items }
+{
+    let count = line.len();
+    if count == 0 || line[count - 1] != byte {
+        return false;
+    }
+    let _ = line.pop();
+    true
 }
 
 /// The text before the first tab of a line, and the text after it. None where there is no tab.

@@ -6,6 +6,7 @@
 mod answers;
 mod arguments;
 mod commands;
+mod early;
 mod failure;
 mod files;
 mod help;

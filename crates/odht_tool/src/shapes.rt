@@ -1,4 +1,7 @@
 //! The shapes of tables that the commands read and write: the types of keys and values, and the hash function.
+ghost use Rattle.std.specs.Prelude.{◌≡◌};
+ghost use Rattle.odht_tool.specs.ReadyShapes.{typed_len, key_part, value_part, shape_hash, same_hash, is_shape_of, shape_of_sizes};
+
 pub use odht::configs::{
     Bytes16Set, Bytes16ToU32, Bytes16ToU64, Bytes20ToU64, Bytes32Set, Bytes32ToU64, DirectU32ToU32,
     U32ToU32, U64ToU32, U64ToU64,
@@ -20,6 +23,16 @@ impl Hash {
             "fx" => Some(Hash::Fx),
             "unhash" => Some(Hash::Unhash),
             _ => None,
+        }
+    }
+
+    // Whether it is the other one.
+    fn is(self, other: Hash) -> bool
+        ensures { result ≡ same_hash self other }
+    {
+        match (self, other) {
+            (Hash::Fx, Hash::Fx) | (Hash::Unhash, Hash::Unhash) => true,
+            _ => false,
         }
     }
 }
@@ -56,7 +69,9 @@ impl Part {
     }
 
     /// How many bytes it has in a table.
-    pub fn size(self) -> u8 {
+    pub fn size(self) -> u8
+        ensures { result ≡ typed_len self }
+    {
         match self {
             Part::Nothing => 0,
             Part::U32 => 4,
@@ -89,27 +104,42 @@ pub enum Shape {
     Bytes32Set,
 }
 
+/// The ready shapes. Of two with the same sizes the first is the one without a named hash function.
+const SHAPES: [Shape; 10] = [
+    Shape::U32ToU32,
+    Shape::DirectU32ToU32,
+    Shape::U64ToU32,
+    Shape::U64ToU64,
+    Shape::Bytes16ToU32,
+    Shape::Bytes16ToU64,
+    Shape::Bytes16Set,
+    Shape::Bytes20ToU64,
+    Shape::Bytes32ToU64,
+    Shape::Bytes32Set,
+];
+
 impl Shape {
     /// The ready shape of keys and values of so many bytes. Where both hash functions are possible and none is given,
     /// it is the one of `fx`.
-    pub fn of_sizes(key_size: u8, value_size: u8, hash: Option<Hash>) -> Option<Shape> {
-        let shape = match (key_size, value_size) {
-            (4, 4) if hash == Some(Hash::Unhash) => Shape::DirectU32ToU32,
-            (4, 4) => Shape::U32ToU32,
-            (8, 4) => Shape::U64ToU32,
-            (8, 8) => Shape::U64ToU64,
-            (16, 4) => Shape::Bytes16ToU32,
-            (16, 8) => Shape::Bytes16ToU64,
-            (16, 0) => Shape::Bytes16Set,
-            (20, 8) => Shape::Bytes20ToU64,
-            (32, 8) => Shape::Bytes32ToU64,
-            (32, 0) => Shape::Bytes32Set,
-            _ => return None,
-        };
-        match hash {
-            Some(hash) if hash != shape.hash() => None,
-            _ => Some(shape),
-        }
+    pub fn of_sizes(key_size: u8, value_size: u8, hash: Option<Hash>) -> Option<Shape>
+        ensures { result ≡ shape_of_sizes key_size value_size hash }
+    {
+        SHAPES
+            .iter()
+            .copied()
+            .find(|shape| shape.is_of(key_size, value_size, hash))
+    }
+
+    // Whether keys and values have so many bytes, and the hash function is this one, where one is given.
+    fn is_of(self, key_size: u8, value_size: u8, hash: Option<Hash>) -> bool
+        ensures { result ≡ is_shape_of key_size value_size hash self }
+    {
+        self.key().size() == key_size
+            && self.value().size() == value_size
+            && match hash {
+                Some(hash) => self.hash().is(hash),
+                None => true,
+            }
     }
 
     /// The ready shape of these types of keys and values.
@@ -121,8 +151,37 @@ impl Shape {
         }
     }
 
+    /// The type of its keys.
+    fn key(self) -> Part
+        ensures { result ≡ key_part self }
+    {
+        match self {
+            Shape::U32ToU32 | Shape::DirectU32ToU32 => Part::U32,
+            Shape::U64ToU32 | Shape::U64ToU64 => Part::U64,
+            Shape::Bytes16ToU32 | Shape::Bytes16ToU64 | Shape::Bytes16Set => Part::Bytes(16),
+            Shape::Bytes20ToU64 => Part::Bytes(20),
+            Shape::Bytes32ToU64 | Shape::Bytes32Set => Part::Bytes(32),
+        }
+    }
+
+    /// The type of its values.
+    fn value(self) -> Part
+        ensures { result ≡ value_part self }
+    {
+        match self {
+            Shape::U32ToU32 | Shape::DirectU32ToU32 | Shape::U64ToU32 | Shape::Bytes16ToU32 => {
+                Part::U32
+            }
+            Shape::U64ToU64 | Shape::Bytes16ToU64 | Shape::Bytes20ToU64 | Shape::Bytes32ToU64 =>
+                Part::U64,
+            Shape::Bytes16Set | Shape::Bytes32Set => Part::Nothing,
+        }
+    }
+
     /// Its hash function.
-    pub fn hash(self) -> Hash {
+    fn hash(self) -> Hash
+        ensures { result ≡ shape_hash self }
+    {
         match self {
             Shape::U32ToU32 | Shape::U64ToU32 | Shape::U64ToU64 => Hash::Fx,
             _ => Hash::Unhash,

@@ -1,6 +1,10 @@
 //! The bytes of a table of any key and value sizes.
-ghost use Rattle.std.specs.Prelude.{◌≤◌, length};
+ghost use Rattle.std.specs.Prelude.{◌≡◌, ◌≤◌, length};
+ghost use Rattle.std.specs.Option.{option_or};
+ghost use Rattle.odht_base.specs.Load.{IsSlotCount};
+ghost use Rattle.odht_header.specs.Refusals.{checked, power_refusal, few_slots_refusal};
 
+use crate::early::{check_first, check_size};
 use crate::histogram::{Histogram, groups_to};
 use crate::shapes::Hash;
 use odht::error::{Error, Part};
@@ -22,17 +26,16 @@ pub struct StoredTable<'a> {
     pub slot_count: usize,
     /// The header's load factor.
     pub max_load_factor: Factor,
+    ghost slots: { IsSlotCount slot_count },
 }
 
 impl<'a> StoredTable<'a> {
     /// Checks the header and the length alone, and returns the first error, as [`Header::sanity_check`] does for the
     /// key and value sizes in the header.
     pub fn open(bytes: &'a [u8]) -> Result<Self, Error> {
-        let found = bytes.len();
-        if found < HEADER_SIZE {
-            return Err(Error::TooShort { found });
-        }
-        check_words(bytes)?;
+        check_first(bytes)?;
+        check_size(bytes, 7, Part::Header, HEADER_SIZE)?;
+        check_slots(bytes)?;
         let header = Header::of(bytes);
         let table = StoredTable {
             bytes,
@@ -42,19 +45,14 @@ impl<'a> StoredTable<'a> {
             slot_count: header.slot_count(),
             max_load_factor: header.max_load_factor(),
         };
-        table.check_slots()?;
+        table.check_length()?;
         Ok(table)
     }
 
-    fn check_slots(&self) -> Result<(), Error> {
+    // Whether there are as many bytes as the header's numbers say; else `WrongLength`.
+    fn check_length(&self) -> Result<(), Error> {
         let slot_count = self.slot_count;
         let found = self.bytes.len();
-        if !slot_count.is_power_of_two() {
-            return Err(Error::SlotCountNotPowerOfTwo { found: slot_count });
-        }
-        if slot_count < 16 {
-            return Err(Error::SlotCountTooSmall { found: slot_count });
-        }
         let expected = self
             .control_at()
             .saturating_add(slot_count as u128)
@@ -137,31 +135,17 @@ impl<'a> StoredTable<'a> {
     }
 }
 
-// Checks that the tag, the version and the fixed sizes of a header are those of the format.
-fn check_words(bytes: &[u8]) -> Result<(), Error>
+fn check_slots(bytes: &[u8]) -> Result<(), Error>
     requires { 32 ≤ length bytes.now }
+    ensures { result ≡ checked (option_or (power_refusal bytes.now) (few_slots_refusal bytes.now)) }
 {
-    let found = [bytes[0], bytes[1], bytes[2], bytes[3]];
-    if found != *b"ODHT" {
-        return Err(Error::WrongTag { found });
-    }
-    let found = [bytes[24], bytes[25], bytes[26], bytes[27]];
-    if found != [0, 0, 0, 2] {
-        return Err(Error::WrongVersion { found });
-    }
-    check_size(Part::EntryMetadata, 1, bytes[4])?;
-    check_size(Part::Header, HEADER_SIZE, bytes[7])
-}
-
-fn check_size(part: Part, expected: usize, found: u8) -> Result<(), Error> {
-    if found as usize == expected {
-        Ok(())
+    let found = Header::of(bytes).slot_count();
+    if !found.is_power_of_two() {
+        Err(Error::SlotCountNotPowerOfTwo { found })
+    } else if found < 16 {
+        Err(Error::SlotCountTooSmall { found })
     } else {
-        Err(Error::WrongSizeOf {
-            part,
-            expected,
-            found,
-        })
+        Ok(())
     }
 }
 

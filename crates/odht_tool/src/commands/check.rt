@@ -1,20 +1,23 @@
 //! `odht check`: whether a file is a valid table.
-ghost use Rattle.std.specs.Prelude.{◌≡◌, OnOk};
+ghost use Rattle.std.specs.Prelude.{◌≡◌, OnOk, slice_index};
 ghost use Rattle.std.specs.Io.KnownBytes.{Appends};
+ghost use Rattle.std.specs.Option.{ok_or};
 ghost use Rattle.odht_header.specs.Refusals.{checked, check_refusal};
+ghost use Rattle.odht_tool.specs.Outcomes.{IsDone, check_outcome};
+ghost use Rattle.odht_tool.specs.ReadyShapes.{shape_of_bytes, shape_format};
 ghost use Rattle.odht_tool.specs.Texts.{checked_text};
+ghost use Rattle.odht_tool.specs.declared.failure.Failure.TheVariants.{NoShape};
 
 use super::{DONE, NOT_DONE};
+use crate::early::check_first;
 use crate::failure::Failure;
 use crate::files::read_file;
 use crate::shapes::{
     Bytes16Set, Bytes16ToU32, Bytes16ToU64, Bytes20ToU64, Bytes32Set, Bytes32ToU64, DirectU32ToU32,
     Hash, Shape, U32ToU32, U64ToU32, U64ToU64, for_shape,
 };
-use odht::HashTable;
-use odht::bytes::Borrowed;
 use odht::config::{Coded, Config};
-use odht::error::{Error, Part as SizedPart};
+use odht::error::Error;
 use odht::memory_layout::check_all;
 use std::io::{self, Write};
 use std::rt::Files;
@@ -27,12 +30,25 @@ pub fn run<R: Files + AllocGlobal, O: Write>(
     output: &mut O,
 ) -> Result<u8, Failure> {
     let bytes = read_file(rt, file)?;
-    let shape = shape_of(bytes.as_slice(), hash)?;
-    let checked = for_shape!(shape, check_bytes[](bytes.as_slice()));
+    check_file(bytes.as_slice(), hash, output)
+}
+
+/// `odht check` of the bytes of a file.
+pub fn check_file<O: Write>(bytes: &[u8], hash: Option<Hash>, output: &mut O) -> Result<u8, Failure>
+    ensures { IsDone (check_outcome bytes.now hash) (O.contents output.old) (O.contents output.new) result }
+{
+    let shape = shape_of(bytes, hash)?;
+    let checked = check_shape(shape, bytes);
     match write_checked(&checked, output) {
         Ok(()) => Ok(if checked.is_ok() { DONE } else { NOT_DONE }),
         Err(error) => Err(Failure::Output(error)),
     }
+}
+
+fn check_shape(shape: Shape, bytes: &[u8]) -> Result<(), Error>
+    ensures { result ≡ checked (check_refusal (shape_format shape) bytes.now) }
+{
+    for_shape!(shape, check_bytes[](bytes))
 }
 
 fn check_bytes<C: Config>(bytes: &[u8]) -> Result<(), Error>
@@ -53,34 +69,19 @@ pub fn write_checked<O: Write>(checked: &Result<(), Error>, output: &mut O) -> i
 
 /// The ready shape of these bytes, by the key and value sizes in the header. Where the check fails before it comes to
 /// the sizes, some shape is returned: opening has the same error for each.
-pub fn shape_of(bytes: &[u8], hash: Option<Hash>) -> Result<Shape, Failure> {
-    let Some((key_size, value_size)) = header_sizes(bytes) else {
+pub fn shape_of(bytes: &[u8], hash: Option<Hash>) -> Result<Shape, Failure>
+    ensures { let sizes = NoShape (slice_index bytes.now 5) (slice_index bytes.now 6)
+        in result ≡ ok_or (shape_of_bytes bytes.now hash) sizes }
+{
+    if check_first(bytes).is_err() {
         return Ok(Shape::U64ToU32);
-    };
-    if let Some(shape) = Shape::of_sizes(key_size, value_size, hash) {
-        return Ok(shape);
     }
-    let opened: Result<HashTable<U64ToU32, Borrowed<'_>>, Error> = HashTable::from_raw_bytes(
-        Borrowed::new(bytes),
-    );
-    match opened {
-        Err(
-            Error::TooShort { .. }
-            | Error::WrongTag { .. }
-            | Error::WrongVersion { .. }
-            | Error::WrongSizeOf {
-                part: SizedPart::EntryMetadata,
-                ..
-            },
-        ) => Ok(Shape::U64ToU32),
-        _ => Err(Failure::NoShape {
+    let (key_size, value_size) = (bytes[5], bytes[6]);
+    match Shape::of_sizes(key_size, value_size, hash) {
+        Some(shape) => Ok(shape),
+        None => Err(Failure::NoShape {
             key_size,
             value_size,
         }),
     }
-}
-
-// The key size and the value size in the header.
-fn header_sizes(bytes: &[u8]) -> Option<(u8, u8)> {
-    Some((*bytes.get(5)?, *bytes.get(6)?))
 }

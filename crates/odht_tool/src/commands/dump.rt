@@ -1,9 +1,13 @@
 //! `odht dump`: the pairs of a table file.
-ghost use Rattle.std.specs.Prelude.{OnOk};
+ghost use Rattle.std.specs.Prelude.{◌≡◌, ◌+◌, ◌<◌, true, false, length, OnOk};
 ghost use Rattle.std.specs.Io.KnownBytes.{Appends};
+ghost use Rattle.odht_base.specs.Decoded.{decoded_pairs, header_slots};
+ghost use Rattle.odht_base.specs.Load.{IsSlotCount};
 ghost use Rattle.odht_base.specs.Table.{Table, walk};
 ghost use Rattle.odht_base.specs.Valid.{IsImage};
+ghost use Rattle.odht_raw.specs.Dumps.{parts_of};
 ghost use Rattle.odht_raw.specs.Walks.{decoded_all};
+ghost use Rattle.odht_tool.specs.Outcomes.{IsDone, IsWritten, pairs_outcome, slots_outcome, dump_of_shape, dump_outcome, slot_line, slots_text};
 ghost use Rattle.odht_tool.specs.Texts.{pairs_text};
 
 use super::DONE;
@@ -15,14 +19,14 @@ use crate::files::read_file;
 use crate::histogram::groups_to;
 use crate::shapes::{
     Bytes16Set, Bytes16ToU32, Bytes16ToU64, Bytes20ToU64, Bytes32Set, Bytes32ToU64, DirectU32ToU32,
-    Shape, U32ToU32, U64ToU32, U64ToU64, for_shape,
+    Hash, Shape, U32ToU32, U64ToU32, U64ToU64, for_shape,
 };
 use crate::text::Text;
 use odht::bytes::{Borrowed, ByteArray};
 use odht::config::{Coded, Config};
 use odht::error::Error;
 use odht::hash::HashFn;
-use odht::memory_layout::Allocation;
+use odht::memory_layout::{Allocation, Entries};
 use odht::{HashTable, Iter};
 use std::io::{self, Write};
 use std::rt::Files;
@@ -35,24 +39,45 @@ pub fn run<R: Files + AllocGlobal, O: Write>(
     output: &mut O,
 ) -> Result<u8, Failure> {
     let bytes = read_file(rt, file)?;
-    let bytes = bytes.as_slice();
-    let shape = shape_of(bytes, options.hash)?;
-    if options.is_slots {
-        for_shape!(shape, dump_slots[O](bytes, output))
+    dump_file(bytes.as_slice(), options.hash, options.is_slots, output)
+}
+
+/// `odht dump` of the bytes of a file, with `--slots` or without.
+pub fn dump_file<O: Write>(
+    bytes: &[u8],
+    hash: Option<Hash>,
+    is_slots: bool,
+    output: &mut O,
+) -> Result<u8, Failure>
+    ensures { IsDone (dump_outcome bytes.now hash is_slots) (O.contents output.old) (O.contents output.new) result }
+{
+    let shape = shape_of(bytes, hash)?;
+    if is_slots {
+        dump_slots_of(shape, bytes, output)
     } else {
-        for_shape!(shape, dump_pairs[O](bytes, output))
+        dump_pairs_of(shape, bytes, output)
     }
+}
+
+fn dump_pairs_of<O: Write>(shape: Shape, bytes: &[u8], output: &mut O) -> Result<u8, Failure>
+    ensures { IsDone (dump_of_shape bytes.now false shape) (O.contents output.old) (O.contents output.new) result }
+{
+    for_shape!(shape, dump_pairs[O](bytes, output))
+}
+
+fn dump_slots_of<O: Write>(shape: Shape, bytes: &[u8], output: &mut O) -> Result<u8, Failure>
+    ensures { IsDone (dump_of_shape bytes.now true shape) (O.contents output.old) (O.contents output.new) result }
+{
+    for_shape!(shape, dump_slots[O](bytes, output))
 }
 
 fn dump_pairs<C: Config, O: Write>(bytes: &[u8], output: &mut O) -> Result<u8, Failure>
 where
     C::Key: Text,
     C::Value: Text,
+    ensures { IsDone (pairs_outcome ⟦<C as Coded>⟧.coding C.Key.text C.Value.text bytes.now) (O.contents output.old) (O.contents output.new) result }
 {
-    let opened: Result<HashTable<C, Borrowed<'_>>, Error> = HashTable::from_raw_bytes(Borrowed::new(
-        bytes,
-    ));
-    match opened {
+    match HashTable::<C, Borrowed<'_>>::from_raw_bytes(Borrowed::new(bytes)) {
         Err(refused) => Err(Failure::Refused(refused)),
         Ok(table) => of_output(write_table(&table, output)),
     }
@@ -66,14 +91,18 @@ fn write_table<C: Config, O: Write>(
 where
     C::Key: Text,
     C::Value: Text,
-    ensures { (P : Table)
+    ensures on_valid { (P : Table)
         → IsImage ⟦<C as Coded>⟧.coding.format P table.now.0.now
         → OnOk result (Appends (O.contents output.old) (O.contents output.new) (pairs_text C.Key.text C.Value.text (decoded_all ⟦<C as Coded>⟧.coding (walk P)))) }
+    ensures on_any { let c = ⟦<C as Coded>⟧.coding
+        in OnOk result (Appends (O.contents output.old) (O.contents output.new) (pairs_text C.Key.text C.Value.text (decoded_all c (decoded_pairs c.format table.now.0.now)))) }
 {
     write_pairs(table.iter(), output)
 }
 
-fn of_output(written: io::Result<()>) -> Result<u8, Failure> {
+fn of_output(written: io::Result<()>) -> Result<u8, Failure>
+    ensures { IsWritten written result }
+{
     match written {
         Ok(()) => Ok(DONE),
         Err(error) => Err(Failure::Output(error)),
@@ -97,6 +126,7 @@ fn dump_slots<C: Config, O: Write>(bytes: &[u8], output: &mut O) -> Result<u8, F
 where
     C::Key: Text,
     C::Value: Text,
+    ensures { IsDone (slots_outcome ⟦<C as Coded>⟧.coding C.Key.text C.Value.text bytes.now) (O.contents output.old) (O.contents output.new) result }
 {
     match Allocation::<C, Borrowed<'_>>::from_raw_bytes(Borrowed::new(bytes)) {
         Err(refused) => Err(Failure::Refused(refused)),
@@ -104,7 +134,7 @@ where
     }
 }
 
-// Writes a line for each occupied slot: its number, its control byte, how many groups a search reads, and its pair.
+// Writes a line for each occupied slot.
 fn write_slots<C: Config, O: Write>(
     allocation: &Allocation<C, Borrowed<'_>>,
     output: &mut O,
@@ -112,19 +142,40 @@ fn write_slots<C: Config, O: Write>(
 where
     C::Key: Text,
     C::Value: Text,
+    ensures { let c = ⟦<C as Coded>⟧.coding
+        in let B = allocation.now.0.now
+        in OnOk result (Appends (O.contents output.old) (O.contents output.new) (slots_text c C.Key.text C.Value.text (parts_of c.format B) (header_slots B))) }
 {
     let (control, entries) = allocation.data_slices();
-    let slot_count = entries.len();
-    for slot in 0..slot_count {
-        let tag = control[slot];
-        if tag < 128 {
-            let entry = entries.get(slot);
-            let hash = C::H::hash(entry.key.as_slice());
-            let groups = groups_to(hash, slot, slot_count);
-            write!(output, "{slot}\t{tag}\t{groups}\t")?;
-            let (key, value) = (C::decode_key(&entry.key), C::decode_value(&entry.value));
-            write_pair(&key, &value, output)?;
-        }
+    for slot in 0..entries.len() {
+        write_slot::<C, O>(control, &entries, slot, output)?;
     }
     Ok(())
+}
+
+// Writes the line of a slot, where it is occupied: its number, its control byte, how many groups a search reads, and its
+// pair.
+fn write_slot<C: Config, O: Write>(
+    control: &[u8],
+    entries: &Entries<'_, C::EncodedKey, C::EncodedValue>,
+    slot: usize,
+    output: &mut O,
+) -> io::Result<()>
+where
+    C::Key: Text,
+    C::Value: Text,
+    requires slots { IsSlotCount entries.now.slots }
+    requires slot { slot < entries.now.slots }
+    requires control { length control.now ≡ entries.now.slots + 16 }
+    ensures { OnOk result (Appends (O.contents output.old) (O.contents output.new) (slot_line ⟦<C as Coded>⟧.coding C.Key.text C.Value.text (record { control = control.now; entries = entries.now }) slot)) }
+{
+    let tag = control[slot];
+    if tag >= 128 {
+        return Ok(());
+    }
+    let entry = entries.get(slot);
+    let groups = groups_to(C::H::hash(entry.key.as_slice()), slot, entries.len());
+    write!(output, "{slot}\t{tag}\t{groups}\t")?;
+    let (key, value) = (C::decode_key(&entry.key), C::decode_value(&entry.value));
+    write_pair(&key, &value, output)
 }

@@ -1,11 +1,9 @@
 //! `odht get`: lookups in a table file.
-ghost use Rattle.std.specs.Prelude.{◌≡◌, ◌↔◌, OnOk, IfOk, IsTrue, is_some, length, map};
-ghost use Rattle.std.specs.Io.KnownBytes.{Appends};
-ghost use Rattle.std.specs.List.{AllPass};
-ghost use Rattle.odht_base.specs.Table.{Table};
-ghost use Rattle.odht_base.specs.Valid.{IsImage};
-ghost use Rattle.odht_header.specs.Coding.{value_for};
-ghost use Rattle.odht_tool.specs.Texts.{answers_text};
+ghost use Rattle.std.specs.Prelude.{◌≡◌, None, [], ◌∷◌, ◌++◌, IfOk, IfErr, OnOk, map, string_bytes};
+ghost use Rattle.std.specs.List.{AllZip};
+ghost use Rattle.odht_header.specs.Refusals.{view_refusal};
+ghost use Rattle.odht_tool.specs.Gets.{IsReadAs, AreAnswers, AreWordsGot, AreFileWordsGot, found_status, words_of_shape};
+ghost use Rattle.odht_tool.specs.GetParts.{IsOpenFailure, NamesWord, NamesFault, AreKeysAnswered, IsKeysFailure, IsFlushed, IsNextKey};
 
 use super::check::shape_of;
 use super::{DONE, NOT_DONE};
@@ -22,7 +20,7 @@ use odht::HashTable;
 use odht::bytes::Borrowed;
 use odht::config::{Coded, Config};
 use std::alloc::{AllocError, Global};
-use std::io::{BufRead, Write};
+use std::io::{self, BufRead, Write};
 use std::rt::Files;
 
 /// How many keys are looked up at once.
@@ -40,13 +38,58 @@ pub fn run<R: Files + AllocGlobal, I: BufRead, O: Write>(
     let alloc: Global = rt.alloc();
     let bytes = read_file(rt, file)?;
     let bytes = bytes.as_slice();
-    let shape = shape_of(bytes, hash)?;
     match words {
-        [word] if word.as_str() == "-" => {
-            for_shape!(shape, get_lines[I, O](alloc, bytes, input, output))
-        }
-        _ => for_shape!(shape, get_words[O](alloc, bytes, words, output)),
+        [word] if word.as_str() == "-" => get_file_lines(alloc, bytes, hash, input, output),
+        _ => get_file_words(alloc, bytes, hash, words, output),
     }
+}
+
+/// `odht get` of the bytes of a file, for the words of the command line.
+pub fn get_file_words<O: Write>(
+    alloc: Global,
+    bytes: &[u8],
+    hash: Option<Hash>,
+    words: &[String],
+    output: &mut O,
+) -> Result<u8, Failure>
+    ensures { AreFileWordsGot bytes.now hash (map string_bytes words.now) (O.contents output.old) (O.contents output.new) result }
+{
+    let shape = shape_of(bytes, hash)?;
+    get_words_of(alloc, shape, bytes, words, output)
+}
+
+fn get_words_of<O: Write>(
+    alloc: Global,
+    shape: Shape,
+    bytes: &[u8],
+    words: &[String],
+    output: &mut O,
+) -> Result<u8, Failure>
+    ensures { words_of_shape bytes.now (map string_bytes words.now) (O.contents output.old) (O.contents output.new) result shape }
+{
+    for_shape!(shape, get_words[O](alloc, bytes, words, output))
+}
+
+/// `odht get` of the bytes of a file, for the lines of an input.
+pub fn get_file_lines<I: BufRead, O: Write>(
+    alloc: Global,
+    bytes: &[u8],
+    hash: Option<Hash>,
+    input: &mut I,
+    output: &mut O,
+) -> Result<u8, Failure> {
+    let shape = shape_of(bytes, hash)?;
+    get_lines_of(alloc, shape, bytes, input, output)
+}
+
+fn get_lines_of<I: BufRead, O: Write>(
+    alloc: Global,
+    shape: Shape,
+    bytes: &[u8],
+    input: &mut I,
+    output: &mut O,
+) -> Result<u8, Failure> {
+    for_shape!(shape, get_lines[I, O](alloc, bytes, input, output))
 }
 
 // Looks up the keys of the words.
@@ -59,24 +102,48 @@ fn get_words<C: Config, O: Write>(
 where
     C::Key: Text,
     C::Value: Text,
+    ensures { AreWordsGot ⟦<C as Coded>⟧.coding C.Key.text C.Value.text (IsReadAs C.Key.is_word C.Key.stands_for) bytes.now (map string_bytes words.now) (O.contents output.old) (O.contents output.new) result }
 {
     let table = open::<C>(bytes)?;
-    let mut keys = Vec::new(alloc);
-    for word in words {
-        match C::Key::parse(word.as_str().as_bytes()) {
-            Some(key) => keys.push(key).or(Err(Failure::Memory))?,
-            None => return Err(wrong_key(alloc, word.as_str())),
-        }
-    }
+    let keys = parse_keys::<C::Key>(alloc, words)?;
     let is_all_found = answer_keys(alloc, &table, keys.as_slice(), output)?;
     Ok(status_of(is_all_found))
 }
 
-fn status_of(is_all_found: bool) -> u8 {
+// The keys of the words, or the first word that is none.
+fn parse_keys<K: Text>(alloc: Global, words: &[String]) -> Result<Vec<K>, Failure>
+    ensures keys { IfOk result (λ keys. AllZip (IsReadAs K.is_word K.stands_for) (map string_bytes words.now) keys.items) }
+    ensures fault { IfErr result (NamesFault (IsReadAs K.is_word K.stands_for) (map string_bytes words.now)) }
+{
+    let mut keys = Vec::new(alloc);
+    for word in words {
+        match K::parse(word.as_str().as_bytes()) {
+            Some(key) => push_key(&mut keys, key)?,
+            None => return Err(wrong_key(alloc, word.as_str())),
+        }
+    }
+    Ok(keys)
+}
+
+fn push_key<K: Text>(keys: &mut Vec<K>, key: K) -> Result<(), Failure>
+    ensures ok { OnOk result (keys.new.items ≡ keys.old.items ++ key ∷ []) }
+    ensures err { IfErr result (λ failure. failure ≡ Failure.Memory) }
+{
+    match keys.push(key) {
+        Ok(()) => Ok(()),
+        Err(_) => Err(Failure::Memory),
+    }
+}
+
+fn status_of(is_all_found: bool) -> u8
+    ensures { result ≡ found_status is_all_found }
+{
     if is_all_found { DONE } else { NOT_DONE }
 }
 
-fn wrong_key(alloc: Global, word: &str) -> Failure {
+fn wrong_key(alloc: Global, word: &str) -> Failure
+    ensures { NamesWord word.now result }
+{
     match String::from_str(alloc, word) {
         Ok(word) => Failure::Key(word),
         Err(_) => Failure::Memory,
@@ -95,33 +162,90 @@ where
     C::Value: Text,
 {
     let table = open::<C>(bytes)?;
+    answer_lines(alloc, &table, input, output)
+}
+
+fn answer_lines<C: Config, I: BufRead, O: Write>(
+    alloc: Global,
+    table: &HashTable<C, Borrowed<'_>>,
+    input: &mut I,
+    output: &mut O,
+) -> Result<u8, Failure>
+where
+    C::Key: Text,
+    C::Value: Text,
+{
     let mut keys = Vec::new(alloc);
     let mut line = Vec::new(alloc);
     let mut is_all_found = true;
     for number in 1..u64::MAX {
-        match read_line(input, &mut line) {
-            Ok(true) => {}
-            Ok(false) => break,
-            Err(error) => return Err(Failure::Input(error)),
-        }
-        match C::Key::parse(line.as_slice()) {
-            Some(key) => keys.push(key).or(Err(Failure::Memory))?,
-            None => {
-                answer_keys(alloc, &table, keys.as_slice(), output)?;
+        match next_key(input, &mut line) {
+            Ok(NextKey::Key(key)) => push_key(&mut keys, key)?,
+            Ok(NextKey::NoKey) => {
+                answer_keys(alloc, table, keys.as_slice(), output)?;
                 let fault = LineFault::Key;
                 return Err(Failure::Line { number, fault });
             }
+            Ok(NextKey::End) => break,
+            Err(error) => return Err(Failure::Input(error)),
         }
-        if keys.len() >= BATCH {
-            is_all_found = answer_keys(alloc, &table, keys.as_slice(), output)? && is_all_found;
-            keys.clear();
-        }
+        is_all_found = answer_batch(alloc, table, &mut keys, is_all_found, output)?;
     }
-    is_all_found = answer_keys(alloc, &table, keys.as_slice(), output)? && is_all_found;
-    Ok(status_of(is_all_found))
+    let is_last_found = answer_keys(alloc, table, keys.as_slice(), output)?;
+    Ok(status_of(is_last_found && is_all_found))
 }
 
-fn open<C: Config>(bytes: &[u8]) -> Result<HashTable<C, Borrowed<'_>>, Failure> {
+/// What the next line of an input is.
+#[derive(Drop)]
+enum NextKey<K> {
+    /// The text of this key.
+    Key(K),
+    /// The text of no key.
+    NoKey,
+    /// There is no line.
+    End,
+}
+
+// Reads the next line, and parses its key. The bytes of `line` are replaced.
+fn next_key<K: Text, I: BufRead>(input: &mut I, line: &mut Vec<u8>) -> io::Result<NextKey<K>>
+    ensures { IfOk result (IsNextKey (IsReadAs K.is_word K.stands_for) (I.remaining input.old) (I.remaining input.new)) }
+{
+    if !read_line(input, line)? {
+        return Ok(NextKey::End);
+    }
+    match K::parse(line.as_slice()) {
+        Some(key) => Ok(NextKey::Key(key)),
+        None => Ok(NextKey::NoKey),
+    }
+}
+
+// Answers the keys where they are a batch, and drops them. Returns whether each was found, and those before.
+fn answer_batch<C: Config, O: Write>(
+    alloc: Global,
+    table: &HashTable<C, Borrowed<'_>>,
+    keys: &mut Vec<C::Key>,
+    is_all_found: bool,
+    output: &mut O,
+) -> Result<bool, Failure>
+where
+    C::Key: Text,
+    C::Value: Text,
+    ensures ok { IfOk result (IsFlushed ⟦<C as Coded>⟧.coding C.Key.text C.Value.text table.now.0.now keys.old.items keys.new.items (O.contents output.old) (O.contents output.new) is_all_found) }
+    ensures err { IfErr result (IsKeysFailure (O.contents output.old) (O.contents output.new)) }
+{
+    if keys.len() < BATCH {
+        return Ok(is_all_found);
+    }
+    let is_found = answer_keys(alloc, table, keys.as_slice(), output)?;
+    keys.clear();
+    Ok(is_found && is_all_found)
+}
+
+fn open<C: Config>(bytes: &[u8]) -> Result<HashTable<C, Borrowed<'_>>, Failure>
+    ensures ok { IfOk result (λ table. table.0.now ≡ bytes.now) }
+    ensures opened { OnOk result (view_refusal ⟦<C as Coded>⟧.coding.format bytes.now ≡ None) }
+    ensures err { IfErr result (IsOpenFailure (view_refusal ⟦<C as Coded>⟧.coding.format bytes.now)) }
+{
     match HashTable::from_raw_bytes(Borrowed::new(bytes)) {
         Ok(table) => Ok(table),
         Err(refused) => Err(Failure::Refused(refused)),
@@ -138,18 +262,11 @@ fn answer_keys<C: Config, O: Write>(
 where
     C::Key: Text,
     C::Value: Text,
-    ensures lines { let c = ⟦<C as Coded>⟧.coding
-        in (P : Table)
-        → IsImage c.format P table.now.0.now
-        → OnOk result (Appends (O.contents output.old) (O.contents output.new) (answers_text C.Key.text C.Value.text keys.now (map (value_for c P) keys.now))) }
-    ensures all { let c = ⟦<C as Coded>⟧.coding
-        in (P : Table)
-        → IsImage c.format P table.now.0.now
-        → IfOk result (λ all. IsTrue all ↔ AllPass is_some (map (value_for c P) keys.now)) }
+    ensures ok { IfOk result (AreKeysAnswered ⟦<C as Coded>⟧.coding C.Key.text C.Value.text table.now.0.now keys.now (O.contents output.old) (O.contents output.new)) }
+    ensures err { IfErr result (IsKeysFailure (O.contents output.old) (O.contents output.new)) }
 {
-    let values = match look_up::<C>(alloc, table, keys) {
-        Ok(values) => values,
-        Err(_) => return Err(Failure::Memory),
+    let Ok(values) = look_up::<C>(alloc, table, keys) else {
+        return Err(Failure::Memory);
     };
     let values = values.as_slice();
     match write_answers(keys, values, output) {
@@ -166,11 +283,7 @@ fn look_up<C: Config>(
 ) -> Result<Vec<Option<C::Value>>, AllocError>
 where
     C::Value: Text,
-    ensures len { IfOk result (λ values. length values.items ≡ length keys.now) }
-    ensures values { let c = ⟦<C as Coded>⟧.coding
-        in (P : Table)
-        → IsImage c.format P table.now.0.now
-        → IfOk result (λ values. values.items ≡ map (value_for c P) keys.now) }
+    ensures { IfOk result (λ values. AreAnswers ⟦<C as Coded>⟧.coding table.now.0.now keys.now values.items) }
 {
     let mut values = absent_values::<C::Value>(alloc, keys.len())?;
     table.get_all(keys, values.as_mut_slice());

@@ -1,0 +1,87 @@
+-- What `get` does with the bytes B of a file. R says which word is a text of which key.
+--     IsReadAs W S w x     w is a word, by W, and stands for x, by S
+--     IsTextOf p w x       the word w is a text of x, which is of the type p
+--     IsTextOfNone R w     the word w is a text of no key
+--     AreAnswers c B ks os os are the values for the keys ks: on valid bytes those that the table's map has, and on any
+--                          bytes only values that are stored with the key
+--     found_status all     the status where all keys were found, or not all
+--     answered_status os   the status where these are the values
+--     IsFirstFault R ws w  the word w is one of ws, and the first that is a text of no key
+--     IsAnswered c f g R B ws old new status   the answers to the words ws were written, which took the writer from the
+--                          bytes old to new; f and g are the texts of keys and of values
+--     AreWordsGot c f g R B ws old new r   what `get` returns, r, and writes for the words ws
+--     AreFileWordsGot B h ws old new r     the same of the bytes of a file, where the hash function h, or none, is named
+use Rattle.std.specs.Prelude.{◌≡◌, Bool, ℕ, List, ◌∷◌, ◌++◌, length, map, is_some, slice_index, Option, Some, None, Result, Ok, Err, MatchOption, string_bytes, if◌then◌else◌}
+use Rattle.std.specs.Io.KnownBytes.{Appends, Keeps}
+use Rattle.std.specs.List.{list_all, AllZip}
+use Rattle.odht.specs.Lookups.{HaveStored}
+use Rattle.odht_base.specs.Table.{Table}
+use Rattle.odht_base.specs.Valid.{IsImage}
+use Rattle.odht_header.specs.Coding.{Coding, value_for}
+use Rattle.odht_header.specs.Refusals.{view_refusal}
+use Rattle.odht_tool.specs.ReadyShapes.{Typed, IsTypedWord, StandsFor, typed_text, key_part, value_part, shape_coding, shape_of_bytes}
+use Rattle.odht_tool.specs.Texts.{answers_text}
+use Rattle.odht_tool.specs.declared.commands.TheConstants.{DONE, NOT_DONE}
+use Rattle.odht_tool.specs.declared.failure.Failure.{Failure}
+use Rattle.odht_tool.specs.declared.failure.Failure.TheVariants.{Refused, NoShape, Output, Memory, Key}
+use Rattle.odht_tool.specs.declared.shapes.Hash.{Hash}
+use Rattle.odht_tool.specs.declared.shapes.Part.{Part}
+use Rattle.odht_tool.specs.declared.shapes.Shape.{Shape}
+
+abbrev pub IsReadAs : {X : Type 0} → (List ℕ → Type 0) → (List ℕ → X → Type 0) → List ℕ → X → Type 0
+IsReadAs W S word x = W word × S word x
+
+abbrev pub IsTextOf : (p : Part) → List ℕ → Typed p → Type 0
+IsTextOf p = IsReadAs (IsTypedWord p) (StandsFor p)
+
+abbrev pub IsTextOfNone : {K : Type 0} → (List ℕ → K → Type 0) → List ℕ → Type 0
+IsTextOfNone {K = K} R word = (k : K) → R word k → ⊥
+
+pub record AreAnswers {K V : Type 0} (c : Coding K V) (B : List ℕ) (ks : List K) (os : List (Option V)) : Type 0 where
+  pub each : length os ≡ length ks
+  pub on_valid : (P : Table) → IsImage c.format P B → os ≡ map (value_for c P) ks
+  pub on_any : HaveStored c B ks os
+
+abbrev pub found_status : Bool → ℕ
+found_status all = if all then DONE else NOT_DONE
+
+abbrev pub answered_status : {V : Type 0} → List (Option V) → ℕ
+answered_status os = found_status (list_all is_some os)
+
+pub record IsFirstFault {K : Type 0} (R : List ℕ → K → Type 0) (ws : List (List ℕ)) (word : List ℕ) : Type 0 where
+  pub before : List (List ℕ)
+  pub after : List (List ℕ)
+  pub place : ws ≡ before ++ (word ∷ after)
+  pub keys : List K
+  pub earlier : AllZip R before keys
+  pub fault : IsTextOfNone R word
+
+-- ---- the words of the command line
+pub record IsAnswered {K V : Type 0} (c : Coding K V) (f : K → List ℕ) (g : V → List ℕ) (R : List ℕ → K → Type 0) (B : List ℕ) (ws : List (List ℕ)) (old new : Option (List ℕ)) (returned : ℕ) : Type 0 where
+  pub keys : List K
+  pub texts : AllZip R ws keys
+  pub values : List (Option V)
+  pub answers : AreAnswers c B keys values
+  pub written : Appends old new (answers_text f g keys values)
+  pub status : returned ≡ answered_status values
+
+module _ {K V : Type 0} (c : Coding K V) (f : K → List ℕ) (g : V → List ℕ) (R : List ℕ → K → Type 0) (B : List ℕ) where
+  abbrev pub AreWordsGot : List (List ℕ) → Option (List ℕ) → Option (List ℕ) → Result ℕ Failure → Type 0
+  AreWordsGot ws old new (Ok status) = (view_refusal c.format B ≡ None) × IsAnswered c f g R B ws old new status
+  AreWordsGot ws old new (Err (Refused error)) = (view_refusal c.format B ≡ Some error) × Keeps old new
+  AreWordsGot ws old new (Err (Key word)) = (view_refusal c.format B ≡ None) × IsFirstFault R ws (string_bytes word) × Keeps old new
+  AreWordsGot ws old new (Err Memory) = (view_refusal c.format B ≡ None) × Keeps old new
+  AreWordsGot ws old new (Err (Output error)) = (view_refusal c.format B ≡ None) × ((keys : List K) × AllZip R ws keys)
+  AreWordsGot ws old new (Err _) = ⊥
+
+-- ---- of a file
+abbrev pub words_of_shape : List ℕ → List (List ℕ) → Option (List ℕ) → Option (List ℕ) → Result ℕ Failure → Shape → Type 0
+words_of_shape B ws old new r s =
+    AreWordsGot (shape_coding s) (typed_text (key_part s)) (typed_text (value_part s)) (IsTextOf (key_part s)) B ws old new r
+
+-- with no shape there is the failure of the sizes in the header
+abbrev pub by_shape : List ℕ → Option Hash → Option (List ℕ) → Option (List ℕ) → Result ℕ Failure → (Shape → Type 0) → Type 0
+by_shape B h old new r P = MatchOption (shape_of_bytes B h) ((r ≡ Err (NoShape (slice_index B 5) (slice_index B 6))) × Keeps old new) P
+
+abbrev pub AreFileWordsGot : List ℕ → Option Hash → List (List ℕ) → Option (List ℕ) → Option (List ℕ) → Result ℕ Failure → Type 0
+AreFileWordsGot B h ws old new r = by_shape B h old new r (words_of_shape B ws old new r)

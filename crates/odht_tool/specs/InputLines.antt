@@ -1,0 +1,13 @@
+-- The lines of an input, whose bytes may be known.
+--     without_end line     the line without its end, a line feed with or without a carriage return before it
+--     IsNextLine o o' line the bytes o begin with this line, whose end is left out, and o' are those after it
+--                          where the bytes o are known
+use Rattle.std.specs.Prelude.{◌≡◌, ℕ, List, ◌∷◌, Option, Some, IfSome, if◌then◌else◌}
+use Rattle.std.specs.Io.BufRead.{ends_with_byte, strip_last}
+use Rattle.std.specs.Str.Lines.{lines}
+
+abbrev pub without_end : List ℕ → List ℕ
+without_end line = if ends_with_byte 10 line then strip_last 13 (strip_last 10 line) else line
+
+abbrev pub IsNextLine : Option (List ℕ) → Option (List ℕ) → List ℕ → Type 0
+IsNextLine old new line = IfSome old (λ bytes. (rest : List ℕ) × (new ≡ Some rest) × (lines bytes ≡ line ∷ lines rest))
