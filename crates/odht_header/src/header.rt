@@ -215,10 +215,7 @@ impl<'a> Header<'a> {
         }
         let max = max_item_count_for(self.slot_count(), self.max_load_factor());
         if max < stated {
-            return Err(Error::TooManyItems {
-                count: stated,
-                max,
-            });
+            return Err(Error::TooManyItems { count: stated, max });
         }
         Ok(())
     }

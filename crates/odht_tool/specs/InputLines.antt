@@ -1,7 +1,7 @@
 -- The lines of an input, whose bytes may be known.
 --     without_end line     the line without its end, a line feed with or without a carriage return before it
---     IsNextLine o o' line the bytes o begin with this line, whose end is left out, and o' are those after it
---                          where the bytes o are known
+--     IsNextLine o o' line the bytes o begin with this line, whose end is left out, and o' are those after it;
+--                          nothing is said where the bytes o are not known
 use Rattle.std.specs.Prelude.{◌≡◌, ℕ, List, ◌∷◌, Option, Some, IfSome, if◌then◌else◌}
 use Rattle.std.specs.Io.BufRead.{ends_with_byte, strip_last}
 use Rattle.std.specs.Str.Lines.{lines}

@@ -26,7 +26,7 @@ impl Hash {
         }
     }
 
-    // Whether it is the other one.
+    // Whether both are the same one.
     fn is(self, other: Hash) -> bool
         ensures { result ≡ same_hash self other }
     {
@@ -104,7 +104,7 @@ pub enum Shape {
     Bytes32Set,
 }
 
-/// The ready shapes. Of two with the same sizes the first is the one without a named hash function.
+/// The ready shapes. Of two with the same sizes the first is taken where no hash function is named.
 const SHAPES: [Shape; 10] = [
     Shape::U32ToU32,
     Shape::DirectU32ToU32,
@@ -151,7 +151,7 @@ impl Shape {
         }
     }
 
-    /// The type of its keys.
+    // The type of its keys.
     fn key(self) -> Part
         ensures { result ≡ key_part self }
     {
@@ -164,7 +164,7 @@ impl Shape {
         }
     }
 
-    /// The type of its values.
+    // The type of its values.
     fn value(self) -> Part
         ensures { result ≡ value_part self }
     {
@@ -178,7 +178,7 @@ impl Shape {
         }
     }
 
-    /// Its hash function.
+    // Its hash function.
     fn hash(self) -> Hash
         ensures { result ≡ shape_hash self }
     {
