@@ -13,7 +13,7 @@
 # of the calls for C once more
 # make bench: the tables of speeds; QUICK=1 for a short run, ODHT_RUST=folder for the Rust crate beside it, CHECK=1 for
 # the tables of the whole check alone, WORST=1 for the largest forged table too, about an hour, ORDER=1 for the line of
-# an order of inserts alone, MARKDOWN=1 for Markdown
+# an order of inserts alone, MARKDOWN=1 for Markdown; with ODHT_RUST, and without QUICK, CHECK and ORDER, bench-crate too
 # make bench-crate: the crate for Rust beside the Rust crate, whose folder is ODHT_RUST; ITEMS=100000 for no larger tables
 # make bounds: loops that tell what bounds these speeds; ODHT_RUST=folder is needed
 SCRIPT ?= crates/odht_table/stdin
@@ -89,6 +89,7 @@ bench: build/libodht.a $(if $(ODHT_RUST),original)
 	@$(if $(MARKDOWN),sh bench/machine.sh)
 	@build/bench $(if $(QUICK),quick) $(if $(CHECK),check) $(if $(WORST),worst) $(if $(ORDER),order) \
 	  $(if $(MARKDOWN),markdown)
+	@$(if $(ODHT_RUST),$(if $(QUICK)$(CHECK)$(ORDER),,$(MAKE) --no-print-directory bench-crate))
 
 # the crate for Rust, as it is and with the feature `fast`, beside the original; it needs ODHT_RUST and nothing proved
 .PHONY: bench-crate
