@@ -4,12 +4,12 @@
   tests/run.py [PART..]      all parts, or those that are named; status 1 where anything failed
 
     calls      the calls for C, by tests/c                    rust       the crate for Rust (rust/), by tests/rust.py
-    rattle     the tests of odht_tests                        ffi        the package odht-ffi (bindings/rust)
+    rattle     the tests in Rattle                          ffi        the package odht-ffi (bindings/rust)
     memory     each request for memory fails in turn          vectors    all vectors
     tool       the program for table files, by tests/tool     edits      each edit's text is where it says
     script     the program for scripts, by tests/script      generated  generated text is current
     runner     that the runner of cases reports faults
-    word       all vectors and the tests of odht_tests once more, with the word search compiled in
+    word       all vectors and the tests in Rattle once more, with the word search compiled in
 
 What a part needs is built first, by tools/unproved.py, into build/unproved/; what is current there is kept. For `word`
 that is done of a copy of the sources, in a folder for temporary files: the gate takes no second crates.txt in here.
@@ -32,6 +32,8 @@ import word_search
 # the names of this folder are built of a copy of the sources, with the word search
 WORD = f"{BUILT}/word"
 PRINTING = threading.Lock()
+# the crates of tests
+IN_RATTLE = ["odht_tests", "odht_interface"]
 # seconds, for one part
 LIMIT = 600
 
@@ -92,7 +94,8 @@ def vectors(built=BUILT):
 
 
 def tests_in_rattle(built=BUILT):
-    return counted(*run([f"{unproved.KIT}/bin/rattle-test", "--seconds", "60", f"{built}/odht_tests"]))
+    ran = [run([f"{unproved.KIT}/bin/rattle-test", "--seconds", "60", f"{built}/{name}"]) for name in IN_RATTLE]
+    return counted(max(status for status, _ in ran), "".join(printed for _, printed in ran))
 
 
 def with_word_search():
@@ -135,9 +138,9 @@ PARTS = {
     "calls": (["libodht.a"], calls_for_c),
     "rust": (["libodht.a"], crate_for_rust),
     "ffi": (["libodht.a"], package_over_the_archive),
-    "rattle": (["odht_tests"], tests_in_rattle),
+    "rattle": (IN_RATTLE, tests_in_rattle),
     "vectors": (["odht_vectors"], vectors),
-    "word": (["word/odht_tests", "word/odht_vectors"], with_word_search),
+    "word": ([f"word/{it}" for it in [*IN_RATTLE, "odht_vectors"]], with_word_search),
     "memory": (["odht_memory", "odht_table"], memory),
     "tool": (["odht_tool"], lambda: cases("odht_tool", "tests/tool")),
     "script": (["odht_table"], lambda: cases("odht_table", "tests/script")),

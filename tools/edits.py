@@ -11,11 +11,9 @@ import subprocess
 import sys
 import tempfile
 import time
-from concurrent.futures import ThreadPoolExecutor
+from collections import Counter
 
 TOP = os.path.dirname(os.path.dirname(os.path.realpath(__file__)))
-# edits that are tried one after the other, over one proof of their crate
-BATCH = 20
 
 
 def folders_of(crate):
@@ -73,54 +71,30 @@ def check():
     return 1 if failed else 0
 
 
-def copied(room):
-    """Copies what is committed or about to be, without edits, and the libraries that were proved already."""
+def copied(tree, chosen):
+    """Copies what is committed or about to be, with all edits of the chosen crates, and no others, where the gate looks."""
     listed = ["git", "ls-files", "-z", "--cached", "--others", "--exclude-standard"]
     files = subprocess.run(listed, cwd=TOP, stdout=subprocess.PIPE, check=True, text=True).stdout
     for file in filter(None, files.split("\0")):
         if os.path.isfile(f"{TOP}/{file}") and not os.path.islink(f"{TOP}/{file}") and not file.endswith(".edit"):
-            os.makedirs(os.path.dirname(f"{room}/{file}") or room, exist_ok=True)
-            shutil.copy(f"{TOP}/{file}", f"{room}/{file}")
-    for crate in crates():
-        # rt looks whether it is of these sources, and proves it anew where it is not
-        if os.path.isdir(f"{TOP}/crates/{crate}/out/rlib"):
-            shutil.copytree(f"{TOP}/crates/{crate}/out/rlib", f"{room}/crates/{crate}/out/rlib")
+            os.makedirs(os.path.dirname(f"{tree}/{file}") or tree, exist_ok=True)
+            shutil.copy(f"{TOP}/{file}", f"{tree}/{file}")
+    for crate in chosen:
+        os.makedirs(f"{tree}/crates/{crate}/must-fail")
+        for edit in edits_of(crate):
+            shutil.copy(edit, f"{tree}/crates/{crate}/must-fail")
 
 
-def libraries_below(chosen, room):
-    """Proves the libraries that crates with edits use, once, so that no two batches prove them side by side."""
-    with open(f"{TOP}/crates.txt", encoding="utf-8") as lines:
-        uses = dict(it.partition("#")[0].partition(":")[::2] for it in lines if ":" in it.partition("#")[0])
-    below = {it for name, words in uses.items() if name.split()[0] in chosen for it in words.split()}
-    for crate in (it for it in crates() if it in below):
-        began = time.monotonic()
-        subprocess.run(["rt", "lib"], cwd=f"{room}/crates/{crate}", stdout=subprocess.DEVNULL, check=True)
-        print(f"{crate}: proved, as a library below; {time.monotonic() - began:.0f} s", flush=True)
-
-
-def tried(crate, edits, at, room):
-    """Has the prover try some edits of a crate, and returns how many were refused, and how many not."""
-    began, copy = time.monotonic(), f"{room}-{crate}-{at}"
-    shutil.copytree(room, copy, copy_function=os.link)
-    os.makedirs(f"{copy}/crates/{crate}/must-fail")
-    for edit in edits:
-        shutil.copy(edit, f"{copy}/crates/{crate}/must-fail")
-    how = {"stdout": subprocess.PIPE, "stderr": subprocess.STDOUT, "text": True}
-    ran = subprocess.run(["rt", "must-fail", crate], cwd=copy, **how)
-    shutil.rmtree(copy)
-    refused = len(re.findall(r"^(?:rt: )?must-fail .*: refused", ran.stdout, re.M))
-    failed = len(edits) - refused
-    if failed or ran.returncode:
-        print(ran.stdout)
-    print(f"{crate}: {refused} refused, {failed} not; {time.monotonic() - began:.0f} s", flush=True)
-    return refused, max(failed, 1 if ran.returncode else 0)
-
-
-def batches_of(crate):
-    """Returns the edits of a crate in lists of at most BATCH, since those of a list are tried one after the other."""
-    edits = edits_of(crate)
-    number = -(-len(edits) // BATCH)
-    return [edits[at::number] for at in range(number)]
+def pass_on(stream):
+    """Prints what is said of crates and edits, and returns how many edits were refused, by their crates."""
+    refused = Counter()
+    for line in stream:
+        tried = re.match(r"(?:rt: )?must-fail (\w+)/\S+: (refused)?", line)
+        if tried and tried[2]:
+            refused[tried[1]] += 1
+        if tried and not tried[2] or re.match(r"rt: |\d+ passed", line):
+            print(line, end="", flush=True)
+    return refused
 
 
 def run(names):
@@ -131,16 +105,20 @@ def run(names):
     began = time.monotonic()
     with tempfile.TemporaryDirectory(prefix="odht-edits-") as room:
         tree = f"{room}/tree"
-        copied(tree)
-        libraries_below(chosen, tree)
-        batches = [(it, edits, at) for it in chosen for at, edits in enumerate(batches_of(it))]
-        # the longest first
-        batches.sort(key=lambda it: -len(it[1]))
-        with ThreadPoolExecutor(len(os.sched_getaffinity(0))) as pool:
-            counts = [*pool.map(lambda it: tried(*it, tree), batches)]
+        copied(tree, chosen)
+        os.chmod(room, 0o755)
+        how = {"cwd": tree, "stdout": subprocess.PIPE, "stderr": subprocess.STDOUT, "text": True, "errors": "replace"}
+        gate = subprocess.Popen(["rt", "ci", *chosen], **how)
+        refused = pass_on(gate.stdout)
+        status = gate.wait()
+    failed = 0
+    for crate in chosen:
+        lost = len(edits_of(crate)) - refused[crate]
+        print(f"{crate}: {refused[crate]} edits refused, {lost} not")
+        failed += lost
     print(f"{(time.monotonic() - began) / 60:.1f} minutes")
-    print(f"{sum(it[0] for it in counts)} passed, {sum(it[1] for it in counts)} failed")
-    return 1 if any(it[1] for it in counts) else 0
+    print(f"{sum(refused.values())} passed, {max(failed, 1 if status else 0)} failed")
+    return 1 if failed or status else 0
 
 
 if __name__ == "__main__":

@@ -34,27 +34,38 @@ def crates():
     return found
 
 
-class Watch:
-    """Looks at the checks that run below a folder for temporary files, and adds up what they cost."""
+def stat_of(pid):
+    """Returns what /proc says of a process, from its state on: its parent is the second field."""
+    with open(f"/proc/{pid}/stat", encoding="utf-8") as it:
+        return it.read().rpartition(") ")[2].split()
 
-    def __init__(self, room):
-        self.room, self.cost, self.kinds, self.copies = room, {}, {}, {}
+
+class Watch:
+    """Looks at the checks that the gate began, and adds up what they cost. Its temporary files are below a folder."""
+
+    def __init__(self, room, gate):
+        self.room, self.gate, self.cost, self.kinds, self.copies = room, gate, {}, {}, {}
 
     def look(self):
         for pid in filter(str.isdigit, os.listdir("/proc")):
             try:
                 with open(f"/proc/{pid}/cmdline", "rb") as it:
                     words = it.read().decode(errors="replace").split("\0")
-                if "--crate-name" not in words or not words[0].endswith("/rattle"):
+                if "--crate-name" not in words or not words[0].endswith("/rattle") or not self.is_ours(pid):
                     continue
-                with open(f"/proc/{pid}/stat", encoding="utf-8") as it:
-                    fields = it.read().rpartition(") ")[2].split()
+                fields = stat_of(pid)
                 folder = os.readlink(f"/proc/{pid}/cwd")
             except OSError:
                 continue
             crate = words[words.index("--crate-name") + 1]
             self.cost[pid, fields[19]] = (int(fields[11]) + int(fields[12])) / TICK
             self.kinds.setdefault((pid, fields[19]), (crate, self.kind(crate, folder, words)))
+
+    def is_ours(self, pid):
+        """Returns whether the gate began this process, or one that began it."""
+        while pid not in ("0", str(self.gate)):
+            pid = stat_of(pid)[1]
+        return pid != "0"
 
     def kind(self, crate, folder, words):
         """Returns what a check is for. The first copy of a crate with an edit is proved whole, the later ones over it."""
@@ -98,7 +109,7 @@ def main(*words):
     edits = sum(known.values())
     lanes = len(os.sched_getaffinity(0))
     print(f"proving {len(known)} crates from nothing, and trying {edits} edits that must be refused;")
-    print(f"on four processors expect forty minutes; here are {lanes}", flush=True)
+    print(f"on four processors expect half an hour; here are {lanes}", flush=True)
     began, proved = time.monotonic(), []
     with tempfile.TemporaryDirectory(prefix="odht-prove-") as room:
         tree = f"{room}/word" if by_word else os.getcwd()
@@ -110,7 +121,7 @@ def main(*words):
         gate = subprocess.Popen(words or ["rt", "ci"], stdout=subprocess.PIPE, stderr=subprocess.STDOUT, **how)
         printing = threading.Thread(target=pass_on, args=(gate.stdout, proved))
         printing.start()
-        watch, told = Watch(room), 0
+        watch, told = Watch(room, gate.pid), 0
         while gate.poll() is None:
             watch.look()
             minute = int((time.monotonic() - began) // 60)

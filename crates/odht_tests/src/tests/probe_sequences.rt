@@ -3,18 +3,9 @@ ghost use Rattle.std.specs.Prelude.{◌≡◌, ◌%◌};
 ghost use Rattle.odht_base.specs.Load.{IsSlotCount};
 
 use crate::group_starts::group_starts;
-use odht::load::{Factor, slots_needed};
+use crate::slot_counts::slots_for;
 use std::alloc::{AllocError, Global};
 use std::process::Abort;
-
-/// The least slot count that holds these items at 100 percent.
-pub fn slots_for(rt: &impl Abort, items: usize) -> usize
-    ensures { IsSlotCount result }
-{
-    let factor = Factor::from_percent(100);
-    assert!(rt; factor.0 >= 1);
-    slots_needed(items, factor).expect(rt, "slots")
-}
 
 // The slots of a home of 0, one after the other, by groups of sixteen whose distance grows by sixteen.
 fn reference(alloc: Global, slots: usize) -> Result<Vec<usize>, AllocError> {

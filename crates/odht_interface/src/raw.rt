@@ -1,11 +1,9 @@
-//! The names of `raw_table` as the port promises them (`interface_base` says how). The tables have 16 slots, keys and
+//! The names of `raw_table` as the port promises them (`base` says how). The tables have 16 slots, keys and
 //! values of four bytes, and the key as its hash.
 ghost use Rattle.std.specs.Prelude.{◌≡◌};
 ghost use Rattle.odht_base.specs.Load.{IsSlotCount};
 
-use crate::tests::checks::{same, same_bytes, same_len};
-use crate::tests::interface_base::is_plain_value;
-use crate::tests::probe_sequences::slots_for;
+use crate::base::is_plain_value;
 use odht::error::Error;
 use odht::hash::UnHashFn;
 use odht::raw_table::{
@@ -13,6 +11,8 @@ use odht::raw_table::{
     plain_find, plain_insert, probe_order, search,
 };
 use odht::swisstable_group_query::{Group, lanes, no_simd};
+use odht_tests::checks::{same, same_bytes, same_len};
+use odht_tests::slot_counts::slots_for;
 use std::alloc::AllocError;
 use std::fmt::Debug;
 use std::process::Abort;

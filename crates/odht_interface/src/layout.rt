@@ -1,9 +1,8 @@
-//! The names of `memory_layout` as the port promises them (`interface_base` says how). The table is one of u32 to u32,
+//! The names of `memory_layout` as the port promises them (`base` says how). The table is one of u32 to u32,
 //! 16 slots at 87 percent.
 ghost use Rattle.std.specs.Prelude.{◌≡◌, ◌≤◌, length};
 
-use crate::tests::checks::{same, same_bytes};
-use crate::tests::interface_raw::sixteen;
+use crate::raw::sixteen;
 use odht::bytes::{Borrowed, BorrowedMut, ByteStore, ByteStoreMut, OwnedBytes};
 use odht::config::Config;
 use odht::configs::U32ToU32;
@@ -13,6 +12,7 @@ use odht::memory_layout::{
     Allocation, Entries, EntryMetadata, Header, allocate, bytes_needed, check_all, init_in_place,
 };
 use odht::raw_table::Entry;
+use odht_tests::checks::{same, same_bytes};
 use std::process::Abort;
 
 // The header of such a table without items.
