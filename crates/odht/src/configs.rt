@@ -2,133 +2,20 @@
 //!
 //! docs/FORMAT.md says in "Hashes" how a key is hashed, and in "Probe order" where its probe order begins.
 ghost use Rattle.std.specs.Prelude.{◌≤◌};
-ghost use Rattle.std.specs.Int.{w32, to_le_bytes, from_le_bytes};
 ghost use Rattle.std.proofs.Common.{lit≤, zero-le};
 
 use crate::bytes::ByteArray;
-use crate::config::{Config, Lossless};
-use crate::hash::{FxHashFn, UnHashFn};
+use crate::config::Config;
+use crate::hash::FxHashFn;
 pub use hashed::{
     Bytes16Set, Bytes16ToU32, Bytes16ToU64, Bytes20ToU64, Bytes32Set, Bytes32ToU64, HashBytes,
     Hashes,
 };
-pub use numbers::{Numbers, Stored, U64ToU32, U64ToU64};
+pub use numbers::{DirectU32ToU32, HashedBy, Numbers, Stored, U32ToU32, U64ToU32, U64ToU64};
 use std::marker::PhantomData;
 
 mod hashed;
 mod numbers;
-
-/// From u32 to u32, both little-endian.
-pub struct U32ToU32;
-
-impl Config for U32ToU32 {
-    type Key = u32;
-
-    type Value = u32;
-
-    type EncodedKey = [u8; 4];
-
-    type EncodedValue = [u8; 4];
-
-    type H = FxHashFn;
-
-    ghost encode_key = { to_le_bytes w32 };
-
-    ghost encode_value = { to_le_bytes w32 };
-
-    ghost decode_key = { from_le_bytes w32 };
-
-    ghost decode_value = { from_le_bytes w32 };
-
-    fn encode_key(k: &u32) -> [u8; 4] {
-        k.to_le_bytes()
-    }
-
-    fn encode_value(v: &u32) -> [u8; 4] {
-        v.to_le_bytes()
-    }
-
-    fn decode_key(k: &[u8; 4]) -> u32 {
-        u32::from_le_bytes(*k)
-    }
-
-    fn decode_value(v: &[u8; 4]) -> u32 {
-        u32::from_le_bytes(*v)
-    }
-
-    ghost key_fits = { lit≤ tt };
-
-    ghost value_fits = { lit≤ tt };
-
-    ghost key_hashes = { lit≤ tt };
-}
-
-// A number that is read is known to fit its bytes.
-impl Lossless for U32ToU32 {
-    fn key_kept(k: &u32) {
-        let _key = *k;
-    }
-
-    fn value_kept(v: &u32) {
-        let _value = *v;
-    }
-}
-
-/// From u32 to u32, both little-endian. The hash of a key is the key.
-pub struct DirectU32ToU32;
-
-impl Config for DirectU32ToU32 {
-    type Key = u32;
-
-    type Value = u32;
-
-    type EncodedKey = [u8; 4];
-
-    type EncodedValue = [u8; 4];
-
-    type H = UnHashFn;
-
-    ghost encode_key = { to_le_bytes w32 };
-
-    ghost encode_value = { to_le_bytes w32 };
-
-    ghost decode_key = { from_le_bytes w32 };
-
-    ghost decode_value = { from_le_bytes w32 };
-
-    fn encode_key(k: &u32) -> [u8; 4] {
-        k.to_le_bytes()
-    }
-
-    fn encode_value(v: &u32) -> [u8; 4] {
-        v.to_le_bytes()
-    }
-
-    fn decode_key(k: &[u8; 4]) -> u32 {
-        u32::from_le_bytes(*k)
-    }
-
-    fn decode_value(v: &[u8; 4]) -> u32 {
-        u32::from_le_bytes(*v)
-    }
-
-    ghost key_fits = { lit≤ tt };
-
-    ghost value_fits = { lit≤ tt };
-
-    ghost key_hashes = { lit≤ tt };
-}
-
-// A number that is read is known to fit its bytes.
-impl Lossless for DirectU32ToU32 {
-    fn key_kept(k: &u32) {
-        let _key = *k;
-    }
-
-    fn value_kept(v: &u32) {
-        let _value = *v;
-    }
-}
 
 /// A byte array that may be a key or a value: of at most 255 bytes.
 pub trait Short: ByteArray {

@@ -1,11 +1,11 @@
-//! Ready configurations for integers: keys and values are little-endian, and keys are hashed by `FxHashFn`.
+//! Ready configurations for integers: keys and values are little-endian.
 ghost use Rattle.std.specs.Prelude.{◌≡◌, ◌≤◌};
 ghost use Rattle.std.specs.Int.{w32, w64, to_le_bytes, from_le_bytes};
 ghost use Rattle.std.proofs.Common.{lit≤, zero-le};
 
 use crate::bytes::ByteArray;
 use crate::config::{Config, Lossless};
-use crate::hash::FxHashFn;
+use crate::hash::{FxHashFn, HashFn, UnHashFn};
 use std::marker::PhantomData;
 
 /// A type that is stored as a fixed number of bytes: an integer, little-endian, or `()`, which has no bytes.
@@ -101,11 +101,35 @@ impl Stored for () {
     ghost fits = { zero-le };
 }
 
-/// From integers to integers, or to `()`: then the table is a set.
-pub struct Numbers<K, V> {
+/// A type whose bytes are long enough for a hash function.
+pub trait HashedBy<H: HashFn>: Stored {
+    ghost long: { H.MIN_LEN ≤ Self.Bytes.LEN };
+}
+
+impl<T: Stored> HashedBy<FxHashFn> for T {
+    ghost long = { zero-le };
+}
+
+impl HashedBy<UnHashFn> for u32 {
+    ghost long = { lit≤ tt };
+}
+
+impl HashedBy<UnHashFn> for u64 {
+    ghost long = { lit≤ tt };
+}
+
+/// From integers to integers, or to `()`: then the table is a set. Keys are hashed by `H`.
+pub struct Numbers<K, V, H = FxHashFn> {
     key: PhantomData<K>,
     value: PhantomData<V>,
+    hash: PhantomData<H>,
 }
+
+/// From u32 to u32.
+pub type U32ToU32 = Numbers<u32, u32>;
+
+/// From u32 to u32. The hash of a key is the key.
+pub type DirectU32ToU32 = Numbers<u32, u32, UnHashFn>;
 
 /// From u64 to u32.
 pub type U64ToU32 = Numbers<u64, u32>;
@@ -113,7 +137,7 @@ pub type U64ToU32 = Numbers<u64, u32>;
 /// From u64 to u64.
 pub type U64ToU64 = Numbers<u64, u64>;
 
-impl<K: Stored, V: Stored> Config for Numbers<K, V> {
+impl<K: HashedBy<H>, V: Stored, H: HashFn> Config for Numbers<K, V, H> {
     type Key = K;
 
     type Value = V;
@@ -122,7 +146,7 @@ impl<K: Stored, V: Stored> Config for Numbers<K, V> {
 
     type EncodedValue = V::Bytes;
 
-    type H = FxHashFn;
+    type H = H;
 
     ghost encode_key = { K.to_bytes };
 
@@ -156,10 +180,10 @@ impl<K: Stored, V: Stored> Config for Numbers<K, V> {
 
     ghost value_fits = { V.fits };
 
-    ghost key_hashes = { zero-le };
+    ghost key_hashes = { K.long };
 }
 
-impl<K: Stored, V: Stored> Lossless for Numbers<K, V> {
+impl<K: HashedBy<H>, V: Stored, H: HashFn> Lossless for Numbers<K, V, H> {
     fn key_kept(k: &K) {
         k.kept();
     }

@@ -5,78 +5,16 @@
 
 use crate::proved::tables::bytes::ByteArray;
 use crate::proved::tables::config::Config;
-use crate::proved::tables::hash::{FxHashFn, UnHashFn};
+use crate::proved::tables::hash::FxHashFn;
 pub use hashed::{
     Bytes16Set, Bytes16ToU32, Bytes16ToU64, Bytes20ToU64, Bytes32Set, Bytes32ToU64, HashBytes,
     Hashes,
 };
-pub use numbers::{Numbers, Stored, U64ToU32, U64ToU64};
+pub use numbers::{DirectU32ToU32, HashedBy, Numbers, Stored, U32ToU32, U64ToU32, U64ToU64};
 use std::marker::PhantomData;
 
 mod hashed;
 mod numbers;
-
-/// From u32 to u32, both little-endian.
-pub struct U32ToU32;
-
-impl Config for U32ToU32 {
-    type Key = u32;
-
-    type Value = u32;
-
-    type EncodedKey = [u8; 4];
-
-    type EncodedValue = [u8; 4];
-
-    type H = FxHashFn;
-
-    fn encode_key(k: &u32) -> [u8; 4] {
-        k.to_le_bytes()
-    }
-
-    fn encode_value(v: &u32) -> [u8; 4] {
-        v.to_le_bytes()
-    }
-
-    fn decode_key(k: &[u8; 4]) -> u32 {
-        u32::from_le_bytes(*k)
-    }
-
-    fn decode_value(v: &[u8; 4]) -> u32 {
-        u32::from_le_bytes(*v)
-    }
-}
-
-/// From u32 to u32, both little-endian. The hash of a key is the key.
-pub struct DirectU32ToU32;
-
-impl Config for DirectU32ToU32 {
-    type Key = u32;
-
-    type Value = u32;
-
-    type EncodedKey = [u8; 4];
-
-    type EncodedValue = [u8; 4];
-
-    type H = UnHashFn;
-
-    fn encode_key(k: &u32) -> [u8; 4] {
-        k.to_le_bytes()
-    }
-
-    fn encode_value(v: &u32) -> [u8; 4] {
-        v.to_le_bytes()
-    }
-
-    fn decode_key(k: &[u8; 4]) -> u32 {
-        u32::from_le_bytes(*k)
-    }
-
-    fn decode_value(v: &[u8; 4]) -> u32 {
-        u32::from_le_bytes(*v)
-    }
-}
 
 /// A byte array that may be a key or a value: of at most 255 bytes.
 pub trait Short: ByteArray {}

@@ -1,9 +1,9 @@
 // Made by `make rust` of crates/odht/src/configs/numbers.rt.
-//! Ready configurations for integers: keys and values are little-endian, and keys are hashed by `FxHashFn`.
+//! Ready configurations for integers: keys and values are little-endian.
 
 use crate::proved::tables::bytes::ByteArray;
 use crate::proved::tables::config::Config;
-use crate::proved::tables::hash::FxHashFn;
+use crate::proved::tables::hash::{FxHashFn, HashFn, UnHashFn};
 use std::marker::PhantomData;
 
 /// A type that is stored as a fixed number of bytes: an integer, little-endian, or `()`, which has no bytes.
@@ -70,11 +70,27 @@ impl Stored for () {
     fn kept(&self) {}
 }
 
-/// From integers to integers, or to `()`: then the table is a set.
-pub struct Numbers<K, V> {
+/// A type whose bytes are long enough for a hash function.
+pub trait HashedBy<H: HashFn>: Stored {}
+
+impl<T: Stored> HashedBy<FxHashFn> for T {}
+
+impl HashedBy<UnHashFn> for u32 {}
+
+impl HashedBy<UnHashFn> for u64 {}
+
+/// From integers to integers, or to `()`: then the table is a set. Keys are hashed by `H`.
+pub struct Numbers<K, V, H = FxHashFn> {
     key: PhantomData<K>,
     value: PhantomData<V>,
+    hash: PhantomData<H>,
 }
+
+/// From u32 to u32.
+pub type U32ToU32 = Numbers<u32, u32>;
+
+/// From u32 to u32. The hash of a key is the key.
+pub type DirectU32ToU32 = Numbers<u32, u32, UnHashFn>;
 
 /// From u64 to u32.
 pub type U64ToU32 = Numbers<u64, u32>;
@@ -82,7 +98,7 @@ pub type U64ToU32 = Numbers<u64, u32>;
 /// From u64 to u64.
 pub type U64ToU64 = Numbers<u64, u64>;
 
-impl<K: Stored, V: Stored> Config for Numbers<K, V> {
+impl<K: HashedBy<H>, V: Stored, H: HashFn> Config for Numbers<K, V, H> {
     type Key = K;
 
     type Value = V;
@@ -91,7 +107,7 @@ impl<K: Stored, V: Stored> Config for Numbers<K, V> {
 
     type EncodedValue = V::Bytes;
 
-    type H = FxHashFn;
+    type H = H;
 
     #[inline(always)]
     fn encode_key(k: &K) -> K::Bytes {
