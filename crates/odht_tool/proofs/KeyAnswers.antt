@@ -14,7 +14,7 @@ AllZip-one_more R (a ∷ xs) [] x y h r = absurd h
 AllZip-one_more R (a ∷ xs) (b ∷ ys) x y h r = (h.0, AllZip-one_more R xs ys x y h.1 r)
 
 -- of no keys there are no answers
-no_answers : {K V : Type 0} (c : Coding K V) (B : List ℕ) → AreAnswers c B [] []
+pub no_answers : {K V : Type 0} (c : Coding K V) (B : List ℕ) → AreAnswers c B [] []
 no_answers c B = record { each = refl; on_valid = λ P is. refl; on_any = λ i k v p q. cc }
 
 -- of no batch none is answered
