@@ -11,6 +11,13 @@ use Rattle.odht_header.specs.Coding.{Coding, HasStored, value_for}
 use Rattle.odht_tool.specs.Gets.{AreAnswers}
 use Rattle.odht_tool.specs.Texts.{answer_line, answers_text}
 
+-- as many words as keys
+pub AllZip-length : {X Y : Type 0} (R : X → Y → Type 0) (xs : List X) (ys : List Y) → AllZip R xs ys → length xs ≡ length ys
+AllZip-length R [] [] h = refl
+AllZip-length R [] (y ∷ ys) h = absurd h
+AllZip-length R (x ∷ xs) [] h = absurd h
+AllZip-length R (x ∷ xs) (y ∷ ys) h = ap suc (AllZip-length R xs ys h.1)
+
 -- the words of the first keys
 pub record IsFront {K : Type 0} (R : List ℕ → K → Type 0) (ws : List (List ℕ)) (ks : List K) : Type 0 where
   pub before : List (List ℕ)

@@ -1,10 +1,11 @@
 -- The lines that a loop has taken of an input, and the answers that it has written.
-use Rattle.std.proofs.Common.{◌≡◌, ◌∙◌, ◌⊎◌, inl, inr, ℕ, suc, ◌+◌, ◌-◌, ◌^◌, ◌<◌, ◌≤◌, Bool, true, ◌&&◌, List, [], ◌∷◌, ◌++◌, Option, Some, None, IfSome, length, take, is_some, sym, ap, refl, subst, arith, length-append, take_all}
+use Rattle.std.proofs.Common.{◌≡◌, ◌∙◌, ◌⊎◌, inl, inr, ℕ, suc, ◌+◌, ◌-◌, ◌*◌, ◌^◌, ◌<◌, ◌≤◌, Bool, true, ◌&&◌, List, [], ◌∷◌, ◌++◌, Option, Some, None, IfSome, length, take, is_some, sym, ap, refl, subst, arith, length-append, take_all}
 use Rattle.std.specs.Prelude.{Result, Err}
 use Rattle.std.specs.Io.KnownBytes.{Appends, Keeps, IsAtEnd}
 use Rattle.std.specs.List.{AllZip, list_all}
 use Rattle.std.specs.Str.Lines.{lines}
 use Rattle.std.proofs.KnownBytes.{Appends-nil}
+use Rattle.std.proofs.Math.Nat.{eq-or-lt_of_le}
 use Rattle.std.proofs.Math.Seq.{take-append_seam}
 use Rattle.std.proofs.lemmas.List.{append_assoc, append-nil}
 use Rattle.odht_header.specs.Coding.{Coding}
@@ -14,9 +15,10 @@ use Rattle.odht_tool.specs.Gets.{AreAnswers, IsAnswered, IsTextOfNone, answered_
 use Rattle.odht_tool.specs.InputLines.{IsNextLine}
 use Rattle.odht_tool.specs.Texts.{answers_text}
 use Rattle.odht_tool.specs.declared.commands.get.NextKey.TheVariants.{Key as is_key, NoKey}
+use Rattle.odht_tool.specs.declared.commands.get.TheConstants.{BATCH}
 use Rattle.odht_tool.specs.declared.failure.Failure.{Failure}
 use Rattle.odht_tool.specs.declared.failure.Failure.TheVariants.{Memory, Output}
-use Rattle.odht_tool.proofs.AnswerLists.{IsFront, front_of, appended_kept, are_answers_append, written_append, found_append}
+use Rattle.odht_tool.proofs.AnswerLists.{AllZip-length, IsFront, front_of, appended_kept, are_answers_append, written_append, found_append}
 use Rattle.odht_tool.proofs.KeyAnswers.{AllZip-one_more, no_answers}
 
 -- the lines before the one of this number were read as these keys, and the input has the bytes of the others left
@@ -29,9 +31,11 @@ pub record AreRead {K : Type 0} (R : List ℕ → K → Type 0) (bytes : List �
   pub texts : AllZip R words keys
 
 -- the lines before the one of this number were read as keys, of which `pending` are the last, and the answers to all before
--- these were written; `all` says whether each of those has a value
+-- these, which are so many batches, were written; `all` says whether each of those has a value
 pub record AreTaken {K V : Type 0} (c : Coding K V) (f : K → List ℕ) (g : V → List ℕ) (R : List ℕ → K → Type 0) (B : List ℕ) (input now old new : Option (List ℕ)) (number : ℕ) (pending : List K) (all : Bool) : Type 0 where
   pub done : List K
+  pub batches : ℕ
+  pub whole : length done ≡ batches * BATCH
   pub values : List (Option V)
   pub answers : AreAnswers c B done values
   pub written : Appends old new (answers_text f g done values)
@@ -51,11 +55,17 @@ next_of old new rest line e h = subst (λ o. IsNextLine o new line) e h
 end_of : (old : Option (List ℕ)) (rest : List ℕ) → old ≡ Some rest → IsAtEnd old → rest ≡ []
 end_of old rest e h = subst IsAtEnd e h
 
+-- fewer keys than a batch and one more are a batch at most
+pub batch_at_most : {K : Type 0} (keys more : List K) (key : K) → more ≡ keys ++ (key ∷ []) → length keys < BATCH → length more ≤ BATCH
+batch_at_most keys more key e few = omega (arith, ap length e ∙ length-append keys (key ∷ []), few)
+
 -- at first no line was
 pub none_taken : {K V : Type 0} (c : Coding K V) (f : K → List ℕ) (g : V → List ℕ) (R : List ℕ → K → Type 0) (B : List ℕ) (input old : Option (List ℕ)) (pending : List K) → pending ≡ []
     → AreTaken c f g R B input input old old 1 pending true
 none_taken c f g R B input old pending e = record {
   done = [];
+  batches = 0;
+  whole = refl;
   values = [];
   answers = no_answers c B;
   written = Appends-nil old;
@@ -73,6 +83,8 @@ module _ {K V : Type 0} (c : Coding K V) (f : K → List ℕ) (g : V → List �
       → IsNextKey R now then (is_key key) → more ≡ pending ++ (key ∷ []) → AreTaken c f g R B input then old new (number + 1) more all
   one_taken number pending all then key more h next e = record {
     done = h.done;
+    batches = h.batches;
+    whole = h.whole;
     values = h.values;
     answers = h.answers;
     written = h.written;
@@ -94,23 +106,41 @@ module _ {K V : Type 0} (c : Coding K V) (f : K → List ℕ) (g : V → List �
           }
 
   module _ (number : ℕ) (pending : List K) (all : Bool) (last : Option (List ℕ)) (h : AreTaken c f g R B input now old new number pending all) where
-    -- some of the last keys are answered
-    pub some_answered : (after : List K) (every : Bool) → IsFlushed c f g B pending after new last all every → AreTaken c f g R B input now old last number after every
-    some_answered after every s = record {
-      done = h.done ++ s.done;
-      values = h.values ++ s.values;
-      answers = are_answers_append c B h.done s.done h.values s.values h.answers s.answers;
-      written = written_append f g h.done s.done h.values s.values old new last h.answers.each h.written s.written;
-      found = found_append h.values s.values all (list_all is_some s.values) every h.found refl s.found;
-      read = if_some input _ _ (λ bytes r. record {
-        words = r.words;
-        rest = r.rest;
-        left = r.left;
-        place = r.place;
-        counted = r.counted;
-        texts = subst (AllZip R r.words) (ap (λ ks. h.done ++ ks) s.left ∙ sym (append_assoc h.done s.done after)) r.texts;
-      }) h.read;
-    }
+    -- of the last keys those of a batch are answered, if there are so many, and fewer are left
+    pub batch_answered : (after : List K) (every : Bool) → length pending ≤ BATCH → IsFlushed c f g B pending after new last all every
+        → AreTaken c f g R B input now old last number after every × (length after < BATCH)
+    batch_answered after every most s = elim (eq-or-lt_of_le most) [
+      | inl full ↦ (flushed (h.batches + 1) (omega (arith, h.whole, long, full, none full)), omega (arith, none full))
+      | inr few ↦ (flushed h.batches (omega (arith, h.whole, few_done few)), omega (arith, long, few, few_done few))
+    ]
+      where
+        long : length pending ≡ length s.done + length after
+        long = ap length s.left ∙ length-append s.done after
+
+        none : length pending ≡ BATCH → length after ≡ 0
+        none full = ap length (s.full (omega (arith, full)))
+
+        few_done : length pending < BATCH → length s.done ≡ 0
+        few_done few = ap length (s.few few)
+
+        flushed : (batches : ℕ) → length h.done + length s.done ≡ batches * BATCH → AreTaken c f g R B input now old last number after every
+        flushed batches whole = record {
+          done = h.done ++ s.done;
+          batches = batches;
+          whole = length-append h.done s.done ∙ whole;
+          values = h.values ++ s.values;
+          answers = are_answers_append c B h.done s.done h.values s.values h.answers s.answers;
+          written = written_append f g h.done s.done h.values s.values old new last h.answers.each h.written s.written;
+          found = found_append h.values s.values all (list_all is_some s.values) every h.found refl s.found;
+          read = if_some input _ _ (λ bytes r. record {
+            words = r.words;
+            rest = r.rest;
+            left = r.left;
+            place = r.place;
+            counted = r.counted;
+            texts = subst (AllZip R r.words) (ap (λ ks. h.done ++ ks) s.left ∙ sym (append_assoc h.done s.done after)) r.texts;
+          }) h.read;
+        }
 
     -- all keys are
     all_answered : (every : Bool) (words : List (List ℕ)) → AllZip R words (h.done ++ pending) → AreKeysAnswered c f g B pending new last every → IsAnswered c f g R B words old last (found_status (every && all))
@@ -166,6 +196,8 @@ module _ {K V : Type 0} (c : Coding K V) (f : K → List ℕ) (g : V → List �
           before = w.before;
           after = w.after ++ lines r.rest;
           place = r.place ∙ ap (λ ws. ws ++ lines r.rest) w.place ∙ append_assoc w.before w.after (lines r.rest);
+          batches = h.batches;
+          counted = AllZip-length R w.before h.done w.texts ∙ h.whole;
           status = answered_status h.values;
           answered = record {
             keys = h.done;

@@ -1,8 +1,8 @@
 -- What `get -` does with the bytes B of a file and the lines of an input. R says which line is a text of which key.
 --     lines_read bytes     the lines that are read of an input with these bytes: all, unless there are 2^64 - 1 or more
---     AreFirstAnswered c f g R B ws old new   the answers to some first lines of ws, all of them texts of keys, were
---                          written, which took the writer from the bytes old to new; f and g are the texts of keys and
---                          of values
+--     AreFirstAnswered c f g R B ws old new   the answers to some first lines of ws, as many as some batches have and all
+--                          of them texts of keys, were written, which took the writer from the bytes old to new; f and g
+--                          are the texts of keys and of values
 --     IsLineFault c f g R B ws n old new      line n of ws, counted from 1, is the first that is a text of no key, and
 --                          the answers to those before it were written
 --     AreLinesAnswered c f g R B input old new r   what is returned, r, and written once the table is opened, where the
@@ -10,13 +10,14 @@
 --     AreLinesGot c f g R B input old new r   the same of opening too
 --     AreFileLinesGot B h input old new r     the same of the bytes of a file, where the hash function h, or none, is named
 -- Nothing is said of answers where the bytes of the input are not known.
-use Rattle.std.specs.Prelude.{◌≡◌, ℕ, ◌+◌, ◌-◌, ◌^◌, List, ◌∷◌, ◌++◌, length, take, Option, None, Some, IfSome, Result, Ok, Err, ⊤}
+use Rattle.std.specs.Prelude.{◌≡◌, ℕ, ◌+◌, ◌-◌, ◌*◌, ◌^◌, List, ◌∷◌, ◌++◌, length, take, Option, None, Some, IfSome, Result, Ok, Err, ⊤}
 use Rattle.std.specs.Io.KnownBytes.{Keeps}
 use Rattle.std.specs.Str.Lines.{lines}
 use Rattle.odht_header.specs.Coding.{Coding}
 use Rattle.odht_header.specs.Refusals.{view_refusal}
 use Rattle.odht_tool.specs.Gets.{IsAnswered, IsTextOf, IsTextOfNone, by_shape}
 use Rattle.odht_tool.specs.ReadyShapes.{typed_text, key_part, value_part, shape_coding}
+use Rattle.odht_tool.specs.declared.commands.get.TheConstants.{BATCH}
 use Rattle.odht_tool.specs.declared.failure.Failure.{Failure}
 use Rattle.odht_tool.specs.declared.failure.Failure.TheVariants.{Refused, Input, Line, Output, Memory}
 use Rattle.odht_tool.specs.declared.failure.LineFault.{LineFault}
@@ -31,6 +32,8 @@ pub record AreFirstAnswered {K V : Type 0} (c : Coding K V) (f : K → List ℕ)
   pub before : List (List ℕ)
   pub after : List (List ℕ)
   pub place : ws ≡ before ++ after
+  pub batches : ℕ
+  pub counted : length before ≡ batches * BATCH
   pub status : ℕ
   pub answered : IsAnswered c f g R B before old new status
 
