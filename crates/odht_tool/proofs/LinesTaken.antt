@@ -1,6 +1,6 @@
 -- The lines that a loop has taken of an input, and the answers that it has written.
-use Rattle.std.proofs.Common.{◌≡◌, ◌∙◌, ◌⊎◌, inl, inr, ℕ, suc, ◌+◌, ◌-◌, ◌*◌, ◌^◌, ◌<◌, ◌≤◌, Bool, true, ◌&&◌, List, [], ◌∷◌, ◌++◌, Option, Some, None, IfSome, length, take, is_some, sym, ap, refl, subst, arith, length-append, take_all}
-use Rattle.std.specs.Prelude.{Result, Err}
+use Rattle.std.proofs.Common.{◌≡◌, ◌∙◌, ◌⊎◌, inl, inr, ℕ, ◌+◌, ◌-◌, ◌*◌, ◌^◌, ◌<◌, ◌≤◌, Bool, true, ◌&&◌, List, [], ◌∷◌, ◌++◌, Option, Some, None, IfSome, length, take, is_some, sym, ap, refl, subst, arith, length-append, take_all}
+use Rattle.std.specs.Prelude.{Err}
 use Rattle.std.specs.Io.KnownBytes.{Appends, Keeps, IsAtEnd}
 use Rattle.std.specs.List.{AllZip, list_all}
 use Rattle.std.specs.Str.Lines.{lines}
@@ -11,7 +11,7 @@ use Rattle.std.proofs.lemmas.List.{append_assoc, append-nil}
 use Rattle.odht_header.specs.Coding.{Coding}
 use Rattle.odht_tool.specs.GetLines.{lines_read, AreFirstAnswered, IsLineFault, AreLinesAnswered}
 use Rattle.odht_tool.specs.GetParts.{AreKeysAnswered, IsKeysFailure, IsFlushed, IsNextKey}
-use Rattle.odht_tool.specs.Gets.{AreAnswers, IsAnswered, IsTextOfNone, answered_status, found_status}
+use Rattle.odht_tool.specs.Gets.{AreAnswers, IsAnswered, answered_status, found_status}
 use Rattle.odht_tool.specs.InputLines.{IsNextLine}
 use Rattle.odht_tool.specs.Texts.{answers_text}
 use Rattle.odht_tool.specs.declared.commands.get.NextKey.TheVariants.{Key as is_key, NoKey}

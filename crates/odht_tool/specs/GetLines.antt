@@ -20,7 +20,6 @@ use Rattle.odht_tool.specs.ReadyShapes.{typed_text, key_part, value_part, shape_
 use Rattle.odht_tool.specs.declared.commands.get.TheConstants.{BATCH}
 use Rattle.odht_tool.specs.declared.failure.Failure.{Failure}
 use Rattle.odht_tool.specs.declared.failure.Failure.TheVariants.{Refused, Input, Line, Output, Memory}
-use Rattle.odht_tool.specs.declared.failure.LineFault.{LineFault}
 use Rattle.odht_tool.specs.declared.failure.LineFault.TheVariants.{Key}
 use Rattle.odht_tool.specs.declared.shapes.Hash.{Hash}
 use Rattle.odht_tool.specs.declared.shapes.Shape.{Shape}

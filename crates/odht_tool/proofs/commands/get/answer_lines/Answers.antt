@@ -1,4 +1,4 @@
-use Rattle.std.proofs.Common.{rules, length, ◌≡◌, ◌∙◌, ◌+◌, ◌-◌, ◌^◌, ◌≤◌, ◌&&◌, inl, inr, Ok, Err, sym, ap, subst, refl, arith}
+use Rattle.std.proofs.Common.{rules, length, ◌≡◌, ◌∙◌, ◌+◌, ◌&&◌, inl, inr, Ok, Err, sym, ap, subst, arith}
 use Rattle.std.proofs.KnownBytes.{Keeps-refl}
 use Rattle.odht_header.specs.Coding.{coding_of}
 use Rattle.odht_tool.specs.GetLines.{AreLinesAnswered}
