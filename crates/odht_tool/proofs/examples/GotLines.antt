@@ -1,7 +1,7 @@
 -- Worked examples: what `get -` writes and returns.
 --     C, f              the coding of the direct shape, and the text of its keys and values
 --     R                 which word is a text of which key
-use Rattle.std.proofs.Common.{◌≡◌, ◌∙◌, ◌+◌, ◌*◌, ◌≤◌, ℕ, zero, suc, refl, sym, ap, subst, arith, lit<, lit≤, map, length, length-append, List, [], ◌∷◌, ◌++◌, Option, Some, None, Ok, Err, slice_get}
+use Rattle.std.proofs.Common.{◌≡◌, ◌∙◌, Bool, true, ◌+◌, ◌*◌, ◌≤◌, ℕ, zero, suc, refl, sym, ap, subst, arith, lit<, lit≤, map, length, length-append, List, [], ◌∷◌, ◌++◌, Option, Some, None, Ok, Err, slice_get}
 use Rattle.std.specs.Prelude.{codes}
 use Rattle.std.specs.Fmt.{digits}
 use Rattle.std.specs.Io.KnownBytes.{Appends}
@@ -20,6 +20,7 @@ use Rattle.odht_header.specs.declared.error.Error.TheVariants.{TooShort}
 use Rattle.odht_header.proofs.examples.Apart.{unequal_lists}
 use Rattle.odht_header.proofs.examples.Opened.{opened}
 use Rattle.odht_tool.specs.GetLines.{lines_read, AreFirstAnswered, IsLineFault, AreFileLinesGot, lines_of_shape}
+use Rattle.odht_tool.specs.GetParts.{IsFlushed}
 use Rattle.odht_tool.specs.Gets.{AreAnswers, IsAnswered, IsTextOf, answered_status}
 use Rattle.odht_tool.specs.ReadyShapes.{shape_coding, typed_text}
 use Rattle.odht_tool.specs.Texts.{answers_text}
@@ -29,7 +30,7 @@ use Rattle.odht_tool.specs.declared.shapes.Hash.TheVariants.{Unhash}
 use Rattle.odht_tool.specs.declared.shapes.Part.TheVariants.{U32}
 use Rattle.odht_tool.specs.declared.shapes.Shape.TheVariants.{DirectU32ToU32}
 use Rattle.odht_tool.proofs.AnswerLists.{are_answers_append}
-use Rattle.odht_tool.proofs.KeyAnswers.{no_answers}
+use Rattle.odht_tool.proofs.KeyAnswers.{no_answers, nothing_flushed}
 use Rattle.odht_tool.proofs.examples.Gots.{no_refusal}
 use Rattle.odht_tool.proofs.examples.Shapes.{one_item, one_bytes}
 
@@ -272,3 +273,14 @@ no_shape input = (refl, refl)
 pub shape_missed : (input old new : Option (List ℕ)) → AreFileLinesGot one_bytes (Some Unhash) input old new (Err (NoShape 4 4)) → ⊥
 unfolding opened
 shape_missed input old new h = h.1
+
+-- ---- a batch
+-- one key is none, so it is not answered yet; and a batch is answered
+pub few : IsFlushed C f f one_bytes (5 ∷ []) (5 ∷ []) (Some (codes "a")) (Some (codes "a")) true true
+few = nothing_flushed C f f one_bytes (5 ∷ []) (Some (codes "a")) true (lit< tt)
+
+pub early : (old new : Option (List ℕ)) (was all : Bool) → IsFlushed C f f one_bytes (5 ∷ []) [] old new was all → ⊥
+early old new was all h = let none = h.few (lit< tt) in let left = h.left in absurd (omega (arith, ap length left ∙ length-append h.done [], ap length none))
+
+pub late : (keys : List ℕ) (old new : Option (List ℕ)) (was all : Bool) → 1024 ≤ length keys → IsFlushed C f f one_bytes keys keys old new was all → ⊥
+late keys old new was all many h = omega (arith, many, ap length (h.full many))
