@@ -24,7 +24,7 @@ use Rattle.odht_tool.specs.GetParts.{IsFlushed}
 use Rattle.odht_tool.specs.Gets.{AreAnswers, IsAnswered, IsTextOf, answered_status}
 use Rattle.odht_tool.specs.ReadyShapes.{shape_coding, typed_text}
 use Rattle.odht_tool.specs.Texts.{answers_text}
-use Rattle.odht_tool.specs.declared.failure.Failure.TheVariants.{Refused, NoShape, Line, Memory}
+use Rattle.odht_tool.specs.declared.failure.Failure.TheVariants.{Refused, NoShape, Input, Line, Output, Memory}
 use Rattle.odht_tool.specs.declared.failure.LineFault.TheVariants.{NoTab, Key}
 use Rattle.odht_tool.specs.declared.shapes.Hash.TheVariants.{Unhash}
 use Rattle.odht_tool.specs.declared.shapes.Part.TheVariants.{U32}
@@ -253,6 +253,14 @@ none_first old new h = go h.before (ap length h.place ∙ length-append h.before
 
 pub half_a_batch : lines_of_shape one_bytes (Some (codes "5\n")) (Some (codes "a")) (Some (codes "a5\t7\n")) (Err Memory) DirectU32ToU32 → ⊥
 half_a_batch h = unequal_lists (codes "a5\t7\n") (codes "a") refl (none_first (Some (codes "a")) (Some (codes "a5\t7\n")) h.1)
+
+pub half_read : (error : _) → lines_of_shape one_bytes (Some (codes "5\n")) (Some (codes "a")) (Some (codes "a5\t7\n")) (Err (Input error)) DirectU32ToU32 → ⊥
+half_read error h = unequal_lists (codes "a5\t7\n") (codes "a") refl (none_first (Some (codes "a")) (Some (codes "a5\t7\n")) h.1)
+
+-- the writer fails only once the bytes are opened
+pub unopened : (input old new : Option (List ℕ)) (error : _) → lines_of_shape (79 ∷ 68 ∷ []) input old new (Err (Output error)) DirectU32ToU32 → ⊥
+unfolding opened
+unopened input old new error h = let opens = h.0 in cc
 
 -- of bytes that do not open the error is returned, and nothing is written
 pub refused : (input : Option (List ℕ)) → lines_of_shape (79 ∷ 68 ∷ []) input (Some (codes "a")) (Some (codes "a")) (Err (Refused (TooShort 2))) DirectU32ToU32
