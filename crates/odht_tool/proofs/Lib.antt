@@ -10,6 +10,10 @@ pub mod GroupPlaces
 pub mod Counting
 -- keys and their answers
 pub mod KeyAnswers
+-- answers of lists in two parts
+pub mod AnswerLists
+-- the lines that a loop has taken
+pub mod LinesTaken
 -- what a command does, from the shape of the bytes on
 pub mod Shaped
 -- words and their keys

@@ -5,6 +5,8 @@ pub mod Shapes
 pub mod Commands
 -- what `get` writes
 pub mod Gots
+-- what `get -` writes
+pub mod GotLines
 -- lines of an input
 pub mod Inputs
 -- groups of a probe order

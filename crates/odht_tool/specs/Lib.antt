@@ -13,3 +13,5 @@ pub mod InputLines
 pub mod Gets
 -- its parts
 pub mod GetParts
+-- of the lines of an input
+pub mod GetLines
