@@ -8,13 +8,17 @@ pub mod LineEnds
 pub mod GroupPlaces
 -- what is written slot by slot
 pub mod Counting
+-- the slots of a table of any sizes
+pub mod SizedSlots
+-- counts of numbers of groups
+pub mod Tallies
 -- keys and their answers
 pub mod KeyAnswers
 -- what a command does, from the shape of the bytes on
 pub mod Shaped
 -- words and their keys
 pub mod KeyWords
--- what follows where a header has no error
+-- which error opening gives, by its stages
 pub mod Refusals
 -- worked examples of the definitions
 pub mod examples

@@ -13,3 +13,5 @@ pub mod InputLines
 pub mod Gets
 -- its parts
 pub mod GetParts
+-- what `info` reports
+pub mod InfoNumbers

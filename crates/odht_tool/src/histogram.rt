@@ -1,7 +1,8 @@
 //! How many items are found by reading one group, two groups, and so on.
-ghost use Rattle.std.specs.Prelude.{◌≡◌, ◌≤◌, ◌<◌, ◌+◌, ◌%◌, ◌^◌};
+ghost use Rattle.std.specs.Prelude.{◌≡◌, ◌≤◌, ◌<◌, ◌+◌, ◌%◌, ◌^◌, ℕ, List, [], ◌∷◌, ◌++◌, IfOk, length};
 ghost use Rattle.odht_base.specs.Load.{IsSlotCount};
 ghost use Rattle.odht_tool.specs.GroupNumbers.{groups_to};
+ghost use Rattle.odht_tool.specs.InfoNumbers.{IsHistogram};
 
 use odht::raw_table::ProbeSeq;
 use std::alloc::{AllocError, Global};
@@ -23,7 +24,9 @@ pub struct Histogram {
 
 impl Histogram {
     /// A histogram without items.
-    pub fn new(alloc: Global) -> Result<Self, AllocError> {
+    pub fn new(alloc: Global) -> Result<Self, AllocError>
+        ensures { IfOk result (IsHistogram []) }
+    {
         Ok(Histogram {
             counts: vec![in alloc; 0; MOST]?,
             longest: 0,
@@ -31,12 +34,17 @@ impl Histogram {
     }
 
     /// Counts an item that is found by reading so many groups, at least one.
-    pub fn add(&mut self, groups: usize) {
+    pub fn add(&mut self, groups: usize)
+        requires positive { 1 ≤ groups }
+        requires all { length self.old.counts.items ≡ 64 }
+        ensures { (xs : List ℕ)
+            → length xs < 2 ^ 63
+            → IsHistogram xs self.old
+            → IsHistogram (xs ++ groups ∷ []) self.new }
+    {
         self.longest = self.longest.max(groups);
-        let index = groups.saturating_sub(1).min(MOST - 1);
-        if let Some(count) = self.counts.get_mut(index) {
-            *count = count.saturating_add(1);
-        }
+        let index = groups.min(MOST) - 1;
+        self.counts[index] = self.counts[index].saturating_add(1);
     }
 
     /// Writes a line for each number of groups up to the largest: the number, the count, and a bar.
