@@ -9,3 +9,5 @@ pub mod Gots
 pub mod Inputs
 -- groups of a probe order
 pub mod Groups
+-- what `info` reports
+pub mod Infos
