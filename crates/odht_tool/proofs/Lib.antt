@@ -12,6 +12,8 @@ pub mod Counting
 pub mod SizedSlots
 -- counts of numbers of groups
 pub mod Tallies
+-- the lines of `info`
+pub mod InfoLines
 -- keys and their answers
 pub mod KeyAnswers
 -- what a command does, from the shape of the bytes on

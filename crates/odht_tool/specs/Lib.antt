@@ -15,3 +15,5 @@ pub mod Gets
 pub mod GetParts
 -- what `info` reports
 pub mod InfoNumbers
+-- its text
+pub mod InfoTexts

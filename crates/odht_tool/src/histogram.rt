@@ -1,8 +1,10 @@
 //! How many items are found by reading one group, two groups, and so on.
-ghost use Rattle.std.specs.Prelude.{◌≡◌, ◌≤◌, ◌<◌, ◌+◌, ◌%◌, ◌^◌, ℕ, List, [], ◌∷◌, ◌++◌, IfOk, length};
+ghost use Rattle.std.specs.Prelude.{◌≡◌, ◌≤◌, ◌<◌, ◌+◌, ◌%◌, ◌^◌, ℕ, List, [], ◌∷◌, ◌++◌, IfOk, OnOk, length};
+ghost use Rattle.std.specs.Io.KnownBytes.{Appends};
 ghost use Rattle.odht_base.specs.Load.{IsSlotCount};
 ghost use Rattle.odht_tool.specs.GroupNumbers.{groups_to};
-ghost use Rattle.odht_tool.specs.InfoNumbers.{IsHistogram};
+ghost use Rattle.odht_tool.specs.InfoNumbers.{IsHistogram, largest};
+ghost use Rattle.odht_tool.specs.InfoTexts.{bar, longer_mark, tally_line, tallies_text};
 
 use odht::raw_table::ProbeSeq;
 use std::alloc::{AllocError, Global};
@@ -48,27 +50,62 @@ impl Histogram {
     }
 
     /// Writes a line for each number of groups up to the largest: the number, the count, and a bar.
-    pub fn write<W: Write>(&self, output: &mut W) -> io::Result<()> {
-        let most = self.counts.iter().copied().max().unwrap_or(0);
-        let lines = self.longest.min(MOST);
-        for (index, count) in self.counts.iter().copied().take(lines).enumerate() {
-            let groups = index + 1;
-            let more = if groups == MOST && self.longest > MOST {
-                "+"
-            } else {
-                ""
-            };
-            write!(output, "{groups:>8}{more}  {count:>12}  ")?;
-            write_bar(count, most, output)?;
-            writeln!(output, "")?;
+    pub fn write<W: Write>(&self, output: &mut W) -> io::Result<()>
+        requires { length self.now.counts.items ≡ 64 }
+        ensures { OnOk result (Appends (W.contents output.old) (W.contents output.new) (tallies_text self.now.counts.items self.now.longest)) }
+    {
+        let most = largest_of(self.counts.as_slice());
+        for index in 0..self.longest.min(MOST) {
+            self.write_tally(index, most, output)?;
         }
         Ok(())
+    }
+
+    // Writes the line of a count.
+    fn write_tally<W: Write>(&self, index: usize, most: usize, output: &mut W) -> io::Result<()>
+        requires index { index < length self.now.counts.items }
+        requires all { length self.now.counts.items ≡ 64 }
+        requires most { most ≡ largest self.now.counts.items }
+        ensures { OnOk result (Appends (W.contents output.old) (W.contents output.new) (tally_line self.now.counts.items self.now.longest index)) }
+    {
+        let groups = index + 1;
+        let count = self.counts[index];
+        let more = longer_mark(index, self.longest);
+        write!(output, "{groups:>8}{more}  {count:>12}  ")?;
+        write_bar(count, most, output)?;
+        output.write_all(b"\n")
+    }
+}
+
+// The largest of some counts, or 0.
+fn largest_of(counts: &[usize]) -> usize
+    ensures { result ≡ largest counts.now }
+{
+    let mut most = 0_usize;
+    for count in counts {
+        most = most.max(*count);
+    }
+    most
+}
+
+// A `+` behind the last count, where it is also that of larger numbers of groups.
+fn longer_mark(index: usize, longest: usize) -> &'static str
+    requires { index < 64 }
+    ensures { result.now ≡ longer_mark longest index }
+{
+    if index + 1 == MOST && longest > MOST {
+        "+"
+    } else {
+        ""
     }
 }
 
 // Writes a bar. Its length over that of the longest is the count over the largest; at least 1 where the count is not 0.
-fn write_bar<W: Write>(count: usize, most: usize, output: &mut W) -> io::Result<()> {
-    if count == 0 || most == 0 {
+fn write_bar<W: Write>(count: usize, most: usize, output: &mut W) -> io::Result<()>
+    requires { count ≤ most }
+    ensures { OnOk result (Appends (W.contents output.old) (W.contents output.new) (bar count most)) }
+{
+    if count == 0 {
         return Ok(());
     }
     let signs = (count as u128 * WIDTH / most as u128).max(1);

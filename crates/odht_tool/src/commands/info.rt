@@ -1,7 +1,12 @@
 //! `odht info`: what a table file of any shape holds.
+ghost use Rattle.std.specs.Prelude.{◌≡◌, ◌++◌, OnOk, length};
+ghost use Rattle.std.specs.Io.KnownBytes.{Appends};
+ghost use Rattle.odht_tool.specs.InfoTexts.{number_line, sizes_text, hash_name, groups_text, info_text, IsInfoDone};
+
 use super::DONE;
 use crate::failure::Failure;
 use crate::files::read_file;
+use crate::histogram::Histogram;
 use crate::numbers::{Numbers, numbers_of};
 use crate::shapes::Hash;
 use std::alloc::Global;
@@ -16,44 +21,80 @@ pub fn run<R: Files + AllocGlobal, O: Write>(
 ) -> Result<u8, Failure> {
     let bytes = read_file(rt, file)?;
     let alloc: Global = rt.alloc();
-    let numbers = numbers_of(alloc, bytes.as_slice())?;
+    info_file(alloc, bytes.as_slice(), output)
+}
+
+/// `odht info` of the bytes of a file.
+pub fn info_file<O: Write>(alloc: Global, bytes: &[u8], output: &mut O) -> Result<u8, Failure>
+    ensures { IsInfoDone bytes.now (O.contents output.old) (O.contents output.new) result }
+{
+    let numbers = numbers_of(alloc, bytes)?;
     match write_all(&numbers, output) {
         Ok(()) => Ok(DONE),
         Err(error) => Err(Failure::Output(error)),
     }
 }
 
-fn write_all<O: Write>(numbers: &Numbers, output: &mut O) -> io::Result<()> {
-    write_numbers(numbers, output)?;
+fn write_all<O: Write>(numbers: &Numbers, output: &mut O) -> io::Result<()>
+    requires { length numbers.now.histogram.counts.items ≡ 64 }
+    ensures { OnOk result (Appends (O.contents output.old) (O.contents output.new) (info_text numbers.now)) }
+{
+    write_sizes(numbers, output)?;
     match numbers.hash {
         None => writeln!(output, "hash          neither fx nor unhash"),
-        Some(hash) => {
-            let name = match hash {
-                Hash::Fx => "fx",
-                Hash::Unhash => "unhash",
-            };
-            let longest = numbers.histogram.longest;
-            writeln!(output, "hash          {name}")?;
-            writeln!(output, "  groups         items")?;
-            numbers.histogram.write(output)?;
-            writeln!(output, "longest       {longest} groups")
-        }
+        Some(hash) => write_groups(hash, &numbers.histogram, output),
     }
 }
 
 // The lines that do not depend on the hash function.
-fn write_numbers<O: Write>(numbers: &Numbers, output: &mut O) -> io::Result<()> {
-    let (key_size, value_size, len) = (numbers.key_size, numbers.value_size, numbers.len);
-    let (item_count, slot_count) = (numbers.item_count, numbers.slot_count);
-    let max_item_count = numbers.max_item_count;
-    let (load, max_load) = (numbers.load, numbers.max_load);
-    writeln!(output, "key bytes     {key_size}")?;
-    writeln!(output, "value bytes   {value_size}")?;
-    writeln!(output, "header bytes  32")?;
-    writeln!(output, "all bytes     {len}")?;
-    writeln!(output, "items         {item_count}")?;
-    writeln!(output, "slots         {slot_count}")?;
-    writeln!(output, "maximum       {max_item_count}")?;
-    writeln!(output, "load          {load} percent")?;
-    writeln!(output, "maximum load  {max_load} percent")
+fn write_sizes<O: Write>(numbers: &Numbers, output: &mut O) -> io::Result<()>
+    ensures { OnOk result (Appends (O.contents output.old) (O.contents output.new) (sizes_text numbers.now)) }
+{
+    write_number("key bytes     ", numbers.key_size as u128, "", output)?;
+    write_number("value bytes   ", numbers.value_size as u128, "", output)?;
+    write_number("header bytes  ", 32, "", output)?;
+    write_number("all bytes     ", numbers.len as u128, "", output)?;
+    write_number("items         ", numbers.item_count as u128, "", output)?;
+    write_number("slots         ", numbers.slot_count as u128, "", output)?;
+    write_number("maximum       ", numbers.max_item_count as u128, "", output)?;
+    write_number("load          ", numbers.load, " percent", output)?;
+    write_number(
+        "maximum load  ",
+        numbers.max_load as u128,
+        " percent",
+        output,
+    )
+}
+
+// The lines of the hash function and of the histogram.
+fn write_groups<O: Write>(hash: Hash, histogram: &Histogram, output: &mut O) -> io::Result<()>
+    requires { length histogram.now.counts.items ≡ 64 }
+    ensures { OnOk result (Appends (O.contents output.old) (O.contents output.new) (groups_text (Some hash) histogram.now.counts.items histogram.now.longest)) }
+{
+    let name = name_of(hash);
+    write!(output, "hash          {name}\n  groups         items\n")?;
+    histogram.write(output)?;
+    write_number(
+        "longest       ",
+        histogram.longest as u128,
+        " groups",
+        output,
+    )
+}
+
+// The name of a hash function.
+fn name_of(hash: Hash) -> &'static str
+    ensures { result.now ≡ hash_name hash }
+{
+    match hash {
+        Hash::Fx => "fx",
+        Hash::Unhash => "unhash",
+    }
+}
+
+// Writes a line of a label and a number, with `end` behind it.
+fn write_number<O: Write>(label: &str, number: u128, end: &str, output: &mut O) -> io::Result<()>
+    ensures { OnOk result (Appends (O.contents output.old) (O.contents output.new) (number_line label.now number end.now)) }
+{
+    writeln!(output, "{label}{number}{end}")
 }
