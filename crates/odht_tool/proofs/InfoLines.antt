@@ -1,5 +1,5 @@
 -- The lines of `info`.
-use Rattle.std.proofs.Common.{◌≡◌, ◌∙◌, ℕ, zero, suc, ◌+◌, ◌-◌, ◌*◌, ◌/◌, ◌<◌, ◌≤◌, max, false, List, [], ◌∷◌, ◌++◌, Option, Result, Ok, Err, length, take, get_or, replicate, ne_eqb, sym, ap, refl, arith, if◌then◌else◌}
+use Rattle.std.proofs.Common.{◌≡◌, ◌∙◌, ℕ, zero, suc, ◌-◌, ◌*◌, ◌/◌, ◌<◌, ◌≤◌, max, false, List, [], ◌∷◌, ◌++◌, Option, Result, Ok, Err, length, get_or, replicate, ne_eqb, sym, ap, refl, arith, if◌then◌else◌}
 use Rattle.std.specs.Fmt.{decimal, padded_integral, styled_decimal, format_spec, char_count}
 use Rattle.std.specs.Io.KnownBytes.{Appends}
 use Rattle.std.specs.List.{fold, repeat}

@@ -1,17 +1,13 @@
 -- Which error opening gives, by its stages.
-use Rattle.std.proofs.Common.{◌≡◌, ◌∙◌, ℕ, List, Option, Some, None, Ok, Err, length, slice_index, nat_lt, refl, ltb-false}
+use Rattle.std.proofs.Common.{◌≡◌, ◌∙◌, ℕ, List, Option, Some, None, Ok, Err, length, slice_index, nat_lt, refl}
 use Rattle.std.specs.Option.{option_or}
-use Rattle.odht_base.specs.Decoded.{header_slots}
-use Rattle.odht_base.specs.Image.{image_len}
-use Rattle.odht_base.specs.Load.{IsSlotCount}
-use Rattle.odht_header.specs.Refusals.{◌gives◌, checked, tag_refusal, version_refusal, wrong_size, power_refusal, few_slots_refusal, length_refusal, header_refusal, opening_refusal}
+use Rattle.odht_header.specs.Refusals.{◌gives◌, checked, tag_refusal, version_refusal, wrong_size, header_refusal, opening_refusal}
 use Rattle.odht_header.specs.declared.error.Error.{Error}
 use Rattle.odht_header.specs.declared.error.Error.TheVariants.{TooShort}
 use Rattle.odht_header.specs.declared.error.Part.TheVariants.{EntryMetadata, EncodedKey, EncodedValue}
-use Rattle.odht_header.proofs.lemmas.FirstErrors.{Ok-checked, Err-checked, option_or-None, option_or-first, option_or-second, gives-None, None-gives, not-false, differs-false, false-differs}
-use Rattle.odht_tool.specs.InfoNumbers.{format_by, info_refusal, rest_refusal}
+use Rattle.odht_header.proofs.lemmas.FirstErrors.{Ok-checked, Err-checked, option_or-first, option_or-second, None-gives, false-differs}
+use Rattle.odht_tool.specs.InfoNumbers.{info_refusal, rest_refusal}
 use Rattle.odht_tool.specs.ReadyShapes.{early_refusal}
-use Rattle.odht_tool.specs.declared.shapes.Hash.TheVariants.{Fx}
 
 -- two errors in the middle that are none
 without : (a t v m k w r : Option Error) → k ≡ None → w ≡ None

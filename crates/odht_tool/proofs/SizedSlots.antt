@@ -1,5 +1,5 @@
 -- What holds of the slots of a table of any sizes, slot by slot.
-use Rattle.std.proofs.Common.{◌≡◌, ◌∙◌, ℕ, ◌+◌, ◌<◌, ◌≤◌, ◌&&◌, Bool, true, false, not, cond, is_some, is_none, List, [], ◌∷◌, ◌++◌, Option, Some, None, length, map, refl, sym, ap, ap₂, arith, append-nil, slice_index, nat_le}
+use Rattle.std.proofs.Common.{◌≡◌, ◌∙◌, ℕ, ◌+◌, ◌<◌, ◌≤◌, ◌&&◌, Bool, true, false, not, cond, is_some, is_none, [], ◌∷◌, ◌++◌, Option, Some, None, length, map, refl, ap, ap₂, arith, append-nil, slice_index, nat_le}
 use Rattle.std.proofs.Math.Bool.{and-false}
 use Rattle.std.specs.List.{filter, range_with_len}
 use Rattle.std.proofs.lemmas.Bool.{le-leb}
@@ -26,7 +26,7 @@ module _ (T : SizedParts) (h : Hash) where
   disagrees i low some = ap (λ t. nat_le (least_key_len h) T.key_len && t) (go (first_slot mismatch T.slots) refl) ∙ and-false _
     where
       go : (o : Option Error) → first_slot mismatch T.slots ≡ o → is_none o ≡ false
-      go None e = absurd (let none = first_slot-None mismatch T.slots e i low in cc (ap is_some none, some))
+      go None e = absurd (let none = first_slot-None mismatch T.slots e i low in cc (none, some))
       go (Some x) e = refl
 
   -- and where none has, and keys are long enough, it does

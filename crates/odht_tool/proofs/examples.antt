@@ -11,3 +11,5 @@ pub mod Inputs
 pub mod Groups
 -- what `info` reports
 pub mod Infos
+-- what it writes
+pub mod InfoTexts

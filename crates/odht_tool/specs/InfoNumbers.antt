@@ -1,6 +1,7 @@
 -- What `info` reports of the bytes B of a table, whose key and value sizes are those in its header.
 --     SizedParts           the parts of a table, and the sizes of its keys and values
---     sized_parts B        those of the bytes B
+--     format_by B h        the format of the sizes in the header of B, and of the hash function h
+--     sized_parts B        the parts of B
 --     sized_format T h     the format of the sizes of the parts T, and of the hash function h
 --     info_refusal B       the error of opening by header and length for the header's sizes, if there is one
 --     rest_refusal B       that error, where it comes after those of the sizes of keys and values

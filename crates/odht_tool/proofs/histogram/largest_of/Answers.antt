@@ -1,4 +1,4 @@
-use Rattle.std.proofs.Common.{◌≡◌, ◌∙◌, take, take_all, sym, ap, arith}
+use Rattle.std.proofs.Common.{◌∙◌, take_all, sym, ap, arith}
 use Rattle.std.proofs.lemmas.Grind.{common_steps}
 use Rattle.odht_tool.specs.InfoNumbers.{largest}
 use Rattle.odht_tool.proofs.Tallies.{largest-none}

@@ -1,4 +1,4 @@
-use Rattle.std.proofs.Common.{◌≡◌, ◌∙◌, ◌<◌, rules, replicate, subst, sym, ap, arith}
+use Rattle.std.proofs.Common.{◌≡◌, ◌∙◌, rules, subst, arith}
 use Rattle.std.specs.Io.KnownBytes.{Appends}
 use Rattle.odht_tool.specs.InfoTexts.{bar}
 use Rattle.odht_tool.proofs.InfoLines.{bar-some}

@@ -1,8 +1,8 @@
-use Rattle.std.proofs.Common.{◌≡◌, ◌∙◌, ◌+◌, ◌-◌, ◌<◌, ◌≤◌, ◌^◌, min, max, length, get_or, set, sym, ap, ap₂, arith}
+use Rattle.std.proofs.Common.{◌≡◌, ◌∙◌, ◌+◌, ◌-◌, ◌<◌, ◌≤◌, min, max, length, get_or, set, sym, ap, ap₂, arith}
 use Rattle.std.proofs.Math.Nat.{le-min, min-le_right, min-eq_left}
 use Rattle.std.proofs.lemmas.List.{get_or_read}
 use Rattle.odht_tool.specs.InfoNumbers.{tallies}
-use Rattle.odht_tool.proofs.Tallies.{length-tallies, tallies-le, tallies-more, largest-more}
+use Rattle.odht_tool.proofs.Tallies.{tallies-le, tallies-more, largest-more}
 use Rattle.odht_tool.proofs.histogram.Histogram.add.Goals as goal
 
 pub returns : goal.returns

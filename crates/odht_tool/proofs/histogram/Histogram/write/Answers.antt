@@ -1,7 +1,7 @@
 use Rattle.std.proofs.Common.{sym, subst}
 use Rattle.std.specs.Io.KnownBytes.{Appends}
 use Rattle.std.proofs.KnownBytes.{Appends-trans}
-use Rattle.odht_tool.specs.InfoTexts.{tally_line, tallies_text}
+use Rattle.odht_tool.specs.InfoTexts.{tally_line}
 use Rattle.std.specs.List.{flat_map, range_with_len}
 use Rattle.odht_tool.proofs.Counting.{written_more}
 use Rattle.odht_tool.proofs.histogram.Histogram.write.Goals as goal

@@ -1,4 +1,4 @@
-use Rattle.std.proofs.Common.{◌≡◌, ◌∙◌, ◌<◌, ◌≤◌, sym, ap, arith}
+use Rattle.std.proofs.Common.{◌∙◌, ◌≤◌, sym, ap, arith}
 use Rattle.odht_tool.specs.InfoNumbers.{least_key_len}
 use Rattle.odht_tool.proofs.SizedSlots.{disagrees, all_agree}
 use Rattle.odht_tool.proofs.stored.StoredTable.agrees.Goals as goal

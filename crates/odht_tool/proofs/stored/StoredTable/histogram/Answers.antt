@@ -1,4 +1,4 @@
-use Rattle.std.proofs.Common.{◌≡◌, ◌∙◌, ◌<◌, ◌≤◌, ◌+◌, ◌++◌, ◌∷◌, [], ◌^◌, true, false, sym, ap, ap₂, subst, length, get_or, arith}
+use Rattle.std.proofs.Common.{◌≡◌, ◌∙◌, ◌<◌, ◌+◌, ◌++◌, ◌∷◌, [], ◌^◌, true, false, sym, ap, ap₂, subst, length, get_or, arith}
 use Rattle.std.proofs.lemmas.Bool.{le-leb, lt-leb}
 use Rattle.odht_base.specs.Decoded.{counts_as_free, slot_key}
 use Rattle.odht_base.proofs.lemmas.SlotCounts.{few_slots}

@@ -1,4 +1,4 @@
-use Rattle.std.proofs.Common.{◌≡◌, ◌∙◌, Err, None, rules, sym, ap}
+use Rattle.std.proofs.Common.{◌≡◌, ◌∙◌, Err, rules, sym, ap}
 use Rattle.std.specs.Result.{result_err}
 use Rattle.odht_tool.proofs.Refusals.{early_error, late_error, no_error}
 use Rattle.odht_tool.proofs.stored.StoredTable.open.Goals as goal
