@@ -10,7 +10,7 @@ use odht::raw_table::ProbeSeq;
 use std::alloc::{AllocError, Global};
 use std::io::{self, Write};
 
-/// How many numbers of groups have a count of their own. All larger numbers are counted together.
+/// How many counts there are. The last is that of all larger numbers of groups too.
 const MOST: usize = 64;
 
 /// How many `#` the longest bar has.

@@ -1,8 +1,8 @@
 //! The bytes of a table of any key and value sizes.
-ghost use Rattle.std.specs.Prelude.{◌≡◌, ◌≤◌, ◌<◌, ◌+◌, ◌*◌, length, is_some, IfOk, OnOk, slice_index};
+ghost use Rattle.std.specs.Prelude.{◌≡◌, ◌≤◌, ◌<◌, ◌+◌, ◌*◌, length, not, is_some, IfOk, OnOk, slice_index};
 ghost use Rattle.std.specs.Option.{option_or};
 ghost use Rattle.std.specs.Result.{result_err};
-ghost use Rattle.odht_base.specs.Decoded.{header_slots, slot_key};
+ghost use Rattle.odht_base.specs.Decoded.{counts_as_free, header_slots, slot_key};
 ghost use Rattle.odht_base.specs.Image.{image_len};
 ghost use Rattle.odht_base.specs.Load.{IsSlotCount};
 ghost use Rattle.odht_header.specs.Refusals.{checked, control_mismatch, power_refusal, few_slots_refusal, length_refusal};
@@ -106,8 +106,15 @@ impl<'a> StoredTable<'a> {
         ensures { let T = self.now
             in result ≡ is_some (control_mismatch (sized_format T hash) T.entries T.control slot) }
     {
-        let control = self.control[slot];
-        control < 128 && control as u32 != self.hash_at(slot, hash) >> 25
+        self.is_occupied(slot) && self.control[slot] as u32 != self.hash_at(slot, hash) >> 25
+    }
+
+    // Whether the control byte of a slot does not count as free.
+    fn is_occupied(&self, slot: usize) -> bool
+        requires { slot < self.now.slots }
+        ensures { result ≡ not (counts_as_free (slice_index self.now.control slot)) }
+    {
+        self.control[slot] < 128
     }
 
     // The hash of the key of a slot.
@@ -129,7 +136,7 @@ impl<'a> StoredTable<'a> {
     {
         let mut histogram = Histogram::new(alloc)?;
         for slot in 0..self.slot_count {
-            if self.control[slot] < 128 {
+            if self.is_occupied(slot) {
                 histogram.add(groups_to(self.hash_at(slot, hash), slot, self.slot_count));
             }
         }

@@ -1,12 +1,12 @@
 -- Worked examples: what `info` writes.
-use Rattle.std.proofs.Common.{◌≡◌, ℕ, refl, [], ◌∷◌, ◌++◌, ◌∙◌, Some, None, Ok, Err, replicate, ap, ap₂, arith}
+use Rattle.std.proofs.Common.{◌≡◌, refl, [], ◌∷◌, ◌++◌, Some, None, Ok, Err, replicate, ap₂, arith}
 use Rattle.std.specs.Prelude.{codes}
 use Rattle.std.specs.Fmt.{digits}
 use Rattle.odht_header.specs.declared.error.Error.TheVariants.{TooShort}
 use Rattle.odht_header.proofs.examples.Apart.{unequal_lists}
 use Rattle.odht_header.proofs.examples.Opened.{opened}
 use Rattle.odht_tool.specs.InfoNumbers.{tallies, largest, IsHistogram}
-use Rattle.odht_tool.specs.InfoTexts.{number_line, aligned, bar, longer_mark, tallies_text, groups_text, sizes_text, info_text, IsInfoDone}
+use Rattle.odht_tool.specs.InfoTexts.{number_line, aligned, bar, longer_mark, tallies_text, groups_text, info_text, IsInfoDone}
 use Rattle.odht_tool.specs.declared.failure.Failure.TheVariants.{Refused, Memory}
 use Rattle.odht_tool.specs.declared.histogram.Histogram.{Histogram}
 use Rattle.odht_tool.specs.declared.shapes.Hash.TheVariants.{Fx, Unhash}
