@@ -11,3 +11,7 @@ pub mod GotLines
 pub mod Inputs
 -- groups of a probe order
 pub mod Groups
+-- what `info` reports
+pub mod Infos
+-- what it writes
+pub mod InfoTexts

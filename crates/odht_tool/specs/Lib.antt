@@ -15,3 +15,7 @@ pub mod Gets
 pub mod GetParts
 -- of the lines of an input
 pub mod GetLines
+-- what `info` reports
+pub mod InfoNumbers
+-- its text
+pub mod InfoTexts
