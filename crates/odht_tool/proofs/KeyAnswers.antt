@@ -1,10 +1,11 @@
 -- Keys and their answers.
-use Rattle.std.proofs.Common.{List, [], ◌∷◌, ◌++◌, ℕ, Option, Bool, refl}
+use Rattle.std.proofs.Common.{List, [], ◌∷◌, ◌++◌, ℕ, Option, Bool, ◌<◌, length, refl, arith}
 use Rattle.std.specs.List.{AllZip}
 use Rattle.std.proofs.KnownBytes.{Appends-nil}
 use Rattle.odht_header.specs.Coding.{Coding}
 use Rattle.odht_tool.specs.GetParts.{IsFlushed}
 use Rattle.odht_tool.specs.Gets.{AreAnswers}
+use Rattle.odht_tool.specs.declared.commands.get.TheConstants.{BATCH}
 
 -- one text more, of one key more
 pub AllZip-one_more : {X Y : Type 0} (R : X → Y → Type 0) (xs : List X) (ys : List Y) (x : X) (y : Y) → AllZip R xs ys → R x y → AllZip R (xs ++ (x ∷ [])) (ys ++ (y ∷ []))
@@ -14,9 +15,10 @@ AllZip-one_more R (a ∷ xs) [] x y h r = absurd h
 AllZip-one_more R (a ∷ xs) (b ∷ ys) x y h r = (h.0, AllZip-one_more R xs ys x y h.1 r)
 
 -- of no keys there are no answers
-no_answers : {K V : Type 0} (c : Coding K V) (B : List ℕ) → AreAnswers c B [] []
+pub no_answers : {K V : Type 0} (c : Coding K V) (B : List ℕ) → AreAnswers c B [] []
 no_answers c B = record { each = refl; on_valid = λ P is. refl; on_any = λ i k v p q. cc }
 
 -- of no batch none is answered
-pub nothing_flushed : {K V : Type 0} (c : Coding K V) (f : K → List ℕ) (g : V → List ℕ) (B : List ℕ) (ks : List K) (old : Option (List ℕ)) (all : Bool) → IsFlushed c f g B ks ks old old all all
-nothing_flushed c f g B ks old all = record { done = []; left = refl; values = []; answers = no_answers c B; written = Appends-nil old; found = refl }
+pub nothing_flushed : {K V : Type 0} (c : Coding K V) (f : K → List ℕ) (g : V → List ℕ) (B : List ℕ) (ks : List K) (old : Option (List ℕ)) (all : Bool) → length ks < BATCH → IsFlushed c f g B ks ks old old all all
+nothing_flushed c f g B ks old all l =
+    record { done = []; left = refl; few = λ _. refl; full = λ m. absurd (omega (arith, l, m)); values = []; answers = no_answers c B; written = Appends-nil old; found = refl }

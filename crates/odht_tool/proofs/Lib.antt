@@ -8,13 +8,23 @@ pub mod LineEnds
 pub mod GroupPlaces
 -- what is written slot by slot
 pub mod Counting
+-- the slots of a table of any sizes
+pub mod SizedSlots
+-- counts of numbers of groups
+pub mod Tallies
+-- the lines of `info`
+pub mod InfoLines
 -- keys and their answers
 pub mod KeyAnswers
+-- answers of lists in two parts
+pub mod AnswerLists
+-- the lines that a loop has taken
+pub mod LinesTaken
 -- what a command does, from the shape of the bytes on
 pub mod Shaped
 -- words and their keys
 pub mod KeyWords
--- what follows where a header has no error
+-- which error opening gives, by its stages
 pub mod Refusals
 -- worked examples of the definitions
 pub mod examples

@@ -5,7 +5,13 @@ pub mod Shapes
 pub mod Commands
 -- what `get` writes
 pub mod Gots
+-- what `get -` writes
+pub mod GotLines
 -- lines of an input
 pub mod Inputs
 -- groups of a probe order
 pub mod Groups
+-- what `info` reports
+pub mod Infos
+-- what it writes
+pub mod InfoTexts

@@ -6,9 +6,10 @@
 --                          bytes old to new, and `all` says whether each has a value
 --     IsKeysFailure old new f  no memory, and nothing was written, or the writer failed
 --     IsFlushed c f g B before after old new was all   of the keys `before` those that are not left in `after` were
---                          answered; `all` says whether each has a value, and `was` holds
+--                          answered: all where they are a batch, and else none; `all` says whether each has a value, and
+--                          `was` holds
 --     IsNextKey R o o' n   n is what the next line of the bytes o is, and o' are those after it
-use Rattle.std.specs.Prelude.{◌≡◌, ⊤, ℕ, Bool, ◌&&◌, List, ◌++◌, is_some, Option, Some, string_bytes}
+use Rattle.std.specs.Prelude.{◌≡◌, ⊤, ℕ, ◌<◌, ◌≤◌, Bool, ◌&&◌, List, [], ◌++◌, length, is_some, Option, Some, string_bytes}
 use Rattle.std.specs.Io.KnownBytes.{Appends, Keeps, IsAtEnd}
 use Rattle.std.specs.List.{list_all}
 use Rattle.odht_header.specs.Coding.{Coding}
@@ -17,6 +18,7 @@ use Rattle.odht_tool.specs.Gets.{AreAnswers, IsFirstFault, IsTextOfNone}
 use Rattle.odht_tool.specs.InputLines.{IsNextLine}
 use Rattle.odht_tool.specs.Texts.{answers_text}
 use Rattle.odht_tool.specs.declared.commands.get.NextKey.{NextKey}
+use Rattle.odht_tool.specs.declared.commands.get.TheConstants.{BATCH}
 use Rattle.odht_tool.specs.declared.commands.get.NextKey.TheVariants.{Key as is_key, NoKey, End}
 use Rattle.odht_tool.specs.declared.failure.Failure.{Failure}
 use Rattle.odht_tool.specs.declared.failure.Failure.TheVariants.{Refused, Output, Memory, Key}
@@ -49,6 +51,8 @@ IsKeysFailure old new _ = ⊥
 pub record IsFlushed {K V : Type 0} (c : Coding K V) (f : K → List ℕ) (g : V → List ℕ) (B : List ℕ) (before after : List K) (old new : Option (List ℕ)) (was all : Bool) : Type 0 where
   pub done : List K
   pub left : before ≡ done ++ after
+  pub few : length before < BATCH → done ≡ []
+  pub full : BATCH ≤ length before → after ≡ []
   pub values : List (Option V)
   pub answers : AreAnswers c B done values
   pub written : Appends old new (answers_text f g done values)

@@ -13,3 +13,9 @@ pub mod InputLines
 pub mod Gets
 -- its parts
 pub mod GetParts
+-- of the lines of an input
+pub mod GetLines
+-- what `info` reports
+pub mod InfoNumbers
+-- its text
+pub mod InfoTexts

@@ -1,13 +1,16 @@
 //! How many items are found by reading one group, two groups, and so on.
-ghost use Rattle.std.specs.Prelude.{◌≡◌, ◌≤◌, ◌<◌, ◌+◌, ◌%◌, ◌^◌};
+ghost use Rattle.std.specs.Prelude.{◌≡◌, ◌≤◌, ◌<◌, ◌+◌, ◌%◌, ◌^◌, ℕ, List, [], ◌∷◌, ◌++◌, IfOk, OnOk, length};
+ghost use Rattle.std.specs.Io.KnownBytes.{Appends};
 ghost use Rattle.odht_base.specs.Load.{IsSlotCount};
 ghost use Rattle.odht_tool.specs.GroupNumbers.{groups_to};
+ghost use Rattle.odht_tool.specs.InfoNumbers.{IsHistogram, largest};
+ghost use Rattle.odht_tool.specs.InfoTexts.{bar, longer_mark, tally_line, tallies_text};
 
 use odht::raw_table::ProbeSeq;
 use std::alloc::{AllocError, Global};
 use std::io::{self, Write};
 
-/// How many numbers of groups have a count of their own. All larger numbers are counted together.
+/// How many counts there are. The last is that of all larger numbers of groups too.
 const MOST: usize = 64;
 
 /// How many `#` the longest bar has.
@@ -23,7 +26,9 @@ pub struct Histogram {
 
 impl Histogram {
     /// A histogram without items.
-    pub fn new(alloc: Global) -> Result<Self, AllocError> {
+    pub fn new(alloc: Global) -> Result<Self, AllocError>
+        ensures { IfOk result (IsHistogram []) }
+    {
         Ok(Histogram {
             counts: vec![in alloc; 0; MOST]?,
             longest: 0,
@@ -31,36 +36,76 @@ impl Histogram {
     }
 
     /// Counts an item that is found by reading so many groups, at least one.
-    pub fn add(&mut self, groups: usize) {
+    pub fn add(&mut self, groups: usize)
+        requires positive { 1 ≤ groups }
+        requires all { length self.old.counts.items ≡ 64 }
+        ensures { (xs : List ℕ)
+            → length xs < 2 ^ 63
+            → IsHistogram xs self.old
+            → IsHistogram (xs ++ groups ∷ []) self.new }
+    {
         self.longest = self.longest.max(groups);
-        let index = groups.saturating_sub(1).min(MOST - 1);
-        if let Some(count) = self.counts.get_mut(index) {
-            *count = count.saturating_add(1);
-        }
+        let index = groups.min(MOST) - 1;
+        self.counts[index] = self.counts[index].saturating_add(1);
     }
 
     /// Writes a line for each number of groups up to the largest: the number, the count, and a bar.
-    pub fn write<W: Write>(&self, output: &mut W) -> io::Result<()> {
-        let most = self.counts.iter().copied().max().unwrap_or(0);
-        let lines = self.longest.min(MOST);
-        for (index, count) in self.counts.iter().copied().take(lines).enumerate() {
-            let groups = index + 1;
-            let more = if groups == MOST && self.longest > MOST {
-                "+"
-            } else {
-                ""
-            };
-            write!(output, "{groups:>8}{more}  {count:>12}  ")?;
-            write_bar(count, most, output)?;
-            writeln!(output, "")?;
+    pub fn write<W: Write>(&self, output: &mut W) -> io::Result<()>
+        requires { length self.now.counts.items ≡ 64 }
+        ensures { OnOk result (Appends (W.contents output.old) (W.contents output.new) (tallies_text self.now.counts.items self.now.longest)) }
+    {
+        let most = largest_of(self.counts.as_slice());
+        for index in 0..self.longest.min(MOST) {
+            self.write_tally(index, most, output)?;
         }
         Ok(())
+    }
+
+    // Writes the line of a count.
+    fn write_tally<W: Write>(&self, index: usize, most: usize, output: &mut W) -> io::Result<()>
+        requires index { index < length self.now.counts.items }
+        requires all { length self.now.counts.items ≡ 64 }
+        requires most { most ≡ largest self.now.counts.items }
+        ensures { OnOk result (Appends (W.contents output.old) (W.contents output.new) (tally_line self.now.counts.items self.now.longest index)) }
+    {
+        let groups = index + 1;
+        let count = self.counts[index];
+        let more = longer_mark(index, self.longest);
+        write!(output, "{groups:>8}{more}  {count:>12}  ")?;
+        write_bar(count, most, output)?;
+        output.write_all(b"\n")
+    }
+}
+
+// The largest of some counts, or 0.
+fn largest_of(counts: &[usize]) -> usize
+    ensures { result ≡ largest counts.now }
+{
+    let mut most = 0_usize;
+    for count in counts {
+        most = most.max(*count);
+    }
+    most
+}
+
+// A `+` behind the last count, where it is also that of larger numbers of groups.
+fn longer_mark(index: usize, longest: usize) -> &'static str
+    requires { index < 64 }
+    ensures { result.now ≡ longer_mark longest index }
+{
+    if index + 1 == MOST && longest > MOST {
+        "+"
+    } else {
+        ""
     }
 }
 
 // Writes a bar. Its length over that of the longest is the count over the largest; at least 1 where the count is not 0.
-fn write_bar<W: Write>(count: usize, most: usize, output: &mut W) -> io::Result<()> {
-    if count == 0 || most == 0 {
+fn write_bar<W: Write>(count: usize, most: usize, output: &mut W) -> io::Result<()>
+    requires { count ≤ most }
+    ensures { OnOk result (Appends (W.contents output.old) (W.contents output.new) (bar count most)) }
+{
+    if count == 0 {
         return Ok(());
     }
     let signs = (count as u128 * WIDTH / most as u128).max(1);

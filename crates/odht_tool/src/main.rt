@@ -12,6 +12,7 @@ mod files;
 mod help;
 mod histogram;
 mod lines;
+mod numbers;
 mod progress;
 mod shapes;
 mod stored;

@@ -1,138 +1,157 @@
 //! The bytes of a table of any key and value sizes.
-ghost use Rattle.std.specs.Prelude.{◌≡◌, ◌≤◌, length};
+ghost use Rattle.std.specs.Prelude.{◌≡◌, ◌≤◌, ◌<◌, ◌+◌, ◌*◌, length, not, is_some, IfOk, OnOk, slice_index};
 ghost use Rattle.std.specs.Option.{option_or};
+ghost use Rattle.std.specs.Result.{result_err};
+ghost use Rattle.odht_base.specs.Decoded.{counts_as_free, header_slots, slot_key};
+ghost use Rattle.odht_base.specs.Image.{image_len};
 ghost use Rattle.odht_base.specs.Load.{IsSlotCount};
-ghost use Rattle.odht_header.specs.Refusals.{checked, power_refusal, few_slots_refusal};
+ghost use Rattle.odht_header.specs.Refusals.{checked, control_mismatch, power_refusal, few_slots_refusal, length_refusal};
+ghost use Rattle.odht_tool.specs.InfoNumbers.{sized_format, format_by, sized_parts, info_refusal, rest_refusal, least_key_len, agrees, found_hash, group_numbers, IsHistogram};
+ghost use Rattle.odht_tool.specs.ReadyShapes.{hash_of};
 
 use crate::early::{check_first, check_size};
 use crate::histogram::{Histogram, groups_to};
 use crate::shapes::Hash;
 use odht::error::{Error, Part};
 use odht::hash::{FxHashFn, HashFn, UnHashFn};
-use odht::load::{Factor, max_item_count_for};
 use odht::memory_layout::{HEADER_SIZE, Header};
+use std::alloc::{AllocError, Global};
+use std::marker::Model;
 
-/// The bytes of a table whose header and length fit the header's own key and value sizes.
-#[derive(Clone, Copy)]
+/// The parts of a table whose header and length fit the header's own key and value sizes.
+#[derive(Drop)]
 pub struct StoredTable<'a> {
-    bytes: &'a [u8],
-    /// How many bytes a key has.
-    pub key_size: usize,
-    /// How many bytes a value has.
-    pub value_size: usize,
-    /// The header's item count.
-    pub item_count: usize,
-    /// The header's slot count.
-    pub slot_count: usize,
-    /// The header's load factor.
-    pub max_load_factor: Factor,
-    ghost slots: { IsSlotCount slot_count },
+    control: &'a [u8],
+    entries: &'a [u8],
+    key_size: usize,
+    value_size: usize,
+    slot_count: usize,
+}
+
+impl<'a> Model for StoredTable<'a> {
+    ghost use Rattle.std.specs.Prelude.{◌≡◌, ◌+◌, ◌*◌, length};
+    ghost use Rattle.odht_base.specs.Load.{IsSlotCount};
+    ghost use Rattle.odht_tool.specs.InfoNumbers.{SizedParts};
+
+    ghost Value = { SizedParts };
+
+    ghost view = { λ t. record { key_len = t.key_size; value_len = t.value_size; slots = t.slot_count; entries = t.entries.now; control = t.control.now } };
+
+    ghost invariant = { λ t. IsSlotCount t.slot_count × (length t.control.now ≡ t.slot_count + 16) × (length t.entries.now ≡ t.slot_count * (t.key_size + t.value_size)) };
 }
 
 impl<'a> StoredTable<'a> {
     /// Checks the header and the length alone, and returns the first error, as [`Header::sanity_check`] does for the
     /// key and value sizes in the header.
-    pub fn open(bytes: &'a [u8]) -> Result<Self, Error> {
+    pub fn open(bytes: &'a [u8]) -> Result<Self, Error>
+        ensures err { result_err result ≡ info_refusal bytes.now }
+        ensures parts { IfOk result (λ t. t ≡ sized_parts bytes.now) }
+        ensures long { OnOk result (32 ≤ length bytes.now) }
+    {
         check_first(bytes)?;
-        check_size(bytes, 7, Part::Header, HEADER_SIZE)?;
-        check_slots(bytes)?;
-        let header = Header::of(bytes);
-        let table = StoredTable {
-            bytes,
-            key_size: bytes[5] as usize,
-            value_size: bytes[6] as usize,
-            item_count: header.item_count(),
-            slot_count: header.slot_count(),
-            max_load_factor: header.max_load_factor(),
-        };
-        table.check_length()?;
-        Ok(table)
+        check_rest(bytes)?;
+        Ok(StoredTable::cut(bytes))
     }
 
-    // Whether there are as many bytes as the header's numbers say; else `WrongLength`.
-    fn check_length(&self) -> Result<(), Error> {
-        let slot_count = self.slot_count;
-        let found = self.bytes.len();
-        let expected = self
-            .control_at()
-            .saturating_add(slot_count as u128)
-            .saturating_add(16);
-        if found as u128 != expected {
-            return Err(Error::WrongLength {
-                slot_count,
-                found,
-                expected,
-            });
-        }
-        Ok(())
-    }
-
-    // The index of the first control byte.
-    fn control_at(&self) -> u128 {
-        let entry_size = (self.key_size as u128).saturating_add(self.value_size as u128);
-        entry_size
-            .saturating_mul(self.slot_count as u128)
-            .saturating_add(32)
-    }
-
-    /// How many bytes the table has.
-    pub fn len(&self) -> usize {
-        self.bytes.len()
-    }
-
-    /// How many items its slots take at most.
-    pub fn max_item_count(&self) -> usize {
-        max_item_count_for(self.slot_count, self.max_load_factor)
-    }
-
-    // The control byte of a slot. That of a free slot, where there is no such slot.
-    fn control_byte(&self, slot: usize) -> u8 {
-        match usize::try_from(self.control_at()) {
-            Ok(start) => match self.bytes.get(start.saturating_add(slot)) {
-                Some(control) => *control,
-                None => 255,
-            },
-            Err(_) => 255,
+    // The parts of bytes that are as long as their header says.
+    fn cut(bytes: &'a [u8]) -> Self
+        requires slots { IsSlotCount (header_slots bytes.now) }
+        requires long { length bytes.now ≡ image_len (format_by bytes.now Hash.Fx) (header_slots bytes.now) }
+        ensures { result ≡ sized_parts bytes.now }
+    {
+        let (key_size, value_size) = (bytes[5] as usize, bytes[6] as usize);
+        let slot_count = Header::of(bytes).slot_count();
+        let control_at = HEADER_SIZE + slot_count * (key_size + value_size);
+        StoredTable {
+            control: &bytes[control_at..],
+            entries: &bytes[HEADER_SIZE..control_at],
+            key_size,
+            value_size,
+            slot_count,
         }
     }
 
-    // The bytes of the key of a slot. None where there is no such slot.
-    fn key(&self, slot: usize) -> Option<&'a [u8]> {
-        let entry_size = self.key_size.saturating_add(self.value_size);
-        let start = slot.saturating_mul(entry_size).saturating_add(HEADER_SIZE);
-        self.bytes.get(start..start.saturating_add(self.key_size))
+    /// The hash function that all control bytes agree with, if there is one.
+    pub fn hash(&self) -> Option<Hash>
+        ensures { result ≡ found_hash self.now }
+    {
+        if self.agrees(Hash::Fx) {
+            Some(Hash::Fx)
+        } else if self.agrees(Hash::Unhash) {
+            Some(Hash::Unhash)
+        } else {
+            None
+        }
     }
 
-    /// How many of the occupied slots do not have the tag of this hash function as their control byte.
-    pub fn other_tags(&self, hash: Hash) -> usize {
-        let mut count = 0_usize;
+    // Whether the keys are long enough for a hash function, and each occupied slot has the tag of its key by it.
+    fn agrees(&self, hash: Hash) -> bool
+        ensures { result ≡ agrees self.now hash }
+    {
+        if self.key_size < least_key_size(hash) {
+            return false;
+        }
         for slot in 0..self.slot_count {
-            let control = self.control_byte(slot);
-            if control < 128 && self.tag(slot, hash) != Some(control) {
-                count = count.saturating_add(1);
+            if self.is_mismatch(slot, hash) {
+                return false;
             }
         }
-        count
+        true
     }
 
-    fn hash_of(&self, slot: usize, hash: Hash) -> Option<u32> {
-        hash_of(self.key(slot)?, hash)
+    // Whether a slot is occupied, and its control byte is not the tag of its key.
+    fn is_mismatch(&self, slot: usize, hash: Hash) -> bool
+        requires slot { slot < self.now.slots }
+        requires long { least_key_len hash ≤ self.now.key_len }
+        ensures { let T = self.now
+            in result ≡ is_some (control_mismatch (sized_format T hash) T.entries T.control slot) }
+    {
+        self.is_occupied(slot) && self.control[slot] as u32 != self.hash_at(slot, hash) >> 25
     }
 
-    fn tag(&self, slot: usize, hash: Hash) -> Option<u8> {
-        u8::try_from(self.hash_of(slot, hash)? >> 25).ok()
+    // Whether the control byte of a slot does not count as free.
+    fn is_occupied(&self, slot: usize) -> bool
+        requires { slot < self.now.slots }
+        ensures { result ≡ not (counts_as_free (slice_index self.now.control slot)) }
+    {
+        self.control[slot] < 128
+    }
+
+    // The hash of the key of a slot.
+    fn hash_at(&self, slot: usize, hash: Hash) -> u32
+        requires slot { slot < self.now.slots }
+        requires long { least_key_len hash ≤ self.now.key_len }
+        ensures { result ≡ hash_of hash (slot_key (sized_format self.now hash) self.now.entries slot) }
+    {
+        let entry_size = self.key_size + self.value_size;
+        let at = slot * entry_size;
+        let entry = &self.entries[at..at + entry_size];
+        hash_key(&entry[..self.key_size], hash)
     }
 
     /// Counts for each occupied slot how many groups a search reads to find its key, by this hash function.
-    pub fn count_groups(&self, hash: Hash, histogram: &mut Histogram) {
+    pub fn histogram(&self, alloc: Global, hash: Hash) -> Result<Histogram, AllocError>
+        requires { least_key_len hash ≤ self.now.key_len }
+        ensures { IfOk result (IsHistogram (group_numbers self.now hash self.now.slots)) }
+    {
+        let mut histogram = Histogram::new(alloc)?;
         for slot in 0..self.slot_count {
-            if self.control_byte(slot) < 128
-                && let Some(hash) = self.hash_of(slot, hash)
-            {
-                histogram.add(groups_to(hash, slot, self.slot_count));
+            if self.is_occupied(slot) {
+                histogram.add(groups_to(self.hash_at(slot, hash), slot, self.slot_count));
             }
         }
+        Ok(histogram)
     }
+}
+
+// The errors of opening that come after those of the key and value sizes.
+fn check_rest(bytes: &[u8]) -> Result<(), Error>
+    requires { 32 ≤ length bytes.now }
+    ensures { result ≡ checked (rest_refusal bytes.now) }
+{
+    check_size(bytes, 7, Part::Header, HEADER_SIZE)?;
+    check_slots(bytes)?;
+    check_length(bytes)
 }
 
 fn check_slots(bytes: &[u8]) -> Result<(), Error>
@@ -149,15 +168,44 @@ fn check_slots(bytes: &[u8]) -> Result<(), Error>
     }
 }
 
-// The hash of a key. None where the key is too short for the function.
-fn hash_of(key: &[u8], hash: Hash) -> Option<u32> {
+// Whether there are as many bytes as the header's numbers say; else `WrongLength`.
+fn check_length(bytes: &[u8]) -> Result<(), Error>
+    requires { 32 ≤ length bytes.now }
+    ensures { result ≡ checked (length_refusal (format_by bytes.now Hash.Fx) (length bytes.now) bytes.now) }
+{
+    let slot_count = Header::of(bytes).slot_count();
+    let found = bytes.len();
+    let entry_size = bytes[5] as u128 + bytes[6] as u128;
+    let slots = slot_count as u128;
+    let expected = HEADER_SIZE as u128 + slots * entry_size + slots + 16;
+    if found as u128 == expected {
+        Ok(())
+    } else {
+        Err(Error::WrongLength {
+            slot_count,
+            found,
+            expected,
+        })
+    }
+}
+
+// How many bytes the hash function needs at least.
+fn least_key_size(hash: Hash) -> usize
+    ensures { result ≡ least_key_len hash }
+{
     match hash {
-        Hash::Fx => Some(FxHashFn::hash(key)),
-        Hash::Unhash => {
-            if key.len() < 4 {
-                return None;
-            }
-            Some(UnHashFn::hash(key))
-        }
+        Hash::Fx => FxHashFn::MIN_LEN,
+        Hash::Unhash => UnHashFn::MIN_LEN,
+    }
+}
+
+// The hash of a key.
+fn hash_key(key: &[u8], hash: Hash) -> u32
+    requires { least_key_len hash ≤ length key.now }
+    ensures { result ≡ hash_of hash key.now }
+{
+    match hash {
+        Hash::Fx => FxHashFn::hash(key),
+        Hash::Unhash => UnHashFn::hash(key),
     }
 }

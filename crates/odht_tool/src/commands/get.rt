@@ -4,6 +4,7 @@ ghost use Rattle.std.specs.List.{AllZip};
 ghost use Rattle.odht_header.specs.Refusals.{view_refusal};
 ghost use Rattle.odht_tool.specs.Gets.{IsReadAs, AreAnswers, AreWordsGot, AreFileWordsGot, found_status, words_of_shape};
 ghost use Rattle.odht_tool.specs.GetParts.{IsOpenFailure, NamesWord, NamesFault, AreKeysAnswered, IsKeysFailure, IsFlushed, IsNextKey};
+ghost use Rattle.odht_tool.specs.GetLines.{AreLinesAnswered, AreLinesGot, AreFileLinesGot, lines_of_shape};
 
 use super::check::shape_of;
 use super::{DONE, NOT_DONE};
@@ -77,7 +78,9 @@ pub fn get_file_lines<I: BufRead, O: Write>(
     hash: Option<Hash>,
     input: &mut I,
     output: &mut O,
-) -> Result<u8, Failure> {
+) -> Result<u8, Failure>
+    ensures { AreFileLinesGot bytes.now hash (I.remaining input.old) (O.contents output.old) (O.contents output.new) result }
+{
     let shape = shape_of(bytes, hash)?;
     get_lines_of(alloc, shape, bytes, input, output)
 }
@@ -88,7 +91,9 @@ fn get_lines_of<I: BufRead, O: Write>(
     bytes: &[u8],
     input: &mut I,
     output: &mut O,
-) -> Result<u8, Failure> {
+) -> Result<u8, Failure>
+    ensures { lines_of_shape bytes.now (I.remaining input.old) (O.contents output.old) (O.contents output.new) result shape }
+{
     for_shape!(shape, get_lines[I, O](alloc, bytes, input, output))
 }
 
@@ -160,6 +165,7 @@ fn get_lines<C: Config, I: BufRead, O: Write>(
 where
     C::Key: Text,
     C::Value: Text,
+    ensures { AreLinesGot ⟦<C as Coded>⟧.coding C.Key.text C.Value.text (IsReadAs C.Key.is_word C.Key.stands_for) bytes.now (I.remaining input.old) (O.contents output.old) (O.contents output.new) result }
 {
     let table = open::<C>(bytes)?;
     answer_lines(alloc, &table, input, output)
@@ -174,6 +180,7 @@ fn answer_lines<C: Config, I: BufRead, O: Write>(
 where
     C::Key: Text,
     C::Value: Text,
+    ensures { AreLinesAnswered ⟦<C as Coded>⟧.coding C.Key.text C.Value.text (IsReadAs C.Key.is_word C.Key.stands_for) table.now.0.now (I.remaining input.old) (O.contents output.old) (O.contents output.new) result }
 {
     let mut keys = Vec::new(alloc);
     let mut line = Vec::new(alloc);

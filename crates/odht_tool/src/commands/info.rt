@@ -1,11 +1,14 @@
 //! `odht info`: what a table file of any shape holds.
+ghost use Rattle.std.specs.Prelude.{◌≡◌, ◌++◌, OnOk, length};
+ghost use Rattle.std.specs.Io.KnownBytes.{Appends};
+ghost use Rattle.odht_tool.specs.InfoTexts.{number_line, sizes_text, hash_name, groups_text, info_text, IsInfoDone};
+
 use super::DONE;
 use crate::failure::Failure;
 use crate::files::read_file;
 use crate::histogram::Histogram;
+use crate::numbers::{Numbers, numbers_of};
 use crate::shapes::Hash;
-use crate::stored::StoredTable;
-use odht::load::Factor;
 use std::alloc::Global;
 use std::io::{self, Write};
 use std::rt::Files;
@@ -18,90 +21,80 @@ pub fn run<R: Files + AllocGlobal, O: Write>(
 ) -> Result<u8, Failure> {
     let bytes = read_file(rt, file)?;
     let alloc: Global = rt.alloc();
-    write_info(alloc, bytes.as_slice(), output)?;
-    Ok(DONE)
+    info_file(alloc, bytes.as_slice(), output)
 }
 
-/// The text that describes these bytes.
-pub fn write_info<O: Write>(alloc: Global, bytes: &[u8], output: &mut O) -> Result<(), Failure> {
-    let table = match StoredTable::open(bytes) {
-        Ok(table) => table,
-        Err(refused) => return Err(Failure::Refused(refused)),
-    };
-    let hash = hash_of(&table);
-    let mut histogram = Histogram::new(alloc)?;
-    if let Some(hash) = hash {
-        table.count_groups(hash, &mut histogram);
-    }
-    match write_all(&table, hash, &histogram, output) {
-        Ok(()) => Ok(()),
+/// `odht info` of the bytes of a file.
+pub fn info_file<O: Write>(alloc: Global, bytes: &[u8], output: &mut O) -> Result<u8, Failure>
+    ensures { IsInfoDone bytes.now (O.contents output.old) (O.contents output.new) result }
+{
+    let numbers = numbers_of(alloc, bytes)?;
+    match write_all(&numbers, output) {
+        Ok(()) => Ok(DONE),
         Err(error) => Err(Failure::Output(error)),
     }
 }
 
-// The hash function that all control bytes agree with, if there is one.
-fn hash_of(table: &StoredTable<'_>) -> Option<Hash> {
-    if table.other_tags(Hash::Fx) == 0 {
-        Some(Hash::Fx)
-    } else if table.other_tags(Hash::Unhash) == 0 {
-        Some(Hash::Unhash)
-    } else {
-        None
-    }
-}
-
-fn write_all<O: Write>(
-    table: &StoredTable<'_>,
-    hash: Option<Hash>,
-    histogram: &Histogram,
-    output: &mut O,
-) -> io::Result<()> {
-    write_numbers(table, output)?;
-    match hash {
+fn write_all<O: Write>(numbers: &Numbers, output: &mut O) -> io::Result<()>
+    requires { length numbers.now.histogram.counts.items ≡ 64 }
+    ensures { OnOk result (Appends (O.contents output.old) (O.contents output.new) (info_text numbers.now)) }
+{
+    write_sizes(numbers, output)?;
+    match numbers.hash {
         None => writeln!(output, "hash          neither fx nor unhash"),
-        Some(hash) => {
-            let name = match hash {
-                Hash::Fx => "fx",
-                Hash::Unhash => "unhash",
-            };
-            writeln!(output, "hash          {name}")?;
-            writeln!(output, "  groups         items")?;
-            histogram.write(output)?;
-            let longest = histogram.longest;
-            writeln!(output, "longest       {longest} groups")
-        }
+        Some(hash) => write_groups(hash, &numbers.histogram, output),
     }
 }
 
 // The lines that do not depend on the hash function.
-fn write_numbers<O: Write>(table: &StoredTable<'_>, output: &mut O) -> io::Result<()> {
-    let (key_size, value_size) = (table.key_size, table.value_size);
-    let (item_count, slot_count) = (table.item_count, table.slot_count);
-    let max_item_count = table.max_item_count();
-    let len = table.len();
-    let load = percent_of(item_count, slot_count);
-    let max_load = nearest_percent(table.max_load_factor);
-    writeln!(output, "key bytes     {key_size}")?;
-    writeln!(output, "value bytes   {value_size}")?;
-    writeln!(output, "header bytes  32")?;
-    writeln!(output, "all bytes     {len}")?;
-    writeln!(output, "items         {item_count}")?;
-    writeln!(output, "slots         {slot_count}")?;
-    writeln!(output, "maximum       {max_item_count}")?;
-    writeln!(output, "load          {load} percent")?;
-    writeln!(output, "maximum load  {max_load} percent")
+fn write_sizes<O: Write>(numbers: &Numbers, output: &mut O) -> io::Result<()>
+    ensures { OnOk result (Appends (O.contents output.old) (O.contents output.new) (sizes_text numbers.now)) }
+{
+    write_number("key bytes     ", numbers.key_size as u128, "", output)?;
+    write_number("value bytes   ", numbers.value_size as u128, "", output)?;
+    write_number("header bytes  ", 32, "", output)?;
+    write_number("all bytes     ", numbers.len as u128, "", output)?;
+    write_number("items         ", numbers.item_count as u128, "", output)?;
+    write_number("slots         ", numbers.slot_count as u128, "", output)?;
+    write_number("maximum       ", numbers.max_item_count as u128, "", output)?;
+    write_number("load          ", numbers.load, " percent", output)?;
+    write_number(
+        "maximum load  ",
+        numbers.max_load as u128,
+        " percent",
+        output,
+    )
 }
 
-// How many percent of the slots are occupied, rounded down.
-fn percent_of(item_count: usize, slot_count: usize) -> u128 {
-    if slot_count == 0 {
-        return 0;
+// The lines of the hash function and of the histogram.
+fn write_groups<O: Write>(hash: Hash, histogram: &Histogram, output: &mut O) -> io::Result<()>
+    requires { length histogram.now.counts.items ≡ 64 }
+    ensures { OnOk result (Appends (O.contents output.old) (O.contents output.new) (groups_text (Some hash) histogram.now.counts.items histogram.now.longest)) }
+{
+    let name = name_of(hash);
+    write!(output, "hash          {name}\n  groups         items\n")?;
+    histogram.write(output)?;
+    write_number(
+        "longest       ",
+        histogram.longest as u128,
+        " groups",
+        output,
+    )
+}
+
+// The name of a hash function.
+fn name_of(hash: Hash) -> &'static str
+    ensures { result.now ≡ hash_name hash }
+{
+    match hash {
+        Hash::Fx => "fx",
+        Hash::Unhash => "unhash",
     }
-    item_count as u128 * 100 / slot_count as u128
 }
 
-// The percentage that a load factor is nearest to: that which it was made from, if it was made from one.
-fn nearest_percent(factor: Factor) -> u32 {
-    let Factor(factor) = factor;
-    (factor as u32 * 100 + 32767) / 65535
+// Writes a line of a label and a number, with `end` behind it.
+fn write_number<O: Write>(label: &str, number: u128, end: &str, output: &mut O) -> io::Result<()>
+    ensures { OnOk result (Appends (O.contents output.old) (O.contents output.new) (number_line label.now number end.now)) }
+{
+    writeln!(output, "{label}{number}{end}")
 }

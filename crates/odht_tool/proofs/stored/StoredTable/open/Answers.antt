@@ -1,9 +1,20 @@
-use Rattle.std.proofs.Common.{◌∙◌, sym, ap, subst}
-use Rattle.odht_base.specs.Decoded.{header_slots}
-use Rattle.odht_base.specs.Load.{IsSlotCount}
-use Rattle.odht_tool.proofs.Refusals.{slots_of_check}
+use Rattle.std.proofs.Common.{◌≡◌, ◌∙◌, Err, rules, sym, ap}
+use Rattle.std.specs.Result.{result_err}
+use Rattle.odht_tool.proofs.Refusals.{early_error, late_error, no_error}
 use Rattle.odht_tool.proofs.stored.StoredTable.open.Goals as goal
 
-pub invariant_of-table : goal.invariant_of-table
-invariant_of-table c =
-    record { slots = subst IsSlotCount (sym (c.slot_count.ensures ∙ ap header_slots c.of-header.ensures)) (slots_of_check c.args.bytes.now (sym c.in_ok-check_slots.was ∙ c.check_slots.ensures)) }
+pub returns-in_err-check_first-clause-err : goal.returns-in_err-check_first-clause-err
+returns-in_err-check_first-clause-err c =
+    let x = c.in_err-check_first.field-0.0 in
+    let failed : c.from_residual.result ≡ Err x = search rules in
+    ap result_err failed ∙ sym (early_error c.args.bytes.now x (sym c.in_err-check_first.was ∙ c.check_first.ensures.first))
+
+pub returns-in_err-check_rest-clause-err : goal.returns-in_err-check_rest-clause-err
+returns-in_err-check_rest-clause-err c =
+    let x = c.in_err-check_rest.field-0.0 in
+    let failed : c.from_residual-in_err-check_rest.result ≡ Err x = search rules in
+    ap result_err failed ∙ sym (late_error c.args.bytes.now x (sym c.in_ok-check_first.was ∙ c.check_first.ensures.first) (sym c.in_err-check_rest.was ∙ c.check_rest.ensures))
+
+pub returns-clause-err : goal.returns-clause-err
+returns-clause-err c =
+    sym (no_error c.args.bytes.now (sym c.in_ok-check_first.was ∙ c.check_first.ensures.first) (sym c.in_ok-check_rest.was ∙ c.check_rest.ensures))

@@ -1,0 +1,294 @@
+-- Worked examples: what `get -` writes and returns.
+--     C, f              the coding of the direct shape, and the text of its keys and values
+--     R                 which word is a text of which key
+use Rattle.std.proofs.Common.{◌≡◌, ◌∙◌, Bool, true, ◌+◌, ◌*◌, ◌≤◌, ℕ, zero, suc, refl, sym, ap, subst, arith, lit<, lit≤, map, length, length-append, List, [], ◌∷◌, ◌++◌, Option, Some, None, Ok, Err, slice_get}
+use Rattle.std.specs.Prelude.{codes}
+use Rattle.std.specs.Fmt.{digits}
+use Rattle.std.specs.Io.KnownBytes.{Appends}
+use Rattle.std.specs.List.{AllZip}
+use Rattle.odht_base.specs.Bytes.{overwritten_at}
+use Rattle.odht_base.specs.Format.{IsFormat}
+use Rattle.odht_base.specs.HashLaws.{un-lt}
+use Rattle.odht_base.specs.Numbers.{le_bytes}
+use Rattle.odht_base.specs.Table.{Table}
+use Rattle.odht_base.specs.Valid.{IsImage}
+use Rattle.odht_base.proofs.examples.Configs.{direct_config}
+use Rattle.odht_base.proofs.lemmas.Image.{image-injective}
+use Rattle.odht_base.proofs.lemmas.Placed.{IsPlaced-tests}
+use Rattle.odht_header.specs.Coding.{Coding, HasStored, value_for}
+use Rattle.odht_header.specs.declared.error.Error.TheVariants.{TooShort}
+use Rattle.odht_header.proofs.examples.Apart.{unequal_lists}
+use Rattle.odht_header.proofs.examples.Opened.{opened}
+use Rattle.odht_tool.specs.GetLines.{lines_read, AreFirstAnswered, IsLineFault, AreFileLinesGot, lines_of_shape}
+use Rattle.odht_tool.specs.GetParts.{IsFlushed}
+use Rattle.odht_tool.specs.Gets.{AreAnswers, IsAnswered, IsTextOf, answered_status}
+use Rattle.odht_tool.specs.ReadyShapes.{shape_coding, typed_text}
+use Rattle.odht_tool.specs.Texts.{answers_text}
+use Rattle.odht_tool.specs.declared.failure.Failure.TheVariants.{Refused, NoShape, Input, Line, Output, Memory}
+use Rattle.odht_tool.specs.declared.failure.LineFault.TheVariants.{NoTab, Key}
+use Rattle.odht_tool.specs.declared.shapes.Hash.TheVariants.{Unhash}
+use Rattle.odht_tool.specs.declared.shapes.Part.TheVariants.{U32}
+use Rattle.odht_tool.specs.declared.shapes.Shape.TheVariants.{DirectU32ToU32}
+use Rattle.odht_tool.proofs.AnswerLists.{are_answers_append}
+use Rattle.odht_tool.proofs.KeyAnswers.{no_answers, nothing_flushed}
+use Rattle.odht_tool.proofs.examples.Gots.{no_refusal}
+use Rattle.odht_tool.proofs.examples.Shapes.{one_item, one_bytes}
+
+abbrev C : Coding ℕ ℕ
+C = shape_coding DirectU32ToU32
+
+abbrev f : ℕ → List ℕ
+f = typed_text U32
+
+abbrev R : List ℕ → ℕ → Type 0
+R = IsTextOf U32
+
+-- ---- the answers to keys
+-- the bytes are those of this table alone
+one_image : IsImage direct_config one_item one_bytes
+unfolding opened
+one_image = record {
+  valid = record {
+    placed = IsPlaced-tests direct_config one_item (record { power = refl; least = lit≤ tt }) refl refl;
+    factor_low = lit≤ tt;
+    factor_high = lit≤ tt;
+    room = lit≤ tt;
+  };
+  bytes = refl;
+}
+
+direct_format : IsFormat direct_config
+direct_format = record {
+  key_short = lit≤ tt;
+  value_short = lit≤ tt;
+  hash_small = λ b is. un-lt b (subst (λ n. 4 ≤ n) (sym is.len) (lit≤ tt)) is.each;
+}
+
+same_table : (P : Table) → IsImage direct_config P one_bytes → one_item ≡ P
+same_table P image = image-injective direct_config one_item P direct_format one_image.valid image.valid (sym one_image.bytes ∙ image.bytes)
+
+-- 7 for 5, and none for 6
+five_answered : AreAnswers C one_bytes (5 ∷ []) (Some 7 ∷ [])
+unfolding opened
+five_answered = record {
+  each = refl;
+  on_valid = λ P image. subst (λ T. Some 7 ∷ [] ≡ map (value_for C T) (5 ∷ [])) (same_table P image) refl;
+  on_any = stored;
+}
+  where
+    stored : (i : ℕ) (k : ℕ) (v : ℕ) → slice_get (5 ∷ []) i ≡ Some k → slice_get (Some 7 ∷ []) i ≡ Some (Some v) → HasStored C one_bytes k v
+    stored zero k v p q =
+        let here : HasStored C one_bytes 5 7 = (le_bytes 4 7, refl, (5, lit< tt, refl, refl)) in
+        let key : 5 ≡ k = cc in
+        let value : 7 ≡ v = cc in
+        subst (λ x. HasStored C one_bytes x v) key (subst (λ y. HasStored C one_bytes 5 y) value here)
+    stored (suc i) k v p q = cc
+
+six_answered : AreAnswers C one_bytes (6 ∷ []) (None ∷ [])
+unfolding opened
+six_answered = record {
+  each = refl;
+  on_valid = λ P image. subst (λ T. None ∷ [] ≡ map (value_for C T) (6 ∷ [])) (same_table P image) refl;
+  on_any = stored;
+}
+  where
+    stored : (i : ℕ) (k : ℕ) (v : ℕ) → slice_get (6 ∷ []) i ≡ Some k → slice_get (None ∷ []) i ≡ Some (Some v) → HasStored C one_bytes k v
+    stored zero k v p q = cc
+    stored (suc i) k v p q = cc
+
+-- digits are a text of their number, and other words are no key
+five : R (codes "5") 5
+five = (((lit< tt, (lit< tt, tt)), lit< tt), refl)
+
+six : R (codes "6") 6
+six = (((lit< tt, (lit< tt, tt)), lit< tt), refl)
+
+no_key : (k : ℕ) → R (codes "x") k → ⊥
+no_key k r = omega (arith, r.0.0.1.0)
+
+-- ---- each line a key
+pub read : lines_read (codes "5\r\n6") ≡ codes "5" ∷ codes "6" ∷ []
+read = refl
+
+both_answered : IsAnswered C f f R one_bytes (codes "5" ∷ codes "6" ∷ []) (Some (codes "a")) (Some (codes "a5\t7\n6\n")) 1
+unfolding digits
+both_answered = record {
+  keys = 5 ∷ 6 ∷ [];
+  texts = (five, (six, tt));
+  values = Some 7 ∷ None ∷ [];
+  answers = are_answers_append C one_bytes (5 ∷ []) (6 ∷ []) (Some 7 ∷ []) (None ∷ []) five_answered six_answered;
+  written = refl;
+  status = refl;
+}
+
+pub both : lines_of_shape one_bytes (Some (codes "5\n6\n")) (Some (codes "a")) (Some (codes "a5\t7\n6\n")) (Ok 1) DirectU32ToU32
+both = (no_refusal, both_answered)
+
+-- of these lines there are no other answers
+of_keys : (ks : List ℕ) (vs : List (Option ℕ)) → AreAnswers C one_bytes ks vs → vs ≡ map (value_for C one_item) ks
+of_keys ks vs h = h.on_valid one_item one_image
+
+of_five : (ks : List ℕ) → AllZip R (codes "5" ∷ []) ks → ks ≡ 5 ∷ []
+of_five [] h = absurd h
+of_five (k ∷ []) h = ap (λ n. n ∷ []) (sym h.0.1)
+of_five (k ∷ l ∷ ks) h = absurd h.1
+
+of_both : (ks : List ℕ) → AllZip R (codes "5" ∷ codes "6" ∷ []) ks → ks ≡ 5 ∷ 6 ∷ []
+of_both [] h = absurd h
+of_both (k ∷ []) h = absurd h.1
+of_both (k ∷ l ∷ []) h = ap (λ n. n ∷ l ∷ []) (sym h.0.1) ∙ ap (λ n. 5 ∷ n ∷ []) (sym h.1.0.1)
+of_both (k ∷ l ∷ m ∷ ks) h = absurd h.1.1
+
+only_both : (old new : Option (List ℕ)) (status : ℕ) → IsAnswered C f f R one_bytes (codes "5" ∷ codes "6" ∷ []) old new status → (status ≡ 1) × Appends old new (codes "5\t7\n6\n")
+unfolding digits opened
+only_both old new status h =
+    let keys = of_both h.keys h.texts in
+    let values : h.values ≡ Some 7 ∷ None ∷ [] = of_keys h.keys h.values h.answers ∙ ap (map (value_for C one_item)) keys in (
+      h.status ∙ ap answered_status values,
+      subst (Appends old new) (ap (λ ks. answers_text f f ks h.values) keys ∙ ap (answers_text f f (5 ∷ 6 ∷ [])) values) h.written,
+    )
+
+-- the other status; an answer left out; one written twice
+pub other_status : (new : Option (List ℕ)) → lines_of_shape one_bytes (Some (codes "5\n6\n")) (Some []) new (Ok 0) DirectU32ToU32 → ⊥
+other_status new h = omega (arith, (only_both (Some []) new 0 h.1).0)
+
+pub left_out : lines_of_shape one_bytes (Some (codes "5\n6\n")) (Some (codes "a")) (Some (codes "a5\t7\n")) (Ok 1) DirectU32ToU32 → ⊥
+left_out h = unequal_lists (codes "a5\t7\n") (codes "a5\t7\n6\n") refl (only_both (Some (codes "a")) (Some (codes "a5\t7\n")) 1 h.1).1
+
+pub twice : lines_of_shape one_bytes (Some (codes "5\n6\n")) (Some []) (Some (codes "5\t7\n5\t7\n6\n")) (Ok 1) DirectU32ToU32 → ⊥
+twice h = unequal_lists (codes "5\t7\n5\t7\n6\n") (codes "5\t7\n6\n") refl (only_both (Some []) (Some (codes "5\t7\n5\t7\n6\n")) 1 h.1).1
+
+-- a status where a line is no key
+pub done_at_fault : (old new : Option (List ℕ)) (status : ℕ) → lines_of_shape one_bytes (Some (codes "x\n")) old new (Ok status) DirectU32ToU32 → ⊥
+done_at_fault old new status h = go h.1.keys h.1.texts
+  where
+    go : (ks : List ℕ) → AllZip R (codes "x" ∷ []) ks → ⊥
+    go [] t = t
+    go (k ∷ ks) t = no_key k t.0
+
+-- nothing is said where the bytes of the input are not known
+pub unknown : lines_of_shape one_bytes None (Some []) (Some (codes "b")) (Ok 0) DirectU32ToU32
+unknown = (no_refusal, tt)
+
+-- ---- a line that is no key
+-- the second
+pub second : lines_of_shape one_bytes (Some (codes "5\nx\n6")) (Some (codes "a")) (Some (codes "a5\t7\n")) (Err (Line 2 Key)) DirectU32ToU32
+unfolding digits
+second = (
+  no_refusal,
+  record {
+    before = codes "5" ∷ [];
+    word = codes "x";
+    after = codes "6" ∷ [];
+    place = refl;
+    counted = refl;
+    fault = no_key;
+    status = 0;
+    answered = record { keys = 5 ∷ []; texts = (five, tt); values = Some 7 ∷ []; answers = five_answered; written = refl; status = refl };
+  },
+)
+
+only_second : (old new : Option (List ℕ)) (n : ℕ) → IsLineFault C f f R one_bytes (codes "5" ∷ codes "x" ∷ codes "6" ∷ []) n old new → (n ≡ 2) × Appends old new (codes "5\t7\n")
+unfolding digits opened
+only_second old new n h = go h.before h.place h.counted h.answered
+  where
+    go : (before : List (List ℕ)) → codes "5" ∷ codes "x" ∷ codes "6" ∷ [] ≡ before ++ (h.word ∷ h.after) → n ≡ length before + 1 → IsAnswered C f f R one_bytes before old new h.status
+        → (n ≡ 2) × Appends old new (codes "5\t7\n")
+    go [] place counted answered =
+        let word : codes "5" ≡ h.word = cc in
+        absurd (h.fault 5 (subst (λ w. R w 5) word five))
+    go (a ∷ []) place counted answered =
+        let word : codes "5" ≡ a = cc in
+        let keys = of_five answered.keys (subst (λ w. AllZip R (w ∷ []) answered.keys) (sym word) answered.texts) in
+        let values : answered.values ≡ Some 7 ∷ [] = of_keys answered.keys answered.values answered.answers ∙ ap (map (value_for C one_item)) keys in (
+          counted,
+          subst (Appends old new) (ap (λ ks. answers_text f f ks answered.values) keys ∙ ap (answers_text f f (5 ∷ [])) values) answered.written,
+        )
+    go (a ∷ b ∷ rest) place counted answered =
+        let word : codes "x" ≡ b = cc in
+        absurd (second_key answered.keys (subst (λ w. AllZip R (a ∷ w ∷ rest) answered.keys) (sym word) answered.texts))
+      where
+        second_key : (ks : List ℕ) → AllZip R (a ∷ codes "x" ∷ rest) ks → ⊥
+        second_key [] t = t
+        second_key (k ∷ []) t = t.1
+        second_key (k ∷ l ∷ ks) t = no_key l t.1.0
+
+-- counted from 0; the answer before it not written; another fault
+pub from_zero : (new : Option (List ℕ)) → lines_of_shape one_bytes (Some (codes "5\nx\n6")) (Some []) new (Err (Line 1 Key)) DirectU32ToU32 → ⊥
+from_zero new h = omega (arith, (only_second (Some []) new 1 h.1).0)
+
+pub unwritten : lines_of_shape one_bytes (Some (codes "5\nx\n6")) (Some []) (Some []) (Err (Line 2 Key)) DirectU32ToU32 → ⊥
+unwritten h = unequal_lists [] (codes "5\t7\n") refl (only_second (Some []) (Some []) 2 h.1).1
+
+pub no_tab : (old new : Option (List ℕ)) → lines_of_shape one_bytes (Some (codes "5\nx\n6")) old new (Err (Line 2 NoTab)) DirectU32ToU32 → ⊥
+no_tab old new h = h.1
+
+-- ---- other failures
+-- without memory, or where the input cannot be read, what is written are the answers to whole batches: here to none
+pub no_memory : lines_of_shape one_bytes (Some (codes "5\n")) (Some (codes "a")) (Some (codes "a")) (Err Memory) DirectU32ToU32
+no_memory = (
+  no_refusal,
+  record {
+    before = [];
+    after = codes "5" ∷ [];
+    place = refl;
+    batches = 0;
+    counted = refl;
+    status = 0;
+    answered = record { keys = []; texts = tt; values = []; answers = no_answers C one_bytes; written = refl; status = refl };
+  },
+)
+
+none_first : (old new : Option (List ℕ)) → AreFirstAnswered C f f R one_bytes (codes "5" ∷ []) old new → Appends old new []
+unfolding opened
+none_first old new h = go h.before (ap length h.place ∙ length-append h.before h.after) h.counted h.answered
+  where
+    go : (before : List (List ℕ)) → 1 ≡ length before + length h.after → length before ≡ h.batches * 1024 → IsAnswered C f f R one_bytes before old new h.status → Appends old new []
+    go [] place counted answered = none answered.keys answered.texts answered.written
+      where
+        none : (ks : List ℕ) → AllZip R [] ks → Appends old new (answers_text f f ks answered.values) → Appends old new []
+        none [] t w = w
+        none (k ∷ ks) t w = absurd t
+    go (a ∷ rest) place counted answered = absurd (omega (arith, place, counted))
+
+pub half_a_batch : lines_of_shape one_bytes (Some (codes "5\n")) (Some (codes "a")) (Some (codes "a5\t7\n")) (Err Memory) DirectU32ToU32 → ⊥
+half_a_batch h = unequal_lists (codes "a5\t7\n") (codes "a") refl (none_first (Some (codes "a")) (Some (codes "a5\t7\n")) h.1)
+
+pub half_read : (error : _) → lines_of_shape one_bytes (Some (codes "5\n")) (Some (codes "a")) (Some (codes "a5\t7\n")) (Err (Input error)) DirectU32ToU32 → ⊥
+half_read error h = unequal_lists (codes "a5\t7\n") (codes "a") refl (none_first (Some (codes "a")) (Some (codes "a5\t7\n")) h.1)
+
+-- the writer fails only once the bytes are opened
+pub unopened : (input old new : Option (List ℕ)) (error : _) → lines_of_shape (79 ∷ 68 ∷ []) input old new (Err (Output error)) DirectU32ToU32 → ⊥
+unfolding opened
+unopened input old new error h = let opens = h.0 in cc
+
+-- of bytes that do not open the error is returned, and nothing is written
+pub refused : (input : Option (List ℕ)) → lines_of_shape (79 ∷ 68 ∷ []) input (Some (codes "a")) (Some (codes "a")) (Err (Refused (TooShort 2))) DirectU32ToU32
+unfolding opened
+refused input = (refl, refl)
+
+pub refused_late : (input : Option (List ℕ)) → lines_of_shape (79 ∷ 68 ∷ []) input (Some (codes "a")) (Some (codes "ab")) (Err (Refused (TooShort 2))) DirectU32ToU32 → ⊥
+refused_late input h = unequal_lists (codes "ab") (codes "a") refl h.1
+
+pub not_refused : (input old new : Option (List ℕ)) → lines_of_shape one_bytes input old new (Err (Refused (TooShort 2))) DirectU32ToU32 → ⊥
+not_refused input old new h = let no = no_refusal in cc
+
+-- of bytes with no shape nothing is read
+pub no_shape : (input : Option (List ℕ)) → AreFileLinesGot (overwritten_at one_bytes 5 (9 ∷ [])) None input (Some (codes "a")) (Some (codes "a")) (Err (NoShape 9 4))
+unfolding opened
+no_shape input = (refl, refl)
+
+pub shape_missed : (input old new : Option (List ℕ)) → AreFileLinesGot one_bytes (Some Unhash) input old new (Err (NoShape 4 4)) → ⊥
+unfolding opened
+shape_missed input old new h = h.1
+
+-- ---- a batch
+-- one key is none, so it is not answered yet; and a batch is answered
+pub few : IsFlushed C f f one_bytes (5 ∷ []) (5 ∷ []) (Some (codes "a")) (Some (codes "a")) true true
+few = nothing_flushed C f f one_bytes (5 ∷ []) (Some (codes "a")) true (lit< tt)
+
+pub early : (old new : Option (List ℕ)) (was all : Bool) → IsFlushed C f f one_bytes (5 ∷ []) [] old new was all → ⊥
+early old new was all h = let none = h.few (lit< tt) in let left = h.left in absurd (omega (arith, ap length left ∙ length-append h.done [], ap length none))
+
+pub late : (keys : List ℕ) (old new : Option (List ℕ)) (was all : Bool) → 1024 ≤ length keys → IsFlushed C f f one_bytes keys keys old new was all → ⊥
+late keys old new was all many h = omega (arith, many, ap length (h.full many))

@@ -1,0 +1,68 @@
+-- What `get -` does with the bytes B of a file and the lines of an input. R says which line is a text of which key.
+--     lines_read bytes     the lines that are read of an input with these bytes: all, unless there are 2^64 - 1 or more
+--     AreFirstAnswered c f g R B ws old new   the answers to some first lines of ws, as many as some batches have and all
+--                          of them texts of keys, were written, which took the writer from the bytes old to new; f and g
+--                          are the texts of keys and of values
+--     IsLineFault c f g R B ws n old new      line n of ws, counted from 1, is the first that is a text of no key, and
+--                          the answers to those before it were written
+--     AreLinesAnswered c f g R B input old new r   what is returned, r, and written once the table is opened, where the
+--                          input has these bytes, which may be known
+--     AreLinesGot c f g R B input old new r   the same of opening too
+--     AreFileLinesGot B h input old new r     the same of the bytes of a file, where the hash function h, or none, is named
+-- Nothing is said of answers where the bytes of the input are not known.
+use Rattle.std.specs.Prelude.{◌≡◌, ℕ, ◌+◌, ◌-◌, ◌*◌, ◌^◌, List, ◌∷◌, ◌++◌, length, take, Option, None, Some, IfSome, Result, Ok, Err, ⊤}
+use Rattle.std.specs.Io.KnownBytes.{Keeps}
+use Rattle.std.specs.Str.Lines.{lines}
+use Rattle.odht_header.specs.Coding.{Coding}
+use Rattle.odht_header.specs.Refusals.{view_refusal}
+use Rattle.odht_tool.specs.Gets.{IsAnswered, IsTextOf, IsTextOfNone, by_shape}
+use Rattle.odht_tool.specs.ReadyShapes.{typed_text, key_part, value_part, shape_coding}
+use Rattle.odht_tool.specs.declared.commands.get.TheConstants.{BATCH}
+use Rattle.odht_tool.specs.declared.failure.Failure.{Failure}
+use Rattle.odht_tool.specs.declared.failure.Failure.TheVariants.{Refused, Input, Line, Output, Memory}
+use Rattle.odht_tool.specs.declared.failure.LineFault.TheVariants.{Key}
+use Rattle.odht_tool.specs.declared.shapes.Hash.{Hash}
+use Rattle.odht_tool.specs.declared.shapes.Shape.{Shape}
+
+abbrev pub lines_read : List ℕ → List (List ℕ)
+lines_read bytes = take (2 ^ 64 - 2) (lines bytes)
+
+pub record AreFirstAnswered {K V : Type 0} (c : Coding K V) (f : K → List ℕ) (g : V → List ℕ) (R : List ℕ → K → Type 0) (B : List ℕ) (ws : List (List ℕ)) (old new : Option (List ℕ)) : Type 0 where
+  pub before : List (List ℕ)
+  pub after : List (List ℕ)
+  pub place : ws ≡ before ++ after
+  pub batches : ℕ
+  pub counted : length before ≡ batches * BATCH
+  pub status : ℕ
+  pub answered : IsAnswered c f g R B before old new status
+
+pub record IsLineFault {K V : Type 0} (c : Coding K V) (f : K → List ℕ) (g : V → List ℕ) (R : List ℕ → K → Type 0) (B : List ℕ) (ws : List (List ℕ)) (number : ℕ) (old new : Option (List ℕ)) : Type 0 where
+  pub before : List (List ℕ)
+  pub word : List ℕ
+  pub after : List (List ℕ)
+  pub place : ws ≡ before ++ (word ∷ after)
+  pub counted : number ≡ length before + 1
+  pub fault : IsTextOfNone R word
+  pub status : ℕ
+  pub answered : IsAnswered c f g R B before old new status
+
+module _ {K V : Type 0} (c : Coding K V) (f : K → List ℕ) (g : V → List ℕ) (R : List ℕ → K → Type 0) (B : List ℕ) where
+  abbrev pub AreLinesAnswered : Option (List ℕ) → Option (List ℕ) → Option (List ℕ) → Result ℕ Failure → Type 0
+  AreLinesAnswered input old new (Ok status) = IfSome input (λ bytes. IsAnswered c f g R B (lines_read bytes) old new status)
+  AreLinesAnswered input old new (Err (Line number Key)) = IfSome input (λ bytes. IsLineFault c f g R B (lines bytes) number old new)
+  AreLinesAnswered input old new (Err Memory) = IfSome input (λ bytes. AreFirstAnswered c f g R B (lines bytes) old new)
+  AreLinesAnswered input old new (Err (Input error)) = IfSome input (λ bytes. AreFirstAnswered c f g R B (lines bytes) old new)
+  AreLinesAnswered input old new (Err (Output error)) = ⊤
+  AreLinesAnswered input old new (Err _) = ⊥
+
+  abbrev pub AreLinesGot : Option (List ℕ) → Option (List ℕ) → Option (List ℕ) → Result ℕ Failure → Type 0
+  AreLinesGot input old new (Err (Refused error)) = (view_refusal c.format B ≡ Some error) × Keeps old new
+  AreLinesGot input old new r = (view_refusal c.format B ≡ None) × AreLinesAnswered input old new r
+
+-- ---- of a file
+abbrev pub lines_of_shape : List ℕ → Option (List ℕ) → Option (List ℕ) → Option (List ℕ) → Result ℕ Failure → Shape → Type 0
+lines_of_shape B input old new r s =
+    AreLinesGot (shape_coding s) (typed_text (key_part s)) (typed_text (value_part s)) (IsTextOf (key_part s)) B input old new r
+
+abbrev pub AreFileLinesGot : List ℕ → Option Hash → Option (List ℕ) → Option (List ℕ) → Option (List ℕ) → Result ℕ Failure → Type 0
+AreFileLinesGot B h input old new r = by_shape B h old new r (lines_of_shape B input old new r)
