@@ -7,6 +7,8 @@
 --     longer_mark l i      a `+` behind 64 groups, where the longest number of groups l is above
 --     tally_line cs l i    the line of the count i of the counts cs, that of i + 1 groups
 --     tallies_text cs l    those of the first l counts
+--     hash_name h          the name of the hash function h
+--     groups_text h cs l   the lines of the hash function h, or of none, and of the histogram
 --     info_text n          all lines
 --     IsInfoDone B old new r   `info` of the bytes B, which took the writer from the bytes old to new and returned r,
 --                          wrote the numbers of B; only opening, memory or the writer may have kept it from that
