@@ -2,10 +2,10 @@
 //! result: one that goes missing, or has another type, does not compile. The other files have the other modules.
 ghost use Rattle.std.specs.Prelude.{◌≡◌, ◌+◌, ◌≤◌, length};
 
+use crate::checks::{same, same_bytes};
 use odht::bytes::{Borrowed, BorrowedMut, ByteArray, ByteStore, ByteStoreMut, OwnedBytes};
 use odht::hash::{FxHashFn, HashFn, UnHashFn};
 use odht::load::{Factor, max_item_count_for, slots_needed};
-use odht_tests::checks::{same, same_bytes};
 use std::alloc::AllocError;
 use std::fmt::Debug;
 

@@ -1,12 +1,12 @@
 //! The names of `error` and `config` as the port promises them (`base` says how).
 
 use crate::base::is_plain_value;
+use crate::checks::same;
 use odht::bytes::ByteArray;
 use odht::config::{Config, Lossless};
 use odht::configs::U64ToU32;
 use odht::error::{Error, Part};
 use odht::hash::HashFn;
-use odht_tests::checks::same;
 use std::alloc::AllocError;
 use std::fmt::Display;
 

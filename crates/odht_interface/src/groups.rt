@@ -1,10 +1,10 @@
 //! The names of `swisstable_group_query` as the port promises them (`base` says how).
 ghost use Rattle.std.specs.Prelude.{◌≡◌, ◌<◌, length};
 
+use crate::checks::same;
 use odht::swisstable_group_query::{
     GROUP_SIZE, Group, GroupQuery, REFERENCE_GROUP_SIZE, lanes, no_simd,
 };
-use odht_tests::checks::same;
 
 // Two bytes of which the first is the tag 3 and the second the tag 2, and free ones.
 const WORD: [u8; 8] = [3, 2, 255, 255, 255, 255, 255, 255];

@@ -2,6 +2,7 @@
 //! 16 slots at 87 percent.
 ghost use Rattle.std.specs.Prelude.{◌≡◌, ◌≤◌, length};
 
+use crate::checks::{same, same_bytes};
 use crate::raw::sixteen;
 use odht::bytes::{Borrowed, BorrowedMut, ByteStore, ByteStoreMut, OwnedBytes};
 use odht::config::Config;
@@ -12,7 +13,6 @@ use odht::memory_layout::{
     Allocation, Entries, EntryMetadata, Header, allocate, bytes_needed, check_all, init_in_place,
 };
 use odht::raw_table::Entry;
-use odht_tests::checks::{same, same_bytes};
 use std::process::Abort;
 
 // The header of such a table without items.

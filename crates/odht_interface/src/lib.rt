@@ -6,6 +6,8 @@
 #[cfg(test)]
 mod base;
 #[cfg(test)]
+mod checks;
+#[cfg(test)]
 mod errors;
 #[cfg(test)]
 mod groups;

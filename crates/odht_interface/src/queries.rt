@@ -1,7 +1,7 @@
 //! The names that both group searches have themselves, without the trait, as the port promises them (`base` says
 //! how). `Group` is not brought in here, so that a name which only the trait has does not compile.
+use crate::checks::same;
 use odht::swisstable_group_query::{GROUP_SIZE, GroupQuery, lanes, no_simd};
-use odht_tests::checks::same;
 
 // Two bytes of which the first is the tag 3 and the second the tag 2, and free ones.
 const WORD: [u8; 8] = [3, 2, 255, 255, 255, 255, 255, 255];

@@ -4,6 +4,7 @@ ghost use Rattle.std.specs.Prelude.{◌≡◌};
 ghost use Rattle.odht_base.specs.Load.{IsSlotCount};
 
 use crate::base::is_plain_value;
+use crate::checks::{same, same_bytes, same_len, slots_for};
 use odht::error::Error;
 use odht::hash::UnHashFn;
 use odht::raw_table::{
@@ -11,8 +12,6 @@ use odht::raw_table::{
     plain_find, plain_insert, probe_order, search,
 };
 use odht::swisstable_group_query::{Group, lanes, no_simd};
-use odht_tests::checks::{same, same_bytes, same_len};
-use odht_tests::slot_counts::slots_for;
 use std::alloc::AllocError;
 use std::fmt::Debug;
 use std::process::Abort;

@@ -1,12 +1,12 @@
 //! The names at the root of `odht` and those of `odht_index` as the port promises them (`base` says how).
 //! Maps of u64 to u32 and of u32 to u32.
 
+use crate::checks::{same, same_bytes};
 use odht::bytes::{Borrowed, BorrowedMut, ByteStore, ByteStoreMut};
 use odht::configs::{U32ToU32, U64ToU32};
 use odht::error::Error;
 use odht::{Config, FxHashFn, HashFn, HashTable, HashTableOwned, Iter, UnHashFn, bytes_needed};
 use odht_index::{Index, IndexConfig, build};
-use odht_tests::checks::{same, same_bytes};
 use std::alloc::{AllocError, Global};
 use std::fmt::Debug;
 

@@ -2,6 +2,7 @@
 //! values beside a map of std, raw tables without a free slot, owned tables, and the index. `odht_memory` has exhausted
 //! memory, tests/c the calls for C, and `odht_interface` each public name with its types.
 mod builds;
+mod checks;
 mod collected_items;
 mod first_table;
 mod full_tables;
@@ -15,4 +16,5 @@ mod owned_tables;
 mod probe_sequences;
 mod random;
 mod rejected_stores;
+mod slot_counts;
 mod walks;

@@ -2,7 +2,7 @@
 ghost use Rattle.std.specs.Prelude.{◌≤◌};
 ghost use Rattle.odht_base.specs.Load.{IsSlotCount};
 
-use crate::checks::{same_bytes, same_len};
+use crate::tests::checks::{same_bytes, same_len};
 use odht::bytes::{ByteArray, OwnedBytes};
 use odht::error::Error;
 use odht::hash::HashFn;

@@ -1,5 +1,5 @@
 //! Tables of an iterator's pairs, of each count up to 32, whose keys are far apart.
-use crate::checks::{same_len, same_pairs, same_value};
+use crate::tests::checks::{same_len, same_pairs, same_value};
 use odht::HashTableOwned;
 use odht::configs::U32ToU32;
 use odht::error::Error;

@@ -1,5 +1,5 @@
 //! The example of README.
-use crate::checks::same;
+use crate::tests::checks::same;
 use odht::bytes::Borrowed;
 use odht::configs::U64ToU32;
 use odht::error::Error;

@@ -1,8 +1,8 @@
 //! Raw tables with many slots, up to the last free one.
 ghost use Rattle.odht_base.specs.Load.{IsSlotCount};
 
-use crate::checks::holds_at;
-use crate::slot_counts::slots_for;
+use crate::tests::checks::holds_at;
+use crate::tests::slot_counts::slots_for;
 use odht::FxHashFn;
 use odht::error::Error;
 use odht::raw_table::{Entries, RawTable, RawTableMut};

@@ -1,6 +1,6 @@
 //! Orders of inserts of tables of lists that look random: one is found, it lists the occupied slots, and its inserts
 //! make the table again. Single tables, and tables that no inserts make, are in vectors/insert_orders.txt.
-use crate::checks::{same, same_bytes};
+use crate::tests::checks::{same, same_bytes};
 use odht::bytes::ByteArray;
 use odht::error::Error;
 use odht::laws::rebuilt;

@@ -1,5 +1,5 @@
 //! Lists that are inserted into a table of so many slots that keys are looked up ahead.
-use crate::checks::same_bytes;
+use crate::tests::checks::same_bytes;
 use crate::tests::random::Random;
 use odht::HashTableOwned;
 use odht::configs::Plain;

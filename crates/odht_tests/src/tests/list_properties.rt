@@ -1,6 +1,6 @@
 //! Properties of tables of lists that look random, for keys and values of many lengths.
-use crate::checks::{same, same_bytes, same_len};
 use crate::tests::builds::check_three_builds;
+use crate::tests::checks::{same, same_bytes, same_len};
 use crate::tests::insert_orders::check_insert_order;
 use crate::tests::random::Random;
 use odht::HashTableOwned;

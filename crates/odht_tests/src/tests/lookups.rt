@@ -1,6 +1,6 @@
 //! Lookups of many keys against one lookup after the other: of full batches and of others, of present and of absent
 //! keys, in a table with one free slot.
-use crate::checks::same_at;
+use crate::tests::checks::same_at;
 use odht::bytes::{Borrowed, ByteStore};
 use odht::configs::U32ToU32;
 use odht::error::Error;

@@ -2,7 +2,7 @@
 //! themselves.
 ghost use Rattle.std.specs.Prelude.{◌≡◌};
 
-use crate::checks::{same, same_at};
+use crate::tests::checks::{same, same_at};
 use odht::configs::{DirectU32ToU32, U32ToU32};
 use odht::error::Error;
 use odht::{Lossless, laws};

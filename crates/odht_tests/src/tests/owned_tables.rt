@@ -1,8 +1,8 @@
 //! Tables that own their bytes, with ample memory: growth, copies, and bytes that are rejected.
 ghost use Rattle.std.specs.Prelude.{◌≤◌};
 
-use crate::checks::{holds_at, same_answer, same_at, same_len, same_value};
-use crate::slot_counts::slots_for;
+use crate::tests::checks::{holds_at, same_answer, same_at, same_len, same_value};
+use crate::tests::slot_counts::slots_for;
 use odht::bytes::OwnedBytes;
 use odht::configs::U32ToU32;
 use odht::error::Error;

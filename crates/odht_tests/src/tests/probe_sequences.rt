@@ -3,7 +3,7 @@ ghost use Rattle.std.specs.Prelude.{◌≡◌, ◌%◌};
 ghost use Rattle.odht_base.specs.Load.{IsSlotCount};
 
 use crate::group_starts::group_starts;
-use crate::slot_counts::slots_for;
+use crate::tests::slot_counts::slots_for;
 use std::alloc::{AllocError, Global};
 use std::process::Abort;
 

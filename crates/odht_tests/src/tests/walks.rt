@@ -4,7 +4,7 @@ ghost use Rattle.odht_base.specs.Table.{Table, walk, count};
 ghost use Rattle.odht_base.specs.Valid.{IsImage};
 ghost use Rattle.odht_raw.specs.Walks.{decoded_all};
 
-use crate::checks::{same_answer, same_len, same_pairs};
+use crate::tests::checks::{same_answer, same_len, same_pairs};
 use odht::config::Coded;
 use odht::configs::U32ToU32;
 use odht::error::Error;
