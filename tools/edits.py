@@ -26,10 +26,15 @@ def edits_of(crate):
     return [f"{folder}/{name}" for folder in found for name in sorted(os.listdir(folder)) if name.endswith(".edit")]
 
 
-def crates():
-    """Returns the crates of crates.txt, in its order: each below those that use it."""
+def lines_of_crates():
+    """Returns the line of each crate in crates.txt, in its order: each below those that use it."""
     with open(f"{TOP}/crates.txt", encoding="utf-8") as lines:
-        return [it.split()[0].rstrip(":") for it in lines if ":" in it.partition("#")[0]]
+        read = [it.partition("#")[0].strip() for it in lines]
+    return {it.split()[0].rstrip(":"): it for it in read if ":" in it}
+
+
+def crates():
+    return [*lines_of_crates()]
 
 
 def fault_of(edit, crate):
@@ -72,12 +77,19 @@ def check():
 
 
 def copied(tree, chosen):
-    """Copies what is committed or about to be, with all edits of the chosen crates, and no others, where the gate looks."""
-    listed = ["git", "ls-files", "-z", "--cached", "--others", "--exclude-standard"]
-    files = subprocess.run(listed, cwd=TOP, stdout=subprocess.PIPE, check=True, text=True).stdout
+    """Copies the chosen crates and those below them, as committed or about to be, with all edits of the chosen and no others."""
+    lines = lines_of_crates()
+    needed = {*chosen, *(below for it in chosen for below in lines[it].partition(":")[2].split())}
+    os.makedirs(tree)
+    with open(f"{tree}/crates.txt", "w", encoding="utf-8") as listed:
+        listed.writelines(f"{line}\n" for name, line in lines.items() if name in needed)
+    shutil.copy(f"{TOP}/HANDLES", tree)
+    words = ["git", "ls-files", "-z", "--cached", "--others", "--exclude-standard", "crates"]
+    files = subprocess.run(words, cwd=TOP, stdout=subprocess.PIPE, check=True, text=True).stdout
     for file in filter(None, files.split("\0")):
-        if os.path.isfile(f"{TOP}/{file}") and not os.path.islink(f"{TOP}/{file}") and not file.endswith(".edit"):
-            os.makedirs(os.path.dirname(f"{tree}/{file}") or tree, exist_ok=True)
+        wanted = file.split("/")[1] in needed and not file.endswith(".edit")
+        if wanted and os.path.isfile(f"{TOP}/{file}") and not os.path.islink(f"{TOP}/{file}"):
+            os.makedirs(os.path.dirname(f"{tree}/{file}"), exist_ok=True)
             shutil.copy(f"{TOP}/{file}", f"{tree}/{file}")
     for crate in chosen:
         os.makedirs(f"{tree}/crates/{crate}/must-fail")
@@ -108,7 +120,7 @@ def run(names):
         copied(tree, chosen)
         os.chmod(room, 0o755)
         how = {"cwd": tree, "stdout": subprocess.PIPE, "stderr": subprocess.STDOUT, "text": True, "errors": "replace"}
-        gate = subprocess.Popen(["rt", "ci", *chosen], **how)
+        gate = subprocess.Popen(["rt", "ci"], **how)
         refused = pass_on(gate.stdout)
         status = gate.wait()
     failed = 0
