@@ -1,7 +1,9 @@
 -- Laws of the tables over bytes; those of plain tables are in `odht_base`, those of parts and of bytes in `odht_raw`.
 -- the errors of a new table
 pub mod NewRefusals
--- what an insert leaves on the bytes of a valid table below its maximum
+-- pairs that are placed in turn and end within the maximum
+pub mod FittingRuns
+-- an insert into the bytes of a table that cannot grow
 pub mod ViewInserts
 -- a growth, slot by slot
 pub mod Growths

@@ -4,10 +4,9 @@
 --                          the maximum of P, it has the slot count and load factor of P
 --     HasSizeOf P Q        Q has the slot count and the load factor of P
 --     IsRefusedAt c P items n    P is full for the key of item n
---     IsStoppedAt c items n B    on the bytes B an insert of item n may return `Full`
 --     IsFreshAfterInserts c p items B  B are the bytes of the fresh table for as many items at p percent, after the
 --                          inserts of the items into it by the owned table; it has not grown
-use Rattle.std.specs.Prelude.{◌≡◌, ℕ, ◌+◌, ◌≤◌, List, length, Option, Some, Err, slice_get}
+use Rattle.std.specs.Prelude.{◌≡◌, ℕ, ◌+◌, ◌≤◌, List, length, Option, Some, slice_get}
 use Rattle.odht_base.specs.Format.{Format}
 use Rattle.odht_base.specs.Insert.{run, insert_owned, IsFullFor}
 use Rattle.odht_base.specs.Load.{max_items}
@@ -15,9 +14,7 @@ use Rattle.odht_base.specs.Map.{map_of, last, overwritten}
 use Rattle.odht_base.specs.Table.{Pair, Table, fresh, slot_count, count}
 use Rattle.odht_base.specs.Valid.{IsImage}
 use Rattle.odht_header.specs.Coding.{Coding}
-use Rattle.odht_raw.specs.Frame.{IsFramed}
-pub use Rattle.odht_raw.specs.Runs.{encoded_all, IsFramedRun}
-use Rattle.odht_header.specs.declared.error.Error.TheVariants.{Full}
+pub use Rattle.odht_raw.specs.Runs.{encoded_all, IsFramedRun, IsStoppedAt}
 
 abbrev pub HasSizeOf : Table → Table → Type 0
 HasSizeOf P Q = (slot_count Q ≡ slot_count P) × (Q.factor ≡ P.factor)
@@ -33,11 +30,6 @@ pub record IsRefusedAt {K V : Type 0} (c : Coding K V) (P : Table) (items : List
   pub item : K × V
   pub at : slice_get items n ≡ Some item
   pub full : IsFullFor P (c.key_bytes item.0)
-
-pub record IsStoppedAt {K V : Type 0} (c : Coding K V) (items : List (K × V)) (n : ℕ) (B : List ℕ) : Type 0 where
-  pub item : K × V
-  pub at : slice_get items n ≡ Some item
-  pub framed : IsFramed c B item.0 item.1 (Err Full) B
 
 pub record IsFreshAfterInserts {K V : Type 0} (c : Coding K V) (percent : ℕ) (items : List (K × V)) (B : List ℕ) : Type 0 where
   pub start : Table

@@ -59,14 +59,16 @@ pub mod ReadyPositions
 pub mod PlacedFirst
 -- that search from its start to its end
 pub mod PendingSlots
+-- one insert with room for so many new entries
+pub mod Steps
 -- items inserted in turn into parts
 pub mod PartRuns
 -- and what that leaves of whole bytes
 pub mod JoinedRuns
 -- the bytes of a table cut into its parts, and joined again
 pub mod ListWrites
--- where a round of inserts ends
-pub mod RoundEnds
+-- one insert into the bytes of a table
+pub mod OneInsert
 -- where a search is expected to end
 pub mod Expected
 -- runs of items in turn

@@ -22,6 +22,8 @@ pub mod Frame
 pub mod SearchEnds
 -- what an insert into parts answers and leaves
 pub mod PartsInserts
+-- an insert into parts with room for so many new entries
+pub mod Steps
 -- items that are inserted in turn
 pub mod Runs
 -- the first slot that counts as free in a probe order

@@ -2,12 +2,13 @@
 --     EntryBytes           a number of slots, and the bytes of their entries
 --     entry_format kl vl   a format of these lengths, where the hash does not matter
 --     IsEntries kl vl E    E has the length of its slot count, and key and value have at most 255 bytes
+--     stored_in es ctrl    the entries es of as many slots as ctrl has control bytes without the mirror
 --     TableParts           control bytes with their mirror, and entries
 --     IsTableParts ml kl vl T   T has a slot count, and control bytes with their mirror and entries of this slot count;
 --                          a key is long enough for its hash
 --     IsZeros n bs         bs is n zeros, like key or value of a free slot's entry
 --     ReadGroups        control bytes with their mirror, and how many groups of sixteen of them were read
-use Rattle.std.specs.Prelude.{◌≡◌, ℕ, ◌+◌, ◌*◌, ◌≤◌, List, length, replicate}
+use Rattle.std.specs.Prelude.{◌≡◌, ℕ, ◌+◌, ◌-◌, ◌*◌, ◌≤◌, List, length, replicate}
 use Rattle.odht_base.specs.Format.{Format, format_of}
 use Rattle.odht_base.specs.Load.{IsSlotCount}
 
@@ -22,6 +23,9 @@ pub record IsEntries (key_len value_len : ℕ) (E : EntryBytes) : Type 0 where
   pub key_short : key_len ≤ 255
   pub value_short : value_len ≤ 255
   pub long : length E.bytes ≡ E.slots * (key_len + value_len)
+
+abbrev pub stored_in : List ℕ → List ℕ → EntryBytes
+stored_in es ctrl = record { slots = length ctrl - 16; bytes = es }
 
 pub record TableParts : Type 0 where
   pub control : List ℕ

@@ -6,23 +6,29 @@
 --                          Ok and of which n add an entry, may leave es' and ctrl'
 --     ArePartsOfRun F P ps n es' ctrl'  these are the parts of the placed table P after the pairs ps are placed in
 --                          turn, n of which have new keys
---     room_end P from m    where a round of inserts that begins at item `from` of m ends: it inserts as many items as
---                          the maximum of the table P exceeds its count, and no more than there are
---     header_end B from m  the same by the item count and the maximum of the header of B
---     IsStop ctrl s to i   inserts up to item `to` in turn may stop at i: it is `to`, or each of the s slots counts as
---                          occupied
---     IsPlacedBelow F P ps B  B is the bytes of the table P after the pairs ps, which are of F, are placed in turn; the
---                          count of P and the number of ps together are at most the maximum of P
-use Rattle.std.specs.Prelude.{◌≡◌, ℕ, ◌+◌, ◌-◌, ◌≤◌, min, ◌⊎◌, List, [], ◌∷◌, ◌++◌, length, map, All, Option, Some, None, Result, Ok}
+--     IsRunTo c m es ctrl items from i n es' ctrl'  the items from index `from` up to i are inserted in turn, with room
+--                          for m new entries, of which n are used
+--     IsRefusedIn c m items i es ctrl  an insert of item i with room for m may answer Full on these parts
+--     IsRun c m es ctrl items from to i n es' ctrl'  the same up to item `to`, or up to the first item i that may be
+--                          answered with Full
+--     IsAllPlaced F P ps B  B is the bytes of the table P after the pairs ps, which are of F, are placed in turn
+--     IsOnePlaced c P k v o B  B is the bytes of the table P after the pair of k and v is placed, and o is the value
+--                          that k had in P
+--     IsStoppedAt c items i B  on the bytes B an insert of item i may answer `Full`
+--     IsListRun c B items from i B'  inserts of the items from index `from` on in turn turn the accepted bytes B into
+--                          B', up to item i, which is behind the last or may be answered with Full; the image of a
+--                          table is turned into that of the table with the pairs placed
+use Rattle.std.specs.Prelude.{◌≡◌, ℕ, ◌+◌, ◌-◌, ◌≤◌, ◌⊎◌, List, [], ◌∷◌, ◌++◌, length, map, All, Option, Some, None, Result, Ok, Err, slice_get}
+use Rattle.std.specs.List.{slice_range}
 use Rattle.odht_base.specs.Format.{Format}
 use Rattle.odht_base.specs.Insert.{place_all}
-use Rattle.odht_base.specs.Load.{max_items}
-use Rattle.odht_base.specs.Decoded.{header_count}
-use Rattle.odht_base.specs.Table.{Pair, Table, slot_count, count}
+use Rattle.odht_base.specs.Table.{Pair, Table, count}
 use Rattle.odht_base.specs.Valid.{IsPairOf, IsPartsOf, IsImage}
-use Rattle.odht_header.specs.Coding.{Coding, encoded}
-use Rattle.odht_raw.specs.Frame.{IsFramed, PartsFrame, HasNoFreeSlot, header_maximum}
+use Rattle.odht_header.specs.Coding.{Coding, encoded, value_for}
+use Rattle.odht_raw.specs.Frame.{IsFramed, PartsFrame}
+use Rattle.odht_raw.specs.Steps.{StepFrame}
 use Rattle.odht_header.specs.declared.error.Error.{Error}
+use Rattle.odht_header.specs.declared.error.Error.TheVariants.{Full}
 
 abbrev pub encoded_all : {K V : Type 0} → Coding K V → List (K × V) → List Pair
 encoded_all c items = map (λ item. encoded c item.0 item.1) items
@@ -49,18 +55,39 @@ pub record ArePartsOfRun (F : Format) (P : Table) (ps : List Pair) (n : ℕ) (es
   pub parts : IsPartsOf F table es' ctrl'
   pub counted : count table ≡ count P + n
 
-abbrev pub room_end : Table → ℕ → ℕ → ℕ
-room_end P from m = min (from + (max_items (slot_count P) P.factor - count P)) m
+pub record IsRunTo {K V : Type 0} (c : Coding K V) (m : ℕ) (es ctrl : List ℕ) (items : List (K × V)) (from i n : ℕ) (es' ctrl' : List ℕ) : Type 0 where
+  pub few : from + n ≤ i
+  pub room : n ≤ m
+  pub run : IsPartsRun c es ctrl (slice_range items from i) n es' ctrl'
+  pub placed : (P : Table) → IsPartsOf c.format P es ctrl → ArePartsOfRun c.format P (encoded_all c (slice_range items from i)) n es' ctrl'
 
-abbrev pub header_end : List ℕ → ℕ → ℕ → ℕ
-header_end B from m = min (from + (header_maximum B - header_count B)) m
+pub record IsRefusedIn {K V : Type 0} (c : Coding K V) (m : ℕ) (items : List (K × V)) (i : ℕ) (es ctrl : List ℕ) : Type 0 where
+  pub item : K × V
+  pub at : slice_get items i ≡ Some item
+  pub frame : StepFrame c.format m es ctrl (encoded c item.0 item.1) (Err Full) es ctrl
 
-abbrev pub IsStop : List ℕ → ℕ → ℕ → ℕ → Type 0
-IsStop ctrl s to i = (i ≡ to) ⊎ HasNoFreeSlot ctrl s
+pub record IsRun {K V : Type 0} (c : Coding K V) (m : ℕ) (es ctrl : List ℕ) (items : List (K × V)) (from to i n : ℕ) (es' ctrl' : List ℕ) : Type 0 where
+  pub within : i ≤ to
+  pub inserted : IsRunTo c m es ctrl items from i n es' ctrl'
+  pub stop : (i ≡ to) ⊎ IsRefusedIn c (m - n) items i es' ctrl'
 
-pub record IsPlacedBelow (F : Format) (P : Table) (ps : List Pair) (B : List ℕ) : Type 0 where
+pub record IsAllPlaced (F : Format) (P : Table) (ps : List Pair) (B : List ℕ) : Type 0 where
   pub fits : All (IsPairOf F) ps
-  pub room : count P + length ps ≤ max_items (slot_count P) P.factor
   pub table : Table
   pub placed : place_all F P ps ≡ Some table
   pub image : IsImage F table B
+
+abbrev pub IsOnePlaced : {K V : Type 0} → Coding K V → Table → K → V → Option V → List ℕ → Type 0
+IsOnePlaced c P k v o B = (o ≡ value_for c P k) × IsAllPlaced c.format P (encoded c k v ∷ []) B
+
+pub record IsStoppedAt {K V : Type 0} (c : Coding K V) (items : List (K × V)) (i : ℕ) (B : List ℕ) : Type 0 where
+  pub item : K × V
+  pub at : slice_get items i ≡ Some item
+  pub framed : IsFramed c B item.0 item.1 (Err Full) B
+
+pub record IsListRun {K V : Type 0} (c : Coding K V) (B : List ℕ) (items : List (K × V)) (from i : ℕ) (B' : List ℕ) : Type 0 where
+  pub after : from ≤ i
+  pub within : i ≤ length items
+  pub placed : (P : Table) → IsImage c.format P B → IsAllPlaced c.format P (encoded_all c (slice_range items from i)) B'
+  pub framed : IsFramedRun c B (slice_range items from i) B'
+  pub stopped : (i ≡ length items) ⊎ IsStoppedAt c items i B'

@@ -5,23 +5,25 @@ use Rattle.std.proofs.lemmas.Option.{slice_get-get_or}
 use Rattle.std.specs.Prelude.{option_and_then}
 use Rattle.std.specs.Option.{option_or}
 use Rattle.std.specs.List.{slice_range}
-use Rattle.odht_base.specs.Format.{Format}
+use Rattle.odht_base.specs.Format.{Format, IsFormat}
 use Rattle.odht_base.specs.Insert.{place, run, insert_owned, IsFullFor}
 use Rattle.odht_base.specs.Load.{max_items, factor_of}
 use Rattle.odht_base.specs.Map.{map_of, last, overwritten}
 use Rattle.odht_base.specs.Table.{Pair, Table, count, slot_count, fresh}
 use Rattle.odht_base.specs.Valid.{IsImage, IsValid}
-use Rattle.odht_base.proofs.lemmas.FreshRuns.{PlacesBelow, run-place_all}
+use Rattle.odht_base.proofs.lemmas.FreshRuns.{PlacesBelow}
 use Rattle.odht_base.proofs.lemmas.Grown.{slot_count-place_all}
 use Rattle.odht_base.proofs.lemmas.Places.{slot_count-place, factor-place, count-place_le}
 use Rattle.odht_base.proofs.lemmas.FreeSlots.{fresh-slots, slot_count-empty, count-empty, max_items-holds}
 use Rattle.odht_base.proofs.lemmas.InsertRuns.{IsInsert, run-append, run-push, last-append, last-cons, map_of-run, factor-run, count-run}
 use Rattle.odht_header.specs.Coding.{Coding, encoded}
 use Rattle.odht_raw.specs.Frame.{IsFramed}
-use Rattle.odht_raw.specs.Runs.{IsPlacedBelow}
+use Rattle.odht_raw.specs.Runs.{IsAllPlaced}
 use Rattle.odht_raw.proofs.lemmas.PartRuns.{take-range}
 use Rattle.odht_header.specs.declared.error.Error.{Error}
 use Rattle.odht_header.specs.declared.error.Error.TheVariants.{Full}
+use Rattle.odht.proofs.lemmas.FittingRuns.{PlacesTaken, run-fitting}
+use Rattle.odht.proofs.lemmas.ViewInserts.{framed-full}
 use Rattle.odht.specs.Lists.{encoded_all, HasSizeOf, IsAfterInserts, IsFramedRun, IsFreshAfterInserts, IsRefusedAt, IsStoppedAt}
 
 -- no pairs leave the table as it is
@@ -59,9 +61,9 @@ module _ (F : Format) (insert : Table → Pair → Option Table) (is : IsInsert 
       go k true t = sym (ap (λ o. option_or o (map_of P k)) (latest k true t))
       go k false t = h.maps k ∙ sym (ap (λ o. option_or o (map_of P k)) (latest k false t))
 
-  -- pairs placed below the maximum give their keys these values
-  pub inserted_placed : (ps qs : List Pair) (B C : List ℕ) (h : IsAfterInserts F insert P ps B) → IsPlacedBelow F h.table qs C → IsAfterInserts F insert P (ps ++ qs) C
-  inserted_placed ps qs B C h more = record {
+  -- pairs that are placed give their keys these values
+  pub inserted_placed : (taken : PlacesTaken F insert) (ps qs : List Pair) (B C : List ℕ) (h : IsAfterInserts F insert P ps B) → IsAllPlaced F h.table qs C → IsAfterInserts F insert P (ps ++ qs) C
+  inserted_placed taken ps qs B C h more = record {
     table = more.table;
     runs = run-append insert P ps qs ∙ ap (option_and_then (λ R. run insert R qs)) h.runs ∙ runs;
     image = more.image;
@@ -73,7 +75,7 @@ module _ (F : Format) (insert : Table → Pair → Option Table) (is : IsInsert 
       ok = h.image.valid
 
       runs : run insert h.table qs ≡ Some more.table
-      runs = run-place_all F insert places h.table qs ok more.fits more.room ∙ more.placed
+      runs = run-fitting F insert taken h.table qs more.table ok more.fits more.placed more.image.valid
 
       -- the last value of a key, by whether it is among the later pairs
       over : (k : List ℕ) (o : Option (List ℕ)) → last qs k ≡ o → option_or (last qs k) (map_of h.table k) ≡ overwritten (map_of P) (last (ps ++ qs)) k
@@ -112,19 +114,9 @@ pub framed_more : {K V : Type 0} (c : Coding K V) (B C D : List ℕ) (items : Li
 framed_more {K = K} {V = V} c B C D items n item low at o before here =
     subst (λ (xs : List (K × V)). IsFramedRun c B xs D) (sym (take_more items n item low ∙ ap (λ t. take n items ++ t ∷ []) at)) (IsFramedRun.accepted (take n items) item.0 item.1 o C D before here)
 
--- the item whose insert failed
-pub refused_at : {K V : Type 0} (c : Coding K V) (P : Table) (items : List (K × V)) (n : ℕ) (item : K × V) → n < length items → get_or items n item ≡ item
-    → IsFullFor P (c.key_bytes item.0) → IsRefusedAt c P items n
-refused_at c P items n item low at full = record { item = item; at = slice_get-get_or items n item low ∙ ap (λ x. Some x) at; full = full }
-
--- the item whose insert failed, on any bytes
-pub stopped_at : {K V : Type 0} (c : Coding K V) (B C : List ℕ) (items : List (K × V)) (n : ℕ) (item : K × V) → n < length items → get_or items n item ≡ item
-    → C ≡ B → (r : Result (Option V) Error) → r ≡ Err Full → IsFramed c B item.0 item.1 r C → IsStoppedAt c items n C
-stopped_at c B C items n item low at same r full frame = record {
-  item = item;
-  at = slice_get-get_or items n item low ∙ ap (λ x. Some x) at;
-  framed = subst (λ b. IsFramed c b item.0 item.1 (Err Full) C) (sym same) (subst (λ a. IsFramed c B item.0 item.1 a C) full frame);
-}
+-- the item whose insert failed: the table is full for its key
+pub refused_here : {K V : Type 0} (c : Coding K V) → IsFormat c.format → (P : Table) (items : List (K × V)) (n : ℕ) (B : List ℕ) → IsImage c.format P B → IsStoppedAt c items n B → IsRefusedAt c P items n
+refused_here c fits P items n B is stopped = record { item = stopped.item; at = stopped.at; full = framed-full c B stopped.item.0 stopped.item.1 fits P is (Err Full) B refl stopped.framed }
 
 -- once each item is accepted, all are
 pub inserted_all : {K V : Type 0} (c : Coding K V) (insert : Table → Pair → Option Table) (P : Table) (items : List (K × V)) (n : ℕ) (B : List ℕ) → length items ≤ n

@@ -12,12 +12,9 @@ ghost use Rattle.odht.specs.Inserts.{IsInserted};
 ghost use Rattle.odht_raw.specs.Frame.{IsAccepted, IsFramed};
 
 use super::HashTable;
-use crate::bytes::{ByteArray, ByteStore, ByteStoreMut};
+use crate::bytes::{ByteStore, ByteStoreMut};
 use crate::config::{Coded, Config};
 use crate::error::Error;
-use crate::hash::HashFn;
-use crate::load::max_item_count_for;
-use crate::raw_table::{Scan, Search, search_hashed, tag_of};
 use crate::swisstable_group_query::Group;
 
 impl<C: Config, D: ByteStore> HashTable<C, D> {
@@ -97,32 +94,6 @@ impl<C: Config, D: ByteStoreMut> HashTable<C, D> {
         ensures same_store { self.new ≡ D.holding self.old (D.bytes self.new) }
         ensures accepted { IsAccepted ⟦<C as Coded>⟧.coding.format (D.bytes self.new) }
     {
-        let key = C::encode_key(key);
-        let value = C::encode_value(value);
-        let header = self.allocation.header();
-        let hash = C::H::hash(key.as_slice());
-        let (control, entries) = self.allocation.data_slices();
-        let mut scan = Scan::new(control, entries.len());
-        match search_hashed::<C::EncodedKey, C::EncodedValue, C::H, Q>(
-            &mut scan, &entries, &key, hash,
-        ) {
-            Search::Found(slot) => {
-                let old = entries.get(slot).value;
-                self.allocation.write_value(slot, &value);
-                Ok(Some(C::decode_value(&old)))
-            }
-            Search::Free(slot) => {
-                let count = header.item_count();
-                let max = max_item_count_for(header.slot_count(), header.max_load_factor());
-                if count >= max {
-                    return Err(Error::Full);
-                }
-                self.allocation
-                    .write_entry(slot, &key, &value, tag_of(hash));
-                self.allocation.set_item_count(count + 1);
-                Ok(None)
-            }
-            Search::Neither => Err(Error::Full),
-        }
+        self.allocation.insert_by::<Q>(key, value)
     }
 }

@@ -1,13 +1,11 @@
 //! Lists of inserts into the table over bytes of any kind.
 ghost use Rattle.std.specs.Prelude.{◌≡◌, ◌≤◌, ◌↔◌, length, take, IsOk, OnErr};
-ghost use Rattle.std.specs.List.{slice_range};
-ghost use Rattle.odht_base.specs.Decoded.{header_slots, controls_of};
 ghost use Rattle.odht_base.specs.Table.{Table};
 ghost use Rattle.odht_base.specs.Insert.{insert_view};
 ghost use Rattle.odht_base.specs.Valid.{IsImage};
 ghost use Rattle.odht.specs.Lists.{encoded_all, IsAfterInserts, IsFramedRun, IsRefusedAt, IsStoppedAt};
 ghost use Rattle.odht_raw.specs.Frame.{IsAccepted};
-ghost use Rattle.odht_raw.specs.Runs.{IsPlacedBelow, IsStop, room_end, header_end};
+ghost use Rattle.odht_raw.specs.Runs.{IsListRun};
 
 use super::HashTable;
 use crate::bytes::ByteStoreMut;
@@ -16,36 +14,21 @@ use crate::error::Error;
 use crate::items::Items;
 
 impl<C: Config, D: ByteStoreMut> HashTable<C, D> {
-    /// Inserts the items from index `from` on in their order, as many as there is room for below the maximum, and
-    /// returns the index of the first that was not inserted. On any bytes, with the count and the maximum of the
-    /// header, it stops earlier only where each slot counts as occupied.
+    /// Inserts the items from index `from` on in their order, up to the first whose insert fails, and returns the index
+    /// of this item; the number of items where there is none.
     #[inline(always)]
-    pub(crate) fn insert_below_maximum<I: Items<C::Key, C::Value>>(
+    pub(crate) fn insert_from<I: Items<C::Key, C::Value>>(
         &mut self,
         items: &I,
         from: usize,
     ) -> usize
         requires { from ≤ length (I.items items.now) }
-        ensures from { from ≤ result }
-        ensures bound { result ≤ length (I.items items.now) }
-        ensures number { let c = ⟦<C as Coded>⟧.coding
-            in (P : Table)
-            → IsImage c.format P (D.bytes self.old)
-            → result ≡ room_end P from (length (I.items items.now)) }
-        ensures number_on_any { let F = ⟦<C as Coded>⟧.coding.format
-            in let B = D.bytes self.new
-            in let all = header_end (D.bytes self.old) from (length (I.items items.now))
-            in IsStop (controls_of F B) (header_slots B) all result }
-        ensures placed { let c = ⟦<C as Coded>⟧.coding
-            in (P : Table)
-            → IsImage c.format P (D.bytes self.old)
-            → IsPlacedBelow c.format P (encoded_all c (slice_range (I.items items.now) from result)) (D.bytes self.new) }
-        ensures framed { let c = ⟦<C as Coded>⟧.coding
-            in IsFramedRun c (D.bytes self.old) (slice_range (I.items items.now) from result) (D.bytes self.new) }
+        ensures run { let c = ⟦<C as Coded>⟧.coding
+            in IsListRun c (D.bytes self.old) (I.items items.now) from result (D.bytes self.new) }
         ensures same_store { self.new ≡ D.holding self.old (D.bytes self.new) }
         ensures accepted { IsAccepted ⟦<C as Coded>⟧.coding.format (D.bytes self.new) }
     {
-        self.allocation.insert_below_maximum(items, from)
+        self.allocation.insert_items(items, from)
     }
 
     /// Inserts the items in their order, and stops at the first whose insert fails. Returns how many were accepted, and
@@ -102,18 +85,10 @@ impl<C: Config, D: ByteStoreMut> HashTable<C, D> {
             in OnErr result.1 (IsStoppedAt c (I.items items.now) result.0 (D.bytes self.new)) }
         ensures only_full { OnErr result.1 (result.1 ≡ Err Error.Full) }
     {
-        let mut accepted = 0;
-        'rounds: loop {
-            accepted = self.insert_below_maximum(items, accepted);
-            if accepted >= items.count() {
-                return (accepted, Ok(()));
-            }
-            // At the maximum a present key is given its value.
-            let (key, value) = items.at(accepted);
-            if let Err(refused) = self.insert(key, value) {
-                return (accepted, Err(refused));
-            }
-            accepted += 1;
+        let accepted = self.insert_from(items, 0);
+        if accepted < items.count() {
+            return (accepted, Err(Error::Full));
         }
+        (accepted, Ok(()))
     }
 }

@@ -71,14 +71,14 @@ impl<C: Config> HashTableOwned<C> {
         ensures memory { OnErr result.1 (result.1 ≡ Err Error.Memory) }
     {
         let mut accepted = 0;
-        'rounds: loop {
-            accepted = self.table.insert_below_maximum(items, accepted);
+        'growths: loop {
+            accepted = self.table.insert_from(items, accepted);
             if accepted >= items.count() {
                 return (accepted, Ok(()));
             }
-            // At the maximum a present key is given its value, and for an absent one the table grows.
+            // The table is at its maximum, and this key is absent.
             let (key, value) = items.at(accepted);
-            if let Err(refused) = self.insert(key, value) {
+            if let Err(refused) = self.insert_grown(key, value) {
                 return (accepted, Err(refused));
             }
             accepted += 1;

@@ -106,7 +106,7 @@ module _ (F : Format) (P : Table) (k es ctrl : List ℕ) (f : IsFormat F) (h : I
       ∙ counts_as_free-control_byte F P.cells i f h.placed.pairs
 
   -- a slot that counts as free is free
-  is_free_slot : (i : ℕ) → i < slot_count P → CountsAsFree ctrl i → is_free P.cells i ≡ true
+  pub is_free_slot : (i : ℕ) → i < slot_count P → CountsAsFree ctrl i → is_free P.cells i ≡ true
   is_free_slot i l (inl own) = sym (byte_is F f P es ctrl h i l) ∙ own
   is_free_slot i l (inr mirror) = sym (mirror_is i mirror.0) ∙ mirror.1
 

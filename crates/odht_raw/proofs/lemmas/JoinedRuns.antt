@@ -1,6 +1,6 @@
 -- A header, entries and control bytes joined, and what they are once items were inserted in turn into the parts.
 --     joined H n es ctrl   the bytes of the header H with the item count n, the entries es and the control bytes ctrl
-use Rattle.std.proofs.Common.{◌≡◌, ◌<◌, ◌≤◌, ◌+◌, ◌-◌, ◌*◌, ◌^◌, ◌∙◌, ◌++◌, ℕ, sym, ap, subst, refl, List, [], ◌∷◌, Option, Some, None, Result, Ok, take, drop, set, length, All, Bool, true, false, cond, ltb, arith, lit≤, length-drop, append_assoc, length-append, take_at, drop_at, length-set}
+use Rattle.std.proofs.Common.{◌≡◌, ◌<◌, ◌≤◌, ◌+◌, ◌-◌, ◌*◌, ◌^◌, ◌∙◌, ◌++◌, ℕ, sym, ap, subst, refl, List, [], ◌∷◌, Option, Some, None, Result, Ok, Err, take, drop, set, length, All, Bool, true, false, cond, ltb, arith, lit≤, length-drop, append_assoc, length-append, take_at, drop_at, length-set}
 use Rattle.std.specs.Prelude.{option_map}
 use Rattle.std.proofs.lemmas.List.{take-append-le, drop-append-le}
 use Rattle.odht_base.specs.Bytes.{bytes_at, overwritten_at}
@@ -17,11 +17,13 @@ use Rattle.odht_base.proofs.lemmas.ByteRanges.{bytes_at-between, bytes_at-take_f
 use Rattle.odht_base.proofs.lemmas.Grown.{place-IsInsert, slot_count-place_all}
 use Rattle.odht_base.proofs.lemmas.Numbers.{num-le_bytes, le_bytes-num_at}
 use Rattle.odht_base.proofs.lemmas.PartsOf.{slot_within}
-use Rattle.odht_base.proofs.lemmas.InsertRuns.{count-run, factor-run}
+use Rattle.odht_base.proofs.lemmas.InsertRuns.{factor-run}
 use Rattle.odht_base.proofs.lemmas.Writes.{with_count-append, with_value-append, with_pair-append}
 use Rattle.odht_header.specs.Coding.{Coding, encoded}
 use Rattle.odht_raw.specs.Frame.{IsAccepted, header_maximum, InsertFrame, PartsFrame, IsAbsent, HasNoFreeSlot, CountsAsFree, IsMissing}
-use Rattle.odht_raw.specs.Runs.{IsFramedRun, IsPartsRun, ArePartsOfRun, IsPlacedBelow, count_after}
+use Rattle.odht_raw.specs.Parts.{stored_in}
+use Rattle.odht_raw.specs.Steps.{StepFrame}
+use Rattle.odht_raw.specs.Runs.{IsFramedRun, IsPartsRun, ArePartsOfRun, IsAllPlaced, count_after}
 use Rattle.odht_header.specs.declared.error.Error.{Error}
 use Rattle.odht_raw.proofs.lemmas.NewTables.{bytes_at-overwritten_at, overwritten_at-same}
 use Rattle.odht_raw.proofs.lemmas.Accepted.{opening_refusal-same}
@@ -79,48 +81,80 @@ with_count-twice H n m h =
 
 -- ---- one insert
 module _ (F : Format) (H : List ℕ) (h : length H ≡ 32) (small : header_maximum H < 2 ^ 64) where
+  -- a key that is missing in the parts is absent in the joined bytes
+  absent_joined : (k : List ℕ) (n : ℕ) (es ctrl : List ℕ) → length es ≡ header_slots H * entry_len F → length ctrl ≡ header_slots H + 16
+      → IsMissing F (stored_in es ctrl) ctrl k → IsAbsent F (joined H n es ctrl) k
+  absent_joined k n es ctrl long mirrored missing =
+      let slots = joined-slots H n es ctrl h in
+      let same : length ctrl - 16 ≡ header_slots (joined H n es ctrl) = omega (arith, mirrored, slots) in
+      let controls = joined-controls F H n es ctrl h long in
+      let entry = joined-entries F H n es ctrl h long in
+      subst (λ (x : (ℕ × List ℕ) × List ℕ). IsMissing F (record { slots = x.0.0; bytes = x.0.1 }) x.1 k) (λ j. ((same j, sym entry j), sym controls j)) missing
+
   -- what an insert into the parts may do, it does to the joined bytes
   pub frame_joined : (p : Pair) (n : ℕ) (es ctrl : List ℕ) (a : Result (Option (List ℕ)) Error) (es' ctrl' : List ℕ)
-      → IsPairOf F p → n < header_maximum H → length es ≡ header_slots H * entry_len F → length ctrl ≡ header_slots H + 16
+      → ((o : Option (List ℕ)) → a ≡ Ok o → IsPairOf F p) → (a ≡ Ok None → n < header_maximum H) → length es ≡ header_slots H * entry_len F → length ctrl ≡ header_slots H + 16
       → PartsFrame F es ctrl p a es' ctrl' → InsertFrame F (joined H n es ctrl) p a (joined H (count_after n a) es' ctrl')
   frame_joined p n es ctrl a es' ctrl' fits room long mirrored (PartsFrame.no_slot none missing) =
       let slots = joined-slots H n es ctrl h in
       let same : length ctrl - 16 ≡ header_slots (joined H n es ctrl) = omega (arith, mirrored, slots) in
       let controls = joined-controls F H n es ctrl h long in
-      let entry = joined-entries F H n es ctrl h long in
-      let absent : IsAbsent F (joined H n es ctrl) p.key =
-      subst (λ (x : (ℕ × List ℕ) × List ℕ). IsMissing F (record { slots = x.0.0; bytes = x.0.1 }) x.1 p.key) (λ j. ((same j, sym entry j), sym controls j)) missing in
-      InsertFrame.no_slot (subst (λ c. HasNoFreeSlot c (header_slots (joined H n es ctrl))) (sym controls) (subst (HasNoFreeSlot ctrl) same none)) absent
+      InsertFrame.no_slot (subst (λ c. HasNoFreeSlot c (header_slots (joined H n es ctrl))) (sym controls) (subst (HasNoFreeSlot ctrl) same none)) (absent_joined p.key n es ctrl long mirrored missing)
   frame_joined p n es ctrl a es' ctrl' fits room long mirrored (PartsFrame.overwrote i low key) =
       let B = joined H n es ctrl in
+      let pair = fits (Some (slot_value F es i)) refl in
       let slots = joined-slots H n es ctrl h in
       let entry = joined-entries F H n es ctrl h long in
       let within : i < header_slots H = omega (arith, low, mirrored) in
       let value : slot_value F (entries_of F B) i ≡ slot_value F es i = ap (λ e. slot_value F e i) entry in
       let written : with_value F B i p.value ≡ joined H n (overwritten_at es (i * entry_len F + F.key_len) p.value) ctrl =
-      with_value-append F (header_slots H) (with_count H n) es ctrl i p.value (length-with_count H n es ctrl h) long within fits.value.len in
+      with_value-append F (header_slots H) (with_count H n) es ctrl i p.value (length-with_count H n es ctrl h) long within pair.value.len in
       subst (λ (x : List ℕ × List ℕ). InsertFrame F B p (Ok (Some x.0)) x.1) (λ j. (value j, written j))
       (InsertFrame.overwrote i (omega (arith, within, slots)) (ap (λ e. slot_key F e i) entry ∙ key))
   frame_joined p n es ctrl a es' ctrl' fits room long mirrored (PartsFrame.added i low free) =
       let B = joined H n es ctrl in
+      let pair = fits None refl in
       let slots = joined-slots H n es ctrl h in
-      let counted = joined-count H n es ctrl h (omega (arith, room, small)) in
+      let low_count = room refl in
+      let counted = joined-count H n es ctrl h (omega (arith, low_count, small)) in
       let within : i < header_slots H = omega (arith, low, mirrored) in
       let d = overwritten_at es (i * entry_len F) (p.key ++ p.value) ++ tagged ctrl i (tag F p.key) in
       let written : with_count (with_pair F (header_slots B) B i p) (header_count B + 1) ≡ with_count H (n + 1) ++ d =
       (λ j. with_count (with_pair F (slots j) B i p) (counted j + 1))
-      ∙ ap (λ t. with_count t (n + 1)) (with_pair-append F (header_slots H) (with_count H n) es ctrl i p (length-with_count H n es ctrl h) long mirrored within fits.key.len fits.value.len)
+      ∙ ap (λ t. with_count t (n + 1)) (with_pair-append F (header_slots H) (with_count H n) es ctrl i p (length-with_count H n es ctrl h) long mirrored within pair.key.len pair.value.len)
       ∙ with_count-append (with_count H n) d (n + 1) (omega (arith, length-with_count H n es ctrl h))
       ∙ ap (λ t. t ++ d) (with_count-twice H n (n + 1) h) in
       let most = joined-maximum H n es ctrl h in
       subst (InsertFrame F B p (Ok None)) written
-      (InsertFrame.added i (omega (arith, within, slots)) (subst (λ c. CountsAsFree c i) (sym (joined-controls F H n es ctrl h long)) free) (omega (arith, room, counted, most)))
+      (InsertFrame.added i (omega (arith, within, slots)) (subst (λ c. CountsAsFree c i) (sym (joined-controls F H n es ctrl h long)) free) (omega (arith, low_count, counted, most)))
+
+  -- and so does an insert with as much room as the header has
+  pub step_joined : (p : Pair) (n : ℕ) (es ctrl : List ℕ) (a : Result (Option (List ℕ)) Error) (es' ctrl' : List ℕ)
+      → ((o : Option (List ℕ)) → a ≡ Ok o → IsPairOf F p) → n < 2 ^ 64 → length es ≡ header_slots H * entry_len F → length ctrl ≡ header_slots H + 16
+      → StepFrame F (header_maximum H - n) es ctrl p a es' ctrl' → InsertFrame F (joined H n es ctrl) p a (joined H (count_after n a) es' ctrl')
+  step_joined p n es ctrl a es' ctrl' fits fit long mirrored (StepFrame.no_room none missing) =
+      let counted = joined-count H n es ctrl h fit in
+      let most = joined-maximum H n es ctrl h in
+      InsertFrame.full (omega (arith, none, counted, most)) (absent_joined p.key n es ctrl long mirrored missing)
+  step_joined p n es ctrl a es' ctrl' fits fit long mirrored (StepFrame.framed _ _ _ room frame) =
+      frame_joined p n es ctrl a es' ctrl' fits (λ e. (let r = room e in omega (arith, r))) long mirrored frame
 
 -- ---- inserts in turn
 -- an answer adds one entry at most
 count_after-le : (n : ℕ) (o : Option (List ℕ)) → count_after n (Ok o) ≤ n + 1
 count_after-le n None = omega arith
 count_after-le n (Some v) = omega arith
+
+-- and takes none away
+count_after-ge : (n : ℕ) (o : Option (List ℕ)) → n ≤ count_after n (Ok o)
+count_after-ge n None = omega arith
+count_after-ge n (Some v) = omega arith
+
+-- an entry that is added had room
+room_for : (most m n : ℕ) (a : Result (Option (List ℕ)) Error) → a ≡ Ok None → count_after n a ≤ most - m → m + n < most
+room_for most m n (Ok None) e room = omega (arith, room)
+room_for most m n (Ok (Some v)) e room = cc
+room_for most m n (Err x) e room = cc
 
 -- to a larger count as to a smaller
 pub count_after-add : (m n : ℕ) (o : Option (List ℕ)) → count_after (m + n) (Ok o) ≡ m + count_after n (Ok o)
@@ -154,7 +188,7 @@ frame-lengths F p es ctrl a es' ctrl' s fits long mirrored (PartsFrame.added i l
 
 pub run_joined : {K V : Type 0} (c : Coding K V) (H : List ℕ) (m : ℕ) (es ctrl : List ℕ) → length H ≡ 32 → header_maximum H < 2 ^ 64
     → length es ≡ header_slots H * entry_len c.format → length ctrl ≡ header_slots H + 16
-    → (items : List (K × V)) (n : ℕ) (es' ctrl' : List ℕ) → ((x : ℕ) → x < length items → m + x < header_maximum H)
+    → (items : List (K × V)) (n : ℕ) (es' ctrl' : List ℕ) → n ≤ header_maximum H - m
     → IsPartsRun c es ctrl items n es' ctrl' → IsJoinedRun c H m es ctrl items n es' ctrl'
 run_joined c H m es ctrl h small long mirrored items n es' ctrl' room (IsPartsRun.start) =
     let none : m ≡ m + 0 = omega arith in
@@ -166,11 +200,11 @@ run_joined c H m es ctrl h small long mirrored items n es' ctrl' room (IsPartsRu
     }
 run_joined {K = K} {V = V} c H m es ctrl h small long mirrored items n es' ctrl' room (IsPartsRun.accepted before k v x o es1 ctrl1 es2 ctrl2 run fits frame) =
     let more : length (before ++ (k, v) ∷ []) ≡ length before + 1 = length-append before ((k, v) ∷ []) in
-    let ih = run_joined c H m es ctrl h small long mirrored before x es1 ctrl1 (λ y l. room y (omega (arith, l, more))) run in
+    let ih = run_joined c H m es ctrl h small long mirrored before x es1 ctrl1 (omega (arith, room, count_after-ge x o)) run in
     let p = encoded c k v in
     let long1 = ih.entries_len ∙ long in
     let mirrored1 = ih.control_len ∙ mirrored in
-    let there = frame_joined c.format H h small p (m + x) es1 ctrl1 (Ok o) es2 ctrl2 fits (room x (omega (arith, ih.few, more))) long1 mirrored1 frame in
+    let there = frame_joined c.format H h small p (m + x) es1 ctrl1 (Ok o) es2 ctrl2 (λ w e. fits) (λ e. room_for (header_maximum H) m x (Ok o) e room) long1 mirrored1 frame in
     let sizes = frame-lengths c.format p es1 ctrl1 (Ok o) es2 ctrl2 (header_slots H) fits long1 mirrored1 frame in
     record {
       framed = subst (λ y. IsFramedRun c (joined H m es ctrl) (before ++ (k, v) ∷ []) (joined H y es2 ctrl2)) (count_after-add m x o)
@@ -203,16 +237,14 @@ accepted_joined F H n X Y h same is =
 
 -- the image of a table, with the count and the parts of the table after a run, is that table's
 pub placed_joined : (F : Format) (P : Table) (ps : List Pair) (n : ℕ) (H es' ctrl' : List ℕ) → IsValid F P → H ≡ header_bytes F (slot_count P) (count P) P.factor → All (IsPairOf F) ps
-    → count P + length ps ≤ max_items (slot_count P) P.factor → ArePartsOfRun F P ps n es' ctrl' → IsPlacedBelow F P ps (joined H (count P + n) es' ctrl')
+    → count P + n ≤ max_items (slot_count P) P.factor → ArePartsOfRun F P ps n es' ctrl' → IsAllPlaced F P ps (joined H (count P + n) es' ctrl')
 unfolding image
 placed_joined F P ps n H es' ctrl' ok front fit room h =
     let Q = h.table in
     let slots = slot_count-place_all F P Q ps ok.placed fit h.placed in
     let factor = factor-run F (IsPlaced F) (place F) (place-IsInsert F) P Q ps ok.placed fit h.placed in
-    let few = count-run F (IsPlaced F) (place F) (place-IsInsert F) P Q ps ok.placed fit h.placed in
     record {
       fits = fit;
-      room = room;
       table = Q;
       placed = h.placed;
       image = record {
@@ -220,7 +252,7 @@ placed_joined F P ps n H es' ctrl' ok front fit room h =
           placed = h.parts.placed;
           factor_low = omega (arith, ok.factor_low, factor);
           factor_high = omega (arith, ok.factor_high, factor);
-          room = subst (λ s. count Q ≤ max_items s Q.factor) (sym slots) (subst (λ f. count Q ≤ max_items (slot_count P) f) (sym factor) (omega (arith, few, room)));
+          room = subst (λ s. count Q ≤ max_items s Q.factor) (sym slots) (subst (λ f. count Q ≤ max_items (slot_count P) f) (sym factor) (omega (arith, h.counted, room)));
         };
         bytes = ap (λ t. with_count t (count P + n) ++ (es' ++ ctrl')) front
             ∙ (λ i. header_bytes F (sym slots i) (sym h.counted i) (sym factor i) ++ (h.parts.entries_are i ++ h.parts.controls_are i));

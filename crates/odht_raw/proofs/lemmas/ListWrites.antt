@@ -1,27 +1,28 @@
 -- The bytes of a table cut into header, entries and control bytes, and what they are once a list was inserted.
 --     IsCut F B H es ctrl  the accepted bytes B are the header H, the entries es and the control bytes ctrl
-use Rattle.std.proofs.Common.{◌≡◌, ◌<◌, ◌≤◌, ◌+◌, ◌-◌, ◌*◌, ◌^◌, ◌∙◌, ◌++◌, ℕ, inl, inr, sym, ap, ap₂, subst, List, take, drop, length, All, arith, lit≤, refl, append_assoc, length-append, length-take, length-drop, take_at, drop_at, take-append-drop}
-use Rattle.std.proofs.lemmas.List.{length-map, take-take}
+use Rattle.std.proofs.Common.{◌≡◌, ◌<◌, ◌≤◌, ◌+◌, ◌-◌, ◌*◌, ◌^◌, ◌∙◌, ◌++◌, ℕ, sym, ap, ap₂, subst, List, take, drop, length, All, arith, lit≤, refl, append_assoc, length-append, length-take, length-drop, take_at, drop_at, take-append-drop, Ok, Err}
+use Rattle.std.proofs.lemmas.List.{take-take}
 use Rattle.std.proofs.lemmas.List.Elements.{All-take}
 use Rattle.odht_base.specs.Bytes.{bytes_at}
 use Rattle.odht_base.specs.Format.{Format, entry_len}
 use Rattle.odht_base.specs.Image.{header_bytes, entries, controls, image}
 use Rattle.odht_base.specs.Load.{max_items}
 use Rattle.odht_base.specs.Numbers.{num}
-use Rattle.odht_base.specs.Decoded.{header_slots, header_count, header_factor, controls_of}
-use Rattle.odht_base.specs.Table.{Table, slot_count, count}
-use Rattle.odht_base.specs.Valid.{IsImage, IsPartsOf}
+use Rattle.odht_base.specs.Decoded.{header_slots, header_count, header_factor}
+use Rattle.odht_base.specs.Table.{Pair, Table, slot_count, count}
+use Rattle.odht_base.specs.Valid.{IsImage, IsPairOf, IsPartsOf}
 use Rattle.odht_base.specs.Writes.{with_count}
 use Rattle.odht_base.proofs.lemmas.ByteRanges.{bytes_at-take_front}
 use Rattle.odht_base.proofs.lemmas.Fits.{IsSized-IsPlaced}
-use Rattle.odht_base.proofs.lemmas.Image.{header_count-image, header_slots-image}
+use Rattle.odht_base.proofs.lemmas.Image.{header_count-image, header_slots-image, header_factor-image}
 use Rattle.odht_base.proofs.lemmas.Parts.{length-header_bytes, length-entries}
 use Rattle.odht_header.specs.Coding.{Coding, encoded}
-use Rattle.odht_raw.specs.Frame.{IsAccepted, HasNoFreeSlot, header_maximum}
-use Rattle.odht_raw.specs.Runs.{encoded_all, IsFramedRun, IsPartsRun, ArePartsOfRun, IsPlacedBelow, IsStop}
+use Rattle.odht_raw.specs.Frame.{IsAccepted, InsertFrame, header_maximum}
+use Rattle.odht_raw.specs.Steps.{StepFrame}
+use Rattle.odht_raw.specs.Runs.{IsFramedRun, IsPartsRun, ArePartsOfRun, IsAllPlaced, IsRefusedIn, IsStoppedAt}
 use Rattle.odht_raw.proofs.lemmas.Accepted.{accepted_len}
-use Rattle.odht_raw.proofs.lemmas.JoinedRuns.{joined, joined-slots, joined-controls, IsJoinedRun, run_joined, length-with_count, with_count-by_header, accepted_joined, placed_joined}
-use Rattle.odht_raw.proofs.lemmas.PartRuns.{run_fits}
+use Rattle.odht_raw.proofs.lemmas.JoinedRuns.{joined, IsJoinedRun, run_joined, step_joined, length-with_count, with_count-by_header, accepted_joined, placed_joined}
+use Rattle.odht_header.specs.declared.error.Error.TheVariants.{Full}
 
 pub record IsCut (F : Format) (B H es ctrl : List ℕ) : Type 0 where
   pub accepted : IsAccepted F B
@@ -81,17 +82,27 @@ cut-image F B H es ctrl cut P is =
       },
     )
 
+-- a header with its own count is itself
+pub kept-cut : (F : Format) (B H es ctrl : List ℕ) → IsCut F B H es ctrl → All (λ x. x < 256) B → with_count H (header_count B) ≡ H
+kept-cut F B H es ctrl cut bytes =
+    ap (with_count H) (sym cut.count) ∙ with_count-by_header H cut.head (subst (All (λ x. x < 256)) (sym cut.front) (All-take (λ x. x < 256) 32 B bytes))
+
+-- joined with its own count it is the bytes
+pub joined-cut : (F : Format) (B H es ctrl : List ℕ) → IsCut F B H es ctrl → All (λ x. x < 256) B → joined H (header_count B) es ctrl ≡ B
+joined-cut F B H es ctrl cut bytes =
+    ap (λ t. t ++ (es ++ ctrl)) (kept-cut F B H es ctrl cut bytes) ∙ sym cut.whole
+
 -- what a run of inserts into the parts leaves, with the new count in the header
 module _ {K V : Type 0} (c : Coding K V) (B H es ctrl : List ℕ) (cut : IsCut c.format B H es ctrl) (items : List (K × V)) (n : ℕ) (H' es' ctrl' : List ℕ)
     (written : H' ≡ with_count H (header_count B + n)) (run : IsPartsRun c es ctrl items n es' ctrl')
-    (room : (x : ℕ) → x < length items → header_count B + x < header_maximum B) (small : header_maximum B < 2 ^ 64) where
+    (room : n ≤ header_maximum B - header_count B) (counted : header_count B < 2 ^ 64) (small : header_maximum B < 2 ^ 64) where
   most : header_maximum H ≡ header_maximum B
   most = cut-maximum c.format B H es ctrl cut
 
   known : IsJoinedRun c H (header_count B) es ctrl items n es' ctrl'
   known =
       let same = most in
-      run_joined c H (header_count B) es ctrl cut.head (omega (arith, small, same)) cut.long cut.mirrored items n es' ctrl' (λ x l. (let r = room x l in omega (arith, r, same))) run
+      run_joined c H (header_count B) es ctrl cut.head (omega (arith, small, same)) cut.long cut.mirrored items n es' ctrl' (omega (arith, room, same)) run
 
   now : joined H (header_count B + n) es' ctrl' ≡ H' ++ es' ++ ctrl'
   now = ap (λ t. t ++ (es' ++ ctrl')) (sym written) ∙ sym (append_assoc H' es' ctrl')
@@ -99,11 +110,7 @@ module _ {K V : Type 0} (c : Coding K V) (B H es ctrl : List ℕ) (cut : IsCut c
   -- is what inserts of the items in turn may leave
   pub list_framed : All (λ x. x < 256) B → IsFramedRun c B items (H' ++ es' ++ ctrl')
   list_framed bytes =
-      let here : joined H (header_count B) es ctrl ≡ B =
-      ap (λ m. joined H m es ctrl) (sym cut.count)
-      ∙ ap (λ t. t ++ (es ++ ctrl)) (with_count-by_header H cut.head (subst (All (λ x. x < 256)) (sym cut.front) (All-take (λ x. x < 256) 32 B bytes)))
-      ∙ sym cut.whole in
-      subst (λ b. IsFramedRun c b items (H' ++ es' ++ ctrl')) here (subst (IsFramedRun c (joined H (header_count B) es ctrl) items) now known.framed)
+      subst (λ b. IsFramedRun c b items (H' ++ es' ++ ctrl')) (joined-cut c.format B H es ctrl cut bytes) (subst (IsFramedRun c (joined H (header_count B) es ctrl) items) now known.framed)
 
   -- is accepted
   pub list_accepted : IsAccepted c.format (H' ++ es' ++ ctrl')
@@ -118,28 +125,27 @@ module _ {K V : Type 0} (c : Coding K V) (B H es ctrl : List ℕ) (cut : IsCut c
       let head : length H' ≡ 32 = ap length written ∙ length-with_count H (header_count B + n) es ctrl cut.head in
       omega (arith, length-append (H' ++ es') ctrl', length-append H' es', head, known.entries_len, known.control_len, ap length cut.whole, length-append H (es ++ ctrl), length-append es ctrl, cut.head)
 
-  -- with as many control bytes
-  pub list_control : length ctrl' ≡ header_slots B + 16
-  list_control = known.control_len ∙ cut.mirrored ∙ ap (λ s. s + 16) cut.slots
+  -- what may be answered with Full by the parts, may be by the bytes
+  pub list_stopped : (all : List (K × V)) (i : ℕ) → IsRefusedIn c (header_maximum B - header_count B - n) all i es' ctrl' → IsStoppedAt c all i (H' ++ es' ++ ctrl')
+  list_stopped all i refused = record {
+    item = refused.item;
+    at = refused.at;
+    framed = (Err Full, refl, subst (λ b. InsertFrame c.format b (encoded c refused.item.0 refused.item.1) (Err Full) b) now
+        (step_joined c.format H cut.head (omega (arith, small, most)) (encoded c refused.item.0 refused.item.1) (header_count B + n) es' ctrl' (Err Full) es' ctrl'
+        (λ o e. absurd (let both : Err Full ≡ Ok o = e in cc)) (omega (arith, counted, small, room)) (known.entries_len ∙ cut.long) (known.control_len ∙ cut.mirrored)
+        (subst (λ m. StepFrame c.format m es' ctrl' (encoded c refused.item.0 refused.item.1) (Err Full) es' ctrl') left refused.frame)));
+  }
+    where
+      left : header_maximum B - header_count B - n ≡ header_maximum H - (header_count B + n)
+      left = omega (arith, most)
 
-  -- where the inserts may stop by the parts, they may by the bytes
-  pub list_stop : (to i : ℕ) → IsStop ctrl' (length ctrl' - 16) to i → IsStop (controls_of c.format (H' ++ es' ++ ctrl')) (header_slots (H' ++ es' ++ ctrl')) to i
-  list_stop to i (inl e) = inl e
-  list_stop to i (inr none) =
-      let m = header_count B + n in
-      let slots = joined-slots H m es' ctrl' cut.head in
-      let controls = joined-controls c.format H m es' ctrl' cut.head (known.entries_len ∙ cut.long) in
-      let same : length ctrl' - 16 ≡ header_slots (joined H m es' ctrl') = omega (arith, known.control_len, cut.mirrored, slots) in
-      inr (subst (λ b. HasNoFreeSlot (controls_of c.format b) (header_slots b)) now
-      (subst (λ x. HasNoFreeSlot x (header_slots (joined H m es' ctrl'))) (sym controls) (subst (HasNoFreeSlot ctrl') same none)))
-
-  -- and on the image of a table that of the table with the pairs placed
-  pub list_placed : (P : Table) → IsImage c.format P B → count P + length items ≤ max_items (slot_count P) P.factor
-      → ArePartsOfRun c.format P (encoded_all c items) n es' ctrl' → IsPlacedBelow c.format P (encoded_all c items) (H' ++ es' ++ ctrl')
-  list_placed P is few placed =
-      let F = c.format in
-      let sized = IsSized-IsPlaced F P is.valid.placed in
-      let by_header : header_count B ≡ count P = ap header_count is.bytes ∙ header_count-image F P sized in
-      let pairs : length (encoded_all c items) ≡ length items = length-map items (λ (t : K × V). encoded c t.0 t.1) in
-      subst (IsPlacedBelow F P (encoded_all c items)) (ap (λ m. joined H (m + n) es' ctrl') (sym by_header) ∙ now)
-      (placed_joined F P (encoded_all c items) n H es' ctrl' is.valid (cut-image F B H es ctrl cut P is).0 (run_fits c es ctrl items n es' ctrl' run) (omega (arith, few, pairs)) placed)
+-- new parts and a new count on the image of a table are that of the table with the pairs placed
+pub list_placed : (F : Format) (B H es ctrl : List ℕ) → IsCut F B H es ctrl → (n : ℕ) (H' es' ctrl' : List ℕ) → H' ≡ with_count H (header_count B + n) → n ≤ header_maximum B - header_count B
+    → (P : Table) → IsImage F P B → (ps : List Pair) → All (IsPairOf F) ps → ArePartsOfRun F P ps n es' ctrl' → IsAllPlaced F P ps (H' ++ es' ++ ctrl')
+list_placed F B H es ctrl cut n H' es' ctrl' written room P is ps fits placed =
+    let sized = IsSized-IsPlaced F P is.valid.placed in
+    let by_header : header_count B ≡ count P = ap header_count is.bytes ∙ header_count-image F P sized in
+    let most_is : header_maximum B ≡ max_items (slot_count P) P.factor =
+    ap header_maximum is.bytes ∙ (λ i. max_items (header_slots-image F P sized i) (header_factor-image F P is.valid.factor_high i)) in
+    subst (IsAllPlaced F P ps) (ap (λ m. joined H (m + n) es' ctrl') (sym by_header) ∙ ap (λ t. t ++ (es' ++ ctrl')) (sym written) ∙ sym (append_assoc H' es' ctrl'))
+    (placed_joined F P ps n H es' ctrl' is.valid (cut-image F B H es ctrl cut P is).0 fits (omega (arith, room, by_header, most_is, is.valid.room)) placed)

@@ -10,17 +10,19 @@ use Rattle.std.specs.Result.{result_map_both}
 use Rattle.odht_base.specs.Format.{Format}
 use Rattle.odht_base.specs.Insert.{place}
 use Rattle.odht_base.specs.Map.{map_of}
-use Rattle.odht_base.specs.Decoded.{slot_value}
 use Rattle.odht_base.specs.Table.{Pair, Table, count}
-use Rattle.odht_base.specs.Valid.{IsPairOf}
+use Rattle.odht_base.specs.Valid.{IsPairOf, IsPartsOf}
 use Rattle.odht_base.proofs.lemmas.Options.{some_same}
 use Rattle.odht_base.proofs.lemmas.Places.{count-place}
 use Rattle.odht_base.proofs.lemmas.InsertRuns.{run-push}
 use Rattle.odht_header.specs.Coding.{Coding, encoded}
-use Rattle.odht_raw.specs.Frame.{HasNoFreeSlot, PartsFrame, IsPartsFramed}
+use Rattle.odht_raw.specs.Frame.{PartsFrame, IsPartsFramed}
+use Rattle.odht_raw.specs.Steps.{IsStepFramed}
 use Rattle.odht_raw.specs.PartsInserts.{AnswersFormer, ArePartsPlaced}
-use Rattle.odht_raw.specs.Runs.{encoded_all, count_after, IsPartsRun, ArePartsOfRun}
+use Rattle.odht_raw.specs.Runs.{encoded_all, count_after, IsPartsRun, ArePartsOfRun, IsRunTo, IsRefusedIn}
 use Rattle.odht_header.specs.declared.error.Error.{Error}
+use Rattle.odht_raw.proofs.lemmas.RunsInTurn.{range-append, encoded-append, run_then, placed_then}
+use Rattle.odht_raw.proofs.lemmas.Steps.{step_added, step_accepted}
 
 -- an item that is read is the item there
 pub read_item : {X : Type 0} (xs : List X) (n : ℕ) (x : X) → n < length xs → slice_get xs n ≡ Some x → get_or xs n x ≡ x
@@ -80,17 +82,6 @@ run_more {K = K} {V = V} c es0 ctrl0 items k v n es ctrl es' ctrl' before fits {
         (IsPartsRun.accepted items k v n o es ctrl es' ctrl' before fits frame)
     go (Err x) e frame = absurd (let both : Ok old ≡ Err x = sym ok ∙ e in cc)
 
--- an item that is answered with an error found no free slot
-pub refused_full : (F : Format) (es ctrl : List ℕ) (p : Pair) (es' ctrl' : List ℕ) {W : Type 0} (f : List ℕ → W) (r : Result (Option W) Error) (e : Error)
-    → r ≡ Err e → IsPartsFramed F f es ctrl p r es' ctrl' → HasNoFreeSlot ctrl' (length ctrl' - 16)
-refused_full F es ctrl p es' ctrl' {W = W} f r e err framed = go es ctrl es' ctrl' framed.0 framed.1 framed.2
-  where
-    go : (es ctrl es' ctrl' : List ℕ) (a : Result (Option (List ℕ)) Error) → r ≡ result_map_both (option_map f) (λ e. e) a → PartsFrame F es ctrl p a es' ctrl'
-        → HasNoFreeSlot ctrl' (length ctrl' - 16)
-    go es ctrl es' ctrl' a is (PartsFrame.no_slot none missing) = none
-    go es ctrl es' ctrl' a is (PartsFrame.overwrote i low key) = absurd (let both : Err e ≡ Ok (Some (f (slot_value F es i))) = sym err ∙ is in cc)
-    go es ctrl es' ctrl' a is (PartsFrame.added i low free) = absurd (let both : Err e ≡ Ok None = sym err ∙ is in cc)
-
 -- one more item on the parts of a placed table
 pub placed_more : (F : Format) (P : Table) (ps : List Pair) (n : ℕ) (es ctrl : List ℕ) (h : ArePartsOfRun F P ps n es ctrl) (p : Pair) (es' ctrl' : List ℕ)
     → {W : Type 0} (f : List ℕ → W) (r : Result (Option W) Error) (old : Option W) → r ≡ Ok old → AnswersFormer F f h.table p r es' ctrl'
@@ -116,3 +107,73 @@ run_fits c es ctrl items n es' ctrl' (IsPartsRun.start) = All-nil (IsPairOf c.fo
 run_fits c es ctrl items n es' ctrl' (IsPartsRun.accepted before k v m o es1 ctrl1 es2 ctrl2 run fits frame) =
     subst (All (IsPairOf c.format)) (sym (encoded_push c before k v)) (All-append (IsPairOf c.format) (encoded_all c before) (encoded c k v ∷ []) (run_fits c es ctrl before m es1 ctrl1 run)
     (All-cons (IsPairOf c.format) (encoded c k v) [] fits (All-nil (IsPairOf c.format))))
+
+-- ---- a run with room for so many new entries
+module _ {K V : Type 0} (c : Coding K V) (m : ℕ) (es0 ctrl0 : List ℕ) (items : List (K × V)) (from : ℕ) where
+  -- no items
+  pub run_to_none : IsRunTo c m es0 ctrl0 items from from 0 es0 ctrl0
+  run_to_none =
+      let none = range_none items from in
+      record {
+        few = omega arith;
+        room = omega arith;
+        run = subst (λ (xs : List (K × V)). IsPartsRun c es0 ctrl0 xs 0 es0 ctrl0) (sym none) IsPartsRun.start;
+        placed = λ P parts.
+            subst (λ (xs : List (K × V)). ArePartsOfRun c.format P (encoded_all c xs) 0 es0 ctrl0) (sym none)
+            (record { table = P; placed = refl; parts = parts; counted = omega arith });
+      }
+
+  -- one more item
+  pub run_to_more : (i n : ℕ) (es ctrl : List ℕ) (h : IsRunTo c m es0 ctrl0 items from i n es ctrl) (k : K) (v : V) → i < length items → slice_get items i ≡ Some (k, v)
+      → IsPairOf c.format (encoded c k v) → {W : Type 0} (f : List ℕ → W) (r : Result (Option W) Error) (old : Option W) (es' ctrl' : List ℕ) → r ≡ Ok old
+      → IsStepFramed c.format f (m - n) es ctrl (encoded c k v) r es' ctrl'
+      → ((P : Table) (parts : IsPartsOf c.format P es0 ctrl0) → AnswersFormer c.format f (h.placed P parts).table (encoded c k v) r es' ctrl')
+      → (n' : ℕ) → n' ≡ cond (is_none old) (n + 1) n → IsRunTo c m es0 ctrl0 items from (i + 1) n' es' ctrl'
+  run_to_more i n es ctrl h k v low at fits {W = W} f r old es' ctrl' ok framed answers n' counted =
+      let more = range_more items from i (k, v) (omega (arith, h.few)) low at in
+      let before = slice_range items from i in
+      record {
+        few = (bound old refl (λ e. step_added c.format f (m - n) (encoded c k v) r es ctrl es' ctrl' (ok ∙ ap Ok e) framed)).0;
+        room = (bound old refl (λ e. step_added c.format f (m - n) (encoded c k v) r es ctrl es' ctrl' (ok ∙ ap Ok e) framed)).1;
+        run =
+            subst (λ x. IsPartsRun c es0 ctrl0 (slice_range items from (i + 1)) x es' ctrl') (sym counted)
+            (subst (λ (xs : List (K × V)). IsPartsRun c es0 ctrl0 xs (cond (is_none old) (n + 1) n) es' ctrl') (sym more)
+            (run_more c es0 ctrl0 before k v n es ctrl es' ctrl' h.run fits f r old ok (step_accepted c.format f (m - n) (encoded c k v) r es ctrl es' ctrl' old ok framed)));
+        placed = λ P parts.
+            subst (λ x. ArePartsOfRun c.format P (encoded_all c (slice_range items from (i + 1))) x es' ctrl') (sym counted)
+            (subst (λ (ps : List Pair). ArePartsOfRun c.format P ps (cond (is_none old) (n + 1) n) es' ctrl') (sym (ap (encoded_all c) more ∙ encoded_push c before k v))
+            (placed_more c.format P (encoded_all c before) n es ctrl (h.placed P parts) (encoded c k v) es' ctrl' f r old ok (answers P parts)));
+      }
+    where
+      bound : (o : Option W) → o ≡ old → (old ≡ None → 0 < m - n) → (from + n' ≤ i + 1) × (n' ≤ m)
+      bound None e some =
+          let left = some (sym e) in
+          let count : n' ≡ n + 1 = counted ∙ ap (λ (x : Option W). cond (is_none x) (n + 1) n) (sym e) in
+          (omega (arith, count, h.few), omega (arith, count, left))
+      bound (Some w) e some =
+          let count : n' ≡ n = counted ∙ ap (λ (x : Option W). cond (is_none x) (n + 1) n) (sym e) in
+          (omega (arith, count, h.few), omega (arith, count, h.room))
+
+-- a run, and one behind it with the room that it leaves
+pub run_to_then : {K V : Type 0} (c : Coding K V) (m : ℕ) (es ctrl : List ℕ) (items : List (K × V)) (a b d n : ℕ) (es1 ctrl1 : List ℕ) (l : ℕ) (es2 ctrl2 : List ℕ)
+    → IsRunTo c m es ctrl items a b n es1 ctrl1 → IsRunTo c (m - n) es1 ctrl1 items b d l es2 ctrl2 → IsRunTo c m es ctrl items a d (n + l) es2 ctrl2
+run_to_then {K = K} {V = V} c m es ctrl items a b d n es1 ctrl1 l es2 ctrl2 first second = record {
+  few = omega (arith, first.few, second.few);
+  room = omega (arith, first.room, second.room);
+  run = subst (λ (xs : List (K × V)). IsPartsRun c es ctrl xs (n + l) es2 ctrl2) (range-append items a b d before after)
+      (run_then c es ctrl (slice_range items a b) n es1 ctrl1 (slice_range items b d) l es2 ctrl2 first.run second.run);
+  placed = λ P parts.
+      let h = first.placed P parts in
+      subst (λ (ps : List Pair). ArePartsOfRun c.format P ps (n + l) es2 ctrl2) (sym (encoded-append c (slice_range items a b) (slice_range items b d)) ∙ ap (encoded_all c) (range-append items a b d before after))
+      (placed_then c.format P (encoded_all c (slice_range items a b)) n es1 ctrl1 h (encoded_all c (slice_range items b d)) l es2 ctrl2 (second.placed h.table h.parts));
+}
+  where
+    before : a ≤ b
+    before = omega (arith, first.few)
+
+    after : b ≤ d
+    after = omega (arith, second.few)
+
+-- what is refused, with the room written in two ways
+pub refused_room : {K V : Type 0} (c : Coding K V) (m m' : ℕ) (items : List (K × V)) (i : ℕ) (es ctrl : List ℕ) → m ≡ m' → IsRefusedIn c m items i es ctrl → IsRefusedIn c m' items i es ctrl
+refused_room c m m' items i es ctrl same refused = subst (λ x. IsRefusedIn c x items i es ctrl) same refused

@@ -45,20 +45,3 @@ placed_then F P ps n es1 ctrl1 h qs m es2 ctrl2 t = record {
   parts = t.parts;
   counted = omega (arith, t.counted, h.counted);
 }
-
--- ---- of neighbouring pieces of a list
-module _ {K V : Type 0} (c : Coding K V) (items : List (K × V)) (a b d : ℕ) (first : a ≤ b) (second : b ≤ d) where
-  pub range_run_then : (es ctrl : List ℕ) (n : ℕ) (es1 ctrl1 : List ℕ) (m : ℕ) (es2 ctrl2 : List ℕ)
-      → IsPartsRun c es ctrl (slice_range items a b) n es1 ctrl1 → IsPartsRun c es1 ctrl1 (slice_range items b d) m es2 ctrl2
-      → IsPartsRun c es ctrl (slice_range items a d) (n + m) es2 ctrl2
-  range_run_then es ctrl n es1 ctrl1 m es2 ctrl2 run more =
-      subst (λ (xs : List (K × V)). IsPartsRun c es ctrl xs (n + m) es2 ctrl2) (range-append items a b d first second)
-      (run_then c es ctrl (slice_range items a b) n es1 ctrl1 (slice_range items b d) m es2 ctrl2 run more)
-
-  pub range_placed_then : (P : Table) (n : ℕ) (es1 ctrl1 : List ℕ) (h : ArePartsOfRun c.format P (encoded_all c (slice_range items a b)) n es1 ctrl1) (m : ℕ) (es2 ctrl2 : List ℕ)
-      → ArePartsOfRun c.format h.table (encoded_all c (slice_range items b d)) m es2 ctrl2
-      → ArePartsOfRun c.format P (encoded_all c (slice_range items a d)) (n + m) es2 ctrl2
-  range_placed_then P n es1 ctrl1 h m es2 ctrl2 more =
-      let whole = sym (encoded-append c (slice_range items a b) (slice_range items b d)) ∙ ap (encoded_all c) (range-append items a b d first second) in
-      subst (λ (ps : List Pair). ArePartsOfRun c.format P ps (n + m) es2 ctrl2) whole
-      (placed_then c.format P (encoded_all c (slice_range items a b)) n es1 ctrl1 h (encoded_all c (slice_range items b d)) m es2 ctrl2 more)

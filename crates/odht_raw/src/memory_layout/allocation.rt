@@ -17,8 +17,7 @@ use crate::error::Error;
 use crate::raw_table::RawTable;
 use std::marker::{Model, PhantomData};
 
-mod batches;
-mod lists;
+mod inserts;
 mod writing;
 
 // How many slots are checked when a view is opened.

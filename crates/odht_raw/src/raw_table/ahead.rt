@@ -7,16 +7,18 @@ ghost use Rattle.odht_base.specs.Valid.{IsPartsOf};
 ghost use Rattle.odht_raw.specs.SearchResults.{answer};
 ghost use Rattle.odht_raw.specs.Expected.{EndsIfFree, IsAhead};
 ghost use Rattle.odht_raw.specs.PartLengths.{ArePairLengths, ArePartLengths};
-ghost use Rattle.odht_raw.specs.Parts.{EntryBytes};
-ghost use Rattle.odht_raw.specs.PartsInserts.{IsPartsInsert, IsInsertChange};
-ghost use Rattle.odht_raw.specs.SearchEnds.{IsEnd};
+ghost use Rattle.odht_raw.specs.Parts.{stored_in};
+ghost use Rattle.odht_raw.specs.PartsInserts.{AnswersFormer};
+ghost use Rattle.odht_raw.specs.SearchEnds.{IsAfter, IsEnd};
+ghost use Rattle.odht_raw.specs.Steps.{IsStepChange};
 
-use super::writes::insert_at;
-use super::{Entries, EntryMetadata, Scan, Search, is_empty_or_deleted, search_hashed, tag_of};
+use super::group_search::whole_search;
+use super::insert::insert_at;
+use super::{Entries, EntryMetadata, Search, is_empty_or_deleted, tag_of};
 use crate::bytes::ByteArray;
 use crate::error::Error;
 use crate::hash::HashFn;
-use crate::swisstable_group_query::{Group, GroupQuery, REFERENCE_GROUP_SIZE};
+use crate::swisstable_group_query::{Group, REFERENCE_GROUP_SIZE};
 
 /// The hash of a key, and the slot where a pair with the key is placed, where the first group search at its home slot
 /// finds it; else the slot count: where a key may have to be compared, or where none of these control bytes counts as
@@ -47,32 +49,36 @@ pub(crate) fn expected_slot<K: ByteArray, V: ByteArray, H: HashFn, Q: Group>(
     }
 }
 
-/// `RawTableMut::insert` of a key with this hash, whose search was expected to end at this slot. Where the slot still
-/// counts as free the pair is written there; else the whole search is made.
+/// `insert_step` of a key with this hash, whose search was expected to end at this slot. Where there is room and the
+/// slot still counts as free the pair is written there; else the whole search is made.
 #[inline(always)]
-pub(crate) fn insert_expected<K: ByteArray, V: ByteArray, H: HashFn>(
+pub(crate) fn insert_ahead<K: ByteArray, V: ByteArray, H: HashFn>(
     control: &mut [EntryMetadata],
     entries: &mut [u8],
     key: K,
     value: V,
     hash: u32,
     slot: usize,
+    room: usize,
 ) -> Result<Option<V>, Error>
     requires lengths { ArePartLengths H.MIN_LEN K.LEN V.LEN (length entries.old) (length control.old) }
     requires hash { hash ≡ H.hash (K.bytes key) }
-    ensures placed { let p : Pair = record { key = K.bytes key; value = V.bytes value }
+    ensures placed { let F = format_of K.LEN V.LEN H.hash
+        in let p : Pair = record { key = K.bytes key; value = V.bytes value }
         in (P : Table)
-        → IsPartsOf (format_of K.LEN V.LEN H.hash) P entries.old control.old
-        → EndsIfFree (format_of K.LEN V.LEN H.hash) P p.key slot
-        → IsPartsInsert (format_of K.LEN V.LEN H.hash) V.of_bytes P p result entries.new control.new }
-    ensures any { let p : Pair = record { key = K.bytes key; value = V.bytes value }
-        in IsInsertChange (format_of K.LEN V.LEN H.hash) V.of_bytes entries.old control.old p result entries.new control.new }
+        → IsPartsOf F P entries.old control.old
+        → EndsIfFree F P p.key slot
+        → AnswersFormer F V.of_bytes P p result entries.new control.new }
+    ensures any { let F = format_of K.LEN V.LEN H.hash
+        in let p : Pair = record { key = K.bytes key; value = V.bytes value }
+        in IsStepChange F V.of_bytes room entries.old control.old p result entries.new control.new }
 {
-    let end = expected_end::<K, V, H>(control, entries, &key, hash, slot);
-    insert_at::<K, V, H>(control, entries, key, value, tag_of(hash), end)
+    let end = expected_end::<K, V, H>(control, entries, &key, hash, slot, room);
+    insert_at::<K, V, H>(control, entries, key, value, tag_of(hash), end, room)
 }
 
-// Where the search for the key ends. It was expected to end at this slot.
+// Where the search for the key ends. It was expected to end at this slot. Without room it is the whole search, which
+// alone says what comes before its end.
 #[inline(always)]
 fn expected_end<K: ByteArray, V: ByteArray, H: HashFn>(
     control: &[EntryMetadata],
@@ -80,42 +86,27 @@ fn expected_end<K: ByteArray, V: ByteArray, H: HashFn>(
     key: &K,
     hash: u32,
     slot: usize,
+    room: usize,
 ) -> Search
     requires lengths { ArePartLengths H.MIN_LEN K.LEN V.LEN (length entries.now) (length control.now) }
     requires hash { hash ≡ H.hash (K.bytes key.now) }
-    ensures placed { (P : Table)
-        → IsPartsOf (format_of K.LEN V.LEN H.hash) P entries.now control.now
-        → EndsIfFree (format_of K.LEN V.LEN H.hash) P (K.bytes key.now) slot
-        → result ≡ answer (format_of K.LEN V.LEN H.hash) P.cells (K.bytes key.now) }
-    ensures any { let stored : EntryBytes = record { slots = length control.now - 16; bytes = entries.now }
-        in IsEnd (format_of K.LEN V.LEN H.hash) stored control.now (K.bytes key.now) result }
-{
-    if slot < control.len() - REFERENCE_GROUP_SIZE {
-        if is_empty_or_deleted(control[slot]) {
-            return Search::Free(slot);
-        }
-    }
-    whole_search::<K, V, H>(control, entries, key, hash)
-}
-
-// The whole search, which few inserts need, so it is not inlined.
-#[inline(never)]
-fn whole_search<K: ByteArray, V: ByteArray, H: HashFn>(
-    control: &[EntryMetadata],
-    entries: &[u8],
-    key: &K,
-    hash: u32,
-) -> Search
-    requires lengths { ArePartLengths H.MIN_LEN K.LEN V.LEN (length entries.now) (length control.now) }
-    requires hash { hash ≡ H.hash (K.bytes key.now) }
-    ensures placed { (P : Table)
-        → IsPartsOf (format_of K.LEN V.LEN H.hash) P entries.now control.now
-        → result ≡ answer (format_of K.LEN V.LEN H.hash) P.cells (K.bytes key.now) }
-    ensures any { let stored : EntryBytes = record { slots = length control.now - 16; bytes = entries.now }
-        in IsEnd (format_of K.LEN V.LEN H.hash) stored control.now (K.bytes key.now) result }
+    ensures placed { let F = format_of K.LEN V.LEN H.hash
+        in (P : Table)
+        → IsPartsOf F P entries.now control.now
+        → EndsIfFree F P (K.bytes key.now) slot
+        → result ≡ answer F P.cells (K.bytes key.now) }
+    ensures any { let F = format_of K.LEN V.LEN H.hash
+        in IsEnd F (stored_in entries.now control.now) control.now (K.bytes key.now) result }
+    ensures earlier { let F = format_of K.LEN V.LEN H.hash
+        in room ≡ 0 → IsAfter F (stored_in entries.now control.now) control.now (K.bytes key.now) result }
 {
     let slots = control.len() - REFERENCE_GROUP_SIZE;
-    let stored: Entries<'_, K, V> = Entries::new(entries, slots);
-    let mut scan = Scan::new(control, slots);
-    search_hashed::<K, V, H, GroupQuery>(&mut scan, &stored, key, hash)
+    if room > 0 {
+        if slot < slots {
+            if is_empty_or_deleted(control[slot]) {
+                return Search::Free(slot);
+            }
+        }
+    }
+    whole_search::<K, V, H>(control, &Entries::new(entries, slots), key, hash)
 }

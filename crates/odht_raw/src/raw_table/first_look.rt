@@ -5,14 +5,14 @@ ghost use Rattle.odht_base.specs.Format.{format_of};
 ghost use Rattle.odht_base.specs.Map.{map_of};
 ghost use Rattle.odht_base.specs.Table.{Table};
 ghost use Rattle.odht_base.specs.Valid.{IsPartsOf};
-ghost use Rattle.odht_raw.specs.SearchResults.{answer};
 ghost use Rattle.odht_raw.specs.FirstLooks.{first_look_of};
-ghost use Rattle.odht_raw.specs.SearchEnds.{IsBesideKey, IsEnd};
+ghost use Rattle.odht_raw.specs.SearchEnds.{IsBesideKey};
 
-use super::{RawTable, Scan, Search, search_hashed, tag_of};
+use super::group_search::whole_search;
+use super::{RawTable, Search, tag_of};
 use crate::bytes::ByteArray;
 use crate::hash::HashFn;
-use crate::swisstable_group_query::{Group, GroupQuery, REFERENCE_GROUP_SIZE, lanes};
+use crate::swisstable_group_query::{Group, REFERENCE_GROUP_SIZE, lanes};
 use std::marker::Model;
 
 /// The hash of a key, and what the group of control bytes at its home slot has: the matches of the tag, and the first
@@ -74,24 +74,10 @@ impl<'a, K: ByteArray, V: ByteArray, H: HashFn> RawTable<'a, K, V, H> {
         if group.any_empty() {
             return None;
         }
-        match self.search_far(key, hash) {
+        match whole_search::<K, V, H>(self.control, &self.entries, key, hash) {
             Search::Found(slot) => Some(self.entries.get(slot).value),
             Search::Free(_) => None,
             Search::Neither => None,
         }
-    }
-
-    // The search from its first group on, for a key whose search does not end within its first look.
-    #[inline(never)]
-    fn search_far(&self, key: &K, hash: u32) -> Search
-        requires { hash ≡ H.hash (K.bytes key.now) }
-        ensures on_placed { (P : Table)
-            → IsPartsOf (format_of K.LEN V.LEN H.hash) P self.now.entries.bytes self.now.control
-            → result ≡ answer (format_of K.LEN V.LEN H.hash) P.cells (K.bytes key.now) }
-        ensures slot { let F = format_of K.LEN V.LEN H.hash
-            in IsEnd F self.now.entries self.now.control (K.bytes key.now) result }
-    {
-        let mut scan = Scan::new(self.control, self.entries.len());
-        search_hashed::<K, V, H, GroupQuery>(&mut scan, &self.entries, key, hash)
     }
 }

@@ -13,7 +13,7 @@ ghost use Rattle.odht_raw.specs.SearchSteps.{IsGroupAt, IsLook};
 use super::{Entries, EntryMetadata, ProbeSeq, Scan, Search, tag_of};
 use crate::bytes::ByteArray;
 use crate::hash::HashFn;
-use crate::swisstable_group_query::{Group, REFERENCE_GROUP_SIZE};
+use crate::swisstable_group_query::{Group, GroupQuery, REFERENCE_GROUP_SIZE};
 
 /// Searches for the key group by group along its probe order, and stops at the first slot that is free or holds it.
 ///
@@ -93,6 +93,30 @@ pub fn search_hashed<K: ByteArray, V: ByteArray, H: HashFn, Q: Group>(
         }
         probe.advance(mask);
     }
+}
+
+/// The whole search of a key whose hash is known, for callers whose first look did not end it. It is not inlined, since
+/// few searches need it.
+#[inline(never)]
+pub(super) fn whole_search<K: ByteArray, V: ByteArray, H: HashFn>(
+    control: &[EntryMetadata],
+    entries: &Entries<'_, K, V>,
+    key: &K,
+    hash: u32,
+) -> Search
+    requires slots { IsSlotCount entries.now.slots }
+    requires lengths { AreSearchLengths H.MIN_LEN K.LEN V.LEN entries.now.slots (length control.now) }
+    requires hash { hash ≡ H.hash (K.bytes key.now) }
+    ensures on_placed { (P : Table)
+        → IsPartsOf (format_of K.LEN V.LEN H.hash) P entries.now.bytes control.now
+        → result ≡ answer (format_of K.LEN V.LEN H.hash) P.cells (K.bytes key.now) }
+    ensures slot { let F = format_of K.LEN V.LEN H.hash
+        in IsEnd F entries.now control.now (K.bytes key.now) result }
+    ensures earlier { let F = format_of K.LEN V.LEN H.hash
+        in IsAfter F entries.now control.now (K.bytes key.now) result }
+{
+    let mut scan = Scan::new(control, entries.len());
+    search_hashed::<K, V, H, GroupQuery>(&mut scan, entries, key, hash)
 }
 
 // Searches the sixteen slots from `start` on, whose control bytes are `bytes`, in pieces of the group search's size.

@@ -12,7 +12,7 @@ ghost use Rattle.odht_raw.specs.PartLengths.{AreSearchLengths, ArePartLengths};
 ghost use Rattle.odht_raw.specs.PartsInserts.{IsPartsInsert, IsInsertChange};
 ghost use Rattle.odht_raw.specs.SearchEnds.{IsPlainEnd, IsBesideKey};
 
-use super::writes::insert_at;
+use super::insert::insert_at;
 use super::{Entries, EntryMetadata, Search, is_empty_or_deleted, tag_of};
 use crate::bytes::ByteArray;
 use crate::error::Error;
@@ -69,7 +69,15 @@ pub fn plain_insert<K: ByteArray, V: ByteArray, H: HashFn>(
     let hash = H::hash(key.as_slice());
     let stored: Entries<'_, K, V> = Entries::new(entries, slots);
     let end = plain_search::<K, V, H>(control, &stored, &key, hash);
-    insert_at::<K, V, H>(control, entries, key, value, tag_of(hash), end)
+    insert_at::<K, V, H>(
+        control,
+        entries,
+        key,
+        value,
+        tag_of(hash),
+        end,
+        usize::MAX,
+    )
 }
 
 // Searches for the key with this hash slot by slot along its probe order, and stops at the first slot that is free or

@@ -5,12 +5,11 @@ ghost use Rattle.odht_base.specs.Format.{format_of};
 ghost use Rattle.odht_base.specs.Table.{Pair, Table};
 ghost use Rattle.odht_base.specs.Valid.{IsPartsOf};
 ghost use Rattle.odht_raw.specs.PartLengths.{ArePartLengths};
-ghost use Rattle.odht_raw.specs.PartsInserts.{IsPartsInsert, IsInsertChange};
 ghost use Rattle.odht_raw.specs.PartsPlacings.{IsNewTo, IsNewPlacing, IsAddition};
 
 use super::free_search::first_free;
-use super::writes::{insert_at, write_entry};
-use super::{Entries, EntryMetadata, RawTable, Scan, search_hashed, tag_of};
+use super::insert::{fill_slot, insert_step};
+use super::{Entries, EntryMetadata, RawTable, tag_of};
 use crate::bytes::ByteArray;
 use crate::error::Error;
 use crate::hash::HashFn;
@@ -74,7 +73,8 @@ impl<'c, 'e, K: ByteArray, V: ByteArray, H: HashFn> RawTableMut<'c, 'e, K, V, H>
     pub fn insert_by<Q: Group>(&mut self, key: K, value: V) -> Result<Option<V>, Error>
         ensures { IsMutInsert self.old key value result self.new }
     {
-        insert_parts::<K, V, H, Q>(self.control, self.entries, key, value)
+        // As many entries may be added as there are free slots.
+        insert_step::<K, V, H, Q>(self.control, self.entries, key, value, usize::MAX)
     }
 
     /// Writes the pair into the first free slot of its key's probe order. No key is compared, so it is for a key that
@@ -101,31 +101,6 @@ impl<'c, 'e, K: ByteArray, V: ByteArray, H: HashFn> RawTableMut<'c, 'e, K, V, H>
     }
 }
 
-// `insert_by` on the slices themselves, since a scan that borrows a slice from `self` cannot be kept while `self` is
-// written.
-#[inline(always)]
-fn insert_parts<K: ByteArray, V: ByteArray, H: HashFn, Q: Group>(
-    control: &mut [EntryMetadata],
-    entries: &mut [u8],
-    key: K,
-    value: V,
-) -> Result<Option<V>, Error>
-    requires { ArePartLengths H.MIN_LEN K.LEN V.LEN (length entries.old) (length control.old) }
-    ensures placed { let p : Pair = record { key = K.bytes key; value = V.bytes value }
-        in (P : Table)
-        → IsPartsOf (format_of K.LEN V.LEN H.hash) P entries.old control.old
-        → IsPartsInsert (format_of K.LEN V.LEN H.hash) V.of_bytes P p result entries.new control.new }
-    ensures any { let p : Pair = record { key = K.bytes key; value = V.bytes value }
-        in IsInsertChange (format_of K.LEN V.LEN H.hash) V.of_bytes entries.old control.old p result entries.new control.new }
-{
-    let slots = control.len() - REFERENCE_GROUP_SIZE;
-    let hash = H::hash(key.as_slice());
-    let stored: Entries<'_, K, V> = Entries::new(entries, slots);
-    let mut scan = Scan::new(control, slots);
-    let end = search_hashed::<K, V, H, Q>(&mut scan, &stored, &key, hash);
-    insert_at::<K, V, H>(control, entries, key, value, tag_of(hash), end)
-}
-
 // `place_by` on the slices themselves.
 #[inline(always)]
 fn place_parts<K: ByteArray, V: ByteArray, H: HashFn, Q: Group>(
@@ -147,7 +122,7 @@ fn place_parts<K: ByteArray, V: ByteArray, H: HashFn, Q: Group>(
     let Some(slot) = first_free::<Q>(control, hash) else {
         return Err(Error::Full);
     };
-    write_entry::<K, V, H>(control, entries, &key, &value, tag_of(hash), slot);
+    fill_slot::<K, V, H>(control, entries, &key, &value, tag_of(hash), slot);
     Ok(())
 }
 

@@ -6,8 +6,8 @@ use Rattle.odht_header.specs.Coding.{coding_of}
 use Rattle.odht.specs.Lists.{encoded_all, IsAfterInserts}
 use Rattle.odht.proofs.hash_table_owned.HashTableOwned.insert_items.Given as goal
 
-abbrev pub invariant-rounds : goal.invariant-rounds
-invariant-rounds g l =
+abbrev pub invariant-growths : goal.invariant-growths
+invariant-growths g l =
     let c = coding_of g.C.EncodedKey.ByteArray.LEN g.C.EncodedKey.ByteArray.bytes g.C.EncodedKey.ByteArray.of_bytes g.C.EncodedValue.ByteArray.LEN g.C.EncodedValue.ByteArray.bytes g.C.EncodedValue.ByteArray.of_bytes g.C.H.HashFn.hash g.C.Config.encode_key g.C.Config.encode_value g.C.Config.decode_key g.C.Config.decode_value in
     let items = g.I.Items.items l.items in
     record {
@@ -15,5 +15,5 @@ invariant-rounds g l =
       inserted : (P : Table) → IsImage c.format P l.fn.self → IsAfterInserts c.format (insert_owned c.format) P (encoded_all c (take l.accepted items)) l.self;
     }
 
-abbrev pub decreases-rounds : goal.decreases-rounds
-decreases-rounds g l = length (g.I.Items.items l.items) - l.accepted
+abbrev pub decreases-growths : goal.decreases-growths
+decreases-growths g l = length (g.I.Items.items l.items) - l.accepted

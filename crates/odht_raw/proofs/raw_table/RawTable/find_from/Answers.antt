@@ -7,6 +7,7 @@ use Rattle.std.specs.Prelude.{option_map, is_some}
 use Rattle.odht_base.proofs.lemmas.SlotCounts.{bit_and-slots, few_slots}
 use Rattle.odht_raw.specs.FirstLooks.{FirstLookOf, first_look_of, home_group}
 use Rattle.odht_raw.specs.Parts.{TableParts}
+use Rattle.odht_base.specs.Table.{Table}
 use Rattle.odht_base.specs.Valid.{IsPartsOf}
 use Rattle.odht_raw.proofs.lemmas.GroupLooks.{taken-first, taken-next, taken-all}
 use Rattle.odht_raw.proofs.lemmas.Inserts.{found_value}
@@ -14,7 +15,7 @@ use Rattle.odht_raw.proofs.lemmas.Lookups.{answer-Found, answer-Free, answer-Nei
 use Rattle.odht_header.proofs.lemmas.Formats.{IsFormat-format_of}
 use Rattle.odht_raw.proofs.lemmas.FirstLooks.{matches, home-lt, match-lt, first_look-found, first_look-absent}
 use Rattle.odht_raw.proofs.raw_table.RawTable.find_from.Given.{Over}
-use Rattle.odht_raw.proofs.raw_table.RawTable.find_from.Goals.{After-first_match}
+use Rattle.odht_raw.proofs.raw_table.RawTable.find_from.Goals.{After-first_match, After-any_empty}
 use Rattle.odht_raw.proofs.raw_table.RawTable.find_from.Goals as goal
 
 abbrev format : Over → Format
@@ -115,11 +116,16 @@ returns-in-Found-clause-on_placed g c P h =
     let F = format g in
     let k : List ℕ = g.K.ByteArray.bytes c.args.key.now in
     let parts = subst (λ (t : TableParts). IsPartsOf F P t.entries.bytes t.control) (sym c.self.view_is) h in
-    let at = answer-Found F P k h.placed c.in-Found.slot (c.in-Found.ensures.on_placed P h) in
+    let at = answer-Found F P k h.placed c.in-Found.slot (c.in-Found.ensures.on_placed P parts) in
     ap Some (c.get.ensures.value ∙ ap g.V.ByteArray.of_bytes (found_value F P _ _ parts k c.in-Found.slot at)) ∙ sym (ap (option_map g.V.ByteArray.of_bytes) at.value)
 
+-- the parts of the table, as the search reads them
+read : (g : Over) (c : After-any_empty g) (P : Table) → IsPartsOf (format g) P c.args.self.now.entries.bytes c.args.self.now.control
+    → IsPartsOf (format g) P c.self.inside.entries.bytes c.self.inside.control.now
+read g c P h = subst (λ (t : TableParts). IsPartsOf (format g) P t.entries.bytes t.control) (sym c.self.view_is) h
+
 pub returns-in-Free-clause-on_placed : goal.returns-in-Free-clause-on_placed
-returns-in-Free-clause-on_placed g c P h = sym (ap (option_map g.V.ByteArray.of_bytes) (answer-Free (format g) P _ h.placed _ (c.in-Free.ensures.on_placed P h)).value)
+returns-in-Free-clause-on_placed g c P h = sym (ap (option_map g.V.ByteArray.of_bytes) (answer-Free (format g) P _ h.placed _ (c.in-Free.ensures.on_placed P (read g (goal.at.returns-in-Free-clause-on_placed g c).After-any_empty P h))).value)
 
 pub returns-in-Neither-clause-on_placed : goal.returns-in-Neither-clause-on_placed
-returns-in-Neither-clause-on_placed g c P h = sym (ap (option_map g.V.ByteArray.of_bytes) (answer-Neither (format g) P _ h.placed (c.in-Neither.ensures.on_placed P h)).value)
+returns-in-Neither-clause-on_placed g c P h = sym (ap (option_map g.V.ByteArray.of_bytes) (answer-Neither (format g) P _ h.placed (c.in-Neither.ensures.on_placed P (read g (goal.at.returns-in-Neither-clause-on_placed g c).After-any_empty P h))).value)

@@ -1,4 +1,4 @@
-use Rattle.std.proofs.Common.{◌∙◌, sym}
+use Rattle.std.proofs.Common.{◌∙◌, sym, arith}
 use Rattle.odht_base.specs.Format.{Format, format_of}
 use Rattle.odht_raw.proofs.lemmas.Expected.{ends_here}
 use Rattle.odht_header.proofs.lemmas.Formats.{IsFormat-format_of}
@@ -9,5 +9,16 @@ pub returns-then-is_empty_or_deleted-clause-placed :
 returns-then-is_empty_or_deleted-clause-placed g c P h ends =
     let F : Format = format_of g.K.ByteArray.LEN g.V.ByteArray.LEN g.H.HashFn.hash in
     let f = IsFormat-format_of _ _ _ _ c.requires.lengths.pair.key c.requires.lengths.pair.value c.requires.lengths.pair.hashes g.met.H.HashFn.fits in
-    ends_here F P c.args.entries.now c.args.control.now (g.K.ByteArray.bytes c.args.key.now) f h c.requires.lengths.slots c.args.slot c.if-slot-control.true
+    ends_here F P c.args.entries.now c.args.control.now (g.K.ByteArray.bytes c.args.key.now) f h c.requires.lengths.slots c.args.slot c.if-slot-slots.true
     (sym c.is_empty_or_deleted.ensures ∙ c.if-is_empty_or_deleted.true) ends
+
+-- there is room
+pub returns-then-is_empty_or_deleted-clause-earlier :
+    goal.returns-then-is_empty_or_deleted-clause-earlier
+returns-then-is_empty_or_deleted-clause-earlier g c none = absurd (omega (arith, none, c.if-room-gt0.true))
+
+pub returns-clause-any : goal.returns-clause-any
+returns-clause-any g c = rw c.new.ensures at c.whole_search.ensures.slot
+
+pub returns-clause-earlier : goal.returns-clause-earlier
+returns-clause-earlier g c none = rw c.new.ensures at c.whole_search.ensures.earlier

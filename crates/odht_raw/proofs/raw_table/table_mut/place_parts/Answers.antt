@@ -38,9 +38,9 @@ returns-clause-placed g c P h new =
     let hash = c.hash-hash.ensures ∙ ap g.H.HashFn.hash c.as_slice.ensures.value in
     let first = subst (λ (x : ℕ). IsFirstFree ctrl x (length ctrl - 16) c.in-Some.slot) hash c.in-Some.ensures in
     let at = answer-Free F P p.key h.placed c.in-Some.slot (first_free-answer F P p.key es ctrl f h (length ctrl - 16) (omega arith) new c.in-Some.slot first) in
-    let fits : IsPairOf F p = record { key = c.write_entry.ensures.key; value = c.write_entry.ensures.value } in
-    let parts : IsPartsOf F (written P c.in-Some.slot p) c.write_entry.new.entries c.write_entry.new.control =
-    rw (c.write_entry.ensures.control, c.write_entry.ensures.entries) (free_parts F P es ctrl h p.key c.in-Some.slot p refl fits at) in
+    let fits : IsPairOf F p = record { key = c.fill_slot.ensures.key; value = c.fill_slot.ensures.value } in
+    let parts : IsPartsOf F (written P c.in-Some.slot p) c.fill_slot.new.entries c.fill_slot.new.control =
+    rw (c.fill_slot.ensures.control, c.fill_slot.ensures.entries) (free_parts F P es ctrl h p.key c.in-Some.slot p refl fits at) in
     let some = at.places p refl in
     record {
       ok = (written P c.in-Some.slot p, some, parts);
@@ -56,6 +56,6 @@ returns-clause-any g c =
     let ctrl = c.args.control.now in
     let hash = c.hash-hash.ensures ∙ ap g.H.HashFn.hash c.as_slice.ensures.value in
     let first = subst (λ (x : ℕ). IsFirstFree ctrl x (length ctrl - 16) c.in-Some.slot) hash c.in-Some.ensures in
-    let framed : PlacingFrame F es ctrl p (Ok tt) c.write_entry.new.entries c.write_entry.new.control =
-    rw (c.write_entry.ensures.control, c.write_entry.ensures.entries) (PlacingFrame.added c.in-Some.slot first) in
+    let framed : PlacingFrame F es ctrl p (Ok tt) c.fill_slot.new.entries c.fill_slot.new.control =
+    rw (c.fill_slot.ensures.control, c.fill_slot.ensures.entries) (PlacingFrame.added c.in-Some.slot first) in
     record { frame = framed; only_full = tt; refused_control = tt; refused_entries = tt }

@@ -1,0 +1,115 @@
+use Rattle.std.proofs.Common.{◌≡◌, ◌<◌, ◌≤◌, ◌+◌, ◌-◌, ◌*◌, ◌^◌, ◌∙◌, ℕ, List, length, inl, inr, sym, ap, subst, arith}
+use Rattle.std.specs.List.{slice_range}
+use Rattle.odht_base.specs.Format.{Format, format_of, entry_len}
+use Rattle.odht_base.specs.Load.{IsSlotCount}
+use Rattle.odht_base.specs.Decoded.{header_slots, header_count}
+use Rattle.odht_base.specs.Writes.{with_count}
+use Rattle.odht_header.specs.Coding.{Coding, coding_of}
+use Rattle.odht_raw.specs.Frame.{header_maximum}
+use Rattle.odht_raw.specs.Runs.{encoded_all, IsRefusedIn}
+use Rattle.odht_raw.proofs.lemmas.Accepted.{accepted_opening, accepted_len, accepted_slots}
+use Rattle.odht_raw.proofs.lemmas.ListWrites.{IsCut, cut_accepted, cut-image, list_framed, list_accepted, list_length, list_stopped, list_placed}
+use Rattle.odht_raw.proofs.lemmas.PartRuns.{run_fits}
+use Rattle.odht_raw.proofs.memory_layout.allocation.inserts.run_in_bytes.Given.{Over}
+use Rattle.odht_raw.proofs.memory_layout.allocation.inserts.run_in_bytes.Goals as goal
+use Rattle.odht_raw.proofs.memory_layout.allocation.inserts.run_in_bytes.Goals.{After-split_at_mut-front, After-write_count}
+
+abbrev format : Over → Format
+format g = format_of g.C.EncodedKey.ByteArray.LEN g.C.EncodedValue.ByteArray.LEN g.C.H.HashFn.hash
+
+pub of-header-requires : goal.of-header-requires
+of-header-requires g c = (accepted_opening (format g) c.args.bytes.now c.requires.accepted).long
+
+pub entry_at-requires-after_bounds : goal.entry_at-requires-after_bounds
+entry_at-requires-after_bounds g c κs within =
+    let slots : c.slot_count-slots.result ≡ header_slots c.args.bytes.now = c.slot_count-slots.ensures ∙ ap header_slots c.of-header.ensures in
+    rw slots (omega (arith, accepted_len (format g) c.args.bytes.now c.requires.accepted))
+
+pub split_at_mut-table-requires : goal.split_at_mut-table-requires
+split_at_mut-table-requires g c =
+    let slots : c.slot_count-slots.result ≡ header_slots c.args.bytes.now = c.slot_count-slots.ensures ∙ ap header_slots c.of-header.ensures in
+    rw (c.entry_at.ensures, slots) (omega (arith, accepted_len (format g) c.args.bytes.now c.requires.accepted))
+
+-- header, entries and control bytes are those of the bytes
+cut : (g : Over) (c : After-split_at_mut-front g) → IsCut (format g) c.args.bytes.now c.split_at_mut-front.result.0.now c.split_at_mut-front.result.1.now c.split_at_mut-table.result.1.now
+cut g c =
+    let slots : c.slot_count-slots.result ≡ header_slots c.args.bytes.now = c.slot_count-slots.ensures ∙ ap header_slots c.of-header.ensures in
+    cut_accepted (format g) c.args.bytes.now c.requires.accepted c.entry_at.result (c.entry_at.ensures ∙ ap (λ s. 32 + s * entry_len (format g)) slots) _ _ _ _
+    c.split_at_mut-table.ensures.front c.split_at_mut-table.ensures.back c.split_at_mut-front.ensures.front c.split_at_mut-front.ensures.back
+
+pub insert_run-end-requires-clause-parts : goal.insert_run-end-requires-clause-parts
+insert_run-end-requires-clause-parts g c κs within =
+    let cut = cut g (goal.at.insert_run-end-requires-clause-parts g c).After-split_at_mut-front in
+    let slots : length c.split_at_mut-table.result.1.now - 16 ≡ header_slots c.args.bytes.now = omega (arith, cut.mirrored, cut.slots) in
+    record {
+      pair = record { hashes = g.met.C.Config.key_hashes; key = g.met.C.Config.key_fits; value = g.met.C.Config.value_fits };
+      slots = subst IsSlotCount (sym slots) (accepted_slots (format g) c.args.bytes.now c.requires.accepted);
+      entries = cut.long ∙ ap (λ s. s * entry_len (format g)) (cut.slots ∙ sym slots);
+    }
+
+-- the coding of the configuration
+abbrev coding : (g : Over) → Coding g.row.C-Key.Denot g.row.C-Value.Denot
+coding g =
+    let key = g.C.EncodedKey.ByteArray in
+    let value = g.C.EncodedValue.ByteArray in
+    coding_of key.LEN key.bytes key.of_bytes value.LEN value.bytes value.of_bytes g.C.H.HashFn.hash
+    g.C.Config.encode_key g.C.Config.encode_value g.C.Config.decode_key g.C.Config.decode_value
+
+-- the items that were inserted
+abbrev inserted : (g : Over) (c : After-write_count g) → List (g.row.C-Key.Denot × g.row.C-Value.Denot)
+inserted g c = slice_range (g.I.Items.items c.args.items.now) c.args.from c.insert_run-end.result.0
+
+-- what is known of the header, and what was written
+module _ (g : Over) (c : After-write_count g) where
+  room_is : c.room_of-room.result ≡ header_maximum c.args.bytes.now - header_count c.args.bytes.now
+  room_is = c.room_of-room.ensures.room ∙ (λ i. header_maximum (c.of-header.ensures i) - header_count (c.of-header.ensures i))
+
+  count_is : c.item_count-count.result ≡ header_count c.args.bytes.now
+  count_is = c.item_count-count.ensures ∙ ap header_count c.of-header.ensures
+
+  counted : header_count c.args.bytes.now < 2 ^ 64
+  counted = omega (arith, count_is)
+
+  small : header_maximum c.args.bytes.now < 2 ^ 64
+  small = omega (arith, c.room_of-room.ensures.maximum, ap header_maximum c.of-header.ensures)
+
+  written : c.write_count.new.header ≡ with_count c.split_at_mut-front.result.0.now (header_count c.args.bytes.now + c.insert_run-end.result.1)
+  written = c.write_count.ensures ∙ ap (λ m. with_count c.split_at_mut-front.result.0.now (m + c.insert_run-end.result.1)) count_is
+
+  left : c.insert_run-end.result.1 ≤ header_maximum c.args.bytes.now - header_count c.args.bytes.now
+  left = omega (arith, room_is, c.insert_run-end.ensures.inserted.room)
+
+pub returns-clause-accepted : goal.returns-clause-accepted
+returns-clause-accepted g c =
+    let w = (goal.at.returns-clause-accepted g c).After-write_count in
+    list_accepted (coding g) c.args.bytes.now _ _ _ (cut g (goal.at.returns-clause-accepted g c).After-split_at_mut-front) (inserted g w) c.insert_run-end.result.1 _ _ _
+    (written g w) c.insert_run-end.ensures.inserted.run (left g w) (counted g w) (small g w)
+
+pub returns-clause-len : goal.returns-clause-len
+returns-clause-len g c =
+    let w = (goal.at.returns-clause-len g c).After-write_count in
+    list_length (coding g) c.args.bytes.now _ _ _ (cut g (goal.at.returns-clause-len g c).After-split_at_mut-front) (inserted g w) c.insert_run-end.result.1 _ _ _
+    (written g w) c.insert_run-end.ensures.inserted.run (left g w) (counted g w) (small g w)
+
+pub returns-clause-run : goal.returns-clause-run
+returns-clause-run g c =
+    let w = (goal.at.returns-clause-run g c).After-write_count in
+    let K = coding g in
+    let cut = cut g (goal.at.returns-clause-run g c).After-split_at_mut-front in
+    let items = g.I.Items.items c.args.items.now in
+    let run = c.insert_run-end in
+    let n = run.result.1 in
+    record {
+      after = omega (arith, run.ensures.inserted.few);
+      within = run.ensures.within;
+      placed = λ P is.
+          list_placed K.format c.args.bytes.now _ _ _ cut n _ _ _ (written g w) (left g w) P is (encoded_all K (inserted g w))
+          (run_fits K _ _ (inserted g w) n _ _ run.ensures.inserted.run)
+          (run.ensures.inserted.placed P (cut-image K.format c.args.bytes.now _ _ _ cut P is).1);
+      framed = list_framed K c.args.bytes.now _ _ _ cut (inserted g w) n _ _ _ (written g w) run.ensures.inserted.run (left g w) (counted g w) (small g w) c.hold_bytes.ensures;
+      stopped = elim run.ensures.stop [
+        | inl e ↦ inl e
+        | inr refused ↦ inr (list_stopped K c.args.bytes.now _ _ _ cut (inserted g w) n _ _ _ (written g w) run.ensures.inserted.run (left g w) (counted g w) (small g w) items run.result.0
+          (subst (λ m. IsRefusedIn K (m - n) items run.result.0 run.new.entries run.new.control) (room_is g w) refused))
+      ];
+    }

@@ -1,0 +1,146 @@
+use Rattle.std.proofs.Common.{rules, arith, ℕ, List, ◌≡◌, ◌≤◌, ◌<◌, ◌+◌, ◌*◌, ◌-◌, length, subst, ◌∙◌, sym, ap, Option, Some, None, Result, Ok, Err, refl}
+use Rattle.std.specs.Prelude.{option_map}
+use Rattle.odht_base.specs.Bytes.{overwritten_at}
+use Rattle.odht_base.specs.Format.{Format, format_of, entry_len}
+use Rattle.odht_base.specs.Table.{Pair}
+use Rattle.odht_base.specs.Valid.{IsPartsOf, IsPairOf}
+use Rattle.odht_base.proofs.lemmas.Places.{written}
+use Rattle.odht_base.proofs.lemmas.PartsOf.{slot_within}
+use Rattle.odht_base.specs.Decoded.{slot_value}
+use Rattle.odht_raw.specs.Frame.{PartsFrame}
+use Rattle.odht_raw.specs.Parts.{stored_in}
+use Rattle.odht_raw.specs.Steps.{StepFrame}
+use Rattle.odht_raw.specs.SearchEnds.{IsAfter, IsEnd}
+use Rattle.odht_header.specs.declared.error.Error.{Error}
+use Rattle.odht_header.specs.declared.error.Error.TheVariants.{Full}
+use Rattle.odht_raw.specs.declared.raw_table.search_result.Search.{Search}
+use Rattle.odht_raw.specs.declared.raw_table.search_result.Search.TheVariants.{Found, Free}
+use Rattle.odht_raw.proofs.lemmas.GroupSearches.{missing-free, missing-neither}
+use Rattle.odht_raw.proofs.lemmas.Lookups.{answer-Found, answer-Free}
+use Rattle.odht_raw.proofs.lemmas.Inserts.{found_value, found_key, found_parts, free_parts}
+use Rattle.odht_raw.proofs.raw_table.insert.insert_at.Goals as goal
+
+-- a slot's entry lies within the bytes of the entries
+within : (F : Format) (es ctrl : List ℕ) (i : ℕ) → length es ≡ (length ctrl - 16) * entry_len F → i < length ctrl - 16
+    → i * entry_len F + entry_len F ≤ length es
+within F es ctrl i long low = omega (arith, long, slot_within i (length ctrl - 16) (entry_len F) low)
+
+-- a found slot is one of the slots
+found_low : (F : Format) (es ctrl k : List ℕ) (r : Search) (i : ℕ) → r ≡ Found i
+    → IsEnd F (stored_in es ctrl) ctrl k r → i < length ctrl - 16
+found_low F es ctrl k r i is known = (subst (IsEnd F (stored_in es ctrl) ctrl k) is known).0
+
+-- and so is a free one
+free_low : (F : Format) (es ctrl k : List ℕ) (r : Search) (i : ℕ) → r ≡ Free i
+    → IsEnd F (stored_in es ctrl) ctrl k r → i < length ctrl - 16
+free_low F es ctrl k r i is known = (subst (IsEnd F (stored_in es ctrl) ctrl k) is known).0
+
+pub overflow_mul-slot : goal.overflow_mul-slot
+overflow_mul-slot g c =
+    let F : Format = format_of g.K.ByteArray.LEN g.V.ByteArray.LEN g.H.HashFn.hash in
+    let es = c.args.entries.now in
+    let ctrl = c.args.control.now in
+    let low = found_low F es ctrl (g.K.ByteArray.bytes c.args.key) c.args.end c.in-Found.slot c.in-Found.is c.requires.end in
+    rw (c.LEN.ensures, c.LEN-in-Found.ensures) (omega (arith, within F es ctrl c.in-Found.slot c.requires.lengths.entries low))
+
+pub overflow_add-slot : goal.overflow_add-slot
+overflow_add-slot g c =
+    let F : Format = format_of g.K.ByteArray.LEN g.V.ByteArray.LEN g.H.HashFn.hash in
+    let es = c.args.entries.now in
+    let ctrl = c.args.control.now in
+    let low = found_low F es ctrl (g.K.ByteArray.bytes c.args.key) c.args.end c.in-Found.slot c.in-Found.is c.requires.end in
+    rw (c.LEN.ensures, c.LEN-in-Found.ensures, c.LEN-in-Found-2.ensures) (omega (arith, within F es ctrl c.in-Found.slot c.requires.lengths.entries low))
+
+pub write_at-requires : goal.write_at-requires
+write_at-requires g c =
+    let F : Format = format_of g.K.ByteArray.LEN g.V.ByteArray.LEN g.H.HashFn.hash in
+    let es = c.args.entries.now in
+    let ctrl = c.args.control.now in
+    let low = found_low F es ctrl (g.K.ByteArray.bytes c.args.key) c.args.end c.in-Found.slot c.in-Found.is c.requires.end in
+    rw (c.LEN.ensures, c.LEN-in-Found.ensures, c.LEN-in-Found-2.ensures)
+    (omega (arith, within F es ctrl c.in-Found.slot c.requires.lengths.entries low, ap length c.new-store.ensures.bytes, ap length c.as_slice.ensures.value, c.as_slice.ensures.bytes.len))
+
+pub fill_slot-requires-clause-slot : goal.fill_slot-requires-clause-slot
+fill_slot-requires-clause-slot g c κs within =
+    let F : Format = format_of g.K.ByteArray.LEN g.V.ByteArray.LEN g.H.HashFn.hash in
+    free_low F c.args.entries.now c.args.control.now (g.K.ByteArray.bytes c.args.key) c.args.end c.in-Free.slot c.in-Free.is c.requires.end
+
+pub returns-in-Found-clause-placed : goal.returns-in-Found-clause-placed
+returns-in-Found-clause-placed g c P h e =
+    let F : Format = format_of g.K.ByteArray.LEN g.V.ByteArray.LEN g.H.HashFn.hash in
+    let p : Pair = record { key = g.K.ByteArray.bytes c.args.key; value = g.V.ByteArray.bytes c.args.value } in
+    let old = rw c.new-stored.ensures at c.get-old.ensures.value in
+    let at = answer-Found F P p.key h.placed c.in-Found.slot (sym c.in-Found.is ∙ e) in
+    let fits : IsPairOf F p = record { key = found_key F P _ _ h p.key _ at; value = c.as_slice.ensures.bytes } in
+    let bytes : c.write_at.new.self.0.now ≡ overwritten_at c.args.entries.now (c.in-Found.slot * entry_len F + F.key_len) p.value =
+    c.write_at.ensures.bytes ∙ (λ i. overwritten_at (c.new-store.ensures.bytes i) (c.in-Found.slot * (c.LEN.ensures i + c.LEN-in-Found.ensures i) + c.LEN-in-Found-2.ensures i) (c.as_slice.ensures.value i)) in
+    let parts : IsPartsOf F (written P c.in-Found.slot p) c.write_at.new.self.0.now c.args.control.now =
+    subst (λ (es : List ℕ). IsPartsOf F (written P c.in-Found.slot p) es c.args.control.now) (sym bytes) (found_parts F P _ _ h p.key c.in-Found.slot p refl fits at) in
+    let former = ap Some (old ∙ ap g.V.ByteArray.of_bytes (found_value F P _ _ h p.key c.in-Found.slot at)) ∙ sym (ap (option_map g.V.ByteArray.of_bytes) at.value) in
+    (former, (written P c.in-Found.slot p, at.places p refl, subst (λ (es : List ℕ). IsPartsOf F (written P c.in-Found.slot p) es c.args.control.now) (search rules) parts))
+
+pub returns-else-room-eq0-clause-placed : goal.returns-else-room-eq0-clause-placed
+returns-else-room-eq0-clause-placed g c P h e =
+    let F : Format = format_of g.K.ByteArray.LEN g.V.ByteArray.LEN g.H.HashFn.hash in
+    let p : Pair = record { key = g.K.ByteArray.bytes c.args.key; value = g.V.ByteArray.bytes c.args.value } in
+    let at = answer-Free F P p.key h.placed c.in-Free.slot (sym c.in-Free.is ∙ e) in
+    let fits : IsPairOf F p = record { key = c.fill_slot.ensures.key; value = c.fill_slot.ensures.value } in
+    let parts : IsPartsOf F (written P c.in-Free.slot p) c.fill_slot.new.entries c.fill_slot.new.control =
+    rw (c.fill_slot.ensures.control, c.fill_slot.ensures.entries) (free_parts F P _ _ h p.key c.in-Free.slot p refl fits at) in
+    (sym (ap (option_map g.V.ByteArray.of_bytes) at.value), (written P c.in-Free.slot p, at.places p refl, parts))
+
+pub returns-in-Found-clause-any : goal.returns-in-Found-clause-any
+returns-in-Found-clause-any g c =
+    let F : Format = format_of g.K.ByteArray.LEN g.V.ByteArray.LEN g.H.HashFn.hash in
+    let p : Pair = record { key = g.K.ByteArray.bytes c.args.key; value = g.V.ByteArray.bytes c.args.value } in
+    let es = c.args.entries.now in
+    let ctrl = c.args.control.now in
+    let slot = c.in-Found.slot in
+    let known = subst (IsEnd F (stored_in es ctrl) ctrl p.key) c.in-Found.is c.requires.end in
+    let old = rw c.new-stored.ensures at c.get-old.ensures.value in
+    let bytes : c.write_at.new.self.0.now ≡ overwritten_at es (slot * entry_len F + F.key_len) p.value =
+    c.write_at.ensures.bytes ∙ (λ i. overwritten_at (c.new-store.ensures.bytes i) (slot * (c.LEN.ensures i + c.LEN-in-Found.ensures i) + c.LEN-in-Found-2.ensures i) (c.as_slice.ensures.value i)) in
+    let answer : Result (Option (List ℕ)) Error = Ok (Some (slot_value F es slot)) in
+    let framed : StepFrame F c.args.room es ctrl p answer c.write_at.new.self.0.now ctrl =
+    subst (λ (new : List ℕ). StepFrame F c.args.room es ctrl p answer new ctrl) (sym bytes)
+    (StepFrame.framed answer (overwritten_at es (slot * entry_len F + F.key_len) p.value) ctrl (λ d. cc) (PartsFrame.overwrote slot known.0 known.1)) in
+    record {
+      frame = (answer, ap (λ o. Ok (Some o)) old, subst (λ (new : List ℕ). StepFrame F c.args.room es ctrl p answer new ctrl) (search rules) framed);
+      only_full = tt;
+      refused_control = tt;
+      refused_entries = tt;
+    }
+
+-- without room the search says what comes before its end
+pub returns-then-room-eq0-clause-any : goal.returns-then-room-eq0-clause-any
+returns-then-room-eq0-clause-any g c =
+    let F : Format = format_of g.K.ByteArray.LEN g.V.ByteArray.LEN g.H.HashFn.hash in
+    let k : List ℕ = g.K.ByteArray.bytes c.args.key in
+    let stored = stored_in c.args.entries.now c.args.control.now in
+    let ctrl = c.args.control.now in
+    let known = subst (IsEnd F stored ctrl k) c.in-Free.is c.requires.end in
+    let earlier = subst (IsAfter F stored ctrl k) c.in-Free.is (c.requires.earlier c.if-room-eq0.true) in
+    record { frame = (Err Full, refl, StepFrame.no_room c.if-room-eq0.true (missing-free F stored ctrl k c.in-Free.slot known earlier)); only_full = refl; refused_control = refl; refused_entries = refl }
+
+pub returns-else-room-eq0-clause-any : goal.returns-else-room-eq0-clause-any
+returns-else-room-eq0-clause-any g c =
+    let F : Format = format_of g.K.ByteArray.LEN g.V.ByteArray.LEN g.H.HashFn.hash in
+    let p : Pair = record { key = g.K.ByteArray.bytes c.args.key; value = g.V.ByteArray.bytes c.args.value } in
+    let es = c.args.entries.now in
+    let ctrl = c.args.control.now in
+    let slot = c.in-Free.slot in
+    let known = subst (IsEnd F (stored_in es ctrl) ctrl p.key) c.in-Free.is c.requires.end in
+    let some : 0 < c.args.room = omega (arith, c.if-room-eq0.false) in
+    let framed : StepFrame F c.args.room es ctrl p (Ok None) c.fill_slot.new.entries c.fill_slot.new.control =
+    StepFrame.framed (Ok None) c.fill_slot.new.entries c.fill_slot.new.control (λ e. some) (rw (c.fill_slot.ensures.control, c.fill_slot.ensures.entries) (PartsFrame.added slot known.0 known.1)) in
+    record { frame = (Ok None, refl, framed); only_full = tt; refused_control = tt; refused_entries = tt }
+
+pub returns-in-Neither-clause-any : goal.returns-in-Neither-clause-any
+returns-in-Neither-clause-any g c =
+    let F : Format = format_of g.K.ByteArray.LEN g.V.ByteArray.LEN g.H.HashFn.hash in
+    let k : List ℕ = g.K.ByteArray.bytes c.args.key in
+    let es = c.args.entries.now in
+    let ctrl = c.args.control.now in
+    let known = subst (IsEnd F (stored_in es ctrl) ctrl k) c.in-Neither.is c.requires.end in
+    let frame = StepFrame.framed (Err Full) es ctrl (λ e. cc) (PartsFrame.no_slot known.0 (missing-neither F (stored_in es ctrl) ctrl k known.1)) in
+    record { frame = (Err Full, refl, frame); only_full = refl; refused_control = refl; refused_entries = refl }

@@ -1,0 +1,30 @@
+-- What an insert of a pair p with room for m new entries does to the parts of a table.
+--     StepFrame F m es ctrl p a es' ctrl'  without room the answer may be Full, with nothing changed, where a search
+--                          slot by slot can end without the key; else an insert does what PartsFrame says, and adds an
+--                          entry only where there is room
+--     IsStepFramed F f m es ctrl p r es' ctrl'  the same with the answer decoded by f
+--     IsStepChange F f m es ctrl p r es' ctrl'  this frame; Full is the only error and changes nothing
+use Rattle.std.specs.Prelude.{◌≡◌, ℕ, ◌<◌, List, Option, option_map, None, Result, Ok, Err, OnErr}
+use Rattle.std.specs.Result.{result_map_both}
+use Rattle.odht_base.specs.Format.{Format}
+use Rattle.odht_base.specs.Table.{Pair}
+use Rattle.odht_raw.specs.ControlBytes.{IsMissing}
+use Rattle.odht_raw.specs.Frame.{PartsFrame}
+use Rattle.odht_raw.specs.Parts.{stored_in}
+use Rattle.odht_header.specs.declared.error.Error.{Error}
+use Rattle.odht_header.specs.declared.error.Error.TheVariants.{Full}
+
+pub data StepFrame (F : Format) (m : ℕ) (es ctrl : List ℕ) (p : Pair) : Result (Option (List ℕ)) Error → List ℕ → List ℕ → Type 0 where
+  no_room : m ≡ 0 → IsMissing F (stored_in es ctrl) ctrl p.key → StepFrame F m es ctrl p (Err Full) es ctrl
+  framed : (a : Result (Option (List ℕ)) Error) (es' ctrl' : List ℕ) → (a ≡ Ok None → 0 < m) → PartsFrame F es ctrl p a es' ctrl'
+      → StepFrame F m es ctrl p a es' ctrl'
+
+abbrev pub IsStepFramed : {V : Type 0} → Format → (List ℕ → V) → ℕ → List ℕ → List ℕ → Pair → Result (Option V) Error → List ℕ → List ℕ → Type 0
+IsStepFramed F f m es ctrl p r es' ctrl' =
+    (a : Result (Option (List ℕ)) Error) × (r ≡ result_map_both (option_map f) (λ e. e) a) × StepFrame F m es ctrl p a es' ctrl'
+
+pub record IsStepChange {V : Type 0} (F : Format) (f : List ℕ → V) (m : ℕ) (es ctrl : List ℕ) (p : Pair) (r : Result (Option V) Error) (es' ctrl' : List ℕ) : Type 0 where
+  pub frame : IsStepFramed F f m es ctrl p r es' ctrl'
+  pub only_full : OnErr r (r ≡ Err Full)
+  pub refused_control : OnErr r (ctrl' ≡ ctrl)
+  pub refused_entries : OnErr r (es' ≡ es)

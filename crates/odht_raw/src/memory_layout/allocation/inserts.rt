@@ -1,0 +1,188 @@
+//! Inserts into the bytes of a table: the header is read once, the parts are written, and the item count is written
+//! once.
+ghost use Rattle.std.specs.Prelude.{◌≡◌, ◌-◌, ◌≤◌, length, IfOk};
+ghost use Rattle.odht_base.specs.Decoded.{header_count};
+ghost use Rattle.odht_base.specs.Table.{Table};
+ghost use Rattle.odht_base.specs.Valid.{IsImage};
+ghost use Rattle.odht_base.specs.Writes.{with_count};
+ghost use Rattle.odht_raw.specs.Frame.{IsAccepted, IsFramed, header_maximum};
+ghost use Rattle.odht_raw.specs.Runs.{IsListRun, IsOnePlaced};
+
+use super::Allocation;
+use crate::bytes::{ByteArray, ByteStoreMut, write_slice};
+use crate::config::{Coded, Config};
+use crate::error::Error;
+use crate::items::Items;
+use crate::load::max_item_count_for;
+use crate::memory_layout::check::hold_bytes;
+use crate::memory_layout::{HEADER_SIZE, Header, entry_at};
+use crate::raw_table::{insert_run, insert_step};
+use crate::swisstable_group_query::Group;
+use odht_header::header::ITEM_COUNT_AT;
+
+impl<C: Config, M: ByteStoreMut> Allocation<C, M> {
+    /// Gives the key this value, by a group search of the caller's choice, and returns its former one. `Full`, with
+    /// nothing changed, where the search does not find the key and the header's item count is its maximum or more, or
+    /// where it finds neither the key nor a free slot. A new entry raises the item count by one.
+    ///
+    /// The header is read once, and the key is hashed once.
+    #[inline(always)]
+    pub fn insert_by<Q: Group>(
+        &mut self,
+        key: &C::Key,
+        value: &C::Value,
+    ) -> Result<Option<C::Value>, Error>
+        ensures placed { let c = ⟦<C as Coded>⟧.coding
+            in (P : Table)
+            → IsImage c.format P (M.bytes self.old)
+            → IfOk result (λ old. IsOnePlaced c P key.now value.now old (M.bytes self.new)) }
+        ensures framed { let c = ⟦<C as Coded>⟧.coding
+            in IsFramed c (M.bytes self.old) key.now value.now result (M.bytes self.new) }
+        ensures same_store { self.new ≡ M.holding self.old (M.bytes self.new) }
+        ensures accepted { IsAccepted ⟦<C as Coded>⟧.coding.format (M.bytes self.new) }
+    {
+        let store = &mut self.store;
+        insert_into_store::<C, M, Q>(store, key, value)
+    }
+
+    /// Inserts the items from index `from` on in their order, up to the first for which `insert_by` returns `Full`, and
+    /// returns the index after the last item that was inserted. Each new entry raises the item count by one.
+    ///
+    /// The header is read once and the item count written once. Each item costs a search. In tables of 2^20 slots and
+    /// more the group at the home slot may be read before it, ahead of the insert, for eight keys in turn.
+    #[inline(always)]
+    pub fn insert_items<I: Items<C::Key, C::Value>>(&mut self, items: &I, from: usize) -> usize
+        requires { from ≤ length (I.items items.now) }
+        ensures run { let c = ⟦<C as Coded>⟧.coding
+            in IsListRun c (M.bytes self.old) (I.items items.now) from result (M.bytes self.new) }
+        ensures same_store { self.new ≡ M.holding self.old (M.bytes self.new) }
+        ensures accepted { IsAccepted ⟦<C as Coded>⟧.coding.format (M.bytes self.new) }
+    {
+        let store = &mut self.store;
+        run_in_store::<C, M, I>(store, items, from)
+    }
+}
+
+// `insert_by` on a store that holds the bytes of a table.
+#[inline(always)]
+fn insert_into_store<C: Config, M: ByteStoreMut, Q: Group>(
+    store: &mut M,
+    key: &C::Key,
+    value: &C::Value,
+) -> Result<Option<C::Value>, Error>
+    requires { IsAccepted ⟦<C as Coded>⟧.coding.format (M.bytes store.old) }
+    ensures placed { let c = ⟦<C as Coded>⟧.coding
+        in (P : Table)
+        → IsImage c.format P (M.bytes store.old)
+        → IfOk result (λ old. IsOnePlaced c P key.now value.now old (M.bytes store.new)) }
+    ensures framed { let c = ⟦<C as Coded>⟧.coding
+        in IsFramed c (M.bytes store.old) key.now value.now result (M.bytes store.new) }
+    ensures same_store { store.new ≡ M.holding store.old (M.bytes store.new) }
+    ensures accepted { IsAccepted ⟦<C as Coded>⟧.coding.format (M.bytes store.new) }
+    ensures len { length (M.bytes store.new) ≡ length (M.bytes store.old) }
+{
+    insert_into_bytes::<C, Q>(store.bytes_mut(), key, value)
+}
+
+// `insert_by` on the bytes themselves.
+#[inline(always)]
+fn insert_into_bytes<C: Config, Q: Group>(
+    bytes: &mut [u8],
+    key: &C::Key,
+    value: &C::Value,
+) -> Result<Option<C::Value>, Error>
+    requires { IsAccepted ⟦<C as Coded>⟧.coding.format bytes.old }
+    ensures placed { let c = ⟦<C as Coded>⟧.coding
+        in (P : Table)
+        → IsImage c.format P bytes.old
+        → IfOk result (λ old. IsOnePlaced c P key.now value.now old bytes.new) }
+    ensures framed { IsFramed ⟦<C as Coded>⟧.coding bytes.old key.now value.now result bytes.new }
+    ensures accepted { IsAccepted ⟦<C as Coded>⟧.coding.format bytes.new }
+    ensures len { length bytes.new ≡ length bytes.old }
+{
+    hold_bytes(bytes);
+    let key = C::encode_key(key);
+    let value = C::encode_value(value);
+    // Key and value each have as many bytes as their type says.
+    let _ = key.as_slice();
+    let _ = value.as_slice();
+    let header = Header::of(bytes);
+    let count = header.item_count();
+    let slots = header.slot_count();
+    let room = room_of(&header);
+    let (table, control) = bytes.split_at_mut(entry_at::<C>(slots));
+    let (front, entries) = table.split_at_mut(HEADER_SIZE);
+    match insert_step::<C::EncodedKey, C::EncodedValue, C::H, Q>(
+        control, entries, key, value, room,
+    ) {
+        Ok(Some(old)) => Ok(Some(C::decode_value(&old))),
+        Ok(None) => {
+            write_count(front, count + 1);
+            Ok(None)
+        }
+        Err(refused) => Err(refused),
+    }
+}
+
+// `insert_items` on a store that holds the bytes of a table.
+#[inline(always)]
+fn run_in_store<C: Config, M: ByteStoreMut, I: Items<C::Key, C::Value>>(
+    store: &mut M,
+    items: &I,
+    from: usize,
+) -> usize
+    requires accepted { IsAccepted ⟦<C as Coded>⟧.coding.format (M.bytes store.old) }
+    requires from { from ≤ length (I.items items.now) }
+    ensures run { let c = ⟦<C as Coded>⟧.coding
+        in IsListRun c (M.bytes store.old) (I.items items.now) from result (M.bytes store.new) }
+    ensures same_store { store.new ≡ M.holding store.old (M.bytes store.new) }
+    ensures accepted { IsAccepted ⟦<C as Coded>⟧.coding.format (M.bytes store.new) }
+    ensures len { length (M.bytes store.new) ≡ length (M.bytes store.old) }
+{
+    run_in_bytes::<C, I>(store.bytes_mut(), items, from)
+}
+
+// `insert_items` on the bytes themselves.
+#[inline(always)]
+fn run_in_bytes<C: Config, I: Items<C::Key, C::Value>>(
+    bytes: &mut [u8],
+    items: &I,
+    from: usize,
+) -> usize
+    requires accepted { IsAccepted ⟦<C as Coded>⟧.coding.format bytes.old }
+    requires from { from ≤ length (I.items items.now) }
+    ensures run { let c = ⟦<C as Coded>⟧.coding
+        in IsListRun c bytes.old (I.items items.now) from result bytes.new }
+    ensures accepted { IsAccepted ⟦<C as Coded>⟧.coding.format bytes.new }
+    ensures len { length bytes.new ≡ length bytes.old }
+{
+    hold_bytes(bytes);
+    let header = Header::of(bytes);
+    let count = header.item_count();
+    let slots = header.slot_count();
+    let room = room_of(&header);
+    let (table, control) = bytes.split_at_mut(entry_at::<C>(slots));
+    let (front, entries) = table.split_at_mut(HEADER_SIZE);
+    let (end, added) = insert_run::<C, I>(control, entries, items, from, room);
+    write_count(front, count + added);
+    end
+}
+
+// How many new entries there is room for by the header: as many as its maximum item count exceeds its item count.
+#[inline(always)]
+fn room_of(header: &Header<'_>) -> usize
+    ensures room { result ≡ header_maximum header.now - header_count header.now }
+    ensures maximum { header_maximum header.now ≤ usize.MAX }
+{
+    max_item_count_for(header.slot_count(), header.max_load_factor())
+        .saturating_sub(header.item_count())
+}
+
+// Writes the item count of a header.
+#[inline(always)]
+fn write_count(header: &mut [u8], item_count: usize)
+    requires { length header.old ≡ 32 }
+    ensures { header.new ≡ with_count header.old item_count }
+{
+    write_slice(header, ITEM_COUNT_AT, &(item_count as u64).to_le_bytes());
+}

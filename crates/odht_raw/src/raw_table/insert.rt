@@ -1,0 +1,127 @@
+//! The insert of one pair into the parts of a table: one search, and the write where it ends.
+ghost use Rattle.std.specs.Prelude.{◌≡◌, ◌-◌, ◌*◌, ◌<◌, ◌++◌, length};
+ghost use Rattle.odht_base.specs.Bytes.{overwritten_at};
+ghost use Rattle.odht_base.specs.Format.{format_of, entry_len, tag as key_tag};
+ghost use Rattle.odht_base.specs.Numbers.{IsBytes};
+ghost use Rattle.odht_base.specs.Table.{Pair, Table};
+ghost use Rattle.odht_base.specs.Valid.{IsPartsOf};
+ghost use Rattle.odht_base.specs.Writes.{tagged};
+ghost use Rattle.odht_raw.specs.SearchResults.{answer};
+ghost use Rattle.odht_raw.specs.PartLengths.{ArePartLengths};
+ghost use Rattle.odht_raw.specs.Parts.{stored_in};
+ghost use Rattle.odht_raw.specs.PartsInserts.{AnswersFormer};
+ghost use Rattle.odht_raw.specs.SearchEnds.{IsAfter, IsEnd};
+ghost use Rattle.odht_raw.specs.Steps.{IsStepChange};
+
+use super::{Entries, EntryMetadata, Scan, Search, search_hashed, tag_of};
+use crate::bytes::{BorrowedMut, ByteArray, ByteStoreMut};
+use crate::error::Error;
+use crate::hash::HashFn;
+use crate::swisstable_group_query::{Group, REFERENCE_GROUP_SIZE};
+use crate::writes::{write_pair, write_tag};
+
+/// Searches for the key once. Overwrites the value that is stored with it; or, where it is new and `room`, the number
+/// of entries that may be added, is not zero, writes the pair into the first free slot of the key's probe order.
+/// Answers the former value; or `Full`, with nothing changed, where the key is new and there is no room or no free
+/// slot.
+#[inline(always)]
+pub(crate) fn insert_step<K: ByteArray, V: ByteArray, H: HashFn, Q: Group>(
+    control: &mut [EntryMetadata],
+    entries: &mut [u8],
+    key: K,
+    value: V,
+    room: usize,
+) -> Result<Option<V>, Error>
+    requires { ArePartLengths H.MIN_LEN K.LEN V.LEN (length entries.old) (length control.old) }
+    ensures placed { let F = format_of K.LEN V.LEN H.hash
+        in let p : Pair = record { key = K.bytes key; value = V.bytes value }
+        in (P : Table)
+        → IsPartsOf F P entries.old control.old
+        → AnswersFormer F V.of_bytes P p result entries.new control.new }
+    ensures any { let F = format_of K.LEN V.LEN H.hash
+        in let p : Pair = record { key = K.bytes key; value = V.bytes value }
+        in IsStepChange F V.of_bytes room entries.old control.old p result entries.new control.new }
+{
+    let slots = control.len() - REFERENCE_GROUP_SIZE;
+    let hash = H::hash(key.as_slice());
+    let stored: Entries<'_, K, V> = Entries::new(entries, slots);
+    let mut scan = Scan::new(control, slots);
+    let end = search_hashed::<K, V, H, Q>(&mut scan, &stored, &key, hash);
+    insert_at::<K, V, H>(control, entries, key, value, tag_of(hash), end, room)
+}
+
+/// Writes a pair where the search for its key ended: the value alone into the slot that holds the key, or, where there
+/// is room, the entry with its tag into the free slot. Answers the former value; or `Full`, with nothing changed,
+/// where there is no room for a new entry, or the search met neither slot.
+#[inline(always)]
+pub(crate) fn insert_at<K: ByteArray, V: ByteArray, H: HashFn>(
+    control: &mut [EntryMetadata],
+    entries: &mut [u8],
+    key: K,
+    value: V,
+    tag: u8,
+    end: Search,
+    room: usize,
+) -> Result<Option<V>, Error>
+    requires lengths { ArePartLengths H.MIN_LEN K.LEN V.LEN (length entries.old) (length control.old) }
+    requires tag { tag ≡ key_tag (format_of K.LEN V.LEN H.hash) (K.bytes key) }
+    requires end { let F = format_of K.LEN V.LEN H.hash
+        in IsEnd F (stored_in entries.old control.old) control.old (K.bytes key) end }
+    requires earlier { let F = format_of K.LEN V.LEN H.hash
+        in room ≡ 0 → IsAfter F (stored_in entries.old control.old) control.old (K.bytes key) end }
+    ensures placed { let F = format_of K.LEN V.LEN H.hash
+        in let p : Pair = record { key = K.bytes key; value = V.bytes value }
+        in (P : Table)
+        → IsPartsOf F P entries.old control.old
+        → end ≡ answer F P.cells p.key
+        → AnswersFormer F V.of_bytes P p result entries.new control.new }
+    ensures any { let F = format_of K.LEN V.LEN H.hash
+        in let p : Pair = record { key = K.bytes key; value = V.bytes value }
+        in IsStepChange F V.of_bytes room entries.old control.old p result entries.new control.new }
+{
+    let slots = control.len() - REFERENCE_GROUP_SIZE;
+    let stored: Entries<'_, K, V> = Entries::new(entries, slots);
+    match end {
+        Search::Found(slot) => {
+            let old = stored.get(slot).value;
+            let mut store = BorrowedMut::new(entries);
+            store.write_at(slot * (K::LEN + V::LEN) + K::LEN, value.as_slice());
+            Ok(Some(old))
+        }
+        Search::Free(slot) => {
+            if room == 0 {
+                return Err(Error::Full);
+            }
+            fill_slot::<K, V, H>(control, entries, &key, &value, tag, slot);
+            Ok(None)
+        }
+        Search::Neither => Err(Error::Full),
+    }
+}
+
+/// Writes the pair into a slot, its tag into the slot's control byte, and for a slot below 16 the tag into the mirror.
+#[inline(always)]
+pub(crate) fn fill_slot<K: ByteArray, V: ByteArray, H: HashFn>(
+    control: &mut [EntryMetadata],
+    entries: &mut [u8],
+    key: &K,
+    value: &V,
+    tag: u8,
+    slot: usize,
+)
+    requires lengths { ArePartLengths H.MIN_LEN K.LEN V.LEN (length entries.old) (length control.old) }
+    requires slot { slot < length control.old - 16 }
+    requires tag { tag ≡ key_tag (format_of K.LEN V.LEN H.hash) (K.bytes key.now) }
+    ensures entries { let at = slot * entry_len (format_of K.LEN V.LEN H.hash)
+        in entries.new ≡ overwritten_at entries.old at (K.bytes key.now ++ V.bytes value.now) }
+    ensures control { let t = key_tag (format_of K.LEN V.LEN H.hash) (K.bytes key.now)
+        in control.new ≡ tagged control.old slot t }
+    ensures key { IsBytes K.LEN (K.bytes key.now) }
+    ensures value { IsBytes V.LEN (V.bytes value.now) }
+{
+    let slots = control.len() - REFERENCE_GROUP_SIZE;
+    let mut store = BorrowedMut::new(entries);
+    write_pair(&mut store, slot * (K::LEN + V::LEN), key, value);
+    let mut tags = BorrowedMut::new(control);
+    write_tag(&mut tags, 0, slots, slot, tag);
+}
