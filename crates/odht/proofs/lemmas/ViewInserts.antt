@@ -93,13 +93,13 @@ module _ {K V : Type 0} (c : Coding K V) (B : List ℕ) (k : K) (v : V) where
   -- the error is Full
   pub framed-only_full : (r : Result (Option V) Error) (B' : List ℕ) → IsFramed c B k v r B' → OnErr r (r ≡ Err Full)
   framed-only_full (Ok o) B' framed = tt
-  framed-only_full (Err e) B' framed = go B' framed.0 framed.1 framed.2
+  framed-only_full (Err e) B' framed = go (Err e) refl B' framed.0 framed.1 framed.2
     where
-      go : (B' : List ℕ) (a : Result (Option (List ℕ)) Error) → Err e ≡ result_map_both (option_map c.value_of) (λ x. x) a → InsertFrame c.format B (encoded c k v) a B' → Err e ≡ Err Full
-      go B' a is (InsertFrame.full most absent) = is
-      go B' a is (InsertFrame.no_slot none absent) = is
-      go B' a is (InsertFrame.overwrote i low key) = absurd (let both : Err e ≡ Ok (Some (c.value_of (value_at c.format B i))) = is in cc)
-      go B' a is (InsertFrame.added i low free room) = absurd (let both : Err e ≡ Ok None = is in cc)
+      go : (r : Result (Option V) Error) → r ≡ Err e → (B' : List ℕ) (a : Result (Option (List ℕ)) Error) → r ≡ result_map_both (option_map c.value_of) (λ x. x) a → InsertFrame c.format B (encoded c k v) a B' → r ≡ Err Full
+      go r err B' a is (InsertFrame.full most absent) = is
+      go r err B' a is (InsertFrame.no_slot none absent) = is
+      go r err B' a is (InsertFrame.overwrote i low key) = absurd (let both : Err e ≡ Ok (Some (c.value_of (value_at c.format B i))) = sym err ∙ is in cc)
+      go r err B' a is (InsertFrame.added i low free room) = absurd (let both : Err e ≡ Ok None = sym err ∙ is in cc)
 
   -- and leaves the bytes
   pub framed-refused : (r : Result (Option V) Error) (B' : List ℕ) → IsFramed c B k v r B' → OnErr r (B' ≡ B)

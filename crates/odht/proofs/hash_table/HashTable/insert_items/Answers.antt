@@ -38,9 +38,10 @@ inserted_here g c P is =
     let items = g.I.Items.items c.args.items.now in
     let n = c.insert_from-accepted.result in
     let now = g.D.ByteStore.bytes c.insert_from-accepted.new.self in
+    let h = inserted_none K.format insert P (g.D.ByteStore.bytes c.args.self.now) is in
     subst (λ (ps : List Pair). IsAfterInserts K.format insert P ps now) (encoded_all-range K items 0 n (omega arith))
     (inserted_placed K.format insert (insert_view-IsInsert K.format) (insert_view-PlacesBelow K.format) P (insert_view-PlacesTaken K.format) (encoded_all K (take 0 items)) (encoded_all K (slice_range items 0 n)) _ now
-    (inserted_none K.format insert P _ is) (c.insert_from-accepted.ensures.run.placed P is))
+    h (c.insert_from-accepted.ensures.run.placed h.table h.image))
 
 -- on any bytes
 framed_here : (g : Over) (c : After-insert_from-accepted g)

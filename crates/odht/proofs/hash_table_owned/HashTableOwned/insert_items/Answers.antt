@@ -1,4 +1,4 @@
-use Rattle.std.proofs.Common.{◌≡◌, ◌<◌, ◌∙◌, sym, subst, refl, take, length, List, arith, inl, inr}
+use Rattle.std.proofs.Common.{◌≡◌, ◌<◌, ◌∙◌, sym, subst, refl, take, length, List, Err, arith, inl, inr}
 use Rattle.std.proofs.lemmas.Bool.{false≢true}
 use Rattle.std.specs.List.{slice_range}
 use Rattle.odht_base.specs.Format.{IsFormat}
@@ -14,6 +14,8 @@ use Rattle.odht_raw.proofs.lemmas.PartRuns.{read_item}
 use Rattle.odht.specs.Lists.{encoded_all, IsAfterInserts, IsStoppedAt}
 use Rattle.odht.proofs.lemmas.FittingRuns.{insert_owned-PlacesTaken}
 use Rattle.odht.proofs.lemmas.ListInserts.{inserted_none, inserted_more, inserted_placed, inserted_all, fresh_inserted, encoded_all-more, encoded_all-range, refused_here}
+use Rattle.odht.proofs.lemmas.ViewInserts.{framed-full}
+use Rattle.odht_header.specs.declared.error.Error.TheVariants.{Full}
 use Rattle.odht.proofs.lemmas.LosslessPairs.{inserted-HasLastValues}
 use Rattle.odht.proofs.hash_table_owned.HashTableOwned.insert_items.Given.{Over}
 use Rattle.odht.proofs.hash_table_owned.HashTableOwned.insert_items.Goals as goal
@@ -107,7 +109,7 @@ growths-preserved g c =
       inserted = λ P is. (
           let h = inserted_here g here P is in
           let stopped = stopped_here g here low in
-          let full = (refused_here K (fits g) h.table items n _ h.image stopped).full in
+          let full = framed-full K _ stopped.item.0 stopped.item.1 (fits g) h.table h.image (Err Full) _ refl stopped.framed in
           let same : stopped.item ≡ item = some_same _ _ (sym stopped.at ∙ c.at.ensures) in
           let done = c.in_default.ensures.ok h.table h.image (subst (λ (x : g.row.C-Key.Denot × g.row.C-Value.Denot). IsFullFor h.table (K.key_bytes x.0)) same full) in
           subst (λ (ps : List Pair). IsAfterInserts K.format insert P ps c.insert_grown.new.self) (sym (encoded_all-more K items n item low at))
