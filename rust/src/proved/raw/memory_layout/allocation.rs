@@ -8,8 +8,7 @@ use crate::proved::raw::error::Error;
 use crate::proved::raw::raw_table::RawTable;
 use std::marker::PhantomData;
 
-mod batches;
-mod lists;
+mod inserts;
 mod writing;
 
 // How many slots are checked when a view is opened.

@@ -1,12 +1,13 @@
 // Made by `make rust` of crates/odht_raw/src/raw_table/ahead.rt.
 //! Inserts of several keys whose slots are looked up ahead, so that the memory accesses to their control bytes overlap.
 
-use super::writes::insert_at;
-use super::{is_empty_or_deleted, search_hashed, tag_of, Entries, EntryMetadata, Scan, Search};
+use super::group_search::whole_search;
+use super::insert::insert_at;
+use super::{is_empty_or_deleted, tag_of, Entries, EntryMetadata, Search};
 use crate::proved::raw::bytes::ByteArray;
 use crate::proved::raw::error::Error;
 use crate::proved::raw::hash::HashFn;
-use crate::proved::raw::swisstable_group_query::{Group, GroupQuery, REFERENCE_GROUP_SIZE};
+use crate::proved::raw::swisstable_group_query::{Group, REFERENCE_GROUP_SIZE};
 
 /// The hash of a key, and the slot where a pair with the key is placed, where the first group search at its home slot
 /// finds it; else the slot count: where a key may have to be compared, or where none of these control bytes counts as
@@ -33,22 +34,24 @@ pub(crate) fn expected_slot<K: ByteArray, V: ByteArray, H: HashFn, Q: Group>(
     }
 }
 
-/// `RawTableMut::insert` of a key with this hash, whose search was expected to end at this slot. Where the slot still
-/// counts as free the pair is written there; else the whole search is made.
+/// `insert_step` of a key with this hash, whose search was expected to end at this slot. Where there is room and the
+/// slot still counts as free the pair is written there; else the whole search is made.
 #[inline(always)]
-pub(crate) fn insert_expected<K: ByteArray, V: ByteArray, H: HashFn>(
+pub(crate) fn insert_ahead<K: ByteArray, V: ByteArray, H: HashFn>(
     control: &mut [EntryMetadata],
     entries: &mut [u8],
     key: K,
     value: V,
     hash: u32,
     slot: usize,
+    room: usize,
 ) -> Result<Option<V>, Error> {
-    let end = expected_end::<K, V, H>(control, entries, &key, hash, slot);
-    insert_at::<K, V, H>(control, entries, key, value, tag_of(hash), end)
+    let end = expected_end::<K, V, H>(control, entries, &key, hash, slot, room);
+    insert_at::<K, V, H>(control, entries, key, value, tag_of(hash), end, room)
 }
 
-// Where the search for the key ends. It was expected to end at this slot.
+// Where the search for the key ends. It was expected to end at this slot. Without room it is the whole search, which
+// alone says what comes before its end.
 #[inline(always)]
 fn expected_end<K: ByteArray, V: ByteArray, H: HashFn>(
     control: &[EntryMetadata],
@@ -56,25 +59,15 @@ fn expected_end<K: ByteArray, V: ByteArray, H: HashFn>(
     key: &K,
     hash: u32,
     slot: usize,
-) -> Search {
-    if slot < control.len() - REFERENCE_GROUP_SIZE {
-        if is_empty_or_deleted(index!(control[slot])) {
-            return Search::Free(slot);
-        }
-    }
-    whole_search::<K, V, H>(control, entries, key, hash)
-}
-
-// The whole search, which few inserts need, so it is not inlined.
-#[inline(never)]
-fn whole_search<K: ByteArray, V: ByteArray, H: HashFn>(
-    control: &[EntryMetadata],
-    entries: &[u8],
-    key: &K,
-    hash: u32,
+    room: usize,
 ) -> Search {
     let slots = control.len() - REFERENCE_GROUP_SIZE;
-    let stored: Entries<'_, K, V> = Entries::new(entries, slots);
-    let mut scan = Scan::new(control, slots);
-    search_hashed::<K, V, H, GroupQuery>(&mut scan, &stored, key, hash)
+    if room > 0 {
+        if slot < slots {
+            if is_empty_or_deleted(index!(control[slot])) {
+                return Search::Free(slot);
+            }
+        }
+    }
+    whole_search::<K, V, H>(control, &Entries::new(entries, slots), key, hash)
 }

@@ -2,10 +2,11 @@
 //! The first look of a search. To look up many keys, take the first looks of several keys before the first search ends:
 //! then their memory accesses overlap.
 
-use super::{search_hashed, tag_of, RawTable, Scan, Search};
+use super::group_search::whole_search;
+use super::{tag_of, RawTable, Search};
 use crate::proved::raw::bytes::ByteArray;
 use crate::proved::raw::hash::HashFn;
-use crate::proved::raw::swisstable_group_query::{lanes, Group, GroupQuery, REFERENCE_GROUP_SIZE};
+use crate::proved::raw::swisstable_group_query::{lanes, Group, REFERENCE_GROUP_SIZE};
 
 /// The hash of a key, and what the group of control bytes at its home slot has: the matches of the tag, and the first
 /// byte that counts as free. It is for the table and the key of which it was taken, and for no others.
@@ -45,17 +46,10 @@ impl<'a, K: ByteArray, V: ByteArray, H: HashFn> RawTable<'a, K, V, H> {
         if group.any_empty() {
             return None;
         }
-        match self.search_far(key, hash) {
+        match whole_search::<K, V, H>(self.control, &self.entries, key, hash) {
             Search::Found(slot) => Some(self.entries.get(slot).value),
             Search::Free(_) => None,
             Search::Neither => None,
         }
-    }
-
-    // The search from its first group on, for a key whose search does not end within its first look.
-    #[inline(never)]
-    fn search_far(&self, key: &K, hash: u32) -> Search {
-        let mut scan = Scan::new(self.control, self.entries.len());
-        search_hashed::<K, V, H, GroupQuery>(&mut scan, &self.entries, key, hash)
     }
 }

@@ -4,7 +4,7 @@
 use super::{tag_of, Entries, EntryMetadata, ProbeSeq, Scan, Search};
 use crate::proved::raw::bytes::ByteArray;
 use crate::proved::raw::hash::HashFn;
-use crate::proved::raw::swisstable_group_query::{Group, REFERENCE_GROUP_SIZE};
+use crate::proved::raw::swisstable_group_query::{Group, GroupQuery, REFERENCE_GROUP_SIZE};
 
 /// Searches for the key group by group along its probe order, and stops at the first slot that is free or holds it.
 ///
@@ -47,6 +47,19 @@ pub fn search_hashed<K: ByteArray, V: ByteArray, H: HashFn, Q: Group>(
         }
         probe.advance(mask);
     }
+}
+
+/// The whole search of a key whose hash is known, for callers whose first look did not end it. It is not inlined, since
+/// few searches need it.
+#[inline(never)]
+pub(super) fn whole_search<K: ByteArray, V: ByteArray, H: HashFn>(
+    control: &[EntryMetadata],
+    entries: &Entries<'_, K, V>,
+    key: &K,
+    hash: u32,
+) -> Search {
+    let mut scan = Scan::new(control, entries.len());
+    search_hashed::<K, V, H, GroupQuery>(&mut scan, entries, key, hash)
 }
 
 // Searches the sixteen slots from `start` on, whose control bytes are `bytes`, in pieces of the group search's size.

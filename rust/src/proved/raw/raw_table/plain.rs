@@ -2,7 +2,7 @@
 //! The search slot by slot along the probe order, and find and insert by it: the reference forms of the searches by
 //! groups.
 
-use super::writes::insert_at;
+use super::insert::insert_at;
 use super::{is_empty_or_deleted, tag_of, Entries, EntryMetadata, Search};
 use crate::proved::raw::bytes::ByteArray;
 use crate::proved::raw::error::Error;
@@ -43,7 +43,7 @@ pub fn plain_insert<K: ByteArray, V: ByteArray, H: HashFn>(
     let hash = H::hash(key.as_slice());
     let stored: Entries<'_, K, V> = Entries::new(entries, slots);
     let end = plain_search::<K, V, H>(control, &stored, &key, hash);
-    insert_at::<K, V, H>(control, entries, key, value, tag_of(hash), end)
+    insert_at::<K, V, H>(control, entries, key, value, tag_of(hash), end, usize::MAX)
 }
 
 // Searches for the key with this hash slot by slot along its probe order, and stops at the first slot that is free or

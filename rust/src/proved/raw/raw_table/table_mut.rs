@@ -2,8 +2,8 @@
 //! The parts of a table, borrowed to be written.
 
 use super::free_search::first_free;
-use super::writes::{insert_at, write_entry};
-use super::{search_hashed, tag_of, Entries, EntryMetadata, RawTable, Scan};
+use super::insert::{fill_slot, insert_step};
+use super::{tag_of, Entries, EntryMetadata, RawTable};
 use crate::proved::raw::bytes::ByteArray;
 use crate::proved::raw::error::Error;
 use crate::proved::raw::hash::HashFn;
@@ -44,7 +44,8 @@ impl<'c, 'e, K: ByteArray, V: ByteArray, H: HashFn> RawTableMut<'c, 'e, K, V, H>
     /// leave the same parts.
     #[inline(always)]
     pub fn insert_by<Q: Group>(&mut self, key: K, value: V) -> Result<Option<V>, Error> {
-        insert_parts::<K, V, H, Q>(self.control, self.entries, key, value)
+        // As many entries may be added as there are free slots.
+        insert_step::<K, V, H, Q>(self.control, self.entries, key, value, usize::MAX)
     }
 
     /// Writes the pair into the first free slot of its key's probe order. No key is compared, so it is for a key that
@@ -67,23 +68,6 @@ impl<'c, 'e, K: ByteArray, V: ByteArray, H: HashFn> RawTableMut<'c, 'e, K, V, H>
     }
 }
 
-// `insert_by` on the slices themselves, since a scan that borrows a slice from `self` cannot be kept while `self` is
-// written.
-#[inline(always)]
-fn insert_parts<K: ByteArray, V: ByteArray, H: HashFn, Q: Group>(
-    control: &mut [EntryMetadata],
-    entries: &mut [u8],
-    key: K,
-    value: V,
-) -> Result<Option<V>, Error> {
-    let slots = control.len() - REFERENCE_GROUP_SIZE;
-    let hash = H::hash(key.as_slice());
-    let stored: Entries<'_, K, V> = Entries::new(entries, slots);
-    let mut scan = Scan::new(control, slots);
-    let end = search_hashed::<K, V, H, Q>(&mut scan, &stored, &key, hash);
-    insert_at::<K, V, H>(control, entries, key, value, tag_of(hash), end)
-}
-
 // `place_by` on the slices themselves.
 #[inline(always)]
 fn place_parts<K: ByteArray, V: ByteArray, H: HashFn, Q: Group>(
@@ -96,7 +80,7 @@ fn place_parts<K: ByteArray, V: ByteArray, H: HashFn, Q: Group>(
     let Some(slot) = first_free::<Q>(control, hash) else {
         return Err(Error::Full);
     };
-    write_entry::<K, V, H>(control, entries, &key, &value, tag_of(hash), slot);
+    fill_slot::<K, V, H>(control, entries, &key, &value, tag_of(hash), slot);
     Ok(())
 }
 

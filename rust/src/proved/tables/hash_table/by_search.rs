@@ -3,12 +3,9 @@
 //! in.
 
 use super::HashTable;
-use crate::proved::tables::bytes::{ByteArray, ByteStore, ByteStoreMut};
+use crate::proved::tables::bytes::{ByteStore, ByteStoreMut};
 use crate::proved::tables::config::Config;
 use crate::proved::tables::error::Error;
-use crate::proved::tables::hash::HashFn;
-use crate::proved::tables::load::max_item_count_for;
-use crate::proved::tables::raw_table::{search_hashed, tag_of, Scan, Search};
 use crate::proved::tables::swisstable_group_query::Group;
 
 impl<C: Config, D: ByteStore> HashTable<C, D> {
@@ -52,31 +49,6 @@ impl<C: Config, D: ByteStoreMut> HashTable<C, D> {
         key: &C::Key,
         value: &C::Value,
     ) -> Result<Option<C::Value>, Error> {
-        let key = C::encode_key(key);
-        let value = C::encode_value(value);
-        let header = self.allocation.header();
-        let hash = C::H::hash(key.as_slice());
-        let (control, entries) = self.allocation.data_slices();
-        let mut scan = Scan::new(control, entries.len());
-        match search_hashed::<C::EncodedKey, C::EncodedValue, C::H, Q>(
-            &mut scan, &entries, &key, hash,
-        ) {
-            Search::Found(slot) => {
-                let old = entries.get(slot).value;
-                self.allocation.write_value(slot, &value);
-                Ok(Some(C::decode_value(&old)))
-            }
-            Search::Free(slot) => {
-                let count = header.item_count();
-                let max = max_item_count_for(header.slot_count(), header.max_load_factor());
-                if count >= max {
-                    return Err(Error::Full);
-                }
-                self.allocation.write_entry(slot, &key, &value, tag_of(hash));
-                self.allocation.set_item_count(count + 1);
-                Ok(None)
-            }
-            Search::Neither => Err(Error::Full),
-        }
+        self.allocation.insert_by::<Q>(key, value)
     }
 }

@@ -8,16 +8,15 @@ use crate::proved::tables::error::Error;
 use crate::proved::tables::items::Items;
 
 impl<C: Config, D: ByteStoreMut> HashTable<C, D> {
-    /// Inserts the items from index `from` on in their order, as many as there is room for below the maximum, and
-    /// returns the index of the first that was not inserted. On any bytes, with the count and the maximum of the
-    /// header, it stops earlier only where each slot counts as occupied.
+    /// Inserts the items from index `from` on in their order, up to the first whose insert fails, and returns the index
+    /// of this item; the number of items where there is none.
     #[inline(always)]
-    pub(crate) fn insert_below_maximum<I: Items<C::Key, C::Value>>(
+    pub(crate) fn insert_from<I: Items<C::Key, C::Value>>(
         &mut self,
         items: &I,
         from: usize,
     ) -> usize {
-        self.allocation.insert_below_maximum(items, from)
+        self.allocation.insert_items(items, from)
     }
 
     /// Inserts the items in their order, and stops at the first whose insert fails. Returns how many were accepted, and
@@ -37,18 +36,10 @@ impl<C: Config, D: ByteStoreMut> HashTable<C, D> {
         &mut self,
         items: &I,
     ) -> (usize, Result<(), Error>) {
-        let mut accepted = 0;
-        loop {
-            accepted = self.insert_below_maximum(items, accepted);
-            if accepted >= items.count() {
-                return (accepted, Ok(()));
-            }
-            // At the maximum a present key is given its value.
-            let (key, value) = items.at(accepted);
-            if let Err(refused) = self.insert(key, value) {
-                return (accepted, Err(refused));
-            }
-            accepted += 1;
+        let accepted = self.insert_from(items, 0);
+        if accepted < items.count() {
+            return (accepted, Err(Error::Full));
         }
+        (accepted, Ok(()))
     }
 }

@@ -25,13 +25,13 @@ impl<C: Config> HashTableOwned<C> {
     ) -> (usize, Result<(), Error>) {
         let mut accepted = 0;
         loop {
-            accepted = self.table.insert_below_maximum(items, accepted);
+            accepted = self.table.insert_from(items, accepted);
             if accepted >= items.count() {
                 return (accepted, Ok(()));
             }
-            // At the maximum a present key is given its value, and for an absent one the table grows.
+            // The table is at its maximum, and this key is absent.
             let (key, value) = items.at(accepted);
-            if let Err(refused) = self.insert(key, value) {
+            if let Err(refused) = self.insert_grown(key, value) {
                 return (accepted, Err(refused));
             }
             accepted += 1;

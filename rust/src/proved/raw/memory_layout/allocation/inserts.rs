@@ -1,0 +1,125 @@
+// Made by `make rust` of crates/odht_raw/src/memory_layout/allocation/inserts.rt.
+//! Inserts into the bytes of a table: the header is read once, the parts are written, and the item count is written
+//! once.
+
+use super::Allocation;
+use crate::proved::header::header::ITEM_COUNT_AT;
+use crate::proved::raw::bytes::{write_slice, ByteArray, ByteStoreMut};
+use crate::proved::raw::config::Config;
+use crate::proved::raw::error::Error;
+use crate::proved::raw::items::Items;
+use crate::proved::raw::load::max_item_count_for;
+use crate::proved::raw::memory_layout::check::hold_bytes;
+use crate::proved::raw::memory_layout::{entry_at, Header, HEADER_SIZE};
+use crate::proved::raw::raw_table::{insert_run, insert_step};
+use crate::proved::raw::swisstable_group_query::Group;
+
+impl<C: Config, M: ByteStoreMut> Allocation<C, M> {
+    /// Gives the key this value, by a group search of the caller's choice, and returns its former one. `Full`, with
+    /// nothing changed, where the search does not find the key and the header's item count is its maximum or more, or
+    /// where it finds neither the key nor a free slot. A new entry raises the item count by one.
+    ///
+    /// The header is read once, and the key is hashed once.
+    #[inline(always)]
+    pub fn insert_by<Q: Group>(
+        &mut self,
+        key: &C::Key,
+        value: &C::Value,
+    ) -> Result<Option<C::Value>, Error> {
+        let store = &mut self.store;
+        insert_into_store::<C, M, Q>(store, key, value)
+    }
+
+    /// Inserts the items from index `from` on in their order, up to the first for which `insert_by` returns `Full`, and
+    /// returns the index after the last item that was inserted. Each new entry raises the item count by one.
+    ///
+    /// The header is read once and the item count written once. Each item costs a search. In tables of 2^20 slots and
+    /// more the group at the home slot may be read before it, ahead of the insert, for eight keys in turn.
+    #[inline(always)]
+    pub fn insert_items<I: Items<C::Key, C::Value>>(&mut self, items: &I, from: usize) -> usize {
+        let store = &mut self.store;
+        run_in_store::<C, M, I>(store, items, from)
+    }
+}
+
+// `insert_by` on a store that holds the bytes of a table.
+#[inline(always)]
+fn insert_into_store<C: Config, M: ByteStoreMut, Q: Group>(
+    store: &mut M,
+    key: &C::Key,
+    value: &C::Value,
+) -> Result<Option<C::Value>, Error> {
+    insert_into_bytes::<C, Q>(store.bytes_mut(), key, value)
+}
+
+// `insert_by` on the bytes themselves.
+#[inline(always)]
+fn insert_into_bytes<C: Config, Q: Group>(
+    bytes: &mut [u8],
+    key: &C::Key,
+    value: &C::Value,
+) -> Result<Option<C::Value>, Error> {
+    hold_bytes(bytes);
+    let key = C::encode_key(key);
+    let value = C::encode_value(value);
+    // Key and value each have as many bytes as their type says.
+    let _ = key.as_slice();
+    let _ = value.as_slice();
+    let header = Header::of(bytes);
+    let count = header.item_count();
+    let slots = header.slot_count();
+    let room = room_of(&header);
+    let (table, control) = bytes.split_at_mut(entry_at::<C>(slots));
+    let (front, entries) = table.split_at_mut(HEADER_SIZE);
+    match insert_step::<C::EncodedKey, C::EncodedValue, C::H, Q>(control, entries, key, value, room)
+    {
+        Ok(Some(old)) => Ok(Some(C::decode_value(&old))),
+        Ok(None) => {
+            write_count(front, count + 1);
+            Ok(None)
+        }
+        Err(refused) => Err(refused),
+    }
+}
+
+// `insert_items` on a store that holds the bytes of a table.
+#[inline(always)]
+fn run_in_store<C: Config, M: ByteStoreMut, I: Items<C::Key, C::Value>>(
+    store: &mut M,
+    items: &I,
+    from: usize,
+) -> usize {
+    run_in_bytes::<C, I>(store.bytes_mut(), items, from)
+}
+
+// `insert_items` on the bytes themselves.
+#[inline(always)]
+fn run_in_bytes<C: Config, I: Items<C::Key, C::Value>>(
+    bytes: &mut [u8],
+    items: &I,
+    from: usize,
+) -> usize {
+    hold_bytes(bytes);
+    let header = Header::of(bytes);
+    let count = header.item_count();
+    let slots = header.slot_count();
+    let room = room_of(&header);
+    let (table, control) = bytes.split_at_mut(entry_at::<C>(slots));
+    let (front, entries) = table.split_at_mut(HEADER_SIZE);
+    let (end, added) = insert_run::<C, I>(control, entries, items, from, room);
+    write_count(front, count + added);
+    end
+}
+
+// How many new entries there is room for by the header: as many as its maximum item count exceeds its item count.
+#[inline(always)]
+fn room_of(header: &Header<'_>) -> usize {
+    max_item_count_for(header.slot_count(), header.max_load_factor())
+        .saturating_sub(header.item_count())
+}
+
+// Writes the item count of a header.
+#[inline(always)]
+fn write_count(header: &mut [u8], item_count: usize) {
+    write_slice(header, ITEM_COUNT_AT, &(item_count as u64).to_le_bytes());
+}

@@ -1,0 +1,79 @@
+// Made by `make rust` of crates/odht_raw/src/raw_table/insert.rt.
+//! The insert of one pair into the parts of a table: one search, and the write where it ends.
+
+use super::{search_hashed, tag_of, Entries, EntryMetadata, Scan, Search};
+use crate::proved::raw::bytes::{BorrowedMut, ByteArray, ByteStoreMut};
+use crate::proved::raw::error::Error;
+use crate::proved::raw::hash::HashFn;
+use crate::proved::raw::swisstable_group_query::{Group, REFERENCE_GROUP_SIZE};
+use crate::proved::raw::writes::{write_pair, write_tag};
+
+/// Searches for the key once. Overwrites the value that is stored with it; or, where it is new and `room`, the number
+/// of entries that may be added, is not zero, writes the pair into the first free slot of the key's probe order.
+/// Answers the former value; or `Full`, with nothing changed, where the key is new and there is no room or no free
+/// slot.
+#[inline(always)]
+pub(crate) fn insert_step<K: ByteArray, V: ByteArray, H: HashFn, Q: Group>(
+    control: &mut [EntryMetadata],
+    entries: &mut [u8],
+    key: K,
+    value: V,
+    room: usize,
+) -> Result<Option<V>, Error> {
+    let slots = control.len() - REFERENCE_GROUP_SIZE;
+    let hash = H::hash(key.as_slice());
+    let stored: Entries<'_, K, V> = Entries::new(entries, slots);
+    let mut scan = Scan::new(control, slots);
+    let end = search_hashed::<K, V, H, Q>(&mut scan, &stored, &key, hash);
+    insert_at::<K, V, H>(control, entries, key, value, tag_of(hash), end, room)
+}
+
+/// Writes a pair where the search for its key ended: the value alone into the slot that holds the key, or, where there
+/// is room, the entry with its tag into the free slot. Answers the former value; or `Full`, with nothing changed,
+/// where there is no room for a new entry, or the search met neither slot.
+#[inline(always)]
+pub(crate) fn insert_at<K: ByteArray, V: ByteArray, H: HashFn>(
+    control: &mut [EntryMetadata],
+    entries: &mut [u8],
+    key: K,
+    value: V,
+    tag: u8,
+    end: Search,
+    room: usize,
+) -> Result<Option<V>, Error> {
+    let slots = control.len() - REFERENCE_GROUP_SIZE;
+    let stored: Entries<'_, K, V> = Entries::new(entries, slots);
+    match end {
+        Search::Found(slot) => {
+            let old = stored.get(slot).value;
+            let mut store = BorrowedMut::new(entries);
+            store.write_at(slot * (K::LEN + V::LEN) + K::LEN, value.as_slice());
+            Ok(Some(old))
+        }
+        Search::Free(slot) => {
+            if room == 0 {
+                return Err(Error::Full);
+            }
+            fill_slot::<K, V, H>(control, entries, &key, &value, tag, slot);
+            Ok(None)
+        }
+        Search::Neither => Err(Error::Full),
+    }
+}
+
+/// Writes the pair into a slot, its tag into the slot's control byte, and for a slot below 16 the tag into the mirror.
+#[inline(always)]
+pub(crate) fn fill_slot<K: ByteArray, V: ByteArray, H: HashFn>(
+    control: &mut [EntryMetadata],
+    entries: &mut [u8],
+    key: &K,
+    value: &V,
+    tag: u8,
+    slot: usize,
+) {
+    let slots = control.len() - REFERENCE_GROUP_SIZE;
+    let mut store = BorrowedMut::new(entries);
+    write_pair(&mut store, slot * (K::LEN + V::LEN), key, value);
+    let mut tags = BorrowedMut::new(control);
+    write_tag(&mut tags, 0, slots, slot, tag);
+}
