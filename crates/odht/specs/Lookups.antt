@@ -2,9 +2,10 @@
 --     IsLookAt c T ks i l     l is the first look of the search for key i of ks
 --     IsLookup c T k o        o is the result of the lookup of the key k: in a placed table the value for k, and in any
 --                             parts only one that is stored with this very key
---     AreLookups c T ks os n  the first n of os are the results of the lookups of the first n of ks
+--     ArePut c T ks put s s' n   s' is s after the results of the lookups of the first n of ks were put, each at its
+--                             index
 --     HaveStored c B ks os    each value of os is stored in the bytes B with the key of ks at its index
-use Rattle.std.specs.Prelude.{◌≡◌, ◌<◌, ℕ, List, Option, Some, IfSome, slice_get}
+use Rattle.std.specs.Prelude.{◌≡◌, ℕ, zero, suc, List, Option, Some, IfSome, slice_get}
 use Rattle.odht_base.specs.Table.{Table}
 use Rattle.odht_base.specs.Valid.{IsPartsOf}
 use Rattle.odht_header.specs.Coding.{Coding, value_for, HasStored}
@@ -19,9 +20,12 @@ pub record IsLookup {K V : Type 0} (c : Coding K V) (T : TableParts) (k : K) (o 
   pub on_placed : (P : Table) → IsPartsOf c.format P T.entries.bytes T.control → o ≡ value_for c P k
   pub on_any : IfSome o (IsBesideKey c.format c.value_of T.entries (c.key_bytes k))
 
-abbrev pub AreLookups : {K V : Type 0} → Coding K V → TableParts → List K → List (Option V) → ℕ → Type 0
-AreLookups {K = K} {V = V} c T ks os n =
-    (i : ℕ) (k : K) → i < n → slice_get ks i ≡ Some k → (o : Option V) × (slice_get os i ≡ Some o) × IsLookup c T k o
+abbrev pub ArePut : {K V S : Type 0} → Coding K V → TableParts → List K
+    → (S → ℕ → Option V → S) → S → S → ℕ → Type 0
+ArePut c T ks put s s' zero = s' ≡ s
+ArePut {K = K} {V = V} {S = S} c T ks put s s' (suc n) =
+    (r : S) × (o : Option V) × ArePut c T ks put s r n
+    × ((k : K) → slice_get ks n ≡ Some k → IsLookup c T k o) × (s' ≡ put r n o)
 
 abbrev pub HaveStored : {K V : Type 0} → Coding K V → List ℕ → List K → List (Option V) → Type 0
 HaveStored {K = K} {V = V} c B ks os =

@@ -22,7 +22,7 @@ use crate::error::Error;
 use crate::items::Items;
 use crate::iter::Iter;
 use crate::load::Factor;
-use crate::lookups;
+use crate::lookups::{self, InSlice};
 use crate::memory_layout::{self, Allocation};
 use crate::raw_table::{RawIter, RawTable};
 use crate::swisstable_group_query::GroupQuery;
@@ -130,7 +130,8 @@ impl<C: Config, D: ByteStore> HashTable<C, D> {
             → values.new ≡ map (value_for ⟦<C as Coded>⟧.coding P) keys.now }
         ensures on_any { HaveStored ⟦<C as Coded>⟧.coding (D.bytes self.now) keys.now values.new }
     {
-        lookups::get_all::<C>(&self.as_raw(), keys, values);
+        let mut answers = InSlice { answers: values };
+        lookups::get_all::<C, InSlice<'_, Option<C::Value>>>(&self.as_raw(), keys, &mut answers);
     }
 
     /// `get`, and how many groups of control bytes it read: on valid bytes those up to the first slot of the key's

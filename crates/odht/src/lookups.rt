@@ -1,18 +1,148 @@
 //! Lookups of many keys. A first look hashes a key and reads the group of control bytes at its home. The first looks of
 //! eight keys are taken before any of their searches goes on, so that the loads from memory overlap.
-ghost use Rattle.std.specs.Prelude.{◌≡◌, ◌+◌, ◌≤◌, ◌<◌, length, slice_get, Some};
-ghost use Rattle.odht.specs.Lookups.{IsLookAt, IsLookup, AreLookups};
+ghost use Rattle.std.specs.Prelude.{◌≡◌, ◌+◌, ◌≤◌, ◌<◌, ℕ, length, set, slice_get, Some};
+ghost use Rattle.odht.specs.Lookups.{IsLookAt, IsLookup, ArePut};
 
 use crate::config::{Coded, Config};
 use crate::raw_table::{FirstLook, RawTable};
 
-/// How many first looks are taken before the searches go on, in keys.
-pub const BATCH: usize = 8;
+// How many first looks are taken before the searches go on, in keys.
+const BATCH: usize = 8;
 
-/// The first look of the search for the key at an index, which [`find_at`] continues. It reads one group of control
-/// bytes.
+/// Where the answers of many lookups go, each to a place with a number.
+///
+/// In a contract the ghost member `places` is how many places there are, and `after_put` what there is after an answer
+/// was put at one of them. [`get_all`] puts one answer for each key, in the order of the keys.
+pub trait Answers<T>: Drop {
+    ghost places: { Self → ℕ };
+
+    ghost after_put: { Self → ℕ → T → Self };
+
+    /// Puts an answer at an index.
+    fn put(&mut self, index: usize, answer: T)
+        requires { index < places self.old }
+        ensures put { self.new ≡ after_put self.old index answer }
+        ensures places { places self.new ≡ places self.old };
+}
+
+/// A slice, in which an answer replaces what was at its index.
+#[derive(Drop)]
+pub(crate) struct InSlice<'a, T> {
+    pub(crate) answers: &'a mut [T],
+}
+
+impl<'a, T: Drop> Answers<T> for InSlice<'a, T> {
+    ghost places = { λ s. length s.answers.now };
+
+    ghost after_put = { λ s i a. record s {
+      answers = record s.answers { now = set s.answers.now i a };
+    } };
+
+    #[inline(always)]
+    fn put(&mut self, index: usize, answer: T) {
+        self.answers[index] = answer;
+    }
+}
+
+/// Looks up the keys, eight at a time and then the rest one by one, and puts the answer of each key at its index.
+///
+/// Each key is encoded twice, and hashed once. Where the group at a key's home has neither the key nor a free control
+/// byte it is read twice.
 #[inline(always)]
-pub fn look_at<C: Config>(
+pub fn get_all<C: Config, A: Answers<Option<C::Value>>>(
+    raw: &RawTable<'_, C::EncodedKey, C::EncodedValue, C::H>,
+    keys: &[C::Key],
+    answers: &mut A,
+)
+    requires { length keys.now ≤ A.places answers.old }
+    ensures { let c = ⟦<C as Coded>⟧.coding
+        in ArePut c raw.now keys.now A.after_put answers.old answers.new (length keys.now) }
+{
+    let from = get_batches::<C, A>(raw, keys, answers);
+    for index in from..keys.len() {
+        let look = look_at::<C>(raw, keys, index);
+        get_one::<C, A>(raw, look, keys, index, answers);
+    }
+}
+
+// Puts the answers of the keys of the full batches, and returns how many keys these are.
+#[inline(always)]
+fn get_batches<C: Config, A: Answers<Option<C::Value>>>(
+    raw: &RawTable<'_, C::EncodedKey, C::EncodedValue, C::H>,
+    keys: &[C::Key],
+    answers: &mut A,
+) -> usize
+    requires { length keys.now ≤ A.places answers.old }
+    ensures within { result ≤ length keys.now }
+    ensures answers { let c = ⟦<C as Coded>⟧.coding
+        in ArePut c raw.now keys.now A.after_put answers.old answers.new result }
+    ensures places { A.places answers.new ≡ A.places answers.old }
+{
+    let batches = keys.len() / BATCH;
+    for batch in 0..batches {
+        get_eight::<C, A>(raw, keys, batch * BATCH, answers);
+    }
+    batches * BATCH
+}
+
+// Puts the answers of the eight keys from an index on. It has no loop, so that the first looks stay in registers.
+#[inline(always)]
+fn get_eight<C: Config, A: Answers<Option<C::Value>>>(
+    raw: &RawTable<'_, C::EncodedKey, C::EncodedValue, C::H>,
+    keys: &[C::Key],
+    from: usize,
+    answers: &mut A,
+)
+    requires within { from + 8 ≤ length keys.now }
+    requires places { length keys.now ≤ A.places answers.old }
+    ensures answers { let c = ⟦<C as Coded>⟧.coding
+        in (first : A)
+        → ArePut c raw.now keys.now A.after_put first answers.old from
+        → ArePut c raw.now keys.now A.after_put first answers.new (from + 8) }
+    ensures places { A.places answers.new ≡ A.places answers.old }
+{
+    let first = look_at::<C>(raw, keys, from);
+    let second = look_at::<C>(raw, keys, from + 1);
+    let third = look_at::<C>(raw, keys, from + 2);
+    let fourth = look_at::<C>(raw, keys, from + 3);
+    let fifth = look_at::<C>(raw, keys, from + 4);
+    let sixth = look_at::<C>(raw, keys, from + 5);
+    let seventh = look_at::<C>(raw, keys, from + 6);
+    let eighth = look_at::<C>(raw, keys, from + 7);
+    get_one::<C, A>(raw, first, keys, from, answers);
+    get_one::<C, A>(raw, second, keys, from + 1, answers);
+    get_one::<C, A>(raw, third, keys, from + 2, answers);
+    get_one::<C, A>(raw, fourth, keys, from + 3, answers);
+    get_one::<C, A>(raw, fifth, keys, from + 4, answers);
+    get_one::<C, A>(raw, sixth, keys, from + 5, answers);
+    get_one::<C, A>(raw, seventh, keys, from + 6, answers);
+    get_one::<C, A>(raw, eighth, keys, from + 7, answers);
+}
+
+// Puts the answer of the key at an index, from its first look.
+#[inline(always)]
+fn get_one<C: Config, A: Answers<Option<C::Value>>>(
+    raw: &RawTable<'_, C::EncodedKey, C::EncodedValue, C::H>,
+    look: FirstLook,
+    keys: &[C::Key],
+    index: usize,
+    answers: &mut A,
+)
+    requires index { index < length keys.now }
+    requires places { length keys.now ≤ A.places answers.old }
+    requires look { IsLookAt ⟦<C as Coded>⟧.coding raw.now keys.now index look }
+    ensures answers { let c = ⟦<C as Coded>⟧.coding
+        in (first : A)
+        → ArePut c raw.now keys.now A.after_put first answers.old index
+        → ArePut c raw.now keys.now A.after_put first answers.new (index + 1) }
+    ensures places { A.places answers.new ≡ A.places answers.old }
+{
+    answers.put(index, find_at::<C>(raw, look, keys, index));
+}
+
+// The first look of the search for the key at an index, which `find_at` continues. It reads one group of control bytes.
+#[inline(always)]
+fn look_at<C: Config>(
     raw: &RawTable<'_, C::EncodedKey, C::EncodedValue, C::H>,
     keys: &[C::Key],
     index: usize,
@@ -23,9 +153,9 @@ pub fn look_at<C: Config>(
     raw.first_look(&C::encode_key(&keys[index]))
 }
 
-/// The value of the key at an index, from its first look by [`look_at`]. The key is encoded once more.
+// The value of the key at an index, from its first look by `look_at`. The key is encoded once more.
 #[inline(always)]
-pub fn find_at<C: Config>(
+fn find_at<C: Config>(
     raw: &RawTable<'_, C::EncodedKey, C::EncodedValue, C::H>,
     look: FirstLook,
     keys: &[C::Key],
@@ -40,88 +170,4 @@ pub fn find_at<C: Config>(
         Some(value) => Some(C::decode_value(&value)),
         None => None,
     }
-}
-
-/// Writes the value of each key to its index, eight lookups at a time, and then the rest one by one.
-#[inline]
-pub(crate) fn get_all<C: Config>(
-    raw: &RawTable<'_, C::EncodedKey, C::EncodedValue, C::H>,
-    keys: &[C::Key],
-    values: &mut [Option<C::Value>],
-)
-    requires { length values.old ≡ length keys.now }
-    ensures { AreLookups ⟦<C as Coded>⟧.coding raw.now keys.now values.new (length keys.now) }
-{
-    let from = get_batches::<C>(raw, keys, values);
-    for index in from..keys.len() {
-        let look = look_at::<C>(raw, keys, index);
-        get_one::<C>(raw, look, keys, index, values);
-    }
-}
-
-// Writes the values of the keys of the full batches, and returns how many keys these are.
-#[inline(always)]
-fn get_batches<C: Config>(
-    raw: &RawTable<'_, C::EncodedKey, C::EncodedValue, C::H>,
-    keys: &[C::Key],
-    values: &mut [Option<C::Value>],
-) -> usize
-    requires { length values.old ≡ length keys.now }
-    ensures within { result ≤ length keys.now }
-    ensures answers { AreLookups ⟦<C as Coded>⟧.coding raw.now keys.now values.new result }
-{
-    let batches = keys.len() / BATCH;
-    for batch in 0..batches {
-        get_eight::<C>(raw, keys, batch * BATCH, values);
-    }
-    batches * BATCH
-}
-
-// Writes the values of the eight keys from an index on. It has no loop, so that the first looks stay in registers.
-#[inline(always)]
-fn get_eight<C: Config>(
-    raw: &RawTable<'_, C::EncodedKey, C::EncodedValue, C::H>,
-    keys: &[C::Key],
-    from: usize,
-    values: &mut [Option<C::Value>],
-)
-    requires within { from + 8 ≤ length keys.now }
-    requires values { length values.old ≡ length keys.now }
-    ensures { AreLookups ⟦<C as Coded>⟧.coding raw.now keys.now values.old from
-        → AreLookups ⟦<C as Coded>⟧.coding raw.now keys.now values.new (from + 8) }
-{
-    let first = look_at::<C>(raw, keys, from);
-    let second = look_at::<C>(raw, keys, from + 1);
-    let third = look_at::<C>(raw, keys, from + 2);
-    let fourth = look_at::<C>(raw, keys, from + 3);
-    let fifth = look_at::<C>(raw, keys, from + 4);
-    let sixth = look_at::<C>(raw, keys, from + 5);
-    let seventh = look_at::<C>(raw, keys, from + 6);
-    let eighth = look_at::<C>(raw, keys, from + 7);
-    get_one::<C>(raw, first, keys, from, values);
-    get_one::<C>(raw, second, keys, from + 1, values);
-    get_one::<C>(raw, third, keys, from + 2, values);
-    get_one::<C>(raw, fourth, keys, from + 3, values);
-    get_one::<C>(raw, fifth, keys, from + 4, values);
-    get_one::<C>(raw, sixth, keys, from + 5, values);
-    get_one::<C>(raw, seventh, keys, from + 6, values);
-    get_one::<C>(raw, eighth, keys, from + 7, values);
-}
-
-// Writes the value of the key at an index, from its first look.
-#[inline(always)]
-fn get_one<C: Config>(
-    raw: &RawTable<'_, C::EncodedKey, C::EncodedValue, C::H>,
-    look: FirstLook,
-    keys: &[C::Key],
-    index: usize,
-    values: &mut [Option<C::Value>],
-)
-    requires index { index < length keys.now }
-    requires values { length values.old ≡ length keys.now }
-    requires look { IsLookAt ⟦<C as Coded>⟧.coding raw.now keys.now index look }
-    ensures { AreLookups ⟦<C as Coded>⟧.coding raw.now keys.now values.old index
-        → AreLookups ⟦<C as Coded>⟧.coding raw.now keys.now values.new (index + 1) }
-{
-    values[index] = find_at::<C>(raw, look, keys, index);
 }

@@ -1,13 +1,12 @@
--- Lookups of many keys ks among the parts T of a table, with the answers written to arrays of the caller.
---     AreGot c T ks old vs fs n  the first n keys are looked up: fs says whether a key is found, and vs has its value
---                          where it is, and otherwise the value of old; the values from n on are those of old
-use Rattle.std.specs.Prelude.{◌≡◌, ◌<◌, ◌≤◌, ℕ, List, Option, Some, slice_get}
-use Rattle.odht_header.specs.Coding.{Coding}
-use Rattle.odht_raw.specs.Parts.{TableParts}
-use Rattle.odht.specs.Lookups.{IsLookup}
-use Rattle.odht_calls.specs.Reads.{IsGotAt}
+-- What the answer o of a lookup, None or Some value, leaves in the arrays of the caller.
+--     with_found vs i o   the values vs after the answer o of key i: its value at i, or where there is none vs itself
+--     flag_of o           what says whether the key was found: 1 or 0
+use Rattle.std.specs.Prelude.{ℕ, List, Option, Some, None, set}
 
-pub record AreGot {K V : Type 0} (c : Coding K V) (T : TableParts) (ks : List K) (old vs : List V) (fs : List ℕ) (n : ℕ) : Type 0 where
-  pub got : (i : ℕ) (k : K) → i < n → slice_get ks i ≡ Some k
-      → (o : Option V) × IsGotAt o (slice_get old i) (slice_get fs i) (slice_get vs i) × IsLookup c T k o
-  pub rest : (i : ℕ) → n ≤ i → slice_get vs i ≡ slice_get old i
+abbrev pub with_found : {V : Type 0} → List V → ℕ → Option V → List V
+with_found vs i None = vs
+with_found vs i (Some v) = set vs i v
+
+abbrev pub flag_of : {V : Type 0} → Option V → ℕ
+flag_of None = 0
+flag_of (Some v) = 1

@@ -5,7 +5,6 @@ ghost use Rattle.odht_header.specs.Refusals.{opening_refusal, view_refusal, chec
 ghost use Rattle.odht_calls.specs.Statuses.{status_or_ok};
 ghost use Rattle.odht_calls.specs.Reads.{GetAnswers, GetAllAnswers, LenAnswers, SizesAnswers};
 
-use crate::lookups::look_up_all;
 use crate::status::{OK, status_of};
 use crate::view;
 use odht::bytes::Borrowed;
@@ -79,8 +78,7 @@ pub fn get_all<C: Config>(
         Ok(table) => table,
         Err(refused) => return status_of(&refused),
     };
-    look_up_all::<C>(&table.as_raw(), keys, values, found);
-    OK
+    view::get_all(&table, keys, values, found)
 }
 
 /// Writes the header's item count to `item_count`. An error leaves it unchanged.

@@ -3,12 +3,12 @@ ghost use Rattle.std.specs.Prelude.{◌≡◌, length};
 ghost use Rattle.odht_raw.specs.Frame.{IsAccepted};
 ghost use Rattle.odht_calls.specs.Views.{OpenViewAnswers, ViewGetAnswers, ViewGetAllAnswers};
 
-use crate::lookups::look_up_all;
+use crate::lookups::Arrays;
 use crate::status::{ABSENT, OK, status_of};
-use odht::HashTable;
 use odht::bytes::Borrowed;
 use odht::config::{Coded, Config};
 use odht::error::Error;
+use odht::{HashTable, lookups};
 
 /// The bytes of an opened table, as C keeps them: a pointer and a length. The calls that read a view require that the
 /// header and the length of its bytes are accepted, and do not check it.
@@ -62,7 +62,7 @@ pub fn get<C: Config>(table: &HashTable<C, Borrowed<'_>>, key: &C::Key, value: &
 
 /// Looks up many keys in an opened table: at the index of a key that is found, its value is written to `values` and 1
 /// to `found`; at any other index 0 is written to `found`.
-#[inline]
+#[inline(always)]
 pub fn get_all<C: Config>(
     table: &HashTable<C, Borrowed<'_>>,
     keys: &[C::Key],
@@ -75,6 +75,7 @@ pub fn get_all<C: Config>(
         values.old found.old result values.new found.new }
 {
     let raw = table.as_raw();
-    look_up_all::<C>(&raw, keys, values, found);
+    let mut arrays = Arrays { values, found };
+    lookups::get_all::<C, Arrays<'_, '_, C::Value>>(&raw, keys, &mut arrays);
     OK
 }

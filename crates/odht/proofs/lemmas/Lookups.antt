@@ -1,7 +1,8 @@
 -- Lookups of many keys, one after the other.
-use Rattle.std.proofs.Common.{◌≡◌, ◌<◌, ◌∙◌, ◌+◌, ◌⊎◌, inl, inr, ℕ, zero, suc, sym, ap, subst, refl, arith, List, [], ◌∷◌, Option, Some, None, IfSome, length, map, set, slice_get}
+use Rattle.std.proofs.Common.{◌≡◌, ◌<◌, ◌≤◌, ◌∙◌, ◌+◌, inl, inr, ℕ, zero, suc, sym, ap, subst, refl, arith, List, [], ◌∷◌, Option, Some, None, IfSome, length, map, set, slice_get}
 use Rattle.std.specs.Prelude.{option_map}
 use Rattle.std.proofs.Math.Nat.{eq-or-lt_of_le}
+use Rattle.std.proofs.lemmas.List.{length-set}
 use Rattle.std.proofs.lemmas.Option.{slice_get_within}
 use Rattle.odht_base.proofs.lemmas.Options.{some_same}
 use Rattle.odht_base.specs.Format.{Format}
@@ -11,7 +12,8 @@ use Rattle.odht_base.specs.Valid.{IsPartsOf}
 use Rattle.odht_header.specs.Coding.{Coding, value_for}
 use Rattle.odht_raw.specs.Parts.{EntryBytes, TableParts}
 use Rattle.odht_raw.specs.SearchEnds.{IsBesideKey}
-use Rattle.odht.specs.Lookups.{IsLookup, AreLookups, HaveStored}
+use Rattle.odht.specs.declared.lookups.InSlice.{InSlice}
+use Rattle.odht.specs.Lookups.{IsLookup, ArePut, HaveStored}
 
 -- what is written can be read
 pub slice_get-set_same : {X : Type 0} (xs : List X) (i : ℕ) (a : X) → i < length xs → slice_get (set xs i a) i ≡ Some a
@@ -46,30 +48,57 @@ stored_beside F f B k E v es s h = (
   (h.0, subst (λ n. h.0 < n) s h.1, ap (λ e. slot_key F e h.0) (sym es) ∙ h.2, refl),
 )
 
-module _ {K V : Type 0} (c : Coding K V) (T : TableParts) (ks : List K) where
-  -- with the n-th key too
-  pub lookups-next : (os : List (Option V)) (n : ℕ) (o : Option V) → n < length os → ((k : K) → slice_get ks n ≡ Some k → IsLookup c T k o)
-      → AreLookups c T ks os n → AreLookups c T ks (set os n o) (n + 1)
-  lookups-next os n o low this so_far i k l at = go (eq-or-lt_of_le (omega (arith, l)))
-    where
-      go : (i ≡ n) ⊎ (i < n) → (x : Option V) × (slice_get (set os n o) i ≡ Some x) × IsLookup c T k x
-      go (inl e) = (o, ap (slice_get (set os n o)) e ∙ slice_get-set_same os n o low, this k (ap (slice_get ks) (sym e) ∙ at))
-      go (inr h) = let was = so_far i k h at in (was.0, slice_get-set_other os n i o (λ e. omega (arith, e, h)) ∙ was.1, was.2)
+-- answers that were put, of the lookups of keys among the parts of a table
+module _ {K V S : Type 0} (c : Coding K V) (T : TableParts) (ks : List K) (put : S → ℕ → Option V → S) where
+  -- what no put changes
+  pub puts-same : {X : Type 0} (f : S → X) → ((s : S) (i : ℕ) (o : Option V) → f (put s i o) ≡ f s) → (s s' : S) (n : ℕ) → ArePut c T ks put s s' n → f s' ≡ f s
+  puts-same f same s s' zero all = ap f all
+  puts-same f same s s' (suc n) (r, o, before, this, is) = ap f is ∙ same r n o ∙ puts-same f same s r n before
 
-  module _ (os : List (Option V)) (long : length os ≡ length ks) (all : AreLookups c T ks os (length ks)) where
-    known : (i : ℕ) (k : K) → slice_get ks i ≡ Some k → (o : Option V) × (slice_get os i ≡ Some o) × IsLookup c T k o
-    known i k at = all i k (slice_get_within ks i k at) at
+  -- what is at each index, where a put makes of the x at its index g of the answer and x, and leaves all else
+  module _ {E : Type 0} (places : S → ℕ) (at : S → ℕ → E) (g : Option V → E → E) (fits : (s : S) (i : ℕ) (o : Option V) → places (put s i o) ≡ places s)
+      (here : (s : S) (i : ℕ) (o : Option V) → i < places s → at (put s i o) i ≡ g o (at s i)) (there : (s : S) (i j : ℕ) (o : Option V) → (j ≡ i → ⊥) → at (put s i o) j ≡ at s j) where
+    -- past the answers nothing changes
+    puts-rest : (s s' : S) (n j : ℕ) → ArePut c T ks put s s' n → n ≤ j → at s' j ≡ at s j
+    puts-rest s s' zero j all l = ap (λ x. at x j) all
+    puts-rest s s' (suc n) j (r, o, before, this, is) l = ap (λ x. at x j) is ∙ there r n j o (λ e. omega (arith, e, l)) ∙ puts-rest s r n j before (omega (arith, l))
 
-    -- in a placed table they are its values
-    pub lookups-values : (P : Table) → IsPartsOf c.format P T.entries.bytes T.control → os ≡ map (value_for c P) ks
-    lookups-values P parts = maps (value_for c P) ks os long (λ i k at. let got = known i k at in got.1 ∙ ap Some (got.2.on_placed P parts))
+    -- and the answer at the index of a key is the result of its lookup
+    pub puts-at : (s s' : S) (n j : ℕ) (k : K) → ArePut c T ks put s s' n → n ≤ places s → j < n → slice_get ks j ≡ Some k → (o : Option V) × (at s' j ≡ g o (at s j)) × IsLookup c T k o
+    puts-at s s' zero j k all fit l key = absurd (omega (arith, l))
+    puts-at s s' (suc n) j k (r, o, before, this, is) fit l key =
+        let low : n < places r = (let same = puts-same places fits s r n before in omega (arith, fit, same)) in
+        let new : at s' n ≡ g o (at s n) = ap (λ x. at x n) is ∙ here r n o low ∙ ap (g o) (puts-rest s r n n before (omega arith)) in
+        elim (eq-or-lt_of_le (omega (arith, l))) [
+          | inl e ↦ (o, subst (λ i. at s' i ≡ g o (at s i)) (sym e) new, this k (ap (slice_get ks) (sym e) ∙ key))
+          | inr h ↦ let was = puts-at s r n j k before (omega (arith, fit)) h key in
+              (was.0, ap (λ x. at x j) is ∙ there r n j o (λ e. omega (arith, e, h)) ∙ was.1, was.2)
+        ]
 
-    -- in the parts of any bytes they are stored there
-    pub lookups-stored : (B : List ℕ) → T.entries.bytes ≡ entries_of c.format B → T.entries.slots ≡ header_slots B → HaveStored c B ks os
-    lookups-stored B es s i k v at found =
-        let got = known i k at in
-        let same : got.0 ≡ Some v = some_same got.0 (Some v) (sym got.1 ∙ found) in
-        stored_beside c.format c.value_of B (c.key_bytes k) T.entries v es s (subst (λ o. IfSome o (IsBesideKey c.format c.value_of T.entries (c.key_bytes k))) same got.2.on_any)
+-- a slice after an answer was put
+abbrev put : {V : Type 0} → InSlice (Option V) → ℕ → Option V → InSlice (Option V)
+put s i o = record s { answers = record s.answers { now = set s.answers.now i o } }
+
+-- the answers of all keys were put in a slice
+pub puts-listed : {K V : Type 0} (c : Coding K V) (T : TableParts) (ks : List K) (s s' : InSlice (Option V)) → ArePut c T ks put s s' (length ks) → length ks ≤ length s.answers.now
+    → (i : ℕ) (k : K) → slice_get ks i ≡ Some k → (o : Option V) × (slice_get s'.answers.now i ≡ Some o) × IsLookup c T k o
+puts-listed c T ks s s' all fit i k key =
+    puts-at c T ks put (λ s. length s.answers.now) (λ s. slice_get s.answers.now) (λ o x. Some o) (λ s. length-set s.answers.now) (λ s. slice_get-set_same s.answers.now)
+    (λ s i j o. slice_get-set_other s.answers.now i j o) s s' (length ks) i k all fit (slice_get_within ks i k key) key
+
+-- results of the lookups of all keys
+module _ {K V : Type 0} (c : Coding K V) (T : TableParts) (ks : List K) (os : List (Option V))
+    (known : (i : ℕ) (k : K) → slice_get ks i ≡ Some k → (o : Option V) × (slice_get os i ≡ Some o) × IsLookup c T k o) where
+  -- in a placed table they are its values
+  pub lookups-values : length os ≡ length ks → (P : Table) → IsPartsOf c.format P T.entries.bytes T.control → os ≡ map (value_for c P) ks
+  lookups-values long P parts = maps (value_for c P) ks os long (λ i k at. let got = known i k at in got.1 ∙ ap Some (got.2.on_placed P parts))
+
+  -- in the parts of any bytes they are stored there
+  pub lookups-stored : (B : List ℕ) → T.entries.bytes ≡ entries_of c.format B → T.entries.slots ≡ header_slots B → HaveStored c B ks os
+  lookups-stored B es s i k v at found =
+      let got = known i k at in
+      let same : got.0 ≡ Some v = some_same got.0 (Some v) (sym got.1 ∙ found) in
+      stored_beside c.format c.value_of B (c.key_bytes k) T.entries v es s (subst (λ o. IfSome o (IsBesideKey c.format c.value_of T.entries (c.key_bytes k))) same got.2.on_any)
 
 -- eight steps in turn, each from one number to the next
 pub eight_steps : {X : Type 0} (R : X → ℕ → Type 0) (n : ℕ) (a b c d e f g h i : X) → (R a n → R b (n + 1)) → (R b (n + 1) → R c (n + 1 + 1)) → (R c (n + 2) → R d (n + 2 + 1)) → (R d (n + 3) → R e (n + 3 + 1))

@@ -1,20 +1,18 @@
--- Lookups of many keys, one after the other.
---     Wrote o vs fs n vs' fs'   the answer o was written at n: to the values where there is one, and to what was found
-use Rattle.std.proofs.Common.{◌≡◌, ◌<◌, ◌∙◌, ◌+◌, ◌⊎◌, inl, inr, ℕ, sym, ap, subst, arith, List, Option, Some, None, IfSome, length, set, slice_get}
-use Rattle.std.proofs.Math.Nat.{eq-or-lt_of_le}
+-- Lookups of many keys, with the answers in two arrays.
+use Rattle.std.proofs.Common.{◌≡◌, ◌<◌, ◌≤◌, ◌∙◌, ap, arith, ℕ, List, Option, Some, None, IfSome, length, min, set, slice_get}
+use Rattle.std.proofs.Math.Nat.{le-min, min-le_left, min-le_right}
+use Rattle.std.proofs.lemmas.List.{length-set}
+use Rattle.std.proofs.lemmas.Option.{slice_get_within}
 use Rattle.odht_base.specs.Format.{Format}
 use Rattle.odht_base.specs.Decoded.{Stores, entries_of, header_slots}
 use Rattle.odht_header.specs.Coding.{Coding}
 use Rattle.odht_raw.specs.Parts.{EntryBytes, TableParts}
 use Rattle.odht_raw.specs.SearchEnds.{IsBesideKey}
-use Rattle.odht.specs.Lookups.{IsLookup}
-use Rattle.odht.proofs.lemmas.Lookups.{slice_get-set_same, slice_get-set_other, stored_beside}
-use Rattle.odht_calls.specs.Lookups.{AreGot}
+use Rattle.odht.specs.Lookups.{IsLookup, ArePut}
+use Rattle.odht.proofs.lemmas.Lookups.{slice_get-set_same, slice_get-set_other, stored_beside, puts-at}
+use Rattle.odht_calls.specs.declared.lookups.Arrays.{Arrays}
+use Rattle.odht_calls.specs.Lookups.{flag_of, with_found}
 use Rattle.odht_calls.specs.Reads.{IsGotAt}
-
-abbrev pub Wrote : {V : Type 0} → Option V → List V → List ℕ → ℕ → List V → List ℕ → Type 0
-Wrote None vs fs n vs' fs' = (vs' ≡ vs) × (fs' ≡ set fs n 0)
-Wrote (Some v) vs fs n vs' fs' = (vs' ≡ set vs n v) × (fs' ≡ set fs n 1)
 
 -- what is found beside a key in the entries of bytes is stored in them
 pub stored_answer : {V : Type 0} (F : Format) (f : List ℕ → V) (B k : List ℕ) (E : EntryBytes) (o : Option V) → E.bytes ≡ entries_of F B → E.slots ≡ header_slots B
@@ -22,40 +20,46 @@ pub stored_answer : {V : Type 0} (F : Format) (f : List ℕ → V) (B k : List �
 stored_answer F f B k E None es s h = tt
 stored_answer F f B k E (Some v) es s h = stored_beside F f B k E v es s h
 
--- no other value changes
-pub other_values : {V : Type 0} (o : Option V) (vs vs' : List V) (fs fs' : List ℕ) (n i : ℕ) → Wrote o vs fs n vs' fs' → (i ≡ n → ⊥) → slice_get vs' i ≡ slice_get vs i
-other_values None vs vs' fs fs' n i w d = ap (λ xs. slice_get xs i) w.0
-other_values (Some v) vs vs' fs fs' n i w d = ap (λ xs. slice_get xs i) w.0 ∙ slice_get-set_other vs n i v d
+-- what both arrays have at an index
+abbrev at_index : {V : Type 0} → List V → List ℕ → ℕ → Option V × Option ℕ
+at_index vs fs i = (slice_get vs i, slice_get fs i)
 
--- nor what another key was found to be
-other_found : {V : Type 0} (o : Option V) (vs vs' : List V) (fs fs' : List ℕ) (n i : ℕ) → Wrote o vs fs n vs' fs' → (i ≡ n → ⊥) → slice_get fs' i ≡ slice_get fs i
-other_found None vs vs' fs fs' n i w d = ap (λ xs. slice_get xs i) w.1 ∙ slice_get-set_other fs n i 0 d
-other_found (Some v) vs vs' fs fs' n i w d = ap (λ xs. slice_get xs i) w.1 ∙ slice_get-set_other fs n i 1 d
+-- and what they have there after an answer was put
+abbrev after_answer : {V : Type 0} → Option V → Option V × Option ℕ → Option V × Option ℕ
+after_answer None x = (x.0, Some 0)
+after_answer (Some v) x = (Some v, Some 1)
 
--- this one is answered
-this_got : {V : Type 0} (o : Option V) (vs vs' : List V) (fs fs' : List ℕ) (n : ℕ) (old : Option V) → Wrote o vs fs n vs' fs' → n < length vs → n < length fs → slice_get vs n ≡ old
-    → IsGotAt o old (slice_get fs' n) (slice_get vs' n)
-this_got None vs vs' fs fs' n old w lv lf e = (ap (λ xs. slice_get xs n) w.1 ∙ slice_get-set_same fs n 0 lf, ap (λ xs. slice_get xs n) w.0 ∙ e)
-this_got (Some v) vs vs' fs fs' n old w lv lf e = (ap (λ xs. slice_get xs n) w.1 ∙ slice_get-set_same fs n 1 lf, ap (λ xs. slice_get xs n) w.0 ∙ slice_get-set_same vs n v lv)
+-- an answer leaves the lengths
+fits : {V : Type 0} (vs : List V) (fs : List ℕ) (i : ℕ) (o : Option V) → min (length (with_found vs i o)) (length (set fs i (flag_of o))) ≡ min (length vs) (length fs)
+fits vs fs i None = ap (min (length vs)) (length-set fs i 0)
+fits vs fs i (Some v) = ap (λ n. min n (length (set fs i 1))) (length-set vs i v) ∙ ap (min (length vs)) (length-set fs i 1)
 
--- with the n-th key too
-module _ {K V : Type 0} (c : Coding K V) (T : TableParts) (ks : List K) (old vs vs' : List V) (fs fs' : List ℕ) (n : ℕ) (o : Option V) where
-  pub got-next : n < length vs → n < length fs → Wrote o vs fs n vs' fs' → ((k : K) → slice_get ks n ≡ Some k → IsLookup c T k o)
-      → AreGot c T ks old vs fs n → AreGot c T ks old vs' fs' (n + 1)
-  got-next lv lf w this before = record {
-    got = λ i k l at. known i k at (eq-or-lt_of_le (omega (arith, l)));
-    rest = λ i l. other_values o vs vs' fs fs' n i w (λ e. omega (arith, e, l)) ∙ before.rest i (omega (arith, l));
-  }
-    where
-      known : (i : ℕ) (k : K) → slice_get ks i ≡ Some k → (i ≡ n) ⊎ (i < n) → (x : Option V) × IsGotAt x (slice_get old i) (slice_get fs' i) (slice_get vs' i) × IsLookup c T k x
-      known i k at (inl e) =
-          let here : IsGotAt o (slice_get old n) (slice_get fs' n) (slice_get vs' n) = this_got o vs vs' fs fs' n (slice_get old n) w lv lf (before.rest n (omega arith)) in
-          (o, subst (λ j. IsGotAt o (slice_get old j) (slice_get fs' j) (slice_get vs' j)) (sym e) here, this k (ap (slice_get ks) (sym e) ∙ at))
-      known i k at (inr h) =
-          let was = before.got i k h at in
-          let d : i ≡ n → ⊥ = λ e. omega (arith, e, h) in (
-            was.0,
-            subst (λ x. IsGotAt was.0 (slice_get old i) (slice_get fs' i) x) (sym (other_values o vs vs' fs fs' n i w d))
-                (subst (λ x. IsGotAt was.0 (slice_get old i) x (slice_get vs i)) (sym (other_found o vs vs' fs fs' n i w d)) was.1),
-            was.2,
-          )
+-- it is at its index
+here : {V : Type 0} (vs : List V) (fs : List ℕ) (i : ℕ) (o : Option V) → i < min (length vs) (length fs) → at_index (with_found vs i o) (set fs i (flag_of o)) i ≡ after_answer o (at_index vs fs i)
+here vs fs i None l = ap (λ x. (slice_get vs i, x)) (slice_get-set_same fs i 0 (omega (arith, l, min-le_right (length vs) (length fs))))
+here vs fs i (Some v) l =
+    ap (λ x. (x, slice_get (set fs i 1) i)) (slice_get-set_same vs i v (omega (arith, l, min-le_left (length vs) (length fs))))
+    ∙ ap (λ x. (Some v, x)) (slice_get-set_same fs i 1 (omega (arith, l, min-le_right (length vs) (length fs))))
+
+-- and changes nothing else
+there : {V : Type 0} (vs : List V) (fs : List ℕ) (i j : ℕ) (o : Option V) → (j ≡ i → ⊥) → at_index (with_found vs i o) (set fs i (flag_of o)) j ≡ at_index vs fs j
+there vs fs i j None d = ap (λ x. (slice_get vs j, x)) (slice_get-set_other fs i j 0 d)
+there vs fs i j (Some v) d = ap (λ x. (x, slice_get (set fs i 1) j)) (slice_get-set_other vs i j v d) ∙ ap (λ x. (slice_get vs j, x)) (slice_get-set_other fs i j 1 d)
+
+-- so the arrays have this answer
+got : {V : Type 0} (o : Option V) (vs vs' : List V) (fs fs' : List ℕ) (i : ℕ) → at_index vs' fs' i ≡ after_answer o (at_index vs fs i) → IsGotAt o (slice_get vs i) (slice_get fs' i) (slice_get vs' i)
+got None vs vs' fs fs' i e = (ap (λ x. x.1) e, ap (λ x. x.0) e)
+got (Some v) vs vs' fs fs' i e = (ap (λ x. x.1) e, ap (λ x. x.0) e)
+
+-- arrays after an answer was put
+abbrev put : {V : Type 0} → Arrays V → ℕ → Option V → Arrays V
+put s i o = record s { values = record s.values { now = with_found s.values.now i o }; found = record s.found { now = set s.found.now i (flag_of o) } }
+
+-- the answers of all keys were put
+pub puts-got : {K V : Type 0} (c : Coding K V) (T : TableParts) (ks : List K) (s s' : Arrays V) → ArePut c T ks put s s' (length ks)
+    → length ks ≤ length s.values.now → length ks ≤ length s.found.now → (i : ℕ) (k : K) → slice_get ks i ≡ Some k
+    → (o : Option V) × IsGotAt o (slice_get s.values.now i) (slice_get s'.found.now i) (slice_get s'.values.now i) × IsLookup c T k o
+puts-got c T ks s s' all lv lf i k key =
+    let known = puts-at c T ks put (λ s. min (length s.values.now) (length s.found.now)) (λ s. at_index s.values.now s.found.now) after_answer
+    (λ s. fits s.values.now s.found.now) (λ s. here s.values.now s.found.now) (λ s. there s.values.now s.found.now) s s' (length ks) i k all (le-min lv lf) (slice_get_within ks i k key) key in
+    (known.0, got known.0 s.values.now s'.values.now s.found.now s'.found.now i known.1, known.2)

@@ -7,7 +7,7 @@ use crate::proved::tables::error::Error;
 use crate::proved::tables::items::Items;
 use crate::proved::tables::iter::Iter;
 use crate::proved::tables::load::Factor;
-use crate::proved::tables::lookups;
+use crate::proved::tables::lookups::{self, InSlice};
 use crate::proved::tables::memory_layout::{self, Allocation};
 use crate::proved::tables::raw_table::{RawIter, RawTable};
 use crate::proved::tables::swisstable_group_query::GroupQuery;
@@ -79,7 +79,8 @@ impl<C: Config, D: ByteStore> HashTable<C, D> {
     /// control byte it is read twice.
     #[inline]
     pub fn get_all(&self, keys: &[C::Key], values: &mut [Option<C::Value>]) {
-        lookups::get_all::<C>(&self.as_raw(), keys, values);
+        let mut answers = InSlice { answers: values };
+        lookups::get_all::<C, InSlice<'_, Option<C::Value>>>(&self.as_raw(), keys, &mut answers);
     }
 
     /// `get`, and how many groups of control bytes it read: on valid bytes those up to the first slot of the key's

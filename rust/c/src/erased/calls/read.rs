@@ -1,7 +1,6 @@
 // Made by `make rust` of crates/odht_calls/src/read.rt.
 //! The calls that read the bytes of a table, for every configuration.
 
-use crate::erased::calls::lookups::look_up_all;
 use crate::erased::calls::status::{status_of, OK};
 use crate::erased::calls::view;
 use crate::proved::tables::bytes::Borrowed;
@@ -60,8 +59,7 @@ pub fn get_all<C: Config>(
         Ok(table) => table,
         Err(refused) => return status_of(&refused),
     };
-    look_up_all::<C>(&table.as_raw(), keys, values, found);
-    OK
+    view::get_all(&table, keys, values, found)
 }
 
 /// Writes the header's item count to `item_count`. An error leaves it unchanged.

@@ -1,12 +1,12 @@
 // Made by `make rust` of crates/odht_calls/src/view.rt.
 //! Opened tables as a caller in C keeps them, and lookups that skip the header, for every configuration.
 
-use crate::erased::calls::lookups::look_up_all;
+use crate::erased::calls::lookups::Arrays;
 use crate::erased::calls::status::{status_of, ABSENT, OK};
 use crate::proved::tables::bytes::Borrowed;
 use crate::proved::tables::config::Config;
 use crate::proved::tables::error::Error;
-use crate::proved::tables::HashTable;
+use crate::proved::tables::{lookups, HashTable};
 
 /// The bytes of an opened table, as C keeps them: a pointer and a length. The calls that read a view require that the
 /// header and the length of its bytes are accepted, and do not check it.
@@ -56,7 +56,7 @@ pub fn get<C: Config>(
 
 /// Looks up many keys in an opened table: at the index of a key that is found, its value is written to `values` and 1
 /// to `found`; at any other index 0 is written to `found`.
-#[inline]
+#[inline(always)]
 pub fn get_all<C: Config>(
     table: &HashTable<C, Borrowed<'_>>,
     keys: &[C::Key],
@@ -64,6 +64,7 @@ pub fn get_all<C: Config>(
     found: &mut [u8],
 ) -> u32 {
     let raw = table.as_raw();
-    look_up_all::<C>(&raw, keys, values, found);
+    let mut arrays = Arrays { values, found };
+    lookups::get_all::<C, Arrays<'_, '_, C::Value>>(&raw, keys, &mut arrays);
     OK
 }
