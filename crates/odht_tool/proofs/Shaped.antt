@@ -10,6 +10,8 @@ use Rattle.odht_tool.specs.Outcomes.{Outcome, IsDone, checked_status}
 use Rattle.odht_tool.specs.Outcomes.Outcome.{fails}
 use Rattle.odht_tool.specs.declared.failure.Failure.{Failure}
 use Rattle.odht_tool.specs.declared.shapes.Shape.{Shape}
+use Rattle.odht_tool.specs.declared.status.Status.{Status}
+use Rattle.odht_tool.specs.declared.status.Status.TheVariants.{Done, NotDone}
 
 -- what was found is a shape
 same_shape : (o : Option Shape) (s : Failure) (x : Shape) → Ok x ≡ ok_or o s → o ≡ Some x
@@ -26,11 +28,11 @@ without_shape None s f old e h = (ap Err (same_failure e s h), Keeps-refl old)
 without_shape (Some x) s f old e h = cc
 
 -- and with one what follows
-pub with_shape : (o : Option Shape) (s : Failure) (f : Shape → Outcome) (x : Shape) (old new : Option (List ℕ)) (r : Result ℕ Failure) → Ok x ≡ ok_or o s → IsDone (f x) old new r → IsDone (option_map_or f o (fails s)) old new r
+pub with_shape : (o : Option Shape) (s : Failure) (f : Shape → Outcome) (x : Shape) (old new : Option (List ℕ)) (r : Result Status Failure) → Ok x ≡ ok_or o s → IsDone (f x) old new r → IsDone (option_map_or f o (fails s)) old new r
 with_shape o s f x old new r e h = subst (λ p. IsDone (option_map_or f p (fails s)) old new r) (sym (same_shape o s x e)) h
 
 -- the same of what is said by cases
-pub without_shape_said : (o : Option Shape) (s e : Failure) (old : Option (List ℕ)) (P : Shape → Type 0) → Err e ≡ ok_or o s → MatchOption o ((◌≡◌ {A = Result ℕ Failure} (Err e) (Err s)) × Keeps old old) P
+pub without_shape_said : (o : Option Shape) (s e : Failure) (old : Option (List ℕ)) (P : Shape → Type 0) → Err e ≡ ok_or o s → MatchOption o ((◌≡◌ {A = Result Status Failure} (Err e) (Err s)) × Keeps old old) P
 without_shape_said None s e old P h = (ap Err (same_failure e s h), Keeps-refl old)
 without_shape_said (Some x) s e old P h = cc
 
@@ -38,10 +40,10 @@ pub with_shape_said : (o : Option Shape) (s : Failure) (x : Shape) (N : Type 0) 
 with_shape_said o s x N P e h = subst (λ p. MatchOption p N P) (sym (same_shape o s x e)) h
 
 -- ---- the status of a check
-pub passed_status : (o : Option Error) → is_ok (checked o) ≡ true → 0 ≡ checked_status o
+pub passed_status : (o : Option Error) → is_ok (checked o) ≡ true → Done ≡ checked_status o
 passed_status None e = refl
 passed_status (Some x) e = cc
 
-pub failed_status : (o : Option Error) → is_ok (checked o) ≡ false → 1 ≡ checked_status o
+pub failed_status : (o : Option Error) → is_ok (checked o) ≡ false → NotDone ≡ checked_status o
 failed_status None e = cc
 failed_status (Some x) e = refl

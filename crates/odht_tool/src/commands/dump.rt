@@ -7,20 +7,18 @@ ghost use Rattle.odht_base.specs.Table.{Table, walk};
 ghost use Rattle.odht_base.specs.Valid.{IsImage};
 ghost use Rattle.odht_raw.specs.Dumps.{parts_of};
 ghost use Rattle.odht_raw.specs.Walks.{decoded_all};
-ghost use Rattle.odht_tool.specs.Outcomes.{IsDone, IsWritten, pairs_outcome, slots_outcome, dump_of_shape, dump_outcome, slot_line, slots_text};
+ghost use Rattle.odht_tool.specs.Outcomes.{IsDone, pairs_outcome, slots_outcome, dump_of_shape, dump_outcome, slot_line, slots_text};
 ghost use Rattle.odht_tool.specs.Texts.{pairs_text};
 
-use super::DONE;
 use super::check::shape_of;
 use crate::answers::write_pair;
-use crate::arguments::Options;
 use crate::failure::Failure;
-use crate::files::read_file;
 use crate::histogram::groups_to;
 use crate::shapes::{
     Bytes16Set, Bytes16ToU32, Bytes16ToU64, Bytes20ToU64, Bytes32Set, Bytes32ToU64, DirectU32ToU32,
     Hash, Shape, U32ToU32, U64ToU32, U64ToU64, for_shape,
 };
+use crate::status::{Status, of_output};
 use crate::text::Text;
 use odht::bytes::{Borrowed, ByteArray};
 use odht::config::{Coded, Config};
@@ -29,26 +27,14 @@ use odht::hash::HashFn;
 use odht::memory_layout::{Allocation, Entries};
 use odht::{HashTable, Iter};
 use std::io::{self, Write};
-use std::rt::Files;
 
-/// Writes a line for each pair, in slot order.
-pub fn run<R: Files + AllocGlobal, O: Write>(
-    rt: &R,
-    file: &str,
-    options: Options,
-    output: &mut O,
-) -> Result<u8, Failure> {
-    let bytes = read_file(rt, file)?;
-    dump_file(bytes.as_slice(), options.hash, options.is_slots, output)
-}
-
-/// `odht dump` of the bytes of a file, with `--slots` or without.
+/// Writes a line for each pair of the bytes of a file, in slot order, with `--slots` or without.
 pub fn dump_file<O: Write>(
     bytes: &[u8],
     hash: Option<Hash>,
     is_slots: bool,
     output: &mut O,
-) -> Result<u8, Failure>
+) -> Result<Status, Failure>
     ensures { IsDone (dump_outcome bytes.now hash is_slots) (O.contents output.old) (O.contents output.new) result }
 {
     let shape = shape_of(bytes, hash)?;
@@ -59,19 +45,19 @@ pub fn dump_file<O: Write>(
     }
 }
 
-fn dump_pairs_of<O: Write>(shape: Shape, bytes: &[u8], output: &mut O) -> Result<u8, Failure>
+fn dump_pairs_of<O: Write>(shape: Shape, bytes: &[u8], output: &mut O) -> Result<Status, Failure>
     ensures { IsDone (dump_of_shape bytes.now false shape) (O.contents output.old) (O.contents output.new) result }
 {
     for_shape!(shape, dump_pairs[O](bytes, output))
 }
 
-fn dump_slots_of<O: Write>(shape: Shape, bytes: &[u8], output: &mut O) -> Result<u8, Failure>
+fn dump_slots_of<O: Write>(shape: Shape, bytes: &[u8], output: &mut O) -> Result<Status, Failure>
     ensures { IsDone (dump_of_shape bytes.now true shape) (O.contents output.old) (O.contents output.new) result }
 {
     for_shape!(shape, dump_slots[O](bytes, output))
 }
 
-fn dump_pairs<C: Config, O: Write>(bytes: &[u8], output: &mut O) -> Result<u8, Failure>
+fn dump_pairs<C: Config, O: Write>(bytes: &[u8], output: &mut O) -> Result<Status, Failure>
 where
     C::Key: Text,
     C::Value: Text,
@@ -100,15 +86,6 @@ where
     write_pairs(table.iter(), output)
 }
 
-fn of_output(written: io::Result<()>) -> Result<u8, Failure>
-    ensures { IsWritten written result }
-{
-    match written {
-        Ok(()) => Ok(DONE),
-        Err(error) => Err(Failure::Output(error)),
-    }
-}
-
 // Writes each pair on a line.
 fn write_pairs<C: Config, O: Write>(pairs: Iter<'_, C>, output: &mut O) -> io::Result<()>
 where
@@ -122,7 +99,7 @@ where
     Ok(())
 }
 
-fn dump_slots<C: Config, O: Write>(bytes: &[u8], output: &mut O) -> Result<u8, Failure>
+fn dump_slots<C: Config, O: Write>(bytes: &[u8], output: &mut O) -> Result<Status, Failure>
 where
     C::Key: Text,
     C::Value: Text,

@@ -7,52 +7,32 @@ ghost use Rattle.odht_tool.specs.GetParts.{IsOpenFailure, NamesWord, NamesFault,
 ghost use Rattle.odht_tool.specs.GetLines.{AreLinesAnswered, AreLinesGot, AreFileLinesGot, lines_of_shape};
 
 use super::check::shape_of;
-use super::{DONE, NOT_DONE};
 use crate::answers::{absent_values, are_found, write_answers};
 use crate::failure::{Failure, LineFault};
-use crate::files::read_file;
 use crate::lines::read_line;
 use crate::shapes::{
     Bytes16Set, Bytes16ToU32, Bytes16ToU64, Bytes20ToU64, Bytes32Set, Bytes32ToU64, DirectU32ToU32,
     Hash, Shape, U32ToU32, U64ToU32, U64ToU64, for_shape,
 };
+use crate::status::Status;
 use crate::text::Text;
 use odht::HashTable;
 use odht::bytes::Borrowed;
 use odht::config::{Coded, Config};
 use std::alloc::{AllocError, Global};
 use std::io::{self, BufRead, Write};
-use std::rt::Files;
 
 /// How many keys are looked up at once.
 const BATCH: usize = 1024;
 
-/// Writes a line for each key: the key, a tab and its value, or the key alone.
-pub fn run<R: Files + AllocGlobal, I: BufRead, O: Write>(
-    rt: &R,
-    file: &str,
-    hash: Option<Hash>,
-    words: &[String],
-    input: &mut I,
-    output: &mut O,
-) -> Result<u8, Failure> {
-    let alloc: Global = rt.alloc();
-    let bytes = read_file(rt, file)?;
-    let bytes = bytes.as_slice();
-    match words {
-        [word] if word.as_str() == "-" => get_file_lines(alloc, bytes, hash, input, output),
-        _ => get_file_words(alloc, bytes, hash, words, output),
-    }
-}
-
-/// `odht get` of the bytes of a file, for the words of the command line.
+/// Writes a line for each word, a key of the table of a file's bytes: the key, a tab and its value, or the key alone.
 pub fn get_file_words<O: Write>(
     alloc: Global,
     bytes: &[u8],
     hash: Option<Hash>,
     words: &[String],
     output: &mut O,
-) -> Result<u8, Failure>
+) -> Result<Status, Failure>
     ensures { AreFileWordsGot bytes.now hash (map string_bytes words.now) (O.contents output.old) (O.contents output.new) result }
 {
     let shape = shape_of(bytes, hash)?;
@@ -65,20 +45,20 @@ fn get_words_of<O: Write>(
     bytes: &[u8],
     words: &[String],
     output: &mut O,
-) -> Result<u8, Failure>
+) -> Result<Status, Failure>
     ensures { words_of_shape bytes.now (map string_bytes words.now) (O.contents output.old) (O.contents output.new) result shape }
 {
     for_shape!(shape, get_words[O](alloc, bytes, words, output))
 }
 
-/// `odht get` of the bytes of a file, for the lines of an input.
+/// The same for the lines of an input.
 pub fn get_file_lines<I: BufRead, O: Write>(
     alloc: Global,
     bytes: &[u8],
     hash: Option<Hash>,
     input: &mut I,
     output: &mut O,
-) -> Result<u8, Failure>
+) -> Result<Status, Failure>
     ensures { AreFileLinesGot bytes.now hash (I.remaining input.old) (O.contents output.old) (O.contents output.new) result }
 {
     let shape = shape_of(bytes, hash)?;
@@ -91,7 +71,7 @@ fn get_lines_of<I: BufRead, O: Write>(
     bytes: &[u8],
     input: &mut I,
     output: &mut O,
-) -> Result<u8, Failure>
+) -> Result<Status, Failure>
     ensures { lines_of_shape bytes.now (I.remaining input.old) (O.contents output.old) (O.contents output.new) result shape }
 {
     for_shape!(shape, get_lines[I, O](alloc, bytes, input, output))
@@ -103,7 +83,7 @@ fn get_words<C: Config, O: Write>(
     bytes: &[u8],
     words: &[String],
     output: &mut O,
-) -> Result<u8, Failure>
+) -> Result<Status, Failure>
 where
     C::Key: Text,
     C::Value: Text,
@@ -140,10 +120,14 @@ fn push_key<K: Text>(keys: &mut Vec<K>, key: K) -> Result<(), Failure>
     }
 }
 
-fn status_of(is_all_found: bool) -> u8
+fn status_of(is_all_found: bool) -> Status
     ensures { result ≡ found_status is_all_found }
 {
-    if is_all_found { DONE } else { NOT_DONE }
+    if is_all_found {
+        Status::Done
+    } else {
+        Status::NotDone
+    }
 }
 
 fn wrong_key(alloc: Global, word: &str) -> Failure
@@ -161,7 +145,7 @@ fn get_lines<C: Config, I: BufRead, O: Write>(
     bytes: &[u8],
     input: &mut I,
     output: &mut O,
-) -> Result<u8, Failure>
+) -> Result<Status, Failure>
 where
     C::Key: Text,
     C::Value: Text,
@@ -176,7 +160,7 @@ fn answer_lines<C: Config, I: BufRead, O: Write>(
     table: &HashTable<C, Borrowed<'_>>,
     input: &mut I,
     output: &mut O,
-) -> Result<u8, Failure>
+) -> Result<Status, Failure>
 where
     C::Key: Text,
     C::Value: Text,

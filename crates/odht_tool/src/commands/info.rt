@@ -3,36 +3,20 @@ ghost use Rattle.std.specs.Prelude.{◌≡◌, ◌++◌, OnOk, length};
 ghost use Rattle.std.specs.Io.KnownBytes.{Appends};
 ghost use Rattle.odht_tool.specs.InfoTexts.{number_line, sizes_text, hash_name, groups_text, info_text, IsInfoDone};
 
-use super::DONE;
 use crate::failure::Failure;
-use crate::files::read_file;
 use crate::histogram::Histogram;
 use crate::numbers::{Numbers, numbers_of};
 use crate::shapes::Hash;
+use crate::status::{Status, of_output};
 use std::alloc::Global;
 use std::io::{self, Write};
-use std::rt::Files;
 
-/// Writes sizes, counts, load factors, and how many groups a search reads for the items.
-pub fn run<R: Files + AllocGlobal, O: Write>(
-    rt: &R,
-    file: &str,
-    output: &mut O,
-) -> Result<u8, Failure> {
-    let bytes = read_file(rt, file)?;
-    let alloc: Global = rt.alloc();
-    info_file(alloc, bytes.as_slice(), output)
-}
-
-/// `odht info` of the bytes of a file.
-pub fn info_file<O: Write>(alloc: Global, bytes: &[u8], output: &mut O) -> Result<u8, Failure>
+/// Writes sizes, counts, load factors, and how many groups a search reads for the items, of the bytes of a file.
+pub fn info_file<O: Write>(alloc: Global, bytes: &[u8], output: &mut O) -> Result<Status, Failure>
     ensures { IsInfoDone bytes.now (O.contents output.old) (O.contents output.new) result }
 {
     let numbers = numbers_of(alloc, bytes)?;
-    match write_all(&numbers, output) {
-        Ok(()) => Ok(DONE),
-        Err(error) => Err(Failure::Output(error)),
-    }
+    of_output(write_all(&numbers, output))
 }
 
 fn write_all<O: Write>(numbers: &Numbers, output: &mut O) -> io::Result<()>
@@ -69,7 +53,9 @@ fn write_sizes<O: Write>(numbers: &Numbers, output: &mut O) -> io::Result<()>
 // The lines of the hash function and of the histogram.
 fn write_groups<O: Write>(hash: Hash, histogram: &Histogram, output: &mut O) -> io::Result<()>
     requires { length histogram.now.counts.items ≡ 64 }
-    ensures { OnOk result (Appends (O.contents output.old) (O.contents output.new) (groups_text (Some hash) histogram.now.counts.items histogram.now.longest)) }
+    ensures { let counts = histogram.now.counts.items
+        in let text = groups_text (Some hash) counts histogram.now.longest
+        in OnOk result (Appends (O.contents output.old) (O.contents output.new) text) }
 {
     let name = name_of(hash);
     write!(output, "hash          {name}\n  groups         items\n")?;
