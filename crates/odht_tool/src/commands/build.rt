@@ -147,8 +147,10 @@ where
         if !read_line(input, &mut line).map_err(Failure::Input)? {
             break;
         }
-        let pair = parse_pair::<C::Key, C::Value>(line.as_slice())
-            .map_err(|fault| Failure::Line { number, fault })?;
+        let pair = parse_pair::<C::Key, C::Value>(line.as_slice()).map_err(|fault| Failure::Line {
+            number,
+            fault,
+        })?;
         pairs.push(pair).or(Err(Failure::Memory))?;
         if pairs.len() >= BATCH {
             insert_batch(table, &mut pairs)?;

@@ -30,14 +30,12 @@ pub fn check_file<O: Write>(
 {
     let shape = shape_of(bytes, hash)?;
     let checked = check_shape(shape, bytes);
-    match write_checked(&checked, output) {
-        Ok(()) => Ok(if checked.is_ok() {
-            Status::Done
-        } else {
-            Status::NotDone
-        }),
-        Err(error) => Err(Failure::Output(error)),
-    }
+    write_checked(&checked, output).map_err(Failure::Output)?;
+    Ok(if checked.is_ok() {
+        Status::Done
+    } else {
+        Status::NotDone
+    })
 }
 
 fn check_shape(shape: Shape, bytes: &[u8]) -> Result<(), Error>
@@ -72,11 +70,8 @@ pub fn shape_of(bytes: &[u8], hash: Option<Hash>) -> Result<Shape, Failure>
         return Ok(Shape::U64ToU32);
     }
     let (key_size, value_size) = (bytes[5], bytes[6]);
-    match Shape::of_sizes(key_size, value_size, hash) {
-        Some(shape) => Ok(shape),
-        None => Err(Failure::NoShape {
-            key_size,
-            value_size,
-        }),
-    }
+    Shape::of_sizes(key_size, value_size, hash).ok_or(Failure::NoShape {
+        key_size,
+        value_size,
+    })
 }

@@ -63,10 +63,10 @@ where
     C::Value: Text,
     ensures { IsDone (pairs_outcome ⟦<C as Coded>⟧.coding C.Key.text C.Value.text bytes.now) (O.contents output.old) (O.contents output.new) result }
 {
-    match HashTable::<C, Borrowed<'_>>::from_raw_bytes(Borrowed::new(bytes)) {
-        Err(refused) => Err(Failure::Refused(refused)),
-        Ok(table) => of_output(write_table(&table, output)),
-    }
+    let table = HashTable::<C, Borrowed<'_>>::from_raw_bytes(Borrowed::new(bytes)).map_err(
+        Failure::Refused,
+    )?;
+    of_output(write_table(&table, output))
 }
 
 // Writes the pairs of a table.
@@ -105,10 +105,10 @@ where
     C::Value: Text,
     ensures { IsDone (slots_outcome ⟦<C as Coded>⟧.coding C.Key.text C.Value.text bytes.now) (O.contents output.old) (O.contents output.new) result }
 {
-    match Allocation::<C, Borrowed<'_>>::from_raw_bytes(Borrowed::new(bytes)) {
-        Err(refused) => Err(Failure::Refused(refused)),
-        Ok(allocation) => of_output(write_slots(&allocation, output)),
-    }
+    let allocation = Allocation::<C, Borrowed<'_>>::from_raw_bytes(Borrowed::new(bytes)).map_err(
+        Failure::Refused,
+    )?;
+    of_output(write_slots(&allocation, output))
 }
 
 // Writes a line for each occupied slot.

@@ -114,10 +114,7 @@ fn push_key<K: Text>(keys: &mut Vec<K>, key: K) -> Result<(), Failure>
     ensures ok { OnOk result (keys.new.items ≡ keys.old.items ++ key ∷ []) }
     ensures err { IfErr result (λ failure. failure ≡ Failure.Memory) }
 {
-    match keys.push(key) {
-        Ok(()) => Ok(()),
-        Err(_) => Err(Failure::Memory),
-    }
+    keys.push(key).map_err(|_| Failure::Memory)
 }
 
 fn status_of(is_all_found: bool) -> Status
@@ -237,10 +234,7 @@ fn open<C: Config>(bytes: &[u8]) -> Result<HashTable<C, Borrowed<'_>>, Failure>
     ensures opened { OnOk result (view_refusal ⟦<C as Coded>⟧.coding.format bytes.now ≡ None) }
     ensures err { IfErr result (IsOpenFailure (view_refusal ⟦<C as Coded>⟧.coding.format bytes.now)) }
 {
-    match HashTable::from_raw_bytes(Borrowed::new(bytes)) {
-        Ok(table) => Ok(table),
-        Err(refused) => Err(Failure::Refused(refused)),
-    }
+    HashTable::from_raw_bytes(Borrowed::new(bytes)).map_err(Failure::Refused)
 }
 
 // Looks the keys up, and writes a line for each. Returns whether each was found.
@@ -256,14 +250,10 @@ where
     ensures ok { IfOk result (AreKeysAnswered ⟦<C as Coded>⟧.coding C.Key.text C.Value.text table.now.0.now keys.now (O.contents output.old) (O.contents output.new)) }
     ensures err { IfErr result (IsKeysFailure (O.contents output.old) (O.contents output.new)) }
 {
-    let Ok(values) = look_up::<C>(alloc, table, keys) else {
-        return Err(Failure::Memory);
-    };
+    let values = look_up::<C>(alloc, table, keys)?;
     let values = values.as_slice();
-    match write_answers(keys, values, output) {
-        Ok(()) => Ok(are_found(values)),
-        Err(error) => Err(Failure::Output(error)),
-    }
+    write_answers(keys, values, output).map_err(Failure::Output)?;
+    Ok(are_found(values))
 }
 
 // The value of each key.
