@@ -1,12 +1,12 @@
 -- What a command does, from the shape of the bytes on.
-use Rattle.std.proofs.Common.{◌≡◌, ℕ, List, Option, Some, None, Ok, Err, true, false, sym, ap, subst, refl}
-use Rattle.std.specs.Prelude.{Result, MatchOption, is_ok}
+use Rattle.std.proofs.Common.{◌≡◌, ℕ, List, Option, Some, None, Ok, Err, sym, ap, subst, refl, if◌then◌else◌}
+use Rattle.std.specs.Prelude.{Result, MatchOption, MatchResult, IsErrAnd, is_ok}
 use Rattle.std.specs.Io.KnownBytes.{Keeps}
 use Rattle.std.specs.Option.{ok_or, option_map_or}
 use Rattle.std.proofs.KnownBytes.{Keeps-refl}
 use Rattle.odht_header.specs.Refusals.{checked}
 use Rattle.odht_header.specs.declared.error.Error.{Error}
-use Rattle.odht_tool.specs.Outcomes.{Outcome, IsDone, checked_status}
+use Rattle.odht_tool.specs.Outcomes.{Outcome, IsDone, IsOutputFailure, checked_status}
 use Rattle.odht_tool.specs.Outcomes.Outcome.{fails}
 use Rattle.odht_tool.specs.declared.failure.Failure.{Failure}
 use Rattle.odht_tool.specs.declared.shapes.Shape.{Shape}
@@ -39,11 +39,12 @@ without_shape_said (Some x) s e old P h = cc
 pub with_shape_said : (o : Option Shape) (s : Failure) (x : Shape) (N : Type 0) (P : Shape → Type 0) → Ok x ≡ ok_or o s → P x → MatchOption o N P
 with_shape_said o s x N P e h = subst (λ p. MatchOption p N P) (sym (same_shape o s x e)) h
 
--- ---- the status of a check
-pub passed_status : (o : Option Error) → is_ok (checked o) ≡ true → Done ≡ checked_status o
-passed_status None e = refl
-passed_status (Some x) e = cc
+-- what fails by the writer ends as a text allows
+pub failed_output : (A : Status → Type 0) (r : Result Status Failure) → IsErrAnd r IsOutputFailure → MatchResult r A IsOutputFailure
+failed_output A (Ok status) f = absurd f
+failed_output A (Err failure) f = f
 
-pub failed_status : (o : Option Error) → is_ok (checked o) ≡ false → NotDone ≡ checked_status o
-failed_status None e = cc
-failed_status (Some x) e = refl
+-- ---- the status of a check
+pub status_checked : (o : Option Error) → (if is_ok (checked o) then Done else NotDone) ≡ checked_status o
+status_checked None = refl
+status_checked (Some x) = refl

@@ -273,7 +273,8 @@ impl Draft {
         }
     }
 
-    // Parses the next word, which is the value of the option that waits for one. Returns the option that waits then.
+    // Parses the next word: the value of the option that waits for one, if one does. Returns the
+    // option that waits then.
     fn read(&mut self, waiting: Option<Setting>, word: String) -> Result<Option<Setting>, Misuse> {
         match waiting {
             Some(setting) => match self.set(setting, word.as_str()) {
@@ -333,10 +334,10 @@ impl Draft {
         if self.words.is_empty() == (topic == Topic::Get) {
             return Err(Misuse::WrongCount(topic));
         }
-        let Some(file) = self.file else {
+        let (file, hash, has_progress) = (self.file, self.hash, self.has_progress);
+        let Some(file) = file else {
             return Err(Misuse::WrongCount(topic));
         };
-        let (hash, has_progress) = (self.hash, self.has_progress);
         let command = match topic {
             Topic::Info => Command::Info,
             Topic::Check => Command::Check { hash },

@@ -1,5 +1,5 @@
 //! How a run of the program ended.
-ghost use Rattle.std.specs.Prelude.{◌≡◌};
+ghost use Rattle.std.specs.Prelude.{◌≡◌, if◌then◌else◌};
 ghost use Rattle.odht_tool.specs.Outcomes.{IsWritten};
 
 use crate::failure::Failure;
@@ -27,6 +27,17 @@ impl Status {
             Status::Done => 0,
             Status::NotDone => 1,
             Status::Misused => 2,
+        }
+    }
+
+    /// `Done` where all is as it should be, and else `NotDone`.
+    pub fn of(is_done: bool) -> Status
+        ensures { result ≡ if is_done then Status.Done else Status.NotDone }
+    {
+        if is_done {
+            Status::Done
+        } else {
+            Status::NotDone
         }
     }
 }

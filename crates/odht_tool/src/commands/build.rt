@@ -169,12 +169,16 @@ fn insert_batch<C: Config>(
     ensures inserted { let c = ⟦<C as Coded>⟧.coding
         in (P : Table)
         → IsImage c.format P table.old
-        → OnOk result (IsAfterInserts c.format (insert_owned c.format) P (encoded_all c pairs.old.items) table.new) }
+        → OnOk result
+        (IsAfterInserts c.format (insert_owned c.format) P (encoded_all c pairs.old.items) table.new) }
     ensures empty { length pairs.new.items ≡ 0 }
 {
     let (_, inserted) = table.insert_all(pairs.as_slice());
     pairs.clear();
-    inserted.map_err(|_| Failure::Memory)
+    match inserted {
+        Ok(()) => Ok(()),
+        Err(_) => Err(Failure::Memory),
+    }
 }
 
 /// The key and the value of a line: on either side of its first tab, or, where the text of a value is empty, of a line

@@ -20,22 +20,19 @@ use odht::error::Error;
 use odht::memory_layout::check_all;
 use std::io::{self, Write};
 
-/// Writes `valid`, or the first rule that the bytes of a file break.
+/// `odht check` of the bytes of a file: writes `valid`, or the first rule that they break.
 pub fn check_file<O: Write>(
     bytes: &[u8],
     hash: Option<Hash>,
     output: &mut O,
 ) -> Result<Status, Failure>
-    ensures { IsDone (check_outcome bytes.now hash) (O.contents output.old) (O.contents output.new) result }
+    ensures { IsDone (check_outcome bytes.now hash)
+        (O.contents output.old) (O.contents output.new) result }
 {
     let shape = shape_of(bytes, hash)?;
     let checked = check_shape(shape, bytes);
     write_checked(&checked, output).map_err(Failure::Output)?;
-    Ok(if checked.is_ok() {
-        Status::Done
-    } else {
-        Status::NotDone
-    })
+    Ok(Status::of(checked.is_ok()))
 }
 
 fn check_shape(shape: Shape, bytes: &[u8]) -> Result<(), Error>
@@ -52,7 +49,8 @@ fn check_bytes<C: Config>(bytes: &[u8]) -> Result<(), Error>
 
 /// Writes a line with `valid`, or with the error.
 pub fn write_checked<O: Write>(checked: &Result<(), Error>, output: &mut O) -> io::Result<()>
-    ensures { OnOk result (Appends (O.contents output.old) (O.contents output.new) (checked_text checked.now)) }
+    ensures { OnOk result
+        (Appends (O.contents output.old) (O.contents output.new) (checked_text checked.now)) }
 {
     match checked {
         Ok(()) => writeln!(output, "valid"),

@@ -6,6 +6,7 @@ ghost use Rattle.odht_base.specs.Load.{IsSlotCount};
 ghost use Rattle.odht_base.specs.Table.{Table, walk};
 ghost use Rattle.odht_base.specs.Valid.{IsImage};
 ghost use Rattle.odht_raw.specs.Dumps.{parts_of};
+ghost use Rattle.odht_raw.specs.Parts.{TableParts};
 ghost use Rattle.odht_raw.specs.Walks.{decoded_all};
 ghost use Rattle.odht_tool.specs.Outcomes.{IsDone, pairs_outcome, slots_outcome, dump_of_shape, dump_outcome, slot_line, slots_text};
 ghost use Rattle.odht_tool.specs.Texts.{pairs_text};
@@ -28,14 +29,16 @@ use odht::memory_layout::{Allocation, Entries};
 use odht::{HashTable, Iter};
 use std::io::{self, Write};
 
-/// Writes a line for each pair of the bytes of a file, in slot order, with `--slots` or without.
+/// `odht dump` of the bytes of a file, with `--slots` or without: writes a line for each pair, in
+/// slot order.
 pub fn dump_file<O: Write>(
     bytes: &[u8],
     hash: Option<Hash>,
     is_slots: bool,
     output: &mut O,
 ) -> Result<Status, Failure>
-    ensures { IsDone (dump_outcome bytes.now hash is_slots) (O.contents output.old) (O.contents output.new) result }
+    ensures { IsDone (dump_outcome bytes.now hash is_slots)
+        (O.contents output.old) (O.contents output.new) result }
 {
     let shape = shape_of(bytes, hash)?;
     if is_slots {
@@ -46,13 +49,15 @@ pub fn dump_file<O: Write>(
 }
 
 fn dump_pairs_of<O: Write>(shape: Shape, bytes: &[u8], output: &mut O) -> Result<Status, Failure>
-    ensures { IsDone (dump_of_shape bytes.now false shape) (O.contents output.old) (O.contents output.new) result }
+    ensures { IsDone (dump_of_shape bytes.now false shape)
+        (O.contents output.old) (O.contents output.new) result }
 {
     for_shape!(shape, dump_pairs[O](bytes, output))
 }
 
 fn dump_slots_of<O: Write>(shape: Shape, bytes: &[u8], output: &mut O) -> Result<Status, Failure>
-    ensures { IsDone (dump_of_shape bytes.now true shape) (O.contents output.old) (O.contents output.new) result }
+    ensures { IsDone (dump_of_shape bytes.now true shape)
+        (O.contents output.old) (O.contents output.new) result }
 {
     for_shape!(shape, dump_slots[O](bytes, output))
 }
@@ -61,7 +66,8 @@ fn dump_pairs<C: Config, O: Write>(bytes: &[u8], output: &mut O) -> Result<Statu
 where
     C::Key: Text,
     C::Value: Text,
-    ensures { IsDone (pairs_outcome ⟦<C as Coded>⟧.coding C.Key.text C.Value.text bytes.now) (O.contents output.old) (O.contents output.new) result }
+    ensures { IsDone (pairs_outcome ⟦<C as Coded>⟧.coding C.Key.text C.Value.text bytes.now)
+        (O.contents output.old) (O.contents output.new) result }
 {
     let table = HashTable::<C, Borrowed<'_>>::from_raw_bytes(Borrowed::new(bytes)).map_err(
         Failure::Refused,
@@ -79,9 +85,12 @@ where
     C::Value: Text,
     ensures on_valid { (P : Table)
         → IsImage ⟦<C as Coded>⟧.coding.format P table.now.0.now
-        → OnOk result (Appends (O.contents output.old) (O.contents output.new) (pairs_text C.Key.text C.Value.text (decoded_all ⟦<C as Coded>⟧.coding (walk P)))) }
+        → OnOk result (Appends (O.contents output.old) (O.contents output.new)
+        (pairs_text C.Key.text C.Value.text (decoded_all ⟦<C as Coded>⟧.coding (walk P)))) }
     ensures on_any { let c = ⟦<C as Coded>⟧.coding
-        in OnOk result (Appends (O.contents output.old) (O.contents output.new) (pairs_text C.Key.text C.Value.text (decoded_all c (decoded_pairs c.format table.now.0.now)))) }
+        in let pairs = decoded_all c (decoded_pairs c.format table.now.0.now)
+        in OnOk result (Appends (O.contents output.old) (O.contents output.new)
+        (pairs_text C.Key.text C.Value.text pairs)) }
 {
     write_pairs(table.iter(), output)
 }
@@ -91,7 +100,8 @@ fn write_pairs<C: Config, O: Write>(pairs: Iter<'_, C>, output: &mut O) -> io::R
 where
     C::Key: Text,
     C::Value: Text,
-    ensures { OnOk result (Appends (O.contents output.old) (O.contents output.new) (pairs_text C.Key.text C.Value.text pairs.entry)) }
+    ensures { OnOk result (Appends (O.contents output.old) (O.contents output.new)
+        (pairs_text C.Key.text C.Value.text pairs.entry)) }
 {
     for (key, value) in pairs {
         write_pair(&key, &value, output)?;
@@ -103,7 +113,8 @@ fn dump_slots<C: Config, O: Write>(bytes: &[u8], output: &mut O) -> Result<Statu
 where
     C::Key: Text,
     C::Value: Text,
-    ensures { IsDone (slots_outcome ⟦<C as Coded>⟧.coding C.Key.text C.Value.text bytes.now) (O.contents output.old) (O.contents output.new) result }
+    ensures { IsDone (slots_outcome ⟦<C as Coded>⟧.coding C.Key.text C.Value.text bytes.now)
+        (O.contents output.old) (O.contents output.new) result }
 {
     let allocation = Allocation::<C, Borrowed<'_>>::from_raw_bytes(Borrowed::new(bytes)).map_err(
         Failure::Refused,
@@ -121,7 +132,8 @@ where
     C::Value: Text,
     ensures { let c = ⟦<C as Coded>⟧.coding
         in let B = allocation.now.0.now
-        in OnOk result (Appends (O.contents output.old) (O.contents output.new) (slots_text c C.Key.text C.Value.text (parts_of c.format B) (header_slots B))) }
+        in OnOk result (Appends (O.contents output.old) (O.contents output.new)
+        (slots_text c C.Key.text C.Value.text (parts_of c.format B) (header_slots B))) }
 {
     let (control, entries) = allocation.data_slices();
     for slot in 0..entries.len() {
@@ -144,7 +156,9 @@ where
     requires slots { IsSlotCount entries.now.slots }
     requires slot { slot < entries.now.slots }
     requires control { length control.now ≡ entries.now.slots + 16 }
-    ensures { OnOk result (Appends (O.contents output.old) (O.contents output.new) (slot_line ⟦<C as Coded>⟧.coding C.Key.text C.Value.text (record { control = control.now; entries = entries.now }) slot)) }
+    ensures { let parts : TableParts = record { control = control.now; entries = entries.now }
+        in OnOk result (Appends (O.contents output.old) (O.contents output.new)
+        (slot_line ⟦<C as Coded>⟧.coding C.Key.text C.Value.text parts slot)) }
 {
     let tag = control[slot];
     if tag >= 128 {

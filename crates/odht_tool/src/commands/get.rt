@@ -2,7 +2,7 @@
 ghost use Rattle.std.specs.Prelude.{◌≡◌, None, [], ◌∷◌, ◌++◌, IfOk, IfErr, OnOk, map, string_bytes};
 ghost use Rattle.std.specs.List.{AllZip};
 ghost use Rattle.odht_header.specs.Refusals.{view_refusal};
-ghost use Rattle.odht_tool.specs.Gets.{IsReadAs, AreAnswers, AreWordsGot, AreFileWordsGot, found_status, words_of_shape};
+ghost use Rattle.odht_tool.specs.Gets.{IsReadAs, AreAnswers, AreWordsGot, AreFileWordsGot, words_of_shape};
 ghost use Rattle.odht_tool.specs.GetParts.{IsOpenFailure, NamesWord, NamesFault, AreKeysAnswered, IsKeysFailure, IsFlushed, IsNextKey};
 ghost use Rattle.odht_tool.specs.GetLines.{AreLinesAnswered, AreLinesGot, AreFileLinesGot, lines_of_shape};
 
@@ -25,7 +25,8 @@ use std::io::{self, BufRead, Write};
 /// How many keys are looked up at once.
 const BATCH: usize = 1024;
 
-/// Writes a line for each word, a key of the table of a file's bytes: the key, a tab and its value, or the key alone.
+/// `odht get` of the bytes of a file, for the words of the command line: writes a line for each key,
+/// the key, a tab and its value, or the key alone.
 pub fn get_file_words<O: Write>(
     alloc: Global,
     bytes: &[u8],
@@ -33,7 +34,8 @@ pub fn get_file_words<O: Write>(
     words: &[String],
     output: &mut O,
 ) -> Result<Status, Failure>
-    ensures { AreFileWordsGot bytes.now hash (map string_bytes words.now) (O.contents output.old) (O.contents output.new) result }
+    ensures { AreFileWordsGot bytes.now hash (map string_bytes words.now)
+        (O.contents output.old) (O.contents output.new) result }
 {
     let shape = shape_of(bytes, hash)?;
     get_words_of(alloc, shape, bytes, words, output)
@@ -46,12 +48,13 @@ fn get_words_of<O: Write>(
     words: &[String],
     output: &mut O,
 ) -> Result<Status, Failure>
-    ensures { words_of_shape bytes.now (map string_bytes words.now) (O.contents output.old) (O.contents output.new) result shape }
+    ensures { words_of_shape bytes.now (map string_bytes words.now)
+        (O.contents output.old) (O.contents output.new) result shape }
 {
     for_shape!(shape, get_words[O](alloc, bytes, words, output))
 }
 
-/// The same for the lines of an input.
+/// `odht get` of the bytes of a file, for the lines of an input.
 pub fn get_file_lines<I: BufRead, O: Write>(
     alloc: Global,
     bytes: &[u8],
@@ -59,7 +62,8 @@ pub fn get_file_lines<I: BufRead, O: Write>(
     input: &mut I,
     output: &mut O,
 ) -> Result<Status, Failure>
-    ensures { AreFileLinesGot bytes.now hash (I.remaining input.old) (O.contents output.old) (O.contents output.new) result }
+    ensures { AreFileLinesGot bytes.now hash (I.remaining input.old)
+        (O.contents output.old) (O.contents output.new) result }
 {
     let shape = shape_of(bytes, hash)?;
     get_lines_of(alloc, shape, bytes, input, output)
@@ -72,7 +76,8 @@ fn get_lines_of<I: BufRead, O: Write>(
     input: &mut I,
     output: &mut O,
 ) -> Result<Status, Failure>
-    ensures { lines_of_shape bytes.now (I.remaining input.old) (O.contents output.old) (O.contents output.new) result shape }
+    ensures { lines_of_shape bytes.now (I.remaining input.old)
+        (O.contents output.old) (O.contents output.new) result shape }
 {
     for_shape!(shape, get_lines[I, O](alloc, bytes, input, output))
 }
@@ -87,18 +92,22 @@ fn get_words<C: Config, O: Write>(
 where
     C::Key: Text,
     C::Value: Text,
-    ensures { AreWordsGot ⟦<C as Coded>⟧.coding C.Key.text C.Value.text (IsReadAs C.Key.is_word C.Key.stands_for) bytes.now (map string_bytes words.now) (O.contents output.old) (O.contents output.new) result }
+    ensures { AreWordsGot ⟦<C as Coded>⟧.coding C.Key.text C.Value.text
+        (IsReadAs C.Key.is_word C.Key.stands_for) bytes.now (map string_bytes words.now)
+        (O.contents output.old) (O.contents output.new) result }
 {
     let table = open::<C>(bytes)?;
     let keys = parse_keys::<C::Key>(alloc, words)?;
     let is_all_found = answer_keys(alloc, &table, keys.as_slice(), output)?;
-    Ok(status_of(is_all_found))
+    Ok(Status::of(is_all_found))
 }
 
 // The keys of the words, or the first word that is none.
 fn parse_keys<K: Text>(alloc: Global, words: &[String]) -> Result<Vec<K>, Failure>
-    ensures keys { IfOk result (λ keys. AllZip (IsReadAs K.is_word K.stands_for) (map string_bytes words.now) keys.items) }
-    ensures fault { IfErr result (NamesFault (IsReadAs K.is_word K.stands_for) (map string_bytes words.now)) }
+    ensures keys { IfOk result
+        (λ keys. AllZip (IsReadAs K.is_word K.stands_for) (map string_bytes words.now) keys.items) }
+    ensures fault { IfErr result
+        (NamesFault (IsReadAs K.is_word K.stands_for) (map string_bytes words.now)) }
 {
     let mut keys = Vec::new(alloc);
     for word in words {
@@ -115,16 +124,6 @@ fn push_key<K: Text>(keys: &mut Vec<K>, key: K) -> Result<(), Failure>
     ensures err { IfErr result (λ failure. failure ≡ Failure.Memory) }
 {
     keys.push(key).map_err(|_| Failure::Memory)
-}
-
-fn status_of(is_all_found: bool) -> Status
-    ensures { result ≡ found_status is_all_found }
-{
-    if is_all_found {
-        Status::Done
-    } else {
-        Status::NotDone
-    }
 }
 
 fn wrong_key(alloc: Global, word: &str) -> Failure
@@ -146,7 +145,9 @@ fn get_lines<C: Config, I: BufRead, O: Write>(
 where
     C::Key: Text,
     C::Value: Text,
-    ensures { AreLinesGot ⟦<C as Coded>⟧.coding C.Key.text C.Value.text (IsReadAs C.Key.is_word C.Key.stands_for) bytes.now (I.remaining input.old) (O.contents output.old) (O.contents output.new) result }
+    ensures { AreLinesGot ⟦<C as Coded>⟧.coding C.Key.text C.Value.text
+        (IsReadAs C.Key.is_word C.Key.stands_for) bytes.now (I.remaining input.old)
+        (O.contents output.old) (O.contents output.new) result }
 {
     let table = open::<C>(bytes)?;
     answer_lines(alloc, &table, input, output)
@@ -161,7 +162,9 @@ fn answer_lines<C: Config, I: BufRead, O: Write>(
 where
     C::Key: Text,
     C::Value: Text,
-    ensures { AreLinesAnswered ⟦<C as Coded>⟧.coding C.Key.text C.Value.text (IsReadAs C.Key.is_word C.Key.stands_for) table.now.0.now (I.remaining input.old) (O.contents output.old) (O.contents output.new) result }
+    ensures { AreLinesAnswered ⟦<C as Coded>⟧.coding C.Key.text C.Value.text
+        (IsReadAs C.Key.is_word C.Key.stands_for) table.now.0.now (I.remaining input.old)
+        (O.contents output.old) (O.contents output.new) result }
 {
     let mut keys = Vec::new(alloc);
     let mut line = Vec::new(alloc);
@@ -180,7 +183,7 @@ where
         is_all_found = answer_batch(alloc, table, &mut keys, is_all_found, output)?;
     }
     let is_last_found = answer_keys(alloc, table, keys.as_slice(), output)?;
-    Ok(status_of(is_last_found && is_all_found))
+    Ok(Status::of(is_last_found && is_all_found))
 }
 
 /// What the next line of an input is.
@@ -196,7 +199,8 @@ enum NextKey<K> {
 
 // Reads the next line, and parses its key. The bytes of `line` are replaced.
 fn next_key<K: Text, I: BufRead>(input: &mut I, line: &mut Vec<u8>) -> io::Result<NextKey<K>>
-    ensures { IfOk result (IsNextKey (IsReadAs K.is_word K.stands_for) (I.remaining input.old) (I.remaining input.new)) }
+    ensures { IfOk result (IsNextKey (IsReadAs K.is_word K.stands_for)
+        (I.remaining input.old) (I.remaining input.new)) }
 {
     if !read_line(input, line)? {
         return Ok(NextKey::End);
@@ -207,7 +211,8 @@ fn next_key<K: Text, I: BufRead>(input: &mut I, line: &mut Vec<u8>) -> io::Resul
     }
 }
 
-// Answers the keys where they are a batch, and drops them. Returns whether each was found, and those before.
+// Answers the keys where they are a batch, and drops them. Returns whether each was found, and
+// those before.
 fn answer_batch<C: Config, O: Write>(
     alloc: Global,
     table: &HashTable<C, Borrowed<'_>>,
@@ -218,7 +223,9 @@ fn answer_batch<C: Config, O: Write>(
 where
     C::Key: Text,
     C::Value: Text,
-    ensures ok { IfOk result (IsFlushed ⟦<C as Coded>⟧.coding C.Key.text C.Value.text table.now.0.now keys.old.items keys.new.items (O.contents output.old) (O.contents output.new) is_all_found) }
+    ensures ok { IfOk result (IsFlushed ⟦<C as Coded>⟧.coding C.Key.text C.Value.text
+        table.now.0.now keys.old.items keys.new.items
+        (O.contents output.old) (O.contents output.new) is_all_found) }
     ensures err { IfErr result (IsKeysFailure (O.contents output.old) (O.contents output.new)) }
 {
     if keys.len() < BATCH {
@@ -232,7 +239,8 @@ where
 fn open<C: Config>(bytes: &[u8]) -> Result<HashTable<C, Borrowed<'_>>, Failure>
     ensures ok { IfOk result (λ table. table.0.now ≡ bytes.now) }
     ensures opened { OnOk result (view_refusal ⟦<C as Coded>⟧.coding.format bytes.now ≡ None) }
-    ensures err { IfErr result (IsOpenFailure (view_refusal ⟦<C as Coded>⟧.coding.format bytes.now)) }
+    ensures err { IfErr result
+        (IsOpenFailure (view_refusal ⟦<C as Coded>⟧.coding.format bytes.now)) }
 {
     HashTable::from_raw_bytes(Borrowed::new(bytes)).map_err(Failure::Refused)
 }
@@ -247,7 +255,8 @@ fn answer_keys<C: Config, O: Write>(
 where
     C::Key: Text,
     C::Value: Text,
-    ensures ok { IfOk result (AreKeysAnswered ⟦<C as Coded>⟧.coding C.Key.text C.Value.text table.now.0.now keys.now (O.contents output.old) (O.contents output.new)) }
+    ensures ok { IfOk result (AreKeysAnswered ⟦<C as Coded>⟧.coding C.Key.text C.Value.text
+        table.now.0.now keys.now (O.contents output.old) (O.contents output.new)) }
     ensures err { IfErr result (IsKeysFailure (O.contents output.old) (O.contents output.new)) }
 {
     let values = look_up::<C>(alloc, table, keys)?;
@@ -264,7 +273,8 @@ fn look_up<C: Config>(
 ) -> Result<Vec<Option<C::Value>>, AllocError>
 where
     C::Value: Text,
-    ensures { IfOk result (λ values. AreAnswers ⟦<C as Coded>⟧.coding table.now.0.now keys.now values.items) }
+    ensures { IfOk result
+        (λ values. AreAnswers ⟦<C as Coded>⟧.coding table.now.0.now keys.now values.items) }
 {
     let mut values = absent_values::<C::Value>(alloc, keys.len())?;
     table.get_all(keys, values.as_mut_slice());
