@@ -100,14 +100,16 @@ impl Percent {
     }
 }
 
-/// A table that is to be made.
+/// The options of `build`.
 #[derive(Clone, Copy, Debug)]
-pub struct NewTable {
+pub struct BuildOptions {
     pub key: Part,
     pub value: Part,
     pub hash: Option<Hash>,
+    /// For how many items room is made at first.
     pub capacity: usize,
     pub percent: Percent,
+    pub has_progress: bool,
 }
 
 /// Where the keys of a lookup are.
@@ -144,10 +146,7 @@ pub enum Command {
         hash: Option<Hash>,
         is_slots: bool,
     },
-    Build {
-        table: NewTable,
-        has_progress: bool,
-    },
+    Build(BuildOptions),
     Put {
         hash: Option<Hash>,
         has_progress: bool,
@@ -244,7 +243,7 @@ pub fn parse(alloc: Global, words: Vec<String>) -> Result<Request, Misuse> {
 struct Draft {
     topic: Topic,
     file: Option<String>,
-    // Those after the file.
+    // Those after the file, without options.
     words: Vec<String>,
     hash: Option<Hash>,
     key: Option<Part>,
@@ -286,7 +285,7 @@ impl Draft {
         }
     }
 
-    // Sets an option to a value. None where it has no such value.
+    // Sets an option. None where it has no such value.
     fn set(&mut self, setting: Setting, value: &str) -> Option<()> {
         match setting {
             Setting::Hash => self.hash = Some(Hash::named(value)?),
@@ -325,7 +324,7 @@ impl Draft {
         Ok(None)
     }
 
-    // What all the words ask for.
+    // What all the words ask for. For `get`, and for no other command, some come after the file.
     fn finish(self) -> Result<Request, Misuse> {
         let topic = self.topic;
         if self.is_help {
@@ -353,16 +352,14 @@ impl Draft {
                 let (Some(key), Some(value)) = (self.key, self.value) else {
                     return Err(Misuse::NoParts);
                 };
-                Command::Build {
-                    table: NewTable {
-                        key,
-                        value,
-                        hash,
-                        capacity: self.capacity,
-                        percent: self.percent,
-                    },
+                Command::Build(BuildOptions {
+                    key,
+                    value,
+                    hash,
+                    capacity: self.capacity,
+                    percent: self.percent,
                     has_progress,
-                }
+                })
             }
             Topic::Put => Command::Put { hash, has_progress },
         };

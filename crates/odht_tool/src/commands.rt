@@ -73,10 +73,7 @@ fn run_command<R: Files + AllocGlobal + Clock, I: BufRead, O: Write, E: Write>(
             is_slots,
             output,
         ),
-        Command::Build {
-            table,
-            has_progress,
-        } => build::build(rt, file, table, has_progress, input, errors),
+        Command::Build(options) => build::build(rt, file, options, input, errors),
         Command::Put { hash, has_progress } => build::put(
             rt,
             file,

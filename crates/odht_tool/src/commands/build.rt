@@ -7,7 +7,7 @@ ghost use Rattle.odht.specs.Inserts.{IsFresh};
 ghost use Rattle.odht.specs.Lists.{encoded_all, IsAfterInserts};
 
 use super::check::shape_of;
-use crate::arguments::{NewTable, Percent};
+use crate::arguments::{BuildOptions, Percent};
 use crate::failure::{Failure, LineFault};
 use crate::files::replace_file;
 use crate::lines::{read_line, split_at_tab};
@@ -31,25 +31,23 @@ const BATCH: usize = 1024;
 pub fn build<R: Files + AllocGlobal + Clock, I: BufRead, E: Write>(
     rt: &R,
     file: &str,
-    table: NewTable,
-    has_progress: bool,
+    options: BuildOptions,
     input: &mut I,
     errors: &mut E,
 ) -> Result<Status, Failure> {
-    let Some(shape) = Shape::of_parts(table.key, table.value, table.hash) else {
-        return Err(Failure::NoShape {
-            key_size: table.key.size(),
-            value_size: table.value.size(),
-        });
-    };
-    for_shape!(shape, build_file[R, I, E](rt, file, table, has_progress, input, errors))
+    let shape = Shape::of_parts(options.key, options.value, options.hash).ok_or(
+        Failure::NoShape {
+            key_size: options.key.size(),
+            value_size: options.value.size(),
+        },
+    )?;
+    for_shape!(shape, build_file[R, I, E](rt, file, options, input, errors))
 }
 
 fn build_file<C: Config, R: Files + AllocGlobal + Clock, I: BufRead, E: Write>(
     rt: &R,
     file: &str,
-    table: NewTable,
-    has_progress: bool,
+    options: BuildOptions,
     input: &mut I,
     errors: &mut E,
 ) -> Result<Status, Failure>
@@ -57,8 +55,8 @@ where
     C::Key: Text,
     C::Value: Text,
 {
-    let table = make_table::<C>(rt.alloc(), table.capacity, table.percent)?;
-    insert_into_file(rt, file, table, has_progress, input, errors)
+    let table = make_table::<C>(rt.alloc(), options.capacity, options.percent)?;
+    insert_into_file(rt, file, table, options.has_progress, input, errors)
 }
 
 fn make_table<C: Config>(
