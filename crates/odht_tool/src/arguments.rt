@@ -44,9 +44,9 @@ impl fmt::Display for Topic {
     }
 }
 
-/// An option that its value follows.
-#[derive(Clone, Copy, Debug, PartialEq, Eq)]
-pub enum Setting {
+// An option that its value follows.
+#[derive(Clone, Copy)]
+enum Setting {
     Hash,
     Key,
     Value,
@@ -64,18 +64,6 @@ impl Setting {
             "--percent" if topic == Topic::Build => Some(Setting::Percent),
             "--capacity" if topic == Topic::Build => Some(Setting::Capacity),
             _ => None,
-        }
-    }
-}
-
-impl fmt::Display for Setting {
-    fn fmt<W: fmt::Write>(&self, f: &mut fmt::Formatter<W>) -> fmt::Result {
-        match self {
-            Setting::Hash => write!(f, "--hash"),
-            Setting::Key => write!(f, "--key"),
-            Setting::Value => write!(f, "--value"),
-            Setting::Percent => write!(f, "--percent"),
-            Setting::Capacity => write!(f, "--capacity"),
         }
     }
 }
@@ -172,9 +160,9 @@ pub enum Misuse {
     /// A word begins with two hyphens and is no option of the command.
     UnknownOption(Topic, String),
     /// An option's value is missing.
-    NoValue(Topic, Setting),
+    NoValue(Topic, String),
     /// An option has no such value.
-    WrongValue(Topic, Setting, String),
+    WrongValue(Topic, String, String),
     /// There are too few or too many words.
     WrongCount(Topic),
     /// A table is to be built, and its shape is not given.
@@ -195,13 +183,13 @@ impl fmt::Display for Misuse {
                 f,
                 "`odht {topic}` has no option {word:?}; try `odht {topic} --help`"
             ),
-            Misuse::NoValue(topic, setting) => write!(
+            Misuse::NoValue(topic, option) => write!(
                 f,
-                "a value is wanted behind {setting}; try `odht {topic} --help`"
+                "a value is wanted behind {option}; try `odht {topic} --help`"
             ),
-            Misuse::WrongValue(topic, setting, word) => write!(
+            Misuse::WrongValue(topic, option, word) => write!(
                 f,
-                "{setting} cannot be {word:?}; try `odht {topic} --help`"
+                "{option} cannot be {word:?}; try `odht {topic} --help`"
             ),
             Misuse::WrongCount(topic) => write!(
                 f,
@@ -233,7 +221,7 @@ pub fn parse(alloc: Global, words: Vec<String>) -> Result<Request, Misuse> {
         waiting = draft.read(waiting, word)?;
     }
     match waiting {
-        Some(setting) => Err(Misuse::NoValue(topic, setting)),
+        Some((_, option)) => Err(Misuse::NoValue(topic, option)),
         None => draft.finish(),
     }
 }
@@ -242,8 +230,7 @@ pub fn parse(alloc: Global, words: Vec<String>) -> Result<Request, Misuse> {
 #[derive(Drop)]
 struct Draft {
     topic: Topic,
-    file: Option<String>,
-    // Those after the file, without options.
+    // The file and those after it, without options.
     words: Vec<String>,
     hash: Option<Hash>,
     key: Option<Part>,
@@ -259,7 +246,6 @@ impl Draft {
     fn new(alloc: Global, topic: Topic) -> Draft {
         Draft {
             topic,
-            file: None,
             words: Vec::new(alloc),
             hash: None,
             key: None,
@@ -273,15 +259,22 @@ impl Draft {
     }
 
     // Parses the next word: the value of the option that waits for one, if one does. Returns the
-    // option that waits then.
-    fn read(&mut self, waiting: Option<Setting>, word: String) -> Result<Option<Setting>, Misuse> {
+    // option that waits then, and its word.
+    fn read(
+        &mut self,
+        waiting: Option<(Setting, String)>,
+        word: String,
+    ) -> Result<Option<(Setting, String)>, Misuse> {
         match waiting {
-            Some(setting) => match self.set(setting, word.as_str()) {
+            Some((setting, option)) => match self.set(setting, word.as_str()) {
                 Some(()) => Ok(None),
-                None => Err(Misuse::WrongValue(self.topic, setting, word)),
+                None => Err(Misuse::WrongValue(self.topic, option, word)),
             },
             None if word.as_str().starts_with("--") => self.read_option(word),
-            None => self.read_plain(word),
+            None => match self.words.push(word) {
+                Ok(()) => Ok(None),
+                Err(_) => Err(Misuse::Memory),
+            },
         }
     }
 
@@ -297,7 +290,7 @@ impl Draft {
         Some(())
     }
 
-    fn read_option(&mut self, word: String) -> Result<Option<Setting>, Misuse> {
+    fn read_option(&mut self, word: String) -> Result<Option<(Setting, String)>, Misuse> {
         let topic = self.topic;
         match word.as_str() {
             "--help" => self.is_help = true,
@@ -307,19 +300,10 @@ impl Draft {
             }
             name => {
                 return match Setting::of(topic, name) {
-                    Some(setting) => Ok(Some(setting)),
+                    Some(setting) => Ok(Some((setting, word))),
                     None => Err(Misuse::UnknownOption(topic, word)),
                 };
             }
-        }
-        Ok(None)
-    }
-
-    fn read_plain(&mut self, word: String) -> Result<Option<Setting>, Misuse> {
-        if self.file.is_none() {
-            self.file = Some(word);
-        } else {
-            self.words.push(word).or(Err(Misuse::Memory))?;
         }
         Ok(None)
     }
@@ -330,19 +314,17 @@ impl Draft {
         if self.is_help {
             return Ok(Request::Help(Some(topic)));
         }
-        if self.words.is_empty() == (topic == Topic::Get) {
+        let (mut words, hash, has_progress) = (self.words, self.hash, self.has_progress);
+        if words.is_empty() || (words.len() > 1) != (topic == Topic::Get) {
             return Err(Misuse::WrongCount(topic));
         }
-        let (file, hash, has_progress) = (self.file, self.hash, self.has_progress);
-        let Some(file) = file else {
-            return Err(Misuse::WrongCount(topic));
-        };
+        let file = words.remove(0);
         let command = match topic {
             Topic::Info => Command::Info,
             Topic::Check => Command::Check { hash },
             Topic::Get => Command::Get {
                 hash,
-                keys: Keys::of_words(self.words),
+                keys: Keys::of_words(words),
             },
             Topic::Dump => Command::Dump {
                 hash,
