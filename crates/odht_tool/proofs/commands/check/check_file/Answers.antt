@@ -2,7 +2,7 @@ use Rattle.std.proofs.Common.{rules, ◌≡◌, ◌∙◌, Err, sym, ap, subst, 
 use Rattle.std.specs.Prelude.{is_ok, slice_index}
 use Rattle.std.specs.Io.KnownBytes.{Appends}
 use Rattle.odht_header.specs.Refusals.{check_refusal}
-use Rattle.odht_tool.specs.Outcomes.{IsDone, check_outcome, check_of_shape, checked_status}
+use Rattle.odht_tool.specs.Outcomes.{IsDone, check_outcome, check_of_shape}
 use Rattle.odht_tool.specs.ReadyShapes.{shape_of_bytes, shape_format}
 use Rattle.odht_tool.specs.Texts.{checked_text}
 use Rattle.odht_tool.specs.declared.failure.Failure.TheVariants.{NoShape}
