@@ -14,8 +14,8 @@ mod dump;
 mod get;
 mod info;
 
-/// Does what the words ask for. Each failure is reported by a line on `errors`; where that cannot be
-/// written either, the status alone reports it. Where nobody reads `output` any more, nothing is
+/// Does what the words ask for. Each failure is reported by a line on `errors`; where that cannot
+/// be written either, the status alone reports it. Where nobody reads `output` any more, nothing is
 /// reported.
 pub fn run<R: Files + AllocGlobal + Clock, I: BufRead, O: Write, E: Write>(
     rt: &R,

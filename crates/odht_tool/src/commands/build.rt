@@ -1,5 +1,5 @@
 //! `odht build` and `odht put`: tables from the lines of standard input.
-ghost use Rattle.std.specs.Prelude.{◌≡◌, ◌≤◌, OnOk, IfOk, length};
+ghost use Rattle.std.specs.Prelude.{◌≡◌, OnOk, IfOk, length};
 ghost use Rattle.odht_base.specs.Table.{Table};
 ghost use Rattle.odht_base.specs.Insert.{insert_owned};
 ghost use Rattle.odht_base.specs.Valid.{IsImage};
@@ -167,8 +167,8 @@ fn insert_batch<C: Config>(
     ensures inserted { let c = ⟦<C as Coded>⟧.coding
         in (P : Table)
         → IsImage c.format P table.old
-        → OnOk result
-        (IsAfterInserts c.format (insert_owned c.format) P (encoded_all c pairs.old.items) table.new) }
+        → OnOk result (IsAfterInserts c.format (insert_owned c.format) P
+        (encoded_all c pairs.old.items) table.new) }
     ensures empty { length pairs.new.items ≡ 0 }
 {
     let (_, inserted) = table.insert_all(pairs.as_slice());

@@ -25,8 +25,8 @@ use std::io::{self, BufRead, Write};
 /// How many keys are looked up at once.
 const BATCH: usize = 1024;
 
-/// `odht get` of the bytes of a file, for the words of the command line: writes a line for each key,
-/// the key, a tab and its value, or the key alone.
+/// `odht get` of the bytes of a file, for the words of the command line: writes a line for each
+/// key, with a tab and its value, or the key alone.
 pub fn get_file_words<O: Write>(
     alloc: Global,
     bytes: &[u8],

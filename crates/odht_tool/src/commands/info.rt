@@ -85,8 +85,8 @@ fn name_of(hash: Hash) -> &'static str
 
 // Writes a line of a label and a number, with `end` behind it.
 fn write_number<O: Write>(label: &str, number: u128, end: &str, output: &mut O) -> io::Result<()>
-    ensures { OnOk result
-        (Appends (O.contents output.old) (O.contents output.new) (number_line label.now number end.now)) }
+    ensures { OnOk result (Appends (O.contents output.old) (O.contents output.new)
+        (number_line label.now number end.now)) }
 {
     writeln!(output, "{label}{number}{end}")
 }
