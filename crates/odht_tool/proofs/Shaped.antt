@@ -1,17 +1,14 @@
 -- What a command does, from the shape of the bytes on.
-use Rattle.std.proofs.Common.{◌≡◌, ℕ, List, Option, Some, None, Ok, Err, sym, ap, subst, refl, if◌then◌else◌}
-use Rattle.std.specs.Prelude.{Result, MatchOption, MatchResult, IsErrAnd, is_ok}
+use Rattle.std.proofs.Common.{◌≡◌, ℕ, List, Option, Some, None, Ok, Err, sym, ap, subst}
+use Rattle.std.specs.Prelude.{Result, MatchOption, MatchResult, IsErrAnd}
 use Rattle.std.specs.Io.KnownBytes.{Keeps}
 use Rattle.std.specs.Option.{ok_or, option_map_or}
 use Rattle.std.proofs.KnownBytes.{Keeps-refl}
-use Rattle.odht_header.specs.Refusals.{checked}
-use Rattle.odht_header.specs.declared.error.Error.{Error}
-use Rattle.odht_tool.specs.Outcomes.{Outcome, IsDone, IsOutputFailure, checked_status}
+use Rattle.odht_tool.specs.Outcomes.{Outcome, IsDone, IsOutputFailure}
 use Rattle.odht_tool.specs.Outcomes.Outcome.{fails}
 use Rattle.odht_tool.specs.declared.failure.Failure.{Failure}
 use Rattle.odht_tool.specs.declared.shapes.Shape.{Shape}
 use Rattle.odht_tool.specs.declared.status.Status.{Status}
-use Rattle.odht_tool.specs.declared.status.Status.TheVariants.{Done, NotDone}
 
 -- what was found is a shape
 same_shape : (o : Option Shape) (s : Failure) (x : Shape) → Ok x ≡ ok_or o s → o ≡ Some x
@@ -43,8 +40,3 @@ with_shape_said o s x N P e h = subst (λ p. MatchOption p N P) (sym (same_shape
 pub failed_output : (A : Status → Type 0) (r : Result Status Failure) → IsErrAnd r IsOutputFailure → MatchResult r A IsOutputFailure
 failed_output A (Ok status) f = absurd f
 failed_output A (Err failure) f = f
-
--- ---- the status of a check
-pub status_checked : (o : Option Error) → (if is_ok (checked o) then Done else NotDone) ≡ checked_status o
-status_checked None = refl
-status_checked (Some x) = refl

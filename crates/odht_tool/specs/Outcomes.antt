@@ -14,7 +14,7 @@
 --     slots_text c f g T n     those of the first n slots
 --     slots_outcome c f g B    of `dump --slots`
 --     dump_outcome B h is_slots    of `dump`, with `--slots` or without
-use Rattle.std.specs.Prelude.{◌≡◌, ⊤, ℕ, Bool, List, [], ◌∷◌, ◌++◌, flat_map, slice_index, Option, Some, None, Result, Ok, Err, MatchResult, IsErrAnd, decimal, if◌then◌else◌}
+use Rattle.std.specs.Prelude.{◌≡◌, ⊤, ℕ, Bool, List, [], ◌∷◌, ◌++◌, flat_map, slice_index, Option, Some, None, Result, Ok, Err, is_ok, MatchResult, IsErrAnd, decimal, if◌then◌else◌}
 use Rattle.std.specs.Io.KnownBytes.{Appends, Keeps}
 use Rattle.std.specs.List.{range_with_len}
 use Rattle.std.specs.Option.{option_map_or}
@@ -58,12 +58,10 @@ opened_outcome None text = writes text Done
 opened_outcome (Some error) text = fails (Refused error)
 
 -- ---- check
-abbrev pub checked_status : Option Error → Status
-checked_status None = Done
-checked_status (Some error) = NotDone
-
 abbrev pub check_of_shape : List ℕ → Shape → Outcome
-check_of_shape B s = let error = check_refusal (shape_format s) B in writes (checked_text (checked error)) (checked_status error)
+check_of_shape B s =
+    let r = checked (check_refusal (shape_format s) B) in
+    writes (checked_text r) (if is_ok r then Done else NotDone)
 
 abbrev pub check_outcome : List ℕ → Option Hash → Outcome
 check_outcome B h = by_shape B h (check_of_shape B)

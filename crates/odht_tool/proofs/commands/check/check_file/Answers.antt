@@ -1,13 +1,12 @@
 use Rattle.std.proofs.Common.{rules, ◌≡◌, ◌∙◌, Err, sym, ap, subst, if◌then◌else◌}
-use Rattle.std.specs.Prelude.{is_ok, slice_index}
+use Rattle.std.specs.Prelude.{slice_index}
 use Rattle.std.specs.Io.KnownBytes.{Appends}
-use Rattle.odht_header.specs.Refusals.{check_refusal}
 use Rattle.odht_tool.specs.Outcomes.{IsDone, check_outcome, check_of_shape}
-use Rattle.odht_tool.specs.ReadyShapes.{shape_of_bytes, shape_format}
+use Rattle.odht_tool.specs.ReadyShapes.{shape_of_bytes}
 use Rattle.odht_tool.specs.Texts.{checked_text}
 use Rattle.odht_tool.specs.declared.failure.Failure.TheVariants.{NoShape}
 use Rattle.odht_tool.specs.declared.status.Status.TheVariants.{Done, NotDone}
-use Rattle.odht_tool.proofs.Shaped.{without_shape, with_shape, failed_output, status_checked}
+use Rattle.odht_tool.proofs.Shaped.{without_shape, with_shape, failed_output}
 use Rattle.odht_tool.proofs.commands.check.check_file.Goals as goal
 
 pub returns-in_err-shape : goal.returns-in_err-shape
@@ -16,21 +15,18 @@ returns-in_err-shape g c =
     let x = c.in_err-shape.field-0.0 in
     let old = g.O.Write.contents c.args.output.now in
     let failed : c.from_residual.result ≡ Err x = search rules in
-    subst (IsDone (check_outcome B c.args.hash) old old) (sym failed)
-    (without_shape (shape_of_bytes B c.args.hash) (NoShape (slice_index B 5) (slice_index B 6)) (check_of_shape B) old x (sym c.in_err-shape.was ∙ c.shape_of.ensures))
+    rw failed (without_shape (shape_of_bytes B c.args.hash) (NoShape (slice_index B 5) (slice_index B 6)) (check_of_shape B) old x (sym c.in_err-shape.was ∙ c.shape_of.ensures))
 
 pub returns : goal.returns
 returns g c =
     let B = c.args.bytes.now in
     let old = g.O.Write.contents c.args.output.now in
     let new = g.O.Write.contents c.write_checked.new.output in
-    let error = check_refusal (shape_format c.in_ok-shape.shape) B in
-    let passed = c.is_ok.ensures.value ∙ ap is_ok c.check_shape-checked.ensures in
-    let status = c.of.ensures ∙ ap (λ b. if b then Done else NotDone) passed ∙ status_checked error in
+    let status = c.of.ensures ∙ ap (λ b. if b then Done else NotDone) c.is_ok.ensures.value in
     let written : Appends old new (checked_text c.check_shape-checked.result) = search rules in
     with_shape (shape_of_bytes B c.args.hash) (NoShape (slice_index B 5) (slice_index B 6)) (check_of_shape B) c.in_ok-shape.shape old new _
     (sym c.in_ok-shape.was ∙ c.shape_of.ensures)
-    (status, subst (λ r. Appends old new (checked_text r)) c.check_shape-checked.ensures written)
+    (rw (← c.check_shape-checked.ensures) (status, written))
 
 pub returns-in_err-map_err : goal.returns-in_err-map_err
 returns-in_err-map_err g c =
