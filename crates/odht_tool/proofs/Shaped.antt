@@ -1,15 +1,14 @@
 -- What a command does, from the shape of the bytes on.
-use Rattle.std.proofs.Common.{◌≡◌, ℕ, List, Option, Some, None, Ok, Err, true, false, sym, ap, subst, refl}
-use Rattle.std.specs.Prelude.{Result, MatchOption, is_ok}
+use Rattle.std.proofs.Common.{◌≡◌, ℕ, List, Option, Some, None, Ok, Err, sym, ap, subst}
+use Rattle.std.specs.Prelude.{Result, MatchOption, MatchResult, IsErrAnd}
 use Rattle.std.specs.Io.KnownBytes.{Keeps}
 use Rattle.std.specs.Option.{ok_or, option_map_or}
 use Rattle.std.proofs.KnownBytes.{Keeps-refl}
-use Rattle.odht_header.specs.Refusals.{checked}
-use Rattle.odht_header.specs.declared.error.Error.{Error}
-use Rattle.odht_tool.specs.Outcomes.{Outcome, IsDone, checked_status}
+use Rattle.odht_tool.specs.Outcomes.{Outcome, IsDone, IsOutputFailure}
 use Rattle.odht_tool.specs.Outcomes.Outcome.{fails}
 use Rattle.odht_tool.specs.declared.failure.Failure.{Failure}
 use Rattle.odht_tool.specs.declared.shapes.Shape.{Shape}
+use Rattle.odht_tool.specs.declared.status.Status.{Status}
 
 -- what was found is a shape
 same_shape : (o : Option Shape) (s : Failure) (x : Shape) → Ok x ≡ ok_or o s → o ≡ Some x
@@ -26,22 +25,18 @@ without_shape None s f old e h = (ap Err (same_failure e s h), Keeps-refl old)
 without_shape (Some x) s f old e h = cc
 
 -- and with one what follows
-pub with_shape : (o : Option Shape) (s : Failure) (f : Shape → Outcome) (x : Shape) (old new : Option (List ℕ)) (r : Result ℕ Failure) → Ok x ≡ ok_or o s → IsDone (f x) old new r → IsDone (option_map_or f o (fails s)) old new r
+pub with_shape : (o : Option Shape) (s : Failure) (f : Shape → Outcome) (x : Shape) (old new : Option (List ℕ)) (r : Result Status Failure) → Ok x ≡ ok_or o s → IsDone (f x) old new r → IsDone (option_map_or f o (fails s)) old new r
 with_shape o s f x old new r e h = subst (λ p. IsDone (option_map_or f p (fails s)) old new r) (sym (same_shape o s x e)) h
 
 -- the same of what is said by cases
-pub without_shape_said : (o : Option Shape) (s e : Failure) (old : Option (List ℕ)) (P : Shape → Type 0) → Err e ≡ ok_or o s → MatchOption o ((◌≡◌ {A = Result ℕ Failure} (Err e) (Err s)) × Keeps old old) P
+pub without_shape_said : (o : Option Shape) (s e : Failure) (old : Option (List ℕ)) (P : Shape → Type 0) → Err e ≡ ok_or o s → MatchOption o ((◌≡◌ {A = Result Status Failure} (Err e) (Err s)) × Keeps old old) P
 without_shape_said None s e old P h = (ap Err (same_failure e s h), Keeps-refl old)
 without_shape_said (Some x) s e old P h = cc
 
 pub with_shape_said : (o : Option Shape) (s : Failure) (x : Shape) (N : Type 0) (P : Shape → Type 0) → Ok x ≡ ok_or o s → P x → MatchOption o N P
 with_shape_said o s x N P e h = subst (λ p. MatchOption p N P) (sym (same_shape o s x e)) h
 
--- ---- the status of a check
-pub passed_status : (o : Option Error) → is_ok (checked o) ≡ true → 0 ≡ checked_status o
-passed_status None e = refl
-passed_status (Some x) e = cc
-
-pub failed_status : (o : Option Error) → is_ok (checked o) ≡ false → 1 ≡ checked_status o
-failed_status None e = cc
-failed_status (Some x) e = refl
+-- what fails by the writer ends as a text allows
+pub failed_output : (A : Status → Type 0) (r : Result Status Failure) → IsErrAnd r IsOutputFailure → MatchResult r A IsOutputFailure
+failed_output A (Ok status) f = absurd f
+failed_output A (Err failure) f = f

@@ -23,6 +23,7 @@ use Rattle.odht_tool.specs.declared.failure.Failure.TheVariants.{Refused, Input,
 use Rattle.odht_tool.specs.declared.failure.LineFault.TheVariants.{Key}
 use Rattle.odht_tool.specs.declared.shapes.Hash.{Hash}
 use Rattle.odht_tool.specs.declared.shapes.Shape.{Shape}
+use Rattle.odht_tool.specs.declared.status.Status.{Status}
 
 abbrev pub lines_read : List ℕ → List (List ℕ)
 lines_read bytes = take (2 ^ 64 - 2) (lines bytes)
@@ -33,7 +34,7 @@ pub record AreFirstAnswered {K V : Type 0} (c : Coding K V) (f : K → List ℕ)
   pub place : ws ≡ before ++ after
   pub batches : ℕ
   pub counted : length before ≡ batches * BATCH
-  pub status : ℕ
+  pub status : Status
   pub answered : IsAnswered c f g R B before old new status
 
 pub record IsLineFault {K V : Type 0} (c : Coding K V) (f : K → List ℕ) (g : V → List ℕ) (R : List ℕ → K → Type 0) (B : List ℕ) (ws : List (List ℕ)) (number : ℕ) (old new : Option (List ℕ)) : Type 0 where
@@ -43,11 +44,11 @@ pub record IsLineFault {K V : Type 0} (c : Coding K V) (f : K → List ℕ) (g :
   pub place : ws ≡ before ++ (word ∷ after)
   pub counted : number ≡ length before + 1
   pub fault : IsTextOfNone R word
-  pub status : ℕ
+  pub status : Status
   pub answered : IsAnswered c f g R B before old new status
 
 module _ {K V : Type 0} (c : Coding K V) (f : K → List ℕ) (g : V → List ℕ) (R : List ℕ → K → Type 0) (B : List ℕ) where
-  abbrev pub AreLinesAnswered : Option (List ℕ) → Option (List ℕ) → Option (List ℕ) → Result ℕ Failure → Type 0
+  abbrev pub AreLinesAnswered : Option (List ℕ) → Option (List ℕ) → Option (List ℕ) → Result Status Failure → Type 0
   AreLinesAnswered input old new (Ok status) = IfSome input (λ bytes. IsAnswered c f g R B (lines_read bytes) old new status)
   AreLinesAnswered input old new (Err (Line number Key)) = IfSome input (λ bytes. IsLineFault c f g R B (lines bytes) number old new)
   AreLinesAnswered input old new (Err Memory) = IfSome input (λ bytes. AreFirstAnswered c f g R B (lines bytes) old new)
@@ -55,14 +56,14 @@ module _ {K V : Type 0} (c : Coding K V) (f : K → List ℕ) (g : V → List �
   AreLinesAnswered input old new (Err (Output error)) = ⊤
   AreLinesAnswered input old new (Err _) = ⊥
 
-  abbrev pub AreLinesGot : Option (List ℕ) → Option (List ℕ) → Option (List ℕ) → Result ℕ Failure → Type 0
+  abbrev pub AreLinesGot : Option (List ℕ) → Option (List ℕ) → Option (List ℕ) → Result Status Failure → Type 0
   AreLinesGot input old new (Err (Refused error)) = (view_refusal c.format B ≡ Some error) × Keeps old new
   AreLinesGot input old new r = (view_refusal c.format B ≡ None) × AreLinesAnswered input old new r
 
 -- ---- of a file
-abbrev pub lines_of_shape : List ℕ → Option (List ℕ) → Option (List ℕ) → Option (List ℕ) → Result ℕ Failure → Shape → Type 0
+abbrev pub lines_of_shape : List ℕ → Option (List ℕ) → Option (List ℕ) → Option (List ℕ) → Result Status Failure → Shape → Type 0
 lines_of_shape B input old new r s =
     AreLinesGot (shape_coding s) (typed_text (key_part s)) (typed_text (value_part s)) (IsTextOf (key_part s)) B input old new r
 
-abbrev pub AreFileLinesGot : List ℕ → Option Hash → Option (List ℕ) → Option (List ℕ) → Option (List ℕ) → Result ℕ Failure → Type 0
+abbrev pub AreFileLinesGot : List ℕ → Option Hash → Option (List ℕ) → Option (List ℕ) → Option (List ℕ) → Result Status Failure → Type 0
 AreFileLinesGot B h input old new r = by_shape B h old new r (lines_of_shape B input old new r)

@@ -21,12 +21,13 @@ use Rattle.odht_header.specs.Coding.{Coding, value_for}
 use Rattle.odht_header.specs.Refusals.{view_refusal}
 use Rattle.odht_tool.specs.ReadyShapes.{Typed, IsTypedWord, StandsFor, typed_text, key_part, value_part, shape_coding, shape_of_bytes}
 use Rattle.odht_tool.specs.Texts.{answers_text}
-use Rattle.odht_tool.specs.declared.commands.TheConstants.{DONE, NOT_DONE}
 use Rattle.odht_tool.specs.declared.failure.Failure.{Failure}
 use Rattle.odht_tool.specs.declared.failure.Failure.TheVariants.{Refused, NoShape, Output, Memory, Key}
 use Rattle.odht_tool.specs.declared.shapes.Hash.{Hash}
 use Rattle.odht_tool.specs.declared.shapes.Part.{Part}
 use Rattle.odht_tool.specs.declared.shapes.Shape.{Shape}
+use Rattle.odht_tool.specs.declared.status.Status.{Status}
+use Rattle.odht_tool.specs.declared.status.Status.TheVariants.{Done, NotDone}
 
 abbrev pub IsReadAs : {X : Type 0} → (List ℕ → Type 0) → (List ℕ → X → Type 0) → List ℕ → X → Type 0
 IsReadAs W S word x = W word × S word x
@@ -42,10 +43,10 @@ pub record AreAnswers {K V : Type 0} (c : Coding K V) (B : List ℕ) (ks : List 
   pub on_valid : (P : Table) → IsImage c.format P B → os ≡ map (value_for c P) ks
   pub on_any : HaveStored c B ks os
 
-abbrev pub found_status : Bool → ℕ
-found_status all = if all then DONE else NOT_DONE
+abbrev pub found_status : Bool → Status
+found_status all = if all then Done else NotDone
 
-abbrev pub answered_status : {V : Type 0} → List (Option V) → ℕ
+abbrev pub answered_status : {V : Type 0} → List (Option V) → Status
 answered_status os = found_status (list_all is_some os)
 
 pub record IsFirstFault {K : Type 0} (R : List ℕ → K → Type 0) (ws : List (List ℕ)) (word : List ℕ) : Type 0 where
@@ -57,7 +58,7 @@ pub record IsFirstFault {K : Type 0} (R : List ℕ → K → Type 0) (ws : List 
   pub fault : IsTextOfNone R word
 
 -- ---- the words of the command line
-pub record IsAnswered {K V : Type 0} (c : Coding K V) (f : K → List ℕ) (g : V → List ℕ) (R : List ℕ → K → Type 0) (B : List ℕ) (ws : List (List ℕ)) (old new : Option (List ℕ)) (returned : ℕ) : Type 0 where
+pub record IsAnswered {K V : Type 0} (c : Coding K V) (f : K → List ℕ) (g : V → List ℕ) (R : List ℕ → K → Type 0) (B : List ℕ) (ws : List (List ℕ)) (old new : Option (List ℕ)) (returned : Status) : Type 0 where
   pub keys : List K
   pub texts : AllZip R ws keys
   pub values : List (Option V)
@@ -66,7 +67,7 @@ pub record IsAnswered {K V : Type 0} (c : Coding K V) (f : K → List ℕ) (g : 
   pub status : returned ≡ answered_status values
 
 module _ {K V : Type 0} (c : Coding K V) (f : K → List ℕ) (g : V → List ℕ) (R : List ℕ → K → Type 0) (B : List ℕ) where
-  abbrev pub AreWordsGot : List (List ℕ) → Option (List ℕ) → Option (List ℕ) → Result ℕ Failure → Type 0
+  abbrev pub AreWordsGot : List (List ℕ) → Option (List ℕ) → Option (List ℕ) → Result Status Failure → Type 0
   AreWordsGot ws old new (Ok status) = (view_refusal c.format B ≡ None) × IsAnswered c f g R B ws old new status
   AreWordsGot ws old new (Err (Refused error)) = (view_refusal c.format B ≡ Some error) × Keeps old new
   AreWordsGot ws old new (Err (Key word)) = (view_refusal c.format B ≡ None) × IsFirstFault R ws (string_bytes word) × Keeps old new
@@ -75,13 +76,13 @@ module _ {K V : Type 0} (c : Coding K V) (f : K → List ℕ) (g : V → List �
   AreWordsGot ws old new (Err _) = ⊥
 
 -- ---- of a file
-abbrev pub words_of_shape : List ℕ → List (List ℕ) → Option (List ℕ) → Option (List ℕ) → Result ℕ Failure → Shape → Type 0
+abbrev pub words_of_shape : List ℕ → List (List ℕ) → Option (List ℕ) → Option (List ℕ) → Result Status Failure → Shape → Type 0
 words_of_shape B ws old new r s =
     AreWordsGot (shape_coding s) (typed_text (key_part s)) (typed_text (value_part s)) (IsTextOf (key_part s)) B ws old new r
 
 -- with no shape there is the failure of the sizes in the header
-abbrev pub by_shape : List ℕ → Option Hash → Option (List ℕ) → Option (List ℕ) → Result ℕ Failure → (Shape → Type 0) → Type 0
+abbrev pub by_shape : List ℕ → Option Hash → Option (List ℕ) → Option (List ℕ) → Result Status Failure → (Shape → Type 0) → Type 0
 by_shape B h old new r P = MatchOption (shape_of_bytes B h) ((r ≡ Err (NoShape (slice_index B 5) (slice_index B 6))) × Keeps old new) P
 
-abbrev pub AreFileWordsGot : List ℕ → Option Hash → List (List ℕ) → Option (List ℕ) → Option (List ℕ) → Result ℕ Failure → Type 0
+abbrev pub AreFileWordsGot : List ℕ → Option Hash → List (List ℕ) → Option (List ℕ) → Option (List ℕ) → Result Status Failure → Type 0
 AreFileWordsGot B h ws old new r = by_shape B h old new r (words_of_shape B ws old new r)

@@ -16,12 +16,13 @@ use Rattle.std.specs.Prelude.{◌≡◌, ℕ, ◌+◌, ◌-◌, ◌*◌, ◌/◌
 use Rattle.std.specs.Io.KnownBytes.{Appends, Keeps}
 use Rattle.std.specs.List.{range_with_len}
 use Rattle.odht_tool.specs.InfoNumbers.{largest, info_refusal, AreNumbers, IsInfoFailure}
-use Rattle.odht_tool.specs.declared.commands.TheConstants.{DONE}
 use Rattle.odht_tool.specs.declared.failure.Failure.{Failure}
 use Rattle.odht_tool.specs.declared.failure.Failure.TheVariants.{Output}
 use Rattle.odht_tool.specs.declared.numbers.Numbers.{Numbers}
 use Rattle.odht_tool.specs.declared.shapes.Hash.{Hash}
 use Rattle.odht_tool.specs.declared.shapes.Hash.TheVariants.{Fx, Unhash}
+use Rattle.odht_tool.specs.declared.status.Status.{Status}
+use Rattle.odht_tool.specs.declared.status.Status.TheVariants.{Done}
 
 abbrev pub number_line : List ℕ → ℕ → List ℕ → List ℕ
 number_line label x end = label ++ (decimal x ++ (end ++ (10 ∷ [])))
@@ -70,7 +71,7 @@ groups_text (Some h) cs l =
 abbrev pub info_text : Numbers → List ℕ
 info_text n = sizes_text n ++ groups_text n.hash n.histogram.counts.items n.histogram.longest
 
-abbrev pub IsInfoDone : List ℕ → Option (List ℕ) → Option (List ℕ) → Result ℕ Failure → Type 0
-IsInfoDone B old new (Ok status) = (status ≡ DONE) × ((n : Numbers) × AreNumbers B n × Appends old new (info_text n))
+abbrev pub IsInfoDone : List ℕ → Option (List ℕ) → Option (List ℕ) → Result Status Failure → Type 0
+IsInfoDone B old new (Ok status) = (status ≡ Done) × ((n : Numbers) × AreNumbers B n × Appends old new (info_text n))
 IsInfoDone B old new (Err (Output error)) = info_refusal B ≡ None
 IsInfoDone B old new (Err failure) = IsInfoFailure B failure × Keeps old new

@@ -1,5 +1,5 @@
 -- What the commands do with the bytes of a file.
---     Outcome                  a text is written, and the status of the program is this; or there is a failure
+--     Outcome                  a text is written, and the command ends with this status; or there is a failure
 --     IsDone o old new r       a call that took a writer from the bytes old to new and returned r did o; only the writer
 --                              may have kept it from writing a text
 --     IsWritten w r            a call whose writes returned w, and which did nothing else, returned r
@@ -14,7 +14,7 @@
 --     slots_text c f g T n     those of the first n slots
 --     slots_outcome c f g B    of `dump --slots`
 --     dump_outcome B h is_slots    of `dump`, with `--slots` or without
-use Rattle.std.specs.Prelude.{◌≡◌, ⊤, ℕ, Bool, List, [], ◌∷◌, ◌++◌, flat_map, slice_index, Option, Some, None, Result, Ok, Err, MatchResult, IsErrAnd, decimal, if◌then◌else◌}
+use Rattle.std.specs.Prelude.{◌≡◌, ⊤, ℕ, Bool, List, [], ◌∷◌, ◌++◌, flat_map, slice_index, Option, Some, None, Result, Ok, Err, is_ok, MatchResult, IsErrAnd, decimal, if◌then◌else◌}
 use Rattle.std.specs.Io.KnownBytes.{Appends, Keeps}
 use Rattle.std.specs.List.{range_with_len}
 use Rattle.std.specs.Option.{option_map_or}
@@ -28,41 +28,40 @@ use Rattle.odht_raw.specs.Walks.{decoded_all}
 use Rattle.odht_tool.specs.GroupNumbers.{groups_to}
 use Rattle.odht_tool.specs.ReadyShapes.{shape_of_bytes, shape_format, shape_coding, key_part, value_part, typed_text}
 use Rattle.odht_tool.specs.Texts.{checked_text, pair_line, pairs_text}
-use Rattle.odht_tool.specs.declared.commands.TheConstants.{DONE, NOT_DONE}
 use Rattle.odht_tool.specs.declared.failure.Failure.{Failure}
 use Rattle.odht_tool.specs.declared.failure.Failure.TheVariants.{Refused, NoShape, Output}
 use Rattle.odht_tool.specs.declared.shapes.Hash.{Hash}
 use Rattle.odht_tool.specs.declared.shapes.Shape.{Shape}
+use Rattle.odht_tool.specs.declared.status.Status.{Status}
+use Rattle.odht_tool.specs.declared.status.Status.TheVariants.{Done, NotDone}
 
 pub data Outcome : Type 0 where
-  writes : List ℕ → ℕ → Outcome
+  writes : List ℕ → Status → Outcome
   fails : Failure → Outcome
 
 abbrev pub IsOutputFailure : Failure → Type 0
 IsOutputFailure (Output error) = ⊤
 IsOutputFailure _ = ⊥
 
-abbrev pub IsDone : Outcome → Option (List ℕ) → Option (List ℕ) → Result ℕ Failure → Type 0
+abbrev pub IsDone : Outcome → Option (List ℕ) → Option (List ℕ) → Result Status Failure → Type 0
 IsDone (writes text status) old new r = MatchResult r (λ s. (s ≡ status) × Appends old new text) IsOutputFailure
 IsDone (fails failure) old new r = (r ≡ Err failure) × Keeps old new
 
-abbrev pub IsWritten : {E : Type 0} → Result (Unit {0}) E → Result ℕ Failure → Type 0
-IsWritten w r = MatchResult w (λ u. r ≡ Ok DONE) (λ e. IsErrAnd r IsOutputFailure)
+abbrev pub IsWritten : {E : Type 0} → Result (Unit {0}) E → Result Status Failure → Type 0
+IsWritten w r = MatchResult w (λ u. r ≡ Ok Done) (λ e. IsErrAnd r IsOutputFailure)
 
 abbrev pub by_shape : List ℕ → Option Hash → (Shape → Outcome) → Outcome
 by_shape B h f = option_map_or f (shape_of_bytes B h) (fails (NoShape (slice_index B 5) (slice_index B 6)))
 
 abbrev pub opened_outcome : Option Error → List ℕ → Outcome
-opened_outcome None text = writes text DONE
+opened_outcome None text = writes text Done
 opened_outcome (Some error) text = fails (Refused error)
 
 -- ---- check
-abbrev pub checked_status : Option Error → ℕ
-checked_status None = DONE
-checked_status (Some error) = NOT_DONE
-
 abbrev pub check_of_shape : List ℕ → Shape → Outcome
-check_of_shape B s = let error = check_refusal (shape_format s) B in writes (checked_text (checked error)) (checked_status error)
+check_of_shape B s =
+    let r = checked (check_refusal (shape_format s) B) in
+    writes (checked_text r) (if is_ok r then Done else NotDone)
 
 abbrev pub check_outcome : List ℕ → Option Hash → Outcome
 check_outcome B h = by_shape B h (check_of_shape B)

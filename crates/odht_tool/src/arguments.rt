@@ -1,10 +1,12 @@
 //! The arguments that the program is called with.
+ghost use Rattle.std.specs.Prelude.{◌≤◌};
+
 use crate::shapes::{Hash, Part};
 use crate::text::parse_number;
 use std::alloc::Global;
 use std::fmt;
 
-/// The commands of the program.
+/// The name of a command.
 #[derive(Clone, Copy, Debug, PartialEq, Eq)]
 pub enum Topic {
     Info,
@@ -27,28 +29,6 @@ impl Topic {
             _ => None,
         }
     }
-
-    // Whether the command has this option.
-    fn takes(self, option: Choice) -> bool {
-        match option {
-            Choice::Help => true,
-            Choice::Hash => self != Topic::Info,
-            Choice::Slots => self == Topic::Dump,
-            Choice::Progress => self == Topic::Build || self == Topic::Put,
-            Choice::Key | Choice::Value | Choice::Percent | Choice::Capacity => {
-                self == Topic::Build
-            }
-        }
-    }
-
-    // Whether the command can be called with so many words after it.
-    fn takes_words(self, count: usize) -> bool {
-        if self == Topic::Get {
-            count >= 2
-        } else {
-            count == 1
-        }
-    }
 }
 
 impl fmt::Display for Topic {
@@ -64,136 +44,101 @@ impl fmt::Display for Topic {
     }
 }
 
-/// A word that begins with two hyphens.
-#[derive(Clone, Copy, Debug, PartialEq, Eq)]
-pub enum Choice {
-    Help,
+// An option that its value follows.
+#[derive(Clone, Copy)]
+enum Setting {
     Hash,
     Key,
     Value,
     Percent,
     Capacity,
-    Slots,
-    Progress,
 }
 
-impl Choice {
-    fn named(name: &str) -> Option<Choice> {
+impl Setting {
+    // The option of this name, if the command has it.
+    fn of(topic: Topic, name: &str) -> Option<Setting> {
         match name {
-            "--help" => Some(Choice::Help),
-            "--hash" => Some(Choice::Hash),
-            "--key" => Some(Choice::Key),
-            "--value" => Some(Choice::Value),
-            "--percent" => Some(Choice::Percent),
-            "--capacity" => Some(Choice::Capacity),
-            "--slots" => Some(Choice::Slots),
-            "--progress" => Some(Choice::Progress),
+            "--hash" if topic != Topic::Info => Some(Setting::Hash),
+            "--key" if topic == Topic::Build => Some(Setting::Key),
+            "--value" if topic == Topic::Build => Some(Setting::Value),
+            "--percent" if topic == Topic::Build => Some(Setting::Percent),
+            "--capacity" if topic == Topic::Build => Some(Setting::Capacity),
             _ => None,
         }
     }
-
-    // Whether a word with its value follows.
-    fn has_value(self) -> bool {
-        !matches!(self, Choice::Help | Choice::Slots | Choice::Progress)
-    }
 }
 
-impl fmt::Display for Choice {
-    fn fmt<W: fmt::Write>(&self, f: &mut fmt::Formatter<W>) -> fmt::Result {
-        match self {
-            Choice::Help => write!(f, "--help"),
-            Choice::Hash => write!(f, "--hash"),
-            Choice::Key => write!(f, "--key"),
-            Choice::Value => write!(f, "--value"),
-            Choice::Percent => write!(f, "--percent"),
-            Choice::Capacity => write!(f, "--capacity"),
-            Choice::Slots => write!(f, "--slots"),
-            Choice::Progress => write!(f, "--progress"),
+/// A load factor in percent.
+#[derive(Clone, Copy, Debug)]
+pub struct Percent {
+    pub value: u8,
+    ghost low: { 1 ≤ value },
+    ghost high: { value ≤ 100 },
+}
+
+impl Percent {
+    // The percentage of this text, a number from 1 to 100.
+    fn parse(text: &str) -> Option<Percent> {
+        let value = u8::try_from(parse_number(text.as_bytes())?).ok()?;
+        if value >= 1 && value <= 100 {
+            Some(Percent { value })
+        } else {
+            None
         }
     }
 }
 
-/// The options of a command. An option that was not given is `None` or false.
-#[derive(Clone, Copy, Debug, PartialEq, Eq)]
-pub struct Options {
+/// The options of `build`.
+#[derive(Clone, Copy, Debug)]
+pub struct BuildOptions {
+    pub key: Part,
+    pub value: Part,
     pub hash: Option<Hash>,
-    pub key: Option<Part>,
-    pub value: Option<Part>,
-    pub percent: Option<u8>,
-    pub capacity: Option<u64>,
-    pub is_help: bool,
-    pub is_slots: bool,
-    pub is_progress: bool,
+    /// For how many items room is made at first.
+    pub capacity: usize,
+    pub percent: Percent,
+    pub has_progress: bool,
 }
 
-impl Options {
-    fn none() -> Options {
-        Options {
-            hash: None,
-            key: None,
-            value: None,
-            percent: None,
-            capacity: None,
-            is_help: false,
-            is_slots: false,
-            is_progress: false,
-        }
-    }
-
-    // Sets an option without a value.
-    fn note(&mut self, choice: Choice) {
-        match choice {
-            Choice::Help => self.is_help = true,
-            Choice::Slots => self.is_slots = true,
-            Choice::Progress => self.is_progress = true,
-            _ => {}
-        }
-    }
-
-    // Sets an option with its value. False where the option has no such value.
-    fn note_value(&mut self, choice: Choice, value: &str) -> bool {
-        match choice {
-            Choice::Hash => {
-                self.hash = Hash::named(value);
-                self.hash.is_some()
-            }
-            Choice::Key => {
-                self.key = Part::named(value);
-                self.key.is_some()
-            }
-            Choice::Value => {
-                self.value = Part::named(value);
-                self.value.is_some()
-            }
-            Choice::Percent => {
-                self.percent = parse_percent(value);
-                self.percent.is_some()
-            }
-            Choice::Capacity => {
-                self.capacity = parse_number(value.as_bytes());
-                self.capacity.is_some()
-            }
-            _ => false,
-        }
-    }
-}
-
-// A number from 1 to 100.
-fn parse_percent(text: &str) -> Option<u8> {
-    let percent = u8::try_from(parse_number(text.as_bytes())?).ok()?;
-    if percent >= 1 && percent <= 100 {
-        Some(percent)
-    } else {
-        None
-    }
-}
-
-/// A parsed call: the command, its options, and its other words, of which the first is a file.
+/// Where the keys of a lookup are.
 #[derive(Debug, Drop)]
-pub struct Call {
-    pub topic: Topic,
-    pub options: Options,
-    pub words: Vec<String>,
+pub enum Keys {
+    /// These words.
+    Words(Vec<String>),
+    /// The lines of standard input.
+    Lines,
+}
+
+impl Keys {
+    // The word `-` alone stands for the lines of standard input.
+    fn of_words(words: Vec<String>) -> Keys {
+        match words.as_slice() {
+            [word] if word.as_str() == "-" => Keys::Lines,
+            _ => Keys::Words(words),
+        }
+    }
+}
+
+/// A command, with all that it needs to know beside its file.
+#[derive(Debug, Drop)]
+pub enum Command {
+    Info,
+    Check {
+        hash: Option<Hash>,
+    },
+    Get {
+        hash: Option<Hash>,
+        keys: Keys,
+    },
+    Dump {
+        hash: Option<Hash>,
+        is_slots: bool,
+    },
+    Build(BuildOptions),
+    Put {
+        hash: Option<Hash>,
+        has_progress: bool,
+    },
 }
 
 /// What the words ask for.
@@ -201,8 +146,8 @@ pub struct Call {
 pub enum Request {
     /// The help text of a command, or of all.
     Help(Option<Topic>),
-    /// A command to run.
-    Call(Call),
+    /// A command to run on a file.
+    Run { file: String, command: Command },
 }
 
 /// Why the words cannot be parsed.
@@ -215,9 +160,9 @@ pub enum Misuse {
     /// A word begins with two hyphens and is no option of the command.
     UnknownOption(Topic, String),
     /// An option's value is missing.
-    NoValue(Topic, Choice),
+    NoValue(Topic, String),
     /// An option has no such value.
-    WrongValue(Topic, Choice, String),
+    WrongValue(Topic, String, String),
     /// There are too few or too many words.
     WrongCount(Topic),
     /// A table is to be built, and its shape is not given.
@@ -238,13 +183,13 @@ impl fmt::Display for Misuse {
                 f,
                 "`odht {topic}` has no option {word:?}; try `odht {topic} --help`"
             ),
-            Misuse::NoValue(topic, choice) => write!(
+            Misuse::NoValue(topic, option) => write!(
                 f,
-                "a value is wanted behind {choice}; try `odht {topic} --help`"
+                "a value is wanted behind {option}; try `odht {topic} --help`"
             ),
-            Misuse::WrongValue(topic, choice, word) => write!(
+            Misuse::WrongValue(topic, option, word) => write!(
                 f,
-                "{choice} cannot be {word:?}; try `odht {topic} --help`"
+                "{option} cannot be {word:?}; try `odht {topic} --help`"
             ),
             Misuse::WrongCount(topic) => write!(
                 f,
@@ -270,66 +215,136 @@ pub fn parse(alloc: Global, words: Vec<String>) -> Result<Request, Misuse> {
     let Some(topic) = Topic::named(first.as_str()) else {
         return Err(Misuse::UnknownCommand(first));
     };
-    let mut call = Call {
-        topic,
-        options: Options::none(),
-        words: Vec::new(alloc),
-    };
+    let mut draft = Draft::new(alloc, topic);
     let mut waiting = None;
     for word in words {
-        waiting = read_word(&mut call, waiting, word)?;
+        waiting = draft.read(waiting, word)?;
     }
     match waiting {
-        Some(choice) => Err(Misuse::NoValue(topic, choice)),
-        None => finish(call),
+        Some((_, option)) => Err(Misuse::NoValue(topic, option)),
+        None => draft.finish(),
     }
 }
 
-// Parses the next word of a call. An option that waits for its value takes the word; returns the option that waits for
-// the next word.
-fn read_word(
-    call: &mut Call,
-    waiting: Option<Choice>,
-    word: String,
-) -> Result<Option<Choice>, Misuse> {
-    let topic = call.topic;
-    if let Some(choice) = waiting {
-        return if call.options.note_value(choice, word.as_str()) {
-            Ok(None)
-        } else {
-            Err(Misuse::WrongValue(topic, choice, word))
-        };
-    }
-    if !word.as_str().starts_with("--") {
-        return match call.words.push(word) {
-            Ok(()) => Ok(None),
-            Err(_) => Err(Misuse::Memory),
-        };
-    }
-    match Choice::named(word.as_str()) {
-        Some(choice) if topic.takes(choice) => {
-            if choice.has_value() {
-                return Ok(Some(choice));
-            }
-            call.options.note(choice);
-            Ok(None)
+// A command of which some words are parsed.
+#[derive(Drop)]
+struct Draft {
+    topic: Topic,
+    // The file and those after it, without options.
+    words: Vec<String>,
+    hash: Option<Hash>,
+    key: Option<Part>,
+    value: Option<Part>,
+    percent: Percent,
+    capacity: usize,
+    is_help: bool,
+    is_slots: bool,
+    has_progress: bool,
+}
+
+impl Draft {
+    fn new(alloc: Global, topic: Topic) -> Draft {
+        Draft {
+            topic,
+            words: Vec::new(alloc),
+            hash: None,
+            key: None,
+            value: None,
+            percent: Percent { value: 87 },
+            capacity: 12,
+            is_help: false,
+            is_slots: false,
+            has_progress: false,
         }
-        _ => Err(Misuse::UnknownOption(topic, word)),
     }
-}
 
-// Checks that no word of a call is missing.
-fn finish(call: Call) -> Result<Request, Misuse> {
-    let topic = call.topic;
-    if call.options.is_help {
-        Ok(Request::Help(Some(topic)))
-    } else if !topic.takes_words(call.words.len()) {
-        Err(Misuse::WrongCount(topic))
-    } else if topic == Topic::Build
-        && (call.options.key.is_none() || call.options.value.is_none())
-    {
-        Err(Misuse::NoParts)
-    } else {
-        Ok(Request::Call(call))
+    // Parses the next word: the value of the option that waits for one, if one does. Returns the
+    // option that waits then, and its word.
+    fn read(
+        &mut self,
+        waiting: Option<(Setting, String)>,
+        word: String,
+    ) -> Result<Option<(Setting, String)>, Misuse> {
+        match waiting {
+            Some((setting, option)) => match self.set(setting, word.as_str()) {
+                Some(()) => Ok(None),
+                None => Err(Misuse::WrongValue(self.topic, option, word)),
+            },
+            None if word.as_str().starts_with("--") => self.read_option(word),
+            None => match self.words.push(word) {
+                Ok(()) => Ok(None),
+                Err(_) => Err(Misuse::Memory),
+            },
+        }
+    }
+
+    // Sets an option. None where it has no such value.
+    fn set(&mut self, setting: Setting, value: &str) -> Option<()> {
+        match setting {
+            Setting::Hash => self.hash = Some(Hash::named(value)?),
+            Setting::Key => self.key = Some(Part::named(value)?),
+            Setting::Value => self.value = Some(Part::named(value)?),
+            Setting::Percent => self.percent = Percent::parse(value)?,
+            Setting::Capacity => self.capacity = parse_number(value.as_bytes())? as usize,
+        }
+        Some(())
+    }
+
+    fn read_option(&mut self, word: String) -> Result<Option<(Setting, String)>, Misuse> {
+        let topic = self.topic;
+        match word.as_str() {
+            "--help" => self.is_help = true,
+            "--slots" if topic == Topic::Dump => self.is_slots = true,
+            "--progress" if topic == Topic::Build || topic == Topic::Put => {
+                self.has_progress = true;
+            }
+            name => {
+                return match Setting::of(topic, name) {
+                    Some(setting) => Ok(Some((setting, word))),
+                    None => Err(Misuse::UnknownOption(topic, word)),
+                };
+            }
+        }
+        Ok(None)
+    }
+
+    // What all the words ask for. For `get`, and for no other command, some come after the file.
+    fn finish(self) -> Result<Request, Misuse> {
+        let topic = self.topic;
+        if self.is_help {
+            return Ok(Request::Help(Some(topic)));
+        }
+        let (mut words, hash, has_progress) = (self.words, self.hash, self.has_progress);
+        if words.is_empty() || (words.len() > 1) != (topic == Topic::Get) {
+            return Err(Misuse::WrongCount(topic));
+        }
+        let file = words.remove(0);
+        let command = match topic {
+            Topic::Info => Command::Info,
+            Topic::Check => Command::Check { hash },
+            Topic::Get => Command::Get {
+                hash,
+                keys: Keys::of_words(words),
+            },
+            Topic::Dump => Command::Dump {
+                hash,
+                is_slots: self.is_slots,
+            },
+            Topic::Build => {
+                let (Some(key), Some(value)) = (self.key, self.value) else {
+                    return Err(Misuse::NoParts);
+                };
+                Command::Build(BuildOptions {
+                    key,
+                    value,
+                    hash,
+                    capacity: self.capacity,
+                    percent: self.percent,
+                    has_progress,
+                })
+            }
+            Topic::Put => Command::Put { hash, has_progress },
+        };
+        Ok(Request::Run { file, command })
     }
 }

@@ -1,7 +1,9 @@
-//! Runs the commands, each from its parsed words to its exit status.
-use crate::arguments::{Call, Options, Request, Topic, parse};
+//! Runs the commands, each from its parsed words to the status of the program.
+use crate::arguments::{Command, Keys, Request, parse};
 use crate::failure::Failure;
+use crate::files::read_file;
 use crate::help::help_text;
+use crate::status::{Status, of_output};
 use std::alloc::Global;
 use std::io::{BufRead, ErrorKind, Write};
 use std::rt::{Clock, Files};
@@ -12,97 +14,86 @@ mod dump;
 mod get;
 mod info;
 
-/// The exit status of success.
-pub const DONE: u8 = 0;
-
-/// The exit status where a table was rejected, the command failed, or a key is absent.
-pub const NOT_DONE: u8 = 1;
-
-/// The exit status where the words cannot be parsed.
-pub const MISUSED: u8 = 2;
-
-/// Does what the words ask for, and returns the exit status. Each failure is reported by a line on `errors`; where that
-/// cannot be written either, the status alone reports it. Where nobody reads `output` any more, nothing is reported.
+/// Does what the words ask for. Each failure is reported by a line on `errors`; where that cannot
+/// be written either, the status alone reports it. Where nobody reads `output` any more, nothing is
+/// reported.
 pub fn run<R: Files + AllocGlobal + Clock, I: BufRead, O: Write, E: Write>(
     rt: &R,
     words: Vec<String>,
     input: &mut I,
     output: &mut O,
     errors: &mut E,
-) -> u8 {
+) -> Status {
     let alloc: Global = rt.alloc();
     match parse(alloc, words) {
         Ok(Request::Help(topic)) => {
-            let printed = write_text(help_text(topic), output);
-            finish("help", printed, errors)
+            let written = output.write_all(help_text(topic).as_bytes());
+            finish("help", of_output(written), errors)
         }
-        Ok(Request::Call(call)) => run_call(rt, call, input, output, errors),
+        Ok(Request::Run { file, command }) => {
+            let file = file.as_str();
+            let done = run_command(rt, file, command, input, output, errors);
+            let done = match output.flush() {
+                Ok(()) => done,
+                Err(error) => done.and(Err(Failure::Output(error))),
+            };
+            finish(file, done, errors)
+        }
         Err(misuse) => {
             let _ = writeln!(errors, "odht: {misuse}");
-            MISUSED
+            Status::Misused
         }
     }
 }
 
-fn write_text<O: Write>(text: &str, output: &mut O) -> Result<u8, Failure> {
-    match output.write_all(text.as_bytes()) {
-        Ok(()) => Ok(DONE),
-        Err(error) => Err(Failure::Output(error)),
-    }
-}
-
-fn run_call<R: Files + AllocGlobal + Clock, I: BufRead, O: Write, E: Write>(
+fn run_command<R: Files + AllocGlobal + Clock, I: BufRead, O: Write, E: Write>(
     rt: &R,
-    call: Call,
-    input: &mut I,
-    output: &mut O,
-    errors: &mut E,
-) -> u8 {
-    let Call {
-        topic,
-        options,
-        words,
-    } = call;
-    let Some((file, words)) = words.as_slice().split_first() else {
-        return MISUSED;
-    };
-    let file = file.as_str();
-    let done = run_topic(rt, topic, options, file, words, input, output, errors);
-    let done = match output.flush() {
-        Ok(()) => done,
-        Err(error) => done.and(Err(Failure::Output(error))),
-    };
-    finish(file, done, errors)
-}
-
-fn run_topic<R: Files + AllocGlobal + Clock, I: BufRead, O: Write, E: Write>(
-    rt: &R,
-    topic: Topic,
-    options: Options,
     file: &str,
-    words: &[String],
+    command: Command,
     input: &mut I,
     output: &mut O,
     errors: &mut E,
-) -> Result<u8, Failure> {
-    match topic {
-        Topic::Info => info::run(rt, file, output),
-        Topic::Check => check::run(rt, file, options.hash, output),
-        Topic::Get => get::run(rt, file, options.hash, words, input, output),
-        Topic::Dump => dump::run(rt, file, options, output),
-        Topic::Build => build::build(rt, file, options, input, errors),
-        Topic::Put => build::put(rt, file, options, input, errors),
+) -> Result<Status, Failure> {
+    let alloc: Global = rt.alloc();
+    let load = || read_file(rt, file);
+    match command {
+        Command::Info => info::info_file(alloc, load()?.as_slice(), output),
+        Command::Check { hash } => check::check_file(load()?.as_slice(), hash, output),
+        Command::Get {
+            hash,
+            keys: Keys::Words(words),
+        } => get::get_file_words(alloc, load()?.as_slice(), hash, words.as_slice(), output),
+        Command::Get {
+            hash,
+            keys: Keys::Lines,
+        } => get::get_file_lines(alloc, load()?.as_slice(), hash, input, output),
+        Command::Dump { hash, is_slots } => dump::dump_file(
+            load()?.as_slice(),
+            hash,
+            is_slots,
+            output,
+        ),
+        Command::Build(options) => build::build(rt, file, options, input, errors),
+        Command::Put { hash, has_progress } => build::put(
+            rt,
+            file,
+            load()?,
+            hash,
+            has_progress,
+            input,
+            errors,
+        ),
     }
 }
 
-// Reports a failure, after the file's name, and returns the exit status.
-fn finish<E: Write>(file: &str, done: Result<u8, Failure>, errors: &mut E) -> u8 {
+// Reports a failure, after the file's name.
+fn finish<E: Write>(file: &str, done: Result<Status, Failure>, errors: &mut E) -> Status {
     match done {
         Ok(status) => status,
-        Err(Failure::Output(error)) if error.kind() == ErrorKind::BrokenPipe => NOT_DONE,
+        Err(Failure::Output(error)) if error.kind() == ErrorKind::BrokenPipe => Status::NotDone,
         Err(failure) => {
             let _ = writeln!(errors, "odht: {file}: {failure}");
-            NOT_DONE
+            Status::NotDone
         }
     }
 }

@@ -7,10 +7,7 @@ use std::rt::Files;
 
 /// All bytes of a file. The memory is allocated once, for the length that the file has at first.
 pub fn read_file<R: Files + AllocGlobal>(rt: &R, path: &str) -> Result<Vec<u8>, Failure> {
-    match read_bytes(rt, path) {
-        Ok(bytes) => Ok(bytes),
-        Err(error) => Err(of_reading(error)),
-    }
+    read_bytes(rt, path).map_err(of_reading)
 }
 
 fn of_reading(error: io::Error) -> Failure {
@@ -39,14 +36,8 @@ pub fn replace_file<R: Files + AllocGlobal>(
     bytes: &[u8],
 ) -> Result<(), Failure> {
     let alloc: Global = rt.alloc();
-    let beside = match format!(in alloc; "{path}.new") {
-        Ok(beside) => beside,
-        Err(_) => return Err(Failure::Memory),
-    };
-    let file = match File::create_new(rt, beside.as_str()) {
-        Ok(file) => file,
-        Err(error) => return Err(Failure::Write(error)),
-    };
+    let beside = format!(in alloc; "{path}.new")?;
+    let file = File::create_new(rt, beside.as_str()).map_err(Failure::Write)?;
     match store(rt, file, bytes, beside.as_str(), path) {
         Ok(()) => Ok(()),
         Err(error) => {

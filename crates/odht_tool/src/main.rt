@@ -15,9 +15,11 @@ mod lines;
 mod numbers;
 mod progress;
 mod shapes;
+mod status;
 mod stored;
 mod text;
 
+use status::Status;
 use std::alloc::Global;
 use std::env;
 use std::io::{self, BufReader, BufWriter};
@@ -28,7 +30,7 @@ const BUFFER_SIZE: usize = 1 << 16;
 
 fn main(rt: HostRuntime) -> ExitCode {
     match run(&rt) {
-        Ok(status) => ExitCode::from(status),
+        Ok(status) => ExitCode::from(status.code()),
         Err(error) => {
             // Where standard error cannot be written either, the exit status alone reports it.
             let _ = eprintln!(rt; "odht: {error}");
@@ -37,8 +39,8 @@ fn main(rt: HostRuntime) -> ExitCode {
     }
 }
 
-// Runs the command that the arguments name, and returns its exit status. An error is one of the arguments or of memory.
-fn run(rt: &HostRuntime) -> io::Result<u8> {
+// Runs the command that the arguments name. An error is one of the arguments or of memory.
+fn run(rt: &HostRuntime) -> io::Result<Status> {
     let alloc: Global = rt.alloc();
     let words: Vec<String> = env::args(rt)?.skip(1).collect(alloc)?;
     let mut input = BufReader::with_capacity(alloc, BUFFER_SIZE, rt.stdin())?;

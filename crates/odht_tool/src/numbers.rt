@@ -40,10 +40,7 @@ pub fn numbers_of(alloc: Global, bytes: &[u8]) -> Result<Numbers, Failure>
     ensures ok { IfOk result (AreNumbers bytes.now) }
     ensures err { IfErr result (IsInfoFailure bytes.now) }
 {
-    let table = match StoredTable::open(bytes) {
-        Ok(table) => table,
-        Err(refused) => return Err(Failure::Refused(refused)),
-    };
+    let table = StoredTable::open(bytes).map_err(Failure::Refused)?;
     let hash = table.hash();
     let histogram = histogram_of(alloc, &table, hash)?;
     let header = Header::of(bytes);

@@ -1,5 +1,5 @@
 -- Worked examples: what `check` and `dump` write and return.
-use Rattle.std.proofs.Common.{◌≡◌, true, false, refl, [], ◌∷◌, Some, None, Ok, Err, arith}
+use Rattle.std.proofs.Common.{◌≡◌, true, false, refl, [], ◌∷◌, Some, None, Ok, Err}
 use Rattle.std.specs.Prelude.{codes}
 use Rattle.std.specs.Fmt.{digits}
 use Rattle.odht_base.specs.Bytes.{overwritten_at}
@@ -11,21 +11,22 @@ use Rattle.odht_tool.specs.Outcomes.{IsDone, check_outcome, dump_outcome}
 use Rattle.odht_tool.specs.Outcomes.Outcome.{writes, fails}
 use Rattle.odht_tool.specs.declared.failure.Failure.TheVariants.{Refused, NoShape, Memory}
 use Rattle.odht_tool.specs.declared.shapes.Hash.TheVariants.{Unhash}
+use Rattle.odht_tool.specs.declared.status.Status.TheVariants.{Done, NotDone}
 use Rattle.odht_tool.proofs.examples.Shapes.{one_bytes}
 
 -- ---- check
 -- a valid table
-pub valid : check_outcome one_bytes (Some Unhash) ≡ writes (codes "valid\n") 0
+pub valid : check_outcome one_bytes (Some Unhash) ≡ writes (codes "valid\n") Done
 unfolding opened
 valid = refl
 
 -- two bytes
-pub too_short : check_outcome (79 ∷ 68 ∷ []) None ≡ writes (codes "Provided data has 2 bytes but the header needs 32\n") 1
+pub too_short : check_outcome (79 ∷ 68 ∷ []) None ≡ writes (codes "Provided data has 2 bytes but the header needs 32\n") NotDone
 unfolding opened digits
 too_short = refl
 
 -- a count of one item more
-pub miscounted : check_outcome (overwritten_at one_bytes 8 (2 ∷ [])) (Some Unhash) ≡ writes (codes "Header states 2 items but 1 were found\n") 1
+pub miscounted : check_outcome (overwritten_at one_bytes 8 (2 ∷ [])) (Some Unhash) ≡ writes (codes "Header states 2 items but 1 were found\n") NotDone
 unfolding opened digits
 miscounted = refl
 
@@ -35,11 +36,11 @@ unfolding opened
 no_shape = refl
 
 -- ---- dump
-pub pairs : dump_outcome one_bytes (Some Unhash) false ≡ writes (codes "5\t7\n") 0
+pub pairs : dump_outcome one_bytes (Some Unhash) false ≡ writes (codes "5\t7\n") Done
 unfolding opened digits
 pairs = refl
 
-pub slots : dump_outcome one_bytes (Some Unhash) true ≡ writes (codes "5\t0\t1\t5\t7\n") 0
+pub slots : dump_outcome one_bytes (Some Unhash) true ≡ writes (codes "5\t0\t1\t5\t7\n") Done
 unfolding opened digits groups_to
 slots = refl
 
@@ -50,25 +51,25 @@ refused = (refl, refl)
 
 -- ---- what a call did
 -- it wrote the text after what was there, and returned the status
-pub wrote : IsDone (writes (codes "b") 0) (Some (codes "a")) (Some (codes "ab")) (Ok 0)
+pub wrote : IsDone (writes (codes "b") Done) (Some (codes "a")) (Some (codes "ab")) (Ok Done)
 wrote = (refl, refl)
 
 -- another status, or another text
-pub other_status : IsDone (writes (codes "b") 0) (Some (codes "a")) (Some (codes "ab")) (Ok 1) → ⊥
-other_status h = omega (arith, h.0)
+pub other_status : IsDone (writes (codes "b") Done) (Some (codes "a")) (Some (codes "ab")) (Ok NotDone) → ⊥
+other_status h = cc
 
-pub other_text : IsDone (writes (codes "b") 0) (Some (codes "a")) (Some (codes "a")) (Ok 0) → ⊥
+pub other_text : IsDone (writes (codes "b") Done) (Some (codes "a")) (Some (codes "a")) (Ok Done) → ⊥
 other_text h = unequal_lists (codes "a") (codes "ab") refl h.1
 
 -- a failure other than that of the writer
-pub no_memory : IsDone (writes (codes "b") 0) (Some (codes "a")) (Some (codes "a")) (Err Memory) → ⊥
+pub no_memory : IsDone (writes (codes "b") Done) (Some (codes "a")) (Some (codes "a")) (Err Memory) → ⊥
 no_memory h = h
 
 -- of a failure nothing is written, and it is returned
 pub failed : IsDone (fails Memory) (Some (codes "a")) (Some (codes "a")) (Err Memory)
 failed = (refl, refl)
 
-pub failed_silently : IsDone (fails Memory) (Some (codes "a")) (Some (codes "a")) (Ok 0) → ⊥
+pub failed_silently : IsDone (fails Memory) (Some (codes "a")) (Some (codes "a")) (Ok Done) → ⊥
 failed_silently h = cc
 
 pub failed_late : IsDone (fails Memory) (Some (codes "a")) (Some (codes "ab")) (Err Memory) → ⊥

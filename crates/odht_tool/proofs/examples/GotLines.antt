@@ -29,6 +29,8 @@ use Rattle.odht_tool.specs.declared.failure.LineFault.TheVariants.{NoTab, Key}
 use Rattle.odht_tool.specs.declared.shapes.Hash.TheVariants.{Unhash}
 use Rattle.odht_tool.specs.declared.shapes.Part.TheVariants.{U32}
 use Rattle.odht_tool.specs.declared.shapes.Shape.TheVariants.{DirectU32ToU32}
+use Rattle.odht_tool.specs.declared.status.Status.{Status}
+use Rattle.odht_tool.specs.declared.status.Status.TheVariants.{Done, NotDone}
 use Rattle.odht_tool.proofs.AnswerLists.{are_answers_append}
 use Rattle.odht_tool.proofs.KeyAnswers.{no_answers, nothing_flushed}
 use Rattle.odht_tool.proofs.examples.Gots.{no_refusal}
@@ -110,7 +112,7 @@ no_key k r = omega (arith, r.0.0.1.0)
 pub read : lines_read (codes "5\r\n6") ≡ codes "5" ∷ codes "6" ∷ []
 read = refl
 
-both_answered : IsAnswered C f f R one_bytes (codes "5" ∷ codes "6" ∷ []) (Some (codes "a")) (Some (codes "a5\t7\n6\n")) 1
+both_answered : IsAnswered C f f R one_bytes (codes "5" ∷ codes "6" ∷ []) (Some (codes "a")) (Some (codes "a5\t7\n6\n")) NotDone
 unfolding digits
 both_answered = record {
   keys = 5 ∷ 6 ∷ [];
@@ -121,7 +123,7 @@ both_answered = record {
   status = refl;
 }
 
-pub both : lines_of_shape one_bytes (Some (codes "5\n6\n")) (Some (codes "a")) (Some (codes "a5\t7\n6\n")) (Ok 1) DirectU32ToU32
+pub both : lines_of_shape one_bytes (Some (codes "5\n6\n")) (Some (codes "a")) (Some (codes "a5\t7\n6\n")) (Ok NotDone) DirectU32ToU32
 both = (no_refusal, both_answered)
 
 -- of these lines there are no other answers
@@ -139,7 +141,7 @@ of_both (k ∷ []) h = absurd h.1
 of_both (k ∷ l ∷ []) h = ap (λ n. n ∷ l ∷ []) (sym h.0.1) ∙ ap (λ n. 5 ∷ n ∷ []) (sym h.1.0.1)
 of_both (k ∷ l ∷ m ∷ ks) h = absurd h.1.1
 
-only_both : (old new : Option (List ℕ)) (status : ℕ) → IsAnswered C f f R one_bytes (codes "5" ∷ codes "6" ∷ []) old new status → (status ≡ 1) × Appends old new (codes "5\t7\n6\n")
+only_both : (old new : Option (List ℕ)) (status : Status) → IsAnswered C f f R one_bytes (codes "5" ∷ codes "6" ∷ []) old new status → (status ≡ NotDone) × Appends old new (codes "5\t7\n6\n")
 unfolding digits opened
 only_both old new status h =
     let keys = of_both h.keys h.texts in
@@ -149,17 +151,17 @@ only_both old new status h =
     )
 
 -- the other status; an answer left out; one written twice
-pub other_status : (new : Option (List ℕ)) → lines_of_shape one_bytes (Some (codes "5\n6\n")) (Some []) new (Ok 0) DirectU32ToU32 → ⊥
-other_status new h = omega (arith, (only_both (Some []) new 0 h.1).0)
+pub other_status : (new : Option (List ℕ)) → lines_of_shape one_bytes (Some (codes "5\n6\n")) (Some []) new (Ok Done) DirectU32ToU32 → ⊥
+other_status new h = let other = (only_both (Some []) new Done h.1).0 in cc
 
-pub left_out : lines_of_shape one_bytes (Some (codes "5\n6\n")) (Some (codes "a")) (Some (codes "a5\t7\n")) (Ok 1) DirectU32ToU32 → ⊥
-left_out h = unequal_lists (codes "a5\t7\n") (codes "a5\t7\n6\n") refl (only_both (Some (codes "a")) (Some (codes "a5\t7\n")) 1 h.1).1
+pub left_out : lines_of_shape one_bytes (Some (codes "5\n6\n")) (Some (codes "a")) (Some (codes "a5\t7\n")) (Ok NotDone) DirectU32ToU32 → ⊥
+left_out h = unequal_lists (codes "a5\t7\n") (codes "a5\t7\n6\n") refl (only_both (Some (codes "a")) (Some (codes "a5\t7\n")) NotDone h.1).1
 
-pub twice : lines_of_shape one_bytes (Some (codes "5\n6\n")) (Some []) (Some (codes "5\t7\n5\t7\n6\n")) (Ok 1) DirectU32ToU32 → ⊥
-twice h = unequal_lists (codes "5\t7\n5\t7\n6\n") (codes "5\t7\n6\n") refl (only_both (Some []) (Some (codes "5\t7\n5\t7\n6\n")) 1 h.1).1
+pub twice : lines_of_shape one_bytes (Some (codes "5\n6\n")) (Some []) (Some (codes "5\t7\n5\t7\n6\n")) (Ok NotDone) DirectU32ToU32 → ⊥
+twice h = unequal_lists (codes "5\t7\n5\t7\n6\n") (codes "5\t7\n6\n") refl (only_both (Some []) (Some (codes "5\t7\n5\t7\n6\n")) NotDone h.1).1
 
 -- a status where a line is no key
-pub done_at_fault : (old new : Option (List ℕ)) (status : ℕ) → lines_of_shape one_bytes (Some (codes "x\n")) old new (Ok status) DirectU32ToU32 → ⊥
+pub done_at_fault : (old new : Option (List ℕ)) (status : Status) → lines_of_shape one_bytes (Some (codes "x\n")) old new (Ok status) DirectU32ToU32 → ⊥
 done_at_fault old new status h = go h.1.keys h.1.texts
   where
     go : (ks : List ℕ) → AllZip R (codes "x" ∷ []) ks → ⊥
@@ -167,7 +169,7 @@ done_at_fault old new status h = go h.1.keys h.1.texts
     go (k ∷ ks) t = no_key k t.0
 
 -- nothing is said where the bytes of the input are not known
-pub unknown : lines_of_shape one_bytes None (Some []) (Some (codes "b")) (Ok 0) DirectU32ToU32
+pub unknown : lines_of_shape one_bytes None (Some []) (Some (codes "b")) (Ok Done) DirectU32ToU32
 unknown = (no_refusal, tt)
 
 -- ---- a line that is no key
@@ -183,7 +185,7 @@ second = (
     place = refl;
     counted = refl;
     fault = no_key;
-    status = 0;
+    status = Done;
     answered = record { keys = 5 ∷ []; texts = (five, tt); values = Some 7 ∷ []; answers = five_answered; written = refl; status = refl };
   },
 )
@@ -234,7 +236,7 @@ no_memory = (
     place = refl;
     batches = 0;
     counted = refl;
-    status = 0;
+    status = Done;
     answered = record { keys = []; texts = tt; values = []; answers = no_answers C one_bytes; written = refl; status = refl };
   },
 )

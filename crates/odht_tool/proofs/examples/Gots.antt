@@ -8,10 +8,13 @@ use Rattle.odht_tool.specs.Gets.{answered_status, words_of_shape}
 use Rattle.odht_tool.specs.ReadyShapes.{shape_format}
 use Rattle.odht_tool.specs.declared.failure.Failure.TheVariants.{Memory}
 use Rattle.odht_tool.specs.declared.shapes.Shape.TheVariants.{DirectU32ToU32}
+use Rattle.odht_tool.specs.declared.status.Status.TheVariants.{Done, NotDone}
 use Rattle.odht_tool.proofs.examples.Shapes.{one_bytes}
 
--- the status is 1 where a key is absent
-pub statuses : (answered_status {V = ℕ} (Some 7 ∷ Some 0 ∷ []) ≡ 0) × (answered_status {V = ℕ} (Some 7 ∷ None ∷ []) ≡ 1) × (answered_status {V = ℕ} [] ≡ 0)
+-- the status is `NotDone` where a key is absent
+pub statuses : (answered_status {V = ℕ} (Some 7 ∷ Some 0 ∷ []) ≡ Done)
+    × (answered_status {V = ℕ} (Some 7 ∷ None ∷ []) ≡ NotDone)
+    × (answered_status {V = ℕ} [] ≡ Done)
 statuses = (refl, refl, refl)
 
 -- the bytes open

@@ -1,5 +1,5 @@
 -- Worked examples: what `info` writes.
-use Rattle.std.proofs.Common.{◌≡◌, refl, [], ◌∷◌, ◌++◌, Some, None, Ok, Err, replicate, ap₂, arith}
+use Rattle.std.proofs.Common.{◌≡◌, refl, [], ◌∷◌, ◌++◌, Some, None, Ok, Err, replicate, ap₂}
 use Rattle.std.specs.Prelude.{codes}
 use Rattle.std.specs.Fmt.{digits}
 use Rattle.odht_header.specs.declared.error.Error.TheVariants.{TooShort}
@@ -10,6 +10,7 @@ use Rattle.odht_tool.specs.InfoTexts.{number_line, aligned, bar, longer_mark, ta
 use Rattle.odht_tool.specs.declared.failure.Failure.TheVariants.{Refused, Memory}
 use Rattle.odht_tool.specs.declared.histogram.Histogram.{Histogram}
 use Rattle.odht_tool.specs.declared.shapes.Hash.TheVariants.{Fx, Unhash}
+use Rattle.odht_tool.specs.declared.status.Status.TheVariants.{Done, NotDone}
 use Rattle.odht_tool.proofs.examples.Shapes.{one_bytes}
 
 -- a label, a number and what is behind it
@@ -67,7 +68,7 @@ refused = (refl, refl)
 pub refused_late : IsInfoDone (79 ∷ 68 ∷ []) (Some (codes "a")) (Some (codes "ab")) (Err (Refused (TooShort 2))) → ⊥
 refused_late h = unequal_lists (codes "ab") (codes "a") refl h.1
 
-pub not_refused : IsInfoDone (79 ∷ 68 ∷ []) (Some (codes "a")) (Some (codes "ab")) (Ok 0) → ⊥
+pub not_refused : IsInfoDone (79 ∷ 68 ∷ []) (Some (codes "a")) (Some (codes "ab")) (Ok Done) → ⊥
 unfolding opened
 not_refused h = cc (h.1.1.opens)
 
@@ -76,9 +77,9 @@ pub no_memory : IsInfoDone one_bytes (Some (codes "a")) (Some (codes "a")) (Err 
 unfolding opened
 no_memory = (refl, refl)
 
--- a text is written, and the status is 0
-pub silent : IsInfoDone one_bytes (Some []) (Some []) (Ok 0) → ⊥
+-- a text is written, and the status is `Done`
+pub silent : IsInfoDone one_bytes (Some []) (Some []) (Ok Done) → ⊥
 silent h = cc (h.1.2)
 
-pub other_status : IsInfoDone one_bytes None None (Ok 1) → ⊥
-other_status h = omega (arith, h.0)
+pub other_status : IsInfoDone one_bytes None None (Ok NotDone) → ⊥
+other_status h = cc

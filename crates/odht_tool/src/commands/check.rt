@@ -8,41 +8,31 @@ ghost use Rattle.odht_tool.specs.ReadyShapes.{shape_of_bytes, shape_format};
 ghost use Rattle.odht_tool.specs.Texts.{checked_text};
 ghost use Rattle.odht_tool.specs.declared.failure.Failure.TheVariants.{NoShape};
 
-use super::{DONE, NOT_DONE};
 use crate::early::check_first;
 use crate::failure::Failure;
-use crate::files::read_file;
 use crate::shapes::{
     Bytes16Set, Bytes16ToU32, Bytes16ToU64, Bytes20ToU64, Bytes32Set, Bytes32ToU64, DirectU32ToU32,
     Hash, Shape, U32ToU32, U64ToU32, U64ToU64, for_shape,
 };
+use crate::status::Status;
 use odht::config::{Coded, Config};
 use odht::error::Error;
 use odht::memory_layout::check_all;
 use std::io::{self, Write};
-use std::rt::Files;
 
-/// Writes `valid`, or the first rule that the file breaks.
-pub fn run<R: Files + AllocGlobal, O: Write>(
-    rt: &R,
-    file: &str,
+/// `odht check` of the bytes of a file: writes `valid`, or the first rule that they break.
+pub fn check_file<O: Write>(
+    bytes: &[u8],
     hash: Option<Hash>,
     output: &mut O,
-) -> Result<u8, Failure> {
-    let bytes = read_file(rt, file)?;
-    check_file(bytes.as_slice(), hash, output)
-}
-
-/// `odht check` of the bytes of a file.
-pub fn check_file<O: Write>(bytes: &[u8], hash: Option<Hash>, output: &mut O) -> Result<u8, Failure>
-    ensures { IsDone (check_outcome bytes.now hash) (O.contents output.old) (O.contents output.new) result }
+) -> Result<Status, Failure>
+    ensures { IsDone (check_outcome bytes.now hash)
+        (O.contents output.old) (O.contents output.new) result }
 {
     let shape = shape_of(bytes, hash)?;
     let checked = check_shape(shape, bytes);
-    match write_checked(&checked, output) {
-        Ok(()) => Ok(if checked.is_ok() { DONE } else { NOT_DONE }),
-        Err(error) => Err(Failure::Output(error)),
-    }
+    write_checked(&checked, output).map_err(Failure::Output)?;
+    Ok(Status::of(checked.is_ok()))
 }
 
 fn check_shape(shape: Shape, bytes: &[u8]) -> Result<(), Error>
@@ -59,7 +49,8 @@ fn check_bytes<C: Config>(bytes: &[u8]) -> Result<(), Error>
 
 /// Writes a line with `valid`, or with the error.
 pub fn write_checked<O: Write>(checked: &Result<(), Error>, output: &mut O) -> io::Result<()>
-    ensures { OnOk result (Appends (O.contents output.old) (O.contents output.new) (checked_text checked.now)) }
+    ensures { OnOk result
+        (Appends (O.contents output.old) (O.contents output.new) (checked_text checked.now)) }
 {
     match checked {
         Ok(()) => writeln!(output, "valid"),
@@ -77,11 +68,8 @@ pub fn shape_of(bytes: &[u8], hash: Option<Hash>) -> Result<Shape, Failure>
         return Ok(Shape::U64ToU32);
     }
     let (key_size, value_size) = (bytes[5], bytes[6]);
-    match Shape::of_sizes(key_size, value_size, hash) {
-        Some(shape) => Ok(shape),
-        None => Err(Failure::NoShape {
-            key_size,
-            value_size,
-        }),
-    }
+    Shape::of_sizes(key_size, value_size, hash).ok_or(Failure::NoShape {
+        key_size,
+        value_size,
+    })
 }

@@ -6,21 +6,20 @@ ghost use Rattle.odht_base.specs.Load.{IsSlotCount};
 ghost use Rattle.odht_base.specs.Table.{Table, walk};
 ghost use Rattle.odht_base.specs.Valid.{IsImage};
 ghost use Rattle.odht_raw.specs.Dumps.{parts_of};
+ghost use Rattle.odht_raw.specs.Parts.{TableParts};
 ghost use Rattle.odht_raw.specs.Walks.{decoded_all};
-ghost use Rattle.odht_tool.specs.Outcomes.{IsDone, IsWritten, pairs_outcome, slots_outcome, dump_of_shape, dump_outcome, slot_line, slots_text};
+ghost use Rattle.odht_tool.specs.Outcomes.{IsDone, pairs_outcome, slots_outcome, dump_of_shape, dump_outcome, slot_line, slots_text};
 ghost use Rattle.odht_tool.specs.Texts.{pairs_text};
 
-use super::DONE;
 use super::check::shape_of;
 use crate::answers::write_pair;
-use crate::arguments::Options;
 use crate::failure::Failure;
-use crate::files::read_file;
 use crate::histogram::groups_to;
 use crate::shapes::{
     Bytes16Set, Bytes16ToU32, Bytes16ToU64, Bytes20ToU64, Bytes32Set, Bytes32ToU64, DirectU32ToU32,
     Hash, Shape, U32ToU32, U64ToU32, U64ToU64, for_shape,
 };
+use crate::status::{Status, of_output};
 use crate::text::Text;
 use odht::bytes::{Borrowed, ByteArray};
 use odht::config::{Coded, Config};
@@ -29,27 +28,17 @@ use odht::hash::HashFn;
 use odht::memory_layout::{Allocation, Entries};
 use odht::{HashTable, Iter};
 use std::io::{self, Write};
-use std::rt::Files;
 
-/// Writes a line for each pair, in slot order.
-pub fn run<R: Files + AllocGlobal, O: Write>(
-    rt: &R,
-    file: &str,
-    options: Options,
-    output: &mut O,
-) -> Result<u8, Failure> {
-    let bytes = read_file(rt, file)?;
-    dump_file(bytes.as_slice(), options.hash, options.is_slots, output)
-}
-
-/// `odht dump` of the bytes of a file, with `--slots` or without.
+/// `odht dump` of the bytes of a file, with `--slots` or without: writes a line for each pair, in
+/// slot order.
 pub fn dump_file<O: Write>(
     bytes: &[u8],
     hash: Option<Hash>,
     is_slots: bool,
     output: &mut O,
-) -> Result<u8, Failure>
-    ensures { IsDone (dump_outcome bytes.now hash is_slots) (O.contents output.old) (O.contents output.new) result }
+) -> Result<Status, Failure>
+    ensures { IsDone (dump_outcome bytes.now hash is_slots)
+        (O.contents output.old) (O.contents output.new) result }
 {
     let shape = shape_of(bytes, hash)?;
     if is_slots {
@@ -59,28 +48,31 @@ pub fn dump_file<O: Write>(
     }
 }
 
-fn dump_pairs_of<O: Write>(shape: Shape, bytes: &[u8], output: &mut O) -> Result<u8, Failure>
-    ensures { IsDone (dump_of_shape bytes.now false shape) (O.contents output.old) (O.contents output.new) result }
+fn dump_pairs_of<O: Write>(shape: Shape, bytes: &[u8], output: &mut O) -> Result<Status, Failure>
+    ensures { IsDone (dump_of_shape bytes.now false shape)
+        (O.contents output.old) (O.contents output.new) result }
 {
     for_shape!(shape, dump_pairs[O](bytes, output))
 }
 
-fn dump_slots_of<O: Write>(shape: Shape, bytes: &[u8], output: &mut O) -> Result<u8, Failure>
-    ensures { IsDone (dump_of_shape bytes.now true shape) (O.contents output.old) (O.contents output.new) result }
+fn dump_slots_of<O: Write>(shape: Shape, bytes: &[u8], output: &mut O) -> Result<Status, Failure>
+    ensures { IsDone (dump_of_shape bytes.now true shape)
+        (O.contents output.old) (O.contents output.new) result }
 {
     for_shape!(shape, dump_slots[O](bytes, output))
 }
 
-fn dump_pairs<C: Config, O: Write>(bytes: &[u8], output: &mut O) -> Result<u8, Failure>
+fn dump_pairs<C: Config, O: Write>(bytes: &[u8], output: &mut O) -> Result<Status, Failure>
 where
     C::Key: Text,
     C::Value: Text,
-    ensures { IsDone (pairs_outcome ⟦<C as Coded>⟧.coding C.Key.text C.Value.text bytes.now) (O.contents output.old) (O.contents output.new) result }
+    ensures { IsDone (pairs_outcome ⟦<C as Coded>⟧.coding C.Key.text C.Value.text bytes.now)
+        (O.contents output.old) (O.contents output.new) result }
 {
-    match HashTable::<C, Borrowed<'_>>::from_raw_bytes(Borrowed::new(bytes)) {
-        Err(refused) => Err(Failure::Refused(refused)),
-        Ok(table) => of_output(write_table(&table, output)),
-    }
+    let table = HashTable::<C, Borrowed<'_>>::from_raw_bytes(Borrowed::new(bytes)).map_err(
+        Failure::Refused,
+    )?;
+    of_output(write_table(&table, output))
 }
 
 // Writes the pairs of a table.
@@ -93,20 +85,14 @@ where
     C::Value: Text,
     ensures on_valid { (P : Table)
         → IsImage ⟦<C as Coded>⟧.coding.format P table.now.0.now
-        → OnOk result (Appends (O.contents output.old) (O.contents output.new) (pairs_text C.Key.text C.Value.text (decoded_all ⟦<C as Coded>⟧.coding (walk P)))) }
+        → OnOk result (Appends (O.contents output.old) (O.contents output.new)
+        (pairs_text C.Key.text C.Value.text (decoded_all ⟦<C as Coded>⟧.coding (walk P)))) }
     ensures on_any { let c = ⟦<C as Coded>⟧.coding
-        in OnOk result (Appends (O.contents output.old) (O.contents output.new) (pairs_text C.Key.text C.Value.text (decoded_all c (decoded_pairs c.format table.now.0.now)))) }
+        in let pairs = decoded_all c (decoded_pairs c.format table.now.0.now)
+        in OnOk result (Appends (O.contents output.old) (O.contents output.new)
+        (pairs_text C.Key.text C.Value.text pairs)) }
 {
     write_pairs(table.iter(), output)
-}
-
-fn of_output(written: io::Result<()>) -> Result<u8, Failure>
-    ensures { IsWritten written result }
-{
-    match written {
-        Ok(()) => Ok(DONE),
-        Err(error) => Err(Failure::Output(error)),
-    }
 }
 
 // Writes each pair on a line.
@@ -114,7 +100,8 @@ fn write_pairs<C: Config, O: Write>(pairs: Iter<'_, C>, output: &mut O) -> io::R
 where
     C::Key: Text,
     C::Value: Text,
-    ensures { OnOk result (Appends (O.contents output.old) (O.contents output.new) (pairs_text C.Key.text C.Value.text pairs.entry)) }
+    ensures { OnOk result (Appends (O.contents output.old) (O.contents output.new)
+        (pairs_text C.Key.text C.Value.text pairs.entry)) }
 {
     for (key, value) in pairs {
         write_pair(&key, &value, output)?;
@@ -122,16 +109,17 @@ where
     Ok(())
 }
 
-fn dump_slots<C: Config, O: Write>(bytes: &[u8], output: &mut O) -> Result<u8, Failure>
+fn dump_slots<C: Config, O: Write>(bytes: &[u8], output: &mut O) -> Result<Status, Failure>
 where
     C::Key: Text,
     C::Value: Text,
-    ensures { IsDone (slots_outcome ⟦<C as Coded>⟧.coding C.Key.text C.Value.text bytes.now) (O.contents output.old) (O.contents output.new) result }
+    ensures { IsDone (slots_outcome ⟦<C as Coded>⟧.coding C.Key.text C.Value.text bytes.now)
+        (O.contents output.old) (O.contents output.new) result }
 {
-    match Allocation::<C, Borrowed<'_>>::from_raw_bytes(Borrowed::new(bytes)) {
-        Err(refused) => Err(Failure::Refused(refused)),
-        Ok(allocation) => of_output(write_slots(&allocation, output)),
-    }
+    let allocation = Allocation::<C, Borrowed<'_>>::from_raw_bytes(Borrowed::new(bytes)).map_err(
+        Failure::Refused,
+    )?;
+    of_output(write_slots(&allocation, output))
 }
 
 // Writes a line for each occupied slot.
@@ -144,7 +132,8 @@ where
     C::Value: Text,
     ensures { let c = ⟦<C as Coded>⟧.coding
         in let B = allocation.now.0.now
-        in OnOk result (Appends (O.contents output.old) (O.contents output.new) (slots_text c C.Key.text C.Value.text (parts_of c.format B) (header_slots B))) }
+        in OnOk result (Appends (O.contents output.old) (O.contents output.new)
+        (slots_text c C.Key.text C.Value.text (parts_of c.format B) (header_slots B))) }
 {
     let (control, entries) = allocation.data_slices();
     for slot in 0..entries.len() {
@@ -167,7 +156,9 @@ where
     requires slots { IsSlotCount entries.now.slots }
     requires slot { slot < entries.now.slots }
     requires control { length control.now ≡ entries.now.slots + 16 }
-    ensures { OnOk result (Appends (O.contents output.old) (O.contents output.new) (slot_line ⟦<C as Coded>⟧.coding C.Key.text C.Value.text (record { control = control.now; entries = entries.now }) slot)) }
+    ensures { let parts : TableParts = record { control = control.now; entries = entries.now }
+        in OnOk result (Appends (O.contents output.old) (O.contents output.new)
+        (slot_line ⟦<C as Coded>⟧.coding C.Key.text C.Value.text parts slot)) }
 {
     let tag = control[slot];
     if tag >= 128 {

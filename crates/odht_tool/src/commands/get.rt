@@ -2,58 +2,40 @@
 ghost use Rattle.std.specs.Prelude.{◌≡◌, None, [], ◌∷◌, ◌++◌, IfOk, IfErr, OnOk, map, string_bytes};
 ghost use Rattle.std.specs.List.{AllZip};
 ghost use Rattle.odht_header.specs.Refusals.{view_refusal};
-ghost use Rattle.odht_tool.specs.Gets.{IsReadAs, AreAnswers, AreWordsGot, AreFileWordsGot, found_status, words_of_shape};
+ghost use Rattle.odht_tool.specs.Gets.{IsReadAs, AreAnswers, AreWordsGot, AreFileWordsGot, words_of_shape};
 ghost use Rattle.odht_tool.specs.GetParts.{IsOpenFailure, NamesWord, NamesFault, AreKeysAnswered, IsKeysFailure, IsFlushed, IsNextKey};
 ghost use Rattle.odht_tool.specs.GetLines.{AreLinesAnswered, AreLinesGot, AreFileLinesGot, lines_of_shape};
 
 use super::check::shape_of;
-use super::{DONE, NOT_DONE};
 use crate::answers::{absent_values, are_found, write_answers};
 use crate::failure::{Failure, LineFault};
-use crate::files::read_file;
 use crate::lines::read_line;
 use crate::shapes::{
     Bytes16Set, Bytes16ToU32, Bytes16ToU64, Bytes20ToU64, Bytes32Set, Bytes32ToU64, DirectU32ToU32,
     Hash, Shape, U32ToU32, U64ToU32, U64ToU64, for_shape,
 };
+use crate::status::Status;
 use crate::text::Text;
 use odht::HashTable;
 use odht::bytes::Borrowed;
 use odht::config::{Coded, Config};
 use std::alloc::{AllocError, Global};
 use std::io::{self, BufRead, Write};
-use std::rt::Files;
 
 /// How many keys are looked up at once.
 const BATCH: usize = 1024;
 
-/// Writes a line for each key: the key, a tab and its value, or the key alone.
-pub fn run<R: Files + AllocGlobal, I: BufRead, O: Write>(
-    rt: &R,
-    file: &str,
-    hash: Option<Hash>,
-    words: &[String],
-    input: &mut I,
-    output: &mut O,
-) -> Result<u8, Failure> {
-    let alloc: Global = rt.alloc();
-    let bytes = read_file(rt, file)?;
-    let bytes = bytes.as_slice();
-    match words {
-        [word] if word.as_str() == "-" => get_file_lines(alloc, bytes, hash, input, output),
-        _ => get_file_words(alloc, bytes, hash, words, output),
-    }
-}
-
-/// `odht get` of the bytes of a file, for the words of the command line.
+/// `odht get` of the bytes of a file, for the words of the command line: writes a line for each
+/// key, with a tab and its value, or the key alone.
 pub fn get_file_words<O: Write>(
     alloc: Global,
     bytes: &[u8],
     hash: Option<Hash>,
     words: &[String],
     output: &mut O,
-) -> Result<u8, Failure>
-    ensures { AreFileWordsGot bytes.now hash (map string_bytes words.now) (O.contents output.old) (O.contents output.new) result }
+) -> Result<Status, Failure>
+    ensures { AreFileWordsGot bytes.now hash (map string_bytes words.now)
+        (O.contents output.old) (O.contents output.new) result }
 {
     let shape = shape_of(bytes, hash)?;
     get_words_of(alloc, shape, bytes, words, output)
@@ -65,8 +47,9 @@ fn get_words_of<O: Write>(
     bytes: &[u8],
     words: &[String],
     output: &mut O,
-) -> Result<u8, Failure>
-    ensures { words_of_shape bytes.now (map string_bytes words.now) (O.contents output.old) (O.contents output.new) result shape }
+) -> Result<Status, Failure>
+    ensures { words_of_shape bytes.now (map string_bytes words.now)
+        (O.contents output.old) (O.contents output.new) result shape }
 {
     for_shape!(shape, get_words[O](alloc, bytes, words, output))
 }
@@ -78,8 +61,9 @@ pub fn get_file_lines<I: BufRead, O: Write>(
     hash: Option<Hash>,
     input: &mut I,
     output: &mut O,
-) -> Result<u8, Failure>
-    ensures { AreFileLinesGot bytes.now hash (I.remaining input.old) (O.contents output.old) (O.contents output.new) result }
+) -> Result<Status, Failure>
+    ensures { AreFileLinesGot bytes.now hash (I.remaining input.old)
+        (O.contents output.old) (O.contents output.new) result }
 {
     let shape = shape_of(bytes, hash)?;
     get_lines_of(alloc, shape, bytes, input, output)
@@ -91,8 +75,9 @@ fn get_lines_of<I: BufRead, O: Write>(
     bytes: &[u8],
     input: &mut I,
     output: &mut O,
-) -> Result<u8, Failure>
-    ensures { lines_of_shape bytes.now (I.remaining input.old) (O.contents output.old) (O.contents output.new) result shape }
+) -> Result<Status, Failure>
+    ensures { lines_of_shape bytes.now (I.remaining input.old)
+        (O.contents output.old) (O.contents output.new) result shape }
 {
     for_shape!(shape, get_lines[I, O](alloc, bytes, input, output))
 }
@@ -103,22 +88,26 @@ fn get_words<C: Config, O: Write>(
     bytes: &[u8],
     words: &[String],
     output: &mut O,
-) -> Result<u8, Failure>
+) -> Result<Status, Failure>
 where
     C::Key: Text,
     C::Value: Text,
-    ensures { AreWordsGot ⟦<C as Coded>⟧.coding C.Key.text C.Value.text (IsReadAs C.Key.is_word C.Key.stands_for) bytes.now (map string_bytes words.now) (O.contents output.old) (O.contents output.new) result }
+    ensures { AreWordsGot ⟦<C as Coded>⟧.coding C.Key.text C.Value.text
+        (IsReadAs C.Key.is_word C.Key.stands_for) bytes.now (map string_bytes words.now)
+        (O.contents output.old) (O.contents output.new) result }
 {
     let table = open::<C>(bytes)?;
     let keys = parse_keys::<C::Key>(alloc, words)?;
     let is_all_found = answer_keys(alloc, &table, keys.as_slice(), output)?;
-    Ok(status_of(is_all_found))
+    Ok(Status::of(is_all_found))
 }
 
 // The keys of the words, or the first word that is none.
 fn parse_keys<K: Text>(alloc: Global, words: &[String]) -> Result<Vec<K>, Failure>
-    ensures keys { IfOk result (λ keys. AllZip (IsReadAs K.is_word K.stands_for) (map string_bytes words.now) keys.items) }
-    ensures fault { IfErr result (NamesFault (IsReadAs K.is_word K.stands_for) (map string_bytes words.now)) }
+    ensures keys { IfOk result
+        (λ keys. AllZip (IsReadAs K.is_word K.stands_for) (map string_bytes words.now) keys.items) }
+    ensures fault { IfErr result
+        (NamesFault (IsReadAs K.is_word K.stands_for) (map string_bytes words.now)) }
 {
     let mut keys = Vec::new(alloc);
     for word in words {
@@ -134,16 +123,7 @@ fn push_key<K: Text>(keys: &mut Vec<K>, key: K) -> Result<(), Failure>
     ensures ok { OnOk result (keys.new.items ≡ keys.old.items ++ key ∷ []) }
     ensures err { IfErr result (λ failure. failure ≡ Failure.Memory) }
 {
-    match keys.push(key) {
-        Ok(()) => Ok(()),
-        Err(_) => Err(Failure::Memory),
-    }
-}
-
-fn status_of(is_all_found: bool) -> u8
-    ensures { result ≡ found_status is_all_found }
-{
-    if is_all_found { DONE } else { NOT_DONE }
+    keys.push(key).map_err(|_| Failure::Memory)
 }
 
 fn wrong_key(alloc: Global, word: &str) -> Failure
@@ -161,11 +141,13 @@ fn get_lines<C: Config, I: BufRead, O: Write>(
     bytes: &[u8],
     input: &mut I,
     output: &mut O,
-) -> Result<u8, Failure>
+) -> Result<Status, Failure>
 where
     C::Key: Text,
     C::Value: Text,
-    ensures { AreLinesGot ⟦<C as Coded>⟧.coding C.Key.text C.Value.text (IsReadAs C.Key.is_word C.Key.stands_for) bytes.now (I.remaining input.old) (O.contents output.old) (O.contents output.new) result }
+    ensures { AreLinesGot ⟦<C as Coded>⟧.coding C.Key.text C.Value.text
+        (IsReadAs C.Key.is_word C.Key.stands_for) bytes.now (I.remaining input.old)
+        (O.contents output.old) (O.contents output.new) result }
 {
     let table = open::<C>(bytes)?;
     answer_lines(alloc, &table, input, output)
@@ -176,11 +158,13 @@ fn answer_lines<C: Config, I: BufRead, O: Write>(
     table: &HashTable<C, Borrowed<'_>>,
     input: &mut I,
     output: &mut O,
-) -> Result<u8, Failure>
+) -> Result<Status, Failure>
 where
     C::Key: Text,
     C::Value: Text,
-    ensures { AreLinesAnswered ⟦<C as Coded>⟧.coding C.Key.text C.Value.text (IsReadAs C.Key.is_word C.Key.stands_for) table.now.0.now (I.remaining input.old) (O.contents output.old) (O.contents output.new) result }
+    ensures { AreLinesAnswered ⟦<C as Coded>⟧.coding C.Key.text C.Value.text
+        (IsReadAs C.Key.is_word C.Key.stands_for) table.now.0.now (I.remaining input.old)
+        (O.contents output.old) (O.contents output.new) result }
 {
     let mut keys = Vec::new(alloc);
     let mut line = Vec::new(alloc);
@@ -199,7 +183,7 @@ where
         is_all_found = answer_batch(alloc, table, &mut keys, is_all_found, output)?;
     }
     let is_last_found = answer_keys(alloc, table, keys.as_slice(), output)?;
-    Ok(status_of(is_last_found && is_all_found))
+    Ok(Status::of(is_last_found && is_all_found))
 }
 
 /// What the next line of an input is.
@@ -215,7 +199,8 @@ enum NextKey<K> {
 
 // Reads the next line, and parses its key. The bytes of `line` are replaced.
 fn next_key<K: Text, I: BufRead>(input: &mut I, line: &mut Vec<u8>) -> io::Result<NextKey<K>>
-    ensures { IfOk result (IsNextKey (IsReadAs K.is_word K.stands_for) (I.remaining input.old) (I.remaining input.new)) }
+    ensures { IfOk result (IsNextKey (IsReadAs K.is_word K.stands_for)
+        (I.remaining input.old) (I.remaining input.new)) }
 {
     if !read_line(input, line)? {
         return Ok(NextKey::End);
@@ -226,7 +211,8 @@ fn next_key<K: Text, I: BufRead>(input: &mut I, line: &mut Vec<u8>) -> io::Resul
     }
 }
 
-// Answers the keys where they are a batch, and drops them. Returns whether each was found, and those before.
+// Answers the keys where they are a batch, and drops them. Returns whether each was found, and
+// those before.
 fn answer_batch<C: Config, O: Write>(
     alloc: Global,
     table: &HashTable<C, Borrowed<'_>>,
@@ -237,7 +223,9 @@ fn answer_batch<C: Config, O: Write>(
 where
     C::Key: Text,
     C::Value: Text,
-    ensures ok { IfOk result (IsFlushed ⟦<C as Coded>⟧.coding C.Key.text C.Value.text table.now.0.now keys.old.items keys.new.items (O.contents output.old) (O.contents output.new) is_all_found) }
+    ensures ok { IfOk result (IsFlushed ⟦<C as Coded>⟧.coding C.Key.text C.Value.text
+        table.now.0.now keys.old.items keys.new.items
+        (O.contents output.old) (O.contents output.new) is_all_found) }
     ensures err { IfErr result (IsKeysFailure (O.contents output.old) (O.contents output.new)) }
 {
     if keys.len() < BATCH {
@@ -251,12 +239,10 @@ where
 fn open<C: Config>(bytes: &[u8]) -> Result<HashTable<C, Borrowed<'_>>, Failure>
     ensures ok { IfOk result (λ table. table.0.now ≡ bytes.now) }
     ensures opened { OnOk result (view_refusal ⟦<C as Coded>⟧.coding.format bytes.now ≡ None) }
-    ensures err { IfErr result (IsOpenFailure (view_refusal ⟦<C as Coded>⟧.coding.format bytes.now)) }
+    ensures err { IfErr result
+        (IsOpenFailure (view_refusal ⟦<C as Coded>⟧.coding.format bytes.now)) }
 {
-    match HashTable::from_raw_bytes(Borrowed::new(bytes)) {
-        Ok(table) => Ok(table),
-        Err(refused) => Err(Failure::Refused(refused)),
-    }
+    HashTable::from_raw_bytes(Borrowed::new(bytes)).map_err(Failure::Refused)
 }
 
 // Looks the keys up, and writes a line for each. Returns whether each was found.
@@ -269,17 +255,14 @@ fn answer_keys<C: Config, O: Write>(
 where
     C::Key: Text,
     C::Value: Text,
-    ensures ok { IfOk result (AreKeysAnswered ⟦<C as Coded>⟧.coding C.Key.text C.Value.text table.now.0.now keys.now (O.contents output.old) (O.contents output.new)) }
+    ensures ok { IfOk result (AreKeysAnswered ⟦<C as Coded>⟧.coding C.Key.text C.Value.text
+        table.now.0.now keys.now (O.contents output.old) (O.contents output.new)) }
     ensures err { IfErr result (IsKeysFailure (O.contents output.old) (O.contents output.new)) }
 {
-    let Ok(values) = look_up::<C>(alloc, table, keys) else {
-        return Err(Failure::Memory);
-    };
+    let values = look_up::<C>(alloc, table, keys)?;
     let values = values.as_slice();
-    match write_answers(keys, values, output) {
-        Ok(()) => Ok(are_found(values)),
-        Err(error) => Err(Failure::Output(error)),
-    }
+    write_answers(keys, values, output).map_err(Failure::Output)?;
+    Ok(are_found(values))
 }
 
 // The value of each key.
@@ -290,7 +273,8 @@ fn look_up<C: Config>(
 ) -> Result<Vec<Option<C::Value>>, AllocError>
 where
     C::Value: Text,
-    ensures { IfOk result (λ values. AreAnswers ⟦<C as Coded>⟧.coding table.now.0.now keys.now values.items) }
+    ensures { IfOk result
+        (λ values. AreAnswers ⟦<C as Coded>⟧.coding table.now.0.now keys.now values.items) }
 {
     let mut values = absent_values::<C::Value>(alloc, keys.len())?;
     table.get_all(keys, values.as_mut_slice());

@@ -3,41 +3,30 @@ ghost use Rattle.std.specs.Prelude.{◌≡◌, ◌++◌, OnOk, length};
 ghost use Rattle.std.specs.Io.KnownBytes.{Appends};
 ghost use Rattle.odht_tool.specs.InfoTexts.{number_line, sizes_text, hash_name, groups_text, info_text, IsInfoDone};
 
-use super::DONE;
 use crate::failure::Failure;
-use crate::files::read_file;
 use crate::histogram::Histogram;
 use crate::numbers::{Numbers, numbers_of};
 use crate::shapes::Hash;
+use crate::status::Status;
 use std::alloc::Global;
 use std::io::{self, Write};
-use std::rt::Files;
 
-/// Writes sizes, counts, load factors, and how many groups a search reads for the items.
-pub fn run<R: Files + AllocGlobal, O: Write>(
-    rt: &R,
-    file: &str,
-    output: &mut O,
-) -> Result<u8, Failure> {
-    let bytes = read_file(rt, file)?;
-    let alloc: Global = rt.alloc();
-    info_file(alloc, bytes.as_slice(), output)
-}
-
-/// `odht info` of the bytes of a file.
-pub fn info_file<O: Write>(alloc: Global, bytes: &[u8], output: &mut O) -> Result<u8, Failure>
+/// `odht info` of the bytes of a file: writes sizes, counts, load factors, and how many groups a
+/// search reads for the items.
+pub fn info_file<O: Write>(alloc: Global, bytes: &[u8], output: &mut O) -> Result<Status, Failure>
     ensures { IsInfoDone bytes.now (O.contents output.old) (O.contents output.new) result }
 {
     let numbers = numbers_of(alloc, bytes)?;
     match write_all(&numbers, output) {
-        Ok(()) => Ok(DONE),
+        Ok(()) => Ok(Status::Done),
         Err(error) => Err(Failure::Output(error)),
     }
 }
 
 fn write_all<O: Write>(numbers: &Numbers, output: &mut O) -> io::Result<()>
     requires { length numbers.now.histogram.counts.items ≡ 64 }
-    ensures { OnOk result (Appends (O.contents output.old) (O.contents output.new) (info_text numbers.now)) }
+    ensures { OnOk result
+        (Appends (O.contents output.old) (O.contents output.new) (info_text numbers.now)) }
 {
     write_sizes(numbers, output)?;
     match numbers.hash {
@@ -48,7 +37,8 @@ fn write_all<O: Write>(numbers: &Numbers, output: &mut O) -> io::Result<()>
 
 // The lines that do not depend on the hash function.
 fn write_sizes<O: Write>(numbers: &Numbers, output: &mut O) -> io::Result<()>
-    ensures { OnOk result (Appends (O.contents output.old) (O.contents output.new) (sizes_text numbers.now)) }
+    ensures { OnOk result
+        (Appends (O.contents output.old) (O.contents output.new) (sizes_text numbers.now)) }
 {
     write_number("key bytes     ", numbers.key_size as u128, "", output)?;
     write_number("value bytes   ", numbers.value_size as u128, "", output)?;
@@ -69,7 +59,8 @@ fn write_sizes<O: Write>(numbers: &Numbers, output: &mut O) -> io::Result<()>
 // The lines of the hash function and of the histogram.
 fn write_groups<O: Write>(hash: Hash, histogram: &Histogram, output: &mut O) -> io::Result<()>
     requires { length histogram.now.counts.items ≡ 64 }
-    ensures { OnOk result (Appends (O.contents output.old) (O.contents output.new) (groups_text (Some hash) histogram.now.counts.items histogram.now.longest)) }
+    ensures { OnOk result (Appends (O.contents output.old) (O.contents output.new)
+        (groups_text (Some hash) histogram.now.counts.items histogram.now.longest)) }
 {
     let name = name_of(hash);
     write!(output, "hash          {name}\n  groups         items\n")?;
@@ -94,7 +85,8 @@ fn name_of(hash: Hash) -> &'static str
 
 // Writes a line of a label and a number, with `end` behind it.
 fn write_number<O: Write>(label: &str, number: u128, end: &str, output: &mut O) -> io::Result<()>
-    ensures { OnOk result (Appends (O.contents output.old) (O.contents output.new) (number_line label.now number end.now)) }
+    ensures { OnOk result (Appends (O.contents output.old) (O.contents output.new)
+        (number_line label.now number end.now)) }
 {
     writeln!(output, "{label}{number}{end}")
 }

@@ -12,8 +12,7 @@ returns-in_err-shape g c =
     let x = c.in_err-shape.field-0.0 in
     let old = g.O.Write.contents c.args.output.now in
     let failed : c.from_residual.result ≡ Err x = search rules in
-    subst (IsDone (dump_outcome B c.args.hash c.args.is_slots) old old) (sym failed)
-    (without_shape (shape_of_bytes B c.args.hash) (NoShape (slice_index B 5) (slice_index B 6)) (dump_of_shape B c.args.is_slots) old x (sym c.in_err-shape.was ∙ c.shape_of.ensures))
+    rw failed (without_shape (shape_of_bytes B c.args.hash) (NoShape (slice_index B 5) (slice_index B 6)) (dump_of_shape B c.args.is_slots) old x (sym c.in_err-shape.was ∙ c.shape_of.ensures))
 
 pub returns-then-is_slots : goal.returns-then-is_slots
 returns-then-is_slots g c =
@@ -21,7 +20,7 @@ returns-then-is_slots g c =
     let old = g.O.Write.contents c.args.output.now in
     let new = g.O.Write.contents c.dump_slots_of.new.output in
     with_shape (shape_of_bytes B c.args.hash) (NoShape (slice_index B 5) (slice_index B 6)) (dump_of_shape B c.args.is_slots) c.in_ok-shape.shape old new _ (sym c.in_ok-shape.was ∙ c.shape_of.ensures)
-    (subst (λ b. IsDone (dump_of_shape B b c.in_ok-shape.shape) old new c.dump_slots_of.result) (sym c.if-is_slots.true) c.dump_slots_of.ensures)
+    (rw c.if-is_slots.true c.dump_slots_of.ensures)
 
 pub returns-else-is_slots : goal.returns-else-is_slots
 returns-else-is_slots g c =
@@ -29,4 +28,4 @@ returns-else-is_slots g c =
     let old = g.O.Write.contents c.args.output.now in
     let new = g.O.Write.contents c.dump_pairs_of.new.output in
     with_shape (shape_of_bytes B c.args.hash) (NoShape (slice_index B 5) (slice_index B 6)) (dump_of_shape B c.args.is_slots) c.in_ok-shape.shape old new _ (sym c.in_ok-shape.was ∙ c.shape_of.ensures)
-    (subst (λ b. IsDone (dump_of_shape B b c.in_ok-shape.shape) old new c.dump_pairs_of.result) (sym c.if-is_slots.false) c.dump_pairs_of.ensures)
+    (rw c.if-is_slots.false c.dump_pairs_of.ensures)

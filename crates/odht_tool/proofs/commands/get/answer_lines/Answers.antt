@@ -147,12 +147,12 @@ returns g c =
     let last = g.O.Write.contents c.answer_keys-2.new.output in
     let every = c.in_ok-is_last_found.is_last_found in
     let answered = subst (λ ks. AreKeysAnswered C g.C.Key.Text.text g.C.Value.Text.text B ks new last every) c.as_slice-2.ensures.value c.in_ok-is_last_found.ensures.ok in
-    let both : c.if-is_last_found.status_of ≡ (every && c.loop-number.is_all_found) = elim c.if-is_last_found.branch [
-      | then-is_last_found w ↦ w.status_of-is ∙ sym (ap (λ b. b && c.loop-number.is_all_found) w.if-is_last_found.true)
-      | else-is_last_found w ↦ w.status_of-is ∙ w.if-is_last_found.false ∙ sym (ap (λ b. b && c.loop-number.is_all_found) w.if-is_last_found.false)
+    let both : c.if-is_last_found.of ≡ (every && c.loop-number.is_all_found) = elim c.if-is_last_found.branch [
+      | then-is_last_found w ↦ w.of-is ∙ sym (ap (λ b. b && c.loop-number.is_all_found) w.if-is_last_found.true)
+      | else-is_last_found w ↦ w.of-is ∙ w.if-is_last_found.false ∙ sym (ap (λ b. b && c.loop-number.is_all_found) w.if-is_last_found.false)
     ] in
     let lines = lines_answered C g.C.Key.Text.text g.C.Value.Text.text R B input now old new c.loop-number.number c.loop-number.keys.items c.loop-number.is_all_found last c.loop-number.invariant.0 every (elim c.loop-number-test.branch [
       | else-loop-number-test w ↦ inr (omega (arith, c.loop-number.auto.number-end, w.loop-number-test.false))
       | then-loop-number-test+in-Ok-End w ↦ inl (subst (IsNextKey R now (g.I.Read.remaining w.next_key.new.input)) w.in-Ok-End.field-0-is w.in-Ok-End.ensures, omega (arith, c.loop-number.auto.number-end))
     ]) answered in
-    subst (λ status. AreLinesAnswered C g.C.Key.Text.text g.C.Value.Text.text R B input old last (Ok status)) (sym (c.status_of.ensures ∙ ap found_status both)) lines
+    subst (λ status. AreLinesAnswered C g.C.Key.Text.text g.C.Value.Text.text R B input old last (Ok status)) (sym (c.of.ensures ∙ ap found_status both)) lines

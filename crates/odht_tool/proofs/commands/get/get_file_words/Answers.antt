@@ -13,8 +13,7 @@ returns-in_err-shape g c =
     let x = c.in_err-shape.field-0.0 in
     let old = g.O.Write.contents c.args.output.now in
     let failed : c.from_residual.result ≡ Err x = search rules in
-    subst (AreFileWordsGot B c.args.hash (map string_bytes c.args.words.now) old old) (sym failed)
-    (without_shape_said (shape_of_bytes B c.args.hash) (NoShape (slice_index B 5) (slice_index B 6)) x old (words_of_shape B (map string_bytes c.args.words.now) old old (Err x)) (sym c.in_err-shape.was ∙ c.shape_of.ensures))
+    rw failed (without_shape_said (shape_of_bytes B c.args.hash) (NoShape (slice_index B 5) (slice_index B 6)) x old (words_of_shape B (map string_bytes c.args.words.now) old old (Err x)) (sym c.in_err-shape.was ∙ c.shape_of.ensures))
 
 pub returns : goal.returns
 returns g c =
