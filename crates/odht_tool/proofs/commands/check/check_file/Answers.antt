@@ -1,7 +1,7 @@
-use Rattle.std.proofs.Common.{rules, ◌≡◌, ◌∙◌, Err, sym, ap, subst, if◌then◌else◌}
+use Rattle.std.proofs.Common.{rules, ◌≡◌, ◌∙◌, Err, sym, ap, if◌then◌else◌}
 use Rattle.std.specs.Prelude.{slice_index}
 use Rattle.std.specs.Io.KnownBytes.{Appends}
-use Rattle.odht_tool.specs.Outcomes.{IsDone, check_outcome, check_of_shape}
+use Rattle.odht_tool.specs.Outcomes.{check_of_shape}
 use Rattle.odht_tool.specs.ReadyShapes.{shape_of_bytes}
 use Rattle.odht_tool.specs.Texts.{checked_text}
 use Rattle.odht_tool.specs.declared.failure.Failure.TheVariants.{NoShape}

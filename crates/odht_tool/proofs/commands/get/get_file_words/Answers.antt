@@ -1,7 +1,7 @@
-use Rattle.std.proofs.Common.{rules, ◌≡◌, ◌∙◌, Err, map, sym, subst}
+use Rattle.std.proofs.Common.{rules, ◌≡◌, ◌∙◌, Err, map, sym}
 use Rattle.std.specs.Prelude.{slice_index, string_bytes}
 use Rattle.std.specs.Io.KnownBytes.{Keeps}
-use Rattle.odht_tool.specs.Gets.{AreFileWordsGot, words_of_shape}
+use Rattle.odht_tool.specs.Gets.{words_of_shape}
 use Rattle.odht_tool.specs.ReadyShapes.{shape_of_bytes}
 use Rattle.odht_tool.specs.declared.failure.Failure.TheVariants.{NoShape}
 use Rattle.odht_tool.proofs.Shaped.{without_shape_said, with_shape_said}
