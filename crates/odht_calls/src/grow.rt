@@ -4,10 +4,7 @@ ghost use Rattle.odht_calls.specs.Grows.{GrowAnswers};
 use crate::read::view;
 use crate::status::{CAPACITY, LOAD_FACTOR_TOO_SMALL, OK, TOO_SMALL, status_of};
 use odht::config::{Coded, Config};
-use odht::memory_layout::Header;
-
-// One percent in 65536ths, rounded down: the least load factor.
-const LEAST_FACTOR: u16 = 655;
+use odht::memory_layout::{Header, LEAST_FACTOR};
 
 /// Writes the table that the one in `bytes` grows into to the front of `out`, and its length in bytes to `len`.
 /// TOO_SMALL leaves `out` unchanged, any other error leaves both unchanged.

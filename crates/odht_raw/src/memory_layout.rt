@@ -10,5 +10,5 @@ pub use crate::raw_table::{Entries, EntryMetadata};
 pub use allocation::Allocation;
 pub use check::check_all;
 pub use new_tables::{allocate, init_in_place};
-pub use odht_header::header::{HEADER_SIZE, Header, write_header};
+pub use odht_header::header::{HEADER_SIZE, Header, LEAST_FACTOR, write_header};
 pub use odht_header::sizes::{bytes_needed, entry_at, layout_for};

@@ -1,5 +1,5 @@
 -- Pairs that are placed in turn and end within the maximum: each insert on the way is one that its table takes.
-use Rattle.std.proofs.Common.{inl, inr, ◌≡◌, ◌<◌, ◌≤◌, ◌+◌, ◌∙◌, ℕ, Bool, true, false, cond, sym, ap, refl, List, [], ◌∷◌, Option, Some, None, arith, All}
+use Rattle.std.proofs.Common.{inl, inr, ◌≡◌, ◌≤◌, ◌+◌, ◌∙◌, ℕ, Bool, true, false, cond, ap, refl, List, [], ◌∷◌, Option, Some, None, arith, All}
 use Rattle.std.specs.Prelude.{is_none, option_and_then}
 use Rattle.std.proofs.lemmas.List.Elements.{All-head, All-tail}
 use Rattle.odht_base.specs.Format.{Format}

@@ -1,12 +1,11 @@
 -- Inserts in turn: one more pair.
-use Rattle.std.proofs.Common.{◌≡◌, ◌<◌, ◌≤◌, ◌+◌, ◌∙◌, ◌++◌, ℕ, Bool, true, false, cond, sym, ap, refl, List, [], ◌∷◌, Option, Some, None, Result, Ok, Err, subst, take, length, bytes_eq, get_or, arith, length-append, append_assoc, append-nil}
+use Rattle.std.proofs.Common.{◌≡◌, ◌<◌, ◌≤◌, ◌+◌, ◌∙◌, ◌++◌, ℕ, Bool, true, false, cond, sym, ap, refl, List, [], ◌∷◌, Option, Some, None, Err, subst, take, length, bytes_eq, get_or, arith, length-append, append_assoc, append-nil}
 use Rattle.std.proofs.lemmas.List.{take_all, take_more, map-append, length-map}
-use Rattle.std.proofs.lemmas.Option.{slice_get-get_or}
 use Rattle.std.specs.Prelude.{option_and_then}
 use Rattle.std.specs.Option.{option_or}
 use Rattle.std.specs.List.{slice_range}
 use Rattle.odht_base.specs.Format.{Format, IsFormat}
-use Rattle.odht_base.specs.Insert.{place, run, insert_owned, IsFullFor}
+use Rattle.odht_base.specs.Insert.{place, run, insert_owned}
 use Rattle.odht_base.specs.Load.{max_items, factor_of}
 use Rattle.odht_base.specs.Map.{map_of, last, overwritten}
 use Rattle.odht_base.specs.Table.{Pair, Table, count, slot_count, fresh}
@@ -17,10 +16,8 @@ use Rattle.odht_base.proofs.lemmas.Places.{slot_count-place, factor-place, count
 use Rattle.odht_base.proofs.lemmas.FreeSlots.{fresh-slots, slot_count-empty, count-empty, max_items-holds}
 use Rattle.odht_base.proofs.lemmas.InsertRuns.{IsInsert, run-append, run-push, last-append, last-cons, map_of-run, factor-run, count-run}
 use Rattle.odht_header.specs.Coding.{Coding, encoded}
-use Rattle.odht_raw.specs.Frame.{IsFramed}
 use Rattle.odht_raw.specs.Runs.{IsAllPlaced}
 use Rattle.odht_raw.proofs.lemmas.PartRuns.{take-range}
-use Rattle.odht_header.specs.declared.error.Error.{Error}
 use Rattle.odht_header.specs.declared.error.Error.TheVariants.{Full}
 use Rattle.odht.proofs.lemmas.FittingRuns.{PlacesTaken, run-fitting}
 use Rattle.odht.proofs.lemmas.ViewInserts.{framed-full}
@@ -107,12 +104,6 @@ pub encoded_all-more : {K V : Type 0} (c : Coding K V) (items : List (K × V)) (
     → encoded_all c (take (n + 1) items) ≡ encoded_all c (take n items) ++ encoded c item.0 item.1 ∷ []
 encoded_all-more {K = K} {V = V} c items n item low at =
     ap (encoded_all c) (take_more items n item low ∙ ap (λ t. take n items ++ t ∷ []) at) ∙ map-append (λ (t : K × V). encoded c t.0 t.1) (take n items) (item ∷ [])
-
--- one more item, on any bytes
-pub framed_more : {K V : Type 0} (c : Coding K V) (B C D : List ℕ) (items : List (K × V)) (n : ℕ) (item : K × V) → n < length items → get_or items n item ≡ item
-    → (o : Option V) → IsFramedRun c B (take n items) C → IsFramed c C item.0 item.1 (Ok o) D → IsFramedRun c B (take (n + 1) items) D
-framed_more {K = K} {V = V} c B C D items n item low at o before here =
-    subst (λ (xs : List (K × V)). IsFramedRun c B xs D) (sym (take_more items n item low ∙ ap (λ t. take n items ++ t ∷ []) at)) (IsFramedRun.accepted (take n items) item.0 item.1 o C D before here)
 
 -- the item whose insert failed: the table is full for its key
 pub refused_here : {K V : Type 0} (c : Coding K V) → IsFormat c.format → (P : Table) (items : List (K × V)) (n : ℕ) (B : List ℕ) → IsImage c.format P B → IsStoppedAt c items n B → IsRefusedAt c P items n

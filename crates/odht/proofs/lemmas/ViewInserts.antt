@@ -1,13 +1,13 @@
 -- An insert into the bytes of a table that cannot grow: what it leaves of a plain table, and when it is an error.
-use Rattle.std.proofs.Common.{◌≡◌, ◌≤◌, ◌<◌, ◌∙◌, ◌+◌, ◌-◌, ℕ, sym, ap, refl, subst, arith, List, [], ◌∷◌, length, length-drop, Option, Some, None, Result, Ok, Err, All}
+use Rattle.std.proofs.Common.{◌≡◌, ◌∙◌, ◌+◌, ◌-◌, ℕ, sym, ap, refl, subst, arith, List, [], ◌∷◌, length, Option, Some, None, Result, Ok, Err}
 use Rattle.std.specs.Prelude.{option_map, option_and_then, IfOk, OnErr}
 use Rattle.std.specs.Result.{result_map_both}
 use Rattle.std.proofs.lemmas.Option.{none-some}
-use Rattle.odht_base.specs.Format.{Format, IsFormat, entry_len}
+use Rattle.odht_base.specs.Format.{Format, IsFormat}
 use Rattle.odht_base.specs.Insert.{insert_view, IsFullFor}
 use Rattle.odht_base.specs.Load.{max_items}
 use Rattle.odht_base.specs.Map.{map_of}
-use Rattle.odht_base.specs.Table.{Pair, Table, count, slot_count}
+use Rattle.odht_base.specs.Table.{Table, count, slot_count}
 use Rattle.odht_base.specs.Valid.{IsImage, IsPartsOf}
 use Rattle.odht_base.specs.Decoded.{header_slots, header_count, header_factor, entries_of, controls_of, value_at}
 use Rattle.odht_base.proofs.lemmas.Fits.{IsSized-IsPlaced}

@@ -48,9 +48,6 @@ count_set (Some d ∷ cs) (suc i) p l = ap suc (count_set cs i p (omega arith)) 
     go true n = omega arith
     go false n = refl
 
-pub count_set_free : (cs : Cells) (i : ℕ) (p : Pair) → i < length cs → is_none (cell_at cs i) ≡ true → count_of (set cs i (Some p)) ≡ count_of cs + 1
-count_set_free cs i p l f = count_set cs i p l ∙ ap (λ b. if b then count_of cs + 1 else count_of cs) f
-
 -- in an occupied cell
 pub count_set_again : (cs : Cells) (x : ℕ) (p : Pair) → is_none (cell_at cs x) ≡ false → count_of (set cs x (Some p)) ≡ count_of cs
 count_set_again [] x p f = refl

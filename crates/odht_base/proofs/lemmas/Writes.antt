@@ -1,21 +1,17 @@
 -- The parts of cells, and the image of a table, after a cell is set.
-use Rattle.std.proofs.Common.{◌≡◌, ◌<◌, ◌≤◌, ◌∙◌, ◌+◌, ◌-◌, ◌*◌, ◌++◌, ℕ, zero, suc, Bool, true, false, cond, ltb, ltb-true, ltb-false, sym, ap, refl, List, [], ◌∷◌, Option, Some, None, is_none, map, take, drop, set, length, arith, length-append, length-set, append_assoc}
+use Rattle.std.proofs.Common.{◌≡◌, ◌<◌, ◌≤◌, ◌∙◌, ◌+◌, ◌-◌, ◌*◌, ◌++◌, ℕ, zero, suc, Bool, true, false, cond, ltb, ltb-true, ltb-false, sym, ap, refl, List, [], ◌∷◌, Option, Some, map, take, drop, set, length, arith, length-append, length-set, append_assoc}
 use Rattle.std.proofs.lemmas.List.{length-map, map-set, set-append_left, set-append_right, take-set-le}
-use Rattle.std.specs.List.{filter_map}
 use Rattle.std.proofs.Math.Seq.{take-set-lt}
 use Rattle.odht_base.specs.Bytes.{overwritten_at}
 use Rattle.odht_base.specs.Format.{Format, entry_len, tag}
-use Rattle.odht_base.specs.Image.{header_bytes, entry_bytes, control_byte, entries, controls, parts, image}
+use Rattle.odht_base.specs.Image.{header_bytes, entry_bytes, control_byte, entries, controls}
 use Rattle.odht_base.specs.Numbers.{le_bytes}
-use Rattle.odht_base.specs.Decoded.{header_slots, header_count}
-use Rattle.odht_base.specs.Table.{Pair, Table, Cells, cell_at, slot_count, count}
+use Rattle.odht_base.specs.Table.{Pair, Cells, cell_at}
 use Rattle.odht_base.specs.Writes.{tagged, with_value, with_entry, with_tag, with_pair, with_count}
 use Rattle.odht_base.proofs.lemmas.ByteRanges.{overwritten_at-between, overwritten_at-append_left, overwritten_at-append_right, length-overwritten_at}
-use Rattle.odht_base.proofs.lemmas.Counts.{count_set_free, count_set_again}
-use Rattle.odht_base.proofs.lemmas.Fits.{HasLengths, IsSized}
-use Rattle.odht_base.proofs.lemmas.Image.{header_slots-image, header_count-image}
+use Rattle.odht_base.proofs.lemmas.Fits.{HasLengths}
 use Rattle.odht_base.proofs.lemmas.Keys.{cell_at-within}
-use Rattle.odht_base.proofs.lemmas.Parts.{length-header_bytes, length-entry_bytes, length-entries, length-entries-take, length-controls, entries-split, entries-set}
+use Rattle.odht_base.proofs.lemmas.Parts.{length-entry_bytes, length-entries-take, length-controls, entries-split, entries-set}
 use Rattle.odht_base.proofs.lemmas.PartsOf.{slot_within}
 
 -- a pair written into a slot
@@ -97,36 +93,6 @@ controls-set_value F cs i p q g k = ap (λ t. t ++ take 16 t) (map-set (control_
     same (d ∷ ds) zero e = ap (λ t. t ∷ map (control_byte F) ds) (ap (tag F) (sym k) ∙ ap (control_byte F) (sym e))
     same (d ∷ ds) (suc j) e = ap (λ t. control_byte F d ∷ t) (same ds j e)
 
--- both parts, with a pair in a slot
-pub parts-set : (F : Format) (cs : Cells) (i : ℕ) (p : Pair) → HasLengths F cs → 16 ≤ length cs → i < length cs → length p.key ≡ F.key_len → length p.value ≡ F.value_len
-    → parts F (set cs i (Some p)) ≡ overwritten_at (entries F cs) (i * entry_len F) (p.key ++ p.value) ++ tagged (controls F cs) i (tag F p.key)
-parts-set F cs i p h enough lt k v =
-    ap (λ es. es ++ controls F (set cs i (Some p))) (sym (overwritten_at-entries F cs i p h lt k v))
-    ∙ ap (λ t. overwritten_at (entries F cs) (i * entry_len F) (p.key ++ p.value) ++ t) (sym (tagged-controls F cs i (Some p) enough lt))
-
--- both parts, with a value alone
-pub parts-set_value : (F : Format) (cs : Cells) (i : ℕ) (p q : Pair) → HasLengths F cs → cell_at cs i ≡ Some q → q.key ≡ p.key → length p.value ≡ F.value_len
-    → parts F (set cs i (Some p)) ≡ overwritten_at (entries F cs) (i * entry_len F + F.key_len) p.value ++ controls F cs
-parts-set_value F cs i p q h g k v =
-    ap (λ es. es ++ controls F (set cs i (Some p))) (sym (overwritten_at-entries_value F cs i p q h g k v))
-    ∙ ap (λ t. overwritten_at (entries F cs) (i * entry_len F + F.key_len) p.value ++ t) (controls-set_value F cs i p q g k)
-
--- the image after a pair in a free slot, as its header and its parts
-pub image-set_free : (F : Format) (P : Table) (i : ℕ) (p : Pair) → i < slot_count P → cell_at P.cells i ≡ None
-    → image F (record P { cells = set P.cells i (Some p) }) ≡ header_bytes F (slot_count P) (count P + 1) P.factor ++ parts F (set P.cells i (Some p))
-unfolding image
-image-set_free F P i p lt g =
-    ap (λ s. header_bytes F s (length (filter_map (λ c. c) (set P.cells i (Some p)))) P.factor ++ parts F (set P.cells i (Some p))) (length-set P.cells i (Some p))
-    ∙ ap (λ c. header_bytes F (slot_count P) c P.factor ++ parts F (set P.cells i (Some p))) (count_set_free P.cells i p lt (ap is_none g))
-
--- the image after a value, as its header and its parts
-pub image-set_occupied : (F : Format) (P : Table) (i : ℕ) (p q : Pair) → cell_at P.cells i ≡ Some q
-    → image F (record P { cells = set P.cells i (Some p) }) ≡ header_bytes F (slot_count P) (count P) P.factor ++ parts F (set P.cells i (Some p))
-unfolding image
-image-set_occupied F P i p q g =
-    ap (λ s. header_bytes F s (length (filter_map (λ c. c) (set P.cells i (Some p)))) P.factor ++ parts F (set P.cells i (Some p))) (length-set P.cells i (Some p))
-    ∙ ap (λ c. header_bytes F (slot_count P) c P.factor ++ parts F (set P.cells i (Some p))) (count_set_again P.cells i p (ap is_none g))
-
 -- a byte set behind two lists
 pub set-append_behind : (xs ys zs : List ℕ) (at i b : ℕ) → length xs + length ys + i ≡ at → set (xs ++ (ys ++ zs)) at b ≡ xs ++ (ys ++ set zs i b)
 set-append_behind xs ys zs at i b e =
@@ -192,34 +158,3 @@ with_pair-append F s H es cs i p h e n lt k v =
     let long : length (overwritten_at es (i * entry_len F) d) ≡ s * entry_len F = length-overwritten_at es (i * entry_len F) d inside ∙ e in
     ap (λ t. with_tag F s t i (tag F p.key)) (with_entry-append F s H es cs i p h e lt k v)
     ∙ with_tag-append F s H (overwritten_at es (i * entry_len F) d) cs i (tag F p.key) h long n
-
--- a value written into an image
-pub with_value-image : (F : Format) (P : Table) (i : ℕ) (p q : Pair) → IsSized F P → cell_at P.cells i ≡ Some q → q.key ≡ p.key → length p.value ≡ F.value_len
-    → with_value F (image F P) i p.value ≡ image F (record P { cells = set P.cells i (Some p) })
-unfolding image
-with_value-image F P i p q h g k v =
-    let H = header_bytes F (slot_count P) (count P) P.factor in
-    with_value-append F (slot_count P) H (entries F P.cells) (controls F P.cells) i p.value (length-header_bytes F (slot_count P) (count P) P.factor) (length-entries F P.cells h.lengths) (cell_at-within P.cells i q g) v
-    ∙ ap (λ t. H ++ t) (sym (parts-set_value F P.cells i p q h.lengths g k v))
-    ∙ sym (image-set_occupied F P i p q g)
-
--- a pair written into a free slot of an image, and counted
-pub with_pair-image : (F : Format) (P : Table) (i : ℕ) (p : Pair) → IsSized F P → i < slot_count P → cell_at P.cells i ≡ None → length p.key ≡ F.key_len → length p.value ≡ F.value_len
-    → with_count (with_pair F (slot_count P) (image F P) i p) (count P + 1) ≡ image F (record P { cells = set P.cells i (Some p) })
-unfolding image
-with_pair-image F P i p h lt g k v =
-    let H = header_bytes F (slot_count P) (count P) P.factor in
-    let X = overwritten_at (entries F P.cells) (i * entry_len F) (p.key ++ p.value) ++ tagged (controls F P.cells) i (tag F p.key) in
-    ap (λ t. with_count t (count P + 1))
-    (with_pair-append F (slot_count P) H (entries F P.cells) (controls F P.cells) i p (length-header_bytes F (slot_count P) (count P) P.factor) (length-entries F P.cells h.lengths) (length-controls F P.cells h.enough) lt k v)
-    ∙ with_count-append H X (count P + 1) (omega (arith, length-header_bytes F (slot_count P) (count P) P.factor))
-    ∙ ap (λ t. header_bytes F (slot_count P) (count P + 1) P.factor ++ t) (sym (parts-set F P.cells i p h.lengths h.enough lt k v))
-    ∙ sym (image-set_free F P i p lt g)
-
--- the same, with the counts of the image's header
-pub with_pair-image_header : (F : Format) (P : Table) (i : ℕ) (p : Pair) → IsSized F P → i < slot_count P → cell_at P.cells i ≡ None → length p.key ≡ F.key_len → length p.value ≡ F.value_len
-    → with_count (with_pair F (header_slots (image F P)) (image F P) i p) (header_count (image F P) + 1) ≡ image F (record P { cells = set P.cells i (Some p) })
-with_pair-image_header F P i p h lt g k v =
-    ap (λ s. with_count (with_pair F s (image F P) i p) (header_count (image F P) + 1)) (header_slots-image F P h)
-    ∙ ap (λ c. with_count (with_pair F (slot_count P) (image F P) i p) (c + 1)) (header_count-image F P h)
-    ∙ with_pair-image F P i p h lt g k v

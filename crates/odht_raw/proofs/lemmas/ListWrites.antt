@@ -130,10 +130,14 @@ module _ {K V : Type 0} (c : Coding K V) (B H es ctrl : List ℕ) (cut : IsCut c
   list_stopped all i refused = record {
     item = refused.item;
     at = refused.at;
-    framed = (Err Full, refl, subst (λ b. InsertFrame c.format b (encoded c refused.item.0 refused.item.1) (Err Full) b) now
-        (step_joined c.format H cut.head (omega (arith, small, most)) (encoded c refused.item.0 refused.item.1) (header_count B + n) es' ctrl' (Err Full) es' ctrl'
-        (λ o e. absurd (let both : Err Full ≡ Ok o = e in cc)) (omega (arith, counted, small, room)) (known.entries_len ∙ cut.long) (known.control_len ∙ cut.mirrored)
-        (subst (λ m. StepFrame c.format m es' ctrl' (encoded c refused.item.0 refused.item.1) (Err Full) es' ctrl') left refused.frame)));
+    framed = (
+      Err Full,
+      refl,
+      subst (λ b. InsertFrame c.format b (encoded c refused.item.0 refused.item.1) (Err Full) b) now
+          (step_joined c.format H cut.head (omega (arith, small, most)) (encoded c refused.item.0 refused.item.1) (header_count B + n) es' ctrl' (Err Full) es' ctrl'
+          (λ o e. absurd (let both : Err Full ≡ Ok o = e in cc)) (omega (arith, counted, small, room)) (known.entries_len ∙ cut.long) (known.control_len ∙ cut.mirrored)
+          (subst (λ m. StepFrame c.format m es' ctrl' (encoded c refused.item.0 refused.item.1) (Err Full) es' ctrl') left refused.frame)),
+    );
   }
     where
       left : header_maximum B - header_count B - n ≡ header_maximum H - (header_count B + n)

@@ -14,7 +14,7 @@ use Rattle.odht_raw.specs.Frame.{InsertFrame, IsFramed, header_maximum}
 use Rattle.odht_raw.specs.PartsInserts.{AnswersFormer, ArePartsPlaced}
 use Rattle.odht_raw.specs.Runs.{IsPartsRun, ArePartsOfRun, IsOnePlaced, count_after}
 use Rattle.odht_raw.specs.Steps.{StepFrame, IsStepFramed}
-use Rattle.odht_raw.proofs.lemmas.JoinedRuns.{joined, step_joined}
+use Rattle.odht_raw.proofs.lemmas.JoinedRuns.{step_joined}
 use Rattle.odht_raw.proofs.lemmas.ListWrites.{IsCut, cut-image, cut-maximum, joined-cut, kept-cut, list_placed}
 use Rattle.odht_raw.proofs.lemmas.PartRuns.{run_more, placed_more}
 use Rattle.odht_raw.proofs.lemmas.Steps.{step_accepted}
@@ -91,7 +91,7 @@ module _ {K V : Type 0} (c : Coding K V) (B H es ctrl : List ℕ) (cut : IsCut c
         let known = subst (λ (a : Result (Option W) Error). IfOk a (λ o. (o ≡ option_map f (map_of P p.key)) × ArePartsPlaced c.format P p es' ctrl')) ok answers in (
           ap (option_map decode) known.0 ∙ decoded (map_of P p.key),
           list_placed c.format B H es ctrl cut (cond (is_none old) (0 + 1) 0) H' es' ctrl' written room P is (p ∷ []) (All-cons (IsPairOf c.format) p [] fits (All-nil (IsPairOf c.format)))
-          (placed_more c.format P [] 0 es ctrl start p es' ctrl' f r old ok answers),
+              (placed_more c.format P [] 0 es ctrl start p es' ctrl' f r old ok answers),
         )
       where
         decoded : (m : Option (List ℕ)) → option_map decode (option_map f m) ≡ option_map c.value_of m

@@ -1,5 +1,5 @@
 -- Items inserted in turn into the parts of a table: one more item.
-use Rattle.std.proofs.Common.{◌≡◌, ◌<◌, ◌≤◌, ◌+◌, ◌-◌, ◌∙◌, ◌++◌, ℕ, Bool, true, false, not, cond, sym, ap, subst, refl, List, [], ◌∷◌, Option, Some, None, Result, Ok, Err, take, drop, length, slice_get, All, arith, length-drop, length-take, min, get_or, get_or-drop}
+use Rattle.std.proofs.Common.{◌≡◌, ◌<◌, ◌≤◌, ◌+◌, ◌-◌, ◌∙◌, ◌++◌, ℕ, Bool, true, false, not, cond, sym, ap, subst, refl, List, [], ◌∷◌, Option, Some, None, Result, Ok, Err, take, drop, length, slice_get, All, arith, length-drop, get_or, get_or-drop}
 use Rattle.std.proofs.Math.Seq.{take-add}
 use Rattle.std.proofs.lemmas.List.{take_more, map-append}
 use Rattle.std.proofs.lemmas.List.Elements.{All-append, All-cons, All-nil}
@@ -40,10 +40,6 @@ range_more xs a n x from low at =
     let long : n - a < length (drop a xs) = omega (arith, length-drop a xs) in
     let here : get_or (drop a xs) (n - a) x ≡ x = get_or-drop a xs (n - a) x ∙ ap (λ i. get_or xs i x) there ∙ read_item xs n x low at in
     ap (λ m. take m (drop a xs)) more ∙ take_more (drop a xs) (n - a) x long ∙ ap (λ y. take (n - a) (drop a xs) ++ y ∷ []) here
-
--- the length of a piece
-pub length-range : {X : Type 0} (xs : List X) (a b : ℕ) → length (slice_range xs a b) ≡ min (b - a) (length xs - a)
-length-range xs a b = length-take (b - a) (drop a xs) ∙ ap (min (b - a)) (length-drop a xs)
 
 -- no items
 pub range_none : {X : Type 0} (xs : List X) (a : ℕ) → slice_range xs a a ≡ []

@@ -1,6 +1,6 @@
 -- One insert with room for so many new entries.
-use Rattle.std.proofs.Common.{◌≡◌, ◌<◌, ◌≤◌, ◌+◌, ◌-◌, ◌∙◌, ℕ, true, true≢false, inl, inr, sym, ap, subst, refl, arith, List, [], length, slice_index, Option, Some, None, Result, Ok, Err}
-use Rattle.std.specs.Prelude.{option_map, is_none, ◌⊎◌, ◌↔◌}
+use Rattle.std.proofs.Common.{◌≡◌, ◌<◌, ◌+◌, ◌-◌, ◌∙◌, ℕ, true, true≢false, inl, inr, sym, ap, subst, refl, arith, List, [], length, slice_index, Option, Some, None, Result, Ok, Err}
+use Rattle.std.specs.Prelude.{option_map, is_none, ◌↔◌}
 use Rattle.std.specs.Result.{result_map_both}
 use Rattle.std.proofs.lemmas.Bool.{cases_order}
 use Rattle.std.proofs.lemmas.Option.{none-some}
@@ -9,9 +9,9 @@ use Rattle.odht_base.specs.Image.{control_byte}
 use Rattle.odht_base.specs.Insert.{place}
 use Rattle.odht_base.specs.Map.{map_of}
 use Rattle.odht_base.specs.Probe.{probe_slot}
-use Rattle.odht_base.specs.Decoded.{slot_key, slot_value}
+use Rattle.odht_base.specs.Decoded.{slot_value}
 use Rattle.odht_base.specs.Table.{Pair, Table, slot_count, cell_at, is_free, count}
-use Rattle.odht_base.specs.Valid.{IsPartsOf, IsReached, IsFullWithout}
+use Rattle.odht_base.specs.Valid.{IsPartsOf, IsReached}
 use Rattle.odht_base.proofs.lemmas.Counts.{free_cell}
 use Rattle.odht_base.proofs.lemmas.Orders.{probe_slot-lt}
 use Rattle.odht_base.proofs.lemmas.Pairs.{value_in-Some}

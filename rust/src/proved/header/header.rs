@@ -39,8 +39,9 @@ const LOAD_FACTOR_AT: usize = 28;
 const PADDING_AT: usize = 30;
 // How many bytes a control byte takes.
 const METADATA_SIZE: usize = 1;
-// The load factor of one percent, which is the least.
-const LEAST_FACTOR: u16 = 655;
+
+/// The load factor of one percent in 65536ths, rounded down, which is the least.
+pub const LEAST_FACTOR: u16 = 655;
 
 /// A reader of a table's header, field by field, at any alignment.
 pub struct Header<'a> {

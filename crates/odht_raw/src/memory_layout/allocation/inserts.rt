@@ -174,8 +174,9 @@ fn room_of(header: &Header<'_>) -> usize
     ensures room { result ≡ header_maximum header.now - header_count header.now }
     ensures maximum { header_maximum header.now ≤ usize.MAX }
 {
-    max_item_count_for(header.slot_count(), header.max_load_factor())
-        .saturating_sub(header.item_count())
+    max_item_count_for(header.slot_count(), header.max_load_factor()).saturating_sub(
+        header.item_count(),
+    )
 }
 
 // Writes the item count of a header.

@@ -4,10 +4,7 @@
 use crate::erased::calls::read::view;
 use crate::erased::calls::status::{status_of, CAPACITY, LOAD_FACTOR_TOO_SMALL, OK, TOO_SMALL};
 use crate::proved::tables::config::Config;
-use crate::proved::tables::memory_layout::Header;
-
-// One percent in 65536ths, rounded down: the least load factor.
-const LEAST_FACTOR: u16 = 655;
+use crate::proved::tables::memory_layout::{Header, LEAST_FACTOR};
 
 /// Writes the table that the one in `bytes` grows into to the front of `out`, and its length in bytes to `len`.
 /// TOO_SMALL leaves `out` unchanged, any other error leaves both unchanged.

@@ -1,4 +1,4 @@
-use Rattle.std.proofs.Common.{◌≡◌, ◌<◌, ◌≤◌, refl, subst, take, length, List, arith, inl, inr}
+use Rattle.std.proofs.Common.{◌<◌, refl, subst, take, length, List, arith, inl, inr}
 use Rattle.std.proofs.lemmas.Bool.{false≢true}
 use Rattle.std.specs.List.{slice_range}
 use Rattle.odht_base.specs.Format.{IsFormat}

@@ -1,4 +1,4 @@
-use Rattle.std.proofs.Common.{◌≡◌, ◌+◌, ◌-◌, ◌<◌, ◌∙◌, ℕ, List, get_or, inl, inr, sym, ap, subst, refl, cond, arith, length}
+use Rattle.std.proofs.Common.{◌≡◌, ◌+◌, ◌-◌, ◌<◌, ◌∙◌, ℕ, get_or, inl, inr, sym, ap, subst, refl, cond, arith, length}
 use Rattle.std.specs.Prelude.{is_none}
 use Rattle.std.specs.List.{slice_range}
 use Rattle.std.proofs.lemmas.Option.{slice_get-get_or}

@@ -1,4 +1,4 @@
-use Rattle.std.proofs.Common.{◌≡◌, ◌+◌, ◌-◌, ◌∙◌, ℕ, List, inl, inr, arith, length}
+use Rattle.std.proofs.Common.{◌≡◌, ◌+◌, ◌-◌, inl, inr, arith}
 use Rattle.odht_header.specs.Coding.{Coding, coding_of}
 use Rattle.odht_raw.proofs.lemmas.PartRuns.{refused_room, run_to_none, run_to_then}
 use Rattle.odht_raw.proofs.raw_table.runs.insert_in_batches.Given.{Over}

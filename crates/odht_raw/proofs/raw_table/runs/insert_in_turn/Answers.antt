@@ -1,4 +1,4 @@
-use Rattle.std.proofs.Common.{◌≡◌, ◌+◌, ◌-◌, ◌<◌, ◌∙◌, ℕ, List, inl, inr, sym, ap, subst, cond, arith, length}
+use Rattle.std.proofs.Common.{◌≡◌, ◌+◌, ◌-◌, ◌<◌, ◌∙◌, ℕ, inl, inr, sym, ap, subst, cond, arith, length}
 use Rattle.std.specs.Prelude.{is_none}
 use Rattle.odht_base.specs.Table.{Pair}
 use Rattle.odht_base.specs.Valid.{IsPairOf}

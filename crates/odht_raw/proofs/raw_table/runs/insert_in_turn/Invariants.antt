@@ -1,4 +1,3 @@
-use Rattle.std.proofs.Common.{◌≡◌}
 use Rattle.odht_header.specs.Coding.{coding_of}
 use Rattle.odht_raw.specs.Runs.{IsRunTo}
 use Rattle.odht_raw.proofs.raw_table.runs.insert_in_turn.Given as goal

@@ -1,4 +1,4 @@
-use Rattle.std.proofs.Common.{◌≡◌, ◌<◌, ◌≤◌, ◌+◌, ◌-◌, ◌*◌, ◌^◌, ◌∙◌, ℕ, List, [], ◌∷◌, length, Some, None, Result, Option, Ok, sym, ap, subst, refl, arith}
+use Rattle.std.proofs.Common.{◌≡◌, ◌<◌, ◌+◌, ◌-◌, ◌*◌, ◌^◌, ◌∙◌, ℕ, List, [], ◌∷◌, length, Some, None, Ok, sym, ap, subst, refl, arith}
 use Rattle.odht_base.specs.Format.{Format, format_of, entry_len}
 use Rattle.odht_base.specs.Load.{IsSlotCount}
 use Rattle.odht_base.specs.Decoded.{header_slots, header_count}
@@ -6,8 +6,7 @@ use Rattle.odht_base.specs.Table.{Pair, Table}
 use Rattle.odht_base.specs.Valid.{IsImage, IsPairOf}
 use Rattle.odht_base.specs.Writes.{with_count}
 use Rattle.odht_header.specs.Coding.{Coding, coding_of, encoded}
-use Rattle.odht_header.specs.declared.error.Error.{Error}
-use Rattle.odht_raw.specs.Frame.{IsAccepted, header_maximum}
+use Rattle.odht_raw.specs.Frame.{header_maximum}
 use Rattle.odht_raw.specs.PartsInserts.{AnswersFormer}
 use Rattle.odht_raw.specs.Runs.{IsPartsRun}
 use Rattle.odht_raw.specs.Steps.{IsStepFramed}

@@ -1,4 +1,4 @@
-use Rattle.std.proofs.Common.{◌≡◌, ◌<◌, ◌≤◌, ◌+◌, ◌-◌, ◌*◌, ◌^◌, ◌∙◌, ℕ, List, length, inl, inr, sym, ap, subst, arith}
+use Rattle.std.proofs.Common.{◌≡◌, ◌<◌, ◌≤◌, ◌+◌, ◌-◌, ◌*◌, ◌^◌, ◌∙◌, List, length, inl, inr, sym, ap, subst, arith}
 use Rattle.std.specs.List.{slice_range}
 use Rattle.odht_base.specs.Format.{Format, format_of, entry_len}
 use Rattle.odht_base.specs.Load.{IsSlotCount}
@@ -110,6 +110,6 @@ returns-clause-run g c =
       stopped = elim run.ensures.stop [
         | inl e ↦ inl e
         | inr refused ↦ inr (list_stopped K c.args.bytes.now _ _ _ cut (inserted g w) n _ _ _ (written g w) run.ensures.inserted.run (left g w) (counted g w) (small g w) items run.result.0
-          (subst (λ m. IsRefusedIn K (m - n) items run.result.0 run.new.entries run.new.control) (room_is g w) refused))
+            (subst (λ m. IsRefusedIn K (m - n) items run.result.0 run.new.entries run.new.control) (room_is g w) refused))
       ];
     }
