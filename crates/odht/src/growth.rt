@@ -1,5 +1,6 @@
 //! Growth: a table with the slots for twice as many items, written into larger bytes.
-ghost use Rattle.std.specs.Prelude.{◌≡◌, ◌++◌, ◌+◌, ◌-◌, ◌*◌, ◌≤◌, max, All, Some, None, MatchOption, length, map, replicate, take};
+ghost use Rattle.std.specs.Prelude.{◌≡◌, ◌++◌, ◌+◌, ◌-◌, ◌*◌, ◌≤◌, max, All, Some, None};
+ghost use Rattle.std.specs.Prelude.{MatchOption, length, map, replicate, take};
 ghost use Rattle.odht_base.specs.Bytes.{bytes_at};
 ghost use Rattle.odht_base.specs.Format.{entry_len, format_of};
 ghost use Rattle.odht_base.specs.Image.{header_bytes, image_len, parts};
@@ -49,7 +50,8 @@ impl<C: Config, D: ByteStore> HashTable<C, D> {
     /// On any bytes the new header has the item count and the load factor of this one. The pairs of the walk are then
     /// placed as long as a slot is free, which no clause says.
     pub fn grow_into(&self, out: &mut [u8])
-        requires { grown_len ⟦<C as Coded>⟧.coding.format (D.bytes self.now) ≡ Some (length out.old) }
+        requires { grown_len ⟦<C as Coded>⟧.coding.format (D.bytes self.now)
+            ≡ Some (length out.old) }
         ensures on_valid { let F = ⟦<C as Coded>⟧.coding.format
             in (P : Table)
             → IsImage F P (D.bytes self.now)
@@ -125,7 +127,10 @@ fn write_table<C: Config>(
         in bytes_at bytes.old 32 n ≡ replicate n 0 }
     ensures placed { let F = ⟦<C as Coded>⟧.coding.format
         in let f = max_load_factor.0
-        in let pairs = map (λ x. record { key = C.EncodedKey.bytes x.1.key; value = C.EncodedValue.bytes x.1.value })
+        in let pairs = map (λ x. record {
+          key = C.EncodedKey.bytes x.1.key;
+          value = C.EncodedValue.bytes x.1.value;
+        })
         walk.entry
         in (Q : Table)
         → KeysApart pairs
@@ -154,7 +159,8 @@ fn insert_walk<K: ByteArray, V: ByteArray, H: HashFn>(
     requires key { K.LEN ≤ 255 }
     requires value { V.LEN ≤ 255 }
     ensures { let F = format_of K.LEN V.LEN H.hash
-        in let pairs = map (λ x. record { key = K.bytes x.1.key; value = V.bytes x.1.value }) walk.entry
+        in let pairs = map
+        (λ x. record { key = K.bytes x.1.key; value = V.bytes x.1.value }) walk.entry
         in (P Q : Table)
         → IsPartsOf F P entries.old control.old
         → KeysApart pairs

@@ -1,5 +1,6 @@
 //! The table over bytes of any kind.
-ghost use Rattle.std.specs.Prelude.{◌≡◌, ℕ, ◌/◌, ◌≤◌, ◌↔◌, length, map, IfOk, IfSome, IsOk, IsSome, IsNone, IsTrue, OnErr, OnOk};
+ghost use Rattle.std.specs.Prelude.{◌≡◌, ℕ, ◌/◌, ◌≤◌, ◌↔◌, length, map, IfOk, IfSome, IsOk, IsSome};
+ghost use Rattle.std.specs.Prelude.{IsNone, IsTrue, OnErr, OnOk};
 ghost use Rattle.std.specs.Result.{result_err};
 ghost use Rattle.odht_base.specs.Load.{factor_of, slots_for};
 ghost use Rattle.odht_base.specs.Image.{image_len};
@@ -7,14 +8,16 @@ ghost use Rattle.odht_base.specs.Table.{Table, walk, count};
 ghost use Rattle.odht_base.specs.Map.{map_of};
 ghost use Rattle.odht_base.specs.Insert.{insert_view, IsFullFor};
 ghost use Rattle.odht_base.specs.Search.{groups_read};
-ghost use Rattle.odht_base.specs.Decoded.{header_count, header_slots, entries_of, controls_of, decoded_pairs, HoldsKey};
+ghost use Rattle.odht_base.specs.Decoded.{header_count, header_slots, entries_of, controls_of};
+ghost use Rattle.odht_base.specs.Decoded.{decoded_pairs, HoldsKey};
 ghost use Rattle.odht_base.specs.Valid.{IsImage, IsPartsOf, IsValidBytes};
 ghost use Rattle.odht_header.specs.Coding.{value_for, HasStored};
 ghost use Rattle.odht.specs.Inserts.{IsFresh, IsInserted};
 ghost use Rattle.odht.specs.Lookups.{HaveStored};
 ghost use Rattle.odht_raw.specs.Frame.{IsAccepted, IsFramed};
 ghost use Rattle.odht_raw.specs.Walks.{decoded_all};
-ghost use Rattle.odht_header.specs.Refusals.{IsTooLarge, new_refusal, opening_refusal, view_refusal};
+ghost use Rattle.odht_header.specs.Refusals.{IsTooLarge, new_refusal, opening_refusal};
+ghost use Rattle.odht_header.specs.Refusals.{view_refusal};
 
 use crate::bytes::{ByteStore, ByteStoreMut};
 use crate::config::{Coded, Config};
@@ -39,7 +42,8 @@ pub fn bytes_needed<C: Config>(max_item_count: usize, max_load_factor_percent: u
     requires high { max_load_factor_percent ≤ 100 }
     ensures len { let F = ⟦<C as Coded>⟧.coding.format
         in let f = factor_of max_load_factor_percent
-        in IfSome result (λ len. (s : ℕ) × (slots_for max_item_count f ≡ Some s) × (len ≡ image_len F s)) }
+        in IfSome result
+        (λ len. (s : ℕ) × (slots_for max_item_count f ≡ Some s) × (len ≡ image_len F s)) }
     ensures none { let F = ⟦<C as Coded>⟧.coding.format
         in IsNone result ↔ IsTooLarge F max_item_count (factor_of max_load_factor_percent) }
 {
@@ -72,8 +76,10 @@ impl<C: Config, D: ByteStore> HashTable<C, D> {
     #[inline(always)]
     pub fn from_raw_bytes(data: D) -> Result<Self, Error>
         ensures ok { IfOk result (λ t. t ≡ «data») }
-        ensures err { result_err result ≡ view_refusal ⟦<C as Coded>⟧.coding.format (D.bytes «data») }
-        ensures valid { (P : Table) → IsImage ⟦<C as Coded>⟧.coding.format P (D.bytes «data») → IsOk result }
+        ensures err { result_err result
+            ≡ view_refusal ⟦<C as Coded>⟧.coding.format (D.bytes «data») }
+        ensures valid { (P : Table) → IsImage ⟦<C as Coded>⟧.coding.format P (D.bytes «data»)
+            → IsOk result }
     {
         let allocation = Allocation::from_raw_bytes(data)?;
         Ok(HashTable { allocation })
@@ -88,7 +94,8 @@ impl<C: Config, D: ByteStore> HashTable<C, D> {
     #[inline(always)]
     pub fn from_raw_bytes_by_header(data: D) -> Result<Self, Error>
         ensures ok { IfOk result (λ t. t ≡ «data») }
-        ensures err { result_err result ≡ opening_refusal ⟦<C as Coded>⟧.coding.format (D.bytes «data») }
+        ensures err { result_err result
+            ≡ opening_refusal ⟦<C as Coded>⟧.coding.format (D.bytes «data») }
     {
         let allocation = Allocation::from_raw_bytes_by_header(data)?;
         Ok(HashTable { allocation })
@@ -112,7 +119,8 @@ impl<C: Config, D: ByteStore> HashTable<C, D> {
         ensures on_valid { (P : Table)
             → IsImage ⟦<C as Coded>⟧.coding.format P (D.bytes self.now)
             → result ≡ value_for ⟦<C as Coded>⟧.coding P key.now }
-        ensures on_any { IfSome result (λ v. HasStored ⟦<C as Coded>⟧.coding (D.bytes self.now) key.now v) }
+        ensures on_any { IfSome result
+            (λ v. HasStored ⟦<C as Coded>⟧.coding (D.bytes self.now) key.now v) }
     {
         self.get_by::<GroupQuery>(key)
     }
@@ -146,7 +154,8 @@ impl<C: Config, D: ByteStore> HashTable<C, D> {
             in (P : Table)
             → IsImage c.format P (D.bytes self.now)
             → result.1 ≡ groups_read c.format P.cells (c.key_bytes key.now) }
-        ensures on_any { IfSome result.0 (λ v. HasStored ⟦<C as Coded>⟧.coding (D.bytes self.now) key.now v) }
+        ensures on_any { IfSome result.0
+            (λ v. HasStored ⟦<C as Coded>⟧.coding (D.bytes self.now) key.now v) }
         ensures few { result.1 ≤ header_slots (D.bytes self.now) / 16 }
     {
         self.get_counted_by::<GroupQuery>(key)
@@ -224,8 +233,10 @@ impl<C: Config, D: ByteStore> HashTable<C, D> {
     /// The raw table of these bytes. A caller that looks up many keys calls this once.
     #[inline]
     pub fn as_raw(&self) -> RawTable<'_, C::EncodedKey, C::EncodedValue, C::H>
-        ensures control { result.control ≡ controls_of ⟦<C as Coded>⟧.coding.format (D.bytes self.now) }
-        ensures entries { result.entries.bytes ≡ entries_of ⟦<C as Coded>⟧.coding.format (D.bytes self.now) }
+        ensures control { result.control
+            ≡ controls_of ⟦<C as Coded>⟧.coding.format (D.bytes self.now) }
+        ensures entries { result.entries.bytes
+            ≡ entries_of ⟦<C as Coded>⟧.coding.format (D.bytes self.now) }
         ensures slots { result.entries.slots ≡ header_slots (D.bytes self.now) }
         ensures parts { (P : Table)
             → IsImage ⟦<C as Coded>⟧.coding.format P (D.bytes self.now)
@@ -332,7 +343,8 @@ impl<C: Config, D: ByteStoreMut> HashTable<C, D> {
         ensures ok { let c = ⟦<C as Coded>⟧.coding
             in (P : Table)
             → IsImage c.format P (D.bytes self.old)
-            → IfOk result (λ old. IsInserted c (insert_view c.format) P key.now value.now old (D.bytes self.new)) }
+            → IfOk result (λ old. IsInserted c (insert_view c.format) P key.now value.now old
+            (D.bytes self.new)) }
         ensures full { let c = ⟦<C as Coded>⟧.coding
             in (P : Table)
             → IsImage c.format P (D.bytes self.old)

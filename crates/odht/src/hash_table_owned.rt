@@ -1,5 +1,6 @@
 //! The table that owns its bytes, and grows.
-ghost use Rattle.std.specs.Prelude.{◌≡◌, ℕ, List, ◌≤◌, ◌↔◌, ◌⊎◌, Some, length, IfOk, IsSome, IsTrue, IsErrOf, OnErr};
+ghost use Rattle.std.specs.Prelude.{◌≡◌, ℕ, List, ◌≤◌, ◌↔◌, ◌⊎◌, Some, length, IfOk, IsSome};
+ghost use Rattle.std.specs.Prelude.{IsTrue, IsErrOf, OnErr};
 ghost use Rattle.odht_base.specs.Load.{factor_of, slots_for};
 ghost use Rattle.odht_base.specs.Table.{Table, walk, count, empty};
 ghost use Rattle.odht_base.specs.Map.{map_of};
@@ -48,7 +49,8 @@ impl<C: Config> Model for HashTableOwned<C> {
 
     ghost view = { λ t. t.table };
 
-    ghost invariant = { λ t. IsValidBytes (format_of C.EncodedKey.LEN C.EncodedValue.LEN C.H.hash) t.table };
+    ghost invariant = { λ t. IsValidBytes
+        (format_of C.EncodedKey.LEN C.EncodedValue.LEN C.H.hash) t.table };
 }
 
 impl<C: Config> HashTableOwned<C> {
@@ -64,10 +66,13 @@ impl<C: Config> HashTableOwned<C> {
     ) -> Result<Self, Error>
         requires low { 1 ≤ max_load_factor_percent }
         requires high { max_load_factor_percent ≤ 100 }
-        ensures ok { IfOk result (IsFresh ⟦<C as Coded>⟧.coding.format max_item_count max_load_factor_percent) }
+        ensures ok { IfOk result
+            (IsFresh ⟦<C as Coded>⟧.coding.format max_item_count max_load_factor_percent) }
         ensures capacity { let F = ⟦<C as Coded>⟧.coding.format
-            in (result ≡ Err Error.Capacity) ↔ IsTooLarge F max_item_count (factor_of max_load_factor_percent) }
-        ensures memory { OnErr result ((result ≡ Err Error.Capacity) ⊎ (result ≡ Err Error.Memory)) }
+            in (result ≡ Err Error.Capacity)
+            ↔ IsTooLarge F max_item_count (factor_of max_load_factor_percent) }
+        ensures memory { OnErr result
+            ((result ≡ Err Error.Capacity) ⊎ (result ≡ Err Error.Memory)) }
     {
         let factor = Factor::from_percent(max_load_factor_percent);
         let table = empty_table(alloc, max_item_count, factor)?;
@@ -104,8 +109,10 @@ impl<C: Config> HashTableOwned<C> {
             × IsFreshAfterInserts ⟦<C as Coded>⟧.coding max_load_factor_percent xs t) }
         ensures capacity { IsErrOf result Error.Capacity → (xs : List (C.Key × C.Value))
             × Drains I.next_gives items xs
-            × IsTooLarge ⟦<C as Coded>⟧.coding.format (length xs) (factor_of max_load_factor_percent) }
-        ensures memory { OnErr result ((result ≡ Err Error.Capacity) ⊎ (result ≡ Err Error.Memory)) }
+            × IsTooLarge ⟦<C as Coded>⟧.coding.format (length xs)
+            (factor_of max_load_factor_percent) }
+        ensures memory { OnErr result
+            ((result ≡ Err Error.Capacity) ⊎ (result ≡ Err Error.Memory)) }
     {
         let items: Vec<(C::Key, C::Value)> = items.collect(alloc)?;
         let mut table = Self::with_capacity(alloc, items.len(), max_load_factor_percent)?;
@@ -231,7 +238,8 @@ impl<C: Config> HashTableOwned<C> {
         ensures ok { let c = ⟦<C as Coded>⟧.coding
             in (P : Table)
             → IsImage c.format P self.old
-            → IfOk result (λ old. IsInserted c (insert_owned c.format) P key.now value.now old self.new) }
+            → IfOk result
+            (λ old. IsInserted c (insert_owned c.format) P key.now value.now old self.new) }
         ensures at_maximum { let c = ⟦<C as Coded>⟧.coding
             in (P : Table)
             → IsImage c.format P self.old
@@ -253,7 +261,8 @@ impl<C: Config> HashTableOwned<C> {
             in (P : Table)
             → IsImage c.format P self.old
             → IsFullFor P (c.key_bytes key.now)
-            → IfOk result (λ old. IsInserted c (insert_owned c.format) P key.now value.now old self.new) }
+            → IfOk result
+            (λ old. IsInserted c (insert_owned c.format) P key.now value.now old self.new) }
         ensures memory { OnErr result (result ≡ Err Error.Memory) }
         ensures refused { OnErr result (self.new ≡ self.old) }
     {
@@ -294,7 +303,8 @@ fn empty_table<C: Config>(
     requires low { 655 ≤ max_load_factor.0 }
     ensures ok { let F = ⟦<C as Coded>⟧.coding.format
         in let f = max_load_factor.0
-        in IfOk result (λ t. (s : ℕ) × (slots_for max_item_count f ≡ Some s) × IsImage F (empty s f) t) }
+        in IfOk result
+        (λ t. (s : ℕ) × (slots_for max_item_count f ≡ Some s) × IsImage F (empty s f) t) }
     ensures capacity { let F = ⟦<C as Coded>⟧.coding.format
         in (result ≡ Err Error.Capacity) ↔ IsTooLarge F max_item_count max_load_factor.0 }
     ensures memory { OnErr result ((result ≡ Err Error.Capacity) ⊎ (result ≡ Err Error.Memory)) }

@@ -70,7 +70,8 @@ pub fn built_from_empty<C: Lossless>(
     requires high { max_load_factor_percent ≤ 100 }
     ensures ok { IfOk result (λ value. IsLastValue items.now key.now value) }
     ensures capacity { let F = ⟦<C as Coded>⟧.coding.format
-        in (result ≡ Err Error.Capacity) ↔ IsTooLarge F (length items.now) (factor_of max_load_factor_percent) }
+        in (result ≡ Err Error.Capacity)
+        ↔ IsTooLarge F (length items.now) (factor_of max_load_factor_percent) }
     ensures memory { OnErr result ((result ≡ Err Error.Capacity) ⊎ (result ≡ Err Error.Memory)) }
 {
     let mut table: HashTableOwned<C> = HashTableOwned::with_capacity(
@@ -103,7 +104,8 @@ pub fn rebuilt<C: Config>(
         → IsNewSizeOf P max_item_count max_load_factor_percent
         → IfOk result (IsImage c.format P) }
     ensures capacity { let F = ⟦<C as Coded>⟧.coding.format
-        in (result ≡ Err Error.Capacity) ↔ IsTooLarge F max_item_count (factor_of max_load_factor_percent) }
+        in (result ≡ Err Error.Capacity)
+        ↔ IsTooLarge F max_item_count (factor_of max_load_factor_percent) }
     ensures memory { OnErr result ((result ≡ Err Error.Capacity) ⊎ (result ≡ Err Error.Memory)) }
 {
     let mut rebuilt: HashTableOwned<C> = HashTableOwned::with_capacity(

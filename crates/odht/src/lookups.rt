@@ -163,7 +163,8 @@ fn find_at<C: Config>(
 ) -> Option<C::Value>
     requires index { index < length keys.now }
     requires look { IsLookAt ⟦<C as Coded>⟧.coding raw.now keys.now index look }
-    ensures { (k : C.Key) → slice_get keys.now index ≡ Some k → IsLookup ⟦<C as Coded>⟧.coding raw.now k result }
+    ensures { (k : C.Key) → slice_get keys.now index ≡ Some k
+        → IsLookup ⟦<C as Coded>⟧.coding raw.now k result }
 {
     let key = C::encode_key(&keys[index]);
     match raw.find_from(look, &key) {

@@ -2,7 +2,9 @@
 //! the law.
 //!
 //! They hold for every format `F`: every pair of lengths up to 255 and every hash of 32 bits.
-ghost use Rattle.std.specs.Prelude.{◌≡◌, ℕ, ◌+◌, ◌*◌, ◌%◌, ◌<◌, ◌≤◌, ◌^◌, ◌++◌, ◌↔◌, List, [], ◌∷◌, length, drop, map, All, Some, IsTrue, IsPermutation, bytes_eq, if◌then◌else◌};
+ghost use Rattle.std.specs.Prelude.{◌≡◌, ℕ, ◌+◌, ◌*◌, ◌%◌, ◌<◌, ◌≤◌, ◌^◌, ◌++◌, ◌↔◌, List, [], ◌∷◌};
+ghost use Rattle.std.specs.Prelude.{length, drop, map, All, Some, IsTrue, IsPermutation, bytes_eq};
+ghost use Rattle.std.specs.Prelude.{if◌then◌else◌};
 ghost use Rattle.std.specs.List.{range_with_len};
 ghost use Rattle.odht_base.specs.Numbers.{num, le_bytes, IsBytes};
 ghost use Rattle.odht_base.specs.Load.{IsSlotCount};
@@ -11,7 +13,8 @@ ghost use Rattle.odht_base.specs.Probe.{probe_slot, order};
 ghost use Rattle.odht_base.specs.Table.{Pair, Table, slot_count, is_free, walk, empty, fresh};
 ghost use Rattle.odht_base.specs.SlotWalks.{walk_from, slots_from};
 ghost use Rattle.odht_base.specs.Map.{map_of, last, overwritten, KeysApart};
-ghost use Rattle.odht_base.specs.CountRule.{insert_owned_by_count, insert_view_by_count, NoneOverwritesFull};
+ghost use Rattle.odht_base.specs.CountRule.{insert_owned_by_count, insert_view_by_count};
+ghost use Rattle.odht_base.specs.CountRule.{NoneOverwritesFull};
 ghost use Rattle.odht_base.specs.Insert.{place, grown, run, insert_owned, insert_view};
 ghost use Rattle.odht_base.specs.Image.{image, image_len};
 ghost use Rattle.odht_base.specs.Made.{IsMade, IsInsertOrder, pairs_of};
@@ -27,23 +30,29 @@ pub fn numbers_are_their_bytes()
 /// The probe order from any home lists each slot exactly once; position `16 * j + i` of it is slot
 /// `(b + 8 * j * (j + 1) + i) mod s`.
 pub fn orders_list_each_slot_once()
-    ensures slot { (b s j i : ℕ) → i < 16 → probe_slot b s (16 * j + i) ≡ (b + 8 * j * (j + 1) + i) % s }
+    ensures slot { (b s j i : ℕ) → i < 16
+        → probe_slot b s (16 * j + i) ≡ (b + 8 * j * (j + 1) + i) % s }
     ensures each_once { (b s : ℕ) → IsSlotCount s → IsPermutation (order b s) (range_with_len 0 s) }
 {}
 
 /// The image of a valid table has the length of its slot count and decodes to the table, so different valid tables
 /// have different images.
 pub fn images_determine_tables()
-    ensures len { (F : Format) (P : Table) → IsValid F P → length (image F P) ≡ image_len F (slot_count P) }
-    ensures decoded { (F : Format) (P : Table) → IsFormat F → IsValid F P → decoded_table F (image F P) ≡ P }
-    ensures one { (F : Format) (P Q : Table) → IsFormat F → IsValid F P → IsValid F Q → image F P ≡ image F Q → P ≡ Q }
+    ensures len { (F : Format) (P : Table) → IsValid F P
+        → length (image F P) ≡ image_len F (slot_count P) }
+    ensures decoded { (F : Format) (P : Table) → IsFormat F → IsValid F P
+        → decoded_table F (image F P) ≡ P }
+    ensures one { (F : Format) (P Q : Table) → IsFormat F → IsValid F P → IsValid F Q
+        → image F P ≡ image F Q → P ≡ Q }
 {}
 
 /// A valid table has a free slot, so any pair can be placed in it. A fresh table for `n` items accepts its first `n`
 /// items, by either insert, without growth or error.
 pub fn valid_tables_have_room()
-    ensures free { (F : Format) (P : Table) → IsValid F P → (i : ℕ) × (i < slot_count P) × IsTrue (is_free P.cells i) }
-    ensures takes { (F : Format) (P : Table) (p : Pair) → IsValid F P → (Q : Table) × (place F P p ≡ Some Q) }
+    ensures free { (F : Format) (P : Table) → IsValid F P → (i : ℕ) × (i < slot_count P)
+        × IsTrue (is_free P.cells i) }
+    ensures takes { (F : Format) (P : Table) (p : Pair) → IsValid F P → (Q : Table)
+        × (place F P p ≡ Some Q) }
     ensures owned { (F : Format) (n p : ℕ) (P : Table) (ps : List Pair)
         → 1 ≤ p → p ≤ 100 → fresh n p ≡ Some P → All (IsPairOf F) ps → length ps ≤ n
         → (Q : Table) × (run (insert_owned F) P ps ≡ Some Q) × (slot_count Q ≡ slot_count P) }
@@ -74,8 +83,10 @@ pub fn placing_changes_one_key()
 /// A growth keeps a table valid, with the same pairs and the same map.
 pub fn growth_keeps_the_map()
     ensures valid { (F : Format) (P Q : Table) → IsValid F P → grown F P ≡ Some Q → IsValid F Q }
-    ensures pairs { (F : Format) (P Q : Table) → IsValid F P → grown F P ≡ Some Q → IsPermutation (walk Q) (walk P) }
-    ensures maps { (F : Format) (P Q : Table) → IsValid F P → grown F P ≡ Some Q → (k : List ℕ) → map_of Q k ≡ map_of P k }
+    ensures pairs { (F : Format) (P Q : Table) → IsValid F P → grown F P ≡ Some Q
+        → IsPermutation (walk Q) (walk P) }
+    ensures maps { (F : Format) (P Q : Table) → IsValid F P → grown F P ≡ Some Q → (k : List ℕ)
+        → map_of Q k ≡ map_of P k }
 {}
 
 /// Inserts in turn keep a table valid. Then each inserted key has its last value, and every other key the value that it
@@ -94,9 +105,11 @@ pub fn runs_have_the_last_values()
 /// value in a table at its maximum. So they agree on pairs whose keys are all different and new.
 pub fn rules_at_the_maximum_agree()
     ensures owned { (F : Format) (P : Table) (ps : List Pair)
-        → NoneOverwritesFull (insert_owned F) P ps → run (insert_owned F) P ps ≡ run (insert_owned_by_count F) P ps }
+        → NoneOverwritesFull (insert_owned F) P ps
+        → run (insert_owned F) P ps ≡ run (insert_owned_by_count F) P ps }
     ensures view { (F : Format) (P : Table) (ps : List Pair)
-        → NoneOverwritesFull (insert_view F) P ps → run (insert_view F) P ps ≡ run (insert_view_by_count F) P ps }
+        → NoneOverwritesFull (insert_view F) P ps
+        → run (insert_view F) P ps ≡ run (insert_view_by_count F) P ps }
     ensures new_keys_owned { (F : Format) (P : Table) (ps : List Pair)
         → IsValid F P → All (IsPairOf F) ps → KeysApart (walk P ++ ps)
         → run (insert_owned F) P ps ≡ run (insert_owned_by_count F) P ps }
@@ -119,7 +132,8 @@ pub fn insert_orders_make_tables()
         → run (insert_view F) (empty (slot_count P) P.factor) (pairs_of P order) ≡ Some P }
     ensures owned_by_count { (F : Format) (P : Table) (order : List ℕ)
         → IsValid F P → IsInsertOrder F P order
-        → run (insert_owned_by_count F) (empty (slot_count P) P.factor) (pairs_of P order) ≡ Some P }
+        → run (insert_owned_by_count F) (empty (slot_count P) P.factor) (pairs_of P order)
+        ≡ Some P }
     ensures view_by_count { (F : Format) (P : Table) (order : List ℕ)
         → IsValid F P → IsInsertOrder F P order
         → run (insert_view_by_count F) (empty (slot_count P) P.factor) (pairs_of P order) ≡ Some P }

@@ -3,7 +3,8 @@
 //! A group is searched for a tag, and for the first byte that counts as free. [`Group`] is what a search of a table
 //! needs of it. There are two forms, [`no_simd::GroupQuery`] and [`lanes::GroupQuery`]. Tables use the one that is
 //! named below; what they promise does not depend on the choice.
-ghost use Rattle.std.specs.Prelude.{◌≡◌, ℕ, ◌%◌, ◌<◌, List, Option, length, drop, slice_get, is_some};
+ghost use Rattle.std.specs.Prelude.{◌≡◌, ℕ, ◌%◌, ◌<◌, List, Option, length, drop, slice_get};
+ghost use Rattle.std.specs.Prelude.{is_some};
 ghost use Rattle.odht_base.specs.Groups.{IsReport, first_free};
 
 pub mod lanes;

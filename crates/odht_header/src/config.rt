@@ -62,7 +62,9 @@ pub trait Coded: Config {
 }
 
 impl<C: Config> Coded for C {
-    ghost coding = { coding_of C.EncodedKey.LEN C.EncodedKey.bytes C.EncodedKey.of_bytes C.EncodedValue.LEN C.EncodedValue.bytes C.EncodedValue.of_bytes C.H.hash C.encode_key C.encode_value C.decode_key C.decode_value };
+    ghost coding = { coding_of C.EncodedKey.LEN C.EncodedKey.bytes C.EncodedKey.of_bytes
+        C.EncodedValue.LEN C.EncodedValue.bytes C.EncodedValue.of_bytes C.H.hash C.encode_key
+        C.encode_value C.decode_key C.decode_value };
 }
 
 /// A configuration whose decodings undo its encodings, so that a table of it is a map of the keys to the values

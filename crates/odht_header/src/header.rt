@@ -6,7 +6,10 @@ ghost use Rattle.odht_base.specs.Bytes.{bytes_at};
 ghost use Rattle.odht_base.specs.Image.{header_bytes};
 ghost use Rattle.odht_base.specs.Decoded.{header_count, header_slots, header_factor};
 ghost use Rattle.std.specs.Option.{option_or};
-ghost use Rattle.odht_header.specs.Refusals.{checked, tag_refusal, version_refusal, wrong_size, power_refusal, few_slots_refusal, length_refusal, header_refusal, factor_refusal, padding_refusal, count_refusal, room_refusal};
+ghost use Rattle.odht_header.specs.Refusals.{checked, tag_refusal, version_refusal, wrong_size};
+ghost use Rattle.odht_header.specs.Refusals.{power_refusal, few_slots_refusal, length_refusal};
+ghost use Rattle.odht_header.specs.Refusals.{header_refusal, factor_refusal, padding_refusal};
+ghost use Rattle.odht_header.specs.Refusals.{count_refusal, room_refusal};
 
 use crate::bytes::{ByteArray, read_u64, write_slice};
 use crate::config::{Coded, Config};
@@ -83,7 +86,8 @@ impl<'a> Header<'a> {
     /// wrap.
     #[inline(always)]
     pub fn sanity_check<C: Config>(&self, raw_bytes_len: usize) -> Result<(), Error>
-        ensures { result ≡ checked (header_refusal ⟦<C as Coded>⟧.coding.format raw_bytes_len self.now) }
+        ensures { result
+            ≡ checked (header_refusal ⟦<C as Coded>⟧.coding.format raw_bytes_len self.now) }
     {
         self.check_tag()?;
         self.check_version()?;
@@ -150,7 +154,8 @@ impl<'a> Header<'a> {
 
     #[inline(always)]
     fn check_slot_count(&self) -> Result<(), Error>
-        ensures { result ≡ checked (option_or (power_refusal self.now) (few_slots_refusal self.now)) }
+        ensures { result
+            ≡ checked (option_or (power_refusal self.now) (few_slots_refusal self.now)) }
     {
         let found = self.slot_count();
         if !found.is_power_of_two() {
@@ -208,7 +213,8 @@ impl<'a> Header<'a> {
     /// Whether the header's item count is the number of occupied slots found, and at most the maximum; else
     /// `WrongItemCount`, then `TooManyItems`.
     pub fn check_item_count(&self, found: usize) -> Result<(), Error>
-        ensures { result ≡ checked (option_or (count_refusal found self.now) (room_refusal self.now)) }
+        ensures { result
+            ≡ checked (option_or (count_refusal found self.now) (room_refusal self.now)) }
     {
         let stated = self.item_count();
         if stated != found {
@@ -257,7 +263,8 @@ pub fn write_header<C: Config>(
     max_load_factor: Factor,
 )
     requires { length header.old ≡ 32 }
-    ensures { header.new ≡ header_bytes ⟦<C as Coded>⟧.coding.format slot_count item_count max_load_factor.0 }
+    ensures { header.new
+        ≡ header_bytes ⟦<C as Coded>⟧.coding.format slot_count item_count max_load_factor.0 }
 {
     let sizes = [
         METADATA_SIZE as u8,

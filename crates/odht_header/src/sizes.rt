@@ -1,5 +1,6 @@
 //! How long tables are.
-ghost use Rattle.std.specs.Prelude.{◌≡◌, ◌+◌, ◌-◌, ◌*◌, ◌<◌, ◌≤◌, ◌^◌, ◌↔◌, MatchOption, IfSome, IsNone};
+ghost use Rattle.std.specs.Prelude.{◌≡◌, ◌+◌, ◌-◌, ◌*◌, ◌<◌, ◌≤◌, ◌^◌, ◌↔◌, MatchOption, IfSome};
+ghost use Rattle.std.specs.Prelude.{IsNone};
 ghost use Rattle.odht_base.specs.Format.{entry_len};
 ghost use Rattle.odht_base.specs.Image.{image_len};
 ghost use Rattle.odht_header.specs.Layouts.{IsLayout};
@@ -34,7 +35,8 @@ pub fn layout_for<C: Config>(
     requires { 1 ≤ max_load_factor.0 }
     ensures some { let F = ⟦<C as Coded>⟧.coding.format
         in IfSome result (λ l. IsLayout F max_item_count max_load_factor.0 l.0 l.1) }
-    ensures none { IsNone result ↔ IsTooLarge ⟦<C as Coded>⟧.coding.format max_item_count max_load_factor.0 }
+    ensures none { IsNone result
+        ↔ IsTooLarge ⟦<C as Coded>⟧.coding.format max_item_count max_load_factor.0 }
 {
     let slot_count = slots_needed(max_item_count, max_load_factor)?;
     let len = bytes_needed::<C>(slot_count)?;

@@ -96,7 +96,8 @@ impl<'a, K: ByteArray, V: ByteArray, H: HashFn> Model for RawTable<'a, K, V, H> 
     ghost view = { λ t. record { control = t.control.now; entries = t.entries } };
 
     ghost invariant = { λ t.
-        IsTableParts H.MIN_LEN K.LEN V.LEN (record { control = t.control.now; entries = t.entries }) };
+        IsTableParts H.MIN_LEN K.LEN V.LEN
+        (record { control = t.control.now; entries = t.entries }) };
 }
 
 impl<'a, K: ByteArray, V: ByteArray, H: HashFn> RawTable<'a, K, V, H> {
@@ -125,7 +126,8 @@ impl<'a, K: ByteArray, V: ByteArray, H: HashFn> RawTable<'a, K, V, H> {
             → IsPartsOf (format_of K.LEN V.LEN H.hash) P self.now.entries.bytes self.now.control
             → result ≡ option_map V.of_bytes (map_of P (K.bytes key.now)) }
         ensures on_any { IfSome result
-            (IsBesideKey (format_of K.LEN V.LEN H.hash) V.of_bytes self.now.entries (K.bytes key.now)) }
+            (IsBesideKey (format_of K.LEN V.LEN H.hash) V.of_bytes self.now.entries
+            (K.bytes key.now)) }
     {
         let (value, _) = self.find_counted(key);
         value
@@ -143,7 +145,8 @@ impl<'a, K: ByteArray, V: ByteArray, H: HashFn> RawTable<'a, K, V, H> {
             → IsPartsOf (format_of K.LEN V.LEN H.hash) P self.now.entries.bytes self.now.control
             → result.1 ≡ groups_read (format_of K.LEN V.LEN H.hash) P.cells (K.bytes key.now) }
         ensures on_any { IfSome result.0
-            (IsBesideKey (format_of K.LEN V.LEN H.hash) V.of_bytes self.now.entries (K.bytes key.now)) }
+            (IsBesideKey (format_of K.LEN V.LEN H.hash) V.of_bytes self.now.entries
+            (K.bytes key.now)) }
         ensures few { result.1 ≤ self.now.entries.slots / 16 }
     {
         self.find_counted_by::<GroupQuery>(key)
@@ -160,7 +163,8 @@ impl<'a, K: ByteArray, V: ByteArray, H: HashFn> RawTable<'a, K, V, H> {
             → IsPartsOf (format_of K.LEN V.LEN H.hash) P self.now.entries.bytes self.now.control
             → result.1 ≡ groups_read (format_of K.LEN V.LEN H.hash) P.cells (K.bytes key.now) }
         ensures on_any { IfSome result.0
-            (IsBesideKey (format_of K.LEN V.LEN H.hash) V.of_bytes self.now.entries (K.bytes key.now)) }
+            (IsBesideKey (format_of K.LEN V.LEN H.hash) V.of_bytes self.now.entries
+            (K.bytes key.now)) }
         ensures few { result.1 ≤ self.now.entries.slots / 16 }
     {
         let mut scan = Scan::new(self.control, self.entries.len());
@@ -176,7 +180,8 @@ impl<'a, K: ByteArray, V: ByteArray, H: HashFn> RawTable<'a, K, V, H> {
     /// The control byte and the entry of each slot whose own control byte does not count as free, in slot order.
     #[inline]
     pub fn iter(&self) -> RawIter<'a, K, V>
-        ensures items { result ≡ items_from K.of_bytes V.of_bytes (entry_format K.LEN V.LEN) self.now 0 }
+        ensures items { result
+            ≡ items_from K.of_bytes V.of_bytes (entry_format K.LEN V.LEN) self.now 0 }
         ensures few { length result ≤ self.now.entries.slots }
     {
         RawIter::new(self.control, self.entries.copy())
@@ -189,7 +194,8 @@ impl<'a, K: ByteArray, V: ByteArray, H: HashFn> RawTable<'a, K, V, H> {
     #[inline(always)]
     pub fn sanity_check_hashes(&self, slots_to_check: usize) -> Result<(), Error>
         ensures { let F = format_of K.LEN V.LEN H.hash
-            in result ≡ checked (hashes_refusal F self.now.entries.bytes self.now.control slots_to_check) }
+            in result ≡ checked
+            (hashes_refusal F self.now.entries.bytes self.now.control slots_to_check) }
     {
         let slots = slots_to_check.min(self.entries.len());
         for slot in 0..slots {
@@ -203,7 +209,8 @@ impl<'a, K: ByteArray, V: ByteArray, H: HashFn> RawTable<'a, K, V, H> {
     fn check_slot(&self, slot: usize) -> Result<Option<u32>, Error>
         requires { slot < self.now.entries.slots }
         ensures err { let F = format_of K.LEN V.LEN H.hash
-            in result_err result ≡ hashes_refusal_at F self.now.entries.bytes self.now.control slot }
+            in result_err result
+            ≡ hashes_refusal_at F self.now.entries.bytes self.now.control slot }
         ensures hash { IfOk result (IsSlotHash (format_of K.LEN V.LEN H.hash) self.now slot) }
     {
         let found = self.control[slot];

@@ -44,7 +44,8 @@ pub(crate) fn write_tag<M: ByteStoreMut>(
 )
     requires within { control + slot < length (M.bytes store.old) }
     requires mirrored { slot < 16 → control + slot + slots < length (M.bytes store.old) }
-    ensures bytes { M.bytes store.new ≡ tagged_at (M.bytes store.old) (control + slot) slots slot tag }
+    ensures bytes { M.bytes store.new
+        ≡ tagged_at (M.bytes store.old) (control + slot) slots slot tag }
     ensures len { length (M.bytes store.new) ≡ length (M.bytes store.old) }
     ensures same_store { store.new ≡ M.holding store.old (M.bytes store.new) }
 {

@@ -24,7 +24,8 @@ impl<C: Config, D: ByteStore> HashTable<C, D> {
         ensures on_valid { (P : Table)
             → IsImage ⟦<C as Coded>⟧.coding.format P (D.bytes self.now)
             → result ≡ value_for ⟦<C as Coded>⟧.coding P key.now }
-        ensures on_any { IfSome result (λ v. HasStored ⟦<C as Coded>⟧.coding (D.bytes self.now) key.now v) }
+        ensures on_any { IfSome result
+            (λ v. HasStored ⟦<C as Coded>⟧.coding (D.bytes self.now) key.now v) }
     {
         let table = self.as_raw();
         let key = C::encode_key(key);
@@ -44,7 +45,8 @@ impl<C: Config, D: ByteStore> HashTable<C, D> {
             in (P : Table)
             → IsImage c.format P (D.bytes self.now)
             → result.1 ≡ groups_read c.format P.cells (c.key_bytes key.now) }
-        ensures on_any { IfSome result.0 (λ v. HasStored ⟦<C as Coded>⟧.coding (D.bytes self.now) key.now v) }
+        ensures on_any { IfSome result.0
+            (λ v. HasStored ⟦<C as Coded>⟧.coding (D.bytes self.now) key.now v) }
         ensures few { result.1 ≤ header_slots (D.bytes self.now) / 16 }
     {
         let table = self.as_raw();
@@ -82,7 +84,8 @@ impl<C: Config, D: ByteStoreMut> HashTable<C, D> {
         ensures ok { let c = ⟦<C as Coded>⟧.coding
             in (P : Table)
             → IsImage c.format P (D.bytes self.old)
-            → IfOk result (λ old. IsInserted c (insert_view c.format) P key.now value.now old (D.bytes self.new)) }
+            → IfOk result (λ old. IsInserted c (insert_view c.format) P key.now value.now old
+            (D.bytes self.new)) }
         ensures full { let c = ⟦<C as Coded>⟧.coding
             in (P : Table)
             → IsImage c.format P (D.bytes self.old)

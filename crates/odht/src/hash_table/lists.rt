@@ -3,7 +3,8 @@ ghost use Rattle.std.specs.Prelude.{◌≡◌, ◌≤◌, ◌↔◌, length, tak
 ghost use Rattle.odht_base.specs.Table.{Table};
 ghost use Rattle.odht_base.specs.Insert.{insert_view};
 ghost use Rattle.odht_base.specs.Valid.{IsImage};
-ghost use Rattle.odht.specs.Lists.{encoded_all, IsAfterInserts, IsFramedRun, IsRefusedAt, IsStoppedAt};
+ghost use Rattle.odht.specs.Lists.{encoded_all, IsAfterInserts, IsFramedRun, IsRefusedAt};
+ghost use Rattle.odht.specs.Lists.{IsStoppedAt};
 ghost use Rattle.odht_raw.specs.Frame.{IsAccepted};
 ghost use Rattle.odht_raw.specs.Runs.{IsListRun};
 
@@ -43,7 +44,8 @@ impl<C: Config, D: ByteStoreMut> HashTable<C, D> {
         ensures inserted { let c = ⟦<C as Coded>⟧.coding
             in (P : Table)
             → IsImage c.format P (D.bytes self.old)
-            → IsAfterInserts c.format (insert_view c.format) P (encoded_all c (take result.0 items.now)) (D.bytes self.new) }
+            → IsAfterInserts c.format (insert_view c.format) P
+            (encoded_all c (take result.0 items.now)) (D.bytes self.new) }
         ensures framed { let c = ⟦<C as Coded>⟧.coding
             in IsFramedRun c (D.bytes self.old) (take result.0 items.now) (D.bytes self.new) }
         ensures same_store { self.new ≡ D.holding self.old (D.bytes self.new) }
@@ -74,7 +76,8 @@ impl<C: Config, D: ByteStoreMut> HashTable<C, D> {
             → IsImage c.format P (D.bytes self.old)
             → IsAfterInserts c.format (insert_view c.format) P accepted (D.bytes self.new) }
         ensures framed { let c = ⟦<C as Coded>⟧.coding
-            in IsFramedRun c (D.bytes self.old) (take result.0 (I.items items.now)) (D.bytes self.new) }
+            in IsFramedRun c (D.bytes self.old) (take result.0 (I.items items.now))
+            (D.bytes self.new) }
         ensures same_store { self.new ≡ D.holding self.old (D.bytes self.new) }
         ensures accepted { IsAccepted ⟦<C as Coded>⟧.coding.format (D.bytes self.new) }
         ensures at_maximum { let c = ⟦<C as Coded>⟧.coding

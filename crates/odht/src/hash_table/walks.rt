@@ -21,7 +21,8 @@ impl<C: Config, D: ByteStore> HashTable<C, D> {
             → IsImage ⟦<C as Coded>⟧.coding.format P (D.bytes self.now)
             → result ≡ decoded_slots ⟦<C as Coded>⟧.coding (slots_from P from) }
         ensures on_any { let c = ⟦<C as Coded>⟧.coding
-            in result ≡ decoded_slots c (slots_from (decoded_table c.format (D.bytes self.now)) from) }
+            in result
+            ≡ decoded_slots c (slots_from (decoded_table c.format (D.bytes self.now)) from) }
         ensures few { length result ≤ usize.MAX }
     {
         let (control, entries) = self.allocation.data_slices();

@@ -29,7 +29,9 @@ impl<C: Config> fmt::Debug for HashTableOwned<C> {
     ghost use Rattle.odht_base.specs.Format.{format_of};
     ghost use Rattle.odht_raw.specs.Dumps.{owned_dump_text};
 
-    ghost debug_output = { owned_dump_text (format_of C.EncodedKey.LEN C.EncodedValue.LEN C.H.hash) (λ b. C.EncodedKey.debug_output (C.EncodedKey.of_bytes b)) (λ b. C.EncodedValue.debug_output (C.EncodedValue.of_bytes b)) C.H.hash_name };
+    ghost debug_output = { owned_dump_text (format_of C.EncodedKey.LEN C.EncodedValue.LEN C.H.hash)
+        (λ b. C.EncodedKey.debug_output (C.EncodedKey.of_bytes b))
+        (λ b. C.EncodedValue.debug_output (C.EncodedValue.of_bytes b)) C.H.hash_name };
 
     // The numbers of the header on a line, the dump of the parts, and an empty line.
     fn fmt<W: fmt::Write>(&self, f: &mut fmt::Formatter<W>) -> fmt::Result {

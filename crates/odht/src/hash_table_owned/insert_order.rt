@@ -18,7 +18,8 @@ impl<C: Config> HashTableOwned<C> {
     /// looks for each earlier position of each waiting slot by a binary search among the slots that wait, and then
     /// sorts these. bench/README.md has what an item costs in a table of 10^6.
     pub fn insert_order(&self, out: &mut [usize]) -> bool
-        requires { (P : Table) → IsImage ⟦<C as Coded>⟧.coding.format P self.now → length out.old ≡ count P }
+        requires { (P : Table) → IsImage ⟦<C as Coded>⟧.coding.format P self.now
+            → length out.old ≡ count P }
         ensures order { let F = ⟦<C as Coded>⟧.coding.format
             in (P : Table)
             → IsImage F P self.now

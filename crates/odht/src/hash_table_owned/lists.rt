@@ -24,7 +24,8 @@ impl<C: Config> HashTableOwned<C> {
         ensures inserted { let c = ⟦<C as Coded>⟧.coding
             in (P : Table)
             → IsImage c.format P self.old
-            → IsAfterInserts c.format (insert_owned c.format) P (encoded_all c (take result.0 items.now)) self.new }
+            → IsAfterInserts c.format (insert_owned c.format) P
+            (encoded_all c (take result.0 items.now)) self.new }
         ensures fresh { let c = ⟦<C as Coded>⟧.coding
             in (p : ℕ)
             → IsFresh c.format (length items.now) p self.old

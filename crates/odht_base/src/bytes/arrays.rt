@@ -1,5 +1,6 @@
 //! Byte arrays of a fixed length, which keys and values are encoded to.
-ghost use Rattle.std.specs.Prelude.{◌≡◌, ◌↔◌, ℕ, ◌+◌, ◌<◌, ◌≤◌, List, length, replicate, All, IsTrue, refl};
+ghost use Rattle.std.specs.Prelude.{◌≡◌, ◌↔◌, ℕ, ◌+◌, ◌<◌, ◌≤◌, List, length, replicate, All};
+ghost use Rattle.std.specs.Prelude.{IsTrue, refl};
 ghost use Rattle.odht_base.specs.Numbers.{num, IsBytes};
 ghost use Rattle.odht_base.specs.Bytes.{bytes_at};
 

@@ -34,7 +34,8 @@ pub trait ByteStoreMut: ByteStore {
 
     /// All of its bytes, to be written. After the borrow the store holds the bytes that were left in the slice.
     fn bytes_mut(&mut self) -> &mut [u8]
-        ensures* writes_back { sem 𝓛 (Lends Self.row (Array u8 0) self.entry result (after_borrow self.old)) }
+        ensures* writes_back { sem 𝓛
+            (Lends Self.row (Array u8 0) self.entry result (after_borrow self.old)) }
         ensures value { result.now ≡ Self.bytes self.old };
 
     /// Writes `data` from the byte `at` on. No other byte changes.
@@ -58,7 +59,8 @@ pub trait ByteStoreMut: ByteStore {
     ghost held_same: { (s : Self) → holding s (Self.bytes s) ≡ s };
 
     // a borrowed slice keeps its length, and with as many bytes as before the store holds exactly these
-    ghost after_borrow_fits: { (s : Self) (b : List ℕ) → length b ≡ length (Self.bytes s) → after_borrow s b ≡ holding s b };
+    ghost after_borrow_fits: { (s : Self) (b : List ℕ) → length b ≡ length (Self.bytes s)
+        → after_borrow s b ≡ holding s b };
 }
 
 // A borrowed store: what is written to it is written to the store itself.
@@ -82,7 +84,8 @@ impl<M: ByteStoreMut> ByteStoreMut for &mut M {
 
     ghost held_same = { λ s. ap (λ n. record s { now = n }) (M.held_same s.now) };
 
-    ghost after_borrow_fits = { λ s b fits. ap (λ n. record s { now = n }) (M.after_borrow_fits s.now b fits) };
+    ghost after_borrow_fits = { λ s b fits. ap (λ n. record s { now = n })
+        (M.after_borrow_fits s.now b fits) };
 
     #[inline(always)]
     fn bytes_mut(&mut self) -> &mut [u8] {

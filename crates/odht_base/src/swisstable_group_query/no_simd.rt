@@ -35,7 +35,11 @@ impl Model for GroupQuery {
 
     ghost Value = { GroupMatches };
 
-    ghost view = { λ q. record { matches = set_bytes q.eq_mask; free = slice_get (set_bytes q.empty_mask) 0 } };
+    ghost view = { λ q. record {
+      matches = set_bytes q.eq_mask;
+      free = slice_get
+          (set_bytes q.empty_mask) 0;
+    } };
 }
 
 // The index of the lowest byte in which a bit is set.
@@ -140,7 +144,8 @@ impl Iterator for GroupQuery {
     #[inline]
     fn next(&mut self) -> Option<usize>
         ensures steps { YieldsFirst (λ q. q.matches) self.old result self.new }
-        ensures goes { MakesProgress (λ _. ⊤) (item_count (λ q. q.matches)) self.old result self.new }
+        ensures goes { MakesProgress (λ _. ⊤)
+            (item_count (λ q. q.matches)) self.old result self.new }
         ensures free { self.new.free ≡ self.old.free }
     {
         let index = self.first_match()?;

@@ -39,7 +39,8 @@ impl<C: Config, M: ByteStore> Model for Allocation<C, M> {
 
     ghost view = { λ a. a.store };
 
-    ghost invariant = { λ a. IsAccepted (format_of C.EncodedKey.LEN C.EncodedValue.LEN C.H.hash) (M.bytes a.store) × (length (M.bytes a.store) < 2 ^ 64) };
+    ghost invariant = { λ a. IsAccepted (format_of C.EncodedKey.LEN C.EncodedValue.LEN C.H.hash)
+        (M.bytes a.store) × (length (M.bytes a.store) < 2 ^ 64) };
 }
 
 impl<C: Config, M: ByteStore> Allocation<C, M> {
@@ -49,8 +50,10 @@ impl<C: Config, M: ByteStore> Allocation<C, M> {
     #[inline(always)]
     pub fn from_raw_bytes(data: M) -> Result<Self, Error>
         ensures ok { IfOk result (λ a. a ≡ «data») }
-        ensures err { result_err result ≡ view_refusal ⟦<C as Coded>⟧.coding.format (M.bytes «data») }
-        ensures valid { (P : Table) → IsImage ⟦<C as Coded>⟧.coding.format P (M.bytes «data») → IsOk result }
+        ensures err { result_err result
+            ≡ view_refusal ⟦<C as Coded>⟧.coding.format (M.bytes «data») }
+        ensures valid { (P : Table) → IsImage ⟦<C as Coded>⟧.coding.format P (M.bytes «data»)
+            → IsOk result }
     {
         let allocation = Self::from_raw_bytes_by_header(data)?;
         let (control, entries) = allocation.data_slices();
@@ -66,7 +69,8 @@ impl<C: Config, M: ByteStore> Allocation<C, M> {
     #[inline(always)]
     pub fn from_raw_bytes_by_header(data: M) -> Result<Self, Error>
         ensures ok { IfOk result (λ a. a ≡ «data») }
-        ensures err { result_err result ≡ opening_refusal ⟦<C as Coded>⟧.coding.format (M.bytes «data») }
+        ensures err { result_err result
+            ≡ opening_refusal ⟦<C as Coded>⟧.coding.format (M.bytes «data») }
     {
         let bytes = data.bytes();
         let found = bytes.len();
@@ -133,8 +137,10 @@ impl<C: Config, M: ByteStore> Allocation<C, M> {
         &[EntryMetadata],
         Entries<'_, C::EncodedKey, C::EncodedValue>,
     )
-        ensures control { result.0.now ≡ controls_of ⟦<C as Coded>⟧.coding.format (M.bytes self.now) }
-        ensures entries { result.1.bytes ≡ entries_of ⟦<C as Coded>⟧.coding.format (M.bytes self.now) }
+        ensures control { result.0.now
+            ≡ controls_of ⟦<C as Coded>⟧.coding.format (M.bytes self.now) }
+        ensures entries { result.1.bytes
+            ≡ entries_of ⟦<C as Coded>⟧.coding.format (M.bytes self.now) }
         ensures slots { result.1.slots ≡ header_slots (M.bytes self.now) }
         ensures count { IsSlotCount result.1.slots }
         ensures len { length result.0.now ≡ result.1.slots + 16 }

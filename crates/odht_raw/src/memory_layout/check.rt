@@ -33,7 +33,8 @@ impl<C: Config, M: ByteStore> Allocation<C, M> {
     /// Each slot is read once, in slot order, and for each occupied slot the control bytes of its key's probe order up
     /// to it, sixteen at a time. A key is compared only with keys at earlier positions that have its tag.
     pub fn check_rest(&self) -> Result<(), Error>
-        ensures first { result ≡ checked (late_refusal ⟦<C as Coded>⟧.coding.format (M.bytes self.now)) }
+        ensures first { result
+            ≡ checked (late_refusal ⟦<C as Coded>⟧.coding.format (M.bytes self.now)) }
         ensures valid { IsOk result ↔ IsValidBytes ⟦<C as Coded>⟧.coding.format (M.bytes self.now) }
     {
         hold_bytes(self.raw_bytes());

@@ -1,5 +1,6 @@
 //! New tables, in given bytes and in newly allocated memory.
-ghost use Rattle.std.specs.Prelude.{◌≡◌, ◌+◌, ◌-◌, ◌*◌, ◌<◌, ◌≤◌, ◌^◌, ◌↔◌, ◌⊎◌, length, replicate, IfOk, OnErr};
+ghost use Rattle.std.specs.Prelude.{◌≡◌, ◌+◌, ◌-◌, ◌*◌, ◌<◌, ◌≤◌, ◌^◌, ◌↔◌, ◌⊎◌, length, replicate};
+ghost use Rattle.std.specs.Prelude.{IfOk, OnErr};
 ghost use Rattle.odht_base.specs.Bytes.{bytes_at, overwritten_at};
 ghost use Rattle.odht_base.specs.Load.{IsSlotCount};
 ghost use Rattle.odht_base.specs.Format.{entry_len};
@@ -75,8 +76,10 @@ pub fn allocate<C: Config>(
 ) -> Result<Allocation<C, OwnedBytes>, Error>
     requires slots { IsSlotCount slot_count }
     ensures ok { let F = ⟦<C as Coded>⟧.coding.format
-        in IfOk result (λ a. a ≡ with_count (image F (empty slot_count max_load_factor.0)) item_count) }
-    ensures capacity { (result ≡ Err Error.Capacity) ↔ (2 ^ 64 ≤ image_len ⟦<C as Coded>⟧.coding.format slot_count) }
+        in IfOk result
+        (λ a. a ≡ with_count (image F (empty slot_count max_load_factor.0)) item_count) }
+    ensures capacity { (result ≡ Err Error.Capacity)
+        ↔ (2 ^ 64 ≤ image_len ⟦<C as Coded>⟧.coding.format slot_count) }
     ensures memory { OnErr result ((result ≡ Err Error.Capacity) ⊎ (result ≡ Err Error.Memory)) }
 {
     let Some(len) = bytes_needed::<C>(slot_count) else {
@@ -90,7 +93,8 @@ pub fn allocate<C: Config>(
 fn fill<M: ByteStoreMut>(data: &mut M, from: usize, to: usize, byte: u8)
     requires order { from ≤ to }
     requires fits { to ≤ length (M.bytes «data».old) }
-    ensures bytes { M.bytes «data».new ≡ overwritten_at (M.bytes «data».old) from (replicate (to - from) byte) }
+    ensures bytes { M.bytes «data».new
+        ≡ overwritten_at (M.bytes «data».old) from (replicate (to - from) byte) }
     ensures len { length (M.bytes «data».new) ≡ length (M.bytes «data».old) }
     ensures same_store { «data».new ≡ M.holding «data».old (M.bytes «data».new) }
 {

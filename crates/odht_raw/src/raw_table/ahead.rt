@@ -61,7 +61,8 @@ pub(crate) fn insert_ahead<K: ByteArray, V: ByteArray, H: HashFn>(
     slot: usize,
     room: usize,
 ) -> Result<Option<V>, Error>
-    requires lengths { ArePartLengths H.MIN_LEN K.LEN V.LEN (length entries.old) (length control.old) }
+    requires lengths { ArePartLengths H.MIN_LEN K.LEN V.LEN (length entries.old)
+        (length control.old) }
     requires hash { hash ≡ H.hash (K.bytes key) }
     ensures placed { let F = format_of K.LEN V.LEN H.hash
         in let p : Pair = record { key = K.bytes key; value = V.bytes value }
@@ -88,7 +89,8 @@ fn expected_end<K: ByteArray, V: ByteArray, H: HashFn>(
     slot: usize,
     room: usize,
 ) -> Search
-    requires lengths { ArePartLengths H.MIN_LEN K.LEN V.LEN (length entries.now) (length control.now) }
+    requires lengths { ArePartLengths H.MIN_LEN K.LEN V.LEN (length entries.now)
+        (length control.now) }
     requires hash { hash ≡ H.hash (K.bytes key.now) }
     ensures placed { let F = format_of K.LEN V.LEN H.hash
         in (P : Table)
@@ -98,7 +100,8 @@ fn expected_end<K: ByteArray, V: ByteArray, H: HashFn>(
     ensures any { let F = format_of K.LEN V.LEN H.hash
         in IsEnd F (stored_in entries.now control.now) control.now (K.bytes key.now) result }
     ensures earlier { let F = format_of K.LEN V.LEN H.hash
-        in room ≡ 0 → IsAfter F (stored_in entries.now control.now) control.now (K.bytes key.now) result }
+        in room ≡ 0
+        → IsAfter F (stored_in entries.now control.now) control.now (K.bytes key.now) result }
 {
     let slots = control.len() - REFERENCE_GROUP_SIZE;
     if room > 0 {

@@ -1,11 +1,13 @@
 //! The whole check of the parts of a table: each slot, the mirror, and that the search for each key ends at its slot.
-ghost use Rattle.std.specs.Prelude.{◌≡◌, ◌<◌, ◌≤◌, ◌↔◌, slice_index, option_map, IfOk, IsTrue, IsFalse, None};
+ghost use Rattle.std.specs.Prelude.{◌≡◌, ◌<◌, ◌≤◌, ◌↔◌, slice_index, option_map, IfOk, IsTrue};
+ghost use Rattle.std.specs.Prelude.{IsFalse, None};
 ghost use Rattle.std.specs.Result.{result_err};
 ghost use Rattle.odht_base.specs.Format.{format_of, tag as key_tag};
 ghost use Rattle.odht_base.specs.Search.{search_end, is_at};
 ghost use Rattle.odht_base.specs.Decoded.{counts_as_free, slot_key};
 ghost use Rattle.odht_raw.specs.Checks.{cells_of, decoded_count, IsFitting, ArePassed};
-ghost use Rattle.odht_header.specs.Refusals.{checked, bad_free_control, slots_refusal, mirror_refusal, reach_refusal};
+ghost use Rattle.odht_header.specs.Refusals.{checked, bad_free_control, slots_refusal};
+ghost use Rattle.odht_header.specs.Refusals.{mirror_refusal, reach_refusal};
 
 use super::{FREE, ProbeSeq, RawTable, tag_of};
 use crate::bytes::ByteArray;
@@ -34,8 +36,10 @@ impl<'a, K: ByteArray, V: ByteArray, H: HashFn> RawTable<'a, K, V, H> {
     pub(crate) fn check_slots(&self) -> Result<SlotSummary, Error>
         ensures err { let F = format_of K.LEN V.LEN H.hash
             in result_err result ≡ slots_refusal F self.now.entries.bytes self.now.control }
-        ensures occupied { IfOk result (λ summary. summary.occupied ≡ decoded_count (format_of K.LEN V.LEN H.hash) self.now) }
-        ensures reached { let reach = reach_refusal (format_of K.LEN V.LEN H.hash) self.now.entries.bytes self.now.control
+        ensures occupied { IfOk result
+            (λ summary. summary.occupied ≡ decoded_count (format_of K.LEN V.LEN H.hash) self.now) }
+        ensures reached { let reach = reach_refusal
+            (format_of K.LEN V.LEN H.hash) self.now.entries.bytes self.now.control
             in mirror_refusal self.now.control ≡ None
             → IfOk result (λ summary. option_map Error.Unreachable summary.unreachable ≡ reach) }
     {
@@ -81,10 +85,12 @@ impl<'a, K: ByteArray, V: ByteArray, H: HashFn> RawTable<'a, K, V, H> {
     fn is_reached(&self, slot: usize, hash: u32) -> bool
         requires slot { slot < self.now.entries.slots }
         requires occupied { IsFalse (counts_as_free (slice_index self.now.control slot)) }
-        requires hash { hash ≡ H.hash (slot_key (format_of K.LEN V.LEN H.hash) self.now.entries.bytes slot) }
+        requires hash { hash
+            ≡ H.hash (slot_key (format_of K.LEN V.LEN H.hash) self.now.entries.bytes slot) }
         ensures { let F = format_of K.LEN V.LEN H.hash
             in IsFitting F self.now
-            → result ≡ is_at slot (search_end F (cells_of F self.now) (slot_key F self.now.entries.bytes slot)) }
+            → result ≡ is_at slot
+            (search_end F (cells_of F self.now) (slot_key F self.now.entries.bytes slot)) }
     {
         let slots = self.entries.len();
         let mask = slots - 1;
@@ -115,7 +121,8 @@ impl<'a, K: ByteArray, V: ByteArray, H: HashFn> RawTable<'a, K, V, H> {
         requires small { tag < 128 }
         ensures { let F = format_of K.LEN V.LEN H.hash
             in IsFitting F self.now
-            → IsTrue result ↔ ArePassed F self.now (slot_key F self.now.entries.bytes slot) start count }
+            → IsTrue result
+            ↔ ArePassed F self.now (slot_key F self.now.entries.bytes slot) start count }
     {
         let control = &self.control[start..start + REFERENCE_GROUP_SIZE];
         let mut group = GroupQuery::of(control, tag);

@@ -12,7 +12,8 @@ use std::fmt;
 impl<'a, K: ByteArray, V: ByteArray, H: HashFn> RawTable<'a, K, V, H> {
     // Writes the line before those of the slots.
     fn write_head<W: fmt::Write>(&self, f: &mut fmt::Formatter<W>) -> fmt::Result
-        ensures { WritesOnOk W.write_str_gives f.old result (head_text H.hash_name self.now.entries.slots) f.new }
+        ensures { WritesOnOk W.write_str_gives f.old result
+            (head_text H.hash_name self.now.entries.slots) f.new }
     {
         let slot_count = self.entries.len();
         let hash_name = H::hash_name();

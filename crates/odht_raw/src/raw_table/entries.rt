@@ -45,7 +45,8 @@ impl<'a, K: ByteArray, V: ByteArray> Model for Entries<'a, K, V> {
 
     ghost view = { λ e. record { slots = e.slots; bytes = e.bytes.now } };
 
-    ghost invariant = { λ e. IsEntries K.LEN V.LEN (record { slots = e.slots; bytes = e.bytes.now }) };
+    ghost invariant = { λ e. IsEntries K.LEN V.LEN
+        (record { slots = e.slots; bytes = e.bytes.now }) };
 }
 
 impl<'a, K: ByteArray, V: ByteArray> Entries<'a, K, V> {
@@ -88,10 +89,14 @@ impl<'a, K: ByteArray, V: ByteArray> Entries<'a, K, V> {
     #[inline]
     pub fn get(&self, slot: usize) -> Entry<K, V>
         requires { slot < self.now.slots }
-        ensures key { result.key ≡ K.of_bytes (slot_key (entry_format K.LEN V.LEN) self.now.bytes slot) }
-        ensures value { result.value ≡ V.of_bytes (slot_value (entry_format K.LEN V.LEN) self.now.bytes slot) }
-        ensures key_bytes { K.bytes result.key ≡ slot_key (entry_format K.LEN V.LEN) self.now.bytes slot }
-        ensures value_bytes { V.bytes result.value ≡ slot_value (entry_format K.LEN V.LEN) self.now.bytes slot }
+        ensures key { result.key
+            ≡ K.of_bytes (slot_key (entry_format K.LEN V.LEN) self.now.bytes slot) }
+        ensures value { result.value
+            ≡ V.of_bytes (slot_value (entry_format K.LEN V.LEN) self.now.bytes slot) }
+        ensures key_bytes { K.bytes result.key
+            ≡ slot_key (entry_format K.LEN V.LEN) self.now.bytes slot }
+        ensures value_bytes { V.bytes result.value
+            ≡ slot_value (entry_format K.LEN V.LEN) self.now.bytes slot }
     {
         let bytes = self.bytes;
         let at = slot * (K::LEN + V::LEN);

@@ -59,7 +59,8 @@ impl<'a, K: ByteArray, V: ByteArray, H: HashFn> RawTable<'a, K, V, H> {
             → IsPartsOf (format_of K.LEN V.LEN H.hash) P self.now.entries.bytes self.now.control
             → result ≡ option_map V.of_bytes (map_of P (K.bytes key.now)) }
         ensures on_any { IfSome result
-            (IsBesideKey (format_of K.LEN V.LEN H.hash) V.of_bytes self.now.entries (K.bytes key.now)) }
+            (IsBesideKey (format_of K.LEN V.LEN H.hash) V.of_bytes self.now.entries
+            (K.bytes key.now)) }
     {
         let mask = self.entries.len() - 1;
         let home = look.hash as usize & mask;

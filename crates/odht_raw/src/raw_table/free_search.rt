@@ -16,7 +16,8 @@ use crate::swisstable_group_query::{Group, REFERENCE_GROUP_SIZE};
 pub(super) fn first_free<Q: Group>(control: &[EntryMetadata], hash: u32) -> Option<usize>
     requires { IsSlotCount (length control.now - 16) }
     ensures { let slots = length control.now - 16
-        in MatchOption result (HasNoFreeSlot control.now slots) (IsFirstFree control.now hash slots) }
+        in MatchOption result (HasNoFreeSlot control.now slots)
+        (IsFirstFree control.now hash slots) }
 {
     let mask = control.len() - REFERENCE_GROUP_SIZE - 1;
     let home = hash as usize & mask;
@@ -35,7 +36,8 @@ fn first_free_by_groups<Q: Group>(
 ) -> Option<usize>
     requires slots { IsSlotCount (mask + 1) }
     requires control { length control.now ≡ mask + 1 + 16 }
-    ensures { MatchOption result (HasNoFreeSlot control.now (mask + 1)) (IsFirstFree control.now hash (mask + 1)) }
+    ensures { MatchOption result (HasNoFreeSlot control.now (mask + 1))
+        (IsFirstFree control.now hash (mask + 1)) }
 {
     let tag = tag_of(hash);
     let mut probe = ProbeSeq::<REFERENCE_GROUP_SIZE>::new(hash as usize, mask);

@@ -60,7 +60,8 @@ pub fn search_hashed<K: ByteArray, V: ByteArray, H: HashFn, Q: Group>(
     key: &K,
     hash: u32,
 ) -> Search
-    requires lengths { AreSearchLengths H.MIN_LEN K.LEN V.LEN entries.now.slots (length scan.old.control) }
+    requires lengths { AreSearchLengths H.MIN_LEN K.LEN V.LEN entries.now.slots
+        (length scan.old.control) }
     requires hash { hash ≡ H.hash (K.bytes key.now) }
     ensures on_placed { (P : Table)
         → IsPartsOf (format_of K.LEN V.LEN H.hash) P entries.now.bytes scan.old.control
@@ -105,7 +106,8 @@ pub(super) fn whole_search<K: ByteArray, V: ByteArray, H: HashFn>(
     hash: u32,
 ) -> Search
     requires slots { IsSlotCount entries.now.slots }
-    requires lengths { AreSearchLengths H.MIN_LEN K.LEN V.LEN entries.now.slots (length control.now) }
+    requires lengths { AreSearchLengths H.MIN_LEN K.LEN V.LEN entries.now.slots
+        (length control.now) }
     requires hash { hash ≡ H.hash (K.bytes key.now) }
     ensures on_placed { (P : Table)
         → IsPartsOf (format_of K.LEN V.LEN H.hash) P entries.now.bytes control.now

@@ -63,7 +63,8 @@ pub(crate) fn insert_at<K: ByteArray, V: ByteArray, H: HashFn>(
     end: Search,
     room: usize,
 ) -> Result<Option<V>, Error>
-    requires lengths { ArePartLengths H.MIN_LEN K.LEN V.LEN (length entries.old) (length control.old) }
+    requires lengths { ArePartLengths H.MIN_LEN K.LEN V.LEN (length entries.old)
+        (length control.old) }
     requires tag { tag ≡ key_tag (format_of K.LEN V.LEN H.hash) (K.bytes key) }
     requires end { let F = format_of K.LEN V.LEN H.hash
         in IsEnd F (stored_in entries.old control.old) control.old (K.bytes key) end }
@@ -109,7 +110,8 @@ pub(crate) fn fill_slot<K: ByteArray, V: ByteArray, H: HashFn>(
     tag: u8,
     slot: usize,
 )
-    requires lengths { ArePartLengths H.MIN_LEN K.LEN V.LEN (length entries.old) (length control.old) }
+    requires lengths { ArePartLengths H.MIN_LEN K.LEN V.LEN (length entries.old)
+        (length control.old) }
     requires slot { slot < length control.old - 16 }
     requires tag { tag ≡ key_tag (format_of K.LEN V.LEN H.hash) (K.bytes key.now) }
     ensures entries { let at = slot * entry_len (format_of K.LEN V.LEN H.hash)

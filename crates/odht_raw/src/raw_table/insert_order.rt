@@ -1,12 +1,14 @@
 //! An order of inserts that makes a table, found within the buffer that it is written to.
-ghost use Rattle.std.specs.Prelude.{◌≡◌, ◌≤◌, ◌<◌, ◌+◌, ◌^◌, ◌↔◌, ℕ, List, ◌++◌, slice_index, length, map, take, drop, IsTrue, All, Contains};
+ghost use Rattle.std.specs.Prelude.{◌≡◌, ◌≤◌, ◌<◌, ◌+◌, ◌^◌, ◌↔◌, ℕ, List, ◌++◌, slice_index};
+ghost use Rattle.std.specs.Prelude.{length, map, take, drop, IsTrue, All, Contains};
 ghost use Rattle.odht_base.specs.Format.{format_of};
 ghost use Rattle.odht_base.specs.Made.{occupied, IsMade, IsInsertOrder};
 ghost use Rattle.odht_base.specs.Ready.{IsReady, IsStuck};
 ghost use Rattle.odht_base.specs.Decoded.{counts_as_free};
 ghost use Rattle.odht_base.specs.Table.{Table, Pair, count, slot_count as slots_of, is_free};
 ghost use Rattle.odht_base.specs.Valid.{HoldsPair, IsPartsOf};
-ghost use Rattle.odht_raw.specs.Waiting.{waiting, placed_of, IsWaiting, AreRising, IsPending, AreWholeParts};
+ghost use Rattle.odht_raw.specs.Waiting.{waiting, placed_of, IsWaiting, AreRising, IsPending};
+ghost use Rattle.odht_raw.specs.Waiting.{AreWholeParts};
 
 use super::{EntryMetadata, ProbeSeq, RawTable, is_empty_or_deleted};
 use crate::bytes::ByteArray;
@@ -122,7 +124,8 @@ fn list_occupied(control: &[EntryMetadata], slot_count: usize, out: &mut [usize]
     requires control { slot_count ≤ length control.now }
     ensures { (P : Table)
         → slots_of P ≡ slot_count
-        → ((i : ℕ) → i < slot_count → counts_as_free (slice_index control.now i) ≡ is_free P.cells i)
+        → ((i : ℕ) → i < slot_count
+        → counts_as_free (slice_index control.now i) ≡ is_free P.cells i)
         → length out.old ≡ count P
         → out.new ≡ map waiting (occupied P) }
 {

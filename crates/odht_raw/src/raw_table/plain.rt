@@ -29,7 +29,8 @@ pub fn plain_find<K: ByteArray, V: ByteArray, H: HashFn>(
     key: &K,
 ) -> Option<V>
     requires slots { IsSlotCount entries.now.slots }
-    requires lengths { AreSearchLengths H.MIN_LEN K.LEN V.LEN entries.now.slots (length control.now) }
+    requires lengths { AreSearchLengths H.MIN_LEN K.LEN V.LEN entries.now.slots
+        (length control.now) }
     ensures on_placed { (P : Table)
         → IsPartsOf (format_of K.LEN V.LEN H.hash) P entries.now.bytes control.now
         → result ≡ option_map V.of_bytes (map_of P (K.bytes key.now)) }
@@ -61,9 +62,11 @@ pub fn plain_insert<K: ByteArray, V: ByteArray, H: HashFn>(
     ensures placed { let p : Pair = record { key = K.bytes key; value = V.bytes value }
         in (P : Table)
         → IsPartsOf (format_of K.LEN V.LEN H.hash) P entries.old control.old
-        → IsPartsInsert (format_of K.LEN V.LEN H.hash) V.of_bytes P p result entries.new control.new }
+        → IsPartsInsert
+        (format_of K.LEN V.LEN H.hash) V.of_bytes P p result entries.new control.new }
     ensures any { let p : Pair = record { key = K.bytes key; value = V.bytes value }
-        in IsInsertChange (format_of K.LEN V.LEN H.hash) V.of_bytes entries.old control.old p result entries.new control.new }
+        in IsInsertChange (format_of K.LEN V.LEN H.hash) V.of_bytes entries.old control.old p result
+        entries.new control.new }
 {
     let slots = control.len() - REFERENCE_GROUP_SIZE;
     let hash = H::hash(key.as_slice());
@@ -82,9 +85,11 @@ fn plain_search<K: ByteArray, V: ByteArray, H: HashFn>(
     hash: u32,
 ) -> Search
     requires slots { IsSlotCount entries.now.slots }
-    requires lengths { AreSearchLengths H.MIN_LEN K.LEN V.LEN entries.now.slots (length control.now) }
+    requires lengths { AreSearchLengths H.MIN_LEN K.LEN V.LEN entries.now.slots
+        (length control.now) }
     requires hash { hash ≡ H.hash (K.bytes key.now) }
-    ensures slot { IsPlainEnd (format_of K.LEN V.LEN H.hash) entries.now control.now (K.bytes key.now) result }
+    ensures slot { IsPlainEnd (format_of K.LEN V.LEN H.hash) entries.now control.now
+        (K.bytes key.now) result }
     ensures on_placed { (P : Table)
         → IsPartsOf (format_of K.LEN V.LEN H.hash) P entries.now.bytes control.now
         → result ≡ answer (format_of K.LEN V.LEN H.hash) P.cells (K.bytes key.now) }

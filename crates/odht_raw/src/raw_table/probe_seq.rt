@@ -36,7 +36,8 @@ impl<const GROUP_SIZE: usize> Model for ProbeSeq<GROUP_SIZE> {
 
     ghost view = { λ q. record { home = q.home; mask = q.mask; position = q.position } };
 
-    ghost invariant = { λ q. IsProbe GROUP_SIZE q.home q.mask q.position q.index q.base q.chunk_index q.stride };
+    ghost invariant = { λ q. IsProbe GROUP_SIZE q.home q.mask q.position q.index q.base
+        q.chunk_index q.stride };
 }
 
 impl<const GROUP_SIZE: usize> ProbeSeq<GROUP_SIZE> {
@@ -64,7 +65,11 @@ impl<const GROUP_SIZE: usize> ProbeSeq<GROUP_SIZE> {
     pub fn advance(&mut self, mask: usize)
         requires mask { mask ≡ self.old.mask }
         requires within { self.old.position + GROUP_SIZE < mask + 1 }
-        ensures { self.new ≡ record { home = self.old.home; mask = self.old.mask; position = self.old.position + GROUP_SIZE } }
+        ensures { self.new ≡ record {
+          home = self.old.home;
+          mask = self.old.mask;
+          position = self.old.position + GROUP_SIZE;
+        } }
     {
         self.chunk_index += GROUP_SIZE;
         if self.chunk_index == REFERENCE_GROUP_SIZE {

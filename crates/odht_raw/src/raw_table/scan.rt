@@ -60,7 +60,8 @@ impl<'a> Scan<'a> {
         requires { start < length self.old.control - 16 }
         ensures bytes { result.now ≡ bytes_at self.old.control start 16 }
         ensures len { length result.now ≡ 16 }
-        ensures counted { self.new ≡ record { control = self.old.control; groups = min (self.old.groups + 1) usize.MAX } }
+        ensures counted { self.new
+            ≡ record { control = self.old.control; groups = min (self.old.groups + 1) usize.MAX } }
     {
         self.groups = self.groups.saturating_add(1);
         let control = self.control;

@@ -116,7 +116,8 @@ fn place_parts<K: ByteArray, V: ByteArray, H: HashFn, Q: Group>(
         → IsNewTo P p
         → IsNewPlacing (format_of K.LEN V.LEN H.hash) P p result entries.new control.new }
     ensures any { let p : Pair = record { key = K.bytes key; value = V.bytes value }
-        in IsAddition (format_of K.LEN V.LEN H.hash) entries.old control.old p result entries.new control.new }
+        in IsAddition (format_of K.LEN V.LEN H.hash) entries.old control.old p result entries.new
+        control.new }
 {
     let hash = H::hash(key.as_slice());
     let Some(slot) = first_free::<Q>(control, hash) else {

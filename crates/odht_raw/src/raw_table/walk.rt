@@ -48,7 +48,8 @@ impl<'a, K: ByteArray, V: ByteArray> RawSlots<'a, K, V> {
     #[inline]
     pub fn new(control: &'a [EntryMetadata], entries: Entries<'a, K, V>, from: usize) -> Self
         requires { length control.now ≡ entries.slots + 16 }
-        ensures items { let T : TableParts = record { control = control.now; entries = entries.entry }
+        ensures items { let T
+            : TableParts = record { control = control.now; entries = entries.entry }
             in result ≡ numbered_from K.of_bytes V.of_bytes (entry_format K.LEN V.LEN) T from }
         ensures few { length result ≤ entries.entry.slots }
     {
@@ -118,7 +119,8 @@ impl<'a, K: ByteArray, V: ByteArray> RawIter<'a, K, V> {
     #[inline]
     pub fn new(control: &'a [EntryMetadata], entries: Entries<'a, K, V>) -> Self
         requires { length control.now ≡ entries.slots + 16 }
-        ensures items { let T : TableParts = record { control = control.now; entries = entries.entry }
+        ensures items { let T
+            : TableParts = record { control = control.now; entries = entries.entry }
             in result ≡ items_from K.of_bytes V.of_bytes (entry_format K.LEN V.LEN) T 0 }
         ensures few { length result ≤ entries.entry.slots }
     {

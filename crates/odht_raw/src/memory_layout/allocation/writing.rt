@@ -38,7 +38,10 @@ impl<C: Config, M: ByteStoreMut> Allocation<C, M> {
     )
         requires { slot < header_slots (M.bytes self.old) }
         ensures bytes { let F = ⟦<C as Coded>⟧.coding.format
-            in let p : Pair = record { key = C.EncodedKey.bytes key.now; value = C.EncodedValue.bytes value.now }
+            in let p : Pair = record {
+              key = C.EncodedKey.bytes key.now;
+              value = C.EncodedValue.bytes value.now;
+            }
             in let B = M.bytes self.old
             in M.bytes self.new ≡ with_tag F (header_slots B) (with_entry F B slot p) slot tag }
         ensures same_store { self.new ≡ M.holding self.old (M.bytes self.new) }
@@ -58,7 +61,8 @@ impl<C: Config, M: ByteStoreMut> Allocation<C, M> {
     pub fn write_value(&mut self, slot: usize, value: &C::EncodedValue)
         requires { slot < header_slots (M.bytes self.old) }
         ensures bytes { let F = ⟦<C as Coded>⟧.coding.format
-            in M.bytes self.new ≡ with_value F (M.bytes self.old) slot (C.EncodedValue.bytes value.now) }
+            in M.bytes self.new
+            ≡ with_value F (M.bytes self.old) slot (C.EncodedValue.bytes value.now) }
         ensures same_store { self.new ≡ M.holding self.old (M.bytes self.new) }
         ensures accepted { IsAccepted ⟦<C as Coded>⟧.coding.format (M.bytes self.new) }
         ensures value { IsBytes C.EncodedValue.LEN (C.EncodedValue.bytes value.now) }
