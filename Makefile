@@ -7,6 +7,7 @@
 # make lib: build/libodht.a and build/libodht.so, each with all that it needs but the C library
 # make install, make uninstall: these, the header and what pkg-config and CMake read, below PREFIX, and below DESTDIR
 # before it
+# make archive: what `make lib` needs, over the libraries that `make prove` has just proved: `rt lib` would prove them again
 # make exports: include/odht.h and the exports of each shape of tables, of what is written once for all shapes
 # make rust: what is generated of the crate for Rust, rust/src/proved and rust/c/src/erased, of the proved crates
 # make examples: all examples, compiled against an installed copy and compared with what they must print, and the tests
@@ -31,7 +32,7 @@ ORDER ?=
 MARKDOWN ?=
 ODHT_RUST ?=
 ITEMS ?=
-.PHONY: run test prove edits build lib rust exports exports_are_current install uninstall examples bench
+.PHONY: run test prove edits build archive lib rust exports exports_are_current install uninstall examples bench
 run:
 	@cd crates/odht_table && rt try < $(abspath $(SCRIPT))
 
@@ -59,6 +60,10 @@ crates/odht_c/out/libodht_c.a: $(SOURCES)
 	  (cd crates/$$crate && rt lib) > build/lib.log 2>&1 || { cat build/lib.log >&2; exit 1; }; \
 	done
 	@touch $@
+
+archive:
+	@mkdir -p build crates/odht_c/out
+	@python3 tools/archive.py > build/archive.log 2>&1 || { cat build/archive.log >&2; exit 1; }
 
 include packaging/library.mk
 

@@ -4,14 +4,17 @@
 --                          header's load factor
 --     grown_len F B        how many bytes the table has that the bytes B grow into
 --     IsGrownImage F P T   T is the image of the grown table of P
-use Rattle.std.specs.Prelude.{◌≡◌, ℕ, ◌*◌, ◌^◌, max, nat_lt, List, Option, Some, option_and_then}
+--     IsWritten F s c f ps T   T has the header of s slots, the item count c and the load factor f; where the keys of
+--                          the pairs ps are pairwise distinct, and all are placed into the empty table, it is this table
+use Rattle.std.specs.Prelude.{◌≡◌, ℕ, ◌*◌, ◌^◌, ◌++◌, max, nat_lt, take, List, Option, Some, option_and_then}
 use Rattle.std.specs.Bool.{then_some}
 use Rattle.odht_base.specs.Format.{Format}
-use Rattle.odht_base.specs.Image.{image_len}
-use Rattle.odht_base.specs.Insert.{grown}
+use Rattle.odht_base.specs.Image.{header_bytes, image_len, parts}
+use Rattle.odht_base.specs.Insert.{grown, place_all}
 use Rattle.odht_base.specs.Load.{slots_for}
 use Rattle.odht_base.specs.Decoded.{header_count, header_factor}
-use Rattle.odht_base.specs.Table.{Table}
+use Rattle.odht_base.specs.Map.{KeysApart}
+use Rattle.odht_base.specs.Table.{Pair, Table, empty}
 use Rattle.odht_base.specs.Valid.{IsImage}
 
 abbrev pub table_len : Format → Option ℕ → Option ℕ
@@ -25,3 +28,7 @@ grown_len F B = table_len F (grown_slots_of B)
 
 abbrev pub IsGrownImage : Format → Table → List ℕ → Type 0
 IsGrownImage F P T = (Q : Table) × (grown F P ≡ Some Q) × IsImage F Q T
+
+pub record IsWritten (F : Format) (s c f : ℕ) (ps : List Pair) (T : List ℕ) : Type 0 where
+  pub placed : (Q : Table) → KeysApart ps → place_all F (empty s f) ps ≡ Some Q → T ≡ header_bytes F s c f ++ parts F Q.cells
+  pub header : take 32 T ≡ header_bytes F s c f

@@ -3,6 +3,8 @@
 pub mod Inserts
 -- lists of keys and values that are inserted in turn
 pub mod Lists
+-- what a list of inserts answers and leaves
+pub mod ListResults
 -- the last value of a key in a list of items
 pub mod LastValues
 -- making a table again by inserts
@@ -11,3 +13,5 @@ pub mod Rebuilds
 pub mod Growths
 -- lookups of many keys
 pub mod Lookups
+-- what a lookup answers
+pub mod Gets

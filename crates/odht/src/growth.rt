@@ -1,19 +1,23 @@
 //! Growth: a table with the slots for twice as many items, written into larger bytes.
-ghost use Rattle.std.specs.Prelude.{◌≡◌, ◌++◌, ◌+◌, ◌-◌, ◌*◌, ◌≤◌, max, All, Some, None};
-ghost use Rattle.std.specs.Prelude.{MatchOption, length, map, replicate, take};
+ghost use Rattle.std.specs.Prelude.{◌≡◌, ◌-◌, ◌*◌, max, All, Some, None};
+ghost use Rattle.std.specs.Prelude.{MatchOption, length, map};
 ghost use Rattle.odht_base.specs.Bytes.{bytes_at};
 ghost use Rattle.odht_base.specs.Format.{entry_len, format_of};
-ghost use Rattle.odht_base.specs.Image.{header_bytes, image_len, parts};
+ghost use Rattle.odht_base.specs.Image.{image_len};
 ghost use Rattle.odht_base.specs.Insert.{grown_slots, place_all};
 ghost use Rattle.odht_base.specs.Load.{IsSlotCount};
 ghost use Rattle.odht_base.specs.Map.{KeysApart};
 ghost use Rattle.odht_base.specs.Decoded.{header_count, header_factor};
-ghost use Rattle.odht_base.specs.Table.{Table, empty};
+ghost use Rattle.odht_base.specs.Table.{Table};
 ghost use Rattle.odht_base.specs.Valid.{IsImage, IsPartsOf};
 ghost use Rattle.odht_raw.specs.Frame.{IsAccepted};
 ghost use Rattle.odht_header.specs.Layouts.{IsLayout};
 ghost use Rattle.odht_raw.specs.PartsPlacings.{IsNewTo};
-ghost use Rattle.odht.specs.Growths.{grown_len, grown_slots_of, table_len, IsGrownImage};
+ghost use Rattle.odht_raw.specs.PartLengths.{ArePartLengths};
+ghost use Rattle.odht_raw.specs.Parts.{IsZeros};
+ghost use Rattle.odht_raw.specs.Walks.{stored};
+ghost use Rattle.odht.specs.Growths.{grown_len, grown_slots_of, table_len};
+ghost use Rattle.odht.specs.Growths.{IsGrownImage, IsWritten};
 
 use crate::bytes::{ByteArray, ByteStore};
 use crate::config::{Coded, Config};
@@ -21,7 +25,7 @@ use crate::hash::HashFn;
 use crate::hash_table::HashTable;
 use crate::load::Factor;
 use crate::memory_layout::{self, HEADER_SIZE, Header};
-use crate::raw_table::{FREE, RawIter, RawTableMut};
+use crate::raw_table::{RawIter, RawTableMut};
 
 impl<C: Config, D: ByteStore> HashTable<C, D> {
     /// The length in bytes of the table that this one grows into: with the slots for twice the header's item count, and
@@ -64,8 +68,7 @@ impl<C: Config, D: ByteStore> HashTable<C, D> {
             // `out` has the length of the grown table.
             unreachable!()
         };
-        let entries = memory_layout::entry_at::<C>(slot_count);
-        out[HEADER_SIZE..entries].fill(0);
+        memory_layout::clear_entries::<C>(out, slot_count);
         write_grown(self, slot_count, out);
     }
 }
@@ -94,8 +97,8 @@ pub(crate) fn write_grown<C: Config, D: ByteStore>(
 )
     requires slots { grown_slots_of (D.bytes table.now) ≡ Some slot_count }
     requires len { length out.old ≡ image_len ⟦<C as Coded>⟧.coding.format slot_count }
-    requires zeros { let n = slot_count * entry_len ⟦<C as Coded>⟧.coding.format
-        in bytes_at out.old 32 n ≡ replicate n 0 }
+    requires zeros { IsZeros (slot_count * entry_len ⟦<C as Coded>⟧.coding.format)
+        (bytes_at out.old 32 (slot_count * entry_len ⟦<C as Coded>⟧.coding.format)) }
     ensures on_valid { let F = ⟦<C as Coded>⟧.coding.format
         in (P : Table)
         → IsImage F P (D.bytes table.now)
@@ -113,7 +116,7 @@ pub(crate) fn write_grown<C: Config, D: ByteStore>(
 }
 
 // Writes the table of so many slots with the items of the walk into bytes whose entries are zeros. The new header gets
-// `item_count`, whatever the walk gives. `placed` is for a walk whose keys are pairwise distinct, as on valid bytes.
+// `item_count`, whatever the walk gives.
 fn write_table<C: Config>(
     bytes: &mut [u8],
     slot_count: usize,
@@ -123,26 +126,14 @@ fn write_table<C: Config>(
 )
     requires slots { IsSlotCount slot_count }
     requires len { length bytes.old ≡ image_len ⟦<C as Coded>⟧.coding.format slot_count }
-    requires zeros { let n = slot_count * entry_len ⟦<C as Coded>⟧.coding.format
-        in bytes_at bytes.old 32 n ≡ replicate n 0 }
-    ensures placed { let F = ⟦<C as Coded>⟧.coding.format
-        in let f = max_load_factor.0
-        in let pairs = map (λ x. record {
-          key = C.EncodedKey.bytes x.1.key;
-          value = C.EncodedValue.bytes x.1.value;
-        })
-        walk.entry
-        in (Q : Table)
-        → KeysApart pairs
-        → place_all F (empty slot_count f) pairs ≡ Some Q
-        → bytes.new ≡ header_bytes F slot_count item_count f ++ parts F Q.cells }
-    ensures header { let F = ⟦<C as Coded>⟧.coding.format
-        in take 32 bytes.new ≡ header_bytes F slot_count item_count max_load_factor.0 }
+    requires zeros { IsZeros (slot_count * entry_len ⟦<C as Coded>⟧.coding.format)
+        (bytes_at bytes.old 32 (slot_count * entry_len ⟦<C as Coded>⟧.coding.format)) }
+    ensures { IsWritten ⟦<C as Coded>⟧.coding.format slot_count item_count max_load_factor.0
+        (map (stored C.EncodedKey.bytes C.EncodedValue.bytes) walk.entry) bytes.new }
 {
+    memory_layout::write_empty::<C>(bytes, slot_count, item_count, max_load_factor);
     let (table, control) = bytes.split_at_mut(memory_layout::entry_at::<C>(slot_count));
-    let (header, entries) = table.split_at_mut(HEADER_SIZE);
-    memory_layout::write_header::<C>(header, slot_count, item_count, max_load_factor);
-    control.fill(FREE);
+    let (_header, entries) = table.split_at_mut(HEADER_SIZE);
     insert_walk::<C::EncodedKey, C::EncodedValue, C::H>(control, entries, walk);
 }
 
@@ -153,14 +144,9 @@ fn insert_walk<K: ByteArray, V: ByteArray, H: HashFn>(
     entries: &mut [u8],
     walk: RawIter<'_, K, V>,
 )
-    requires slots { IsSlotCount (length control.old - 16) }
-    requires entries { length entries.old ≡ (length control.old - 16) * (K.LEN + V.LEN) }
-    requires hashes { H.MIN_LEN ≤ K.LEN }
-    requires key { K.LEN ≤ 255 }
-    requires value { V.LEN ≤ 255 }
+    requires { ArePartLengths H.MIN_LEN K.LEN V.LEN (length entries.old) (length control.old) }
     ensures { let F = format_of K.LEN V.LEN H.hash
-        in let pairs = map
-        (λ x. record { key = K.bytes x.1.key; value = V.bytes x.1.value }) walk.entry
+        in let pairs = map (stored K.bytes V.bytes) walk.entry
         in (P Q : Table)
         → IsPartsOf F P entries.old control.old
         → KeysApart pairs

@@ -1,20 +1,18 @@
 //! The table over bytes of any kind.
-ghost use Rattle.std.specs.Prelude.{◌≡◌, ℕ, ◌/◌, ◌≤◌, ◌↔◌, length, map, IfOk, IfSome, IsOk, IsSome};
+ghost use Rattle.std.specs.Prelude.{◌≡◌, ℕ, ◌≤◌, ◌↔◌, length, map, IfOk, IfSome, IsOk};
 ghost use Rattle.std.specs.Prelude.{IsNone, IsTrue, OnErr, OnOk};
 ghost use Rattle.std.specs.Result.{result_err};
 ghost use Rattle.odht_base.specs.Load.{factor_of, slots_for};
 ghost use Rattle.odht_base.specs.Image.{image_len};
 ghost use Rattle.odht_base.specs.Table.{Table, walk, count};
-ghost use Rattle.odht_base.specs.Map.{map_of};
-ghost use Rattle.odht_base.specs.Insert.{insert_view, IsFullFor};
-ghost use Rattle.odht_base.specs.Search.{groups_read};
 ghost use Rattle.odht_base.specs.Decoded.{header_count, header_slots, entries_of, controls_of};
-ghost use Rattle.odht_base.specs.Decoded.{decoded_pairs, HoldsKey};
+ghost use Rattle.odht_base.specs.Decoded.{decoded_pairs};
 ghost use Rattle.odht_base.specs.Valid.{IsImage, IsPartsOf, IsValidBytes};
-ghost use Rattle.odht_header.specs.Coding.{value_for, HasStored};
-ghost use Rattle.odht.specs.Inserts.{IsFresh, IsInserted};
+ghost use Rattle.odht_header.specs.Coding.{value_for};
+ghost use Rattle.odht.specs.Gets.{IsGet, IsCountedGet, IsKnown};
+ghost use Rattle.odht.specs.Inserts.{IsFresh, IsViewInsert};
 ghost use Rattle.odht.specs.Lookups.{HaveStored};
-ghost use Rattle.odht_raw.specs.Frame.{IsAccepted, IsFramed};
+ghost use Rattle.odht_raw.specs.Frame.{IsAccepted};
 ghost use Rattle.odht_raw.specs.Walks.{decoded_all};
 ghost use Rattle.odht_header.specs.Refusals.{IsTooLarge, new_refusal, opening_refusal};
 ghost use Rattle.odht_header.specs.Refusals.{view_refusal};
@@ -116,11 +114,7 @@ impl<C: Config, D: ByteStore> HashTable<C, D> {
     /// that is stored with this very key. [`HashTable::get_counted`] says how many groups the search reads.
     #[inline(always)]
     pub fn get(&self, key: &C::Key) -> Option<C::Value>
-        ensures on_valid { (P : Table)
-            → IsImage ⟦<C as Coded>⟧.coding.format P (D.bytes self.now)
-            → result ≡ value_for ⟦<C as Coded>⟧.coding P key.now }
-        ensures on_any { IfSome result
-            (λ v. HasStored ⟦<C as Coded>⟧.coding (D.bytes self.now) key.now v) }
+        ensures { IsGet ⟦<C as Coded>⟧.coding (D.bytes self.now) key.now result }
     {
         self.get_by::<GroupQuery>(key)
     }
@@ -147,16 +141,7 @@ impl<C: Config, D: ByteStore> HashTable<C, D> {
     /// "Search", counts them.
     #[inline]
     pub fn get_counted(&self, key: &C::Key) -> (Option<C::Value>, usize)
-        ensures on_valid { (P : Table)
-            → IsImage ⟦<C as Coded>⟧.coding.format P (D.bytes self.now)
-            → result.0 ≡ value_for ⟦<C as Coded>⟧.coding P key.now }
-        ensures groups { let c = ⟦<C as Coded>⟧.coding
-            in (P : Table)
-            → IsImage c.format P (D.bytes self.now)
-            → result.1 ≡ groups_read c.format P.cells (c.key_bytes key.now) }
-        ensures on_any { IfSome result.0
-            (λ v. HasStored ⟦<C as Coded>⟧.coding (D.bytes self.now) key.now v) }
-        ensures few { result.1 ≤ header_slots (D.bytes self.now) / 16 }
+        ensures { IsCountedGet ⟦<C as Coded>⟧.coding (D.bytes self.now) key.now result }
     {
         self.get_counted_by::<GroupQuery>(key)
     }
@@ -164,11 +149,7 @@ impl<C: Config, D: ByteStore> HashTable<C, D> {
     /// Whether the key has a value. On any bytes it is true only where the entry of some slot holds this very key.
     #[inline]
     pub fn contains_key(&self, key: &C::Key) -> bool
-        ensures on_valid { (P : Table)
-            → IsImage ⟦<C as Coded>⟧.coding.format P (D.bytes self.now)
-            → IsTrue result ↔ IsSome (map_of P (⟦<C as Coded>⟧.coding.key_bytes key.now)) }
-        ensures on_any { let c = ⟦<C as Coded>⟧.coding
-            in IsTrue result → HoldsKey c.format (D.bytes self.now) (c.key_bytes key.now) }
+        ensures { IsKnown ⟦<C as Coded>⟧.coding (D.bytes self.now) key.now result }
     {
         self.contains_key_by::<GroupQuery>(key)
     }
@@ -340,21 +321,8 @@ impl<C: Config, D: ByteStoreMut> HashTable<C, D> {
     /// The key is hashed once. [`HashTable::get_counted`] says how many groups the search reads.
     #[inline(always)]
     pub fn insert(&mut self, key: &C::Key, value: &C::Value) -> Result<Option<C::Value>, Error>
-        ensures ok { let c = ⟦<C as Coded>⟧.coding
-            in (P : Table)
-            → IsImage c.format P (D.bytes self.old)
-            → IfOk result (λ old. IsInserted c (insert_view c.format) P key.now value.now old
-            (D.bytes self.new)) }
-        ensures full { let c = ⟦<C as Coded>⟧.coding
-            in (P : Table)
-            → IsImage c.format P (D.bytes self.old)
-            → (result ≡ Err Error.Full) ↔ IsFullFor P (c.key_bytes key.now) }
-        ensures frame { let c = ⟦<C as Coded>⟧.coding
-            in IsFramed c (D.bytes self.old) key.now value.now result (D.bytes self.new) }
-        ensures only_full { OnErr result (result ≡ Err Error.Full) }
-        ensures refused { OnErr result (self.new ≡ self.old) }
-        ensures same_store { self.new ≡ D.holding self.old (D.bytes self.new) }
-        ensures accepted { IsAccepted ⟦<C as Coded>⟧.coding.format (D.bytes self.new) }
+        ensures { IsViewInsert ⟦<C as Coded>⟧.coding D.bytes D.holding self.old self.new
+            key.now value.now result }
     {
         self.insert_by::<GroupQuery>(key, value)
     }

@@ -21,8 +21,8 @@ pub mod SoundBytes
 pub mod ImagesOpen
 -- the whole check has no error exactly for valid bytes
 pub mod WholeChecks
--- a write of one byte again and again
-pub mod Fills
+-- bytes whose entries were overwritten with zeros
+pub mod ClearedEntries
 -- what the writes of a new table leave
 pub mod NewTables
 -- a walk over the slots

@@ -20,6 +20,10 @@ pub mod Checks
 pub mod Frame
 -- where a search ends on any parts
 pub mod SearchEnds
+-- what a search by groups answers and leaves
+pub mod Searches
+-- what a find answers
+pub mod Finds
 -- what an insert into parts answers and leaves
 pub mod PartsInserts
 -- an insert into parts with room for so many new entries

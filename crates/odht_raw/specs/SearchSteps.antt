@@ -7,8 +7,9 @@
 --     EndsWithin F P k p n   the search ends at one of the n positions from p on
 --     IsLook F P k p n r     r is the result of a look at these n positions: the answer where the search ends there,
 --                            else None
+--     IsTag F k t            t is the tag of k, which is below that of any free slot
 use Rattle.std.specs.Prelude.{◌≡◌, ℕ, ◌+◌, ◌%◌, ◌<◌, ◌≤◌, false, List, length, slice_index, Option, Some, MatchOption}
-use Rattle.odht_base.specs.Format.{Format, home}
+use Rattle.odht_base.specs.Format.{Format, home, tag}
 use Rattle.odht_base.specs.Image.{entries, control_byte}
 use Rattle.odht_base.specs.Probe.{probe_slot}
 use Rattle.odht_base.specs.Search.{stops_at, reach}
@@ -38,3 +39,7 @@ EndsWithin F P k p n = (q : ℕ) × (p ≤ q) × (q < p + n) × (reach F P.cells
 
 abbrev pub IsLook : Format → Table → List ℕ → ℕ → ℕ → Option Search → Type 0
 IsLook F P k p n r = MatchOption r (Passed F P k (p + n)) (λ a. (a ≡ answer F P.cells k) × EndsWithin F P k p n)
+
+pub record IsTag (F : Format) (k : List ℕ) (t : ℕ) : Type 0 where
+  pub is : t ≡ tag F k
+  pub small : t < 128

@@ -1,4 +1,5 @@
 -- What an insert of a pair p with room for m new entries does to the parts of a table.
+--     IsStepEnd F m es ctrl k r  r is where a search for k ends; without room it also says what comes before
 --     StepFrame F m es ctrl p a es' ctrl'  without room the answer may be Full, with nothing changed, where a search
 --                          slot by slot can end without the key; else an insert does what PartsFrame says, and adds an
 --                          entry only where there is room
@@ -11,8 +12,14 @@ use Rattle.odht_base.specs.Table.{Pair}
 use Rattle.odht_raw.specs.ControlBytes.{IsMissing}
 use Rattle.odht_raw.specs.Frame.{PartsFrame}
 use Rattle.odht_raw.specs.Parts.{stored_in}
+use Rattle.odht_raw.specs.SearchEnds.{IsEnd, IsAfter}
 use Rattle.odht_header.specs.declared.error.Error.{Error}
 use Rattle.odht_header.specs.declared.error.Error.TheVariants.{Full}
+use Rattle.odht_raw.specs.declared.raw_table.search_result.Search.{Search}
+
+pub record IsStepEnd (F : Format) (m : ℕ) (es ctrl k : List ℕ) (r : Search) : Type 0 where
+  pub slot : IsEnd F (stored_in es ctrl) ctrl k r
+  pub earlier : m ≡ 0 → IsAfter F (stored_in es ctrl) ctrl k r
 
 pub data StepFrame (F : Format) (m : ℕ) (es ctrl : List ℕ) (p : Pair) : Result (Option (List ℕ)) Error → List ℕ → List ℕ → Type 0 where
   no_room : m ≡ 0 → IsMissing F (stored_in es ctrl) ctrl p.key → StepFrame F m es ctrl p (Err Full) es ctrl

@@ -8,11 +8,13 @@
 --     AreRising ns         the slots of ns rise
 --     IsPending F P done ns  done and the slots of ns are the occupied slots of P, each once; the slots of ns rise; and
 --                          done, with the slots of ns that are placed, are the slots so far in the search for an order
+--     IsPass F P done ns n  after a pass that placed n slots: they are the first of ns, and the others wait; where n is 0,
+--                          done leads no further
 --     AreWholeParts F P T n  T is the parts of the table P, which is valid and has n pairs
-use Rattle.std.specs.Prelude.{◌≡◌, ℕ, ◌+◌, ◌-◌, ◌^◌, ◌%◌, ◌<◌, ◌≤◌, nat_lt, List, ◌++◌, map, filter, AllPairs, IsPermutation}
+use Rattle.std.specs.Prelude.{◌≡◌, ℕ, ◌+◌, ◌-◌, ◌^◌, ◌%◌, ◌<◌, ◌≤◌, nat_lt, List, ◌++◌, map, filter, take, drop, AllPairs, IsPermutation}
 use Rattle.odht_base.specs.Format.{Format}
 use Rattle.odht_base.specs.Made.{occupied}
-use Rattle.odht_base.specs.Ready.{IsSoFar}
+use Rattle.odht_base.specs.Ready.{IsSoFar, IsStuck}
 use Rattle.odht_base.specs.Table.{Table, count}
 use Rattle.odht_base.specs.Valid.{IsPartsOf, IsValid}
 use Rattle.odht_raw.specs.Parts.{TableParts}
@@ -36,6 +38,10 @@ pub record IsPending (F : Format) (P : Table) (done ns : List ℕ) : Type 0 wher
   pub listed : IsPermutation (occupied P) (done ++ map slot_of ns)
   pub rising : AreRising ns
   pub so_far : IsSoFar F P (done ++ placed_of ns)
+
+pub record IsPass (F : Format) (P : Table) (done ns : List ℕ) (n : ℕ) : Type 0 where
+  pub pending : IsPending F P (done ++ take n ns) (drop n ns)
+  pub stuck : n ≡ 0 → IsStuck F P done
 
 pub record AreWholeParts (F : Format) (P : Table) (T : TableParts) (n : ℕ) : Type 0 where
   pub valid : IsValid F P

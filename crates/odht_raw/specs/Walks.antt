@@ -4,6 +4,7 @@
 --     decoded_items f g xs the keys and the values of items, decoded by f and g
 --     decoded_numbered f g xs    the same of items that have slot numbers, each with its number
 --     Item K V             a control byte and an entry, which holds a key and a value as byte arrays
+--     stored f g x         the pair of an item's key and value, which f and g encode
 --     item f g c p         the control byte c and the entry of the pair p, whose byte arrays are made by f and g
 --     slot_item f g F T i  the item of slot i of the parts T; None where its control byte counts as free
 --     items_of f g F T is  the items of these slots
@@ -30,6 +31,9 @@ decoded_all c ps = map (decoded c) ps
 
 abbrev pub Item : Type 0 → Type 0 → Type 0
 Item K V = ℕ × Entry K V
+
+abbrev pub stored : {K V : Type 0} → (K → List ℕ) → (V → List ℕ) → Item K V → Pair
+stored f g x = record { key = f x.1.key; value = g x.1.value }
 
 abbrev pub item : {K V : Type 0} → (List ℕ → K) → (List ℕ → V) → ℕ → Pair → Item K V
 item f g control p = (control, record { key = f p.key; value = g p.value })

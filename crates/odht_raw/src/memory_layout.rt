@@ -9,6 +9,6 @@ mod new_tables;
 pub use crate::raw_table::{Entries, EntryMetadata};
 pub use allocation::Allocation;
 pub use check::check_all;
-pub use new_tables::{allocate, init_in_place};
+pub use new_tables::{allocate, clear_entries, init_in_place, write_empty};
 pub use odht_header::header::{HEADER_SIZE, Header, LEAST_FACTOR, write_header};
 pub use odht_header::sizes::{bytes_needed, entry_at, layout_for};

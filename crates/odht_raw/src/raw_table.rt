@@ -2,18 +2,14 @@
 //!
 //! Where a comment says "on the parts of a table whose keys are all reached", its clause says `IsPartsOf`: no key is in
 //! two slots, the search for each key ends at its slot, and control bytes, mirror and entries are those of the table.
-ghost use Rattle.std.specs.Prelude.{◌≡◌, ◌+◌, ◌/◌, ◌^◌, ◌<◌, ◌≤◌, length, option_map, IfOk, IfSome};
+ghost use Rattle.std.specs.Prelude.{◌≡◌, ◌+◌, ◌/◌, ◌^◌, ◌<◌, ◌≤◌, length, IfOk};
 ghost use Rattle.std.specs.Result.{result_err};
 ghost use Rattle.odht_base.specs.Format.{format_of};
 ghost use Rattle.odht_base.specs.Load.{IsSlotCount};
-ghost use Rattle.odht_base.specs.Table.{Table};
-ghost use Rattle.odht_base.specs.Map.{map_of};
-ghost use Rattle.odht_base.specs.Search.{groups_read};
-ghost use Rattle.odht_base.specs.Valid.{IsPartsOf};
 ghost use Rattle.odht_base.specs.Decoded.{counts_as_free};
 ghost use Rattle.odht_raw.specs.Parts.{entry_format};
 ghost use Rattle.odht_raw.specs.Checks.{IsSlotHash};
-ghost use Rattle.odht_raw.specs.SearchEnds.{IsBesideKey};
+ghost use Rattle.odht_raw.specs.Finds.{IsFind, IsCountedFind};
 ghost use Rattle.odht_raw.specs.Walks.{items_from};
 ghost use Rattle.odht_header.specs.Refusals.{checked, hashes_refusal, hashes_refusal_at};
 
@@ -122,12 +118,7 @@ impl<'a, K: ByteArray, V: ByteArray, H: HashFn> RawTable<'a, K, V, H> {
     /// stored with an equal key. `find_counted` says how many groups that takes.
     #[inline]
     pub fn find(&self, key: &K) -> Option<V>
-        ensures on_placed { (P : Table)
-            → IsPartsOf (format_of K.LEN V.LEN H.hash) P self.now.entries.bytes self.now.control
-            → result ≡ option_map V.of_bytes (map_of P (K.bytes key.now)) }
-        ensures on_any { IfSome result
-            (IsBesideKey (format_of K.LEN V.LEN H.hash) V.of_bytes self.now.entries
-            (K.bytes key.now)) }
+        ensures { IsFind (format_of K.LEN V.LEN H.hash) V.of_bytes self.now (K.bytes key.now) result }
     {
         let (value, _) = self.find_counted(key);
         value
@@ -138,16 +129,8 @@ impl<'a, K: ByteArray, V: ByteArray, H: HashFn> RawTable<'a, K, V, H> {
     /// "Search".
     #[inline]
     pub fn find_counted(&self, key: &K) -> (Option<V>, usize)
-        ensures on_placed { (P : Table)
-            → IsPartsOf (format_of K.LEN V.LEN H.hash) P self.now.entries.bytes self.now.control
-            → result.0 ≡ option_map V.of_bytes (map_of P (K.bytes key.now)) }
-        ensures groups { (P : Table)
-            → IsPartsOf (format_of K.LEN V.LEN H.hash) P self.now.entries.bytes self.now.control
-            → result.1 ≡ groups_read (format_of K.LEN V.LEN H.hash) P.cells (K.bytes key.now) }
-        ensures on_any { IfSome result.0
-            (IsBesideKey (format_of K.LEN V.LEN H.hash) V.of_bytes self.now.entries
-            (K.bytes key.now)) }
-        ensures few { result.1 ≤ self.now.entries.slots / 16 }
+        ensures { IsCountedFind (format_of K.LEN V.LEN H.hash) V.of_bytes self.now (K.bytes key.now)
+            result }
     {
         self.find_counted_by::<GroupQuery>(key)
     }
@@ -156,16 +139,8 @@ impl<'a, K: ByteArray, V: ByteArray, H: HashFn> RawTable<'a, K, V, H> {
     /// searches give the same.
     #[inline]
     pub fn find_counted_by<Q: Group>(&self, key: &K) -> (Option<V>, usize)
-        ensures on_placed { (P : Table)
-            → IsPartsOf (format_of K.LEN V.LEN H.hash) P self.now.entries.bytes self.now.control
-            → result.0 ≡ option_map V.of_bytes (map_of P (K.bytes key.now)) }
-        ensures groups { (P : Table)
-            → IsPartsOf (format_of K.LEN V.LEN H.hash) P self.now.entries.bytes self.now.control
-            → result.1 ≡ groups_read (format_of K.LEN V.LEN H.hash) P.cells (K.bytes key.now) }
-        ensures on_any { IfSome result.0
-            (IsBesideKey (format_of K.LEN V.LEN H.hash) V.of_bytes self.now.entries
-            (K.bytes key.now)) }
-        ensures few { result.1 ≤ self.now.entries.slots / 16 }
+        ensures { IsCountedFind (format_of K.LEN V.LEN H.hash) V.of_bytes self.now (K.bytes key.now)
+            result }
     {
         let mut scan = Scan::new(self.control, self.entries.len());
         let end = search::<K, V, H, Q>(&mut scan, &self.entries, key);

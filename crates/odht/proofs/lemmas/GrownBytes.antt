@@ -91,27 +91,3 @@ module _ (F : Format) (T : List ℕ) (s c f : ℕ) (front : take 32 T ≡ header
   -- and the slot count, so bytes of the length for it are accepted
   pub headed_accepted : IsSlotCount s → length T ≡ image_len F s → IsAccepted F T
   headed_accepted count long = subst (IsAccepted F) (sym split) (IsAccepted-headed F s c f (drop 32 T) count (ap length (sym split) ∙ long))
-
--- ---- entries that are cleared
-module _ (xs ys : List ℕ) (m to : ℕ) (at : to ≡ 32 + m) (fits : to ≤ length xs) (zeros : ys ≡ replicate (length (take (to - 32) (drop 32 xs))) 0) where
-  front : length (take 32 xs) ≡ 32
-  front = length-take-le 32 xs (omega (arith, at, fits))
-
-  few : ys ≡ replicate m 0
-  few =
-      let k : to - 32 ≡ m = omega (arith, at) in
-      let rest : m ≤ length (drop 32 xs) = omega (arith, length-drop 32 xs, at, fits) in
-      zeros ∙ ap (λ n. replicate n 0) (ap (λ n. length (take n (drop 32 xs))) k ∙ length-take-le m (drop 32 xs) rest)
-
-  many : length ys ≡ m
-  many = ap length few ∙ length-replicate m 0
-
-  -- are zeros
-  pub cleared_zeros : bytes_at (put_mid 32 (to - 32) xs ys) 32 m ≡ replicate m 0
-  cleared_zeros = bytes_at-between (take 32 xs) ys (drop (to - 32) (drop 32 xs)) 32 m front many ∙ few
-
-  -- in bytes as many as before
-  pub cleared_length : length (put_mid 32 (to - 32) xs ys) ≡ length xs
-  cleared_length =
-      let rest = drop (to - 32) (drop 32 xs) in
-      omega (arith, length-append (take 32 xs) (ys ++ rest), length-append ys rest, front, many, length-drop (to - 32) (drop 32 xs), length-drop 32 xs, at, fits)

@@ -1,10 +1,6 @@
 //! Lists of inserts into the table over bytes of any kind.
-ghost use Rattle.std.specs.Prelude.{◌≡◌, ◌≤◌, ◌↔◌, length, take, IsOk, OnErr};
-ghost use Rattle.odht_base.specs.Table.{Table};
-ghost use Rattle.odht_base.specs.Insert.{insert_view};
-ghost use Rattle.odht_base.specs.Valid.{IsImage};
-ghost use Rattle.odht.specs.Lists.{encoded_all, IsAfterInserts, IsFramedRun, IsRefusedAt};
-ghost use Rattle.odht.specs.Lists.{IsStoppedAt};
+ghost use Rattle.std.specs.Prelude.{◌≡◌, ◌≤◌, length};
+ghost use Rattle.odht.specs.ListResults.{IsViewList};
 ghost use Rattle.odht_raw.specs.Frame.{IsAccepted};
 ghost use Rattle.odht_raw.specs.Runs.{IsListRun};
 
@@ -39,24 +35,8 @@ impl<C: Config, D: ByteStoreMut> HashTable<C, D> {
     /// On any bytes each accepted item changes no more than `insert` may, and the item that failed is one for which
     /// `insert` may return `Full`.
     pub fn insert_all(&mut self, items: &[(C::Key, C::Value)]) -> (usize, Result<(), Error>)
-        ensures bound { result.0 ≤ length items.now }
-        ensures all { IsOk result.1 ↔ (result.0 ≡ length items.now) }
-        ensures inserted { let c = ⟦<C as Coded>⟧.coding
-            in (P : Table)
-            → IsImage c.format P (D.bytes self.old)
-            → IsAfterInserts c.format (insert_view c.format) P
-            (encoded_all c (take result.0 items.now)) (D.bytes self.new) }
-        ensures framed { let c = ⟦<C as Coded>⟧.coding
-            in IsFramedRun c (D.bytes self.old) (take result.0 items.now) (D.bytes self.new) }
-        ensures same_store { self.new ≡ D.holding self.old (D.bytes self.new) }
-        ensures accepted { IsAccepted ⟦<C as Coded>⟧.coding.format (D.bytes self.new) }
-        ensures at_maximum { let c = ⟦<C as Coded>⟧.coding
-            in (P : Table)
-            → IsImage c.format P (D.bytes self.new)
-            → OnErr result.1 (IsRefusedAt c P items.now result.0) }
-        ensures stopped { let c = ⟦<C as Coded>⟧.coding
-            in OnErr result.1 (IsStoppedAt c items.now result.0 (D.bytes self.new)) }
-        ensures only_full { OnErr result.1 (result.1 ≡ Err Error.Full) }
+        ensures { IsViewList ⟦<C as Coded>⟧.coding D.bytes D.holding self.old self.new
+            items.now result }
     {
         self.insert_items(&items)
     }
@@ -68,25 +48,8 @@ impl<C: Config, D: ByteStoreMut> HashTable<C, D> {
         &mut self,
         items: &I,
     ) -> (usize, Result<(), Error>)
-        ensures bound { result.0 ≤ length (I.items items.now) }
-        ensures all { IsOk result.1 ↔ (result.0 ≡ length (I.items items.now)) }
-        ensures inserted { let c = ⟦<C as Coded>⟧.coding
-            in let accepted = encoded_all c (take result.0 (I.items items.now))
-            in (P : Table)
-            → IsImage c.format P (D.bytes self.old)
-            → IsAfterInserts c.format (insert_view c.format) P accepted (D.bytes self.new) }
-        ensures framed { let c = ⟦<C as Coded>⟧.coding
-            in IsFramedRun c (D.bytes self.old) (take result.0 (I.items items.now))
-            (D.bytes self.new) }
-        ensures same_store { self.new ≡ D.holding self.old (D.bytes self.new) }
-        ensures accepted { IsAccepted ⟦<C as Coded>⟧.coding.format (D.bytes self.new) }
-        ensures at_maximum { let c = ⟦<C as Coded>⟧.coding
-            in (P : Table)
-            → IsImage c.format P (D.bytes self.new)
-            → OnErr result.1 (IsRefusedAt c P (I.items items.now) result.0) }
-        ensures stopped { let c = ⟦<C as Coded>⟧.coding
-            in OnErr result.1 (IsStoppedAt c (I.items items.now) result.0 (D.bytes self.new)) }
-        ensures only_full { OnErr result.1 (result.1 ≡ Err Error.Full) }
+        ensures { IsViewList ⟦<C as Coded>⟧.coding D.bytes D.holding self.old self.new
+            (I.items items.now) result }
     {
         let accepted = self.insert_from(items, 0);
         if accepted < items.count() {

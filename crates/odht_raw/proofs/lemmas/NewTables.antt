@@ -1,13 +1,13 @@
 -- What the writes of a new table leave.
-use Rattle.std.proofs.Common.{append_assoc, length-take, ◌≤◌, ◌≡◌, ◌∙◌, ◌+◌, ◌-◌, ◌*◌, ◌++◌, ℕ, sym, ap, subst, List, [], take, drop, replicate, length, length-append, arith, lit≤}
+use Rattle.std.proofs.Common.{append_assoc, length-take, ◌≤◌, ◌≡◌, ◌∙◌, ◌+◌, ◌-◌, ◌*◌, ◌++◌, ℕ, sym, ap, subst, List, [], take, drop, replicate, length, arith, lit≤}
 use Rattle.std.proofs.lemmas.List.{length-replicate, replicate-append-replicate, drop_all, append-nil}
 use Rattle.odht_base.specs.Bytes.{bytes_at, overwritten_at}
 use Rattle.odht_base.specs.Format.{Format, entry_len}
 use Rattle.odht_base.specs.Load.{IsSlotCount}
 use Rattle.odht_base.specs.Table.{empty}
-use Rattle.odht_base.specs.Image.{header_bytes, image, image_len}
+use Rattle.odht_base.specs.Image.{header_bytes, image}
 use Rattle.odht_base.specs.Writes.{with_count}
-use Rattle.odht_base.proofs.lemmas.ByteRanges.{overwritten_at-twice, split_bytes_at, bytes_at-between, bytes_at-take}
+use Rattle.odht_base.proofs.lemmas.ByteRanges.{split_bytes_at, bytes_at-between}
 use Rattle.odht_base.proofs.lemmas.Fits.{IsSized-empty}
 use Rattle.odht_base.proofs.lemmas.Image.{image-empty}
 use Rattle.odht_base.proofs.lemmas.Writes.{with_count-append, with_count-header_bytes}
@@ -49,36 +49,11 @@ module _ (F : Format) (s c f : ℕ) (count : IsSlotCount s) where
       IsAccepted-with_count F (image F (empty s f))
       (IsAccepted-image F (empty s f) (subst IsSlotCount (sym (length-replicate s None)) count) (IsSized-empty F s f count)) c
 
-  -- the header, the zeros of the entries and the control bytes are these bytes
-  pub written-new : (A : List ℕ) (at : ℕ) → take 32 A ≡ header_bytes F s c f → length A ≡ image_len F s → at + (s + 16) ≡ length A
-      → overwritten_at (overwritten_at A 32 (replicate (at - 32) 0)) at (replicate (length A - at) 255) ≡ with_count (image F (empty s f)) c
-  written-new A at front long end =
-      let zeros : at - 32 ≡ s * entry_len F = omega (arith, long, end) in
-      let ones : length A - at ≡ s + 16 = omega (arith, end) in
-      let es : List ℕ = replicate (s * entry_len F) 0 in
-      let cs : List ℕ = replicate (s + 16) 255 in
-      let es_long : length es ≡ s * entry_len F = length-replicate (s * entry_len F) 0 in
-      let cs_long : length cs ≡ s + 16 = length-replicate (s + 16) 255 in
-      let all_long : length (es ++ cs) ≡ s * entry_len F + (s + 16) = length-append es cs ∙ (λ i. es_long i + cs_long i) in
-      let whole : overwritten_at A 32 (es ++ cs) ≡ header_bytes F s c f ++ (es ++ cs) = overwritten_at-to_end A 32 (es ++ cs) (omega (arith, all_long, long)) ∙ ap (λ h. h ++ (es ++ cs)) front in
-      (λ i. overwritten_at (overwritten_at A 32 (replicate (zeros i) 0)) at (replicate (ones i) 255))
-      ∙ overwritten_at-twice A 32 at es cs (omega (arith, es_long, long, end)) (omega (arith, end))
-      ∙ whole
-      ∙ sym (ap (λ b. with_count b c) (image-empty F s f count.least)
-      ∙ with_count-append (header_bytes F s 0 f) (es ++ cs) c (lit≤ tt) ∙ ap (λ h. h ++ (es ++ cs)) (with_count-header_bytes F s 0 f c))
-
-  -- and where the entries of B are zeros, these need no write
-  pub written-zeroed : (B A : List ℕ) (at : ℕ) → bytes_at B 32 (s * entry_len F) ≡ replicate (s * entry_len F) 0 → drop 32 A ≡ drop 32 B
-      → take 32 A ≡ header_bytes F s c f → length A ≡ image_len F s → at + (s + 16) ≡ length A
-      → overwritten_at A at (replicate (length A - at) 255) ≡ with_count (image F (empty s f)) c
-  written-zeroed B A at zeros rest front long end =
-      let n = s * entry_len F in
-      let size : at - 32 ≡ n = omega (arith, long, end) in
-      let es : List ℕ = replicate (at - 32) 0 in
-      let es_long : length es ≡ n = length-replicate (at - 32) 0 ∙ size in
-      let here : bytes_at A 32 n ≡ replicate n 0 = bytes_at-take A 32 n ∙ ap (take n) rest ∙ sym (bytes_at-take B 32 n) ∙ zeros in
-      let same = overwritten_at-same A 32 es (ap (bytes_at A 32) es_long ∙ here ∙ ap (λ m. replicate m 0) (sym size)) in
-      ap (λ t. overwritten_at t at (replicate (length A - at) 255)) (sym same) ∙ written-new A at front long end
+  -- they are the header, zeros for the entries, and the control bytes of free slots
+  pub bytes-new : with_count (image F (empty s f)) c ≡ header_bytes F s c f ++ (replicate (s * entry_len F) 0 ++ replicate (s + 16) 255)
+  bytes-new =
+      let rest : List ℕ = replicate (s * entry_len F) 0 ++ replicate (s + 16) 255 in
+      ap (λ b. with_count b c) (image-empty F s f count.least) ∙ with_count-append (header_bytes F s 0 f) rest c (lit≤ tt) ∙ ap (λ h. h ++ rest) (with_count-header_bytes F s 0 f c)
 
   -- with the count 0 they are the empty table's
   pub with_count-new : with_count (image F (empty s f)) 0 ≡ image F (empty s f)

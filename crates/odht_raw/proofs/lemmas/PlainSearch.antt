@@ -2,7 +2,7 @@
 use Rattle.std.proofs.Common.{◌≡◌, ◌<◌, ◌∙◌, ◌+◌, ◌%◌, inl, inr, ℕ, true, false, true≢false, sym, ap, subst, refl, List, Option, Some, None, length, arith}
 use Rattle.std.specs.Prelude.{slice_index, is_none}
 use Rattle.std.proofs.lemmas.Bool.{cases_lt, or_left, or_right, or_from, false_from_ne_true}
-use Rattle.odht_base.specs.Format.{Format, IsFormat}
+use Rattle.odht_base.specs.Format.{Format, IsFormat, home}
 use Rattle.odht_base.specs.Probe.{probe_slot}
 use Rattle.odht_base.specs.Table.{Pair, Table, slot_count, cell_at, is_free, has_key}
 use Rattle.odht_base.specs.Search.{search_end, stops_at}
@@ -11,8 +11,13 @@ use Rattle.odht_base.specs.Decoded.{counts_as_free, slot_key}
 use Rattle.odht_base.proofs.lemmas.Keys.{pair_key, same_bytes}
 use Rattle.odht_base.proofs.lemmas.Lookups.{search_end-at, search_end-nowhere}
 use Rattle.odht_raw.proofs.lemmas.PartCells.{slots_are, byte_is, key_is}
+use Rattle.odht_base.proofs.lemmas.Orders.{probe_slot-lt}
+use Rattle.odht_raw.specs.ControlBytes.{order_slot}
+use Rattle.odht_raw.specs.Parts.{EntryBytes}
+use Rattle.odht_raw.specs.SearchEnds.{IsEnd, IsPlainEnd}
 use Rattle.odht_raw.specs.SearchResults.{answer}
 use Rattle.odht_raw.specs.SearchSteps.{slot_of, Passed}
+use Rattle.odht_raw.specs.declared.raw_table.search_result.Search.{Search}
 use Rattle.odht_raw.specs.declared.raw_table.search_result.Search.TheVariants.{Found, Free, Neither}
 
 module _ (F : Format) (P : Table) (k es ctrl : List ℕ) (f : IsFormat F) (h : IsPartsOf F P es ctrl) where
@@ -77,3 +82,11 @@ module _ (F : Format) (P : Table) (k es ctrl : List ℕ) (f : IsFormat F) (h : I
   no_end s control passed =
       let e = search_end-nowhere F P.cells k (subst (Passed F P k) (slots_are F f P es ctrl h s control) passed) in
       rw e refl
+
+-- where the search slot by slot ends, a search does
+pub plain-end : (F : Format) (E : EntryBytes) (ctrl k : List ℕ) (r : Search) → 0 < E.slots → IsPlainEnd F E ctrl k r → IsEnd F E ctrl k r
+plain-end F E ctrl k (Found i) some h = h
+plain-end F E ctrl k (Free i) some h = (h.0, inl h.1)
+plain-end F E ctrl k Neither some h =
+    let low = λ (q : ℕ). probe_slot-lt (home F k E.slots) E.slots q some in
+    (λ i l. inl (h.0 i l), λ q l. inl (h.0 (order_slot F E k q) (low q), λ t e. h.1 (order_slot F E k q) (low q) e))

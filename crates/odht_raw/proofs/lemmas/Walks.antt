@@ -20,7 +20,7 @@ use Rattle.odht_base.proofs.lemmas.Image.{decoded_table-image}
 use Rattle.odht_base.proofs.lemmas.MarkedPositions.{positions_of, occupied-positions}
 use Rattle.odht_raw.specs.Parts.{TableParts, entry_format}
 use Rattle.odht_raw.specs.declared.raw_table.entries.Entry.{Entry}
-use Rattle.odht_raw.specs.Walks.{Item, item, slot_item, slot_numbered, items_of, items_from, numbered_of, numbered_from, AreOccupied, decoded_items, decoded_numbered}
+use Rattle.odht_raw.specs.Walks.{Item, item, slot_item, slot_numbered, items_of, items_from, numbered_of, numbered_from, AreOccupied, decoded_items, decoded_numbered, stored}
 
 -- ---- slots by groups
 -- a list without a first item
@@ -213,31 +213,27 @@ slots-image F P B i f is = ap (λ b. slots_from (decoded_table F b) i) is.bytes 
 
 -- ---- the items as pairs of bytes
 module _ {EK EV : Type 0} (key_bytes : EK → List ℕ) (value_bytes : EV → List ℕ) where
-  -- the pair of an item
-  abbrev pub stored : Item EK EV → Pair
-  stored x = record { key = key_bytes x.1.key; value = value_bytes x.1.value }
-
   -- those of a walk over the parts of a table are its pairs
   module _ (f : List ℕ → EK) (g : List ℕ → EV) (key_len value_len : ℕ) (hash : List ℕ → ℕ) (key_kept : (b : List ℕ) → length b ≡ key_len → key_bytes (f b) ≡ b) (value_kept : (b : List ℕ) → length b ≡ value_len → value_bytes (g b) ≡ b) where
-    stored-item : (i : ℕ) (p : Pair) → IsPairOf (format_of key_len value_len hash) p → stored (item f g i p) ≡ p
+    stored-item : (i : ℕ) (p : Pair) → IsPairOf (format_of key_len value_len hash) p → stored key_bytes value_bytes (item f g i p) ≡ p
     stored-item i p is = λ j. record { key = key_kept p.key is.key.len j; value = value_kept p.value is.value.len j }
 
     stored-slots : (F : Format) (T : TableParts) (is : List ℕ) → All (IsPairOf (format_of key_len value_len hash)) (filter_map (λ c. c) (map (decoded_cell F T.entries.bytes T.control) is))
-        → map stored (filter_map (slot_item f g F T) is) ≡ filter_map (λ c. c) (map (decoded_cell F T.entries.bytes T.control) is)
+        → map (stored key_bytes value_bytes) (filter_map (slot_item f g F T) is) ≡ filter_map (λ c. c) (map (decoded_cell F T.entries.bytes T.control) is)
     stored-slots F T [] fit = refl
     stored-slots F T (i ∷ is) fit = go (decoded_cell F T.entries.bytes T.control i) (stored-slots F T is) fit
       where
         go : (c : Option Pair)
-            → (All (IsPairOf (format_of key_len value_len hash)) (filter_map (λ c. c) (map (decoded_cell F T.entries.bytes T.control) is)) → map stored (filter_map (slot_item f g F T) is) ≡ filter_map (λ c. c) (map (decoded_cell F T.entries.bytes T.control) is))
+            → (All (IsPairOf (format_of key_len value_len hash)) (filter_map (λ c. c) (map (decoded_cell F T.entries.bytes T.control) is)) → map (stored key_bytes value_bytes) (filter_map (slot_item f g F T) is) ≡ filter_map (λ c. c) (map (decoded_cell F T.entries.bytes T.control) is))
             → All (IsPairOf (format_of key_len value_len hash)) (cons_option c (filter_map (λ c. c) (map (decoded_cell F T.entries.bytes T.control) is)))
-            → map stored (cons_option (option_map (item f g (slice_index T.control i)) c) (filter_map (slot_item f g F T) is))
+            → map (stored key_bytes value_bytes) (cons_option (option_map (item f g (slice_index T.control i)) c) (filter_map (slot_item f g F T) is))
             ≡ cons_option c (filter_map (λ c. c) (map (decoded_cell F T.entries.bytes T.control) is))
         go None rest h = rest h
         go (Some p) rest h = λ j. stored-item (slice_index T.control i) p (All-head (IsPairOf (format_of key_len value_len hash)) p _ h) j ∷ rest (All-tail (IsPairOf (format_of key_len value_len hash)) p _ h) j
 
     pub stored-walk : (P : Table) (T : TableParts) → IsPlaced (format_of key_len value_len hash) P → length T.control ≡ T.entries.slots + 16
         → filter_map (λ c. c) (decoded_cells (format_of key_len value_len hash) T.entries.bytes T.control) ≡ walk P
-        → map stored (items_from f g (entry_format key_len value_len) T 0) ≡ walk P
+        → map (stored key_bytes value_bytes) (items_from f g (entry_format key_len value_len) T 0) ≡ walk P
     unfolding decoded_cells
     stored-walk P T ok long decoded_table =
         let F = format_of key_len value_len hash in

@@ -1,24 +1,20 @@
 //! New tables, in given bytes and in newly allocated memory.
-ghost use Rattle.std.specs.Prelude.{◌≡◌, ◌+◌, ◌-◌, ◌*◌, ◌<◌, ◌≤◌, ◌^◌, ◌↔◌, ◌⊎◌, length, replicate};
-ghost use Rattle.std.specs.Prelude.{IfOk, OnErr};
+ghost use Rattle.std.specs.Prelude.{◌≡◌, ◌*◌, ◌≤◌, ◌^◌, ◌↔◌, ◌⊎◌, length, replicate, IfOk, OnErr};
 ghost use Rattle.odht_base.specs.Bytes.{bytes_at, overwritten_at};
 ghost use Rattle.odht_base.specs.Load.{IsSlotCount};
 ghost use Rattle.odht_base.specs.Format.{entry_len};
 ghost use Rattle.odht_base.specs.Table.{empty};
 ghost use Rattle.odht_base.specs.Image.{image, image_len};
 ghost use Rattle.odht_base.specs.Writes.{with_count};
+ghost use Rattle.odht_raw.specs.Parts.{IsZeros};
 
-use super::{Allocation, HEADER_SIZE, bytes_needed, write_header};
+use super::{Allocation, HEADER_SIZE, bytes_needed, entry_at, write_header};
 use crate::bytes::{ByteStoreMut, OwnedBytes};
 use crate::config::{Coded, Config};
 use crate::error::Error;
 use crate::load::Factor;
 use crate::raw_table::FREE;
-use crate::swisstable_group_query::REFERENCE_GROUP_SIZE;
 use std::alloc::Global;
-
-// How many bytes `fill` writes at once: each write is one memset, and small ones would cost a call each.
-const FILL_CHUNK: usize = 4096;
 
 /// Makes a table of `slot_count` free slots in `data`, whatever its bytes are. The header's item count is `item_count`.
 /// Each byte is written.
@@ -34,33 +30,70 @@ pub fn init_in_place<C: Config, M: ByteStoreMut>(
         in M.bytes result ≡ with_count (image F (empty slot_count max_load_factor.0)) item_count }
     ensures same_store { result ≡ M.holding «data» (M.bytes result) }
 {
-    let control = data.bytes().len() - (slot_count + REFERENCE_GROUP_SIZE);
-    fill(&mut data, HEADER_SIZE, control, 0);
-    init_zeroed(data, slot_count, item_count, max_load_factor)
+    init_store::<C, M>(&mut data, slot_count, item_count, max_load_factor);
+    Allocation::from_raw_bytes_unchecked(data)
 }
 
-// `init_in_place` where the entries are zeros already.
-fn init_zeroed<C: Config, M: ByteStoreMut>(
-    mut data: M,
+// `init_in_place` in a store that stays the caller's.
+fn init_store<C: Config, M: ByteStoreMut>(
+    store: &mut M,
     slot_count: usize,
     item_count: usize,
     max_load_factor: Factor,
-) -> Allocation<C, M>
+)
     requires slots { IsSlotCount slot_count }
-    requires len { length (M.bytes «data») ≡ image_len ⟦<C as Coded>⟧.coding.format slot_count }
-    requires zeros { let n = slot_count * entry_len ⟦<C as Coded>⟧.coding.format
-        in bytes_at (M.bytes «data») 32 n ≡ replicate n 0 }
+    requires len { length (M.bytes store.old) ≡ image_len ⟦<C as Coded>⟧.coding.format slot_count }
     ensures bytes { let F = ⟦<C as Coded>⟧.coding.format
-        in M.bytes result ≡ with_count (image F (empty slot_count max_load_factor.0)) item_count }
-    ensures same_store { result ≡ M.holding «data» (M.bytes result) }
+        in M.bytes store.new ≡ with_count (image F (empty slot_count max_load_factor.0)) item_count }
+    ensures same_store { store.new ≡ M.holding store.old (M.bytes store.new) }
 {
-    let len = data.bytes().len();
-    let control = len - (slot_count + REFERENCE_GROUP_SIZE);
-    let mut header = [0; HEADER_SIZE];
-    write_header::<C>(&mut header, slot_count, item_count, max_load_factor);
-    data.write_at(0, &header);
-    fill(&mut data, control, len, FREE);
-    Allocation::from_raw_bytes_unchecked(data)
+    init_bytes::<C>(store.bytes_mut(), slot_count, item_count, max_load_factor);
+}
+
+// `init_in_place` on the bytes themselves.
+fn init_bytes<C: Config>(
+    bytes: &mut [u8],
+    slot_count: usize,
+    item_count: usize,
+    max_load_factor: Factor,
+)
+    requires slots { IsSlotCount slot_count }
+    requires len { length bytes.old ≡ image_len ⟦<C as Coded>⟧.coding.format slot_count }
+    ensures { let F = ⟦<C as Coded>⟧.coding.format
+        in bytes.new ≡ with_count (image F (empty slot_count max_load_factor.0)) item_count }
+{
+    clear_entries::<C>(bytes, slot_count);
+    write_empty::<C>(bytes, slot_count, item_count, max_load_factor);
+}
+
+/// Writes zeros over the entries of the bytes of a table of `slot_count` slots. No other byte changes.
+pub fn clear_entries<C: Config>(bytes: &mut [u8], slot_count: usize)
+    requires { length bytes.old ≡ image_len ⟦<C as Coded>⟧.coding.format slot_count }
+    ensures { let F = ⟦<C as Coded>⟧.coding.format
+        in bytes.new ≡ overwritten_at bytes.old 32 (replicate (slot_count * entry_len F) 0) }
+{
+    bytes[HEADER_SIZE..entry_at::<C>(slot_count)].fill(0);
+}
+
+/// Writes a table of `slot_count` free slots into bytes whose entries are zeros: the header, and the control bytes with
+/// their mirror. The header's item count is `item_count`.
+pub fn write_empty<C: Config>(
+    bytes: &mut [u8],
+    slot_count: usize,
+    item_count: usize,
+    max_load_factor: Factor,
+)
+    requires slots { IsSlotCount slot_count }
+    requires len { length bytes.old ≡ image_len ⟦<C as Coded>⟧.coding.format slot_count }
+    requires zeros { IsZeros (slot_count * entry_len ⟦<C as Coded>⟧.coding.format)
+        (bytes_at bytes.old 32 (slot_count * entry_len ⟦<C as Coded>⟧.coding.format)) }
+    ensures { let F = ⟦<C as Coded>⟧.coding.format
+        in bytes.new ≡ with_count (image F (empty slot_count max_load_factor.0)) item_count }
+{
+    let (table, control) = bytes.split_at_mut(entry_at::<C>(slot_count));
+    let (header, _entries) = table.split_at_mut(HEADER_SIZE);
+    write_header::<C>(header, slot_count, item_count, max_load_factor);
+    control.fill(FREE);
 }
 
 /// Makes a table of `slot_count` free slots in newly allocated memory. The header's item count is `item_count`. The
@@ -85,24 +118,12 @@ pub fn allocate<C: Config>(
     let Some(len) = bytes_needed::<C>(slot_count) else {
         return Err(Error::Capacity);
     };
-    let bytes = OwnedBytes::new(vec![in alloc; 0; len]?);
-    Ok(init_zeroed(bytes, slot_count, item_count, max_load_factor))
-}
-
-// Writes `byte` at each index from `from` up to, but not including, `to`.
-fn fill<M: ByteStoreMut>(data: &mut M, from: usize, to: usize, byte: u8)
-    requires order { from ≤ to }
-    requires fits { to ≤ length (M.bytes «data».old) }
-    ensures bytes { M.bytes «data».new
-        ≡ overwritten_at (M.bytes «data».old) from (replicate (to - from) byte) }
-    ensures len { length (M.bytes «data».new) ≡ length (M.bytes «data».old) }
-    ensures same_store { «data».new ≡ M.holding «data».old (M.bytes «data».new) }
-{
-    let chunk = [byte; FILL_CHUNK];
-    let mut at = from;
-    'chunks: while at < to {
-        let size = (to - at).min(FILL_CHUNK);
-        data.write_at(at, &chunk[..size]);
-        at += size;
-    }
+    let mut bytes = vec![in alloc; 0; len]?;
+    write_empty::<C>(
+        bytes.as_mut_slice(),
+        slot_count,
+        item_count,
+        max_load_factor,
+    );
+    Ok(Allocation::from_raw_bytes_unchecked(OwnedBytes::new(bytes)))
 }

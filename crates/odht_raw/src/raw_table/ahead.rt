@@ -7,10 +7,8 @@ ghost use Rattle.odht_base.specs.Valid.{IsPartsOf};
 ghost use Rattle.odht_raw.specs.SearchResults.{answer};
 ghost use Rattle.odht_raw.specs.Expected.{EndsIfFree, IsAhead};
 ghost use Rattle.odht_raw.specs.PartLengths.{ArePairLengths, ArePartLengths};
-ghost use Rattle.odht_raw.specs.Parts.{stored_in};
 ghost use Rattle.odht_raw.specs.PartsInserts.{AnswersFormer};
-ghost use Rattle.odht_raw.specs.SearchEnds.{IsAfter, IsEnd};
-ghost use Rattle.odht_raw.specs.Steps.{IsStepChange};
+ghost use Rattle.odht_raw.specs.Steps.{IsStepChange, IsStepEnd};
 
 use super::group_search::whole_search;
 use super::insert::insert_at;
@@ -97,11 +95,8 @@ fn expected_end<K: ByteArray, V: ByteArray, H: HashFn>(
         → IsPartsOf F P entries.now control.now
         → EndsIfFree F P (K.bytes key.now) slot
         → result ≡ answer F P.cells (K.bytes key.now) }
-    ensures any { let F = format_of K.LEN V.LEN H.hash
-        in IsEnd F (stored_in entries.now control.now) control.now (K.bytes key.now) result }
-    ensures earlier { let F = format_of K.LEN V.LEN H.hash
-        in room ≡ 0
-        → IsAfter F (stored_in entries.now control.now) control.now (K.bytes key.now) result }
+    ensures end { IsStepEnd (format_of K.LEN V.LEN H.hash) room entries.now control.now
+        (K.bytes key.now) result }
 {
     let slots = control.len() - REFERENCE_GROUP_SIZE;
     if room > 0 {

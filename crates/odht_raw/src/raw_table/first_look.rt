@@ -1,12 +1,9 @@
 //! The first look of a search. To look up many keys, take the first looks of several keys before the first search ends:
 //! then their memory accesses overlap.
-ghost use Rattle.std.specs.Prelude.{◌≡◌, option_map, IfSome};
+ghost use Rattle.std.specs.Prelude.{◌≡◌};
 ghost use Rattle.odht_base.specs.Format.{format_of};
-ghost use Rattle.odht_base.specs.Map.{map_of};
-ghost use Rattle.odht_base.specs.Table.{Table};
-ghost use Rattle.odht_base.specs.Valid.{IsPartsOf};
 ghost use Rattle.odht_raw.specs.FirstLooks.{first_look_of};
-ghost use Rattle.odht_raw.specs.SearchEnds.{IsBesideKey};
+ghost use Rattle.odht_raw.specs.Finds.{IsFind};
 
 use super::group_search::whole_search;
 use super::{RawTable, Search, tag_of};
@@ -55,12 +52,7 @@ impl<'a, K: ByteArray, V: ByteArray, H: HashFn> RawTable<'a, K, V, H> {
     #[inline(always)]
     pub fn find_from(&self, look: FirstLook, key: &K) -> Option<V>
         requires { look ≡ first_look_of (format_of K.LEN V.LEN H.hash) self.now (K.bytes key.now) }
-        ensures on_placed { (P : Table)
-            → IsPartsOf (format_of K.LEN V.LEN H.hash) P self.now.entries.bytes self.now.control
-            → result ≡ option_map V.of_bytes (map_of P (K.bytes key.now)) }
-        ensures on_any { IfSome result
-            (IsBesideKey (format_of K.LEN V.LEN H.hash) V.of_bytes self.now.entries
-            (K.bytes key.now)) }
+        ensures { IsFind (format_of K.LEN V.LEN H.hash) V.of_bytes self.now (K.bytes key.now) result }
     {
         let mask = self.entries.len() - 1;
         let home = look.hash as usize & mask;

@@ -1,14 +1,12 @@
 //! The search by groups of control bytes along the probe order.
-ghost use Rattle.std.specs.Prelude.{◌≡◌, ℕ, ◌+◌, ◌/◌, ◌<◌, ◌≤◌, min, length, IfSome, IsNone};
+ghost use Rattle.std.specs.Prelude.{◌≡◌, ℕ, ◌+◌, ◌<◌, ◌≤◌, length, IfSome, IsNone};
 ghost use Rattle.odht_base.specs.Load.{IsSlotCount};
-ghost use Rattle.odht_base.specs.Format.{format_of, tag as key_tag};
+ghost use Rattle.odht_base.specs.Format.{format_of};
 ghost use Rattle.odht_base.specs.Table.{Table};
-ghost use Rattle.odht_base.specs.Search.{groups_read};
-ghost use Rattle.odht_base.specs.Valid.{IsPartsOf};
-ghost use Rattle.odht_raw.specs.SearchResults.{answer, IsWherePlaced};
 ghost use Rattle.odht_raw.specs.PartLengths.{ArePairLengths, AreSearchLengths};
-ghost use Rattle.odht_raw.specs.SearchEnds.{IsAfter, IsEnd, IsEndAmong, GoesOnAmong};
-ghost use Rattle.odht_raw.specs.SearchSteps.{IsGroupAt, IsLook};
+ghost use Rattle.odht_raw.specs.SearchEnds.{IsEndAmong, GoesOnAmong};
+ghost use Rattle.odht_raw.specs.SearchSteps.{IsGroupAt, IsLook, IsTag};
+ghost use Rattle.odht_raw.specs.Searches.{IsSearch, IsSearchEnd};
 
 use super::{Entries, EntryMetadata, ProbeSeq, Scan, Search, tag_of};
 use crate::bytes::ByteArray;
@@ -31,22 +29,8 @@ pub fn search<K: ByteArray, V: ByteArray, H: HashFn, Q: Group>(
     key: &K,
 ) -> Search
     requires { AreSearchLengths H.MIN_LEN K.LEN V.LEN entries.now.slots (length scan.old.control) }
-    ensures on_placed { (P : Table)
-        → IsPartsOf (format_of K.LEN V.LEN H.hash) P entries.now.bytes scan.old.control
-        → result ≡ answer (format_of K.LEN V.LEN H.hash) P.cells (K.bytes key.now) }
-    ensures placing { (P : Table)
-        → IsPartsOf (format_of K.LEN V.LEN H.hash) P entries.now.bytes scan.old.control
-        → IsWherePlaced (format_of K.LEN V.LEN H.hash) P (K.bytes key.now) result }
-    ensures groups { (P : Table)
-        → IsPartsOf (format_of K.LEN V.LEN H.hash) P entries.now.bytes scan.old.control
-        → let read = groups_read (format_of K.LEN V.LEN H.hash) P.cells (K.bytes key.now)
-        in scan.new.groups ≡ min (scan.old.groups + read) usize.MAX }
-    ensures slot { let F = format_of K.LEN V.LEN H.hash
-        in IsEnd F entries.now scan.old.control (K.bytes key.now) result }
-    ensures earlier { let F = format_of K.LEN V.LEN H.hash
-        in IsAfter F entries.now scan.old.control (K.bytes key.now) result }
-    ensures few { scan.new.groups ≤ scan.old.groups + entries.now.slots / 16 }
-    ensures control { scan.new.control ≡ scan.old.control }
+    ensures { IsSearch (format_of K.LEN V.LEN H.hash) entries.now (K.bytes key.now)
+        scan.old scan.new result }
 {
     let hash = H::hash(key.as_slice());
     search_hashed::<K, V, H, Q>(scan, entries, key, hash)
@@ -63,22 +47,8 @@ pub fn search_hashed<K: ByteArray, V: ByteArray, H: HashFn, Q: Group>(
     requires lengths { AreSearchLengths H.MIN_LEN K.LEN V.LEN entries.now.slots
         (length scan.old.control) }
     requires hash { hash ≡ H.hash (K.bytes key.now) }
-    ensures on_placed { (P : Table)
-        → IsPartsOf (format_of K.LEN V.LEN H.hash) P entries.now.bytes scan.old.control
-        → result ≡ answer (format_of K.LEN V.LEN H.hash) P.cells (K.bytes key.now) }
-    ensures placing { (P : Table)
-        → IsPartsOf (format_of K.LEN V.LEN H.hash) P entries.now.bytes scan.old.control
-        → IsWherePlaced (format_of K.LEN V.LEN H.hash) P (K.bytes key.now) result }
-    ensures groups { (P : Table)
-        → IsPartsOf (format_of K.LEN V.LEN H.hash) P entries.now.bytes scan.old.control
-        → let read = groups_read (format_of K.LEN V.LEN H.hash) P.cells (K.bytes key.now)
-        in scan.new.groups ≡ min (scan.old.groups + read) usize.MAX }
-    ensures slot { let F = format_of K.LEN V.LEN H.hash
-        in IsEnd F entries.now scan.old.control (K.bytes key.now) result }
-    ensures earlier { let F = format_of K.LEN V.LEN H.hash
-        in IsAfter F entries.now scan.old.control (K.bytes key.now) result }
-    ensures few { scan.new.groups ≤ scan.old.groups + entries.now.slots / 16 }
-    ensures control { scan.new.control ≡ scan.old.control }
+    ensures { IsSearch (format_of K.LEN V.LEN H.hash) entries.now (K.bytes key.now)
+        scan.old scan.new result }
 {
     let tag = tag_of(hash);
     let mask = scan.slots() - 1;
@@ -109,13 +79,8 @@ pub(super) fn whole_search<K: ByteArray, V: ByteArray, H: HashFn>(
     requires lengths { AreSearchLengths H.MIN_LEN K.LEN V.LEN entries.now.slots
         (length control.now) }
     requires hash { hash ≡ H.hash (K.bytes key.now) }
-    ensures on_placed { (P : Table)
-        → IsPartsOf (format_of K.LEN V.LEN H.hash) P entries.now.bytes control.now
-        → result ≡ answer (format_of K.LEN V.LEN H.hash) P.cells (K.bytes key.now) }
-    ensures slot { let F = format_of K.LEN V.LEN H.hash
-        in IsEnd F entries.now control.now (K.bytes key.now) result }
-    ensures earlier { let F = format_of K.LEN V.LEN H.hash
-        in IsAfter F entries.now control.now (K.bytes key.now) result }
+    ensures { IsSearchEnd (format_of K.LEN V.LEN H.hash) entries.now control.now
+        (K.bytes key.now) result }
 {
     let mut scan = Scan::new(control, entries.len());
     search_hashed::<K, V, H, GroupQuery>(&mut scan, entries, key, hash)
@@ -133,8 +98,7 @@ fn look_at_group<K: ByteArray, V: ByteArray, H: HashFn, Q: Group>(
     requires len { length bytes.now ≡ 16 }
     requires slots { IsSlotCount entries.now.slots }
     requires start { start < entries.now.slots }
-    requires tag { tag ≡ key_tag (format_of K.LEN V.LEN H.hash) (K.bytes key.now) }
-    requires small { tag < 128 }
+    requires tag { IsTag (format_of K.LEN V.LEN H.hash) (K.bytes key.now) tag }
     requires lengths { ArePairLengths H.MIN_LEN K.LEN V.LEN }
     ensures slot { let F = format_of K.LEN V.LEN H.hash
         in IfSome result (IsEndAmong F entries.now bytes.now start 16 (K.bytes key.now)) }
@@ -172,8 +136,7 @@ fn look_at_piece<K: ByteArray, V: ByteArray, H: HashFn, Q: Group>(
     requires len { length bytes.now ≡ Q.SIZE }
     requires slots { IsSlotCount entries.now.slots }
     requires start { start + Q.SIZE ≤ entries.now.slots + 16 }
-    requires tag { tag ≡ key_tag (format_of K.LEN V.LEN H.hash) (K.bytes key.now) }
-    requires small { tag < 128 }
+    requires tag { IsTag (format_of K.LEN V.LEN H.hash) (K.bytes key.now) tag }
     requires lengths { ArePairLengths H.MIN_LEN K.LEN V.LEN }
     ensures slot { let F = format_of K.LEN V.LEN H.hash
         in IfSome result (IsEndAmong F entries.now bytes.now start Q.SIZE (K.bytes key.now)) }

@@ -8,10 +8,8 @@ ghost use Rattle.odht_base.specs.Valid.{IsPartsOf};
 ghost use Rattle.odht_base.specs.Writes.{tagged};
 ghost use Rattle.odht_raw.specs.SearchResults.{answer};
 ghost use Rattle.odht_raw.specs.PartLengths.{ArePartLengths};
-ghost use Rattle.odht_raw.specs.Parts.{stored_in};
 ghost use Rattle.odht_raw.specs.PartsInserts.{AnswersFormer};
-ghost use Rattle.odht_raw.specs.SearchEnds.{IsAfter, IsEnd};
-ghost use Rattle.odht_raw.specs.Steps.{IsStepChange};
+ghost use Rattle.odht_raw.specs.Steps.{IsStepChange, IsStepEnd};
 
 use super::{Entries, EntryMetadata, Scan, Search, search_hashed, tag_of};
 use crate::bytes::{BorrowedMut, ByteArray, ByteStoreMut};
@@ -66,19 +64,15 @@ pub(crate) fn insert_at<K: ByteArray, V: ByteArray, H: HashFn>(
     requires lengths { ArePartLengths H.MIN_LEN K.LEN V.LEN (length entries.old)
         (length control.old) }
     requires tag { tag ≡ key_tag (format_of K.LEN V.LEN H.hash) (K.bytes key) }
-    requires end { let F = format_of K.LEN V.LEN H.hash
-        in IsEnd F (stored_in entries.old control.old) control.old (K.bytes key) end }
-    requires earlier { let F = format_of K.LEN V.LEN H.hash
-        in room ≡ 0 → IsAfter F (stored_in entries.old control.old) control.old (K.bytes key) end }
+    requires end { IsStepEnd (format_of K.LEN V.LEN H.hash) room entries.old control.old
+        (K.bytes key) end }
     ensures placed { let F = format_of K.LEN V.LEN H.hash
         in let p : Pair = record { key = K.bytes key; value = V.bytes value }
-        in (P : Table)
-        → IsPartsOf F P entries.old control.old
-        → end ≡ answer F P.cells p.key
+        in (P : Table) → IsPartsOf F P entries.old control.old → end ≡ answer F P.cells p.key
         → AnswersFormer F V.of_bytes P p result entries.new control.new }
-    ensures any { let F = format_of K.LEN V.LEN H.hash
-        in let p : Pair = record { key = K.bytes key; value = V.bytes value }
-        in IsStepChange F V.of_bytes room entries.old control.old p result entries.new control.new }
+    ensures any { let p : Pair = record { key = K.bytes key; value = V.bytes value }
+        in IsStepChange (format_of K.LEN V.LEN H.hash) V.of_bytes room entries.old control.old p
+        result entries.new control.new }
 {
     let slots = control.len() - REFERENCE_GROUP_SIZE;
     let stored: Entries<'_, K, V> = Entries::new(entries, slots);

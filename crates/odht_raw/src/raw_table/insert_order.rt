@@ -1,14 +1,14 @@
 //! An order of inserts that makes a table, found within the buffer that it is written to.
 ghost use Rattle.std.specs.Prelude.{◌≡◌, ◌≤◌, ◌<◌, ◌+◌, ◌^◌, ◌↔◌, ℕ, List, ◌++◌, slice_index};
-ghost use Rattle.std.specs.Prelude.{length, map, take, drop, IsTrue, All, Contains};
+ghost use Rattle.std.specs.Prelude.{length, map, drop, IsTrue, All, Contains};
 ghost use Rattle.odht_base.specs.Format.{format_of};
 ghost use Rattle.odht_base.specs.Made.{occupied, IsMade, IsInsertOrder};
-ghost use Rattle.odht_base.specs.Ready.{IsReady, IsStuck};
+ghost use Rattle.odht_base.specs.Ready.{IsReady};
 ghost use Rattle.odht_base.specs.Decoded.{counts_as_free};
 ghost use Rattle.odht_base.specs.Table.{Table, Pair, count, slot_count as slots_of, is_free};
 ghost use Rattle.odht_base.specs.Valid.{HoldsPair, IsPartsOf};
 ghost use Rattle.odht_raw.specs.Waiting.{waiting, placed_of, IsWaiting, AreRising, IsPending};
-ghost use Rattle.odht_raw.specs.Waiting.{AreWholeParts};
+ghost use Rattle.odht_raw.specs.Waiting.{AreWholeParts, IsPass};
 
 use super::{EntryMetadata, ProbeSeq, RawTable, is_empty_or_deleted};
 use crate::bytes::ByteArray;
@@ -62,17 +62,11 @@ impl<'a, K: ByteArray, V: ByteArray, H: HashFn> RawTable<'a, K, V, H> {
             × IsPending F P done slots.old }
         ensures few { result ≤ length slots.new }
         ensures waiting { All (IsWaiting self.now.entries.slots) (drop result slots.new) }
-        ensures pending { let F = format_of K.LEN V.LEN H.hash
+        ensures pass { let F = format_of K.LEN V.LEN H.hash
             in (P : Table) (done : List ℕ)
             → IsPartsOf F P self.now.entries.bytes self.now.control
             → IsPending F P done slots.old
-            → IsPending F P (done ++ take result slots.new) (drop result slots.new) }
-        ensures stuck { let F = format_of K.LEN V.LEN H.hash
-            in (P : Table) (done : List ℕ)
-            → IsPartsOf F P self.now.entries.bytes self.now.control
-            → IsPending F P done slots.old
-            → result ≡ 0
-            → IsStuck F P done }
+            → IsPass F P done slots.new result }
     {
         let mut placed = 0;
         for at in 0..slots.len() {

@@ -1,16 +1,16 @@
 //! The search slot by slot along the probe order, and find and insert by it: the reference forms of the searches by
 //! groups.
-ghost use Rattle.std.specs.Prelude.{◌≡◌, ◌%◌, ◌<◌, length, option_map, IfSome};
+ghost use Rattle.std.specs.Prelude.{◌≡◌, ◌%◌, ◌<◌, length};
 ghost use Rattle.odht_base.specs.Load.{IsSlotCount};
 ghost use Rattle.odht_base.specs.Format.{format_of};
 ghost use Rattle.odht_base.specs.Probe.{probe_slot};
 ghost use Rattle.odht_base.specs.Table.{Pair, Table};
-ghost use Rattle.odht_base.specs.Map.{map_of};
 ghost use Rattle.odht_base.specs.Valid.{IsPartsOf};
 ghost use Rattle.odht_raw.specs.SearchResults.{answer};
 ghost use Rattle.odht_raw.specs.PartLengths.{AreSearchLengths, ArePartLengths};
 ghost use Rattle.odht_raw.specs.PartsInserts.{IsPartsInsert, IsInsertChange};
-ghost use Rattle.odht_raw.specs.SearchEnds.{IsPlainEnd, IsBesideKey};
+ghost use Rattle.odht_raw.specs.SearchEnds.{IsPlainEnd};
+ghost use Rattle.odht_raw.specs.Finds.{IsFind};
 
 use super::insert::insert_at;
 use super::{Entries, EntryMetadata, Search, is_empty_or_deleted, tag_of};
@@ -31,11 +31,8 @@ pub fn plain_find<K: ByteArray, V: ByteArray, H: HashFn>(
     requires slots { IsSlotCount entries.now.slots }
     requires lengths { AreSearchLengths H.MIN_LEN K.LEN V.LEN entries.now.slots
         (length control.now) }
-    ensures on_placed { (P : Table)
-        → IsPartsOf (format_of K.LEN V.LEN H.hash) P entries.now.bytes control.now
-        → result ≡ option_map V.of_bytes (map_of P (K.bytes key.now)) }
-    ensures on_any { IfSome result
-        (IsBesideKey (format_of K.LEN V.LEN H.hash) V.of_bytes entries.now (K.bytes key.now)) }
+    ensures { IsFind (format_of K.LEN V.LEN H.hash) V.of_bytes
+        (record { control = control.now; entries = entries.now }) (K.bytes key.now) result }
 {
     let hash = H::hash(key.as_slice());
     match plain_search::<K, V, H>(control, entries, key, hash) {

@@ -12,4 +12,4 @@ pub use crate::proved::header::sizes::{bytes_needed, entry_at, layout_for};
 pub use crate::proved::raw::raw_table::{Entries, EntryMetadata};
 pub use allocation::Allocation;
 pub use check::check_all;
-pub use new_tables::{allocate, init_in_place};
+pub use new_tables::{allocate, clear_entries, init_in_place, write_empty};

@@ -7,7 +7,7 @@ use crate::proved::tables::hash::HashFn;
 use crate::proved::tables::hash_table::HashTable;
 use crate::proved::tables::load::Factor;
 use crate::proved::tables::memory_layout::{self, Header, HEADER_SIZE};
-use crate::proved::tables::raw_table::{RawIter, RawTableMut, FREE};
+use crate::proved::tables::raw_table::{RawIter, RawTableMut};
 
 impl<C: Config, D: ByteStore> HashTable<C, D> {
     /// The length in bytes of the table that this one grows into: with the slots for twice the header's item count, and
@@ -34,8 +34,7 @@ impl<C: Config, D: ByteStore> HashTable<C, D> {
             // `out` has the length of the grown table.
             unreachable!()
         };
-        let entries = memory_layout::entry_at::<C>(slot_count);
-        out[HEADER_SIZE..entries].fill(0);
+        memory_layout::clear_entries::<C>(out, slot_count);
         write_grown(self, slot_count, out);
     }
 }
@@ -66,7 +65,7 @@ pub(crate) fn write_grown<C: Config, D: ByteStore>(
 }
 
 // Writes the table of so many slots with the items of the walk into bytes whose entries are zeros. The new header gets
-// `item_count`, whatever the walk gives. `placed` is for a walk whose keys are pairwise distinct, as on valid bytes.
+// `item_count`, whatever the walk gives.
 fn write_table<C: Config>(
     bytes: &mut [u8],
     slot_count: usize,
@@ -74,10 +73,9 @@ fn write_table<C: Config>(
     max_load_factor: Factor,
     walk: RawIter<'_, C::EncodedKey, C::EncodedValue>,
 ) {
+    memory_layout::write_empty::<C>(bytes, slot_count, item_count, max_load_factor);
     let (table, control) = bytes.split_at_mut(memory_layout::entry_at::<C>(slot_count));
-    let (header, entries) = table.split_at_mut(HEADER_SIZE);
-    memory_layout::write_header::<C>(header, slot_count, item_count, max_load_factor);
-    control.fill(FREE);
+    let (_header, entries) = table.split_at_mut(HEADER_SIZE);
     insert_walk::<C::EncodedKey, C::EncodedValue, C::H>(control, entries, walk);
 }
 

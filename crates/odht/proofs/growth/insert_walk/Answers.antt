@@ -6,8 +6,7 @@ use Rattle.odht_base.specs.Valid.{IsPartsOf}
 use Rattle.odht_base.proofs.lemmas.Options.{some_same}
 use Rattle.odht_raw.specs.PartsInserts.{ArePartsPlaced}
 use Rattle.odht_raw.specs.PartsPlacings.{IsNewTo}
-use Rattle.odht_raw.specs.Walks.{Item}
-use Rattle.odht_raw.proofs.lemmas.Walks.{stored}
+use Rattle.odht_raw.specs.Walks.{Item, stored}
 use Rattle.odht.proofs.lemmas.Growths.{accepted_holds, all_new, LeadsTo, leads_new, leads_fits, leads_on}
 use Rattle.odht.proofs.growth.insert_walk.Goals as goal
 

@@ -8,7 +8,8 @@ use Rattle.odht_base.specs.Table.{walk, count, empty}
 use Rattle.odht_base.proofs.lemmas.DistinctKeys.{walk-KeysApart}
 use Rattle.odht_base.proofs.lemmas.Least.{slots_for-IsLeastSlots}
 use Rattle.odht_header.proofs.lemmas.Formats.{IsFormat-format_of}
-use Rattle.odht_raw.proofs.lemmas.Walks.{stored, stored-walk, decoded_pairs-image}
+use Rattle.odht_raw.specs.Walks.{stored}
+use Rattle.odht_raw.proofs.lemmas.Walks.{stored-walk, decoded_pairs-image}
 use Rattle.odht.proofs.lemmas.GrownBytes.{grown_header, headed_accepted, headed_count, headed_factor}
 use Rattle.odht.proofs.lemmas.Growths.{grown_placed, grown_image}
 use Rattle.odht.proofs.lemmas.ViewInserts.{count_header, factor_header}

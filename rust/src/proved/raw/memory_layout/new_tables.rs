@@ -1,17 +1,13 @@
 // Made by `make rust` of crates/odht_raw/src/memory_layout/new_tables.rt.
 //! New tables, in given bytes and in newly allocated memory.
 
-use super::{bytes_needed, write_header, Allocation, HEADER_SIZE};
+use super::{bytes_needed, entry_at, write_header, Allocation, HEADER_SIZE};
 use crate::proved::raw::bytes::{ByteStoreMut, OwnedBytes};
 use crate::proved::raw::config::Config;
 use crate::proved::raw::error::Error;
 use crate::proved::raw::load::Factor;
 use crate::proved::raw::raw_table::FREE;
-use crate::proved::raw::swisstable_group_query::REFERENCE_GROUP_SIZE;
 use crate::shim::Global;
-
-// How many bytes `fill` writes at once: each write is one memset, and small ones would cost a call each.
-const FILL_CHUNK: usize = 4096;
 
 /// Makes a table of `slot_count` free slots in `data`, whatever its bytes are. The header's item count is `item_count`.
 /// Each byte is written.
@@ -21,25 +17,48 @@ pub fn init_in_place<C: Config, M: ByteStoreMut>(
     item_count: usize,
     max_load_factor: Factor,
 ) -> Allocation<C, M> {
-    let control = data.bytes().len() - (slot_count + REFERENCE_GROUP_SIZE);
-    fill(&mut data, HEADER_SIZE, control, 0);
-    init_zeroed(data, slot_count, item_count, max_load_factor)
+    init_store::<C, M>(&mut data, slot_count, item_count, max_load_factor);
+    Allocation::from_raw_bytes_unchecked(data)
 }
 
-// `init_in_place` where the entries are zeros already.
-fn init_zeroed<C: Config, M: ByteStoreMut>(
-    mut data: M,
+// `init_in_place` in a store that stays the caller's.
+fn init_store<C: Config, M: ByteStoreMut>(
+    store: &mut M,
     slot_count: usize,
     item_count: usize,
     max_load_factor: Factor,
-) -> Allocation<C, M> {
-    let len = data.bytes().len();
-    let control = len - (slot_count + REFERENCE_GROUP_SIZE);
-    let mut header = [0; HEADER_SIZE];
-    write_header::<C>(&mut header, slot_count, item_count, max_load_factor);
-    data.write_at(0, &header);
-    fill(&mut data, control, len, FREE);
-    Allocation::from_raw_bytes_unchecked(data)
+) {
+    init_bytes::<C>(store.bytes_mut(), slot_count, item_count, max_load_factor);
+}
+
+// `init_in_place` on the bytes themselves.
+fn init_bytes<C: Config>(
+    bytes: &mut [u8],
+    slot_count: usize,
+    item_count: usize,
+    max_load_factor: Factor,
+) {
+    clear_entries::<C>(bytes, slot_count);
+    write_empty::<C>(bytes, slot_count, item_count, max_load_factor);
+}
+
+/// Writes zeros over the entries of the bytes of a table of `slot_count` slots. No other byte changes.
+pub fn clear_entries<C: Config>(bytes: &mut [u8], slot_count: usize) {
+    bytes[HEADER_SIZE..entry_at::<C>(slot_count)].fill(0);
+}
+
+/// Writes a table of `slot_count` free slots into bytes whose entries are zeros: the header, and the control bytes with
+/// their mirror. The header's item count is `item_count`.
+pub fn write_empty<C: Config>(
+    bytes: &mut [u8],
+    slot_count: usize,
+    item_count: usize,
+    max_load_factor: Factor,
+) {
+    let (table, control) = bytes.split_at_mut(entry_at::<C>(slot_count));
+    let (header, _entries) = table.split_at_mut(HEADER_SIZE);
+    write_header::<C>(header, slot_count, item_count, max_load_factor);
+    control.fill(FREE);
 }
 
 /// Makes a table of `slot_count` free slots in newly allocated memory. The header's item count is `item_count`. The
@@ -56,17 +75,7 @@ pub fn allocate<C: Config>(
     let Some(len) = bytes_needed::<C>(slot_count) else {
         return Err(Error::Capacity);
     };
-    let bytes = OwnedBytes::new(crate::shim::zeroed_bytes(alloc, len)?);
-    Ok(init_zeroed(bytes, slot_count, item_count, max_load_factor))
-}
-
-// Writes `byte` at each index from `from` up to, but not including, `to`.
-fn fill<M: ByteStoreMut>(data: &mut M, from: usize, to: usize, byte: u8) {
-    let chunk = [byte; FILL_CHUNK];
-    let mut at = from;
-    while at < to {
-        let size = (to - at).min(FILL_CHUNK);
-        data.write_at(at, &chunk[..size]);
-        at += size;
-    }
+    let mut bytes = crate::shim::zeroed_bytes(alloc, len)?;
+    write_empty::<C>(bytes.as_mut_slice(), slot_count, item_count, max_load_factor);
+    Ok(Allocation::from_raw_bytes_unchecked(OwnedBytes::new(bytes)))
 }

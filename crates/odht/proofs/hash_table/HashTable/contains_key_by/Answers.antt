@@ -21,19 +21,19 @@ held F B f E k None entries slots h t = absurd (true≢false (sym t))
 held F B f E k (Some v) entries slots h t =
     (h.0, subst (λ n. h.0 < n) slots h.1, ap (λ e. slot_key F e h.0) (sym entries) ∙ h.2)
 
-pub returns-clause-on_valid : goal.returns-clause-on_valid
-returns-clause-on_valid g c P is =
+pub returns : goal.returns
+returns g c =
     let key = g.C.EncodedKey.ByteArray in
-    let m = map_of P (key.bytes (g.C.Config.encode_key c.args.key.now)) in
-    let found = c.find_counted_by-value.ensures.on_placed P (c.as_raw-table.ensures.parts P is)
-    ∙ ap (λ a. option_map g.C.EncodedValue.ByteArray.of_bytes (map_of P (key.bytes a))) c.encode_key-key.ensures in
-    subst (λ b. IsTrue b ↔ IsSome m) (sym (c.is_some.ensures ∙ ap is_some found)) (there g.C.EncodedValue.ByteArray.of_bytes m)
-
-pub returns-clause-on_any : goal.returns-clause-on_any
-returns-clause-on_any g c t =
-    let key = g.C.EncodedKey.ByteArray in
+    let f = g.C.EncodedValue.ByteArray.of_bytes in
     let F = format_of key.LEN g.C.EncodedValue.ByteArray.LEN g.C.H.HashFn.hash in
     let B = g.D.ByteStore.bytes c.args.self.now in
-    subst (λ a. HoldsKey F B (key.bytes a)) c.encode_key-key.ensures
-    (held F B g.C.EncodedValue.ByteArray.of_bytes _ _ c.find_counted_by-value.result.0 c.as_raw-table.ensures.entries
-    c.as_raw-table.ensures.slots c.find_counted_by-value.ensures.on_any (subst IsTrue c.is_some.ensures t))
+    let found = c.find_counted_by-value.ensures in
+    record {
+      on_valid = λ P is.
+          let m = map_of P (key.bytes (g.C.Config.encode_key c.args.key.now)) in
+          let same = found.on_placed P (c.as_raw-table.ensures.parts P is) ∙ ap (λ a. option_map f (map_of P (key.bytes a))) c.encode_key-key.ensures in
+          subst (λ b. IsTrue b ↔ IsSome m) (sym (c.is_some.ensures ∙ ap is_some same)) (there f m);
+      on_any = λ t.
+          subst (λ a. HoldsKey F B (key.bytes a)) c.encode_key-key.ensures
+          (held F B f _ _ c.find_counted_by-value.result.0 c.as_raw-table.ensures.entries c.as_raw-table.ensures.slots found.on_any (subst IsTrue c.is_some.ensures t));
+    }

@@ -1,4 +1,4 @@
-use Rattle.std.proofs.Common.{◌∙◌, ap, subst}
+use Rattle.std.proofs.Common.{◌≡◌, ◌∙◌, ap, subst}
 use Rattle.std.specs.Prelude.{IfOk}
 use Rattle.std.proofs.lemmas.Result.{on_err_weaker}
 use Rattle.odht_base.specs.Format.{IsFormat}
@@ -35,32 +35,21 @@ framed : (g : Over) (c : After-insert_by g) → IsFramed (coding g) (g.D.ByteSto
 framed g c =
     subst (λ s. IsFramed (coding g) (g.D.ByteStore.bytes s) c.args.key.now c.args.value.now c.insert_by.result (g.D.ByteStore.bytes c.insert_by.new.self)) c.self.view_is c.insert_by.ensures.framed
 
-pub returns-clause-ok : goal.returns-clause-ok
-returns-clause-ok g c P is =
-    if_inserted (coding g) P _ c.args.key.now c.args.value.now c.insert_by.result _ is (placed g (goal.at.returns-clause-ok g c).After-insert_by P is)
-
-pub returns-clause-full : goal.returns-clause-full
-returns-clause-full g c P is =
-    let at = (goal.at.returns-clause-full g c).After-insert_by in (
-      λ e. framed-full (coding g) _ c.args.key.now c.args.value.now (fits g) P is c.insert_by.result _ e (framed g at),
-      λ full. full-framed (coding g) _ c.args.key.now c.args.value.now (fits g) P is c.insert_by.result _ (placed g at P is) (framed g at) full,
-    )
-
-pub returns-clause-frame : goal.returns-clause-frame
-returns-clause-frame g c = framed g (goal.at.returns-clause-frame g c).After-insert_by
-
-pub returns-clause-only_full : goal.returns-clause-only_full
-returns-clause-only_full g c =
-    framed-only_full (coding g) _ c.args.key.now c.args.value.now c.insert_by.result _ (framed g (goal.at.returns-clause-only_full g c).After-insert_by)
-
-pub returns-clause-same_store : goal.returns-clause-same_store
-returns-clause-same_store g c = rw (← c.self.view_is) c.insert_by.ensures.same_store
-
-pub returns-clause-refused : goal.returns-clause-refused
-returns-clause-refused g c =
-    on_err_weaker c.insert_by.result
-    (λ kept. held_same_bytes g.D.ByteStoreMut.holding g.D.ByteStore.bytes g.met.D.ByteStoreMut.held_same c.args.self.now c.insert_by.new.self (rw (← c.self.view_is) c.insert_by.ensures.same_store) kept)
-    (framed-refused (coding g) _ c.args.key.now c.args.value.now c.insert_by.result _ (framed g (goal.at.returns-clause-refused g c).After-insert_by))
-
-pub returns-clause-accepted : goal.returns-clause-accepted
-returns-clause-accepted g c = c.insert_by.ensures.accepted
+pub returns : goal.returns
+returns g c =
+    let K = coding g in
+    let k = c.args.key.now in
+    let v = c.args.value.now in
+    let r = c.insert_by.result in
+    let at = (goal.at.returns g c).After-insert_by in
+    let one = framed g at in
+    let same : c.insert_by.new.self ≡ g.D.ByteStoreMut.holding c.args.self.now (g.D.ByteStore.bytes c.insert_by.new.self) = rw (← c.self.view_is) c.insert_by.ensures.same_store in
+    record {
+      ok = λ P is. if_inserted K P _ k v r _ is (placed g at P is);
+      full = λ P is. (λ e. framed-full K _ k v (fits g) P is r _ e one, λ full. full-framed K _ k v (fits g) P is r _ (placed g at P is) one full);
+      frame = one;
+      only_full = framed-only_full K _ k v r _ one;
+      refused = on_err_weaker r (λ kept. held_same_bytes g.D.ByteStoreMut.holding g.D.ByteStore.bytes g.met.D.ByteStoreMut.held_same c.args.self.now c.insert_by.new.self same kept) (framed-refused K _ k v r _ one);
+      same_store = same;
+      accepted = c.insert_by.ensures.accepted;
+    }

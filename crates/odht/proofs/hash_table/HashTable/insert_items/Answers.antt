@@ -56,49 +56,35 @@ stopped_here : (g : Over) (c : After-insert_from-accepted g) → c.insert_from-a
     → IsStoppedAt (coding g) (g.I.Items.items c.args.items.now) c.insert_from-accepted.result (g.D.ByteStore.bytes c.insert_from-accepted.new.self)
 stopped_here g c low = elim c.insert_from-accepted.ensures.run.stopped [ inl e ↦ absurd (omega (arith, e, low)) | inr stopped ↦ stopped ]
 
-pub returns-then-accepted-count-clause-bound : goal.returns-then-accepted-count-clause-bound
-returns-then-accepted-count-clause-bound g c = c.insert_from-accepted.ensures.run.within
+pub returns-then-accepted-count : goal.returns-then-accepted-count
+returns-then-accepted-count g c =
+    let at = (goal.at.returns-then-accepted-count g c).After-insert_from-accepted in
+    let low : c.insert_from-accepted.result < length (g.I.Items.items c.args.items.now) = omega (arith, c.if-accepted-count.true, c.count.ensures) in
+    let stopped = stopped_here g at low in
+    record {
+      bound = c.insert_from-accepted.ensures.run.within;
+      all = (λ e. absurd (false≢true e), λ e. absurd (omega (arith, e, low)));
+      inserted = inserted_here g at;
+      framed = framed_here g at;
+      same_store = c.insert_from-accepted.ensures.same_store;
+      accepted = c.insert_from-accepted.ensures.accepted;
+      at_maximum = λ P is. refused_here (coding g) (fits g) P (g.I.Items.items c.args.items.now) c.insert_from-accepted.result _ is stopped;
+      stopped = stopped;
+      only_full = refl;
+    }
 
-pub returns-clause-bound : goal.returns-clause-bound
-returns-clause-bound g c = c.insert_from-accepted.ensures.run.within
-
-pub returns-then-accepted-count-clause-inserted : goal.returns-then-accepted-count-clause-inserted
-returns-then-accepted-count-clause-inserted g c P is = inserted_here g (goal.at.returns-then-accepted-count-clause-inserted g c).After-insert_from-accepted P is
-
-pub returns-clause-inserted : goal.returns-clause-inserted
-returns-clause-inserted g c P is = inserted_here g (goal.at.returns-clause-inserted g c).After-insert_from-accepted P is
-
-pub returns-then-accepted-count-clause-framed : goal.returns-then-accepted-count-clause-framed
-returns-then-accepted-count-clause-framed g c = framed_here g (goal.at.returns-then-accepted-count-clause-framed g c).After-insert_from-accepted
-
-pub returns-clause-framed : goal.returns-clause-framed
-returns-clause-framed g c = framed_here g (goal.at.returns-clause-framed g c).After-insert_from-accepted
-
-pub returns-then-accepted-count-clause-same_store : goal.returns-then-accepted-count-clause-same_store
-returns-then-accepted-count-clause-same_store g c = c.insert_from-accepted.ensures.same_store
-
-pub returns-clause-same_store : goal.returns-clause-same_store
-returns-clause-same_store g c = c.insert_from-accepted.ensures.same_store
-
-pub returns-then-accepted-count-clause-accepted : goal.returns-then-accepted-count-clause-accepted
-returns-then-accepted-count-clause-accepted g c = c.insert_from-accepted.ensures.accepted
-
-pub returns-clause-accepted : goal.returns-clause-accepted
-returns-clause-accepted g c = c.insert_from-accepted.ensures.accepted
-
-pub returns-then-accepted-count-clause-all : goal.returns-then-accepted-count-clause-all
-returns-then-accepted-count-clause-all g c = (λ e. absurd (false≢true e), λ e. absurd (omega (arith, e, c.if-accepted-count.true, c.count.ensures)))
-
-pub returns-clause-all : goal.returns-clause-all
-returns-clause-all g c =
+pub returns : goal.returns
+returns g c =
+    let at = (goal.at.returns g c).After-insert_from-accepted in
     let within = c.insert_from-accepted.ensures.run.within in
-    (λ _. omega (arith, within, c.if-accepted-count.false, c.count.ensures), λ _. refl)
-
-pub returns-then-accepted-count-clause-stopped : goal.returns-then-accepted-count-clause-stopped
-returns-then-accepted-count-clause-stopped g c =
-    stopped_here g (goal.at.returns-then-accepted-count-clause-stopped g c).After-insert_from-accepted (omega (arith, c.if-accepted-count.true, c.count.ensures))
-
-pub returns-then-accepted-count-clause-at_maximum : goal.returns-then-accepted-count-clause-at_maximum
-returns-then-accepted-count-clause-at_maximum g c P is =
-    refused_here (coding g) (fits g) P (g.I.Items.items c.args.items.now) c.insert_from-accepted.result _ is
-    (stopped_here g (goal.at.returns-then-accepted-count-clause-at_maximum g c).After-insert_from-accepted (omega (arith, c.if-accepted-count.true, c.count.ensures)))
+    record {
+      bound = within;
+      all = (λ _. omega (arith, within, c.if-accepted-count.false, c.count.ensures), λ _. refl);
+      inserted = inserted_here g at;
+      framed = framed_here g at;
+      same_store = c.insert_from-accepted.ensures.same_store;
+      accepted = c.insert_from-accepted.ensures.accepted;
+      at_maximum = λ P is. tt;
+      stopped = tt;
+      only_full = tt;
+    }

@@ -1,4 +1,4 @@
-use Rattle.std.proofs.Common.{◌≡◌, ◌<◌, ◌∙◌, sym, subst, refl, take, length, List, Err, arith, inl, inr}
+use Rattle.std.proofs.Common.{rules, ℕ, ◌≡◌, ◌<◌, ◌≤◌, ◌∙◌, sym, subst, refl, take, length, List, Err, arith, inl, inr}
 use Rattle.std.proofs.lemmas.Bool.{false≢true}
 use Rattle.std.specs.List.{slice_range}
 use Rattle.odht_base.specs.Format.{IsFormat}
@@ -11,6 +11,7 @@ use Rattle.odht_base.proofs.lemmas.Options.{some_same}
 use Rattle.odht_header.specs.Coding.{Coding, coding_of}
 use Rattle.odht_header.proofs.lemmas.Formats.{IsFormat-format_of}
 use Rattle.odht_raw.proofs.lemmas.PartRuns.{read_item}
+use Rattle.odht.specs.Inserts.{IsFresh}
 use Rattle.odht.specs.Lists.{encoded_all, IsAfterInserts, IsStoppedAt}
 use Rattle.odht.proofs.lemmas.FittingRuns.{insert_owned-PlacesTaken}
 use Rattle.odht.proofs.lemmas.ListInserts.{inserted_none, inserted_more, inserted_placed, inserted_all, fresh_inserted, encoded_all-more, encoded_all-range, refused_here}
@@ -60,39 +61,46 @@ stopped_here : (g : Over) (c : After-insert_from-accepted g) → c.insert_from-a
     → IsStoppedAt (coding g) (g.I.Items.items c.args.items.now) c.insert_from-accepted.result c.insert_from-accepted.new.self
 stopped_here g c low = elim c.insert_from-accepted.ensures.run.stopped [ inl e ↦ absurd (omega (arith, e, low)) | inr stopped ↦ stopped ]
 
-pub returns-then-accepted-count-clause-inserted : goal.returns-then-accepted-count-clause-inserted
-returns-then-accepted-count-clause-inserted g c P is =
-    inserted_here g (goal.at.returns-then-accepted-count-clause-inserted g c).After-insert_from-accepted P is
+-- all items, inserted into the table of a fresh one
+inserted_fresh : (g : Over) (c : After-insert_from-accepted g) (n p : ℕ) (made : IsFresh (coding g).format n p c.args.self.now) → length (g.I.Items.items c.args.items.now) ≤ c.insert_from-accepted.result
+    → IsAfterInserts (coding g).format (insert_owned (coding g).format) made.table (encoded_all (coding g) (g.I.Items.items c.args.items.now)) c.insert_from-accepted.new.self
+inserted_fresh g c n p made all =
+    inserted_all (coding g) (insert_owned (coding g).format) made.table (g.I.Items.items c.args.items.now) c.insert_from-accepted.result c.insert_from-accepted.new.self all (inserted_here g c made.table made.image)
 
-pub returns-then-accepted-count-clause-fresh : goal.returns-then-accepted-count-clause-fresh
-returns-then-accepted-count-clause-fresh g c p made =
+pub returns-then-accepted-count : goal.returns-then-accepted-count
+returns-then-accepted-count g c =
     let K = coding g in
     let items = g.I.Items.items c.args.items.now in
-    let here = (goal.at.returns-then-accepted-count-clause-fresh g c).After-insert_from-accepted in
-    fresh_inserted K p items c.insert_from-accepted.new.self made.table made.new
-    (inserted_all K (insert_owned K.format) made.table items c.insert_from-accepted.result c.insert_from-accepted.new.self (omega (arith, c.if-accepted-count.true, c.count.ensures)) (inserted_here g here made.table made.image))
+    let now = c.insert_from-accepted.new.self in
+    let at = (goal.at.returns-then-accepted-count g c).After-insert_from-accepted in
+    let within = c.insert_from-accepted.ensures.run.within in
+    let last : length items ≤ c.insert_from-accepted.result = omega (arith, c.if-accepted-count.true, c.count.ensures) in
+    record {
+      bound = within;
+      all = (λ _. omega (arith, within, last), λ _. refl);
+      inserted = inserted_here g at;
+      fresh = λ p made. fresh_inserted K p items now made.table made.new (inserted_fresh g at _ p made last);
+      last_values = λ n p made. inserted-HasLastValues K (insert_owned K.format) n p made.table items now made.new (inserted_fresh g at n p made last);
+      at_maximum = λ P is. tt;
+      memory = tt;
+    }
 
-pub returns-then-accepted-count-clause-last_values :
-    goal.returns-then-accepted-count-clause-last_values
-returns-then-accepted-count-clause-last_values g c n p made =
+pub returns-in-Err : goal.returns-in-Err
+returns-in-Err g c =
     let K = coding g in
     let items = g.I.Items.items c.args.items.now in
-    let here = (goal.at.returns-then-accepted-count-clause-last_values g c).After-insert_from-accepted in
-    inserted-HasLastValues K (insert_owned K.format) n p made.table items c.insert_from-accepted.new.self made.new
-    (inserted_all K (insert_owned K.format) made.table items c.insert_from-accepted.result c.insert_from-accepted.new.self (omega (arith, c.if-accepted-count.true, c.count.ensures)) (inserted_here g here made.table made.image))
-
-pub returns-in-Err-clause-inserted : goal.returns-in-Err-clause-inserted
-returns-in-Err-clause-inserted g c P is =
-    let K = coding g in
-    let inserted = IsAfterInserts K.format (insert_owned K.format) P (encoded_all K (take c.insert_from-accepted.result (g.I.Items.items c.args.items.now))) in
-    subst inserted (sym c.in-Err.ensures.refused) (inserted_here g (goal.at.returns-in-Err-clause-inserted g c).After-insert_from-accepted P is)
-
-pub returns-in-Err-clause-at_maximum : goal.returns-in-Err-clause-at_maximum
-returns-in-Err-clause-at_maximum g c P is =
-    let here = (goal.at.returns-in-Err-clause-at_maximum g c).After-insert_from-accepted in
-    let before : IsImage (coding g).format P c.insert_from-accepted.new.self =
-    record { valid = is.valid; bytes = sym c.in-Err.ensures.refused ∙ is.bytes } in
-    refused_here (coding g) (fits g) P (g.I.Items.items c.args.items.now) c.insert_from-accepted.result _ before (stopped_here g here (omega (arith, c.if-accepted-count.false, c.count.ensures)))
+    let at = (goal.at.returns-in-Err g c).After-insert_from-accepted in
+    let low : c.insert_from-accepted.result < length items = omega (arith, c.if-accepted-count.false, c.count.ensures) in
+    let kept = c.in-Err.ensures.refused in
+    record {
+      bound = c.insert_from-accepted.ensures.run.within;
+      all = (λ e. absurd (false≢true e), λ e. absurd (omega (arith, e, low)));
+      inserted = λ P is. subst (IsAfterInserts K.format (insert_owned K.format) P (encoded_all K (take c.insert_from-accepted.result items))) (sym kept) (inserted_here g at P is);
+      fresh = λ p made. tt;
+      last_values = λ n p made. tt;
+      at_maximum = λ P is. refused_here K (fits g) P items c.insert_from-accepted.result _ (record { valid = is.valid; bytes = sym kept ∙ is.bytes }) (stopped_here g at low);
+      memory = search (rules, c.in-Err.ensures.memory);
+    }
 
 pub growths-preserved : goal.growths-preserved
 growths-preserved g c =
@@ -129,18 +137,3 @@ pub invariant_of-self-in-growths : goal.invariant_of-self-in-growths
 invariant_of-self-in-growths g c =
     let below = c.insert_from-accepted.ensures.run.placed c.self.invariant.0 c.self.invariant.1 in
     (below.table, below.image)
-
-pub returns-then-accepted-count-clause-bound : goal.returns-then-accepted-count-clause-bound
-returns-then-accepted-count-clause-bound g c = c.insert_from-accepted.ensures.run.within
-
-pub returns-then-accepted-count-clause-all : goal.returns-then-accepted-count-clause-all
-returns-then-accepted-count-clause-all g c =
-    let bound = c.insert_from-accepted.ensures.run.within in
-    (λ _. omega (arith, bound, c.if-accepted-count.true, c.count.ensures), λ _. refl)
-
-pub returns-in-Err-clause-bound : goal.returns-in-Err-clause-bound
-returns-in-Err-clause-bound g c = c.insert_from-accepted.ensures.run.within
-
-pub returns-in-Err-clause-all : goal.returns-in-Err-clause-all
-returns-in-Err-clause-all g c =
-    (λ e. absurd (false≢true e), λ e. absurd (omega (arith, e, c.if-accepted-count.false, c.count.ensures)))

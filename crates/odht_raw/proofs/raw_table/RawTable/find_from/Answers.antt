@@ -1,12 +1,15 @@
-use Rattle.std.proofs.Common.{◌≡◌, ◌∙◌, ◌+◌, ◌-◌, ◌%◌, ◌<◌, ℕ, List, bit_and, slice_get, length, sym, ap, subst, arith, Some, Contains, true≢false}
+use Rattle.std.proofs.Common.{◌≡◌, ◌∙◌, ◌+◌, ◌-◌, ◌%◌, ◌<◌, ℕ, List, bit_and, slice_get, length, sym, ap, subst, arith, Some, None, Contains, true≢false}
 use Rattle.odht_base.specs.Format.{Format, IsFormat, format_of, home, tag}
 use Rattle.odht_base.specs.Groups.{first_free}
 use Rattle.odht_base.specs.Load.{IsSlotCount}
 use Rattle.odht_base.specs.Decoded.{slot_key, slot_value}
 use Rattle.std.specs.Prelude.{option_map, is_some}
+use Rattle.std.proofs.Math.Nat.{mod-lt}
 use Rattle.odht_base.proofs.lemmas.SlotCounts.{bit_and-slots, few_slots}
 use Rattle.odht_raw.specs.FirstLooks.{FirstLookOf, first_look_of, home_group}
+use Rattle.odht_raw.specs.Finds.{IsFind}
 use Rattle.odht_raw.specs.Parts.{TableParts}
+use Rattle.odht_base.specs.Map.{map_of}
 use Rattle.odht_base.specs.Table.{Table}
 use Rattle.odht_base.specs.Valid.{IsPartsOf}
 use Rattle.odht_raw.proofs.lemmas.GroupLooks.{taken-first, taken-next, taken-all}
@@ -77,18 +80,25 @@ overflow_add-home g c =
     let index = match-lt (format g) (T g at) (k g at) (count g at) (mirrored g at) (small g at) c.in-Some.index (next g at c.in-Some.index (sym c.in-Some.is ∙ c.first_match.ensures)) in
     omega (arith, at_home g at, few, low, index)
 
-pub returns-then-equals-clause-on_placed : goal.returns-then-equals-clause-on_placed
-returns-then-equals-clause-on_placed g c P h =
-    let at = (goal.at.returns-then-equals-clause-on_placed g c).After-first_match in
+pub returns-then-equals : goal.returns-then-equals
+returns-then-equals g c =
+    let at = (goal.at.returns-then-equals g c).After-first_match in
     let F = format g in
+    let T = c.args.self.now in
+    let f = g.V.ByteArray.of_bytes in
     let i : ℕ = c.in-Some.index in
     let slot : ℕ = bit_and (bit_and c.look.inside.hash (c.len-mask.result - 1) + i) (c.len-mask.result - 1) in
-    let key = c.get-entry.ensures.key_bytes ∙ ap (λ (t : TableParts). slot_key F t.entries.bytes slot) c.self.view_is ∙ ap (slot_key F c.args.self.now.entries.bytes) (masked g at i) in
-    let found = first_look-found F (T g at) (k g at) (count g at) (mirrored g at) (small g at) P (fits g at) h i (next g at i (sym c.in-Some.is ∙ c.first_match.ensures)) (sym key ∙ c.equals.ensures.0 c.if-equals.true) in
-    let there = answer-Found F P (k g at) h.placed _ found in
-    let value = c.get-entry.ensures.value ∙ ap (λ (t : TableParts). g.V.ByteArray.of_bytes (slot_value F t.entries.bytes slot)) c.self.view_is
-    ∙ ap (λ n. g.V.ByteArray.of_bytes (slot_value F c.args.self.now.entries.bytes n)) (masked g at i) ∙ ap g.V.ByteArray.of_bytes (found_value F P _ _ h (k g at) _ there) in
-    ap Some value ∙ sym (ap (option_map g.V.ByteArray.of_bytes) there.value)
+    let here : ℕ = (home F (k g at) T.entries.slots + i) % T.entries.slots in
+    let stored = c.get-entry.ensures.key_bytes ∙ ap (λ (t : TableParts). slot_key F t.entries.bytes slot) c.self.view_is ∙ ap (slot_key F T.entries.bytes) (masked g at i) in
+    let key = sym stored ∙ c.equals.ensures.0 c.if-equals.true in
+    let value = c.get-entry.ensures.value ∙ ap (λ (t : TableParts). f (slot_value F t.entries.bytes slot)) c.self.view_is ∙ ap (λ n. f (slot_value F T.entries.bytes n)) (masked g at i) in
+    record {
+      on_placed = λ P h.
+          let found = first_look-found F (T) (k g at) (count g at) (mirrored g at) (small g at) P (fits g at) h i (next g at i (sym c.in-Some.is ∙ c.first_match.ensures)) key in
+          let there = answer-Found F P (k g at) h.placed _ found in
+          ap Some (value ∙ ap f (found_value F P _ _ h (k g at) _ there)) ∙ sym (ap (option_map f) there.value);
+      on_any = (here, mod-lt (home F (k g at) T.entries.slots + i) {m = T.entries.slots} (omega (arith, (count g at).least)), key, value);
+    }
 
 pub matches-preserved : goal.matches-preserved
 matches-preserved g c =
@@ -103,29 +113,46 @@ matches-preserved g c =
           (λ e. true≢false (sym (c.equals.ensures.1 (key ∙ e)) ∙ c.if-equals.false));
     }
 
-pub returns-then-any_empty-clause-on_placed : goal.returns-then-any_empty-clause-on_placed
-returns-then-any_empty-clause-on_placed g c P h =
-    let at = (goal.at.returns-then-any_empty-clause-on_placed g c).After-first_match in
+pub returns-then-any_empty : goal.returns-then-any_empty
+returns-then-any_empty g c =
+    let at = (goal.at.returns-then-any_empty g c).After-first_match in
     let taken = taken-all _ _ _ c.matches.invariant.taken (sym c.in_default.is ∙ c.first_match.ensures) in
     let others = λ (i : ℕ) (m : Contains (matches (format g) (T g at) (k g at) (count g at) (mirrored g at) (small g at)) i). taken i (subst (λ xs. Contains xs i) (sym (listed g at)) m) in
     let some = ap is_some (sym (free g at)) ∙ ap is_some (sym c.matches.invariant.same) ∙ sym c.any_empty.ensures ∙ c.if-any_empty.true in
-    sym (ap (option_map g.V.ByteArray.of_bytes) (first_look-absent (format g) (T g at) (k g at) (count g at) (mirrored g at) (small g at) P (fits g at) h others some))
-
-pub returns-in-Found-clause-on_placed : goal.returns-in-Found-clause-on_placed
-returns-in-Found-clause-on_placed g c P h =
-    let F = format g in
-    let k : List ℕ = g.K.ByteArray.bytes c.args.key.now in
-    let parts = subst (λ (t : TableParts). IsPartsOf F P t.entries.bytes t.control) (sym c.self.view_is) h in
-    let at = answer-Found F P k h.placed c.in-Found.slot (c.in-Found.ensures.on_placed P parts) in
-    ap Some (c.get.ensures.value ∙ ap g.V.ByteArray.of_bytes (found_value F P _ _ parts k c.in-Found.slot at)) ∙ sym (ap (option_map g.V.ByteArray.of_bytes) at.value)
+    record {
+      on_placed = λ P h. sym (ap (option_map g.V.ByteArray.of_bytes) (first_look-absent (format g) (T g at) (k g at) (count g at) (mirrored g at) (small g at) P (fits g at) h others some));
+      on_any = tt;
+    }
 
 -- the parts of the table, as the search reads them
-read : (g : Over) (c : After-any_empty g) (P : Table) → IsPartsOf (format g) P c.args.self.now.entries.bytes c.args.self.now.control
-    → IsPartsOf (format g) P c.self.inside.entries.bytes c.self.inside.control.now
-read g c P h = subst (λ (t : TableParts). IsPartsOf (format g) P t.entries.bytes t.control) (sym c.self.view_is) h
+abbrev parts : (g : Over) → After-any_empty g → TableParts
+parts g c = record { control = c.self.inside.control.now; entries = c.self.inside.entries }
 
-pub returns-in-Free-clause-on_placed : goal.returns-in-Free-clause-on_placed
-returns-in-Free-clause-on_placed g c P h = sym (ap (option_map g.V.ByteArray.of_bytes) (answer-Free (format g) P _ h.placed _ (c.in-Free.ensures.on_placed P (read g (goal.at.returns-in-Free-clause-on_placed g c).After-any_empty P h))).value)
+pub returns-in-Found : goal.returns-in-Found
+returns-in-Found g c =
+    let F = format g in
+    let f = g.V.ByteArray.of_bytes in
+    let k : List ℕ = g.K.ByteArray.bytes c.args.key.now in
+    let there = c.in-Found.ensures.slot in
+    subst (λ (t : TableParts). IsFind F f t k (Some c.get.result.value)) c.self.view_is (record {
+      on_placed = λ P h.
+          let at = answer-Found F P k h.placed c.in-Found.slot (c.in-Found.ensures.on_placed P h) in
+          ap Some (c.get.ensures.value ∙ ap f (found_value F P _ _ h k c.in-Found.slot at)) ∙ sym (ap (option_map f) at.value);
+      on_any = (c.in-Found.slot, there.0, there.1, c.get.ensures.value);
+    })
 
-pub returns-in-Neither-clause-on_placed : goal.returns-in-Neither-clause-on_placed
-returns-in-Neither-clause-on_placed g c P h = sym (ap (option_map g.V.ByteArray.of_bytes) (answer-Neither (format g) P _ h.placed (c.in-Neither.ensures.on_placed P (read g (goal.at.returns-in-Neither-clause-on_placed g c).After-any_empty P h))).value)
+-- no value in the parts
+absent : (g : Over) (c : After-any_empty g)
+    → ((P : Table) → IsPartsOf (format g) P (parts g c).entries.bytes (parts g c).control → map_of P (g.K.ByteArray.bytes c.args.key.now) ≡ None)
+    → IsFind (format g) g.V.ByteArray.of_bytes c.args.self.now (g.K.ByteArray.bytes c.args.key.now) None
+absent g c none =
+    subst (λ (t : TableParts). IsFind (format g) g.V.ByteArray.of_bytes t (g.K.ByteArray.bytes c.args.key.now) None) c.self.view_is
+    (record { on_placed = λ P h. sym (ap (option_map g.V.ByteArray.of_bytes) (none P h)); on_any = tt })
+
+pub returns-in-Free : goal.returns-in-Free
+returns-in-Free g c =
+    absent g (goal.at.returns-in-Free g c).After-any_empty (λ P h. (answer-Free (format g) P _ h.placed _ (c.in-Free.ensures.on_placed P h)).value)
+
+pub returns-in-Neither : goal.returns-in-Neither
+returns-in-Neither g c =
+    absent g (goal.at.returns-in-Neither g c).After-any_empty (λ P h. (answer-Neither (format g) P _ h.placed (c.in-Neither.ensures.on_placed P h)).value)

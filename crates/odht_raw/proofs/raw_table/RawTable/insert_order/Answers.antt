@@ -80,7 +80,7 @@ returns-then-ready-eq0-clause-made g c P whole =
     let out = c.loop-placed.out in
     let n = c.loop-placed.placed in
     let pending = subst (IsPending (format g) P (take n out)) (sym (rest out n)) (c.loop-placed.invariant.pending P whole) in
-    let stuck = c.place_ready-ready.ensures.stuck P (take n out) whole.parts pending c.if-ready-eq0.true in (
+    let stuck = (c.place_ready-ready.ensures.pass P (take n out) whole.parts pending).stuck c.if-ready-eq0.true in (
       λ t. absurd (true≢false (sym t)),
       λ made. absurd (order_missing (format g) P c.args.self.now out _ (c.loop-placed.auto.out ∙ c.list_occupied.auto.out) whole n c.loop-placed-test.true stuck made),
     )
@@ -99,7 +99,7 @@ loop-placed-preserved g c =
       pending = λ P whole.
           subst (λ done. IsPending (format g) P done (drop (n + ready) (put_mid n (length out - n) out left))) (sym (ended-take out left n v.within ready e.few))
           (subst (IsPending (format g) P (take n out ++ take ready left)) (sym (ended-drop out left n v.within ready e.few))
-          (e.pending P (take n out) whole.parts (subst (IsPending (format g) P (take n out)) (sym (rest out n)) (v.pending P whole))));
+          (e.pass P (take n out) whole.parts (subst (IsPending (format g) P (take n out)) (sym (rest out n)) (v.pending P whole))).pending);
     }
 
 pub returns-clause-order : goal.returns-clause-order

@@ -58,10 +58,10 @@ returns-clause-waiting g c =
     let passed = c.loop-at.invariant.1 known.0 known.1 known.2 known.3 in
     sorted_waiting c.loop-at.invariant.0 passed.pending.rising c.sort_unstable.ensures.permutation c.sort_unstable.ensures.sorted
 
-pub returns-clause-pending : goal.returns-clause-pending
-returns-clause-pending g c P done parts pending =
+pub returns-clause-pass : goal.returns-clause-pass
+returns-clause-pass g c P done parts pending =
     let passed = c.loop-at.invariant.1 P done parts pending in
-    sorted_pending c.loop-at.invariant.0 passed.pending.rising c.sort_unstable.ensures.permutation c.sort_unstable.ensures.sorted passed.pending
-
-pub returns-clause-stuck : goal.returns-clause-stuck
-returns-clause-stuck g c P done parts pending none = passed_stuck pending (c.loop-at.invariant.1 P done parts pending) c.loop-at-test.false none
+    record {
+      pending = sorted_pending c.loop-at.invariant.0 passed.pending.rising c.sort_unstable.ensures.permutation c.sort_unstable.ensures.sorted passed.pending;
+      stuck = λ none. passed_stuck pending passed c.loop-at-test.false none;
+    }

@@ -1,4 +1,4 @@
-use Rattle.std.proofs.Common.{◌∙◌, sym, arith}
+use Rattle.std.proofs.Common.{rules, ◌∙◌, sym, arith}
 use Rattle.odht_base.specs.Format.{Format, format_of}
 use Rattle.odht_raw.proofs.lemmas.Expected.{ends_here}
 use Rattle.odht_header.proofs.lemmas.Formats.{IsFormat-format_of}
@@ -13,12 +13,10 @@ returns-then-is_empty_or_deleted-clause-placed g c P h ends =
     (sym c.is_empty_or_deleted.ensures ∙ c.if-is_empty_or_deleted.true) ends
 
 -- there is room
-pub returns-then-is_empty_or_deleted-clause-earlier :
-    goal.returns-then-is_empty_or_deleted-clause-earlier
-returns-then-is_empty_or_deleted-clause-earlier g c none = absurd (omega (arith, none, c.if-room-gt0.true))
+pub returns-then-is_empty_or_deleted-clause-end : goal.returns-then-is_empty_or_deleted-clause-end
+returns-then-is_empty_or_deleted-clause-end g c = record { slot = search rules; earlier = λ none. absurd (omega (arith, none, c.if-room-gt0.true)) }
 
-pub returns-clause-any : goal.returns-clause-any
-returns-clause-any g c = rw c.new.ensures at c.whole_search.ensures.slot
-
-pub returns-clause-earlier : goal.returns-clause-earlier
-returns-clause-earlier g c none = rw c.new.ensures at c.whole_search.ensures.earlier
+pub returns-clause-end : goal.returns-clause-end
+returns-clause-end g c =
+    let end = rw c.new.ensures at c.whole_search.ensures in
+    record { slot = end.slot; earlier = λ none. end.earlier }

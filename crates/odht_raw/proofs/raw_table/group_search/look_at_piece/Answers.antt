@@ -28,7 +28,7 @@ returns-then-equals-clause-on_placed g c P p at =
     let F : Format = format_of g.K.ByteArray.LEN g.V.ByteArray.LEN g.H.HashFn.hash in
     let k : List ℕ = g.K.ByteArray.bytes c.args.key.now in
     let f = IsFormat-format_of _ _ _ _ c.requires.lengths.key c.requires.lengths.value c.requires.lengths.hashes g.met.H.HashFn.fits in
-    let report = subst (λ h. IsReport c.args.bytes.now h (g.Q.Group.matches c.of-group.result)) c.requires.tag c.of-group.ensures.matches in
+    let report = subst (λ h. IsReport c.args.bytes.now h (g.Q.Group.matches c.of-group.result)) c.requires.tag.is c.of-group.ensures.matches in
     let match = taken-first _ _ _ c.in-Some.index c.matches.invariant.taken c.in-Some.ensures in
     let masked = ap (λ n. bit_and (c.args.start + c.in-Some.index) (n - 1)) c.len-mask.ensures ∙ bit_and-slots (c.args.start + c.in-Some.index) c.args.entries.now.slots c.requires.slots in
     let same = ap (slot_key F c.args.entries.now.bytes) (sym masked) ∙ sym c.get.ensures.key_bytes ∙ c.equals.ensures.0 c.if-equals.true in
@@ -39,7 +39,7 @@ pub returns-then-equals-clause-slot : goal.returns-then-equals-clause-slot
 returns-then-equals-clause-slot g c =
     let F : Format = format_of g.K.ByteArray.LEN g.V.ByteArray.LEN g.H.HashFn.hash in
     let k : List ℕ = g.K.ByteArray.bytes c.args.key.now in
-    let report = subst (λ h. IsReport c.args.bytes.now h (g.Q.Group.matches c.of-group.result)) c.requires.tag c.of-group.ensures.matches in
+    let report = subst (λ h. IsReport c.args.bytes.now h (g.Q.Group.matches c.of-group.result)) c.requires.tag.is c.of-group.ensures.matches in
     let match = taken-first _ _ _ c.in-Some.index c.matches.invariant.taken c.in-Some.ensures in
     let masked = ap (λ n. bit_and (c.args.start + c.in-Some.index) (n - 1)) c.len-mask.ensures ∙ bit_and-slots (c.args.start + c.in-Some.index) c.args.entries.now.slots c.requires.slots in (
       c.in-Some.index,
@@ -80,7 +80,7 @@ overflow_add-result g c =
 unmatched : (g : Over) (c : After-first_empty g) → IsOtherAmong (format_of g.K.ByteArray.LEN g.V.ByteArray.LEN g.H.HashFn.hash) c.args.entries.now c.args.bytes.now c.args.start
     (g.K.ByteArray.bytes c.args.key.now) (length c.args.bytes.now)
 unmatched g c j l is same =
-    let report = subst (λ h. IsReport c.args.bytes.now h (g.Q.Group.matches c.of-group.result)) c.requires.tag c.of-group.ensures.matches in
+    let report = subst (λ h. IsReport c.args.bytes.now h (g.Q.Group.matches c.of-group.result)) c.requires.tag.is c.of-group.ensures.matches in
     taken-all _ _ _ c.matches.invariant.taken c.in_default.ensures j (report.complete j l is) same
 
 pub returns-in-Some-first_empty-clause-slot : goal.returns-in-Some-first_empty-clause-slot
@@ -96,7 +96,7 @@ returns-in-Some-first_empty-clause-on_placed g c P p at =
     let F : Format = format_of g.K.ByteArray.LEN g.V.ByteArray.LEN g.H.HashFn.hash in
     let k : List ℕ = g.K.ByteArray.bytes c.args.key.now in
     let f = IsFormat-format_of _ _ _ _ c.requires.lengths.key c.requires.lengths.value c.requires.lengths.hashes g.met.H.HashFn.fits in
-    let report = subst (λ h. IsReport c.args.bytes.now h (g.Q.Group.matches c.of-group.result)) c.requires.tag c.of-group.ensures.matches in
+    let report = subst (λ h. IsReport c.args.bytes.now h (g.Q.Group.matches c.of-group.result)) c.requires.tag.is c.of-group.ensures.matches in
     let first = sym (c.in-Some-first_empty.ensures ∙ c.matches.invariant.same ∙ c.of-group.ensures.free) in
     let masked = ap (λ n. bit_and (c.args.start + c.in-Some-first_empty.index) (n - 1)) c.len-mask.ensures ∙ bit_and-slots (c.args.start + c.in-Some-first_empty.index) c.args.entries.now.slots c.requires.slots in
     let free = look_free F P c.args.entries.now k p c.args.start c.args.bytes.now f at _ report (taken-all _ _ _ c.matches.invariant.taken c.in_default.ensures) c.in-Some-first_empty.index first in
@@ -113,6 +113,6 @@ returns-clause-on_placed g c P p at =
     let F : Format = format_of g.K.ByteArray.LEN g.V.ByteArray.LEN g.H.HashFn.hash in
     let k : List ℕ = g.K.ByteArray.bytes c.args.key.now in
     let f = IsFormat-format_of _ _ _ _ c.requires.lengths.key c.requires.lengths.value c.requires.lengths.hashes g.met.H.HashFn.fits in
-    let report = subst (λ h. IsReport c.args.bytes.now h (g.Q.Group.matches c.of-group.result)) c.requires.tag c.of-group.ensures.matches in
+    let report = subst (λ h. IsReport c.args.bytes.now h (g.Q.Group.matches c.of-group.result)) c.requires.tag.is c.of-group.ensures.matches in
     let none = sym (c.in-None.ensures ∙ c.matches.invariant.same ∙ c.of-group.ensures.free) in
     subst (λ n. Passed F P k (p + n)) c.requires.len (look_on F P c.args.entries.now k p c.args.start c.args.bytes.now f at _ report (taken-all _ _ _ c.matches.invariant.taken c.in_default.ensures) none)

@@ -1,6 +1,6 @@
 use Rattle.std.proofs.Common.{arith, refl, ◌≡◌, ◌∙◌, ℕ, ◌+◌, ◌-◌, ◌%◌, ◌/◌, ◌<◌, ◌≤◌, sym, ap, subst, true≢false, List, min}
 use Rattle.odht_base.specs.Bytes.{bytes_at}
-use Rattle.odht_base.specs.Format.{Format, format_of}
+use Rattle.odht_base.specs.Format.{Format, format_of, IsFormat}
 use Rattle.odht_base.specs.Load.{IsSlotCount}
 use Rattle.odht_base.specs.Table.{Table}
 use Rattle.odht_base.specs.Valid.{IsPartsOf}
@@ -8,7 +8,7 @@ use Rattle.odht_base.proofs.lemmas.SlotCounts.{sixteens}
 use Rattle.odht_base.specs.Probe.{probe_slot}
 use Rattle.odht_raw.specs.ControlBytes.{order_slot, GoesOnTo}
 use Rattle.odht_raw.specs.SearchEnds.{GoesOnAmong}
-use Rattle.odht_raw.specs.SearchSteps.{Passed}
+use Rattle.odht_raw.specs.SearchSteps.{Passed, IsGroupAt}
 use Rattle.odht_header.proofs.lemmas.Formats.{IsFormat-format_of}
 use Rattle.odht_raw.proofs.lemmas.GroupSearches.{IsGroupAt-probe, reads-to, reads-all, goes_on-more, no_free-on, group-end, group-after}
 use Rattle.odht_raw.proofs.lemmas.Lookups.{answer-IsWherePlaced}
@@ -51,42 +51,6 @@ nearer next position slots place within = omega arith
 pub groups-smaller : goal.groups-smaller
 groups-smaller g c = nearer _ _ _ (ap (λ q. q.position) c.advance.ensures) c.groups.invariant.within
 
-pub returns-in-Some-clause-few : goal.returns-in-Some-clause-few
-returns-in-Some-clause-few g c =
-    one_more _ _ _ _ _ (ap (λ s. s.groups) c.group-bytes.ensures.counted) c.groups.invariant.few c.groups.invariant.within
-
-pub returns-then-is_last-clause-few : goal.returns-then-is_last-clause-few
-returns-then-is_last-clause-few g c =
-    one_more _ _ _ _ _ (ap (λ s. s.groups) c.group-bytes.ensures.counted) c.groups.invariant.few c.groups.invariant.within
-
-pub returns-in-Some-clause-on_placed : goal.returns-in-Some-clause-on_placed
-returns-in-Some-clause-on_placed g c P h =
-    let F : Format = format_of g.K.ByteArray.LEN g.V.ByteArray.LEN g.H.HashFn.hash in
-    let k : List ℕ = g.K.ByteArray.bytes c.args.key.now in
-    let f = IsFormat-format_of _ _ _ _ c.requires.lengths.pair.key c.requires.lengths.pair.value c.requires.lengths.pair.hashes g.met.H.HashFn.fits in
-    let v = c.groups.invariant in
-    let p : ℕ = c.groups.probe.position in
-    let at = IsGroupAt-probe F P c.args.entries.now c.args.scan.now.control k f h c.requires.lengths.mirrored c.index-start.result c.args.hash c.groups.probe.home c.groups.probe.mask p c.group-bytes.result.now c.groups.scan.control
-    v.aligned v.within c.index-start.ensures.slot v.home v.mask c.requires.hash c.group-bytes.ensures.bytes v.control (v.passed P h) in
-    (c.in-Some.ensures.on_placed P p at).0
-
-pub returns-in-Some-clause-placing : goal.returns-in-Some-clause-placing
-returns-in-Some-clause-placing g c P h =
-    let F : Format = format_of g.K.ByteArray.LEN g.V.ByteArray.LEN g.H.HashFn.hash in
-    answer-IsWherePlaced F P (g.K.ByteArray.bytes c.args.key.now) h.placed c.in-Some.end (returns-in-Some-clause-on_placed g c P h)
-
-pub returns-in-Some-clause-groups : goal.returns-in-Some-clause-groups
-returns-in-Some-clause-groups g c P h =
-    let F : Format = format_of g.K.ByteArray.LEN g.V.ByteArray.LEN g.H.HashFn.hash in
-    let k : List ℕ = g.K.ByteArray.bytes c.args.key.now in
-    let f = IsFormat-format_of _ _ _ _ c.requires.lengths.pair.key c.requires.lengths.pair.value c.requires.lengths.pair.hashes g.met.H.HashFn.fits in
-    let v = c.groups.invariant in
-    let p : ℕ = c.groups.probe.position in
-    let at = IsGroupAt-probe F P c.args.entries.now c.args.scan.now.control k f h c.requires.lengths.mirrored c.index-start.result c.args.hash c.groups.probe.home c.groups.probe.mask p c.group-bytes.result.now c.groups.scan.control
-    v.aligned v.within c.index-start.ensures.slot v.home v.mask c.requires.hash c.group-bytes.ensures.bytes v.control (v.passed P h) in
-    let reads = reads-to F P c.args.entries.now c.args.scan.now.control k f h c.requires.lengths.mirrored p v.aligned (c.in-Some.ensures.on_placed P p at).1 in
-    rw reads (omega (arith, ap (λ s. s.groups) c.group-bytes.ensures.counted, v.read_so_far))
-
 -- at least sixteen slots
 few_slots : (g : Over) (c : After-look_at_group g) → 16 ≤ c.args.entries.now.slots
 few_slots g c = let few = c.slots-mask.ensures.count.least in omega (arith, few, c.slots-mask.ensures.control, c.requires.lengths.mirrored)
@@ -103,49 +67,44 @@ begins g c =
 read : (g : Over) (c : After-look_at_group g) → c.group-bytes.result.now ≡ bytes_at c.args.scan.now.control c.index-start.result 16
 read g c = c.group-bytes.ensures.bytes ∙ ap (λ ctrl. bytes_at ctrl c.index-start.result 16) c.groups.invariant.control
 
-pub returns-in-Some-clause-slot : goal.returns-in-Some-clause-slot
-returns-in-Some-clause-slot g c =
-    let F : Format = format_of g.K.ByteArray.LEN g.V.ByteArray.LEN g.H.HashFn.hash in
-    let at = (goal.at.returns-in-Some-clause-slot g c).After-look_at_group in
-    group-end F c.args.entries.now c.args.scan.now.control (g.K.ByteArray.bytes c.args.key.now) c.index-start.result c.groups.probe.position c.requires.lengths.mirrored (few_slots g at)
-    c.groups.invariant.aligned c.groups.invariant.within (begins g at) c.in-Some.end (rw (read g at) at c.in-Some.ensures.slot)
+-- the format is one
+formatted : (g : Over) (c : After-look_at_group g) → IsFormat (format_of g.K.ByteArray.LEN g.V.ByteArray.LEN g.H.HashFn.hash)
+formatted g c = IsFormat-format_of _ _ _ _ c.requires.lengths.pair.key c.requires.lengths.pair.value c.requires.lengths.pair.hashes g.met.H.HashFn.fits
 
-pub returns-in-Some-clause-earlier : goal.returns-in-Some-clause-earlier
-returns-in-Some-clause-earlier g c =
-    let F : Format = format_of g.K.ByteArray.LEN g.V.ByteArray.LEN g.H.HashFn.hash in
-    let at = (goal.at.returns-in-Some-clause-earlier g c).After-look_at_group in
-    group-after F c.args.entries.now c.args.scan.now.control (g.K.ByteArray.bytes c.args.key.now) c.index-start.result c.groups.probe.position c.requires.lengths.mirrored (few_slots g at)
-    c.groups.invariant.aligned c.groups.invariant.within (begins g at) c.groups.invariant.on c.in-Some.end (rw (read g at) at c.in-Some.ensures.slot)
-
-pub returns-then-is_last-clause-on_placed : goal.returns-then-is_last-clause-on_placed
-returns-then-is_last-clause-on_placed g c P h =
+-- the control bytes of the group are those from its first slot on, and the searches of its slots were passed
+placed_group : (g : Over) (c : After-look_at_group g) (P : Table) → IsPartsOf (format_of g.K.ByteArray.LEN g.V.ByteArray.LEN g.H.HashFn.hash) P c.args.entries.now.bytes c.args.scan.now.control
+    → IsGroupAt (format_of g.K.ByteArray.LEN g.V.ByteArray.LEN g.H.HashFn.hash) P c.args.entries.now (g.K.ByteArray.bytes c.args.key.now) c.groups.probe.position c.index-start.result c.group-bytes.result.now
+placed_group g c P h =
     let F : Format = format_of g.K.ByteArray.LEN g.V.ByteArray.LEN g.H.HashFn.hash in
     let k : List ℕ = g.K.ByteArray.bytes c.args.key.now in
-    let f = IsFormat-format_of _ _ _ _ c.requires.lengths.pair.key c.requires.lengths.pair.value c.requires.lengths.pair.hashes g.met.H.HashFn.fits in
     let v = c.groups.invariant in
-    let p : ℕ = c.groups.probe.position in
-    let at = IsGroupAt-probe F P c.args.entries.now c.args.scan.now.control k f h c.requires.lengths.mirrored c.index-start.result c.args.hash c.groups.probe.home c.groups.probe.mask p c.group-bytes.result.now c.groups.scan.control
-    v.aligned v.within c.index-start.ensures.slot v.home v.mask c.requires.hash c.group-bytes.ensures.bytes v.control (v.passed P h) in
-    let all : p + 16 ≡ c.args.entries.now.slots = omega (arith, v.within, v.mask, c.is_last.ensures.0 c.if-is_last.true) in
-    no_end F P k c.args.entries.now.bytes c.args.scan.now.control f h c.args.entries.now.slots c.requires.lengths.mirrored (subst (Passed F P k) all (c.in_default.ensures.on_placed P p at))
+    IsGroupAt-probe F P c.args.entries.now c.args.scan.now.control k (formatted g c) h c.requires.lengths.mirrored c.index-start.result c.args.hash c.groups.probe.home c.groups.probe.mask c.groups.probe.position c.group-bytes.result.now
+    c.groups.scan.control v.aligned v.within c.index-start.ensures.slot v.home v.mask c.requires.hash c.group-bytes.ensures.bytes v.control (v.passed P h)
 
-pub returns-then-is_last-clause-placing : goal.returns-then-is_last-clause-placing
-returns-then-is_last-clause-placing g c P h =
+pub returns-in-Some : goal.returns-in-Some
+returns-in-Some g c =
     let F : Format = format_of g.K.ByteArray.LEN g.V.ByteArray.LEN g.H.HashFn.hash in
-    answer-IsWherePlaced F P (g.K.ByteArray.bytes c.args.key.now) h.placed _ (returns-then-is_last-clause-on_placed g c P h)
-
-pub returns-then-is_last-clause-groups : goal.returns-then-is_last-clause-groups
-returns-then-is_last-clause-groups g c P h =
-    let F : Format = format_of g.K.ByteArray.LEN g.V.ByteArray.LEN g.H.HashFn.hash in
+    let E = c.args.entries.now in
+    let ctrl = c.args.scan.now.control in
     let k : List ℕ = g.K.ByteArray.bytes c.args.key.now in
-    let f = IsFormat-format_of _ _ _ _ c.requires.lengths.pair.key c.requires.lengths.pair.value c.requires.lengths.pair.hashes g.met.H.HashFn.fits in
     let v = c.groups.invariant in
     let p : ℕ = c.groups.probe.position in
-    let at = IsGroupAt-probe F P c.args.entries.now c.args.scan.now.control k f h c.requires.lengths.mirrored c.index-start.result c.args.hash c.groups.probe.home c.groups.probe.mask p c.group-bytes.result.now c.groups.scan.control
-    v.aligned v.within c.index-start.ensures.slot v.home v.mask c.requires.hash c.group-bytes.ensures.bytes v.control (v.passed P h) in
-    let all : p + 16 ≡ c.args.entries.now.slots = omega (arith, v.within, v.mask, c.is_last.ensures.0 c.if-is_last.true) in
-    let reads = reads-all F P c.args.entries.now c.args.scan.now.control k f h c.requires.lengths.mirrored (subst (Passed F P k) all (c.in_default.ensures.on_placed P p at)) in
-    rw reads (omega (arith, ap (λ s. s.groups) c.group-bytes.ensures.counted, v.read_so_far, all))
+    let at = (goal.at.returns-in-Some g c).After-look_at_group in
+    let few = few_slots g at in
+    let ends = rw (read g at) at c.in-Some.ensures.slot in
+    let placed = λ (P : Table) (h : IsPartsOf F P E.bytes ctrl). c.in-Some.ensures.on_placed P p (placed_group g at P h) in
+    let counted = ap (λ s. s.groups) c.group-bytes.ensures.counted in
+    record {
+      end = record {
+        on_placed = λ P h. (placed P h).0;
+        slot = group-end F E ctrl k c.index-start.result p c.requires.lengths.mirrored few v.aligned v.within (begins g at) c.in-Some.end ends;
+        earlier = group-after F E ctrl k c.index-start.result p c.requires.lengths.mirrored few v.aligned v.within (begins g at) v.on c.in-Some.end ends;
+      };
+      placing = λ P h. answer-IsWherePlaced F P k h.placed c.in-Some.end (placed P h).0;
+      groups = λ P h. rw (reads-to F P E ctrl k (formatted g at) h c.requires.lengths.mirrored p v.aligned (placed P h).1) (omega (arith, counted, v.read_so_far));
+      few = one_more _ _ _ _ _ counted v.few v.within;
+      control = ap (λ s. s.control) c.group-bytes.ensures.counted ∙ v.control;
+    }
 
 -- the group at the probe, from which the search goes on, after those before it
 passed_group : (g : Over) (c : After-look_at_group g)
@@ -167,16 +126,34 @@ on_all g c last on =
     let all : c.groups.probe.position + 16 ≡ c.args.entries.now.slots = omega (arith, c.groups.invariant.within, c.groups.invariant.mask, last) in
     subst (GoesOnTo F c.args.entries.now c.args.scan.now.control (g.K.ByteArray.bytes c.args.key.now)) all (passed_group g c on)
 
-pub returns-then-is_last-clause-slot : goal.returns-then-is_last-clause-slot
-returns-then-is_last-clause-slot g c =
+pub returns-then-is_last : goal.returns-then-is_last
+returns-then-is_last g c =
     let F : Format = format_of g.K.ByteArray.LEN g.V.ByteArray.LEN g.H.HashFn.hash in
-    let slots : c.slots-mask.result ≡ c.args.entries.now.slots = omega (arith, c.slots-mask.ensures.control, c.requires.lengths.mirrored) in
-    let on = on_all g (goal.at.returns-then-is_last-clause-slot g c).After-look_at_group (c.is_last.ensures.0 c.if-is_last.true) (c.in_default.ensures.none refl) in
-    (no_free-on F c.args.entries.now c.args.scan.now.control (g.K.ByteArray.bytes c.args.key.now) (subst IsSlotCount slots c.slots-mask.ensures.count) on, on)
-
-pub returns-then-is_last-clause-earlier : goal.returns-then-is_last-clause-earlier
-returns-then-is_last-clause-earlier g c =
-    on_all g (goal.at.returns-then-is_last-clause-earlier g c).After-look_at_group (c.is_last.ensures.0 c.if-is_last.true) (c.in_default.ensures.none refl)
+    let E = c.args.entries.now in
+    let ctrl = c.args.scan.now.control in
+    let k : List ℕ = g.K.ByteArray.bytes c.args.key.now in
+    let v = c.groups.invariant in
+    let p : ℕ = c.groups.probe.position in
+    let at = (goal.at.returns-then-is_last g c).After-look_at_group in
+    let mirrored = c.requires.lengths.mirrored in
+    let slots : c.slots-mask.result ≡ E.slots = omega (arith, c.slots-mask.ensures.control, mirrored) in
+    let over = c.is_last.ensures.0 c.if-is_last.true in
+    let all : p + 16 ≡ E.slots = omega (arith, v.within, v.mask, over) in
+    let on = on_all g at over (c.in_default.ensures.none refl) in
+    let passed = λ (P : Table) (h : IsPartsOf F P E.bytes ctrl). subst (Passed F P k) all (c.in_default.ensures.on_placed P p (placed_group g at P h)) in
+    let none = λ (P : Table) (h : IsPartsOf F P E.bytes ctrl). no_end F P k E.bytes ctrl (formatted g at) h E.slots mirrored (passed P h) in
+    let counted = ap (λ s. s.groups) c.group-bytes.ensures.counted in
+    record {
+      end = record {
+        on_placed = none;
+        slot = (no_free-on F E ctrl k (subst IsSlotCount slots c.slots-mask.ensures.count) on, on);
+        earlier = on;
+      };
+      placing = λ P h. answer-IsWherePlaced F P k h.placed _ (none P h);
+      groups = λ P h. rw (reads-all F P E ctrl k (formatted g at) h mirrored (passed P h)) (omega (arith, counted, v.read_so_far, all));
+      few = one_more _ _ _ _ _ counted v.few v.within;
+      control = ap (λ s. s.control) c.group-bytes.ensures.counted ∙ v.control;
+    }
 
 pub groups-preserved : goal.groups-preserved
 groups-preserved g c =

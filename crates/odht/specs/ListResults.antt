@@ -1,0 +1,41 @@
+-- What a list of inserts answers and leaves: r is how many items were accepted, and the error of the first that was not.
+--     IsViewList c bytes holding D D' items r  of inserts into the view D, whose bytes are `bytes D`, which leave the
+--                          view D': on valid bytes the table after the accepted ones (`inserted`), which is full for the
+--                          item that failed (`at_maximum`); on any bytes no more than the accepted inserts may change
+--                          (`framed`), and bytes that are accepted, for which an insert of that item may fail
+--                          (`stopped`); no other error than `Full`; and the store stays the same one
+--     IsOwnedList c B B' items r  of inserts into the owned table of the bytes B, which leave the bytes B': the table
+--                          after the accepted ones (`inserted`), which is full for the item that failed (`at_maximum`);
+--                          a fresh table that accepted all has the last values (`last_values`), and has not grown where
+--                          it was made for as many (`fresh`); no other error than `Memory`
+use Rattle.std.specs.Prelude.{◌≡◌, ◌↔◌, ◌≤◌, ℕ, List, length, take, Result, Err, IsOk, OnOk, OnErr}
+use Rattle.odht_base.specs.Insert.{insert_view, insert_owned}
+use Rattle.odht_base.specs.Table.{Table}
+use Rattle.odht_base.specs.Valid.{IsImage}
+use Rattle.odht_header.specs.Coding.{Coding}
+use Rattle.odht_header.specs.declared.error.Error.{Error}
+use Rattle.odht_header.specs.declared.error.Error.TheVariants.{Full, Memory}
+use Rattle.odht_raw.specs.Frame.{IsAccepted}
+use Rattle.odht.specs.Inserts.{IsFresh}
+use Rattle.odht.specs.LastValues.{HasLastValues}
+use Rattle.odht.specs.Lists.{encoded_all, IsAfterInserts, IsFreshAfterInserts, IsFramedRun, IsRefusedAt, IsStoppedAt}
+
+pub record IsViewList {K V D : Type 0} (c : Coding K V) (bytes : D → List ℕ) (holding : D → List ℕ → D) (before after : D) (items : List (K × V)) (r : ℕ × Result Unit Error) : Type 0 where
+  pub bound : r.0 ≤ length items
+  pub all : IsOk r.1 ↔ (r.0 ≡ length items)
+  pub inserted : (P : Table) → IsImage c.format P (bytes before) → IsAfterInserts c.format (insert_view c.format) P (encoded_all c (take r.0 items)) (bytes after)
+  pub framed : IsFramedRun c (bytes before) (take r.0 items) (bytes after)
+  pub same_store : after ≡ holding before (bytes after)
+  pub accepted : IsAccepted c.format (bytes after)
+  pub at_maximum : (P : Table) → IsImage c.format P (bytes after) → OnErr r.1 (IsRefusedAt c P items r.0)
+  pub stopped : OnErr r.1 (IsStoppedAt c items r.0 (bytes after))
+  pub only_full : OnErr r.1 (r.1 ≡ Err Full)
+
+pub record IsOwnedList {K V : Type 0} (c : Coding K V) (before after : List ℕ) (items : List (K × V)) (r : ℕ × Result Unit Error) : Type 0 where
+  pub bound : r.0 ≤ length items
+  pub all : IsOk r.1 ↔ (r.0 ≡ length items)
+  pub inserted : (P : Table) → IsImage c.format P before → IsAfterInserts c.format (insert_owned c.format) P (encoded_all c (take r.0 items)) after
+  pub fresh : (p : ℕ) → IsFresh c.format (length items) p before → OnOk r.1 (IsFreshAfterInserts c p items after)
+  pub last_values : (n p : ℕ) → IsFresh c.format n p before → OnOk r.1 (HasLastValues c items after)
+  pub at_maximum : (P : Table) → IsImage c.format P after → OnErr r.1 (IsRefusedAt c P items r.0)
+  pub memory : OnErr r.1 (r.1 ≡ Err Memory)

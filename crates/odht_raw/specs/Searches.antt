@@ -1,0 +1,27 @@
+-- A search by groups for a key k. E is the entries, ctrl the control bytes, r the answer.
+--     IsSearchEnd F E ctrl k r       on the parts of a table it is the table's answer (`on_placed`); on any parts it is
+--                                    an end (`slot`), and this comes before it in the probe order (`earlier`)
+--     IsSearch F E k before after r  it ends there, where on the parts of a table a pair with the key is placed
+--                                    (`placing`); there exactly the groups up to its end are read (`groups`), on any
+--                                    parts no more than there are (`few`), and no control byte changes
+use Rattle.std.specs.Prelude.{◌≡◌, ℕ, ◌+◌, ◌/◌, ◌≤◌, List, min}
+use Rattle.odht_base.specs.Format.{Format}
+use Rattle.odht_base.specs.Table.{Table}
+use Rattle.odht_base.specs.Search.{groups_read}
+use Rattle.odht_base.specs.Valid.{IsPartsOf}
+use Rattle.odht_raw.specs.Parts.{EntryBytes, ReadGroups}
+use Rattle.odht_raw.specs.SearchEnds.{IsEnd, IsAfter}
+use Rattle.odht_raw.specs.SearchResults.{answer, IsWherePlaced}
+use Rattle.odht_raw.specs.declared.raw_table.search_result.Search.{Search}
+
+pub record IsSearchEnd (F : Format) (E : EntryBytes) (ctrl k : List ℕ) (r : Search) : Type 0 where
+  pub on_placed : (P : Table) → IsPartsOf F P E.bytes ctrl → r ≡ answer F P.cells k
+  pub slot : IsEnd F E ctrl k r
+  pub earlier : IsAfter F E ctrl k r
+
+pub record IsSearch (F : Format) (E : EntryBytes) (k : List ℕ) (before after : ReadGroups) (r : Search) : Type 0 where
+  pub end : IsSearchEnd F E before.control k r
+  pub placing : (P : Table) → IsPartsOf F P E.bytes before.control → IsWherePlaced F P k r
+  pub groups : (P : Table) → IsPartsOf F P E.bytes before.control → after.groups ≡ min (before.groups + groups_read F P.cells k) 18446744073709551615
+  pub few : after.groups ≤ before.groups + E.slots / 16
+  pub control : after.control ≡ before.control
