@@ -55,7 +55,7 @@ pub fn bytes_needed<C: Config>(max_item_count: usize, max_load_factor_percent: u
 /// borrowed hold the table.
 #[derive(Drop)]
 pub struct HashTable<C: Config, D: ByteStore> {
-    allocation: Allocation<C, D>,
+    pub(crate) allocation: Allocation<C, D>,
 }
 
 impl<C: Config, D: ByteStore> Model for HashTable<C, D> {

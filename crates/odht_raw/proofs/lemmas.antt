@@ -23,6 +23,8 @@ pub mod ImagesOpen
 pub mod WholeChecks
 -- bytes whose entries were overwritten with zeros
 pub mod ClearedEntries
+-- a store after a borrow of its bytes
+pub mod Borrows
 -- what the writes of a new table leave
 pub mod NewTables
 -- a walk over the slots

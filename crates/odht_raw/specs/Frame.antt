@@ -8,7 +8,8 @@
 --     IsFramed c B k v r B'               the same of a key and a value
 --     PartsFrame F es ctrl p r es' ctrl'  the same of the parts
 --     IsPartsFramed F f es ctrl p r es' ctrl'  the same with the answer decoded by f
-use Rattle.std.specs.Prelude.{◌≡◌, ℕ, ◌+◌, ◌-◌, ◌*◌, ◌<◌, ◌≤◌, length, List, ◌++◌, Option, option_map, Some, None, Result, Ok, Err}
+--     IsOnlyFull es ctrl r es' ctrl'      Full is the only error, and changes none of the parts
+use Rattle.std.specs.Prelude.{◌≡◌, ℕ, ◌+◌, ◌-◌, ◌*◌, ◌<◌, ◌≤◌, length, List, ◌++◌, Option, option_map, Some, None, Result, Ok, Err, OnErr}
 use Rattle.std.specs.Result.{result_map_both}
 use Rattle.odht_base.specs.Bytes.{overwritten_at}
 use Rattle.odht_base.specs.Format.{Format, entry_len, tag}
@@ -55,3 +56,8 @@ pub data PartsFrame (F : Format) (es ctrl : List ℕ) (p : Pair) : Result (Optio
 abbrev pub IsPartsFramed : {V : Type 0} → Format → (List ℕ → V) → List ℕ → List ℕ → Pair → Result (Option V) Error → List ℕ → List ℕ → Type 0
 IsPartsFramed F f es ctrl p r es' ctrl' =
     (a : Result (Option (List ℕ)) Error) × (r ≡ result_map_both (option_map f) (λ e. e) a) × PartsFrame F es ctrl p a es' ctrl'
+
+pub record IsOnlyFull {A : Type 0} (es ctrl : List ℕ) (r : Result A Error) (es' ctrl' : List ℕ) : Type 0 where
+  pub only_full : OnErr r (r ≡ Err Full)
+  pub refused_control : OnErr r (ctrl' ≡ ctrl)
+  pub refused_entries : OnErr r (es' ≡ es)

@@ -6,13 +6,13 @@
 --     IsFullNoRoom P p r               the answer is Full exactly where each slot of P is occupied by another key
 --     IsPartsInsert F f P p r ..       all three, for the parts of P
 --     IsInsertChange F f es ctrl p r ..  for any parts es and ctrl: the frame; Full is the only error and changes nothing
-use Rattle.std.specs.Prelude.{◌≡◌, ℕ, ◌↔◌, List, Option, Some, None, option_map, Result, Err, IfOk, OnErr}
+use Rattle.std.specs.Prelude.{◌≡◌, ℕ, ◌↔◌, List, Option, Some, None, option_map, Result, Err, IfOk}
 use Rattle.odht_base.specs.Format.{Format}
 use Rattle.odht_base.specs.Insert.{place}
 use Rattle.odht_base.specs.Map.{map_of}
 use Rattle.odht_base.specs.Table.{Pair, Table}
 use Rattle.odht_base.specs.Valid.{IsPartsOf, IsFullWithout}
-use Rattle.odht_raw.specs.Frame.{IsPartsFramed}
+use Rattle.odht_raw.specs.Frame.{IsPartsFramed, IsOnlyFull}
 use Rattle.odht_header.specs.declared.error.Error.{Error}
 use Rattle.odht_header.specs.declared.error.Error.TheVariants.{Full}
 
@@ -38,6 +38,4 @@ module _ {V : Type 0} (F : Format) (f : List ℕ → V) where
 
   pub record IsInsertChange (es ctrl : List ℕ) (p : Pair) (r : Result (Option V) Error) (es' ctrl' : List ℕ) : Type 0 where
     pub frame : IsPartsFramed F f es ctrl p r es' ctrl'
-    pub only_full : OnErr r (r ≡ Err Full)
-    pub refused_control : OnErr r (ctrl' ≡ ctrl)
-    pub refused_entries : OnErr r (es' ≡ es)
+    pub errors : IsOnlyFull es ctrl r es' ctrl'

@@ -11,22 +11,19 @@
 --                          and both borrows stay
 --     IsMutPlacing t k v r t'  placing k and v through t answers r and leaves t': what placing a pair with a new key
 --                          into parts does, and both borrows stay
-use Rattle.std.specs.Prelude.{◌≡◌, ℕ, ◌-◌, ◌↔◌, List, length, None, Option, Result, Err, OnOk, OnErr}
+use Rattle.std.specs.Prelude.{◌≡◌, ℕ, ◌-◌, List, length, Option, Result}
 use Rattle.std.specs.Borrow.{GName}
 use Rattle.std.specs.declared.cmp.PartialEq.{Ghosts as PartialEqOf}
 use Rattle.std.specs.declared.fmt.Debug.{Ghosts as DebugOf}
 use Rattle.odht_base.specs.declared.bytes.arrays.ByteArray.{Ghosts as ByteArrayOf}
 use Rattle.odht_base.specs.declared.hash.HashFn.{Ghosts as HashFnOf}
 use Rattle.odht_base.specs.Format.{Format, format_of}
-use Rattle.odht_base.specs.Insert.{place}
 use Rattle.odht_base.specs.Table.{Pair, Table}
-use Rattle.odht_base.specs.Valid.{IsPartsOf, IsFullWithout}
-use Rattle.odht_raw.specs.Frame.{IsPartsFramed}
+use Rattle.odht_base.specs.Valid.{IsPartsOf}
 use Rattle.odht_raw.specs.Parts.{TableParts}
-use Rattle.odht_raw.specs.PartsInserts.{AnswersFormer, ArePartsPlaced, IsFullUnplaced, IsFullNoRoom}
-use Rattle.odht_raw.specs.PartsPlacings.{IsNewTo, PlacingFrame}
+use Rattle.odht_raw.specs.PartsInserts.{IsPartsInsert, IsInsertChange}
+use Rattle.odht_raw.specs.PartsPlacings.{IsNewTo, IsNewPlacing, IsAddition}
 use Rattle.odht_header.specs.declared.error.Error.{Error}
-use Rattle.odht_header.specs.declared.error.Error.TheVariants.{Full}
 use Rattle.odht_raw.specs.declared.raw_table.table_mut.RawTableMut.{RawTableMut}
 
 module _ {K V H : Type 0} {key : ByteArrayOf K} {key_eq : PartialEqOf K} {key_debug : DebugOf K}
@@ -60,15 +57,8 @@ module _ {K V H : Type 0} {key : ByteArrayOf K} {key_eq : PartialEqOf K} {key_de
       (t : RawTableMut K V H key key_eq key_debug value value_eq value_debug hash hash_eq)
       (k : K) (v : V) (r : Result (Option V) Error)
       (t' : RawTableMut K V H key key_eq key_debug value value_eq value_debug hash hash_eq) : Type 0 where
-    pub ok : (P : Table) → IsParts P t
-        → AnswersFormer (table_format t) value.of_bytes P (pair_of t k v) r (mut_entries t') (mut_control t')
-    pub full : (P : Table) → IsParts P t → IsFullUnplaced (table_format t) P (pair_of t k v) r
-    pub no_room : (P : Table) → IsParts P t → IsFullNoRoom P (pair_of t k v) r
-    pub frame : IsPartsFramed (table_format t) value.of_bytes (mut_entries t) (mut_control t) (pair_of t k v) r
-        (mut_entries t') (mut_control t')
-    pub only_full : OnErr r (r ≡ Err Full)
-    pub refused_control : OnErr r (mut_control t' ≡ mut_control t)
-    pub refused_entries : OnErr r (mut_entries t' ≡ mut_entries t)
+    pub parts : (P : Table) → IsParts P t → IsPartsInsert (table_format t) value.of_bytes P (pair_of t k v) r (mut_entries t') (mut_control t')
+    pub change : IsInsertChange (table_format t) value.of_bytes (mut_entries t) (mut_control t) (pair_of t k v) r (mut_entries t') (mut_control t')
     pub control_loan : control_loan t' ≡ control_loan t
     pub entries_loan : entries_loan t' ≡ entries_loan t
 
@@ -76,15 +66,7 @@ module _ {K V H : Type 0} {key : ByteArrayOf K} {key_eq : PartialEqOf K} {key_de
       (t : RawTableMut K V H key key_eq key_debug value value_eq value_debug hash hash_eq)
       (k : K) (v : V) (r : Result (Unit {0}) Error)
       (t' : RawTableMut K V H key key_eq key_debug value value_eq value_debug hash hash_eq) : Type 0 where
-    pub ok : (P : Table) → IsParts P t → IsNewTo P (pair_of t k v)
-        → OnOk r (ArePartsPlaced (table_format t) P (pair_of t k v) (mut_entries t') (mut_control t'))
-    pub full : (P : Table) → IsParts P t → IsNewTo P (pair_of t k v)
-        → ((r ≡ Err Full) ↔ (place (table_format t) P (pair_of t k v) ≡ None))
-    pub no_room : (P : Table) → IsParts P t → IsNewTo P (pair_of t k v)
-        → ((r ≡ Err Full) ↔ IsFullWithout P (pair_of t k v).key)
-    pub frame : PlacingFrame (table_format t) (mut_entries t) (mut_control t) (pair_of t k v) r (mut_entries t') (mut_control t')
-    pub only_full : OnErr r (r ≡ Err Full)
-    pub refused_control : OnErr r (mut_control t' ≡ mut_control t)
-    pub refused_entries : OnErr r (mut_entries t' ≡ mut_entries t)
+    pub parts : (P : Table) → IsParts P t → IsNewTo P (pair_of t k v) → IsNewPlacing (table_format t) P (pair_of t k v) r (mut_entries t') (mut_control t')
+    pub change : IsAddition (table_format t) (mut_entries t) (mut_control t) (pair_of t k v) r (mut_entries t') (mut_control t')
     pub control_loan : control_loan t' ≡ control_loan t
     pub entries_loan : entries_loan t' ≡ entries_loan t

@@ -7,7 +7,7 @@
 --     PlacingFrame F es ctrl p r es' ctrl'  for any parts es and ctrl: p is written with its tag into the first slot of
 --                                      its key's probe order that counts as free, or each slot counts as occupied
 --     IsAddition F es ctrl p r es' ctrl'  this frame; Full is the only error and changes nothing
-use Rattle.std.specs.Prelude.{◌≡◌, ℕ, ◌-◌, ◌*◌, ◌↔◌, List, ◌++◌, length, None, Result, Ok, Err, OnOk, OnErr}
+use Rattle.std.specs.Prelude.{◌≡◌, ℕ, ◌-◌, ◌*◌, ◌↔◌, List, ◌++◌, length, None, Result, Ok, Err, OnOk}
 use Rattle.odht_base.specs.Bytes.{overwritten_at}
 use Rattle.odht_base.specs.Format.{Format, entry_len, tag}
 use Rattle.odht_base.specs.Insert.{place}
@@ -15,7 +15,7 @@ use Rattle.odht_base.specs.Map.{map_of}
 use Rattle.odht_base.specs.Table.{Pair, Table}
 use Rattle.odht_base.specs.Valid.{IsFullWithout}
 use Rattle.odht_base.specs.Writes.{tagged}
-use Rattle.odht_raw.specs.Frame.{HasNoFreeSlot}
+use Rattle.odht_raw.specs.Frame.{HasNoFreeSlot, IsOnlyFull}
 use Rattle.odht_raw.specs.FreeSlots.{IsFirstFree}
 use Rattle.odht_raw.specs.PartsInserts.{ArePartsPlaced}
 use Rattle.odht_header.specs.declared.error.Error.{Error}
@@ -35,6 +35,4 @@ pub data PlacingFrame (F : Format) (es ctrl : List ℕ) (p : Pair) : Result (Uni
 
 pub record IsAddition (F : Format) (es ctrl : List ℕ) (p : Pair) (r : Result (Unit {0}) Error) (es' ctrl' : List ℕ) : Type 0 where
   pub frame : PlacingFrame F es ctrl p r es' ctrl'
-  pub only_full : OnErr r (r ≡ Err Full)
-  pub refused_control : OnErr r (ctrl' ≡ ctrl)
-  pub refused_entries : OnErr r (es' ≡ es)
+  pub errors : IsOnlyFull es ctrl r es' ctrl'

@@ -5,12 +5,12 @@
 --                          entry only where there is room
 --     IsStepFramed F f m es ctrl p r es' ctrl'  the same with the answer decoded by f
 --     IsStepChange F f m es ctrl p r es' ctrl'  this frame; Full is the only error and changes nothing
-use Rattle.std.specs.Prelude.{◌≡◌, ℕ, ◌<◌, List, Option, option_map, None, Result, Ok, Err, OnErr}
+use Rattle.std.specs.Prelude.{◌≡◌, ℕ, ◌<◌, List, Option, option_map, None, Result, Ok, Err}
 use Rattle.std.specs.Result.{result_map_both}
 use Rattle.odht_base.specs.Format.{Format}
 use Rattle.odht_base.specs.Table.{Pair}
 use Rattle.odht_raw.specs.ControlBytes.{IsMissing}
-use Rattle.odht_raw.specs.Frame.{PartsFrame}
+use Rattle.odht_raw.specs.Frame.{PartsFrame, IsOnlyFull}
 use Rattle.odht_raw.specs.Parts.{stored_in}
 use Rattle.odht_raw.specs.SearchEnds.{IsEnd, IsAfter}
 use Rattle.odht_header.specs.declared.error.Error.{Error}
@@ -32,6 +32,4 @@ IsStepFramed F f m es ctrl p r es' ctrl' =
 
 pub record IsStepChange {V : Type 0} (F : Format) (f : List ℕ → V) (m : ℕ) (es ctrl : List ℕ) (p : Pair) (r : Result (Option V) Error) (es' ctrl' : List ℕ) : Type 0 where
   pub frame : IsStepFramed F f m es ctrl p r es' ctrl'
-  pub only_full : OnErr r (r ≡ Err Full)
-  pub refused_control : OnErr r (ctrl' ≡ ctrl)
-  pub refused_entries : OnErr r (es' ≡ es)
+  pub errors : IsOnlyFull es ctrl r es' ctrl'

@@ -1,11 +1,8 @@
 -- The bytes that a table grows into: how many they are, and what their header says.
-use Rattle.std.proofs.Common.{◌≡◌, ◌<◌, ◌≤◌, ◌∙◌, ◌*◌, ◌+◌, ◌-◌, ◌^◌, ◌++◌, ℕ, sym, ap, subst, refl, List, Option, Some, None, take, drop, length, arith, lt-ltb, le-ltb, take-append-drop, length-append, length-take-le, length-drop, replicate}
-use borrow.Rule.Slice.PartMut.{put_mid}
-use Rattle.std.proofs.lemmas.List.{length-replicate}
+use Rattle.std.proofs.Common.{◌≡◌, ◌<◌, ◌≤◌, ◌∙◌, ◌*◌, ◌^◌, ◌++◌, ℕ, sym, ap, subst, refl, List, Option, Some, None, take, drop, length, arith, lt-ltb, le-ltb, take-append-drop}
 use Rattle.std.specs.Prelude.{max, IfSome, IsNone, MatchOption}
 use Rattle.std.specs.Bool.{then_some}
 use Rattle.std.proofs.Math.Nat.{le-max_left, le-max_right, mul-le-mul_left}
-use Rattle.odht_base.specs.Bytes.{bytes_at}
 use Rattle.odht_base.specs.Format.{Format}
 use Rattle.odht_base.specs.Image.{header_bytes, image_len}
 use Rattle.odht_base.specs.Load.{slots_for, IsSlotCount}
@@ -13,7 +10,6 @@ use Rattle.odht_base.specs.Insert.{grown_slots}
 use Rattle.odht_base.specs.Decoded.{header_count, header_factor}
 use Rattle.odht_base.specs.Table.{Table}
 use Rattle.odht_base.specs.Valid.{IsImage}
-use Rattle.odht_base.proofs.lemmas.ByteRanges.{bytes_at-between}
 use Rattle.odht_base.proofs.lemmas.Least.{slots_for-IsLeastSlots}
 use Rattle.odht_base.proofs.lemmas.Numbers.{num-le_bytes}
 use Rattle.odht_base.proofs.lemmas.Options.{some_same}

@@ -29,7 +29,7 @@ impl<C: Config> HashTableOwned<C> {
     {
         let mut accepted = 0;
         'growths: loop {
-            accepted = self.table.insert_from(items, accepted);
+            accepted = self.table.allocation.insert_items(items, accepted);
             if accepted >= items.count() {
                 return (accepted, Ok(()));
             }

@@ -25,28 +25,18 @@ module _ {K V H : Type 0} {key : ByteArrayOf K} {key_eq : PartialEqOf K} {key_de
       → IsInsertChange (table_format t) value.of_bytes (mut_entries t) (mut_control t) (pair_of t k v) r (mut_entries t') (mut_control t')
       → control_loan t' ≡ control_loan t → entries_loan t' ≡ entries_loan t
       → IsMutInsert t k v r t'
-  of_its_parts r placing change control entries = record {
-    ok = λ P is. (placing P is).ok;
-    full = λ P is. (placing P is).full;
-    no_room = λ P is. (placing P is).no_room;
-    frame = change.frame;
-    only_full = change.only_full;
-    refused_control = change.refused_control;
-    refused_entries = change.refused_entries;
-    control_loan = control;
-    entries_loan = entries;
-  }
+  of_its_parts r placing change control entries = record { parts = placing; change = change; control_loan = control; entries_loan = entries }
 
   -- it answers no other error than Full
   pub other_error_refused : (n : ℕ) → IsMutInsert t k v (Err (TooShort n)) t' → ⊥
-  other_error_refused n h = let is = h.only_full in absurd cc
+  other_error_refused n h = let is = h.change.errors.only_full in absurd cc
 
   -- and then changes neither control bytes nor entries
   pub written_control_refused : (mut_control t' ≡ mut_control t → ⊥) → IsMutInsert t k v (Err Full) t' → ⊥
-  written_control_refused other h = other h.refused_control
+  written_control_refused other h = other h.change.errors.refused_control
 
   pub written_entries_refused : (mut_entries t' ≡ mut_entries t → ⊥) → IsMutInsert t k v (Err Full) t' → ⊥
-  written_entries_refused other h = other h.refused_entries
+  written_entries_refused other h = other h.change.errors.refused_entries
 
   -- the slices that are borrowed stay so
   pub other_control_refused : (r : Result (Option V) Error) → (control_loan t' ≡ control_loan t → ⊥) → IsMutInsert t k v r t' → ⊥
@@ -57,11 +47,11 @@ module _ {K V H : Type 0} {key : ByteArrayOf K} {key_eq : PartialEqOf K} {key_de
 
   -- where the pair has a place, and where a slot is free, the answer is not Full
   pub placed_refused : (P Q : Table) → IsParts P t → place (table_format t) P (pair_of t k v) ≡ Some Q → IsMutInsert t k v (Err Full) t' → ⊥
-  placed_refused P Q is fits h = none-some Q (sym ((h.full P is).0 refl) ∙ fits)
+  placed_refused P Q is fits h = none-some Q (sym ((h.parts P is).full.0 refl) ∙ fits)
 
   pub free_slot_refused : (P : Table) (i : ℕ) → IsParts P t → i < slot_count P → is_free P.cells i ≡ true → IsMutInsert t k v (Err Full) t' → ⊥
-  free_slot_refused P i is low free h = true≢false (sym free ∙ ((h.no_room P is).0 refl i low).0)
+  free_slot_refused P i is low free h = true≢false (sym free ∙ ((h.parts P is).no_room.0 refl i low).0)
 
   -- a new key has no former value
   pub former_refused : (P : Table) (w : V) → IsParts P t → map_of P (pair_of t k v).key ≡ None → IsMutInsert t k v (Ok (Some w)) t' → ⊥
-  former_refused P w is new h = let old = (h.ok P is).0 in let none = new in absurd cc
+  former_refused P w is new h = let old = (h.parts P is).ok.0 in let none = new in absurd cc

@@ -35,50 +35,40 @@ module _ {K V H : Type 0} {key : ByteArrayOf K} {key_eq : PartialEqOf K} {key_de
       → IsAddition (table_format t) (mut_entries t) (mut_control t) (pair_of t k v) r (mut_entries t') (mut_control t')
       → control_loan t' ≡ control_loan t → entries_loan t' ≡ entries_loan t
       → IsMutPlacing t k v r t'
-  of_its_parts r placing addition control entries = record {
-    ok = λ P is new. (placing P is new).ok;
-    full = λ P is new. (placing P is new).full;
-    no_room = λ P is new. (placing P is new).no_room;
-    frame = addition.frame;
-    only_full = addition.only_full;
-    refused_control = addition.refused_control;
-    refused_entries = addition.refused_entries;
-    control_loan = control;
-    entries_loan = entries;
-  }
+  of_its_parts r placing addition control entries = record { parts = placing; change = addition; control_loan = control; entries_loan = entries }
 
   -- an Ok leaves no other parts than those of the table with the pair placed
   pub other_parts_refused : (P : Table) → IsParts P t → IsNewTo P (pair_of t k v)
       → (ArePartsPlaced (table_format t) P (pair_of t k v) (mut_entries t') (mut_control t') → ⊥) → IsMutPlacing t k v (Ok tt) t' → ⊥
-  other_parts_refused P is new other h = other (h.ok P is new)
+  other_parts_refused P is new other h = other (h.parts P is new).ok
 
   -- and there is none where each slot is occupied
   pub occupied_refused : (P : Table) → IsParts P t → IsNewTo P (pair_of t k v) → IsFullWithout P (pair_of t k v).key → IsMutPlacing t k v (Ok tt) t' → ⊥
-  occupied_refused P is new full h = let is_full = (h.no_room P is new).1 full in absurd cc
+  occupied_refused P is new full h = let is_full = (h.parts P is new).no_room.1 full in absurd cc
 
   -- where the pair has a place, and where a slot is free, the answer is not Full
   pub placed_refused : (P Q : Table) → IsParts P t → IsNewTo P (pair_of t k v) → place (table_format t) P (pair_of t k v) ≡ Some Q → IsMutPlacing t k v (Err Full) t' → ⊥
-  placed_refused P Q is new fits h = none-some Q (sym ((h.full P is new).0 refl) ∙ fits)
+  placed_refused P Q is new fits h = none-some Q (sym ((h.parts P is new).full.0 refl) ∙ fits)
 
   pub free_slot_refused : (P : Table) (i : ℕ) → IsParts P t → IsNewTo P (pair_of t k v) → i < slot_count P → is_free P.cells i ≡ true → IsMutPlacing t k v (Err Full) t' → ⊥
-  free_slot_refused P i is new low free h = true≢false (sym free ∙ ((h.no_room P is new).0 refl i low).0)
+  free_slot_refused P i is new low free h = true≢false (sym free ∙ ((h.parts P is new).no_room.0 refl i low).0)
 
   -- of any parts, no entry is written where no slot counts as free
   pub no_free_refused : ((i : ℕ) → IsFirstFree (mut_control t) ((table_format t).hash (pair_of t k v).key) (length (mut_control t) - 16) i → ⊥) → IsMutPlacing t k v (Ok tt) t' → ⊥
   no_free_refused none h =
-      let first = added_first (table_format t) (mut_entries t) (mut_control t) (pair_of t k v) (Ok tt) (mut_entries t') (mut_control t') h.frame refl in
+      let first = added_first (table_format t) (mut_entries t) (mut_control t) (pair_of t k v) (Ok tt) (mut_entries t') (mut_control t') h.change.frame refl in
       none first.0 first.1
 
   -- it answers no other error than Full
   pub other_error_refused : (n : ℕ) → IsMutPlacing t k v (Err (TooShort n)) t' → ⊥
-  other_error_refused n h = let is = h.only_full in absurd cc
+  other_error_refused n h = let is = h.change.errors.only_full in absurd cc
 
   -- and then changes neither control bytes nor entries
   pub written_control_refused : (mut_control t' ≡ mut_control t → ⊥) → IsMutPlacing t k v (Err Full) t' → ⊥
-  written_control_refused other h = other h.refused_control
+  written_control_refused other h = other h.change.errors.refused_control
 
   pub written_entries_refused : (mut_entries t' ≡ mut_entries t → ⊥) → IsMutPlacing t k v (Err Full) t' → ⊥
-  written_entries_refused other h = other h.refused_entries
+  written_entries_refused other h = other h.change.errors.refused_entries
 
   -- the slices that are borrowed stay so
   pub other_control_refused : (r : Result (Unit {0}) Error) → (control_loan t' ≡ control_loan t → ⊥) → IsMutPlacing t k v r t' → ⊥

@@ -161,9 +161,7 @@ changes r es' ctrl' = IsInsertChange direct_config (λ b. b) no_entries occupied
 pub unchanged : changes (Err Full) no_entries occupied_controls
 unchanged = record {
   frame = (Err Full, refl, PartsFrame.no_slot no_free_slots (missing_everywhere direct_config (record { slots = 16; bytes = no_entries }) occupied_controls five (lit< tt) refl refl));
-  only_full = refl;
-  refused_control = refl;
-  refused_entries = refl;
+  errors = record { only_full = refl; refused_control = refl; refused_entries = refl };
 }
 
 -- it answers no other error, and changes neither entries nor control bytes
@@ -171,9 +169,9 @@ pub changed_refused : (changes (Err (TooShort 0)) no_entries occupied_controls �
     × (changes (Err Full) (set no_entries 3 1) occupied_controls → ⊥)
     × (changes (Err Full) no_entries (set occupied_controls 3 1) → ⊥)
 changed_refused = (
-  λ h. let is = h.only_full in absurd cc,
-  λ h. unequal_lists (set no_entries 3 1) no_entries refl h.refused_entries,
-  λ h. unequal_lists (set occupied_controls 3 1) occupied_controls refl h.refused_control,
+  λ h. let is = h.errors.only_full in absurd cc,
+  λ h. unequal_lists (set no_entries 3 1) no_entries refl h.errors.refused_entries,
+  λ h. unequal_lists (set occupied_controls 3 1) occupied_controls refl h.errors.refused_control,
 )
 
 -- nor is a new entry added there

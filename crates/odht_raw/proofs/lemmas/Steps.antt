@@ -127,9 +127,7 @@ module _ {V : Type 0} (F : Format) (f : List ℕ → V) (m : ℕ) (p : Pair) (r 
     pub step-change : (es ctrl es' ctrl' : List ℕ) → IsStepChange F f m es ctrl p r es' ctrl' → IsInsertChange F f es ctrl p r es' ctrl'
     step-change es ctrl es' ctrl' change = record {
       frame = go es ctrl es' ctrl' change.frame.0 change.frame.1 change.frame.2;
-      only_full = change.only_full;
-      refused_control = change.refused_control;
-      refused_entries = change.refused_entries;
+      errors = change.errors;
     }
       where
         go : (es ctrl es' ctrl' : List ℕ) (a : Result (Option (List ℕ)) Error) → r ≡ result_map_both (option_map f) (λ x. x) a → StepFrame F m es ctrl p a es' ctrl' → IsPartsFramed F f es ctrl p r es' ctrl'
@@ -153,7 +151,7 @@ module _ {V : Type 0} (F : Format) (f : List ℕ → V) (m : ℕ) (p : Pair) (r 
 
         refused : (x : Result (Option V) Error) → r ≡ x → place F P p ≡ None → x ≡ Err Full
         refused (Ok o) e none = absurd (none-some _ (sym none ∙ (subst (λ (y : Result (Option V) Error). AnswersFormer F f P p y es' ctrl') e former).1.1))
-        refused (Err y) e none = (subst (λ (z : Result (Option V) Error). IsStepChange F f m es ctrl p z es' ctrl') e change).only_full
+        refused (Err y) e none = (subst (λ (z : Result (Option V) Error). IsStepChange F f m es ctrl p z es' ctrl') e change).errors.only_full
 
         full : (r ≡ Err Full) ↔ (place F P p ≡ None)
         full = (λ e. unplaced es ctrl es' ctrl' h long e framed.0 framed.1 framed.2, λ none. refused r refl none)

@@ -30,24 +30,8 @@ pub fn init_in_place<C: Config, M: ByteStoreMut>(
         in M.bytes result ≡ with_count (image F (empty slot_count max_load_factor.0)) item_count }
     ensures same_store { result ≡ M.holding «data» (M.bytes result) }
 {
-    init_store::<C, M>(&mut data, slot_count, item_count, max_load_factor);
+    init_bytes::<C>(data.bytes_mut(), slot_count, item_count, max_load_factor);
     Allocation::from_raw_bytes_unchecked(data)
-}
-
-// `init_in_place` in a store that stays the caller's.
-fn init_store<C: Config, M: ByteStoreMut>(
-    store: &mut M,
-    slot_count: usize,
-    item_count: usize,
-    max_load_factor: Factor,
-)
-    requires slots { IsSlotCount slot_count }
-    requires len { length (M.bytes store.old) ≡ image_len ⟦<C as Coded>⟧.coding.format slot_count }
-    ensures bytes { let F = ⟦<C as Coded>⟧.coding.format
-        in M.bytes store.new ≡ with_count (image F (empty slot_count max_load_factor.0)) item_count }
-    ensures same_store { store.new ≡ M.holding store.old (M.bytes store.new) }
-{
-    init_bytes::<C>(store.bytes_mut(), slot_count, item_count, max_load_factor);
 }
 
 // `init_in_place` on the bytes themselves.

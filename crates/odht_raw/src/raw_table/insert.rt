@@ -12,7 +12,7 @@ ghost use Rattle.odht_raw.specs.PartsInserts.{AnswersFormer};
 ghost use Rattle.odht_raw.specs.Steps.{IsStepChange, IsStepEnd};
 
 use super::{Entries, EntryMetadata, Scan, Search, search_hashed, tag_of};
-use crate::bytes::{BorrowedMut, ByteArray, ByteStoreMut};
+use crate::bytes::{ByteArray, write_slice};
 use crate::error::Error;
 use crate::hash::HashFn;
 use crate::swisstable_group_query::{Group, REFERENCE_GROUP_SIZE};
@@ -79,8 +79,7 @@ pub(crate) fn insert_at<K: ByteArray, V: ByteArray, H: HashFn>(
     match end {
         Search::Found(slot) => {
             let old = stored.get(slot).value;
-            let mut store = BorrowedMut::new(entries);
-            store.write_at(slot * (K::LEN + V::LEN) + K::LEN, value.as_slice());
+            write_slice(entries, slot * (K::LEN + V::LEN) + K::LEN, value.as_slice());
             Ok(Some(old))
         }
         Search::Free(slot) => {
@@ -116,8 +115,6 @@ pub(crate) fn fill_slot<K: ByteArray, V: ByteArray, H: HashFn>(
     ensures value { IsBytes V.LEN (V.bytes value.now) }
 {
     let slots = control.len() - REFERENCE_GROUP_SIZE;
-    let mut store = BorrowedMut::new(entries);
-    write_pair(&mut store, slot * (K::LEN + V::LEN), key, value);
-    let mut tags = BorrowedMut::new(control);
-    write_tag(&mut tags, 0, slots, slot, tag);
+    write_pair(entries, slot * (K::LEN + V::LEN), key, value);
+    write_tag(control, 0, slots, slot, tag);
 }

@@ -31,7 +31,7 @@ pub fn bytes_needed<C: Config>(
 /// table's bytes, and the clauses named `same_store` say that it stays the store that was passed in, so bytes that were
 /// borrowed hold the table.
 pub struct HashTable<C: Config, D: ByteStore> {
-    allocation: Allocation<C, D>,
+    pub(crate) allocation: Allocation<C, D>,
 }
 
 impl<C: Config, D: ByteStore> HashTable<C, D> {

@@ -33,8 +33,8 @@ loop-entry-preserved g c =
           let at : LeadsTo F Q (pair here ∷ map pair left) es ctrl = subst (λ xs. LeadsTo F Q (map pair xs) es ctrl) c.in-Some.ensures.steps (c.loop-entry.invariant.placed P Q parts apart new all) in
           let fresh = leads_new F Q (pair here) (map pair left) es ctrl at in
           let fits = leads_fits F Q (pair here) (map pair left) es ctrl at in
-          let insert = accepted_holds (ArePartsPlaced F at.table (pair here) c.place.new.self.entries.now c.place.new.self.control.now) c.place.result known.only_full
-          (λ full. fits ((known.full at.table at.parts fresh).0 full)) (known.ok at.table at.parts fresh) in
+          let insert = accepted_holds (ArePartsPlaced F at.table (pair here) c.place.new.self.entries.now c.place.new.self.control.now) c.place.result known.change.errors.only_full
+          (λ full. fits ((known.parts at.table at.parts fresh).full.0 full)) (known.parts at.table at.parts fresh).ok in
           leads_on F Q (pair here) (map pair left) es ctrl at _ _ insert);
     }
 

@@ -1,4 +1,4 @@
-use Rattle.std.proofs.Common.{ℕ, List, ◌≡◌, ◌+◌, ◌*◌, ◌∙◌, ◌++◌, sym, ap, arith, append_assoc, length, length-append, replicate, take, take_at, drop, drop_at}
+use Rattle.std.proofs.Common.{ℕ, List, ◌≡◌, ◌+◌, ◌*◌, ◌∙◌, ◌++◌, sym, ap, append_assoc, length, length-append, replicate, take, take_at, drop, drop_at}
 use Rattle.std.proofs.lemmas.List.{length-replicate}
 use Rattle.odht_base.specs.Format.{Format, format_of, entry_len}
 use Rattle.odht_base.specs.Image.{header_bytes}

@@ -42,7 +42,7 @@ impl<C: Config, M: ByteStoreMut> Allocation<C, M> {
         ensures accepted { IsAccepted ⟦<C as Coded>⟧.coding.format (M.bytes self.new) }
     {
         let store = &mut self.store;
-        insert_into_store::<C, M, Q>(store, key, value)
+        insert_into_bytes::<C, Q>(store.bytes_mut(), key, value)
     }
 
     /// Inserts the items from index `from` on in their order, up to the first for which `insert_by` returns `Full`, and
@@ -59,29 +59,8 @@ impl<C: Config, M: ByteStoreMut> Allocation<C, M> {
         ensures accepted { IsAccepted ⟦<C as Coded>⟧.coding.format (M.bytes self.new) }
     {
         let store = &mut self.store;
-        run_in_store::<C, M, I>(store, items, from)
+        run_in_bytes::<C, I>(store.bytes_mut(), items, from)
     }
-}
-
-// `insert_by` on a store that holds the bytes of a table.
-#[inline(always)]
-fn insert_into_store<C: Config, M: ByteStoreMut, Q: Group>(
-    store: &mut M,
-    key: &C::Key,
-    value: &C::Value,
-) -> Result<Option<C::Value>, Error>
-    requires { IsAccepted ⟦<C as Coded>⟧.coding.format (M.bytes store.old) }
-    ensures placed { let c = ⟦<C as Coded>⟧.coding
-        in (P : Table)
-        → IsImage c.format P (M.bytes store.old)
-        → IfOk result (λ old. IsOnePlaced c P key.now value.now old (M.bytes store.new)) }
-    ensures framed { let c = ⟦<C as Coded>⟧.coding
-        in IsFramed c (M.bytes store.old) key.now value.now result (M.bytes store.new) }
-    ensures same_store { store.new ≡ M.holding store.old (M.bytes store.new) }
-    ensures accepted { IsAccepted ⟦<C as Coded>⟧.coding.format (M.bytes store.new) }
-    ensures len { length (M.bytes store.new) ≡ length (M.bytes store.old) }
-{
-    insert_into_bytes::<C, Q>(store.bytes_mut(), key, value)
 }
 
 // `insert_by` on the bytes themselves.
@@ -122,24 +101,6 @@ fn insert_into_bytes<C: Config, Q: Group>(
         }
         Err(refused) => Err(refused),
     }
-}
-
-// `insert_items` on a store that holds the bytes of a table.
-#[inline(always)]
-fn run_in_store<C: Config, M: ByteStoreMut, I: Items<C::Key, C::Value>>(
-    store: &mut M,
-    items: &I,
-    from: usize,
-) -> usize
-    requires accepted { IsAccepted ⟦<C as Coded>⟧.coding.format (M.bytes store.old) }
-    requires from { from ≤ length (I.items items.now) }
-    ensures run { let c = ⟦<C as Coded>⟧.coding
-        in IsListRun c (M.bytes store.old) (I.items items.now) from result (M.bytes store.new) }
-    ensures same_store { store.new ≡ M.holding store.old (M.bytes store.new) }
-    ensures accepted { IsAccepted ⟦<C as Coded>⟧.coding.format (M.bytes store.new) }
-    ensures len { length (M.bytes store.new) ≡ length (M.bytes store.old) }
-{
-    run_in_bytes::<C, I>(store.bytes_mut(), items, from)
 }
 
 // `insert_items` on the bytes themselves.

@@ -17,18 +17,8 @@ pub fn init_in_place<C: Config, M: ByteStoreMut>(
     item_count: usize,
     max_load_factor: Factor,
 ) -> Allocation<C, M> {
-    init_store::<C, M>(&mut data, slot_count, item_count, max_load_factor);
+    init_bytes::<C>(data.bytes_mut(), slot_count, item_count, max_load_factor);
     Allocation::from_raw_bytes_unchecked(data)
-}
-
-// `init_in_place` in a store that stays the caller's.
-fn init_store<C: Config, M: ByteStoreMut>(
-    store: &mut M,
-    slot_count: usize,
-    item_count: usize,
-    max_load_factor: Factor,
-) {
-    init_bytes::<C>(store.bytes_mut(), slot_count, item_count, max_load_factor);
 }
 
 // `init_in_place` on the bytes themselves.

@@ -2,7 +2,7 @@
 //! The insert of one pair into the parts of a table: one search, and the write where it ends.
 
 use super::{search_hashed, tag_of, Entries, EntryMetadata, Scan, Search};
-use crate::proved::raw::bytes::{BorrowedMut, ByteArray, ByteStoreMut};
+use crate::proved::raw::bytes::{write_slice, ByteArray};
 use crate::proved::raw::error::Error;
 use crate::proved::raw::hash::HashFn;
 use crate::proved::raw::swisstable_group_query::{Group, REFERENCE_GROUP_SIZE};
@@ -46,8 +46,7 @@ pub(crate) fn insert_at<K: ByteArray, V: ByteArray, H: HashFn>(
     match end {
         Search::Found(slot) => {
             let old = stored.get(slot).value;
-            let mut store = BorrowedMut::new(entries);
-            store.write_at(slot * (K::LEN + V::LEN) + K::LEN, value.as_slice());
+            write_slice(entries, slot * (K::LEN + V::LEN) + K::LEN, value.as_slice());
             Ok(Some(old))
         }
         Search::Free(slot) => {
@@ -72,8 +71,6 @@ pub(crate) fn fill_slot<K: ByteArray, V: ByteArray, H: HashFn>(
     slot: usize,
 ) {
     let slots = control.len() - REFERENCE_GROUP_SIZE;
-    let mut store = BorrowedMut::new(entries);
-    write_pair(&mut store, slot * (K::LEN + V::LEN), key, value);
-    let mut tags = BorrowedMut::new(control);
-    write_tag(&mut tags, 0, slots, slot, tag);
+    write_pair(entries, slot * (K::LEN + V::LEN), key, value);
+    write_tag(control, 0, slots, slot, tag);
 }

@@ -8,17 +8,6 @@ use crate::proved::tables::error::Error;
 use crate::proved::tables::items::Items;
 
 impl<C: Config, D: ByteStoreMut> HashTable<C, D> {
-    /// Inserts the items from index `from` on in their order, up to the first whose insert fails, and returns the index
-    /// of this item; the number of items where there is none.
-    #[inline(always)]
-    pub(crate) fn insert_from<I: Items<C::Key, C::Value>>(
-        &mut self,
-        items: &I,
-        from: usize,
-    ) -> usize {
-        self.allocation.insert_items(items, from)
-    }
-
     /// Inserts the items in their order, and stops at the first whose insert fails. Returns how many were accepted, and
     /// `Full` where one failed. The table is then as the accepted ones left it; on valid bytes it is at its maximum,
     /// and the key of the item that failed is absent.
@@ -36,7 +25,7 @@ impl<C: Config, D: ByteStoreMut> HashTable<C, D> {
         &mut self,
         items: &I,
     ) -> (usize, Result<(), Error>) {
-        let accepted = self.insert_from(items, 0);
+        let accepted = self.allocation.insert_items(items, 0);
         if accepted < items.count() {
             return (accepted, Err(Error::Full));
         }

@@ -25,7 +25,7 @@ impl<C: Config> HashTableOwned<C> {
     ) -> (usize, Result<(), Error>) {
         let mut accepted = 0;
         loop {
-            accepted = self.table.insert_from(items, accepted);
+            accepted = self.table.allocation.insert_items(items, accepted);
             if accepted >= items.count() {
                 return (accepted, Ok(()));
             }

@@ -58,3 +58,6 @@ returns-clause-err g c =
     let B = g.D.ByteStore.bytes c.args.store.now in
     let found : length c.bytes-found.result.now ≡ length B = ap length c.bytes-found.ensures in
     sym (new_refusal-fits F n f (length B) s layout.slots (omega (arith, layout.long, layout.fits)) (omega (arith, found, layout.long, c.if-found-expected.false)))
+
+pub init_in_place-table-requires-clause-len : goal.init_in_place-table-requires-clause-len
+init_in_place-table-requires-clause-len g c κs within = ap length (sym c.bytes-found.ensures) ∙ c.if-found-expected.false ∙ c.in-Some.ensures.some.long

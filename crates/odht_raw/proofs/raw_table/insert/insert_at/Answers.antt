@@ -51,14 +51,14 @@ overflow_add-slot g c =
     let low = found_low F es ctrl (g.K.ByteArray.bytes c.args.key) c.args.end c.in-Found.slot c.in-Found.is c.requires.end.slot in
     rw (c.LEN.ensures, c.LEN-in-Found.ensures, c.LEN-in-Found-2.ensures) (omega (arith, within F es ctrl c.in-Found.slot c.requires.lengths.entries low))
 
-pub write_at-requires : goal.write_at-requires
-write_at-requires g c =
+pub write_slice-requires : goal.write_slice-requires
+write_slice-requires g c =
     let F : Format = format_of g.K.ByteArray.LEN g.V.ByteArray.LEN g.H.HashFn.hash in
     let es = c.args.entries.now in
     let ctrl = c.args.control.now in
     let low = found_low F es ctrl (g.K.ByteArray.bytes c.args.key) c.args.end c.in-Found.slot c.in-Found.is c.requires.end.slot in
     rw (c.LEN.ensures, c.LEN-in-Found.ensures, c.LEN-in-Found-2.ensures)
-    (omega (arith, within F es ctrl c.in-Found.slot c.requires.lengths.entries low, ap length c.new-store.ensures.bytes, ap length c.as_slice.ensures.value, c.as_slice.ensures.bytes.len))
+    (omega (arith, within F es ctrl c.in-Found.slot c.requires.lengths.entries low, ap length c.as_slice.ensures.value, c.as_slice.ensures.bytes.len))
 
 pub fill_slot-requires-clause-slot : goal.fill_slot-requires-clause-slot
 fill_slot-requires-clause-slot g c κs within =
@@ -72,9 +72,9 @@ returns-in-Found-clause-placed g c P h e =
     let old = rw c.new-stored.ensures at c.get-old.ensures.value in
     let at = answer-Found F P p.key h.placed c.in-Found.slot (sym c.in-Found.is ∙ e) in
     let fits : IsPairOf F p = record { key = found_key F P _ _ h p.key _ at; value = c.as_slice.ensures.bytes } in
-    let bytes : c.write_at.new.self.0.now ≡ overwritten_at c.args.entries.now (c.in-Found.slot * entry_len F + F.key_len) p.value =
-    c.write_at.ensures.bytes ∙ (λ i. overwritten_at (c.new-store.ensures.bytes i) (c.in-Found.slot * (c.LEN.ensures i + c.LEN-in-Found.ensures i) + c.LEN-in-Found-2.ensures i) (c.as_slice.ensures.value i)) in
-    let parts : IsPartsOf F (written P c.in-Found.slot p) c.write_at.new.self.0.now c.args.control.now =
+    let bytes : c.write_slice.new.all ≡ overwritten_at c.args.entries.now (c.in-Found.slot * entry_len F + F.key_len) p.value =
+    c.write_slice.ensures ∙ (λ i. overwritten_at c.args.entries.now (c.in-Found.slot * (c.LEN.ensures i + c.LEN-in-Found.ensures i) + c.LEN-in-Found-2.ensures i) (c.as_slice.ensures.value i)) in
+    let parts : IsPartsOf F (written P c.in-Found.slot p) c.write_slice.new.all c.args.control.now =
     subst (λ (es : List ℕ). IsPartsOf F (written P c.in-Found.slot p) es c.args.control.now) (sym bytes) (found_parts F P _ _ h p.key c.in-Found.slot p refl fits at) in
     let former = ap Some (old ∙ ap g.V.ByteArray.of_bytes (found_value F P _ _ h p.key c.in-Found.slot at)) ∙ sym (ap (option_map g.V.ByteArray.of_bytes) at.value) in
     (former, (written P c.in-Found.slot p, at.places p refl, subst (λ (es : List ℕ). IsPartsOf F (written P c.in-Found.slot p) es c.args.control.now) (search rules) parts))
@@ -98,17 +98,15 @@ returns-in-Found-clause-any g c =
     let slot = c.in-Found.slot in
     let known = subst (IsEnd F (stored_in es ctrl) ctrl p.key) c.in-Found.is c.requires.end.slot in
     let old = rw c.new-stored.ensures at c.get-old.ensures.value in
-    let bytes : c.write_at.new.self.0.now ≡ overwritten_at es (slot * entry_len F + F.key_len) p.value =
-    c.write_at.ensures.bytes ∙ (λ i. overwritten_at (c.new-store.ensures.bytes i) (slot * (c.LEN.ensures i + c.LEN-in-Found.ensures i) + c.LEN-in-Found-2.ensures i) (c.as_slice.ensures.value i)) in
+    let bytes : c.write_slice.new.all ≡ overwritten_at es (slot * entry_len F + F.key_len) p.value =
+    c.write_slice.ensures ∙ (λ i. overwritten_at es (slot * (c.LEN.ensures i + c.LEN-in-Found.ensures i) + c.LEN-in-Found-2.ensures i) (c.as_slice.ensures.value i)) in
     let answer : Result (Option (List ℕ)) Error = Ok (Some (slot_value F es slot)) in
-    let framed : StepFrame F c.args.room es ctrl p answer c.write_at.new.self.0.now ctrl =
+    let framed : StepFrame F c.args.room es ctrl p answer c.write_slice.new.all ctrl =
     subst (λ (new : List ℕ). StepFrame F c.args.room es ctrl p answer new ctrl) (sym bytes)
     (StepFrame.framed answer (overwritten_at es (slot * entry_len F + F.key_len) p.value) ctrl (λ d. cc) (PartsFrame.overwrote slot known.0 known.1)) in
     record {
       frame = (answer, ap (λ o. Ok (Some o)) old, subst (λ (new : List ℕ). StepFrame F c.args.room es ctrl p answer new ctrl) (search rules) framed);
-      only_full = tt;
-      refused_control = tt;
-      refused_entries = tt;
+      errors = record { only_full = tt; refused_control = tt; refused_entries = tt };
     }
 
 -- without room the search says what comes before its end
@@ -120,7 +118,7 @@ returns-then-room-eq0-clause-any g c =
     let ctrl = c.args.control.now in
     let known = subst (IsEnd F stored ctrl k) c.in-Free.is c.requires.end.slot in
     let earlier = subst (IsAfter F stored ctrl k) c.in-Free.is (c.requires.end.earlier c.if-room-eq0.true) in
-    record { frame = (Err Full, refl, StepFrame.no_room c.if-room-eq0.true (missing-free F stored ctrl k c.in-Free.slot known earlier)); only_full = refl; refused_control = refl; refused_entries = refl }
+    record { frame = (Err Full, refl, StepFrame.no_room c.if-room-eq0.true (missing-free F stored ctrl k c.in-Free.slot known earlier)); errors = record { only_full = refl; refused_control = refl; refused_entries = refl } }
 
 pub returns-else-room-eq0-clause-any : goal.returns-else-room-eq0-clause-any
 returns-else-room-eq0-clause-any g c =
@@ -133,7 +131,7 @@ returns-else-room-eq0-clause-any g c =
     let some : 0 < c.args.room = omega (arith, c.if-room-eq0.false) in
     let framed : StepFrame F c.args.room es ctrl p (Ok None) c.fill_slot.new.entries c.fill_slot.new.control =
     StepFrame.framed (Ok None) c.fill_slot.new.entries c.fill_slot.new.control (λ e. some) (rw (c.fill_slot.ensures.control, c.fill_slot.ensures.entries) (PartsFrame.added slot known.0 known.1)) in
-    record { frame = (Ok None, refl, framed); only_full = tt; refused_control = tt; refused_entries = tt }
+    record { frame = (Ok None, refl, framed); errors = record { only_full = tt; refused_control = tt; refused_entries = tt } }
 
 pub returns-in-Neither-clause-any : goal.returns-in-Neither-clause-any
 returns-in-Neither-clause-any g c =
@@ -143,4 +141,4 @@ returns-in-Neither-clause-any g c =
     let ctrl = c.args.control.now in
     let known = subst (IsEnd F (stored_in es ctrl) ctrl k) c.in-Neither.is c.requires.end.slot in
     let frame = StepFrame.framed (Err Full) es ctrl (λ e. cc) (PartsFrame.no_slot known.0 (missing-neither F (stored_in es ctrl) ctrl k known.1)) in
-    record { frame = (Err Full, refl, frame); only_full = refl; refused_control = refl; refused_entries = refl }
+    record { frame = (Err Full, refl, frame); errors = record { only_full = refl; refused_control = refl; refused_entries = refl } }

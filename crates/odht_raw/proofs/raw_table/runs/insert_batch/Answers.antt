@@ -104,7 +104,7 @@ returns-in_default g c =
     let refused = c.in_default.ensures.any in
     record {
       within = omega (arith, c.loop-offset-test.true);
-      inserted = rw (refused.refused_entries, refused.refused_control) c.loop-offset.invariant;
+      inserted = rw (refused.errors.refused_entries, refused.errors.refused_control) c.loop-offset.invariant;
       stop = inr (record {
         item = (k, v);
         at = c.at.ensures;

@@ -74,7 +74,7 @@ returns-in_default g c =
     let low : c.loop-index.index < length items = omega (arith, c.loop-index-test.true, c.count-to.ensures) in
     record {
       within = omega (arith, low);
-      inserted = rw (refused.refused_entries, refused.refused_control) c.loop-index.invariant;
+      inserted = rw (refused.errors.refused_entries, refused.errors.refused_control) c.loop-index.invariant;
       stop = inr (record {
         item = (k, v);
         at = c.at.ensures;

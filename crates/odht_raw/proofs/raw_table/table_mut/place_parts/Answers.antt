@@ -25,7 +25,7 @@ returns-in_default-clause-placed g c P h new =
 
 pub returns-in_default-clause-any : goal.returns-in_default-clause-any
 returns-in_default-clause-any g c =
-    record { frame = PlacingFrame.no_slot c.in_default.ensures; only_full = refl; refused_control = refl; refused_entries = refl }
+    record { frame = PlacingFrame.no_slot c.in_default.ensures; errors = record { only_full = refl; refused_control = refl; refused_entries = refl } }
 
 pub returns-clause-placed : goal.returns-clause-placed
 returns-clause-placed g c P h new =
@@ -58,4 +58,4 @@ returns-clause-any g c =
     let first = subst (λ (x : ℕ). IsFirstFree ctrl x (length ctrl - 16) c.in-Some.slot) hash c.in-Some.ensures in
     let framed : PlacingFrame F es ctrl p (Ok tt) c.fill_slot.new.entries c.fill_slot.new.control =
     rw (c.fill_slot.ensures.control, c.fill_slot.ensures.entries) (PlacingFrame.added c.in-Some.slot first) in
-    record { frame = framed; only_full = tt; refused_control = tt; refused_entries = tt }
+    record { frame = framed; errors = record { only_full = tt; refused_control = tt; refused_entries = tt } }

@@ -27,7 +27,7 @@ impl<C: Config, M: ByteStoreMut> Allocation<C, M> {
         value: &C::Value,
     ) -> Result<Option<C::Value>, Error> {
         let store = &mut self.store;
-        insert_into_store::<C, M, Q>(store, key, value)
+        insert_into_bytes::<C, Q>(store.bytes_mut(), key, value)
     }
 
     /// Inserts the items from index `from` on in their order, up to the first for which `insert_by` returns `Full`, and
@@ -38,18 +38,8 @@ impl<C: Config, M: ByteStoreMut> Allocation<C, M> {
     #[inline(always)]
     pub fn insert_items<I: Items<C::Key, C::Value>>(&mut self, items: &I, from: usize) -> usize {
         let store = &mut self.store;
-        run_in_store::<C, M, I>(store, items, from)
+        run_in_bytes::<C, I>(store.bytes_mut(), items, from)
     }
-}
-
-// `insert_by` on a store that holds the bytes of a table.
-#[inline(always)]
-fn insert_into_store<C: Config, M: ByteStoreMut, Q: Group>(
-    store: &mut M,
-    key: &C::Key,
-    value: &C::Value,
-) -> Result<Option<C::Value>, Error> {
-    insert_into_bytes::<C, Q>(store.bytes_mut(), key, value)
 }
 
 // `insert_by` on the bytes themselves.
@@ -80,16 +70,6 @@ fn insert_into_bytes<C: Config, Q: Group>(
         }
         Err(refused) => Err(refused),
     }
-}
-
-// `insert_items` on a store that holds the bytes of a table.
-#[inline(always)]
-fn run_in_store<C: Config, M: ByteStoreMut, I: Items<C::Key, C::Value>>(
-    store: &mut M,
-    items: &I,
-    from: usize,
-) -> usize {
-    run_in_bytes::<C, I>(store.bytes_mut(), items, from)
 }
 
 // `insert_items` on the bytes themselves.

@@ -28,8 +28,8 @@ impl<C: Config, M: ByteStoreMut> Allocation<C, M> {
     ) {
         let slots = self.header().slot_count();
         let store = &mut self.store;
-        writes::write_pair(store, entry_at::<C>(slot), key, value);
-        writes::write_tag(store, entry_at::<C>(slots), slots, slot, tag);
+        writes::write_pair(store.bytes_mut(), entry_at::<C>(slot), key, value);
+        writes::write_tag(store.bytes_mut(), entry_at::<C>(slots), slots, slot, tag);
     }
 
     /// Writes the value alone into the entry of a slot. No other byte changes. The clause `value` says that it has the

@@ -208,10 +208,10 @@ pub returns-in-Err-clause-accepted : goal.returns-in-Err-clause-accepted
 returns-in-Err-clause-accepted g c =
     let at = (goal.at.returns-in-Err-clause-accepted g c).After-insert_step in
     let cut = cut g (goal.at.returns-in-Err-clause-accepted g c).After-split_at_mut-front in
-    list_accepted (coding g) c.args.bytes.now _ _ _ cut [] 0 _ _ _ (kept g at cut) (unchanged g at c.in-Err.ensures.any.refused_entries c.in-Err.ensures.any.refused_control) (omega arith) (counted g at) (small g at)
+    list_accepted (coding g) c.args.bytes.now _ _ _ cut [] 0 _ _ _ (kept g at cut) (unchanged g at c.in-Err.ensures.any.errors.refused_entries c.in-Err.ensures.any.errors.refused_control) (omega arith) (counted g at) (small g at)
 
 pub returns-in-Err-clause-len : goal.returns-in-Err-clause-len
 returns-in-Err-clause-len g c =
     let at = (goal.at.returns-in-Err-clause-len g c).After-insert_step in
     let cut = cut g (goal.at.returns-in-Err-clause-len g c).After-split_at_mut-front in
-    list_length (coding g) c.args.bytes.now _ _ _ cut [] 0 _ _ _ (kept g at cut) (unchanged g at c.in-Err.ensures.any.refused_entries c.in-Err.ensures.any.refused_control) (omega arith) (counted g at) (small g at)
+    list_length (coding g) c.args.bytes.now _ _ _ cut [] 0 _ _ _ (kept g at cut) (unchanged g at c.in-Err.ensures.any.errors.refused_entries c.in-Err.ensures.any.errors.refused_control) (omega arith) (counted g at) (small g at)

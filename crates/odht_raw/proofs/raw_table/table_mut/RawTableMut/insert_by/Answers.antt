@@ -23,14 +23,4 @@ returns g c =
     let change = step-change F value_of 18446744073709551615 p r some es ctrl es' ctrl' c.insert_step.ensures.any in
     let insert : (P : Table) → IsPartsOf F P es ctrl → IsPartsInsert F value_of P p r es' ctrl' = (λ P parts.
     step-insert F value_of 18446744073709551615 p r some P es ctrl es' ctrl' (length ctrl - 16) f (omega (arith, t.slots.least)) parts (c.insert_step.ensures.placed P parts) c.insert_step.ensures.any) in
-    record {
-      ok = λ P parts. (insert P parts).ok;
-      full = λ P parts. (insert P parts).full;
-      no_room = λ P parts. (insert P parts).no_room;
-      frame = change.frame;
-      only_full = change.only_full;
-      refused_control = change.refused_control;
-      refused_entries = change.refused_entries;
-      control_loan = refl;
-      entries_loan = refl;
-    }
+    record { parts = insert; change = change; control_loan = refl; entries_loan = refl }
