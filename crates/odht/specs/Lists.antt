@@ -6,7 +6,9 @@
 --     IsRefusedAt c P items n    P is full for the key of item n
 --     IsFreshAfterInserts c p items B  B are the bytes of the fresh table for as many items at p percent, after the
 --                          inserts of the items into it by the owned table; it has not grown
+--     EndsAfter steps it T     the iterator `it` ends after items of which T holds; `steps` is what it gives at each step
 use Rattle.std.specs.Prelude.{◌≡◌, ℕ, ◌+◌, ◌≤◌, List, length, Option, Some, slice_get}
+use Rattle.std.specs.Iterator.{Drains}
 use Rattle.odht_base.specs.Format.{Format}
 use Rattle.odht_base.specs.Insert.{run, insert_owned, IsFullFor}
 use Rattle.odht_base.specs.Load.{max_items}
@@ -36,3 +38,6 @@ pub record IsFreshAfterInserts {K V : Type 0} (c : Coding K V) (percent : ℕ) (
   pub new : fresh (length items) percent ≡ Some start
   pub inserted : IsAfterInserts c.format (insert_owned c.format) start (encoded_all c items) B
   pub never_grown : HasSizeOf start inserted.table
+
+abbrev pub EndsAfter : {S A : Type 0} → (S → Option A → S → Type 0) → S → (List A → Type 0) → Type 0
+EndsAfter {A = A} steps it T = (xs : List A) × Drains steps it xs × T xs

@@ -9,10 +9,10 @@ ghost use Rattle.odht_base.specs.Insert.{insert_owned, IsFullFor};
 ghost use Rattle.odht_base.specs.Valid.{IsImage, IsValidBytes};
 ghost use Rattle.odht_header.specs.Coding.{value_for};
 ghost use Rattle.odht.specs.Growths.{IsGrownImage};
-ghost use Rattle.odht.specs.Lists.{IsFreshAfterInserts};
+ghost use Rattle.odht.specs.Lists.{EndsAfter, IsFreshAfterInserts};
 ghost use Rattle.odht.specs.Inserts.{IsFresh, IsInserted};
 ghost use Rattle.odht_raw.specs.Walks.{decoded_all};
-ghost use Rattle.std.specs.Iterator.{Drains, IsFinite};
+ghost use Rattle.std.specs.Iterator.{IsFinite};
 ghost use Rattle.odht_header.specs.Refusals.{IsTooLarge, check_refusal};
 
 use crate::bytes::OwnedBytes;
@@ -104,13 +104,11 @@ impl<C: Config> HashTableOwned<C> {
         requires ends { IsFinite (I.remaining items) }
         requires low { 1 ≤ max_load_factor_percent }
         requires high { max_load_factor_percent ≤ 100 }
-        ensures ok { IfOk result (λ t. (xs : List (C.Key × C.Value))
-            × Drains I.next_gives items xs
-            × IsFreshAfterInserts ⟦<C as Coded>⟧.coding max_load_factor_percent xs t) }
-        ensures capacity { IsErrOf result Error.Capacity → (xs : List (C.Key × C.Value))
-            × Drains I.next_gives items xs
-            × IsTooLarge ⟦<C as Coded>⟧.coding.format (length xs)
-            (factor_of max_load_factor_percent) }
+        ensures ok { IfOk result (λ t. EndsAfter I.next_gives items
+            (λ xs. IsFreshAfterInserts ⟦<C as Coded>⟧.coding max_load_factor_percent xs t)) }
+        ensures capacity { let F = ⟦<C as Coded>⟧.coding.format
+            in IsErrOf result Error.Capacity → EndsAfter I.next_gives items
+            (λ xs. IsTooLarge F (length xs) (factor_of max_load_factor_percent)) }
         ensures memory { OnErr result
             ((result ≡ Err Error.Capacity) ⊎ (result ≡ Err Error.Memory)) }
     {

@@ -10,14 +10,14 @@ ghost use Rattle.odht_base.specs.Numbers.{num, le_bytes, IsBytes};
 ghost use Rattle.odht_base.specs.Load.{IsSlotCount};
 ghost use Rattle.odht_base.specs.Format.{Format, IsFormat};
 ghost use Rattle.odht_base.specs.Probe.{probe_slot, order};
-ghost use Rattle.odht_base.specs.Table.{Pair, Table, slot_count, is_free, walk, empty, fresh};
+ghost use Rattle.odht_base.specs.Table.{Pair, Table, slot_count, is_free, walk, fresh};
 ghost use Rattle.odht_base.specs.SlotWalks.{walk_from, slots_from};
 ghost use Rattle.odht_base.specs.Map.{map_of, last, overwritten, KeysApart};
 ghost use Rattle.odht_base.specs.CountRule.{insert_owned_by_count, insert_view_by_count};
 ghost use Rattle.odht_base.specs.CountRule.{NoneOverwritesFull};
 ghost use Rattle.odht_base.specs.Insert.{place, grown, run, insert_owned, insert_view};
 ghost use Rattle.odht_base.specs.Image.{image, image_len};
-ghost use Rattle.odht_base.specs.Made.{IsMade, IsInsertOrder, pairs_of};
+ghost use Rattle.odht_base.specs.Made.{IsMade, IsInsertOrder, RemadeBy};
 ghost use Rattle.odht_base.specs.Valid.{IsPairOf, IsPlaced, IsValid};
 ghost use Rattle.odht_base.specs.Decoded.{decoded_table};
 
@@ -124,17 +124,8 @@ pub fn rules_at_the_maximum_agree()
 pub fn insert_orders_make_tables()
     ensures made { (F : Format) (P : Table)
         → IsValid F P → (IsMade F P ↔ (order : List ℕ) × IsInsertOrder F P order) }
-    ensures owned { (F : Format) (P : Table) (order : List ℕ)
-        → IsValid F P → IsInsertOrder F P order
-        → run (insert_owned F) (empty (slot_count P) P.factor) (pairs_of P order) ≡ Some P }
-    ensures view { (F : Format) (P : Table) (order : List ℕ)
-        → IsValid F P → IsInsertOrder F P order
-        → run (insert_view F) (empty (slot_count P) P.factor) (pairs_of P order) ≡ Some P }
-    ensures owned_by_count { (F : Format) (P : Table) (order : List ℕ)
-        → IsValid F P → IsInsertOrder F P order
-        → run (insert_owned_by_count F) (empty (slot_count P) P.factor) (pairs_of P order)
-        ≡ Some P }
-    ensures view_by_count { (F : Format) (P : Table) (order : List ℕ)
-        → IsValid F P → IsInsertOrder F P order
-        → run (insert_view_by_count F) (empty (slot_count P) P.factor) (pairs_of P order) ≡ Some P }
+    ensures owned { RemadeBy insert_owned }
+    ensures view { RemadeBy insert_view }
+    ensures owned_by_count { RemadeBy insert_owned_by_count }
+    ensures view_by_count { RemadeBy insert_view_by_count }
 {}

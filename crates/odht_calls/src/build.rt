@@ -57,7 +57,8 @@ pub fn collected<C: Config>(
 #[inline(always)]
 fn hold_pairs<C: Config>(keys: &[C::Key], values: &[C::Value])
     requires { length values.now ≡ length keys.now }
-    ensures { let c = ⟦<C as Coded>⟧.coding in All (IsPairOf c.format) (encoded_all c (zip keys.now values.now)) }
+    ensures { let c = ⟦<C as Coded>⟧.coding
+        in All (IsPairOf c.format) (encoded_all c (zip keys.now values.now)) }
 {
     for index in 0..keys.len() {
         let key = C::encode_key(&keys[index]);
@@ -79,11 +80,13 @@ fn insert_into_new<C: Config>(
     requires lengths { length values.now ≡ length keys.now }
     requires low { 1 ≤ max_load_factor_percent }
     requires high { max_load_factor_percent ≤ 100 }
-    requires slots { slots_for (length keys.now) (factor_of max_load_factor_percent) ≡ Some slot_count }
+    requires slots { slots_for (length keys.now) (factor_of max_load_factor_percent)
+        ≡ Some slot_count }
     requires len { length bytes.old ≡ image_len ⟦<C as Coded>⟧.coding.format slot_count }
     requires pairs { let c = ⟦<C as Coded>⟧.coding
         in All (IsPairOf c.format) (encoded_all c (zip keys.now values.now)) }
-    ensures { IsFreshAfterInserts ⟦<C as Coded>⟧.coding max_load_factor_percent (zip keys.now values.now) bytes.new }
+    ensures { IsFreshAfterInserts ⟦<C as Coded>⟧.coding max_load_factor_percent
+        (zip keys.now values.now) bytes.new }
 {
     let mut store = BorrowedMut::new(bytes);
     insert_into_store::<C, BorrowedMut<'_>>(
@@ -107,12 +110,14 @@ fn insert_into_store<C: Config, M: ByteStoreMut>(
     requires lengths { length values.now ≡ length keys.now }
     requires low { 1 ≤ max_load_factor_percent }
     requires high { max_load_factor_percent ≤ 100 }
-    requires slots { slots_for (length keys.now) (factor_of max_load_factor_percent) ≡ Some slot_count }
+    requires slots { slots_for (length keys.now) (factor_of max_load_factor_percent)
+        ≡ Some slot_count }
     requires len { length (M.bytes store.old) ≡ image_len ⟦<C as Coded>⟧.coding.format slot_count }
     requires pairs { let c = ⟦<C as Coded>⟧.coding
         in All (IsPairOf c.format) (encoded_all c (zip keys.now values.now)) }
     ensures inserted { let items = zip keys.now values.now
-        in IsFreshAfterInserts ⟦<C as Coded>⟧.coding max_load_factor_percent items (M.bytes store.new) }
+        in IsFreshAfterInserts ⟦<C as Coded>⟧.coding max_load_factor_percent items
+        (M.bytes store.new) }
     ensures same_store { store.new ≡ M.holding store.old (M.bytes store.new) }
 {
     let factor = Factor::from_percent(max_load_factor_percent);
@@ -133,7 +138,8 @@ pub fn grown<C: Config>(
     len: &mut usize,
 ) -> u32
     requires { length values.now ≡ length keys.now }
-    ensures { BuildGrowingAnswers ⟦<C as Coded>⟧.coding keys.now values.now out.old len.old result out.new len.new }
+    ensures { BuildGrowingAnswers ⟦<C as Coded>⟧.coding keys.now values.now out.old len.old result
+        out.new len.new }
 {
     let mut table = match HashTableOwned::<C>::default(alloc) {
         Ok(table) => table,

@@ -23,7 +23,8 @@ pub struct View<'a> {
 /// the length and the first ten slots.
 #[inline]
 pub fn open<'a, C: Config>(bytes: &'a [u8], view: &mut View<'a>) -> u32
-    ensures { OpenViewAnswers ⟦<C as Coded>⟧.coding.format bytes.entry view.old.bytes result view.new.bytes }
+    ensures { OpenViewAnswers ⟦<C as Coded>⟧.coding.format bytes.entry view.old.bytes result
+        view.new.bytes }
 {
     let opened: Result<HashTable<C, Borrowed<'_>>, Error> = HashTable::from_raw_bytes(Borrowed::new(
         bytes,
@@ -49,7 +50,8 @@ pub fn table<'a, C: Config>(view: &View<'a>) -> HashTable<C, Borrowed<'a>>
 /// Writes the value of a key of an opened table to `value`. ABSENT leaves `value` unchanged.
 #[inline(always)]
 pub fn get<C: Config>(table: &HashTable<C, Borrowed<'_>>, key: &C::Key, value: &mut C::Value) -> u32
-    ensures { ViewGetAnswers ⟦<C as Coded>⟧.coding table.now.0.now key.now value.old result value.new }
+    ensures { ViewGetAnswers ⟦<C as Coded>⟧.coding table.now.0.now key.now value.old result
+        value.new }
 {
     match table.get(key) {
         Some(found) => {

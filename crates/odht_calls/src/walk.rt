@@ -20,7 +20,8 @@ pub fn walk<C: Config>(
 ) -> u32
     requires { length values.old ≡ length keys.old }
     ensures { WalkAnswers ⟦<C as Coded>⟧.coding bytes.now
-        cursor.old keys.old values.old item_count.old result cursor.new keys.new values.new item_count.new }
+        cursor.old keys.old values.old item_count.old result cursor.new keys.new values.new
+        item_count.new }
 {
     let table = match view::<C>(bytes) {
         Ok(table) => table,

@@ -5,7 +5,8 @@ ghost use Rattle.odht_base.specs.Load.{IsSlotCount};
 ghost use Rattle.odht_base.specs.Table.{empty};
 ghost use Rattle.odht_base.specs.Writes.{with_count};
 ghost use Rattle.odht_raw.specs.Frame.{IsAccepted};
-ghost use Rattle.odht_calls.specs.Writes.{BytesNeededAnswers, InitAnswers, InsertAnswers, InsertAllAnswers};
+ghost use Rattle.odht_calls.specs.Writes.{BytesNeededAnswers, InitAnswers, InsertAnswers};
+ghost use Rattle.odht_calls.specs.Writes.{InsertAllAnswers};
 
 use crate::read::view;
 use crate::status::{BAD_PERCENT, CAPACITY, OK, REPLACED, status_of};
@@ -21,7 +22,8 @@ pub fn bytes_needed<C: Config>(
     max_load_factor_percent: u8,
     len: &mut usize,
 ) -> u32
-    ensures { BytesNeededAnswers ⟦<C as Coded>⟧.coding max_item_count max_load_factor_percent len.old result len.new }
+    ensures { BytesNeededAnswers ⟦<C as Coded>⟧.coding max_item_count max_load_factor_percent
+        len.old result len.new }
 {
     if max_load_factor_percent < 1 || max_load_factor_percent > 100 {
         return BAD_PERCENT;

@@ -128,8 +128,10 @@ impl<'a> Index<'a> {
     #[inline]
     pub fn open(bytes: &'a [u8]) -> Result<Self, Error>
         ensures ok { IfOk result (λ index. index ≡ bytes.now) }
-        ensures err { result_err result ≡ view_refusal ⟦<IndexConfig as Coded>⟧.coding.format bytes.now }
-        ensures valid { (P : Table) → IsImage ⟦<IndexConfig as Coded>⟧.coding.format P bytes.now → IsOk result }
+        ensures err { result_err result ≡ view_refusal ⟦<IndexConfig as Coded>⟧.coding.format
+            bytes.now }
+        ensures valid { (P : Table) → IsImage ⟦<IndexConfig as Coded>⟧.coding.format P bytes.now
+            → IsOk result }
     {
         let table = HashTable::from_raw_bytes(Borrowed::new(bytes))?;
         Ok(Index { table })

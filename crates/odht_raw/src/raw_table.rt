@@ -118,7 +118,8 @@ impl<'a, K: ByteArray, V: ByteArray, H: HashFn> RawTable<'a, K, V, H> {
     /// stored with an equal key. `find_counted` says how many groups that takes.
     #[inline]
     pub fn find(&self, key: &K) -> Option<V>
-        ensures { IsFind (format_of K.LEN V.LEN H.hash) V.of_bytes self.now (K.bytes key.now) result }
+        ensures { IsFind (format_of K.LEN V.LEN H.hash) V.of_bytes self.now
+            (K.bytes key.now) result }
     {
         let (value, _) = self.find_counted(key);
         value

@@ -34,7 +34,9 @@ fn run_buffered<R: Read, W: Write + Drop>(
     input: &mut R,
     output: W,
 ) -> Result<W, Fault>
-    ensures answers { IfOk result (λ writer. IfSome (R.remaining input.old) (λ script. (text : List ℕ) × IsAnsweredBy ⟦<U64ToU32 as Coded>⟧.coding script text × Appends (W.contents output) (W.contents writer) text)) }
+    ensures answers { IfOk result (λ writer. IfSome (R.remaining input.old)
+        (λ script. (text : List ℕ) × IsAnsweredBy ⟦<U64ToU32 as Coded>⟧.coding script text
+        × Appends (W.contents output) (W.contents writer) text)) }
     ensures end { OnOk result (IsAtEnd (R.remaining input.new)) }
     ensures write { IsErrOf result Fault.Write → IsAtEnd (R.remaining input.new) }
 {

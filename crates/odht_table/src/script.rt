@@ -1,13 +1,16 @@
 //! Runs a script: a list of lines, each of which makes, changes or prints a table, or checks bytes.
-ghost use Rattle.std.specs.Prelude.{◌≡◌, ◌≢◌, ◌↔◌, ◌⊎◌, ◌<◌, ◌≤◌, false, IfOk, OnOk, IfSome, IsErrOf, Some, ℕ, List, ◌∷◌, length, position};
+ghost use Rattle.std.specs.Prelude.{◌≡◌, ◌≢◌, ◌↔◌, ◌⊎◌, ◌<◌, ◌≤◌, false, IfOk, OnOk, IfSome};
+ghost use Rattle.std.specs.Prelude.{IsErrOf, Some, ℕ, List, ◌∷◌, length, position};
 ghost use Rattle.std.specs.Io.KnownBytes.{IsAtEnd, Appends};
 ghost use Rattle.std.specs.Fmt.{digit_glyph};
 ghost use Rattle.odht_base.specs.Load.{factor_of, max_items, slots_for};
 ghost use Rattle.odht_base.specs.Table.{Table as Plain, fresh};
 ghost use Rattle.odht_base.specs.Valid.{IsImage};
 ghost use Rattle.odht_header.specs.Refusals.{IsTooLarge};
-ghost use Rattle.odht_table.specs.Answers.{line_of, hex_digits, hex_text, value_text, walk_text, IsPutAnswered, IsAnswered, IsRenewed, MayChange};
-ghost use Rattle.odht_table.specs.Scripts.{ends_line, script_lines, IsHeld, IsLineAnswered, IsAnsweredBy};
+ghost use Rattle.odht_table.specs.Answers.{line_of, hex_digits, hex_text, value_text, walk_text};
+ghost use Rattle.odht_table.specs.Answers.{IsPutAnswered, IsAnswered, IsRenewed, MayChange};
+ghost use Rattle.odht_table.specs.Scripts.{ends_line, script_lines, IsHeld, IsLineAnswered};
+ghost use Rattle.odht_table.specs.Scripts.{IsAnsweredBy};
 
 mod check;
 mod command;
@@ -71,17 +74,21 @@ impl std::error::Error for Fault {}
 /// is answered with `no table`. A `new` or a `put` that fails leaves the table as it was, and so does each `check`,
 /// which may have no digits. docs/SCRIPT.md has the whole language.
 pub fn run<R: Read, W: Write>(alloc: Global, input: &mut R, output: &mut W) -> Result<(), Fault>
-    ensures answers { OnOk result (IfSome (R.remaining input.old) (λ script. (text : List ℕ) × IsAnsweredBy ⟦<U64ToU32 as Coded>⟧.coding script text × Appends (W.contents output.old) (W.contents output.new) text)) }
+    ensures answers { OnOk result (IfSome (R.remaining input.old)
+        (λ script. (text : List ℕ) × IsAnsweredBy ⟦<U64ToU32 as Coded>⟧.coding script text
+        × Appends (W.contents output.old) (W.contents output.new) text)) }
     ensures end { OnOk result (IsAtEnd (R.remaining input.new)) }
     ensures write { IsErrOf result Fault.Write → IsAtEnd (R.remaining input.new) }
-    ensures silent { IsErrOf result Fault.Read ⊎ IsErrOf result Fault.Memory → output.new ≡ output.old }
+    ensures silent { IsErrOf result Fault.Read ⊎ IsErrOf result Fault.Memory
+        → output.new ≡ output.old }
 {
     let script = read_script(alloc, input)?;
     answer_lines(alloc, script.as_slice(), output).or(Err(Fault::Write))
 }
 
 fn read_script<R: Read>(alloc: Global, input: &mut R) -> Result<Vec<u8>, Fault>
-    ensures bytes { IfOk result (λ script. IfSome (R.remaining input.old) (λ bytes. script.items ≡ bytes)) }
+    ensures bytes { IfOk result (λ script. IfSome (R.remaining input.old)
+        (λ bytes. script.items ≡ bytes)) }
     ensures end { OnOk result (IsAtEnd (R.remaining input.new)) }
     ensures not_write { result ≢ Err Fault.Write }
 {
@@ -94,7 +101,9 @@ fn read_script<R: Read>(alloc: Global, input: &mut R) -> Result<Vec<u8>, Fault>
 }
 
 fn answer_lines<W: Write>(alloc: Global, script: &[u8], output: &mut W) -> io::Result<()>
-    ensures { OnOk result ((text : List ℕ) × IsAnsweredBy ⟦<U64ToU32 as Coded>⟧.coding script.now text × Appends (W.contents output.old) (W.contents output.new) text) }
+    ensures { OnOk result ((text : List ℕ)
+        × IsAnsweredBy ⟦<U64ToU32 as Coded>⟧.coding script.now text
+        × Appends (W.contents output.old) (W.contents output.new) text) }
 {
     let mut table = None;
     let mut rest = script;
@@ -131,7 +140,9 @@ fn answer<W: Write>(
     output: &mut W,
 ) -> io::Result<()>
     ensures { IsHeld ⟦<U64ToU32 as Coded>⟧.coding.format table.old
-        → (text : List ℕ) × IsLineAnswered ⟦<U64ToU32 as Coded>⟧.coding line.now table.old text table.new × OnOk result (Appends (W.contents output.old) (W.contents output.new) text) }
+        → (text : List ℕ)
+        × IsLineAnswered ⟦<U64ToU32 as Coded>⟧.coding line.now table.old text table.new
+        × OnOk result (Appends (W.contents output.old) (W.contents output.new) text) }
 {
     let Some(command) = parse(line) else {
         return answer_check(alloc, line, output);
@@ -151,7 +162,9 @@ fn answer<W: Write>(
 fn serve<W: Write>(table: &mut Table, request: Request, output: &mut W) -> io::Result<()>
     ensures answered { (P : Plain)
         → IsImage ⟦<U64ToU32 as Coded>⟧.coding.format P table.old
-        → (Q : Plain) × (text : List ℕ) × IsAnswered ⟦<U64ToU32 as Coded>⟧.coding P request text Q × IsImage ⟦<U64ToU32 as Coded>⟧.coding.format Q table.new × OnOk result (Appends (W.contents output.old) (W.contents output.new) text) }
+        → (Q : Plain) × (text : List ℕ) × IsAnswered ⟦<U64ToU32 as Coded>⟧.coding P request text Q
+        × IsImage ⟦<U64ToU32 as Coded>⟧.coding.format Q table.new
+        × OnOk result (Appends (W.contents output.old) (W.contents output.new) text) }
     ensures kept { ¬ (MayChange request) → table.new ≡ table.old }
 {
     match request {
@@ -203,7 +216,10 @@ fn renew<W: Write>(
     percent: u64,
     output: &mut W,
 ) -> io::Result<()>
-    ensures { (text : List ℕ) × IsRenewed ⟦<U64ToU32 as Coded>⟧.coding.format max_item_count percent text table.old table.new × OnOk result (Appends (W.contents output.old) (W.contents output.new) (line_of text)) }
+    ensures { (text : List ℕ)
+        × IsRenewed ⟦<U64ToU32 as Coded>⟧.coding.format max_item_count percent text table.old
+        table.new
+        × OnOk result (Appends (W.contents output.old) (W.contents output.new) (line_of text)) }
 {
     match make_fresh(alloc, max_item_count, percent) {
         Ok(fresh) => {
@@ -220,10 +236,15 @@ fn renew<W: Write>(
 
 fn make_fresh(alloc: Global, max_item_count: usize, percent: u64) -> Result<Fresh, Refusal>
     ensures bad_percent { IsErrOf result Refusal.BadPercent ↔ ((percent < 1) ⊎ (100 < percent)) }
-    ensures capacity { 1 ≤ percent → percent ≤ 100 → (IsErrOf result Refusal.Capacity ↔ IsTooLarge ⟦<U64ToU32 as Coded>⟧.coding.format max_item_count (factor_of percent)) }
-    ensures table { IfOk result (λ made. (P : Plain) × (fresh max_item_count percent ≡ Some P) × IsImage ⟦<U64ToU32 as Coded>⟧.coding.format P made.table) }
-    ensures slots { IfOk result (λ made. slots_for max_item_count (factor_of percent) ≡ Some made.slot_count) }
-    ensures most { IfOk result (λ made. made.max_item_count ≡ max_items made.slot_count (factor_of percent)) }
+    ensures capacity { 1 ≤ percent → percent ≤ 100
+        → (IsErrOf result Refusal.Capacity ↔ IsTooLarge ⟦<U64ToU32 as Coded>⟧.coding.format
+        max_item_count (factor_of percent)) }
+    ensures table { IfOk result (λ made. (P : Plain) × (fresh max_item_count percent ≡ Some P)
+        × IsImage ⟦<U64ToU32 as Coded>⟧.coding.format P made.table) }
+    ensures slots { IfOk result (λ made. slots_for max_item_count (factor_of percent)
+        ≡ Some made.slot_count) }
+    ensures most { IfOk result (λ made. made.max_item_count
+        ≡ max_items made.slot_count (factor_of percent)) }
 {
     if percent < 1 || percent > 100 {
         return Err(Refusal::BadPercent);
@@ -247,7 +268,9 @@ fn make_fresh(alloc: Global, max_item_count: usize, percent: u64) -> Result<Fres
 fn put<W: Write>(table: &mut Table, key: u64, value: u32, output: &mut W) -> io::Result<()>
     ensures { (P : Plain)
         → IsImage ⟦<U64ToU32 as Coded>⟧.coding.format P table.old
-        → (Q : Plain) × (text : List ℕ) × IsPutAnswered ⟦<U64ToU32 as Coded>⟧.coding P key value text Q × IsImage ⟦<U64ToU32 as Coded>⟧.coding.format Q table.new × OnOk result (Appends (W.contents output.old) (W.contents output.new) text) }
+        → (Q : Plain) × (text : List ℕ) × IsPutAnswered ⟦<U64ToU32 as Coded>⟧.coding P key value
+        text Q × IsImage ⟦<U64ToU32 as Coded>⟧.coding.format Q table.new
+        × OnOk result (Appends (W.contents output.old) (W.contents output.new) text) }
 {
     match table.insert(&key, &value) {
         Ok(None) => writeln!(output, "none"),
@@ -257,7 +280,8 @@ fn put<W: Write>(table: &mut Table, key: u64, value: u32, output: &mut W) -> io:
 }
 
 fn write_value<W: Write>(value: Option<u32>, output: &mut W) -> io::Result<()>
-    ensures { OnOk result (Appends (W.contents output.old) (W.contents output.new) (line_of (value_text value))) }
+    ensures { OnOk result (Appends (W.contents output.old) (W.contents output.new)
+        (line_of (value_text value))) }
 {
     match value {
         None => writeln!(output, "none"),
@@ -267,7 +291,8 @@ fn write_value<W: Write>(value: Option<u32>, output: &mut W) -> io::Result<()>
 
 // Each pair on a line, and then the line `end`.
 fn write_walk<W: Write>(walk: Iter<'_, U64ToU32>, output: &mut W) -> io::Result<()>
-    ensures { OnOk result (Appends (W.contents output.old) (W.contents output.new) (walk_text walk.entry)) }
+    ensures { OnOk result (Appends (W.contents output.old) (W.contents output.new)
+        (walk_text walk.entry)) }
 {
     for (key, value) in walk {
         writeln!(output, "{key} {value}")?;
@@ -277,7 +302,8 @@ fn write_walk<W: Write>(walk: Iter<'_, U64ToU32>, output: &mut W) -> io::Result<
 
 // Two lower-case digits for each byte, on one line.
 fn write_hex<W: Write>(bytes: &[u8], output: &mut W) -> io::Result<()>
-    ensures { OnOk result (Appends (W.contents output.old) (W.contents output.new) (line_of (hex_text bytes.now))) }
+    ensures { OnOk result (Appends (W.contents output.old) (W.contents output.new)
+        (line_of (hex_text bytes.now))) }
 {
     for byte in bytes {
         output.write_all(&hex_digits(*byte))?;

@@ -18,7 +18,8 @@ pub fn group_starts<const SIZE: usize>(
     requires slots { IsSlotCount slots }
     requires divides { 16 % SIZE ≡ 0 }
     ensures starts { IfOk result (λ list. list.items
-        ≡ map (λ group. probe_slot (hash % slots) slots (group * SIZE)) (range_with_len 0 (slots / SIZE))) }
+        ≡ map (λ group. probe_slot (hash % slots) slots (group * SIZE))
+        (range_with_len 0 (slots / SIZE))) }
 {
     let mask = slots - 1;
     let groups = slots / SIZE;

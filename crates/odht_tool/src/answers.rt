@@ -10,7 +10,8 @@ use std::io::{self, Write};
 
 /// Writes a line of a key, a tab and a value.
 pub fn write_pair<K: Text, V: Text, O: Write>(key: &K, value: &V, output: &mut O) -> io::Result<()>
-    ensures { OnOk result (Appends (O.contents output.old) (O.contents output.new) (pair_line K.text V.text (key.now, value.now))) }
+    ensures { OnOk result (Appends (O.contents output.old) (O.contents output.new)
+        (pair_line K.text V.text (key.now, value.now))) }
 {
     key.write(output)?;
     output.write_all(b"\t")?;
@@ -25,7 +26,8 @@ pub fn write_answers<K: Text, V: Text, O: Write>(
     output: &mut O,
 ) -> io::Result<()>
     requires { length values.now ≡ length keys.now }
-    ensures { OnOk result (Appends (O.contents output.old) (O.contents output.new) (answers_text K.text V.text keys.now values.now)) }
+    ensures { OnOk result (Appends (O.contents output.old) (O.contents output.new)
+        (answers_text K.text V.text keys.now values.now)) }
 {
     for at in 0..keys.len() {
         write_answer(&keys[at], &values[at], output)?;
@@ -57,7 +59,8 @@ fn write_answer<K: Text, V: Text, O: Write>(
     value: &Option<V>,
     output: &mut O,
 ) -> io::Result<()>
-    ensures { OnOk result (Appends (O.contents output.old) (O.contents output.new) (answer_line K.text V.text (key.now, value.now))) }
+    ensures { OnOk result (Appends (O.contents output.old) (O.contents output.new)
+        (answer_line K.text V.text (key.now, value.now))) }
 {
     match value {
         Some(value) => write_pair(key, value, output),

@@ -1,5 +1,6 @@
 //! How many items are found by reading one group, two groups, and so on.
-ghost use Rattle.std.specs.Prelude.{◌≡◌, ◌≤◌, ◌<◌, ◌+◌, ◌%◌, ◌^◌, ℕ, List, [], ◌∷◌, ◌++◌, IfOk, OnOk, length};
+ghost use Rattle.std.specs.Prelude.{◌≡◌, ◌≤◌, ◌<◌, ◌+◌, ◌%◌, ◌^◌, ℕ, List, [], ◌∷◌, ◌++◌, IfOk};
+ghost use Rattle.std.specs.Prelude.{OnOk, length};
 ghost use Rattle.std.specs.Io.KnownBytes.{Appends};
 ghost use Rattle.odht_base.specs.Load.{IsSlotCount};
 ghost use Rattle.odht_tool.specs.GroupNumbers.{groups_to};
@@ -52,7 +53,8 @@ impl Histogram {
     /// Writes a line for each number of groups up to the largest: the number, the count, and a bar.
     pub fn write<W: Write>(&self, output: &mut W) -> io::Result<()>
         requires { length self.now.counts.items ≡ 64 }
-        ensures { OnOk result (Appends (W.contents output.old) (W.contents output.new) (tallies_text self.now.counts.items self.now.longest)) }
+        ensures { OnOk result (Appends (W.contents output.old) (W.contents output.new)
+            (tallies_text self.now.counts.items self.now.longest)) }
     {
         let most = largest_of(self.counts.as_slice());
         for index in 0..self.longest.min(MOST) {
@@ -66,7 +68,8 @@ impl Histogram {
         requires index { index < length self.now.counts.items }
         requires all { length self.now.counts.items ≡ 64 }
         requires most { most ≡ largest self.now.counts.items }
-        ensures { OnOk result (Appends (W.contents output.old) (W.contents output.new) (tally_line self.now.counts.items self.now.longest index)) }
+        ensures { OnOk result (Appends (W.contents output.old) (W.contents output.new)
+            (tally_line self.now.counts.items self.now.longest index)) }
     {
         let groups = index + 1;
         let count = self.counts[index];

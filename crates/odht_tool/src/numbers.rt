@@ -1,6 +1,7 @@
 //! The numbers that `odht info` writes of a table of any key and value sizes.
 ghost use Rattle.std.specs.Prelude.{◌≡◌, ◌<◌, ◌*◌, ◌/◌, IfOk, IfErr};
-ghost use Rattle.odht_tool.specs.InfoNumbers.{AreNumbers, IsInfoFailure, IsHistogram, found_groups, found_hash, nearest_percent};
+ghost use Rattle.odht_tool.specs.InfoNumbers.{AreNumbers, IsInfoFailure, IsHistogram, found_groups};
+ghost use Rattle.odht_tool.specs.InfoNumbers.{found_hash, nearest_percent};
 
 use crate::failure::Failure;
 use crate::histogram::Histogram;

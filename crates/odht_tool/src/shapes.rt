@@ -1,6 +1,7 @@
 //! The shapes of tables that the commands read and write: the types of keys and values, and the hash function.
 ghost use Rattle.std.specs.Prelude.{◌≡◌};
-ghost use Rattle.odht_tool.specs.ReadyShapes.{typed_len, key_part, value_part, shape_hash, same_hash, is_shape_of, shape_of_sizes};
+ghost use Rattle.odht_tool.specs.ReadyShapes.{typed_len, key_part, value_part, shape_hash};
+ghost use Rattle.odht_tool.specs.ReadyShapes.{same_hash, is_shape_of, shape_of_sizes};
 
 pub use odht::configs::{
     Bytes16Set, Bytes16ToU32, Bytes16ToU64, Bytes20ToU64, Bytes32Set, Bytes32ToU64, DirectU32ToU32,

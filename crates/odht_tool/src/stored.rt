@@ -1,12 +1,16 @@
 //! The bytes of a table of any key and value sizes.
-ghost use Rattle.std.specs.Prelude.{◌≡◌, ◌≤◌, ◌<◌, ◌+◌, ◌*◌, length, not, is_some, IfOk, OnOk, slice_index};
+ghost use Rattle.std.specs.Prelude.{◌≡◌, ◌≤◌, ◌<◌, ◌+◌, ◌*◌, length, not, is_some, IfOk, OnOk};
+ghost use Rattle.std.specs.Prelude.{slice_index};
 ghost use Rattle.std.specs.Option.{option_or};
 ghost use Rattle.std.specs.Result.{result_err};
 ghost use Rattle.odht_base.specs.Decoded.{counts_as_free, header_slots, slot_key};
 ghost use Rattle.odht_base.specs.Image.{image_len};
 ghost use Rattle.odht_base.specs.Load.{IsSlotCount};
-ghost use Rattle.odht_header.specs.Refusals.{checked, control_mismatch, power_refusal, few_slots_refusal, length_refusal};
-ghost use Rattle.odht_tool.specs.InfoNumbers.{sized_format, format_by, sized_parts, info_refusal, rest_refusal, least_key_len, agrees, found_hash, group_numbers, IsHistogram};
+ghost use Rattle.odht_header.specs.Refusals.{checked, control_mismatch, power_refusal};
+ghost use Rattle.odht_header.specs.Refusals.{few_slots_refusal, length_refusal};
+ghost use Rattle.odht_tool.specs.InfoNumbers.{sized_format, format_by, sized_parts, info_refusal};
+ghost use Rattle.odht_tool.specs.InfoNumbers.{rest_refusal, least_key_len, agrees, found_hash};
+ghost use Rattle.odht_tool.specs.InfoNumbers.{group_numbers, IsHistogram};
 ghost use Rattle.odht_tool.specs.ReadyShapes.{hash_of};
 
 use crate::early::{check_first, check_size};
@@ -35,9 +39,16 @@ impl<'a> Model for StoredTable<'a> {
 
     ghost Value = { SizedParts };
 
-    ghost view = { λ t. record { key_len = t.key_size; value_len = t.value_size; slots = t.slot_count; entries = t.entries.now; control = t.control.now } };
+    ghost view = { λ t. record {
+      key_len = t.key_size;
+      value_len = t.value_size;
+      slots = t.slot_count;
+      entries = t.entries.now;
+      control = t.control.now;
+    } };
 
-    ghost invariant = { λ t. IsSlotCount t.slot_count × (length t.control.now ≡ t.slot_count + 16) × (length t.entries.now ≡ t.slot_count * (t.key_size + t.value_size)) };
+    ghost invariant = { λ t. IsSlotCount t.slot_count × (length t.control.now ≡ t.slot_count + 16)
+        × (length t.entries.now ≡ t.slot_count * (t.key_size + t.value_size)) };
 }
 
 impl<'a> StoredTable<'a> {
@@ -56,7 +67,8 @@ impl<'a> StoredTable<'a> {
     // The parts of bytes that are as long as their header says.
     fn cut(bytes: &'a [u8]) -> Self
         requires slots { IsSlotCount (header_slots bytes.now) }
-        requires long { length bytes.now ≡ image_len (format_by bytes.now Hash.Fx) (header_slots bytes.now) }
+        requires long { length bytes.now ≡ image_len (format_by bytes.now Hash.Fx)
+            (header_slots bytes.now) }
         ensures { result ≡ sized_parts bytes.now }
     {
         let (key_size, value_size) = (bytes[5] as usize, bytes[6] as usize);
@@ -121,7 +133,8 @@ impl<'a> StoredTable<'a> {
     fn hash_at(&self, slot: usize, hash: Hash) -> u32
         requires slot { slot < self.now.slots }
         requires long { least_key_len hash ≤ self.now.key_len }
-        ensures { result ≡ hash_of hash (slot_key (sized_format self.now hash) self.now.entries slot) }
+        ensures { result ≡ hash_of hash (slot_key (sized_format self.now hash) self.now.entries
+            slot) }
     {
         let entry_size = self.key_size + self.value_size;
         let at = slot * entry_size;
@@ -171,7 +184,8 @@ fn check_slots(bytes: &[u8]) -> Result<(), Error>
 // Whether there are as many bytes as the header's numbers say; else `WrongLength`.
 fn check_length(bytes: &[u8]) -> Result<(), Error>
     requires { 32 ≤ length bytes.now }
-    ensures { result ≡ checked (length_refusal (format_by bytes.now Hash.Fx) (length bytes.now) bytes.now) }
+    ensures { result ≡ checked (length_refusal (format_by bytes.now Hash.Fx)
+        (length bytes.now) bytes.now) }
 {
     let slot_count = Header::of(bytes).slot_count();
     let found = bytes.len();

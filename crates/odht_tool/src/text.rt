@@ -1,5 +1,6 @@
 //! Keys and values as text: a number in decimal digits, bytes in hexadecimal digits, and nothing at all.
-ghost use Rattle.std.specs.Prelude.{◌≡◌, ◌↔◌, ◌<◌, ◌^◌, ℕ, List, [], Some, IfSome, IsSome, IsTrue, OnOk, SomeIff, decimal, false};
+ghost use Rattle.std.specs.Prelude.{◌≡◌, ◌↔◌, ◌<◌, ◌^◌, ℕ, List, [], Some, IfSome, IsSome, IsTrue};
+ghost use Rattle.std.specs.Prelude.{OnOk, SomeIff, decimal, false};
 ghost use Rattle.std.specs.Char.{is_ascii_hexdigit, to_ascii_lowercase};
 ghost use Rattle.std.specs.Fmt.{digit_glyph};
 ghost use Rattle.std.specs.List.{AllPass};
@@ -24,7 +25,8 @@ pub trait Text: Copy {
 
     /// Writes the text.
     fn write<W: Write>(&self, output: &mut W) -> io::Result<()>
-        ensures { OnOk result (Appends (W.contents output.old) (W.contents output.new) (text self.now)) };
+        ensures { OnOk result (Appends (W.contents output.old) (W.contents output.new)
+            (text self.now)) };
 }
 
 impl Text for u32 {
@@ -182,7 +184,8 @@ fn digit_value(digit: u8) -> u8
 
 // Two lower-case digits for each byte.
 fn write_bytes<W: Write>(bytes: &[u8], output: &mut W) -> io::Result<()>
-    ensures { OnOk result (Appends (W.contents output.old) (W.contents output.new) (hex_text bytes.now)) }
+    ensures { OnOk result (Appends (W.contents output.old) (W.contents output.new)
+        (hex_text bytes.now)) }
 {
     for byte in bytes {
         output.write_all(&hex_digits(*byte))?;

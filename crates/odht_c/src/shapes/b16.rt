@@ -11,9 +11,11 @@ ghost use Rattle.odht_header.specs.Refusals.{view_refusal, check_refusal};
 ghost use Rattle.odht_calls.specs.Statuses.{status_or_ok};
 ghost use Rattle.odht_calls.specs.Reads.{GetAnswers, GetAllAnswers, LenAnswers, SizesAnswers};
 ghost use Rattle.odht_calls.specs.Walks.{WalkAnswers};
-ghost use Rattle.odht_calls.specs.Views.{OpenViewAnswers, ViewGetAnswers, ViewGetAllAnswers, ViewLenAnswers};
+ghost use Rattle.odht_calls.specs.Views.{OpenViewAnswers, ViewGetAnswers, ViewGetAllAnswers};
+ghost use Rattle.odht_calls.specs.Views.{ViewLenAnswers};
 ghost use Rattle.odht_calls.specs.Orders.{OrderAnswers};
-ghost use Rattle.odht_calls.specs.Writes.{BytesNeededAnswers, InitAnswers, InsertAnswers, InsertAllAnswers};
+ghost use Rattle.odht_calls.specs.Writes.{BytesNeededAnswers, InitAnswers, InsertAnswers};
+ghost use Rattle.odht_calls.specs.Writes.{InsertAllAnswers};
 ghost use Rattle.odht_calls.specs.Grows.{GrowAnswers};
 ghost use Rattle.odht_calls.specs.Builds.{BuildAnswers, BuildGrowingAnswers};
 
@@ -175,7 +177,8 @@ pub extern "C" fn odht_b16_walk(
     item_count: &mut usize,
 ) -> u32
     ensures { WalkAnswers ⟦<Shape as Coded>⟧.coding bytes.now
-        cursor.old keys.old values.old item_count.old result cursor.new keys.new values.new item_count.new }
+        cursor.old keys.old values.old item_count.old result cursor.new keys.new values.new
+        item_count.new }
 {
     if values.len() != keys.len() {
         return BAD_LENGTHS;
@@ -198,7 +201,8 @@ pub extern "C" fn odht_b16_open_view<'a>(bytes: &'a [u8], view: &mut View<'a>) -
 #[unsafe(no_mangle)]
 pub extern "C" fn odht_b16_view_get(view: &View<'_>, key: &[u8; 16], value: &mut ()) -> u32
     requires accepted { IsAccepted ⟦<Shape as Coded>⟧.coding.format view.now.bytes.now }
-    ensures { ViewGetAnswers ⟦<Shape as Coded>⟧.coding view.now.bytes.now key.now value.old result value.new }
+    ensures { ViewGetAnswers ⟦<Shape as Coded>⟧.coding view.now.bytes.now key.now value.old
+        result value.new }
 {
     view::get(&view::table::<Shape>(view), key, value)
 }
@@ -256,7 +260,8 @@ pub extern "C" fn odht_b16_insert_order(bytes: &[u8], out: &mut [usize]) -> u32
 /// table `out` is unchanged. Allocates nothing. One pass over both tables; each item is hashed once.
 #[unsafe(no_mangle)]
 pub extern "C" fn odht_b16_grow(bytes: &[u8], out: &mut [u8], len: &mut usize) -> u32
-    ensures { GrowAnswers ⟦<Shape as Coded>⟧.coding bytes.now out.old len.old result out.new len.new }
+    ensures { GrowAnswers ⟦<Shape as Coded>⟧.coding bytes.now out.old len.old result out.new
+        len.new }
 {
     grow::grow::<Shape>(bytes, out, len)
 }

@@ -52,7 +52,8 @@ impl<'a, K: ByteArray, V: ByteArray, H: HashFn> RawTable<'a, K, V, H> {
     #[inline(always)]
     pub fn find_from(&self, look: FirstLook, key: &K) -> Option<V>
         requires { look ≡ first_look_of (format_of K.LEN V.LEN H.hash) self.now (K.bytes key.now) }
-        ensures { IsFind (format_of K.LEN V.LEN H.hash) V.of_bytes self.now (K.bytes key.now) result }
+        ensures { IsFind (format_of K.LEN V.LEN H.hash) V.of_bytes self.now
+            (K.bytes key.now) result }
     {
         let mask = self.entries.len() - 1;
         let home = look.hash as usize & mask;

@@ -1,5 +1,6 @@
 //! The line of a script that checks bytes. It needs no table.
-ghost use Rattle.std.specs.Prelude.{◌≡◌, ◌%◌, ◌<◌, ◌++◌, ◌↔◌, false, OnOk, IfOk, IfSome, IsSome, List, ℕ, length, codes, IsTrue};
+ghost use Rattle.std.specs.Prelude.{◌≡◌, ◌%◌, ◌<◌, ◌++◌, ◌↔◌, false, OnOk, IfOk, IfSome, IsSome};
+ghost use Rattle.std.specs.Prelude.{List, ℕ, length, codes, IsTrue};
 ghost use Rattle.std.specs.Char.{is_ascii_hexdigit, to_ascii_lowercase};
 ghost use Rattle.std.specs.Fmt.{digit_glyph};
 ghost use Rattle.std.specs.Io.KnownBytes.{Appends};
@@ -17,7 +18,8 @@ use std::io::{self, Write};
 /// Answers a line that is no command: with the result of the whole check of the bytes that it writes, or with
 /// `malformed`.
 pub fn answer_check<W: Write>(alloc: Global, line: &[u8], output: &mut W) -> io::Result<()>
-    ensures { (text : List ℕ) × IsOtherAnswered ⟦<U64ToU32 as Coded>⟧.coding.format line.now text × OnOk result (Appends (W.contents output.old) (W.contents output.new) (line_of text)) }
+    ensures { (text : List ℕ) × IsOtherAnswered ⟦<U64ToU32 as Coded>⟧.coding.format line.now text
+        × OnOk result (Appends (W.contents output.old) (W.contents output.new) (line_of text)) }
 {
     let Some(digits) = digits_of(line) else {
         return writeln!(output, "malformed");
@@ -80,7 +82,8 @@ fn digit_value(digit: u8) -> u8
 }
 
 fn write_checked<W: Write>(bytes: &[u8], output: &mut W) -> io::Result<()>
-    ensures { OnOk result (Appends (W.contents output.old) (W.contents output.new) (line_of (check_text ⟦<U64ToU32 as Coded>⟧.coding.format bytes.now))) }
+    ensures { OnOk result (Appends (W.contents output.old) (W.contents output.new)
+        (line_of (check_text ⟦<U64ToU32 as Coded>⟧.coding.format bytes.now))) }
 {
     match check_all::<U64ToU32>(bytes) {
         Ok(()) => writeln!(output, "valid"),

@@ -34,7 +34,8 @@ pub enum Request {
 /// Words are separated by exactly one space, so a further space is an empty word, which is no command and no number.
 pub fn parse(line: &[u8]) -> Option<Command>
     ensures reads { IfSome result (λ command. IsCommandText line.now command) }
-    ensures misses_none { (command : Command) → IsCommandText line.now command → result ≡ Some command }
+    ensures misses_none { (command : Command) → IsCommandText line.now command
+        → result ≡ Some command }
 {
     let line = std::str::from_utf8(line).ok()?;
     let Some((name, numbers)) = line.split_once(' ') else {
@@ -65,7 +66,8 @@ pub fn parse(line: &[u8]) -> Option<Command>
 // The request of one word alone.
 fn parse_word(word: &str) -> Option<Request>
     ensures reads { IfSome result (λ request. IsWordText word.now request) }
-    ensures misses_none { (request : Request) → IsWordText word.now request → result ≡ Some request }
+    ensures misses_none { (request : Request) → IsWordText word.now request
+        → result ≡ Some request }
 {
     match word {
         "len" => Some(Request::Len),
@@ -89,7 +91,8 @@ fn parse_pair(words: &str) -> Option<(u64, u64)>
 
 // The number that a word of digits writes. A sign is no digit, and `parse` alone would take a plus.
 fn parse_number(word: &str) -> Option<u64>
-    ensures { SomeIff result (IsNumeral 10 word.now × (digits_value 10 word.now < 2 ^ 64)) (digits_value 10 word.now) }
+    ensures { SomeIff result (IsNumeral 10 word.now × (digits_value 10 word.now < 2 ^ 64))
+        (digits_value 10 word.now) }
 {
     if word.starts_with('+') {
         return None;

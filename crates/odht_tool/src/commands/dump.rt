@@ -8,7 +8,8 @@ ghost use Rattle.odht_base.specs.Valid.{IsImage};
 ghost use Rattle.odht_raw.specs.Dumps.{parts_of};
 ghost use Rattle.odht_raw.specs.Parts.{TableParts};
 ghost use Rattle.odht_raw.specs.Walks.{decoded_all};
-ghost use Rattle.odht_tool.specs.Outcomes.{IsDone, pairs_outcome, slots_outcome, dump_of_shape, dump_outcome, slot_line, slots_text};
+ghost use Rattle.odht_tool.specs.Outcomes.{IsDone, pairs_outcome, slots_outcome, dump_of_shape};
+ghost use Rattle.odht_tool.specs.Outcomes.{dump_outcome, slot_line, slots_text};
 ghost use Rattle.odht_tool.specs.Texts.{pairs_text};
 
 use super::check::shape_of;

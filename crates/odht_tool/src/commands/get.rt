@@ -2,9 +2,12 @@
 ghost use Rattle.std.specs.Prelude.{◌≡◌, None, [], ◌∷◌, ◌++◌, IfOk, IfErr, OnOk, map, string_bytes};
 ghost use Rattle.std.specs.List.{AllZip};
 ghost use Rattle.odht_header.specs.Refusals.{view_refusal};
-ghost use Rattle.odht_tool.specs.Gets.{IsReadAs, AreAnswers, AreWordsGot, AreFileWordsGot, words_of_shape};
-ghost use Rattle.odht_tool.specs.GetParts.{IsOpenFailure, NamesWord, NamesFault, AreKeysAnswered, IsKeysFailure, IsFlushed, IsNextKey};
-ghost use Rattle.odht_tool.specs.GetLines.{AreLinesAnswered, AreLinesGot, AreFileLinesGot, lines_of_shape};
+ghost use Rattle.odht_tool.specs.Gets.{IsReadAs, AreAnswers, AreWordsGot, AreFileWordsGot};
+ghost use Rattle.odht_tool.specs.Gets.{words_of_shape};
+ghost use Rattle.odht_tool.specs.GetParts.{IsOpenFailure, NamesWord, NamesFault, AreKeysAnswered};
+ghost use Rattle.odht_tool.specs.GetParts.{IsKeysFailure, IsFlushed, IsNextKey};
+ghost use Rattle.odht_tool.specs.GetLines.{AreLinesAnswered, AreLinesGot, AreFileLinesGot};
+ghost use Rattle.odht_tool.specs.GetLines.{lines_of_shape};
 
 use super::check::shape_of;
 use crate::answers::{absent_values, are_found, write_answers};

@@ -1,7 +1,8 @@
 //! `odht info`: what a table file of any shape holds.
 ghost use Rattle.std.specs.Prelude.{◌≡◌, ◌++◌, OnOk, length};
 ghost use Rattle.std.specs.Io.KnownBytes.{Appends};
-ghost use Rattle.odht_tool.specs.InfoTexts.{number_line, sizes_text, hash_name, groups_text, info_text, IsInfoDone};
+ghost use Rattle.odht_tool.specs.InfoTexts.{number_line, sizes_text, hash_name, groups_text};
+ghost use Rattle.odht_tool.specs.InfoTexts.{info_text, IsInfoDone};
 
 use crate::failure::Failure;
 use crate::histogram::Histogram;

@@ -53,7 +53,8 @@ fn insert_one<C: Config>(
 
 // The slot count in the header of bytes that are as long as it says.
 fn slots_of<C: Config>(bytes: &[u8]) -> Result<usize, Fault>
-    ensures { IfOk result (λ slots. IsSlotCount slots × (length bytes.now ≡ image_len ⟦<C as Coded>⟧.coding.format slots)) }
+    ensures { IfOk result (λ slots. IsSlotCount slots
+        × (length bytes.now ≡ image_len ⟦<C as Coded>⟧.coding.format slots)) }
 {
     if bytes.len() < HEADER_SIZE {
         return Err(Fault::Unread);
