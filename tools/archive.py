@@ -5,7 +5,7 @@
 
 `rt lib` proves these libraries once more, since `rt ci` leaves them without a stamp. Here `rattle build` is called as
 `rt lib` calls it: it proves the crate of the exports, and loads the libraries that `rt ci` has proved. It is for a run
-of the gate from nothing; where a library has a stamp, another run made it, and this stops.
+of the gate from nothing, right after it: where a library has a stamp, `rt lib` made it, and this stops.
 """
 import os
 import subprocess
@@ -23,7 +23,7 @@ def main():
         if not os.path.isdir(f"{folder}/{name}.rlib"):
             sys.exit(f"{name} has no library: run `rt ci` first")
         if os.path.isfile(f"{folder}/stamp"):
-            sys.exit(f"the library of {name} is not of the last `rt ci`: make lib takes it")
+            sys.exit(f"the library of {name} is of `rt lib`: run make lib, which uses it")
     words = ["--crate-name", EXPORTS, "src/lib.rt", "--crate-type", "staticlib", "--links", f"{EXPORTS}="]
     words += ["--extern", f"std={KIT}/rlibs/std.rlib", "-L", f"dependency={KIT}/rlibs"]
     for name, folder in rlibs.items():

@@ -1,9 +1,9 @@
 -- What a lookup of the key k answers from the bytes B. On valid bytes it is the map's answer (`on_valid`), on any bytes
 -- one that is stored with this very key (`on_any`).
---     IsGet c B k o         the value o
---     IsCountedGet c B k r  a value, and how many groups were read: on valid bytes those up to the end of the search
+--     IsGet c B k o         o is that value, if there is one
+--     IsCountedGet c B k r  r is that value, and how many groups were read: on valid bytes those up to the end of the search
 --                           (`groups`), on any bytes no more than there are (`few`)
---     IsKnown c B k b       whether the key has a value
+--     IsKnown c B k b       b is whether the key has a value; on any bytes it is true only where a slot holds this key
 use Rattle.std.specs.Prelude.{◌≡◌, ℕ, ◌/◌, ◌≤◌, ◌↔◌, Bool, List, Option, IfSome, IsSome, IsTrue}
 use Rattle.odht_base.specs.Decoded.{header_slots, HoldsKey}
 use Rattle.odht_base.specs.Map.{map_of}

@@ -1,10 +1,11 @@
 -- What a new table is, and what an insert leaves.
 --     IsFresh F n p B      B are the bytes of the fresh table for n items at p percent
---     IsViewInsert c bytes holding D D' k v r  an insert of the key k with the value v into the view D, whose bytes are
---                          `bytes D`, returns r and leaves the view D': on valid bytes the insert into their table
---                          (`ok`), and `Full` exactly where the table is at its maximum and the key is absent (`full`);
---                          on any bytes no more than an insert may change (`frame`), and bytes that are accepted; no
---                          other error than `Full`, which leaves the view as it was; and the store stays the same one
+--     IsViewInsert c bytes holding before after k v r  an insert of the key k with the value v into a view finds the
+--                          store `before`, leaves `after` and returns r; `bytes` has the bytes of a store. On valid
+--                          bytes it is the insert into their table (`ok`), and `Full` comes exactly where the table is
+--                          at its maximum and the key is absent (`full`); on any bytes no more changes than an insert
+--                          may change (`frame`), and header and length still fit (`accepted`); there is no other error
+--                          (`only_full`), an error leaves the store as it was (`refused`), and it stays the same store
 --     IsInserted c insert P k v o B   an insert of the key k with the value v into P, by `insert`, returns the former
 --                          value o, and leaves the bytes B of a table whose map is that of P, except that k has v
 use Rattle.std.specs.Prelude.{◌≡◌, ◌↔◌, ℕ, List, Option, Some, Result, Err, IfOk, OnErr, bytes_eq, if◌then◌else◌}

@@ -1,13 +1,14 @@
 -- What a list of inserts answers and leaves: r is how many items were accepted, and the error of the first that was not.
---     IsViewList c bytes holding D D' items r  of inserts into the view D, whose bytes are `bytes D`, which leave the
---                          view D': on valid bytes the table after the accepted ones (`inserted`), which is full for the
---                          item that failed (`at_maximum`); on any bytes no more than the accepted inserts may change
---                          (`framed`), and bytes that are accepted, for which an insert of that item may fail
---                          (`stopped`); no other error than `Full`; and the store stays the same one
---     IsOwnedList c B B' items r  of inserts into the owned table of the bytes B, which leave the bytes B': the table
---                          after the accepted ones (`inserted`), which is full for the item that failed (`at_maximum`);
---                          a fresh table that accepted all has the last values (`last_values`), and has not grown where
---                          it was made for as many (`fresh`); no other error than `Memory`
+--     IsViewList c bytes holding before after items r  of inserts into a view, which find the store `before` and leave
+--                          `after`; `bytes` has the bytes of a store. On valid bytes it is the table after the accepted
+--                          ones (`inserted`), which is full for the item that failed (`at_maximum`); on any bytes no
+--                          more changes than the accepted inserts may change (`framed`), header and length still fit
+--                          (`accepted`), and an insert of the item that failed may fail (`stopped`); there is no other
+--                          error than `Full`, and it stays the same store
+--     IsOwnedList c before after items r  of inserts into an owned table, from bytes to bytes: it is the table after
+--                          the accepted ones (`inserted`), which is full for the item that failed (`at_maximum`); a
+--                          fresh table that accepted all has the last values (`last_values`), and has not grown where
+--                          it was made for as many (`fresh`); there is no other error than `Memory`
 use Rattle.std.specs.Prelude.{◌≡◌, ◌↔◌, ◌≤◌, ℕ, List, length, take, Result, Err, IsOk, OnOk, OnErr}
 use Rattle.odht_base.specs.Insert.{insert_view, insert_owned}
 use Rattle.odht_base.specs.Table.{Table}

@@ -20,7 +20,6 @@ ghost use Rattle.odht_header.specs.Refusals.{view_refusal};
 use crate::bytes::{ByteStore, ByteStoreMut};
 use crate::config::{Coded, Config};
 use crate::error::Error;
-use crate::items::Items;
 use crate::iter::Iter;
 use crate::load::Factor;
 use crate::lookups::{self, InSlice};
@@ -51,7 +50,7 @@ pub fn bytes_needed<C: Config>(max_item_count: usize, max_load_factor_percent: u
 }
 
 /// A table in the bytes of a store: a view. It cannot grow. A contract speaks of it as of this store: `D.bytes` are the
-/// table's bytes, and the clauses named `same_store` say that it stays the store that was passed in, so bytes that were
+/// table's bytes, and the clauses and fields named `same_store` say that it stays the store that was passed in, so bytes that were
 /// borrowed hold the table.
 #[derive(Drop)]
 pub struct HashTable<C: Config, D: ByteStore> {

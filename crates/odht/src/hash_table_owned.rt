@@ -20,7 +20,6 @@ use crate::config::{Coded, Config};
 use crate::error::Error;
 use crate::growth::{grown_layout, write_grown};
 use crate::hash_table::HashTable;
-use crate::items::Items;
 use crate::iter::Iter;
 use crate::load::{Factor, slots_needed};
 use crate::memory_layout;

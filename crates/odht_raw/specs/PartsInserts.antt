@@ -4,7 +4,7 @@
 --     AnswersFormer F f P p r ..       an Ok answers the former value of P, and leaves such parts
 --     IsFullUnplaced F P p r           the answer is Full exactly where p has no place in P
 --     IsFullNoRoom P p r               the answer is Full exactly where each slot of P is occupied by another key
---     IsPartsInsert F f P p r ..       all three, for the parts of P
+--     IsPartsInsert F f P p r ..       the last three, for the parts of P
 --     IsInsertChange F f es ctrl p r ..  for any parts es and ctrl: the frame; Full is the only error and changes nothing
 use Rattle.std.specs.Prelude.{◌≡◌, ℕ, ◌↔◌, List, Option, Some, None, option_map, Result, Err, IfOk}
 use Rattle.odht_base.specs.Format.{Format}

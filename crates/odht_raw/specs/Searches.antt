@@ -1,9 +1,10 @@
 -- A search by groups for a key k. E is the entries, ctrl the control bytes, r the answer.
---     IsSearchEnd F E ctrl k r       on the parts of a table it is the table's answer (`on_placed`); on any parts it is
---                                    an end (`slot`), and this comes before it in the probe order (`earlier`)
---     IsSearch F E k before after r  it ends there, where on the parts of a table a pair with the key is placed
---                                    (`placing`); there exactly the groups up to its end are read (`groups`), on any
---                                    parts no more than there are (`few`), and no control byte changes
+--     IsSearchEnd F E ctrl k r       on the parts of a table r is the table's answer (`on_placed`); on any parts r is
+--                                    an end (`slot`), and says what comes before it in the probe order (`earlier`)
+--     IsSearch F E k before after r  the same of a search that finds the scan `before` and leaves `after` (`end`). On
+--                                    the parts of a table r is where a pair with the key is placed (`placing`), and
+--                                    exactly the groups up to the end are read (`groups`); on any parts no more than
+--                                    there are (`few`); no control byte changes (`control`)
 use Rattle.std.specs.Prelude.{◌≡◌, ℕ, ◌+◌, ◌/◌, ◌≤◌, List, min}
 use Rattle.odht_base.specs.Format.{Format}
 use Rattle.odht_base.specs.Table.{Table}

@@ -1,7 +1,7 @@
 -- What an insert of a pair p with room for m new entries does to the parts of a table.
 --     IsStepEnd F m es ctrl k r  r is where a search for k ends; without room it also says what comes before
 --     StepFrame F m es ctrl p a es' ctrl'  without room the answer may be Full, with nothing changed, where a search
---                          slot by slot can end without the key; else an insert does what PartsFrame says, and adds an
+--                          slot by slot can end without the key; or an insert does what PartsFrame says, and adds an
 --                          entry only where there is room
 --     IsStepFramed F f m es ctrl p r es' ctrl'  the same with the answer decoded by f
 --     IsStepChange F f m es ctrl p r es' ctrl'  this frame; Full is the only error and changes nothing

@@ -8,8 +8,8 @@
 --     AreRising ns         the slots of ns rise
 --     IsPending F P done ns  done and the slots of ns are the occupied slots of P, each once; the slots of ns rise; and
 --                          done, with the slots of ns that are placed, are the slots so far in the search for an order
---     IsPass F P done ns n  after a pass that placed n slots: they are the first of ns, and the others wait; where n is 0,
---                          done leads no further
+--     IsPass F P done ns n  after a pass that placed n slots, which are the first of ns; where n is 0, no slot is ready
+--                          after done but those of done
 --     AreWholeParts F P T n  T is the parts of the table P, which is valid and has n pairs
 use Rattle.std.specs.Prelude.{◌≡◌, ℕ, ◌+◌, ◌-◌, ◌^◌, ◌%◌, ◌<◌, ◌≤◌, nat_lt, List, ◌++◌, map, filter, take, drop, AllPairs, IsPermutation}
 use Rattle.odht_base.specs.Format.{Format}

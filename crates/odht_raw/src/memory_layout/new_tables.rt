@@ -16,7 +16,7 @@ use crate::load::Factor;
 use crate::raw_table::FREE;
 use std::alloc::Global;
 
-/// Makes a table of `slot_count` free slots in `data`, whatever its bytes are. The header's item count is `item_count`.
+/// Makes a table of `slot_count` free slots in `data`, whatever its bytes were. The header's item count is `item_count`.
 /// Each byte is written.
 pub fn init_in_place<C: Config, M: ByteStoreMut>(
     mut data: M,
@@ -81,7 +81,7 @@ pub fn write_empty<C: Config>(
 }
 
 /// Makes a table of `slot_count` free slots in newly allocated memory. The header's item count is `item_count`. The
-/// memory is allocated as zeros, so of it the header and the control bytes are written.
+/// memory is allocated as zeros, so only the header and the control bytes are written.
 ///
 /// The error is `Capacity` exactly where the length of the table in bytes passes `usize::MAX`, and `Memory` where the
 /// allocation fails.

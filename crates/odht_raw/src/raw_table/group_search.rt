@@ -66,8 +66,8 @@ pub fn search_hashed<K: ByteArray, V: ByteArray, H: HashFn, Q: Group>(
     }
 }
 
-/// The whole search of a key whose hash is known, for callers whose first look did not end it. It is not inlined, since
-/// few searches need it.
+/// The whole search of a key whose hash is known, for callers that looked at its first group already, or cannot use
+/// that look. It is not inlined: where a first look ends the search, this is not called.
 #[inline(never)]
 pub(super) fn whole_search<K: ByteArray, V: ByteArray, H: HashFn>(
     control: &[EntryMetadata],

@@ -19,11 +19,11 @@ const BATCH: usize = 8;
 // The least slot count at which keys are looked up ahead. The control bytes of smaller tables are in a near cache.
 const LARGE: usize = 1 << 20;
 
-/// Inserts the items from index `from` on in turn, with room for so many new entries, and stops at the first item that
+/// Inserts the items from index `from` on in turn, with room for `room` new entries, and stops at the first item that
 /// is answered with `Full`. Answers the index after the last item that was inserted, and how many entries were added.
 ///
-/// Each item costs a search. In tables of 2^20 slots and more the group at the home slot may be read before it, ahead
-/// of the insert, for eight keys in turn.
+/// Each item costs a search. In tables of 2^20 slots and more the group at the home slot may be read ahead, for eight
+/// keys in turn: these keys are encoded twice, and a new key whose slot was seen free then needs no further search.
 #[inline(always)]
 pub(crate) fn insert_run<C: Config, I: Items<C::Key, C::Value>>(
     control: &mut [EntryMetadata],

@@ -1,5 +1,5 @@
 // Made by `make rust` of crates/odht_raw/src/writes.rt.
-//! The writes of an insert to bytes, each at an offset that its caller knows.
+//! The writes of a new entry to bytes, each at an offset that its caller knows.
 //!
 //! They are used both for the bytes of a whole table and for each of its two parts.
 

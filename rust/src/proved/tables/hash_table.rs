@@ -4,7 +4,6 @@
 use crate::proved::tables::bytes::{ByteStore, ByteStoreMut};
 use crate::proved::tables::config::Config;
 use crate::proved::tables::error::Error;
-use crate::proved::tables::items::Items;
 use crate::proved::tables::iter::Iter;
 use crate::proved::tables::load::Factor;
 use crate::proved::tables::lookups::{self, InSlice};
@@ -28,7 +27,7 @@ pub fn bytes_needed<C: Config>(
 }
 
 /// A table in the bytes of a store: a view. It cannot grow. A contract speaks of it as of this store: `D.bytes` are the
-/// table's bytes, and the clauses named `same_store` say that it stays the store that was passed in, so bytes that were
+/// table's bytes, and the clauses and fields named `same_store` say that it stays the store that was passed in, so bytes that were
 /// borrowed hold the table.
 pub struct HashTable<C: Config, D: ByteStore> {
     pub(crate) allocation: Allocation<C, D>,

@@ -6,7 +6,6 @@ use crate::proved::tables::config::Config;
 use crate::proved::tables::error::Error;
 use crate::proved::tables::growth::{grown_layout, write_grown};
 use crate::proved::tables::hash_table::HashTable;
-use crate::proved::tables::items::Items;
 use crate::proved::tables::iter::Iter;
 use crate::proved::tables::load::{slots_needed, Factor};
 use crate::proved::tables::memory_layout;

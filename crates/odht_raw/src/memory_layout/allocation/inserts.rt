@@ -1,5 +1,5 @@
-//! Inserts into the bytes of a table: the header is read once, the parts are written, and the item count is written
-//! once.
+//! Inserts into the bytes of a table: what they need of the header is read first, then the parts are written, and last
+//! the item count, where it has changed.
 ghost use Rattle.std.specs.Prelude.{◌≡◌, ◌-◌, ◌≤◌, length, IfOk};
 ghost use Rattle.odht_base.specs.Decoded.{header_count};
 ghost use Rattle.odht_base.specs.Table.{Table};
@@ -25,7 +25,7 @@ impl<C: Config, M: ByteStoreMut> Allocation<C, M> {
     /// nothing changed, where the search does not find the key and the header's item count is its maximum or more, or
     /// where it finds neither the key nor a free slot. A new entry raises the item count by one.
     ///
-    /// The header is read once, and the key is hashed once.
+    /// The header is read before the search alone, and the key is hashed once.
     #[inline(always)]
     pub fn insert_by<Q: Group>(
         &mut self,
@@ -48,8 +48,9 @@ impl<C: Config, M: ByteStoreMut> Allocation<C, M> {
     /// Inserts the items from index `from` on in their order, up to the first for which `insert_by` returns `Full`, and
     /// returns the index after the last item that was inserted. Each new entry raises the item count by one.
     ///
-    /// The header is read once and the item count written once. Each item costs a search. In tables of 2^20 slots and
-    /// more the group at the home slot may be read before it, ahead of the insert, for eight keys in turn.
+    /// The header is read once for the list, and the item count is written once. Each item costs a search. In tables of
+    /// 2^20 slots and more the group at the home slot may be read ahead, for eight keys in turn: these keys are encoded
+    /// twice, and a new key whose slot was seen free then needs no further search.
     #[inline(always)]
     pub fn insert_items<I: Items<C::Key, C::Value>>(&mut self, items: &I, from: usize) -> usize
         requires { from ≤ length (I.items items.now) }

@@ -9,7 +9,7 @@ use crate::proved::raw::load::Factor;
 use crate::proved::raw::raw_table::FREE;
 use crate::shim::Global;
 
-/// Makes a table of `slot_count` free slots in `data`, whatever its bytes are. The header's item count is `item_count`.
+/// Makes a table of `slot_count` free slots in `data`, whatever its bytes were. The header's item count is `item_count`.
 /// Each byte is written.
 pub fn init_in_place<C: Config, M: ByteStoreMut>(
     mut data: M,
@@ -52,7 +52,7 @@ pub fn write_empty<C: Config>(
 }
 
 /// Makes a table of `slot_count` free slots in newly allocated memory. The header's item count is `item_count`. The
-/// memory is allocated as zeros, so of it the header and the control bytes are written.
+/// memory is allocated as zeros, so only the header and the control bytes are written.
 ///
 /// The error is `Capacity` exactly where the length of the table in bytes passes `usize::MAX`, and `Memory` where the
 /// allocation fails.

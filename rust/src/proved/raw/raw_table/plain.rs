@@ -32,7 +32,8 @@ pub fn plain_find<K: ByteArray, V: ByteArray, H: HashFn>(
 /// On the parts of a table whose keys are all reached it leaves the parts of the table with the pair placed, and
 /// answers `Full`, with nothing changed, exactly where each slot is occupied and none has the key. On any parts either
 /// one value stored with an equal key is overwritten, or one entry is written with its tag into a slot that counted as
-/// free, and no other byte changes; `Full` is answered only where each slot counts as occupied.
+/// free, and no other byte changes; `Full` is answered only where each slot counts as occupied and a search slot by
+/// slot can end without the key.
 pub fn plain_insert<K: ByteArray, V: ByteArray, H: HashFn>(
     control: &mut [EntryMetadata],
     entries: &mut [u8],

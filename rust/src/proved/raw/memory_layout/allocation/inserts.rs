@@ -1,6 +1,6 @@
 // Made by `make rust` of crates/odht_raw/src/memory_layout/allocation/inserts.rt.
-//! Inserts into the bytes of a table: the header is read once, the parts are written, and the item count is written
-//! once.
+//! Inserts into the bytes of a table: what they need of the header is read first, then the parts are written, and last
+//! the item count, where it has changed.
 
 use super::Allocation;
 use crate::proved::header::header::ITEM_COUNT_AT;
@@ -19,7 +19,7 @@ impl<C: Config, M: ByteStoreMut> Allocation<C, M> {
     /// nothing changed, where the search does not find the key and the header's item count is its maximum or more, or
     /// where it finds neither the key nor a free slot. A new entry raises the item count by one.
     ///
-    /// The header is read once, and the key is hashed once.
+    /// The header is read before the search alone, and the key is hashed once.
     #[inline(always)]
     pub fn insert_by<Q: Group>(
         &mut self,
@@ -33,8 +33,9 @@ impl<C: Config, M: ByteStoreMut> Allocation<C, M> {
     /// Inserts the items from index `from` on in their order, up to the first for which `insert_by` returns `Full`, and
     /// returns the index after the last item that was inserted. Each new entry raises the item count by one.
     ///
-    /// The header is read once and the item count written once. Each item costs a search. In tables of 2^20 slots and
-    /// more the group at the home slot may be read before it, ahead of the insert, for eight keys in turn.
+    /// The header is read once for the list, and the item count is written once. Each item costs a search. In tables of
+    /// 2^20 slots and more the group at the home slot may be read ahead, for eight keys in turn: these keys are encoded
+    /// twice, and a new key whose slot was seen free then needs no further search.
     #[inline(always)]
     pub fn insert_items<I: Items<C::Key, C::Value>>(&mut self, items: &I, from: usize) -> usize {
         let store = &mut self.store;
