@@ -1,7 +1,12 @@
 //! Lists of keys and values, whatever their form in memory.
 ghost use Rattle.std.specs.Prelude.{◌≡◌, ◌<◌, List, Some, length, slice_get};
 ghost use Rattle.std.specs.List.{zip};
+ghost use Rattle.odht_base.specs.Table.{Pair};
+ghost use Rattle.odht_base.specs.Valid.{IsPairOf};
+ghost use Rattle.odht_header.specs.Coding.{encoded};
 
+use crate::bytes::ByteArray;
+use crate::config::{Coded, Config};
 use std::marker::Model;
 
 /// A list of keys and their values, each read where it is in memory.
@@ -76,4 +81,26 @@ impl<'k, 'v, K, V> Items<K, V> for Zipped<'k, 'v, K, V> {
         let (keys, values) = (self.keys, self.values);
         (&keys[index], &values[index])
     }
+}
+
+/// The bytes of a key and those of its value. Each has as many as its type says.
+#[inline(always)]
+pub(crate) fn encode_pair<C: Config>(
+    key: &C::Key,
+    value: &C::Value,
+) -> (C::EncodedKey, C::EncodedValue)
+    ensures pair { let p : Pair = record {
+      key = C.EncodedKey.bytes result.0;
+      value = C.EncodedValue.bytes result.1;
+    }
+        in p ≡ encoded ⟦<C as Coded>⟧.coding key.now value.now }
+    ensures fits { let c = ⟦<C as Coded>⟧.coding
+        in IsPairOf c.format (encoded c key.now value.now) }
+{
+    let key = C::encode_key(key);
+    let value = C::encode_value(value);
+    // To read them is what tells the prover how long they are.
+    let _ = key.as_slice();
+    let _ = value.as_slice();
+    (key, value)
 }

@@ -11,7 +11,8 @@ ghost use Rattle.odht_raw.specs.PartLengths.{ArePartLengths};
 ghost use Rattle.odht_raw.specs.PartsInserts.{AnswersFormer};
 ghost use Rattle.odht_raw.specs.Steps.{IsStepChange, IsStepEnd};
 
-use super::{Entries, EntryMetadata, Scan, Search, search_hashed, tag_of};
+use super::group_search::search_end;
+use super::{Entries, EntryMetadata, Search, tag_of};
 use crate::bytes::{ByteArray, write_slice};
 use crate::error::Error;
 use crate::hash::HashFn;
@@ -43,8 +44,7 @@ pub(crate) fn insert_step<K: ByteArray, V: ByteArray, H: HashFn, Q: Group>(
     let slots = control.len() - REFERENCE_GROUP_SIZE;
     let hash = H::hash(key.as_slice());
     let stored: Entries<'_, K, V> = Entries::new(entries, slots);
-    let mut scan = Scan::new(control, slots);
-    let end = search_hashed::<K, V, H, Q>(&mut scan, &stored, &key, hash);
+    let end = search_end::<K, V, H, Q>(control, &stored, &key, hash);
     insert_at::<K, V, H>(control, entries, key, value, tag_of(hash), end, room)
 }
 

@@ -8,9 +8,8 @@ ghost use Rattle.odht_raw.specs.Runs.{IsRun};
 use super::EntryMetadata;
 use super::ahead::{expected_slot, insert_ahead};
 use super::insert::insert_step;
-use crate::bytes::ByteArray;
 use crate::config::{Coded, Config};
-use crate::items::Items;
+use crate::items::{Items, encode_pair};
 use crate::swisstable_group_query::{GroupQuery, REFERENCE_GROUP_SIZE};
 
 // How many keys are looked up ahead.
@@ -65,11 +64,7 @@ fn insert_in_turn<C: Config, I: Items<C::Key, C::Value>>(
     let mut added = 0;
     for index in from..to {
         let (key, value) = items.at(index);
-        let key = C::encode_key(key);
-        let value = C::encode_value(value);
-        // Key and value each have as many bytes as their type says.
-        let _ = key.as_slice();
-        let _ = value.as_slice();
+        let (key, value) = encode_pair::<C>(key, value);
         let answer = insert_step::<C::EncodedKey, C::EncodedValue, C::H, GroupQuery>(
             control,
             entries,
@@ -140,11 +135,7 @@ fn insert_batch<C: Config, I: Items<C::Key, C::Value>>(
     let mut added = 0;
     for offset in 0..BATCH {
         let (key, value) = items.at(from + offset);
-        let key = C::encode_key(key);
-        let value = C::encode_value(value);
-        // Key and value each have as many bytes as their type says.
-        let _ = key.as_slice();
-        let _ = value.as_slice();
+        let (key, value) = encode_pair::<C>(key, value);
         let (hash, slot) = ahead[offset];
         let answer = insert_ahead::<C::EncodedKey, C::EncodedValue, C::H>(
             control,

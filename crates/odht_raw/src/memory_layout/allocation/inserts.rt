@@ -1,19 +1,19 @@
 //! Inserts into the bytes of a table: what they need of the header is read first, then the parts are written, and last
 //! the item count, where it has changed.
 ghost use Rattle.std.specs.Prelude.{◌≡◌, ◌-◌, ◌≤◌, length, IfOk};
-ghost use Rattle.odht_base.specs.Decoded.{header_count};
+ghost use Rattle.odht_base.specs.Load.{max_items};
 ghost use Rattle.odht_base.specs.Table.{Table};
 ghost use Rattle.odht_base.specs.Valid.{IsImage};
 ghost use Rattle.odht_base.specs.Writes.{with_count};
-ghost use Rattle.odht_raw.specs.Frame.{IsAccepted, IsFramed, header_maximum};
+ghost use Rattle.odht_raw.specs.Frame.{IsAccepted, IsFramed};
 ghost use Rattle.odht_raw.specs.Runs.{IsListRun, IsOnePlaced};
 
 use super::Allocation;
-use crate::bytes::{ByteArray, ByteStoreMut, write_slice};
+use crate::bytes::{ByteStoreMut, write_slice};
 use crate::config::{Coded, Config};
 use crate::error::Error;
-use crate::items::Items;
-use crate::load::max_item_count_for;
+use crate::items::{Items, encode_pair};
+use crate::load::{Factor, max_item_count_for};
 use crate::memory_layout::check::hold_bytes;
 use crate::memory_layout::{HEADER_SIZE, Header, entry_at};
 use crate::raw_table::{insert_run, insert_step};
@@ -81,15 +81,11 @@ fn insert_into_bytes<C: Config, Q: Group>(
     ensures len { length bytes.new ≡ length bytes.old }
 {
     hold_bytes(bytes);
-    let key = C::encode_key(key);
-    let value = C::encode_value(value);
-    // Key and value each have as many bytes as their type says.
-    let _ = key.as_slice();
-    let _ = value.as_slice();
+    let (key, value) = encode_pair::<C>(key, value);
     let header = Header::of(bytes);
     let count = header.item_count();
     let slots = header.slot_count();
-    let room = room_of(&header);
+    let room = room_for(slots, header.max_load_factor(), count);
     let (table, control) = bytes.split_at_mut(entry_at::<C>(slots));
     let (front, entries) = table.split_at_mut(HEADER_SIZE);
     match insert_step::<C::EncodedKey, C::EncodedValue, C::H, Q>(
@@ -122,7 +118,7 @@ fn run_in_bytes<C: Config, I: Items<C::Key, C::Value>>(
     let header = Header::of(bytes);
     let count = header.item_count();
     let slots = header.slot_count();
-    let room = room_of(&header);
+    let room = room_for(slots, header.max_load_factor(), count);
     let (table, control) = bytes.split_at_mut(entry_at::<C>(slots));
     let (front, entries) = table.split_at_mut(HEADER_SIZE);
     let (end, added) = insert_run::<C, I>(control, entries, items, from, room);
@@ -130,15 +126,13 @@ fn run_in_bytes<C: Config, I: Items<C::Key, C::Value>>(
     end
 }
 
-// How many new entries there is room for by the header: as many as its maximum item count exceeds its item count.
+// How many new entries there is room for: as many as the maximum item count exceeds the item count.
 #[inline(always)]
-fn room_of(header: &Header<'_>) -> usize
-    ensures room { result ≡ header_maximum header.now - header_count header.now }
-    ensures maximum { header_maximum header.now ≤ usize.MAX }
+fn room_for(slot_count: usize, max_load_factor: Factor, item_count: usize) -> usize
+    ensures room { result ≡ max_items slot_count max_load_factor.0 - item_count }
+    ensures maximum { max_items slot_count max_load_factor.0 ≤ usize.MAX }
 {
-    max_item_count_for(header.slot_count(), header.max_load_factor()).saturating_sub(
-        header.item_count(),
-    )
+    max_item_count_for(slot_count, max_load_factor).saturating_sub(item_count)
 }
 
 // Writes the item count of a header.

@@ -3,7 +3,6 @@ use Rattle.std.specs.Prelude.{is_none}
 use Rattle.std.specs.List.{slice_range}
 use Rattle.std.proofs.lemmas.Option.{slice_get-get_or}
 use Rattle.odht_base.specs.Table.{Pair}
-use Rattle.odht_base.specs.Valid.{IsPairOf}
 use Rattle.odht_header.specs.Coding.{Coding, coding_of, encoded}
 use Rattle.odht_raw.specs.Expected.{IsAhead, EndsIfFree}
 use Rattle.odht_raw.specs.PartsInserts.{AnswersFormer}
@@ -14,7 +13,7 @@ use Rattle.odht_raw.proofs.lemmas.PartRuns.{is_none-not, run_fits, run_to_none, 
 use Rattle.odht_raw.proofs.lemmas.Steps.{step_refusal}
 use Rattle.odht_raw.proofs.raw_table.runs.insert_batch.Given.{Over}
 use Rattle.odht_raw.proofs.raw_table.runs.insert_batch.Goals as goal
-use Rattle.odht_raw.proofs.raw_table.runs.insert_batch.Goals.{After-as_slice-in-loop-offset, After-insert_ahead-answer, then-is_none, else-is_none}
+use Rattle.odht_raw.proofs.raw_table.runs.insert_batch.Goals.{After-encode_pair-key, After-insert_ahead-answer, then-is_none, else-is_none}
 
 -- the coding of the configuration
 abbrev coding : (g : Over) → Coding g.row.C-Key.Denot g.row.C-Value.Denot
@@ -33,7 +32,7 @@ loop-offset-init g c =
     subst (λ (i : ℕ). IsRunTo (coding g) c.args.room es ctrl items c.args.from i 0 es ctrl) start (run_to_none (coding g) c.args.room es ctrl items c.args.from)
 
 -- what was looked up for the item at an index
-looked_up : (g : Over) (c : After-as_slice-in-loop-offset g) → let K = coding g in
+looked_up : (g : Over) (c : After-encode_pair-key g) → let K = coding g in
     IsAhead K.format c.args.control.now (encoded K c.at.result.0.now c.at.result.1.now).key (get_or c.look_ahead-ahead.result c.loop-offset.offset (0, 0))
 looked_up g c =
     c.look_ahead-ahead.ensures c.loop-offset.offset c.at.result.0.now c.at.result.1.now _ c.at.ensures
@@ -41,14 +40,14 @@ looked_up g c =
 
 pub insert_ahead-answer-requires-clause-hash : goal.insert_ahead-answer-requires-clause-hash
 insert_ahead-answer-requires-clause-hash g c κs within =
-    (looked_up g (goal.at.insert_ahead-answer-requires-clause-hash g c).After-as_slice-in-loop-offset).hash
-    ∙ ap (λ k. g.C.H.HashFn.hash (g.C.EncodedKey.ByteArray.bytes k)) (sym c.encode_key-key.ensures)
+    (looked_up g (goal.at.insert_ahead-answer-requires-clause-hash g c).After-encode_pair-key).hash
+    ∙ ap (λ (p : Pair). g.C.H.HashFn.hash p.key) (sym c.encode_pair-key.ensures.pair)
 
 -- the pair that is inserted is that of the item
 same : (g : Over) (c : After-insert_ahead-answer g)
-    → let p : Pair = record { key = g.C.EncodedKey.ByteArray.bytes c.encode_key-key.result; value = g.C.EncodedValue.ByteArray.bytes c.encode_value-value.result } in
+    → let p : Pair = record { key = g.C.EncodedKey.ByteArray.bytes c.encode_pair-key.result.0; value = g.C.EncodedValue.ByteArray.bytes c.encode_pair-key.result.1 } in
     p ≡ encoded (coding g) c.at.result.0.now c.at.result.1.now
-same g c = λ i. record { key = g.C.EncodedKey.ByteArray.bytes (c.encode_key-key.ensures i); value = g.C.EncodedValue.ByteArray.bytes (c.encode_value-value.ensures i) }
+same g c = c.encode_pair-key.ensures.pair
 
 -- what its insert does
 framed : (g : Over) (c : After-insert_ahead-answer g) → let K = coding g in
@@ -73,14 +72,14 @@ loop-offset-preserved g c =
     let at = (goal.at.loop-offset-preserved g c).After-insert_ahead-answer in
     let answer = c.insert_ahead-answer in
     let value_of = g.C.EncodedValue.ByteArray.of_bytes in
-    let fits : IsPairOf K.format (encoded K k v) = subst (IsPairOf K.format) (same g at) (record { key = c.as_slice.ensures.bytes; value = c.as_slice-in-loop-offset.ensures.bytes }) in
+    let fits = c.encode_pair-key.ensures.fits in
     let former = c.in-Ok.former in
     let counted : c.if-is_none.added ≡ cond (is_none former) (n + 1) n =
     elim c.if-is_none.branch [
       | then-is_none w ↦ w.added-is ∙ ap (λ b. cond b (n + 1) n) (sym (is_none-not former c.is_none.result c.is_none.ensures ∙ w.if-is_none.true))
       | else-is_none w ↦ w.added-is ∙ ap (λ b. cond b (n + 1) n) (sym (is_none-not former c.is_none.result c.is_none.ensures ∙ w.if-is_none.false))
     ] in
-    let ahead = looked_up g (goal.at.loop-offset-preserved g c).After-as_slice-in-loop-offset in
+    let ahead = looked_up g (goal.at.loop-offset-preserved g c).After-encode_pair-key in
     let slot : ℕ = (get_or c.look_ahead-ahead.result c.loop-offset.offset (0, 0)).1 in
     subst (λ (x : ℕ). IsRunTo K c.args.room es0 ctrl0 items c.args.from x c.if-is_none.added answer.new.entries answer.new.control) next
     (run_to_more K c.args.room es0 ctrl0 items c.args.from i n c.loop-offset.entries c.loop-offset.control c.loop-offset.invariant

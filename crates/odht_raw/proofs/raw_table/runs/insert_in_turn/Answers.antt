@@ -1,7 +1,6 @@
 use Rattle.std.proofs.Common.{◌≡◌, ◌+◌, ◌-◌, ◌<◌, ◌∙◌, ℕ, inl, inr, sym, ap, subst, cond, arith, length}
 use Rattle.std.specs.Prelude.{is_none}
 use Rattle.odht_base.specs.Table.{Pair}
-use Rattle.odht_base.specs.Valid.{IsPairOf}
 use Rattle.odht_header.specs.Coding.{Coding, coding_of, encoded}
 use Rattle.odht_raw.specs.PartsInserts.{AnswersFormer}
 use Rattle.odht_raw.specs.Runs.{IsRunTo}
@@ -25,9 +24,9 @@ loop-index-init g c = run_to_none (coding g) c.args.room c.args.entries.now c.ar
 
 -- the pair that is inserted is that of the item
 same : (g : Over) (c : After-insert_step-answer g)
-    → let p : Pair = record { key = g.C.EncodedKey.ByteArray.bytes c.encode_key-key.result; value = g.C.EncodedValue.ByteArray.bytes c.encode_value-value.result } in
+    → let p : Pair = record { key = g.C.EncodedKey.ByteArray.bytes c.encode_pair-key.result.0; value = g.C.EncodedValue.ByteArray.bytes c.encode_pair-key.result.1 } in
     p ≡ encoded (coding g) c.at.result.0.now c.at.result.1.now
-same g c = λ i. record { key = g.C.EncodedKey.ByteArray.bytes (c.encode_key-key.ensures i); value = g.C.EncodedValue.ByteArray.bytes (c.encode_value-value.ensures i) }
+same g c = c.encode_pair-key.ensures.pair
 
 -- what its insert does
 framed : (g : Over) (c : After-insert_step-answer g) → let K = coding g in
@@ -47,7 +46,7 @@ loop-index-preserved g c =
     let at = (goal.at.loop-index-preserved g c).After-insert_step-answer in
     let answer = c.insert_step-answer in
     let value_of = g.C.EncodedValue.ByteArray.of_bytes in
-    let fits : IsPairOf K.format (encoded K k v) = subst (IsPairOf K.format) (same g at) (record { key = c.as_slice.ensures.bytes; value = c.as_slice-in-loop-index.ensures.bytes }) in
+    let fits = c.encode_pair-key.ensures.fits in
     let former = c.in-Ok.former in
     let n = c.loop-index.added in
     let counted : c.if-is_none.added ≡ cond (is_none former) (n + 1) n =

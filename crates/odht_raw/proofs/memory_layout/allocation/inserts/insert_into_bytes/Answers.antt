@@ -1,7 +1,7 @@
 use Rattle.std.proofs.Common.{◌≡◌, ◌<◌, ◌+◌, ◌-◌, ◌*◌, ◌^◌, ◌∙◌, ℕ, List, [], ◌∷◌, length, Some, None, Ok, sym, ap, subst, refl, arith}
 use Rattle.odht_base.specs.Format.{Format, format_of, entry_len}
-use Rattle.odht_base.specs.Load.{IsSlotCount}
-use Rattle.odht_base.specs.Decoded.{header_slots, header_count}
+use Rattle.odht_base.specs.Load.{IsSlotCount, max_items}
+use Rattle.odht_base.specs.Decoded.{header_slots, header_count, header_factor}
 use Rattle.odht_base.specs.Table.{Pair, Table}
 use Rattle.odht_base.specs.Valid.{IsImage, IsPairOf}
 use Rattle.odht_base.specs.Writes.{with_count}
@@ -64,32 +64,35 @@ module _ (g : Over) (c : After-insert_step g) where
   abbrev value_of : List ℕ → g.row.C-EncodedValue.Denot
   value_of = g.C.EncodedValue.ByteArray.of_bytes
 
-  room_is : c.room_of-room.result ≡ header_maximum c.args.bytes.now - header_count c.args.bytes.now
-  room_is = c.room_of-room.ensures.room ∙ (λ i. header_maximum (c.of-header.ensures i) - header_count (c.of-header.ensures i))
-
   count_is : c.item_count-count.result ≡ header_count c.args.bytes.now
   count_is = c.item_count-count.ensures ∙ ap header_count c.of-header.ensures
+
+  maximum_is : max_items c.slot_count-slots.result c.max_load_factor.result.0 ≡ header_maximum c.args.bytes.now
+  maximum_is = λ i. max_items ((c.slot_count-slots.ensures ∙ ap header_slots c.of-header.ensures) i) ((c.max_load_factor.ensures ∙ ap header_factor c.of-header.ensures) i)
+
+  room_is : c.room_for-room.result ≡ header_maximum c.args.bytes.now - header_count c.args.bytes.now
+  room_is = c.room_for-room.ensures.room ∙ (λ i. maximum_is i - count_is i)
 
   counted : header_count c.args.bytes.now < 2 ^ 64
   counted = omega (arith, count_is)
 
   small : header_maximum c.args.bytes.now < 2 ^ 64
-  small = omega (arith, c.room_of-room.ensures.maximum, ap header_maximum c.of-header.ensures)
+  small = omega (arith, c.room_for-room.ensures.maximum, maximum_is)
 
   -- the pair is that of key and value
-  same : let p : Pair = record { key = g.C.EncodedKey.ByteArray.bytes c.encode_key-key.result; value = g.C.EncodedValue.ByteArray.bytes c.encode_value-value.result } in
+  same : let p : Pair = record { key = g.C.EncodedKey.ByteArray.bytes c.encode_pair-key.result.0; value = g.C.EncodedValue.ByteArray.bytes c.encode_pair-key.result.1 } in
       p ≡ encoded (coding g) c.args.key.now c.args.value.now
-  same = λ i. record { key = g.C.EncodedKey.ByteArray.bytes (c.encode_key-key.ensures i); value = g.C.EncodedValue.ByteArray.bytes (c.encode_value-value.ensures i) }
+  same = c.encode_pair-key.ensures.pair
 
   fits : IsPairOf (format g) (encoded (coding g) c.args.key.now c.args.value.now)
-  fits = subst (IsPairOf (format g)) same (record { key = c.as_slice.ensures.bytes; value = c.as_slice-2.ensures.bytes })
+  fits = c.encode_pair-key.ensures.fits
 
   framed : IsStepFramed (format g) value_of (header_maximum c.args.bytes.now - header_count c.args.bytes.now) c.split_at_mut-front.result.1.now c.split_at_mut-table.result.1.now
       (encoded (coding g) c.args.key.now c.args.value.now) c.insert_step.result c.insert_step.new.entries c.insert_step.new.control
   framed =
       subst (λ m. IsStepFramed (format g) value_of m c.split_at_mut-front.result.1.now c.split_at_mut-table.result.1.now (encoded (coding g) c.args.key.now c.args.value.now)
       c.insert_step.result c.insert_step.new.entries c.insert_step.new.control) room_is
-      (subst (λ (p : Pair). IsStepFramed (format g) value_of c.room_of-room.result c.split_at_mut-front.result.1.now c.split_at_mut-table.result.1.now p
+      (subst (λ (p : Pair). IsStepFramed (format g) value_of c.room_for-room.result c.split_at_mut-front.result.1.now c.split_at_mut-table.result.1.now p
       c.insert_step.result c.insert_step.new.entries c.insert_step.new.control) same c.insert_step.ensures.any.frame)
 
   answers : IsCut (format g) c.args.bytes.now c.split_at_mut-front.result.0.now c.split_at_mut-front.result.1.now c.split_at_mut-table.result.1.now → (P : Table) → IsImage (format g) P c.args.bytes.now

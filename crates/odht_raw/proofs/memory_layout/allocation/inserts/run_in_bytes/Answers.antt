@@ -1,8 +1,8 @@
 use Rattle.std.proofs.Common.{◌≡◌, ◌<◌, ◌≤◌, ◌+◌, ◌-◌, ◌*◌, ◌^◌, ◌∙◌, List, length, inl, inr, sym, ap, subst, arith}
 use Rattle.std.specs.List.{slice_range}
 use Rattle.odht_base.specs.Format.{Format, format_of, entry_len}
-use Rattle.odht_base.specs.Load.{IsSlotCount}
-use Rattle.odht_base.specs.Decoded.{header_slots, header_count}
+use Rattle.odht_base.specs.Load.{IsSlotCount, max_items}
+use Rattle.odht_base.specs.Decoded.{header_slots, header_count, header_factor}
 use Rattle.odht_base.specs.Writes.{with_count}
 use Rattle.odht_header.specs.Coding.{Coding, coding_of}
 use Rattle.odht_raw.specs.Frame.{header_maximum}
@@ -61,17 +61,20 @@ inserted g c = slice_range (g.I.Items.items c.args.items.now) c.args.from c.inse
 
 -- what is known of the header, and what was written
 module _ (g : Over) (c : After-write_count g) where
-  room_is : c.room_of-room.result ≡ header_maximum c.args.bytes.now - header_count c.args.bytes.now
-  room_is = c.room_of-room.ensures.room ∙ (λ i. header_maximum (c.of-header.ensures i) - header_count (c.of-header.ensures i))
-
   count_is : c.item_count-count.result ≡ header_count c.args.bytes.now
   count_is = c.item_count-count.ensures ∙ ap header_count c.of-header.ensures
+
+  maximum_is : max_items c.slot_count-slots.result c.max_load_factor.result.0 ≡ header_maximum c.args.bytes.now
+  maximum_is = λ i. max_items ((c.slot_count-slots.ensures ∙ ap header_slots c.of-header.ensures) i) ((c.max_load_factor.ensures ∙ ap header_factor c.of-header.ensures) i)
+
+  room_is : c.room_for-room.result ≡ header_maximum c.args.bytes.now - header_count c.args.bytes.now
+  room_is = c.room_for-room.ensures.room ∙ (λ i. maximum_is i - count_is i)
 
   counted : header_count c.args.bytes.now < 2 ^ 64
   counted = omega (arith, count_is)
 
   small : header_maximum c.args.bytes.now < 2 ^ 64
-  small = omega (arith, c.room_of-room.ensures.maximum, ap header_maximum c.of-header.ensures)
+  small = omega (arith, c.room_for-room.ensures.maximum, maximum_is)
 
   written : c.write_count.new.header ≡ with_count c.split_at_mut-front.result.0.now (header_count c.args.bytes.now + c.insert_run-end.result.1)
   written = c.write_count.ensures ∙ ap (λ m. with_count c.split_at_mut-front.result.0.now (m + c.insert_run-end.result.1)) count_is
