@@ -31,8 +31,8 @@ pub(crate) fn insert_run<C: Config, I: Items<C::Key, C::Value>>(
     from: usize,
     room: usize,
 ) -> (usize, usize)
-    requires parts { let kl = C.EncodedKey.LEN in let vl = C.EncodedValue.LEN
-        in ArePartLengths C.H.MIN_LEN kl vl (length entries.old) (length control.old) }
+    requires parts { ArePartLengths C.H.MIN_LEN C.EncodedKey.LEN C.EncodedValue.LEN
+        (length entries.old) (length control.old) }
     requires from { from ≤ length (I.items items.now) }
     ensures { let xs = I.items items.now
         in IsRun ⟦<C as Coded>⟧.coding room entries.old control.old xs from (length xs)
@@ -53,8 +53,8 @@ fn insert_in_turn<C: Config, I: Items<C::Key, C::Value>>(
     from: usize,
     room: usize,
 ) -> (usize, usize)
-    requires parts { let kl = C.EncodedKey.LEN in let vl = C.EncodedValue.LEN
-        in ArePartLengths C.H.MIN_LEN kl vl (length entries.old) (length control.old) }
+    requires parts { ArePartLengths C.H.MIN_LEN C.EncodedKey.LEN C.EncodedValue.LEN
+        (length entries.old) (length control.old) }
     requires from { from ≤ length (I.items items.now) }
     ensures { let xs = I.items items.now
         in IsRun ⟦<C as Coded>⟧.coding room entries.old control.old xs from (length xs)
@@ -91,8 +91,8 @@ fn insert_in_batches<C: Config, I: Items<C::Key, C::Value>>(
     from: usize,
     room: usize,
 ) -> (usize, usize)
-    requires parts { let kl = C.EncodedKey.LEN in let vl = C.EncodedValue.LEN
-        in ArePartLengths C.H.MIN_LEN kl vl (length entries.old) (length control.old) }
+    requires parts { ArePartLengths C.H.MIN_LEN C.EncodedKey.LEN C.EncodedValue.LEN
+        (length entries.old) (length control.old) }
     requires from { from ≤ length (I.items items.now) }
     ensures { let xs = I.items items.now
         in IsRun ⟦<C as Coded>⟧.coding room entries.old control.old xs from (length xs)
@@ -123,8 +123,8 @@ fn insert_batch<C: Config, I: Items<C::Key, C::Value>>(
     from: usize,
     room: usize,
 ) -> (usize, usize)
-    requires parts { let kl = C.EncodedKey.LEN in let vl = C.EncodedValue.LEN
-        in ArePartLengths C.H.MIN_LEN kl vl (length entries.old) (length control.old) }
+    requires parts { ArePartLengths C.H.MIN_LEN C.EncodedKey.LEN C.EncodedValue.LEN
+        (length entries.old) (length control.old) }
     requires end { from + 8 ≤ usize.MAX }
     requires within { from + 8 ≤ length (I.items items.now) }
     ensures { let xs = I.items items.now
