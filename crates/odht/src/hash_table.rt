@@ -2,7 +2,7 @@
 ghost use Rattle.std.specs.Prelude.{◌≡◌, ℕ, ◌≤◌, ◌↔◌, length, map, IfOk, IfSome, IsOk};
 ghost use Rattle.std.specs.Prelude.{IsNone, IsTrue, OnErr, OnOk};
 ghost use Rattle.std.specs.Result.{result_err};
-ghost use Rattle.odht_base.specs.Load.{factor_of, slots_for};
+ghost use Rattle.odht_base.specs.Load.{factor_of, slots_for, IsPercent};
 ghost use Rattle.odht_base.specs.Image.{image_len};
 ghost use Rattle.odht_base.specs.Table.{Table, walk, count};
 ghost use Rattle.odht_base.specs.Decoded.{header_count, header_slots, entries_of, controls_of};
@@ -35,8 +35,7 @@ mod walks;
 /// The length in bytes of a new table for `max_item_count` items, at a load factor in percent of the slots. None
 /// exactly where no slot count is enough, or the length passes `usize`. docs/FORMAT.md, "Load factors", has the rule.
 pub fn bytes_needed<C: Config>(max_item_count: usize, max_load_factor_percent: u8) -> Option<usize>
-    requires low { 1 ≤ max_load_factor_percent }
-    requires high { max_load_factor_percent ≤ 100 }
+    requires percent { IsPercent max_load_factor_percent }
     ensures len { let F = ⟦<C as Coded>⟧.coding.format
         in let f = factor_of max_load_factor_percent
         in IfSome result
@@ -255,8 +254,7 @@ impl<C: Config, D: ByteStoreMut> HashTable<C, D> {
         max_item_count: usize,
         max_load_factor_percent: u8,
     ) -> Result<Self, Error>
-        requires low { 1 ≤ max_load_factor_percent }
-        requires high { max_load_factor_percent ≤ 100 }
+        requires percent { IsPercent max_load_factor_percent }
         ensures ok { let F = ⟦<C as Coded>⟧.coding.format
             in IfOk result (λ t. IsFresh F max_item_count max_load_factor_percent (D.bytes t)) }
         ensures same_store { IfOk result (λ t. t ≡ D.holding «data» (D.bytes t)) }
@@ -279,8 +277,7 @@ impl<C: Config, D: ByteStoreMut> HashTable<C, D> {
         max_item_count: usize,
         max_load_factor_percent: u8,
     ) -> Result<(), Error>
-        requires low { 1 ≤ max_load_factor_percent }
-        requires high { max_load_factor_percent ≤ 100 }
+        requires percent { IsPercent max_load_factor_percent }
         ensures ok { let F = ⟦<C as Coded>⟧.coding.format
             in OnOk result (IsFresh F max_item_count max_load_factor_percent (D.bytes store.new)) }
         ensures accepted { let F = ⟦<C as Coded>⟧.coding.format

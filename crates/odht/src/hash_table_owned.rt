@@ -1,7 +1,7 @@
 //! The table that owns its bytes, and grows.
 ghost use Rattle.std.specs.Prelude.{◌≡◌, ℕ, List, ◌≤◌, ◌↔◌, ◌⊎◌, Some, length, IfOk, IsSome};
 ghost use Rattle.std.specs.Prelude.{IsTrue, IsErrOf, OnErr};
-ghost use Rattle.odht_base.specs.Load.{factor_of, slots_for};
+ghost use Rattle.odht_base.specs.Load.{factor_of, slots_for, IsPercent};
 ghost use Rattle.odht_base.specs.Table.{Table, walk, count, empty};
 ghost use Rattle.odht_base.specs.Map.{map_of};
 ghost use Rattle.odht_base.specs.Search.{groups_read};
@@ -63,8 +63,7 @@ impl<C: Config> HashTableOwned<C> {
         max_item_count: usize,
         max_load_factor_percent: u8,
     ) -> Result<Self, Error>
-        requires low { 1 ≤ max_load_factor_percent }
-        requires high { max_load_factor_percent ≤ 100 }
+        requires percent { IsPercent max_load_factor_percent }
         ensures ok { IfOk result
             (IsFresh ⟦<C as Coded>⟧.coding.format max_item_count max_load_factor_percent) }
         ensures capacity { let F = ⟦<C as Coded>⟧.coding.format
@@ -101,8 +100,7 @@ impl<C: Config> HashTableOwned<C> {
     ) -> Result<Self, Error>
         requires can { I.can_next items }
         requires ends { IsFinite (I.remaining items) }
-        requires low { 1 ≤ max_load_factor_percent }
-        requires high { max_load_factor_percent ≤ 100 }
+        requires percent { IsPercent max_load_factor_percent }
         ensures ok { IfOk result (λ t. EndsAfter I.next_gives items
             (λ xs. IsFreshAfterInserts ⟦<C as Coded>⟧.coding max_load_factor_percent xs t)) }
         ensures capacity { let F = ⟦<C as Coded>⟧.coding.format

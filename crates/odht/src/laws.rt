@@ -2,8 +2,8 @@
 //! keys to the values themselves, valid bytes are accepted, and an order of inserts makes its table again. Each
 //! function is a few calls at most, and its contract is the law. docs/PROOFS.md lists them in "Configurations",
 //! "Opening bytes" and "Orders of inserts".
-ghost use Rattle.std.specs.Prelude.{◌≡◌, ℕ, List, ◌≤◌, ◌↔◌, ◌⊎◌, length, IfOk, OnErr};
-ghost use Rattle.odht_base.specs.Load.{factor_of};
+ghost use Rattle.std.specs.Prelude.{◌≡◌, ℕ, List, ◌↔◌, ◌⊎◌, length, IfOk, OnErr};
+ghost use Rattle.odht_base.specs.Load.{factor_of, IsPercent};
 ghost use Rattle.odht.specs.LastValues.{IsLastValue, HasLastValues};
 ghost use Rattle.odht.specs.Rebuilds.{IsNewSizeOf, AreInOrder};
 ghost use Rattle.odht_base.specs.Table.{Table};
@@ -66,8 +66,7 @@ pub fn built_from_empty<C: Lossless>(
     max_load_factor_percent: u8,
     key: &C::Key,
 ) -> Result<Option<C::Value>, Error>
-    requires low { 1 ≤ max_load_factor_percent }
-    requires high { max_load_factor_percent ≤ 100 }
+    requires percent { IsPercent max_load_factor_percent }
     ensures ok { IfOk result (λ value. IsLastValue items.now key.now value) }
     ensures capacity { let F = ⟦<C as Coded>⟧.coding.format
         in (result ≡ Err Error.Capacity)
@@ -95,8 +94,7 @@ pub fn rebuilt<C: Config>(
     max_item_count: usize,
     max_load_factor_percent: u8,
 ) -> Result<HashTableOwned<C>, Error>
-    requires low { 1 ≤ max_load_factor_percent }
-    requires high { max_load_factor_percent ≤ 100 }
+    requires percent { IsPercent max_load_factor_percent }
     ensures ok { let c = ⟦<C as Coded>⟧.coding
         in (P : Table)
         → IsValid c.format P

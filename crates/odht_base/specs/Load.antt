@@ -1,6 +1,7 @@
 -- How many items a table may hold, and how many slots it needs.
 --     factor_of p           the load factor of p percent, rounded down: 65535 for 100 percent
 --     percent_of f          the percentage of a load factor, rounded down
+--     IsPercent p           a table can be made at p percent: p is from 1 to 100
 --     max_items s f         the most items that s slots may hold: s * f / 65536, which is below s
 --     is_power_of_two s     s is one of powers_of_two: 1, 2, .., 2 ^ 63
 --     IsSlotCount s         s is one of these and at least 16
@@ -14,6 +15,9 @@ factor_of p = p * 65535 / 100
 
 abbrev pub percent_of : ℕ → ℕ
 percent_of f = f * 100 / 65535
+
+abbrev pub IsPercent : ℕ → Type 0
+IsPercent p = (1 ≤ p) × (p ≤ 100)
 
 abbrev pub max_items : ℕ → ℕ → ℕ
 max_items s f = s * f / 65536

@@ -1,8 +1,9 @@
 //! Load factors: how many items a table may hold, and how many slots it needs for them.
 //!
 //! The rules are those of docs/FORMAT.md, "Load factors".
-ghost use Rattle.std.specs.Prelude.{◌≡◌, ℕ, ◌*◌, ◌<◌, ◌≤◌, IfSome};
+ghost use Rattle.std.specs.Prelude.{◌≡◌, ℕ, ◌*◌, ◌<◌, ◌≤◌, ◌↔◌, IfSome, IsSome};
 ghost use Rattle.odht_base.specs.Load.{factor_of, percent_of, max_items, slots_for, IsLeastSlots};
+ghost use Rattle.odht_base.specs.Load.{IsPercent};
 
 /// A load factor in units of 1/65536: of `s` slots at most `s * factor / 65536`, rounded down, are occupied.
 ///
@@ -50,6 +51,45 @@ impl Factor {
         ensures least { (n : ℕ) → 65535 * x ≤ n * self.0 → result ≤ n }
     {
         (Self::BASE as u128 * x as u128).div_ceil(self.0 as u128)
+    }
+}
+
+/// A load factor in percent of the slots that a table can be made at, from 1 to 100.
+#[derive(Debug, Clone, Copy, PartialEq, Eq)]
+pub struct Percent {
+    value: u8,
+    ghost low: { 1 ≤ value },
+    ghost high: { value ≤ 100 },
+}
+
+impl Percent {
+    /// The percentage `value`, or None where it is not from 1 to 100.
+    #[inline]
+    pub fn new(value: u8) -> Option<Percent>
+        ensures value { IfSome result (λ percent. percent.value ≡ value) }
+        ensures some { IsSome result ↔ IsPercent value }
+    {
+        if value < 1 || value > 100 {
+            return None;
+        }
+        Some(Percent { value })
+    }
+
+    /// The number itself, from 1 to 100.
+    #[inline]
+    pub fn value(self) -> u8
+        ensures value { result ≡ self.value }
+        ensures percent { IsPercent result }
+    {
+        self.value
+    }
+
+    /// The load factor of so many percent, rounded down.
+    #[inline]
+    pub fn factor(self) -> Factor
+        ensures { result.0 ≡ factor_of self.value }
+    {
+        Factor::from_percent(self.value)
     }
 }
 

@@ -8,6 +8,8 @@ pub mod Got
 pub mod Statuses
 -- the status of an error
 pub mod Refused
+-- what the call for a new table answers
+pub mod Made
 -- the numbers in a header
 pub mod Sizes
 -- iterators that are called until they end

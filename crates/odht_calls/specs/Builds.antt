@@ -13,13 +13,13 @@
 use Rattle.std.specs.Prelude.{◌≡◌, ◌≤◌, ◌<◌, ℕ, List, length, take, drop, Some}
 use Rattle.std.specs.List.{zip}
 use Rattle.odht_base.specs.Insert.{insert_owned}
-use Rattle.odht_base.specs.Load.{factor_of}
+use Rattle.odht_base.specs.Load.{factor_of, IsPercent}
 use Rattle.odht_base.specs.Table.{Table, fresh}
 use Rattle.odht_header.specs.Coding.{Coding}
 use Rattle.odht_header.specs.Refusals.{IsTooLarge}
 use Rattle.odht_header.specs.declared.error.Error.TheVariants.{Memory, Capacity}
 use Rattle.odht.specs.Lists.{encoded_all, IsAfterInserts, IsFreshAfterInserts}
-use Rattle.odht_calls.specs.Statuses.{status_of, IsPercent, done, bad_percent, bad_lengths, too_small}
+use Rattle.odht_calls.specs.Statuses.{status_of, done, bad_percent, bad_lengths, too_small}
 
 pub record IsHandedOut (IsTable : List ℕ → Type 0) (out : List ℕ) (s : ℕ) (out' : List ℕ) (len' : ℕ) : Type 0 where
   pub built : s ≡ done → IsTable (take len' out')

@@ -2,7 +2,6 @@
 --     status_of e          the status of the error e
 --     done absent replaced bad_percent bad_lengths too_small unmade   the statuses that are no error of the library
 --     status_or_ok o       the status of an error, or `done` where there is none
---     IsPercent p          p is a load factor in percent of slots, 1 to 100
 --     AreAsLong n a b      two arrays, of a and of b elements, have an element for each of n keys
 use Rattle.std.specs.Prelude.{◌≡◌, ◌≤◌, ℕ, Option, Some, None}
 use Rattle.odht_header.specs.declared.error.Error.{Error}
@@ -54,9 +53,6 @@ unmade = 37
 abbrev pub status_or_ok : Option Error → ℕ
 status_or_ok None = done
 status_or_ok (Some e) = status_of e
-
-abbrev pub IsPercent : ℕ → Type 0
-IsPercent p = (1 ≤ p) × (p ≤ 100)
 
 abbrev pub AreAsLong : ℕ → ℕ → ℕ → Type 0
 AreAsLong n a b = (a ≡ n) × (b ≡ n)

@@ -18,7 +18,7 @@ use Rattle.std.specs.Prelude.{Option, Some, None, MatchOption, Result, Ok, Err}
 use Rattle.std.specs.List.{zip}
 use Rattle.odht_base.specs.Image.{image_len}
 use Rattle.odht_base.specs.Insert.{insert_view}
-use Rattle.odht_base.specs.Load.{factor_of, slots_for}
+use Rattle.odht_base.specs.Load.{factor_of, slots_for, IsPercent}
 use Rattle.odht_base.specs.Table.{Table, fresh}
 use Rattle.odht_base.specs.Valid.{IsImage}
 use Rattle.odht_header.specs.Coding.{Coding, value_for, encoded}
@@ -27,7 +27,7 @@ use Rattle.odht_header.specs.Refusals.{IsTooLarge, new_refusal, opening_refusal}
 use Rattle.odht_header.specs.declared.error.Error.{Error}
 use Rattle.odht_header.specs.declared.error.Error.TheVariants.{Full, Capacity}
 use Rattle.odht.specs.Lists.{encoded_all, IsAfterInserts, IsFramedRun, IsRefusedAt, IsStoppedAt}
-use Rattle.odht_calls.specs.Statuses.{status_of, IsPercent, done, replaced, bad_percent, bad_lengths}
+use Rattle.odht_calls.specs.Statuses.{status_of, done, replaced, bad_percent, bad_lengths}
 
 abbrev pub IsFormer : {V : Type 0} → Option V → V → ℕ → V → Type 0
 IsFormer None old s new = (s ≡ done) × (new ≡ old)

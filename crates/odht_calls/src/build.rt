@@ -1,25 +1,25 @@
 //! Tables that are built from pairs: in the caller's bytes, or in memory of their own and then copied to the caller's.
-ghost use Rattle.std.specs.Prelude.{◌≡◌, ◌≤◌, ◌⊎◌, Some, length, All};
+ghost use Rattle.std.specs.Prelude.{◌≡◌, ◌⊎◌, None, length, All};
 ghost use Rattle.std.specs.List.{zip};
-ghost use Rattle.odht_base.specs.Image.{image_len};
-ghost use Rattle.odht_base.specs.Load.{factor_of, slots_for};
+ghost use Rattle.odht_base.specs.Load.{factor_of};
 ghost use Rattle.odht_base.specs.Valid.{IsPairOf};
+ghost use Rattle.odht_header.specs.Refusals.{new_refusal};
 ghost use Rattle.odht_raw.specs.Runs.{encoded_all};
 ghost use Rattle.odht.specs.Lists.{IsFreshAfterInserts};
 ghost use Rattle.odht_calls.specs.Statuses.{done, too_small};
 ghost use Rattle.odht_calls.specs.Builds.{IsHandedOut, BuildAnswers, BuildGrowingAnswers};
 
-use crate::status::{CAPACITY, OK, TOO_SMALL, status_of};
-use crate::write::make;
+use crate::status::{BAD_PERCENT, CAPACITY, OK, TOO_SMALL, status_of};
 use odht::bytes::{BorrowedMut, ByteArray, ByteStoreMut};
 use odht::config::{Coded, Config};
 use odht::items::Zipped;
-use odht::load::Factor;
-use odht::{HashTable, HashTableOwned, memory_layout};
+use odht::load::Percent;
+use odht::{HashTable, HashTableOwned, bytes_needed};
 use std::alloc::Global;
 
 /// Builds a table of the pairs at the front of `out`, with slots for as many items as there are pairs, and writes its
-/// length in bytes to `len`. CAPACITY leaves both unchanged, TOO_SMALL leaves `out` unchanged. Allocates nothing.
+/// length in bytes to `len`. BAD_PERCENT and CAPACITY leave both unchanged, TOO_SMALL leaves `out` unchanged. Allocates
+/// nothing.
 #[inline]
 pub fn collected<C: Config>(
     keys: &[C::Key],
@@ -28,32 +28,28 @@ pub fn collected<C: Config>(
     out: &mut [u8],
     len: &mut usize,
 ) -> u32
-    requires lengths { length values.now ≡ length keys.now }
-    requires low { 1 ≤ max_load_factor_percent }
-    requires high { max_load_factor_percent ≤ 100 }
+    requires { length values.now ≡ length keys.now }
     ensures { BuildAnswers ⟦<C as Coded>⟧.coding keys.now values.now max_load_factor_percent
         out.old len.old result out.new len.new }
 {
-    let factor = Factor::from_percent(max_load_factor_percent);
-    let Some((slot_count, needed)) = memory_layout::layout_for::<C>(keys.len(), factor) else {
+    let Some(percent) = Percent::new(max_load_factor_percent) else {
+        return BAD_PERCENT;
+    };
+    let Some(needed) = bytes_needed::<C>(keys.len(), percent.value()) else {
         return CAPACITY;
     };
-    hold_pairs::<C>(keys, values);
     *len = needed;
     if out.len() < needed {
+        hold_pairs::<C>(keys, values);
         return TOO_SMALL;
     }
-    insert_into_new::<C>(
-        &mut out[..needed],
-        slot_count,
-        max_load_factor_percent,
-        keys,
-        values,
-    );
+    insert_into_new::<C>(&mut out[..needed], percent, keys, values);
     OK
 }
 
 // Encodes each key and value and drops the bytes. It changes nothing: only the clause matters, which the proof needs.
+// It is not a law of `ByteArray`, since a law speaks of every value of the logic: there a `[u8; 2]` is any list of
+// numbers, and that it has two bytes is known only of one that a function has read.
 #[inline(always)]
 fn hold_pairs<C: Config>(keys: &[C::Key], values: &[C::Value])
     requires { length values.now ≡ length keys.now }
@@ -72,56 +68,40 @@ fn hold_pairs<C: Config>(keys: &[C::Key], values: &[C::Value])
 #[inline(always)]
 fn insert_into_new<C: Config>(
     bytes: &mut [u8],
-    slot_count: usize,
-    max_load_factor_percent: u8,
+    percent: Percent,
     keys: &[C::Key],
     values: &[C::Value],
 )
     requires lengths { length values.now ≡ length keys.now }
-    requires low { 1 ≤ max_load_factor_percent }
-    requires high { max_load_factor_percent ≤ 100 }
-    requires slots { slots_for (length keys.now) (factor_of max_load_factor_percent)
-        ≡ Some slot_count }
-    requires len { length bytes.old ≡ image_len ⟦<C as Coded>⟧.coding.format slot_count }
-    requires pairs { let c = ⟦<C as Coded>⟧.coding
-        in All (IsPairOf c.format) (encoded_all c (zip keys.now values.now)) }
-    ensures { IsFreshAfterInserts ⟦<C as Coded>⟧.coding max_load_factor_percent
-        (zip keys.now values.now) bytes.new }
+    requires fits { new_refusal ⟦<C as Coded>⟧.coding.format (length keys.now)
+        (factor_of percent.value) (length bytes.old) ≡ None }
+    ensures { IsFreshAfterInserts ⟦<C as Coded>⟧.coding percent.value (zip keys.now values.now)
+        bytes.new }
 {
     let mut store = BorrowedMut::new(bytes);
-    insert_into_store::<C, BorrowedMut<'_>>(
-        &mut store,
-        slot_count,
-        max_load_factor_percent,
-        keys,
-        values,
-    )
+    insert_into_store::<C, BorrowedMut<'_>>(&mut store, percent, keys, values);
 }
 
-// The same in a store.
+// The same in a store. It is a function of its own since the prover knows what a slice holds after a store of it was
+// lent to a call, and not after the store was moved into a table.
 #[inline(always)]
 fn insert_into_store<C: Config, M: ByteStoreMut>(
     store: &mut M,
-    slot_count: usize,
-    max_load_factor_percent: u8,
+    percent: Percent,
     keys: &[C::Key],
     values: &[C::Value],
 )
     requires lengths { length values.now ≡ length keys.now }
-    requires low { 1 ≤ max_load_factor_percent }
-    requires high { max_load_factor_percent ≤ 100 }
-    requires slots { slots_for (length keys.now) (factor_of max_load_factor_percent)
-        ≡ Some slot_count }
-    requires len { length (M.bytes store.old) ≡ image_len ⟦<C as Coded>⟧.coding.format slot_count }
-    requires pairs { let c = ⟦<C as Coded>⟧.coding
-        in All (IsPairOf c.format) (encoded_all c (zip keys.now values.now)) }
+    requires fits { new_refusal ⟦<C as Coded>⟧.coding.format (length keys.now)
+        (factor_of percent.value) (length (M.bytes store.old)) ≡ None }
     ensures inserted { let items = zip keys.now values.now
-        in IsFreshAfterInserts ⟦<C as Coded>⟧.coding max_load_factor_percent items
-        (M.bytes store.new) }
+        in IsFreshAfterInserts ⟦<C as Coded>⟧.coding percent.value items (M.bytes store.new) }
     ensures same_store { store.new ≡ M.holding store.old (M.bytes store.new) }
 {
-    let factor = Factor::from_percent(max_load_factor_percent);
-    make::<C, M>(store, slot_count, factor);
+    let Ok(()) = HashTable::<C, M>::init_store(store, keys.len(), percent.value()) else {
+        // The bytes are as many as the table needs.
+        unreachable!()
+    };
     let mut table = HashTable::<C, &mut M>::from_raw_bytes_unchecked(store);
     let _ = table.insert_items(&Zipped::new(keys, values));
     let _store = table.into_data();

@@ -1,20 +1,16 @@
 //! The calls that write the bytes of a table, for every configuration.
 ghost use Rattle.std.specs.Prelude.{◌≡◌, length};
-ghost use Rattle.odht_base.specs.Image.{image, image_len};
-ghost use Rattle.odht_base.specs.Load.{IsSlotCount};
-ghost use Rattle.odht_base.specs.Table.{empty};
-ghost use Rattle.odht_base.specs.Writes.{with_count};
 ghost use Rattle.odht_raw.specs.Frame.{IsAccepted};
 ghost use Rattle.odht_calls.specs.Writes.{BytesNeededAnswers, InitAnswers, InsertAnswers};
 ghost use Rattle.odht_calls.specs.Writes.{InsertAllAnswers};
 
 use crate::read::view;
 use crate::status::{BAD_PERCENT, CAPACITY, OK, REPLACED, status_of};
+use odht::HashTable;
 use odht::bytes::ByteStoreMut;
 use odht::config::{Coded, Config};
 use odht::items::Zipped;
-use odht::load::Factor;
-use odht::{HashTable, memory_layout};
+use odht::load::Percent;
 
 /// Writes to `len` how many bytes a new table for so many items has. BAD_PERCENT and CAPACITY leave `len` unchanged.
 pub fn bytes_needed<C: Config>(
@@ -25,10 +21,10 @@ pub fn bytes_needed<C: Config>(
     ensures { BytesNeededAnswers ⟦<C as Coded>⟧.coding max_item_count max_load_factor_percent
         len.old result len.new }
 {
-    if max_load_factor_percent < 1 || max_load_factor_percent > 100 {
+    let Some(percent) = Percent::new(max_load_factor_percent) else {
         return BAD_PERCENT;
-    }
-    match odht::bytes_needed::<C>(max_item_count, max_load_factor_percent) {
+    };
+    match odht::bytes_needed::<C>(max_item_count, percent.value()) {
         Some(needed) => {
             *len = needed;
             OK
@@ -48,29 +44,13 @@ pub fn init<C: Config, M: ByteStoreMut>(
         (M.bytes store.old) result (M.bytes store.new) }
     ensures same_store { store.new ≡ M.holding store.old (M.bytes store.new) }
 {
-    if max_load_factor_percent < 1 || max_load_factor_percent > 100 {
+    let Some(percent) = Percent::new(max_load_factor_percent) else {
         return BAD_PERCENT;
-    }
-    match HashTable::<C, M>::init_store(store, max_item_count, max_load_factor_percent) {
+    };
+    match HashTable::<C, M>::init_store(store, max_item_count, percent.value()) {
         Ok(()) => OK,
         Err(refused) => status_of(&refused),
     }
-}
-
-/// Makes an empty table of `slot_count` slots in the store, whatever it holds. One pass over the bytes.
-pub(crate) fn make<C: Config, M: ByteStoreMut>(
-    store: &mut M,
-    slot_count: usize,
-    max_load_factor: Factor,
-)
-    requires slots { IsSlotCount slot_count }
-    requires len { length (M.bytes store.old) ≡ image_len ⟦<C as Coded>⟧.coding.format slot_count }
-    ensures bytes { let F = ⟦<C as Coded>⟧.coding.format
-        in M.bytes store.new ≡ with_count (image F (empty slot_count max_load_factor.0)) 0 }
-    ensures same_store { store.new ≡ M.holding store.old (M.bytes store.new) }
-{
-    let table = memory_layout::init_in_place::<C, &mut M>(store, slot_count, 0, max_load_factor);
-    let _store = table.into_store();
 }
 
 /// Gives the key this value. A value that it had before is written to `former`. An error leaves the store and `former`

@@ -2,7 +2,7 @@
 use Rattle.std.proofs.Common.{◌≡◌, ◌^◌, ◌-◌, refl, [], ◌∷◌, Some, None, map, option_map, lit≤, arith}
 use Rattle.odht_base.specs.Hashes.{fx, un}
 use Rattle.odht_base.specs.Image.{image_len}
-use Rattle.odht_base.specs.Load.{slots_for, max_items, factor_of, percent_of, IsLeastSlots}
+use Rattle.odht_base.specs.Load.{slots_for, max_items, factor_of, percent_of, IsPercent, IsLeastSlots}
 use Rattle.odht_base.specs.Numbers.{le_bytes}
 use Rattle.odht_base.proofs.lemmas.Least.{slots_for-IsLeastSlots}
 use Rattle.odht_base.proofs.examples.Configs.{my_config, test_config}
@@ -34,6 +34,18 @@ factors = (refl, refl, refl, refl, refl)
 -- the percentage rounds down a second time
 pub percentages : (percent_of (factor_of 87) ≡ 86) × (percent_of (factor_of 6) ≡ 5) × (percent_of (factor_of 100) ≡ 100)
 percentages = (refl, refl, refl)
+
+-- tables can be made at 1 and at 100 percent
+pub percents : IsPercent 1 × IsPercent 100
+percents = ((lit≤ tt, lit≤ tt), (lit≤ tt, lit≤ tt))
+
+-- at 0 none can
+pub zero_percent_refused : IsPercent 0 → ⊥
+zero_percent_refused h = omega (arith, h.0)
+
+-- and at 101 none
+pub high_percent_refused : IsPercent 101 → ⊥
+high_percent_refused h = omega (arith, h.1)
 
 pub maxima : (max_items 12345 (factor_of 100) ≡ 12344)
     × (max_items 12345 (factor_of 0) ≡ 0)

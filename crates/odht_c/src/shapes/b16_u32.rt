@@ -22,7 +22,7 @@ ghost use Rattle.odht_calls.specs.Builds.{BuildAnswers, BuildGrowingAnswers};
 use odht::bytes::BorrowedMut;
 use odht::config::Coded;
 use odht::configs::Bytes16ToU32 as Shape;
-use odht_calls::status::{BAD_LENGTHS, BAD_PERCENT};
+use odht_calls::status::BAD_LENGTHS;
 use odht_calls::view::{self, View};
 use odht_calls::{build, grow, order, read, walk, write};
 use std::alloc::Global;
@@ -290,9 +290,6 @@ pub extern "C" fn odht_b16_u32_build(
 {
     if values.len() != keys.len() {
         return BAD_LENGTHS;
-    }
-    if max_load_factor_percent < 1 || max_load_factor_percent > 100 {
-        return BAD_PERCENT;
     }
     build::collected::<Shape>(keys, values, max_load_factor_percent, out, len)
 }

@@ -5,7 +5,7 @@ use Rattle.odht_calls.specs.Builds.{BuildAnswers, BuildGrowingAnswers}
 use Rattle.odht_calls.proofs.lemmas.HandedOut.{IsHandedOut-none}
 use Rattle.odht_calls.proofs.examples.AfterInserts.{roomy_bytes, one_built, only_built, one_grown, only_grown}
 use Rattle.odht_calls.proofs.examples.Inits.{seven, one_fits}
-use Rattle.odht_calls.proofs.examples.Statuses.{zero_percent_refused}
+use Rattle.odht_base.proofs.examples.Numbers.{zero_percent_refused}
 use Rattle.odht_header.proofs.examples.Apart.{unequal, unequal_lists}
 use Rattle.odht_calls.proofs.examples.Tables.{direct_coding, one_bytes}
 

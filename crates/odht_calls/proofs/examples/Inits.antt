@@ -2,16 +2,15 @@
 use Rattle.std.proofs.Common.{◌≤◌, ◌^◌, ◌-◌, ◌∙◌, ℕ, refl, sym, ap, arith, lit≤, lit<, List, [], ◌∷◌, replicate}
 use Rattle.std.proofs.lemmas.Option.{none-some}
 use Rattle.odht_base.specs.Image.{image, image_len}
-use Rattle.odht_base.specs.Load.{factor_of}
+use Rattle.odht_base.specs.Load.{factor_of, IsPercent}
 use Rattle.odht_base.proofs.examples.Configs.{direct_config}
 use Rattle.odht_base.proofs.lemmas.Options.{some_same}
 use Rattle.odht_header.specs.Refusals.{IsTooLarge, new_refusal}
 use Rattle.odht_header.specs.declared.error.Error.TheVariants.{InitLength, Capacity}
 use Rattle.odht_header.proofs.examples.Opened.{opened}
-use Rattle.odht_calls.specs.Statuses.{IsPercent}
 use Rattle.odht_calls.specs.Writes.{BytesNeededAnswers, InitAnswers}
 use Rattle.odht_calls.proofs.lemmas.Refused.{known, not_none}
-use Rattle.odht_calls.proofs.examples.Statuses.{zero_percent_refused}
+use Rattle.odht_base.proofs.examples.Numbers.{zero_percent_refused}
 use Rattle.odht_header.proofs.examples.Apart.{unequal, unequal_lists}
 use Rattle.odht_calls.proofs.examples.Tables.{direct_coding, no_items, no_bytes, one_bytes, no_image}
 

@@ -2,7 +2,7 @@
 use Rattle.std.proofs.Common.{◌≡◌, ℕ, refl, lit≤, arith, List, Some, None}
 use Rattle.odht_header.specs.declared.error.Error.TheVariants.{TooShort, WrongTag, WrongVersion, WrongSizeOf, SlotCountNotPowerOfTwo, SlotCountTooSmall, WrongLength, NonZeroEmpty, ControlMismatch, LoadFactorTooSmall, NonZeroPadding, BadFreeControl, MirrorMismatch, WrongItemCount, TooManyItems, Unreachable, InitLength, Full, Memory, Capacity}
 use Rattle.odht_header.specs.declared.error.Part.{Part}
-use Rattle.odht_calls.specs.Statuses.{status_of, done, absent, replaced, bad_percent, bad_lengths, too_small, unmade, status_or_ok, IsPercent, AreAsLong}
+use Rattle.odht_calls.specs.Statuses.{status_of, done, absent, replaced, bad_percent, bad_lengths, too_small, unmade, status_or_ok, AreAsLong}
 
 -- ODHT_TOO_SHORT to ODHT_WRONG_LENGTH, which are about the header and the length
 pub opening_statuses : (a b c : ℕ) (bs : List ℕ) (part : Part)
@@ -53,18 +53,6 @@ pub status_or_ok_statuses : (status_or_ok None ≡ 0)
     × (status_or_ok (Some Full) ≡ 18)
     × (status_or_ok (Some (TooShort 0)) ≡ 1)
 status_or_ok_statuses = (refl, refl, refl)
-
--- 1 and 100 are load factors in percent
-pub percents : IsPercent 1 × IsPercent 100
-percents = ((lit≤ tt, lit≤ tt), (lit≤ tt, lit≤ tt))
-
--- 0 is none
-pub zero_percent_refused : IsPercent 0 → ⊥
-zero_percent_refused h = omega (arith, h.0)
-
--- and neither is 101
-pub high_percent_refused : IsPercent 101 → ⊥
-high_percent_refused h = omega (arith, h.1)
 
 -- arrays of three elements belong to three keys, and those of none to no key
 pub equally_long : AreAsLong 3 3 3 × AreAsLong 0 0 0

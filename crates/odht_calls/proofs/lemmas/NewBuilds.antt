@@ -1,15 +1,18 @@
 -- A new table for as many pairs as are inserted: none is answered with Full, and both inserts leave the same.
-use Rattle.std.proofs.Common.{◌≡◌, ◌<◌, ◌≤◌, ◌+◌, ◌∙◌, ◌↔◌, ℕ, sym, ap, subst, refl, List, Some, Result, Ok, Err, OnErr, IsOk, true≢false, take, length, All, arith, length-take}
-use Rattle.std.specs.Prelude.{option_map}
+use Rattle.std.proofs.Common.{◌≡◌, ◌<◌, ◌≤◌, ◌+◌, ◌∙◌, ◌↔◌, ℕ, Bool, true, false, cond, sym, ap, subst, refl, List, [], ◌∷◌, Some, None, Result, Ok, Err, OnErr, IsOk, true≢false, take, length, All, arith, length-take}
+use Rattle.std.specs.Prelude.{option_map, option_and_then}
 use Rattle.std.proofs.lemmas.List.{length-map, take_all}
+use Rattle.std.proofs.lemmas.Option.{none-some}
+use Rattle.odht_base.specs.Format.{Format}
 use Rattle.odht_base.specs.Image.{image, image_len}
-use Rattle.odht_base.specs.Insert.{insert_owned, insert_view}
-use Rattle.odht_base.specs.Load.{factor_of, slots_for, max_items}
-use Rattle.odht_base.specs.Table.{Table, slot_count, count, empty, fresh}
+use Rattle.odht_base.specs.Insert.{run, place, grown, is_full_for, insert_owned, insert_view}
+use Rattle.odht_base.specs.Load.{factor_of, slots_for, max_items, IsPercent}
+use Rattle.odht_base.specs.Table.{Pair, Table, slot_count, count, empty, fresh}
 use Rattle.odht_base.specs.Valid.{IsImage, IsPairOf, IsValid}
 use Rattle.odht_base.proofs.lemmas.Fits.{IsSized-IsPlaced}
-use Rattle.odht_base.proofs.lemmas.FreshRuns.{insert_owned-PlacesBelow, insert_view-PlacesBelow, run-place_all, run-fits}
+use Rattle.odht_base.proofs.lemmas.FreshRuns.{insert_owned-PlacesBelow, run-fits}
 use Rattle.odht_base.proofs.lemmas.Image.{length-image}
+use Rattle.odht_base.proofs.lemmas.Options.{and_then_some}
 use Rattle.odht_base.proofs.lemmas.TableInserts.{insert_owned-IsInsert}
 use Rattle.odht_base.proofs.lemmas.FreeSlots.{count-fresh, max_items-fresh, fresh-IsValid}
 use Rattle.odht_base.proofs.lemmas.InsertRuns.{run-keeps, map_of-run, factor-run, count-run}
@@ -22,29 +25,35 @@ use Rattle.odht.proofs.lemmas.ListInserts.{fresh_inserted}
 pub fresh_empty : (n p s : ℕ) → slots_for n (factor_of p) ≡ Some s → fresh n p ≡ Some (empty s (factor_of p))
 fresh_empty n p s e = ap (option_map (λ t. empty t (factor_of p))) e
 
-module _ {K V : Type 0} (c : Coding K V) (percent : ℕ) (items : List (K × V)) (low : 1 ≤ percent) (high : percent ≤ 100) (P : Table) (new : fresh (length items) percent ≡ Some P)
-    (fit : All (IsPairOf c.format) (encoded_all c items)) where
+-- an insert that a view takes is one of the owned table too
+owned_too : (F : Format) (P Q : Table) (p : Pair) → insert_view F P p ≡ Some Q → insert_owned F P p ≡ Some Q
+unfolding insert_view insert_owned
+owned_too F P Q p e = go (is_full_for P p.key) e
+  where
+    go : (full : Bool) → cond full None (place F P p) ≡ Some Q → cond full (option_and_then (λ R. place F R p) (grown F P)) (place F P p) ≡ Some Q
+    go true none = absurd (none-some Q none)
+    go false placed = placed
+
+-- and so are inserts in turn
+run_owned : (F : Format) (P Q : Table) (ps : List Pair) → run (insert_view F) P ps ≡ Some Q → run (insert_owned F) P ps ≡ Some Q
+run_owned F P Q [] e = e
+run_owned F P Q (p ∷ ps) e =
+    let t = and_then_some (λ R. run (insert_view F) R ps) (insert_view F P p) Q e in
+    ap (option_and_then (λ R. run (insert_owned F) R ps)) (owned_too F P t.0 p t.1) ∙ run_owned F t.0 Q ps t.2
+
+module _ {K V : Type 0} (c : Coding K V) (percent : ℕ) (items : List (K × V)) (P : Table) (new : fresh (length items) percent ≡ Some P) where
   long : (xs : List (K × V)) → length (encoded_all c xs) ≡ length xs
   long xs = length-map xs (λ (t : K × V). encoded c t.0 t.1)
 
-  valid : IsValid c.format P
-  valid = fresh-IsValid (length items) percent P new c.format low high
-
-  room : count P + length (encoded_all c items) ≤ max_items (slot_count P) P.factor
-  room = omega (arith, count-fresh (length items) percent P new, max_items-fresh (length items) percent P new, long items)
-
   -- all items by the insert of a view are all by that of the owned table
   pub view_inserted : (B : List ℕ) → IsAfterInserts c.format (insert_view c.format) P (encoded_all c items) B → IsFreshAfterInserts c percent items B
-  view_inserted B h =
-      let F = c.format in
-      let ps = encoded_all c items in
-      fresh_inserted c percent items B P new (record {
-        table = h.table;
-        runs = run-place_all F (insert_owned F) (insert_owned-PlacesBelow F) P ps valid fit room ∙ sym (run-place_all F (insert_view F) (insert_view-PlacesBelow F) P ps valid fit room) ∙ h.runs;
-        image = h.image;
-        maps = h.maps;
-        stays = h.stays;
-      })
+  view_inserted B h = fresh_inserted c percent items B P new (record {
+    table = h.table;
+    runs = run_owned c.format P h.table (encoded_all c items) h.runs;
+    image = h.image;
+    maps = h.maps;
+    stays = h.stays;
+  })
 
   -- none is answered with Full
   pub new_inserted : (r : ℕ) (answer : Result (Unit {0}) Error) (B : List ℕ) → r ≤ length items → IsOk answer ↔ (r ≡ length items)
@@ -61,10 +70,12 @@ module _ {K V : Type 0} (c : Coding K V) (percent : ℕ) (items : List (K × V))
       let same : max_items (slot_count h.table) h.table.factor ≡ max_items (slot_count P) P.factor = λ i. max_items (stays.0.0 i) (stays.0.1 i) in
       absurd (omega (arith, full.0, same, stays.1, some, less, start, most))
 
-  -- there is such a table
-  pub new_exists : (B : List ℕ) × (length B ≡ image_len c.format (slot_count P)) × IsFreshAfterInserts c percent items B
-  new_exists =
+  -- where all pairs are of the format, there is such a table
+  pub new_exists : IsPercent percent → All (IsPairOf c.format) (encoded_all c items) → (B : List ℕ) × (length B ≡ image_len c.format (slot_count P)) × IsFreshAfterInserts c percent items B
+  new_exists within fit =
       let F = c.format in
+      let valid = fresh-IsValid (length items) percent P new F within.0 within.1 in
+      let room : count P + length (encoded_all c items) ≤ max_items (slot_count P) P.factor = omega (arith, count-fresh (length items) percent P new, max_items-fresh (length items) percent P new, long items) in
       let ps = encoded_all c items in
       let insert = insert_owned F in
       let is = insert_owned-IsInsert F in

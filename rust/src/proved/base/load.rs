@@ -41,6 +41,35 @@ impl Factor {
     }
 }
 
+/// A load factor in percent of the slots that a table can be made at, from 1 to 100.
+#[derive(Debug, Clone, Copy, PartialEq, Eq)]
+pub struct Percent {
+    value: u8,
+}
+
+impl Percent {
+    /// The percentage `value`, or None where it is not from 1 to 100.
+    #[inline]
+    pub fn new(value: u8) -> Option<Percent> {
+        if value < 1 || value > 100 {
+            return None;
+        }
+        Some(Percent { value })
+    }
+
+    /// The number itself, from 1 to 100.
+    #[inline]
+    pub fn value(self) -> u8 {
+        self.value
+    }
+
+    /// The load factor of so many percent, rounded down.
+    #[inline]
+    pub fn factor(self) -> Factor {
+        Factor::from_percent(self.value)
+    }
+}
+
 /// The least slot count for `max_item_count` items: the least power of two from 16 on whose maximum item count is
 /// no less. None exactly where no power of two up to 2^63 is enough. The factor is at least 1.
 #[inline]

@@ -12,11 +12,8 @@ last_value-requires-after_bounds g c κs within =
     subst (λ r. OnOk r (HasLastValues K c.args.items.now c.insert_all.new.self)) c.in_ok-insert_all.was
     (c.insert_all.ensures.last_values _ c.args.max_load_factor_percent c.in_ok-table.ensures.ok)
 
-pub with_capacity-requires-clause-low : goal.with_capacity-requires-clause-low
-with_capacity-requires-clause-low g c κs within = c.requires.low
-
-pub with_capacity-requires-clause-high : goal.with_capacity-requires-clause-high
-with_capacity-requires-clause-high g c κs within = c.requires.high
+pub with_capacity-requires-clause-percent : goal.with_capacity-requires-clause-percent
+with_capacity-requires-clause-percent g c κs within = c.requires.percent
 
 pub returns-in_err-table-clause-ok : goal.returns-in_err-table-clause-ok
 returns-in_err-table-clause-ok g c = IfOk-from_err c.from_residual.result _ c.from_residual.ensures.0

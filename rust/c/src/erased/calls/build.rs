@@ -1,17 +1,17 @@
 // Made by `make rust` of crates/odht_calls/src/build.rt.
 //! Tables that are built from pairs: in the caller's bytes, or in memory of their own and then copied to the caller's.
 
-use crate::erased::calls::status::{status_of, CAPACITY, OK, TOO_SMALL};
-use crate::erased::calls::write::make;
+use crate::erased::calls::status::{status_of, BAD_PERCENT, CAPACITY, OK, TOO_SMALL};
 use crate::proved::tables::bytes::{BorrowedMut, ByteArray, ByteStoreMut};
 use crate::proved::tables::config::Config;
 use crate::proved::tables::items::Zipped;
-use crate::proved::tables::load::Factor;
-use crate::proved::tables::{memory_layout, HashTable, HashTableOwned};
+use crate::proved::tables::load::Percent;
+use crate::proved::tables::{bytes_needed, HashTable, HashTableOwned};
 use crate::shim::Global;
 
 /// Builds a table of the pairs at the front of `out`, with slots for as many items as there are pairs, and writes its
-/// length in bytes to `len`. CAPACITY leaves both unchanged, TOO_SMALL leaves `out` unchanged. Allocates nothing.
+/// length in bytes to `len`. BAD_PERCENT and CAPACITY leave both unchanged, TOO_SMALL leaves `out` unchanged. Allocates
+/// nothing.
 #[inline]
 pub fn collected<C: Config>(
     keys: &[C::Key],
@@ -20,20 +20,24 @@ pub fn collected<C: Config>(
     out: &mut [u8],
     len: &mut usize,
 ) -> u32 {
-    let factor = Factor::from_percent(max_load_factor_percent);
-    let Some((slot_count, needed)) = memory_layout::layout_for::<C>(keys.len(), factor) else {
+    let Some(percent) = Percent::new(max_load_factor_percent) else {
+        return BAD_PERCENT;
+    };
+    let Some(needed) = bytes_needed::<C>(keys.len(), percent.value()) else {
         return CAPACITY;
     };
-    hold_pairs::<C>(keys, values);
     *len = needed;
     if out.len() < needed {
+        hold_pairs::<C>(keys, values);
         return TOO_SMALL;
     }
-    insert_into_new::<C>(&mut out[..needed], slot_count, max_load_factor_percent, keys, values);
+    insert_into_new::<C>(&mut out[..needed], percent, keys, values);
     OK
 }
 
 // Encodes each key and value and drops the bytes. It changes nothing: only the clause matters, which the proof needs.
+// It is not a law of `ByteArray`, since a law speaks of every value of the logic: there a `[u8; 2]` is any list of
+// numbers, and that it has two bytes is known only of one that a function has read.
 #[inline(always)]
 fn hold_pairs<C: Config>(keys: &[C::Key], values: &[C::Value]) {
     for index in 0..keys.len() {
@@ -48,32 +52,27 @@ fn hold_pairs<C: Config>(keys: &[C::Key], values: &[C::Value]) {
 #[inline(always)]
 fn insert_into_new<C: Config>(
     bytes: &mut [u8],
-    slot_count: usize,
-    max_load_factor_percent: u8,
+    percent: Percent,
     keys: &[C::Key],
     values: &[C::Value],
 ) {
     let mut store = BorrowedMut::new(bytes);
-    insert_into_store::<C, BorrowedMut<'_>>(
-        &mut store,
-        slot_count,
-        max_load_factor_percent,
-        keys,
-        values,
-    )
+    insert_into_store::<C, BorrowedMut<'_>>(&mut store, percent, keys, values);
 }
 
-// The same in a store.
+// The same in a store. It is a function of its own since the prover knows what a slice holds after a store of it was
+// lent to a call, and not after the store was moved into a table.
 #[inline(always)]
 fn insert_into_store<C: Config, M: ByteStoreMut>(
     store: &mut M,
-    slot_count: usize,
-    max_load_factor_percent: u8,
+    percent: Percent,
     keys: &[C::Key],
     values: &[C::Value],
 ) {
-    let factor = Factor::from_percent(max_load_factor_percent);
-    make::<C, M>(store, slot_count, factor);
+    let Ok(()) = HashTable::<C, M>::init_store(store, keys.len(), percent.value()) else {
+        // The bytes are as many as the table needs.
+        unreachable!()
+    };
     let mut table = HashTable::<C, &mut M>::from_raw_bytes_unchecked(store);
     let _ = table.insert_items(&Zipped::new(keys, values));
     let _store = table.into_data();

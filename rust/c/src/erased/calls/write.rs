@@ -6,8 +6,8 @@ use crate::erased::calls::status::{status_of, BAD_PERCENT, CAPACITY, OK, REPLACE
 use crate::proved::tables::bytes::ByteStoreMut;
 use crate::proved::tables::config::Config;
 use crate::proved::tables::items::Zipped;
-use crate::proved::tables::load::Factor;
-use crate::proved::tables::{memory_layout, HashTable};
+use crate::proved::tables::load::Percent;
+use crate::proved::tables::HashTable;
 
 /// Writes to `len` how many bytes a new table for so many items has. BAD_PERCENT and CAPACITY leave `len` unchanged.
 pub fn bytes_needed<C: Config>(
@@ -15,10 +15,10 @@ pub fn bytes_needed<C: Config>(
     max_load_factor_percent: u8,
     len: &mut usize,
 ) -> u32 {
-    if max_load_factor_percent < 1 || max_load_factor_percent > 100 {
+    let Some(percent) = Percent::new(max_load_factor_percent) else {
         return BAD_PERCENT;
-    }
-    match crate::proved::tables::bytes_needed::<C>(max_item_count, max_load_factor_percent) {
+    };
+    match crate::proved::tables::bytes_needed::<C>(max_item_count, percent.value()) {
         Some(needed) => {
             *len = needed;
             OK
@@ -34,23 +34,13 @@ pub fn init<C: Config, M: ByteStoreMut>(
     max_item_count: usize,
     max_load_factor_percent: u8,
 ) -> u32 {
-    if max_load_factor_percent < 1 || max_load_factor_percent > 100 {
+    let Some(percent) = Percent::new(max_load_factor_percent) else {
         return BAD_PERCENT;
-    }
-    match HashTable::<C, M>::init_store(store, max_item_count, max_load_factor_percent) {
+    };
+    match HashTable::<C, M>::init_store(store, max_item_count, percent.value()) {
         Ok(()) => OK,
         Err(refused) => status_of(&refused),
     }
-}
-
-/// Makes an empty table of `slot_count` slots in the store, whatever it holds. One pass over the bytes.
-pub(crate) fn make<C: Config, M: ByteStoreMut>(
-    store: &mut M,
-    slot_count: usize,
-    max_load_factor: Factor,
-) {
-    let table = memory_layout::init_in_place::<C, &mut M>(store, slot_count, 0, max_load_factor);
-    let _store = table.into_store();
 }
 
 /// Gives the key this value. A value that it had before is written to `former`. An error leaves the store and `former`

@@ -43,7 +43,7 @@ returns-clause-ok g c =
       table = empty s f;
       new = ap (option_map (λ t. empty t f)) layout.slots;
       image = record {
-        valid = empty-IsValid s f F count (omega (arith, c.requires.low)) (omega (arith, c.requires.high));
+        valid = empty-IsValid s f F count (omega (arith, c.requires.percent.0)) (omega (arith, c.requires.percent.1));
         bytes = (search rules) ∙ c.init_in_place-table.ensures.bytes ∙ ap (λ t. with_count (image F (empty s t)) 0) c.from_percent-factor.ensures ∙ with_count-new F s 0 f count;
       };
     }

@@ -7,7 +7,7 @@
 //!
 //! Written by exports/generate.sh from exports/shape.rt.in: edit that one.
 
-use crate::erased::calls::status::{BAD_LENGTHS, BAD_PERCENT};
+use crate::erased::calls::status::BAD_LENGTHS;
 use crate::erased::calls::view::{self, View};
 use crate::erased::calls::{build, grow, order, read, walk, write};
 use crate::proved::tables::bytes::BorrowedMut;
@@ -291,9 +291,6 @@ pub unsafe extern "C" fn odht_u64_u32_build(
     let out = unsafe { crate::lists::list_mut(out, out_len) };
     if values.len() != keys.len() {
         return BAD_LENGTHS;
-    }
-    if max_load_factor_percent < 1 || max_load_factor_percent > 100 {
-        return BAD_PERCENT;
     }
     build::collected::<Shape>(keys, values, max_load_factor_percent, out, len)
 }
