@@ -1,9 +1,17 @@
 -- What is handed out of a table that was built.
-use Rattle.std.proofs.Common.{◌≡◌, ◌∙◌, ℕ, List, Result, Err, OnErr, ap, subst, refl, arith, length}
+use Rattle.std.proofs.Common.{◌≡◌, ◌∙◌, ◌↔◌, ◌⊎◌, inl, inr, ℕ, List, Result, Err, IsOk, OnErr, sym, ap, subst, refl, arith, length, take}
+use Rattle.std.specs.List.{zip}
+use Rattle.std.proofs.lemmas.List.{take_all}
+use Rattle.odht_base.specs.Insert.{insert_owned}
+use Rattle.odht_base.specs.Table.{Table}
+use Rattle.odht_base.specs.Valid.{IsImage}
+use Rattle.odht_base.proofs.lemmas.Options.{some_same}
 use Rattle.odht_header.specs.Coding.{Coding}
 use Rattle.odht_header.specs.declared.error.Error.{Error}
 use Rattle.odht_header.specs.declared.error.Error.TheVariants.{Memory}
-use Rattle.odht_calls.specs.Builds.{IsHandedOut, BuildGrowingAnswers}
+use Rattle.odht.specs.Inserts.{IsFresh}
+use Rattle.odht.specs.Lists.{encoded_all, IsAfterInserts}
+use Rattle.odht_calls.specs.Builds.{IsHandedOut, IsGrownAfterInserts, BuildGrowingAnswers}
 use Rattle.odht_calls.specs.Statuses.{status_of, done, too_small}
 
 -- another status implies nothing
@@ -29,3 +37,36 @@ refused_growing {R = R} c keys values equal out len s r e is memory by_error =
       built = IsHandedOut-none _ out s out len (λ done. absurd (omega (arith, status, done))) (λ short. absurd (omega (arith, status, short)));
       refused = λ same undone roomy. (status, refl, refl);
     }
+
+-- a table that is handed out once it has grown
+module _ {K V : Type 0} (c : Coding K V) (keys : List K) (values : List V) (equal : length values ≡ length keys) (T : List ℕ) where
+  -- all pairs were inserted into the table that started with sixteen slots
+  pub grown_inserted : (S : List ℕ) (n : ℕ) (answer : Result (Unit {0}) Error) → IsFresh c.format 12 87 S → IsOk answer → IsOk answer ↔ (n ≡ length (zip keys values))
+      → ((P : Table) → IsImage c.format P S → IsAfterInserts c.format (insert_owned c.format) P (encoded_all c (take n (zip keys values))) T) → IsGrownAfterInserts c (zip keys values) T
+  grown_inserted S n answer start ok all inserted P new =
+      let every = all.0 ok in
+      let same : start.table ≡ P = some_same start.table P (sym start.new ∙ new) in
+      subst (λ (xs : List (K × V)). IsAfterInserts c.format (insert_owned c.format) P (encoded_all c xs) T) (take_all n (zip keys values) (omega (arith, every)))
+      (inserted P (subst (λ Q. IsImage c.format Q S) same start.image))
+
+  -- so the call answers with it
+  pub handed_growing : (out : List ℕ) (len s : ℕ) (out' : List ℕ) (len' : ℕ) → IsGrownAfterInserts c (zip keys values) T
+      → IsHandedOut (λ B. B ≡ T) out s out' len' → (s ≡ done) ⊎ (s ≡ too_small) → BuildGrowingAnswers c keys values out len s out' len'
+  handed_growing out len s out' len' is copied status = record {
+    lengths = λ other. absurd (other equal);
+    built = record {
+      built = λ ok. subst IsTable (sym (copied.built ok)) is;
+      fits = copied.fits;
+      rest = copied.rest;
+      needed = λ short. (let there = copied.needed short in (there.0, there.1, subst IsTable (sym there.2) is));
+      too_small = copied.too_small;
+    };
+    refused = λ same undone roomy. absurd (neither undone roomy status);
+  }
+    where
+      IsTable : List ℕ → Type 0
+      IsTable = IsGrownAfterInserts c (zip keys values)
+
+      neither : (s ≡ done → ⊥) → (s ≡ too_small → ⊥) → (s ≡ done) ⊎ (s ≡ too_small) → ⊥
+      neither undone roomy (inl ok) = undone ok
+      neither undone roomy (inr short) = roomy short
