@@ -1,10 +1,12 @@
 -- Lookups of many keys, with the answers in two arrays.
-use Rattle.std.proofs.Common.{◌≡◌, ◌<◌, ◌≤◌, ◌∙◌, ap, arith, ℕ, List, Option, Some, None, IfSome, length, min, set, slice_get}
+use Rattle.std.proofs.Common.{◌≡◌, ◌<◌, ◌≤◌, ◌∙◌, ap, refl, subst, arith, ℕ, List, Option, Some, None, IfSome, length, min, set, slice_get}
 use Rattle.std.proofs.Math.Nat.{le-min, min-le_left, min-le_right}
 use Rattle.std.proofs.lemmas.List.{length-set}
 use Rattle.std.proofs.lemmas.Option.{slice_get_within}
 use Rattle.odht_base.specs.Format.{Format}
 use Rattle.odht_base.specs.Decoded.{Stores, entries_of, header_slots}
+use Rattle.odht_base.specs.Table.{Table}
+use Rattle.odht_base.specs.Valid.{IsImage, IsPartsOf}
 use Rattle.odht_header.specs.Coding.{Coding}
 use Rattle.odht_raw.specs.Parts.{EntryBytes, TableParts}
 use Rattle.odht_raw.specs.SearchEnds.{IsBesideKey}
@@ -13,6 +15,8 @@ use Rattle.odht.proofs.lemmas.Lookups.{slice_get-set_same, slice_get-set_other, 
 use Rattle.odht_calls.specs.declared.lookups.Arrays.{Arrays}
 use Rattle.odht_calls.specs.Lookups.{flag_of, with_found}
 use Rattle.odht_calls.specs.Reads.{IsGotAt}
+use Rattle.odht_calls.specs.Statuses.{done}
+use Rattle.odht_calls.specs.Views.{ViewGetAllAnswers}
 
 -- what is found beside a key in the entries of bytes is stored in them
 pub stored_answer : {V : Type 0} (F : Format) (f : List ℕ → V) (B k : List ℕ) (E : EntryBytes) (o : Option V) → E.bytes ≡ entries_of F B → E.slots ≡ header_slots B
@@ -63,3 +67,22 @@ puts-got c T ks s s' all lv lf i k key =
     let known = puts-at c T ks put (λ s. min (length s.values.now) (length s.found.now)) (λ s. at_index s.values.now s.found.now) after_answer
     (λ s. fits s.values.now s.found.now) (λ s. here s.values.now s.found.now) (λ s. there s.values.now s.found.now) s s' (length ks) i k all (le-min lv lf) (slice_get_within ks i k key) key in
     (known.0, got known.0 s.values.now s'.values.now s.found.now s'.found.now i known.1, known.2)
+
+-- so that is what the call answers, of the parts T of the bytes B
+pub got_all : {K V : Type 0} (c : Coding K V) (B : List ℕ) (T : TableParts) (ks : List K) (s s' : Arrays V) → ArePut c T ks put s s' (length ks)
+    → length s.values.now ≡ length ks → length s.found.now ≡ length ks
+    → ((P : Table) → IsImage c.format P B → IsPartsOf c.format P T.entries.bytes T.control) → T.entries.bytes ≡ entries_of c.format B → T.entries.slots ≡ header_slots B
+    → ViewGetAllAnswers c B ks s.values.now s.found.now done s'.values.now s'.found.now
+got_all {K = K} {V = V} c B T ks s s' all lv lf parts entries slots = record {
+  lengths = λ other. absurd (other (lv, lf));
+  looked_up = λ long. refl;
+  on_valid = λ P i k long is key. (
+      let this = got i k key in
+      subst (λ o. IsGotAt o (slice_get s.values.now i) (slice_get s'.found.now i) (slice_get s'.values.now i)) (this.2.on_placed P (parts P is)) this.1);
+  on_any = λ i k long key. (
+      let this = got i k key in
+      (this.0, this.1, stored_answer c.format c.value_of B (c.key_bytes k) T.entries this.0 entries slots this.2.on_any));
+}
+  where
+    got : (i : ℕ) (k : K) → slice_get ks i ≡ Some k → (o : Option V) × IsGotAt o (slice_get s.values.now i) (slice_get s'.found.now i) (slice_get s'.values.now i) × IsLookup c T k o
+    got = puts-got c T ks s s' all (omega (arith, lv)) (omega (arith, lf))
