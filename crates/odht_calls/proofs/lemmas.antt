@@ -14,7 +14,7 @@ pub mod Made
 pub mod Sizes
 -- iterators that are called until they end
 pub mod Drained
--- tables that are handed out, and what the call answers that builds a growing one
+-- tables that are handed out, and what the two calls answer that build one
 pub mod HandedOut
 -- walks into arrays
 pub mod Walked

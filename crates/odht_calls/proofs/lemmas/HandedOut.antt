@@ -1,18 +1,20 @@
 -- What is handed out of a table that was built.
-use Rattle.std.proofs.Common.{◌≡◌, ◌∙◌, ◌↔◌, ◌⊎◌, inl, inr, ℕ, List, Result, Err, IsOk, OnErr, sym, ap, subst, refl, arith, length, take}
+use Rattle.std.proofs.Common.{◌≡◌, ◌<◌, ◌≤◌, ◌∙◌, ◌++◌, ◌↔◌, ◌⊎◌, inl, inr, ℕ, List, Result, Err, IsOk, OnErr, sym, ap, subst, refl, arith, length, take, drop, take_at, drop_at}
 use Rattle.std.specs.List.{zip}
 use Rattle.std.proofs.lemmas.List.{take_all}
 use Rattle.odht_base.specs.Insert.{insert_owned}
+use Rattle.odht_base.specs.Load.{factor_of, IsPercent}
 use Rattle.odht_base.specs.Table.{Table}
 use Rattle.odht_base.specs.Valid.{IsImage}
 use Rattle.odht_base.proofs.lemmas.Options.{some_same}
 use Rattle.odht_header.specs.Coding.{Coding}
+use Rattle.odht_header.specs.Refusals.{IsTooLarge}
 use Rattle.odht_header.specs.declared.error.Error.{Error}
-use Rattle.odht_header.specs.declared.error.Error.TheVariants.{Memory}
+use Rattle.odht_header.specs.declared.error.Error.TheVariants.{Memory, Capacity}
 use Rattle.odht.specs.Inserts.{IsFresh}
-use Rattle.odht.specs.Lists.{encoded_all, IsAfterInserts}
-use Rattle.odht_calls.specs.Builds.{IsHandedOut, IsGrownAfterInserts, BuildGrowingAnswers}
-use Rattle.odht_calls.specs.Statuses.{status_of, done, too_small}
+use Rattle.odht.specs.Lists.{encoded_all, IsAfterInserts, IsFreshAfterInserts}
+use Rattle.odht_calls.specs.Builds.{IsHandedOut, IsGrownAfterInserts, BuildAnswers, BuildGrowingAnswers}
+use Rattle.odht_calls.specs.Statuses.{status_of, done, bad_percent, too_small}
 
 -- another status implies nothing
 pub IsHandedOut-none : (IsTable : List ℕ → Type 0) (out : List ℕ) (s : ℕ) (out' : List ℕ) (len' : ℕ) → (s ≡ done → ⊥) → (s ≡ too_small → ⊥)
@@ -70,3 +72,58 @@ module _ {K V : Type 0} (c : Coding K V) (keys : List K) (values : List V) (equa
       neither : (s ≡ done → ⊥) → (s ≡ too_small → ⊥) → (s ≡ done) ⊎ (s ≡ too_small) → ⊥
       neither undone roomy (inl ok) = undone ok
       neither undone roomy (inr short) = roomy short
+
+-- a table that is built in the bytes of the caller
+module _ {K V : Type 0} (c : Coding K V) (keys : List K) (values : List V) (p : ℕ) (equal : length values ≡ length keys) (out : List ℕ) (len : ℕ) where
+  -- at no percentage
+  pub bad_build : (IsPercent p → ⊥) → BuildAnswers c keys values p out len bad_percent out len
+  bad_build none = record {
+    lengths = λ other. absurd (other equal);
+    percent = λ long other. (refl, refl, refl);
+    built = IsHandedOut-none _ out bad_percent out len (λ is. absurd (omega (arith, is))) (λ is. absurd (omega (arith, is)));
+    refused = λ long ok undone roomy. absurd (none ok);
+    capacity = λ is. absurd (omega (arith, is));
+  }
+
+  module _ (within : IsPercent p) where
+    -- where none is large enough
+    pub large_build : IsTooLarge c.format (length keys) (factor_of p) → BuildAnswers c keys values p out len (status_of Capacity) out len
+    large_build large = record {
+      lengths = λ other. absurd (other equal);
+      percent = λ long other. absurd (other within);
+      built = IsHandedOut-none _ out (status_of Capacity) out len (λ is. absurd (omega (arith, is))) (λ is. absurd (omega (arith, is)));
+      refused = λ long ok undone roomy. (refl, refl, refl);
+      capacity = λ is. large;
+    }
+
+    -- where the bytes are too few for the n bytes of such a table
+    pub short_build : (n : ℕ) → length out < n → (B : List ℕ) → length B ≡ n → IsFreshAfterInserts c p (zip keys values) B → BuildAnswers c keys values p out len too_small out n
+    short_build n less B long is = record {
+      lengths = λ other. absurd (other equal);
+      percent = λ long other. absurd (other within);
+      built = record {
+        built = λ ok. absurd (omega (arith, ok));
+        fits = λ ok. absurd (omega (arith, ok));
+        rest = λ ok. absurd (omega (arith, ok));
+        needed = λ short. (B, long, is);
+        too_small = λ short. (less, refl);
+      };
+      refused = λ long ok undone roomy. absurd (roomy refl);
+      capacity = λ is. absurd (omega (arith, is));
+    }
+
+    -- and where they are enough
+    pub done_build : (T : List ℕ) (n : ℕ) → length T ≡ n → n ≤ length out → IsFreshAfterInserts c p (zip keys values) T → BuildAnswers c keys values p out len done (T ++ drop n out) n
+    done_build T n long fits is = record {
+      lengths = λ other. absurd (other equal);
+      percent = λ long other. absurd (other within);
+      built = record {
+        built = λ ok. subst (IsFreshAfterInserts c p (zip keys values)) (sym (take_at T (drop n out) n long)) is;
+        fits = λ ok. fits;
+        rest = λ ok. drop_at T (drop n out) n long;
+        needed = λ short. absurd (omega (arith, short));
+        too_small = λ short. absurd (omega (arith, short));
+      };
+      refused = λ long ok undone roomy. absurd (undone refl);
+      capacity = λ is. absurd (omega (arith, is));
+    }
