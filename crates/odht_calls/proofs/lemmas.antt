@@ -8,7 +8,7 @@ pub mod Got
 pub mod Statuses
 -- the status of an error
 pub mod Refused
--- what the call for a new table answers
+-- what the calls for a new table and for its length answer
 pub mod Made
 -- the numbers in a header
 pub mod Sizes

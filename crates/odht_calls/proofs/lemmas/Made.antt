@@ -1,13 +1,41 @@
--- What the call for a new table answers, of p percent; q is the same percentage once it was tested.
-use Rattle.std.proofs.Common.{◌≡◌, ◌∙◌, ℕ, List, sym, subst, refl, length, Some, None}
-use Rattle.odht_base.specs.Load.{factor_of, IsPercent}
+-- What the calls for a new table and for its length answer, at p percent; q is the same percentage once it was tested.
+use Rattle.std.proofs.Common.{◌≡◌, ◌<◌, ◌^◌, ◌∙◌, ℕ, List, sym, ap, subst, refl, arith, length, Some, None}
+use Rattle.odht_base.specs.Image.{image_len}
+use Rattle.odht_base.specs.Load.{factor_of, slots_for, IsPercent}
+use Rattle.odht_base.proofs.lemmas.Options.{some_same}
 use Rattle.odht_header.specs.Coding.{Coding}
-use Rattle.odht_header.specs.Refusals.{new_refusal}
+use Rattle.odht_header.specs.Refusals.{IsTooLarge, new_refusal}
 use Rattle.odht_header.specs.declared.error.Error.{Error}
+use Rattle.odht_header.specs.declared.error.Error.TheVariants.{Capacity}
 use Rattle.odht.specs.Inserts.{IsFresh}
-use Rattle.odht_calls.specs.Statuses.{status_of, done}
-use Rattle.odht_calls.specs.Writes.{InitAnswers}
+use Rattle.odht_calls.specs.Statuses.{status_of, done, bad_percent}
+use Rattle.odht_calls.specs.Writes.{BytesNeededAnswers, InitAnswers}
 use Rattle.odht_calls.proofs.lemmas.Refused.{known, not_none}
+
+-- no length at no percentage
+pub bad_needed : {K V : Type 0} (c : Coding K V) (m p old : ℕ) → (IsPercent p → ⊥) → BytesNeededAnswers c m p old bad_percent old
+bad_needed c m p old none = record {
+  percent = λ other. (refl, refl);
+  needed = λ slots ok is fits. absurd (none ok);
+  capacity = λ ok large. absurd (none ok);
+}
+
+module _ {K V : Type 0} (c : Coding K V) (m p q old : ℕ) (same : q ≡ p) (within : IsPercent q) where
+  -- the length of so many slots
+  pub some_needed : (slots n : ℕ) → slots_for m (factor_of q) ≡ Some slots → n ≡ image_len c.format slots → n < 2 ^ 64 → BytesNeededAnswers c m p old done n
+  some_needed slots n is long fits = subst (λ x. BytesNeededAnswers c m x old done n) same (record {
+    percent = λ other. absurd (other within);
+    needed = λ other ok there low. (refl, long ∙ ap (image_len c.format) (some_same slots other (sym is ∙ there)));
+    capacity = λ ok large. absurd (let least = large slots is in omega (arith, least, long, fits));
+  })
+
+  -- and where none is large enough
+  pub large_needed : IsTooLarge c.format m (factor_of q) → BytesNeededAnswers c m p old (status_of Capacity) old
+  large_needed large = subst (λ x. BytesNeededAnswers c m x old (status_of Capacity) old) same (record {
+    percent = λ other. absurd (other within);
+    needed = λ other ok there low. absurd (let least = large other there in omega (arith, least, low));
+    capacity = λ ok known. (refl, refl);
+  })
 
 module _ {K V : Type 0} (c : Coding K V) (m p q : ℕ) (B B' : List ℕ) (same : q ≡ p) (within : IsPercent q) where
   -- where there is no error

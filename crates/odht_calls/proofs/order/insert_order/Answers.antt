@@ -7,7 +7,7 @@ use Rattle.odht_header.specs.Refusals.{opening_refusal, check_refusal}
 use Rattle.odht_raw.specs.Waiting.{AreWholeParts}
 use Rattle.odht_raw.proofs.lemmas.Accepted.{IsAccepted-IsValidBytes}
 use Rattle.odht_header.proofs.lemmas.FirstErrors.{Ok-checked, Err-checked}
-use Rattle.odht_calls.proofs.lemmas.Ordered.{refused_order, done_order, unmade_order}
+use Rattle.odht_calls.proofs.lemmas.Ordered.{refused_order, lengths_order, done_order, unmade_order}
 use Rattle.odht_calls.proofs.order.insert_order.Given.{Over}
 use Rattle.odht_calls.proofs.order.insert_order.Goals.{After-insert_order}
 use Rattle.odht_calls.proofs.order.insert_order.Goals as goal
@@ -21,6 +21,14 @@ returns-in-Err g c = refused_order _ _ _ c.in-Err.refused _ (Err-checked _ c.in-
 pub from_raw_bytes_unchecked-table-requires-after_bounds : goal.from_raw_bytes_unchecked-table-requires-after_bounds
 from_raw_bytes_unchecked-table-requires-after_bounds g c κs within =
     ap (opening_refusal (format g)) c.new.ensures ∙ IsAccepted-IsValidBytes (format g) c.args.bytes.now (c.in_default.ensures.valid.0 refl)
+
+pub returns-then-out-len : goal.returns-then-out-len
+returns-then-out-len g c =
+    let F = format g in
+    let read = c.from_raw_bytes_unchecked-table.result.0.now in
+    let same : c.args.bytes.now ≡ read = sym (ap (λ t. t.0.now) c.from_raw_bytes_unchecked-table.ensures ∙ c.new.ensures) in
+    lengths_order _ _ _ (Ok-checked _ c.in_default.ensures.first)
+    (λ P is long. c.if-out-len.true (long ∙ sym (c.len.ensures.on_valid P (subst (IsImage F P) same is))))
 
 -- the raw table that the call reads
 module _ (g : Over) (c : After-insert_order g) where
