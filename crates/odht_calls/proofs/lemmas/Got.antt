@@ -56,7 +56,7 @@ got None vs vs' fs fs' i e = (ap (λ x. x.1) e, ap (λ x. x.0) e)
 got (Some v) vs vs' fs fs' i e = (ap (λ x. x.1) e, ap (λ x. x.0) e)
 
 -- arrays after an answer was put
-abbrev put : {V : Type 0} → Arrays V → ℕ → Option V → Arrays V
+abbrev pub put : {V : Type 0} → Arrays V → ℕ → Option V → Arrays V
 put s i o = record s { values = record s.values { now = with_found s.values.now i o }; found = record s.found { now = set s.found.now i (flag_of o) } }
 
 -- the answers of all keys were put

@@ -1,11 +1,25 @@
-use Rattle.std.proofs.Common.{rules, refl}
+use Rattle.std.proofs.Common.{rules, length, refl}
 use Rattle.odht.proofs.lemmas.Lookups.{puts-same}
-use Rattle.odht_calls.proofs.lemmas.Got.{got_all}
+use Rattle.odht_header.specs.Coding.{Coding, coding_of}
+use Rattle.odht_calls.proofs.lemmas.Got.{put, got_all}
+use Rattle.odht_calls.proofs.view.get_all.Given.{Over}
 use Rattle.odht_calls.proofs.view.get_all.Goals as goal
+
+-- the coding of the configuration
+abbrev coding : (g : Over) → Coding g.row.C-Key.Denot g.row.C-Value.Denot
+coding g =
+    let key = g.C.EncodedKey.ByteArray in
+    let value = g.C.EncodedValue.ByteArray in
+    coding_of key.LEN key.bytes key.of_bytes value.LEN value.bytes value.of_bytes g.C.H.HashFn.hash
+    g.C.Config.encode_key g.C.Config.encode_value g.C.Config.decode_key g.C.Config.decode_value
 
 pub returns : goal.returns
 returns g c =
-    let values = puts-same _ _ _ _ (λ s. s.values.ghost_name) (λ s i o. refl) _ _ _ c.get_all.ensures in
-    let found = puts-same _ _ _ _ (λ s. s.found.ghost_name) (λ s i o. refl) _ _ _ c.get_all.ensures in
-    let answers = got_all _ c.args.table.now.0.now _ _ _ _ c.get_all.ensures c.requires.values c.requires.found c.as_raw-raw.ensures.parts c.as_raw-raw.ensures.entries c.as_raw-raw.ensures.slots in
+    let K = coding g in
+    let T = c.as_raw-raw.result in
+    let keys = c.args.keys.now in
+    let last = c.get_all.new.answers in
+    let values = puts-same K T keys put (λ s. s.values.ghost_name) (λ s i o. refl) _ last (length keys) c.get_all.ensures in
+    let found = puts-same K T keys put (λ s. s.found.ghost_name) (λ s i o. refl) _ last (length keys) c.get_all.ensures in
+    let answers = got_all K c.args.table.now.0.now T keys _ last c.get_all.ensures c.requires.values c.requires.found c.as_raw-raw.ensures.parts c.as_raw-raw.ensures.entries c.as_raw-raw.ensures.slots in
     search (rules, values, found, answers)
