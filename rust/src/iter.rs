@@ -23,7 +23,7 @@ impl<'a, C: Config> Iter<'a, C> {
     #[inline]
     pub(crate) fn of(bytes: &'a [u8]) -> Self {
         let (control, entries) = parts::<C>(bytes);
-        Iter(tables::Iter::new(RawIter::new(control, entries)))
+        Iter(tables::Iter { raw: RawIter::new(control, entries) })
     }
 
     /// How many slots of the table of these bytes are occupied. No key and no value is decoded.
@@ -38,7 +38,7 @@ impl<'a, C: Config> Slots<'a, C> {
     #[inline]
     pub(crate) fn of(bytes: &'a [u8], from: usize) -> Self {
         let (control, entries) = parts::<C>(bytes);
-        Slots(tables::Slots::new(RawSlots::new(control, entries, from)))
+        Slots(tables::Slots { raw: RawSlots::new(control, entries, from) })
     }
 }
 

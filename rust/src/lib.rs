@@ -22,7 +22,8 @@ mod view;
     clippy::collapsible_if,
     clippy::manual_map,
     clippy::module_inception,
-    clippy::needless_range_loop
+    clippy::needless_range_loop,
+    clippy::question_mark
 )]
 #[cfg_attr(not(feature = "fast"), forbid(unsafe_code))]
 #[cfg_attr(feature = "fast", allow(unsafe_code))]

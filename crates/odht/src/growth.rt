@@ -41,8 +41,10 @@ impl<C: Config, D: ByteStore> HashTable<C, D> {
             → IsImage F P (D.bytes self.now)
             → result ≡ table_len F (grown_slots P) }
     {
-        let (_, len) = grown_layout::<C>(&self.allocation().header())?;
-        Some(len)
+        match grown_layout::<C>(&self.allocation.header()) {
+            Some((_, len)) => Some(len),
+            None => None,
+        }
     }
 
     /// Writes the table that this one grows into to `out`, whatever its bytes were. `out` has [`HashTable::grown_len`]
@@ -64,7 +66,7 @@ impl<C: Config, D: ByteStore> HashTable<C, D> {
         ensures count { header_count out.new ≡ header_count (D.bytes self.now) }
         ensures factor { header_factor out.new ≡ header_factor (D.bytes self.now) }
     {
-        let Some((slot_count, _)) = grown_layout::<C>(&self.allocation().header()) else {
+        let Some((slot_count, _)) = grown_layout::<C>(&self.allocation.header()) else {
             // `out` has the length of the grown table.
             unreachable!()
         };
@@ -82,7 +84,9 @@ pub(crate) fn grown_layout<C: Config>(header: &Header<'_>) -> Option<(usize, usi
         (λ l. IsLayout F (max 1 (2 * header_count B)) (header_factor B) l.0 l.1) }
 {
     let factor = header.max_load_factor();
-    let twice = header.item_count().checked_mul(2)?;
+    let Some(twice) = header.item_count().checked_mul(2) else {
+        return None;
+    };
     if factor.0 == 0 {
         return None;
     }
@@ -107,10 +111,10 @@ pub(crate) fn write_grown<C: Config, D: ByteStore>(
     ensures count { header_count out.new ≡ header_count (D.bytes table.now) }
     ensures factor { header_factor out.new ≡ header_factor (D.bytes table.now) }
 {
-    let header = table.allocation().header();
+    let header = table.allocation.header();
     let item_count = header.item_count();
     let factor = header.max_load_factor();
-    let (control, entries) = table.allocation().data_slices();
+    let (control, entries) = table.allocation.data_slices();
     let walk = RawIter::new(control, entries);
     write_table::<C>(out, slot_count, item_count, factor, walk);
 }

@@ -77,8 +77,10 @@ impl<C: Config, D: ByteStore> HashTable<C, D> {
         ensures valid { (P : Table) → IsImage ⟦<C as Coded>⟧.coding.format P (D.bytes «data»)
             → IsOk result }
     {
-        let allocation = Allocation::from_raw_bytes(data)?;
-        Ok(HashTable { allocation })
+        match Allocation::from_raw_bytes(data) {
+            Ok(allocation) => Ok(HashTable { allocation }),
+            Err(refused) => Err(refused),
+        }
     }
 
     /// Opens bytes as a table by their header and their length alone, or returns the first error: of too few bytes, of
@@ -93,8 +95,10 @@ impl<C: Config, D: ByteStore> HashTable<C, D> {
         ensures err { result_err result
             ≡ opening_refusal ⟦<C as Coded>⟧.coding.format (D.bytes «data») }
     {
-        let allocation = Allocation::from_raw_bytes_by_header(data)?;
-        Ok(HashTable { allocation })
+        match Allocation::from_raw_bytes_by_header(data) {
+            Ok(allocation) => Ok(HashTable { allocation }),
+            Err(refused) => Err(refused),
+        }
     }
 
     /// Takes the bytes as those of a table, without a check: the caller knows that their header and length fit.
@@ -164,7 +168,9 @@ impl<C: Config, D: ByteStore> HashTable<C, D> {
         ensures few { length result ≤ usize.MAX }
     {
         let (control, entries) = self.allocation.data_slices();
-        Iter::new(RawIter::new(control, entries))
+        Iter {
+            raw: RawIter::new(control, entries),
+        }
     }
 
     /// The item count of the header. On valid bytes it is the number of items.
@@ -223,22 +229,6 @@ impl<C: Config, D: ByteStore> HashTable<C, D> {
     {
         let (control, entries) = self.allocation.data_slices();
         RawTable::new(control, entries)
-    }
-
-    /// The bytes and their parts.
-    #[inline]
-    pub(crate) fn allocation(&self) -> &Allocation<C, D>
-        ensures { result.now ≡ self.now }
-    {
-        &self.allocation
-    }
-
-    /// The table of these bytes.
-    #[inline]
-    pub(crate) fn from_allocation(allocation: Allocation<C, D>) -> Self
-        ensures { result ≡ allocation }
-    {
-        HashTable { allocation }
     }
 }
 

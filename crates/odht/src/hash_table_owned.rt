@@ -191,7 +191,9 @@ impl<C: Config> HashTableOwned<C> {
         ensures memory { IsValidBytes ⟦<C as Coded>⟧.coding.format raw_bytes.now
             → OnErr result (result ≡ Err Error.Memory) }
     {
-        memory_layout::check_all::<C>(raw_bytes)?;
+        if let Err(refused) = memory_layout::check_all::<C>(raw_bytes) {
+            return Err(refused);
+        }
         Self::from_raw_bytes_unchecked(alloc, raw_bytes)
     }
 
@@ -203,11 +205,11 @@ impl<C: Config> HashTableOwned<C> {
         ensures ok { IfOk result (λ t. t ≡ raw_bytes.now) }
         ensures memory { OnErr result (result ≡ Err Error.Memory) }
     {
-        let bytes = OwnedBytes::new(raw_bytes.to_vec(alloc)?);
-        Ok(HashTableOwned {
-            table: HashTable::from_raw_bytes_unchecked(bytes),
-            alloc,
-        })
+        let Ok(bytes) = raw_bytes.to_vec(alloc) else {
+            return Err(Error::Memory);
+        };
+        let table = HashTable::from_raw_bytes_unchecked(OwnedBytes::new(bytes));
+        Ok(HashTableOwned { table, alloc })
     }
 
     /// A table of the same bytes.
@@ -244,8 +246,8 @@ impl<C: Config> HashTableOwned<C> {
     {
         match self.table.insert(key, value) {
             Ok(old) => Ok(old),
-            Err(Error::Full) => self.insert_grown(key, value),
-            Err(refused) => Err(refused),
+            // The error is `Full`: the table is at its maximum, and the key is absent.
+            Err(_) => self.insert_grown(key, value),
         }
     }
 
@@ -261,7 +263,9 @@ impl<C: Config> HashTableOwned<C> {
         ensures memory { OnErr result (result ≡ Err Error.Memory) }
         ensures refused { OnErr result (self.new ≡ self.old) }
     {
-        let mut grown = self.grown()?;
+        let Ok(mut grown) = self.grown() else {
+            return Err(Error::Memory);
+        };
         let Ok(old) = grown.insert(key, value) else {
             // The grown table is below its maximum.
             unreachable!()
@@ -280,10 +284,12 @@ impl<C: Config> HashTableOwned<C> {
             → IfOk result (IsGrownImage F P) }
         ensures memory { OnErr result (result ≡ Err Error.Memory) }
     {
-        let Some((slot_count, len)) = grown_layout::<C>(&self.table.allocation().header()) else {
+        let Some((slot_count, len)) = grown_layout::<C>(&self.table.allocation.header()) else {
             return Err(Error::Memory);
         };
-        let mut bytes = vec![in self.alloc; 0; len]?;
+        let Ok(mut bytes) = vec![in self.alloc; 0; len] else {
+            return Err(Error::Memory);
+        };
         write_grown(&self.table, slot_count, bytes.as_mut_slice());
         Ok(HashTable::from_raw_bytes_unchecked(OwnedBytes::new(bytes)))
     }
@@ -307,6 +313,8 @@ fn empty_table<C: Config>(
     let Some(slot_count) = slots_needed(max_item_count, max_load_factor) else {
         return Err(Error::Capacity);
     };
-    let allocation = memory_layout::allocate(alloc, slot_count, 0, max_load_factor)?;
-    Ok(HashTable::from_allocation(allocation))
+    match memory_layout::allocate(alloc, slot_count, 0, max_load_factor) {
+        Ok(allocation) => Ok(HashTable { allocation }),
+        Err(refused) => Err(refused),
+    }
 }

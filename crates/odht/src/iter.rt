@@ -1,7 +1,5 @@
 //! A walk over the pairs of a table.
-ghost use Rattle.std.specs.Prelude.{◌≡◌, length};
 ghost use Rattle.std.specs.Iterator.{YieldsFirst, item_count};
-ghost use Rattle.odht_raw.specs.Walks.{decoded_items, decoded_numbered};
 
 use crate::config::Config;
 use crate::raw_table::{RawIter, RawSlots};
@@ -13,7 +11,7 @@ use std::marker::Model;
 /// A contract speaks of it as of the list of the pairs that are left. A whole walk reads each control byte once.
 #[derive(Drop)]
 pub struct Iter<'a, C: Config> {
-    raw: RawIter<'a, C::EncodedKey, C::EncodedValue>,
+    pub(crate) raw: RawIter<'a, C::EncodedKey, C::EncodedValue>,
 }
 
 impl<'a, C: Config> Model for Iter<'a, C> {
@@ -25,17 +23,6 @@ impl<'a, C: Config> Model for Iter<'a, C> {
     ghost view = { λ it. decoded_items C.decode_key C.decode_value it.raw };
 }
 
-impl<'a, C: Config> Iter<'a, C> {
-    /// The pairs of what is left of a raw walk.
-    #[inline]
-    pub(crate) fn new(raw: RawIter<'a, C::EncodedKey, C::EncodedValue>) -> Self
-        ensures items { result ≡ decoded_items C.decode_key C.decode_value raw.entry }
-        ensures few { length result ≡ length raw.entry }
-    {
-        Iter { raw }
-    }
-}
-
 impl<'a, C: Config> Iterator for Iter<'a, C> {
     type Item = (C::Key, C::Value);
 
@@ -45,8 +32,10 @@ impl<'a, C: Config> Iterator for Iter<'a, C> {
 
     #[inline(always)]
     fn next(&mut self) -> Option<(C::Key, C::Value)> {
-        let (_, entry) = self.raw.next()?;
-        Some((C::decode_key(&entry.key), C::decode_value(&entry.value)))
+        match self.raw.next() {
+            Some((_, entry)) => Some((C::decode_key(&entry.key), C::decode_value(&entry.value))),
+            None => None,
+        }
     }
 }
 
@@ -58,7 +47,7 @@ impl<'a, C: Config> FusedIterator for Iter<'a, C> {}
 /// A contract speaks of it as of the list of the slots that are left. A whole walk reads each control byte once.
 #[derive(Drop)]
 pub struct Slots<'a, C: Config> {
-    raw: RawSlots<'a, C::EncodedKey, C::EncodedValue>,
+    pub(crate) raw: RawSlots<'a, C::EncodedKey, C::EncodedValue>,
 }
 
 impl<'a, C: Config> Model for Slots<'a, C> {
@@ -70,17 +59,6 @@ impl<'a, C: Config> Model for Slots<'a, C> {
     ghost view = { λ it. decoded_numbered C.decode_key C.decode_value it.raw };
 }
 
-impl<'a, C: Config> Slots<'a, C> {
-    /// The pairs of what is left of a raw walk.
-    #[inline]
-    pub(crate) fn new(raw: RawSlots<'a, C::EncodedKey, C::EncodedValue>) -> Self
-        ensures items { result ≡ decoded_numbered C.decode_key C.decode_value raw.entry }
-        ensures few { length result ≡ length raw.entry }
-    {
-        Slots { raw }
-    }
-}
-
 impl<'a, C: Config> Iterator for Slots<'a, C> {
     type Item = (usize, (C::Key, C::Value));
 
@@ -90,11 +68,13 @@ impl<'a, C: Config> Iterator for Slots<'a, C> {
 
     #[inline(always)]
     fn next(&mut self) -> Option<(usize, (C::Key, C::Value))> {
-        let (slot, (_, entry)) = self.raw.next()?;
-        Some((
-            slot,
-            (C::decode_key(&entry.key), C::decode_value(&entry.value)),
-        ))
+        match self.raw.next() {
+            Some((slot, (_, entry))) => Some((
+                slot,
+                (C::decode_key(&entry.key), C::decode_value(&entry.value)),
+            )),
+            None => None,
+        }
     }
 }
 

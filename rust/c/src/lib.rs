@@ -15,7 +15,8 @@ mod lists;
     clippy::collapsible_if,
     clippy::manual_map,
     clippy::module_inception,
-    clippy::needless_range_loop
+    clippy::needless_range_loop,
+    clippy::question_mark
 )]
 #[path = "../../src/proved"]
 mod proved {

@@ -100,6 +100,24 @@ module _ {K V : Type 0} (c : Coding K V) (T : TableParts) (ks : List K) (os : Li
       let same : got.0 ≡ Some v = some_same got.0 (Some v) (sym got.1 ∙ found) in
       stored_beside c.format c.value_of B (c.key_bytes k) T.entries v es s (subst (λ o. IfSome o (IsBesideKey c.format c.value_of T.entries (c.key_bytes k))) same got.2.on_any)
 
+-- the answers of all keys in a slice of as many places: it is still the same loan, in a placed table they are its
+-- values, and in the parts of any bytes they are stored there
+pub record AreAnswered {K V : Type 0} (c : Coding K V) (T : TableParts) (ks : List K) (s s' : InSlice (Option V)) : Type 0 where
+  pub loan : s'.answers.ghost_name ≡ s.answers.ghost_name
+  pub values : (P : Table) → IsPartsOf c.format P T.entries.bytes T.control → s'.answers.now ≡ map (value_for c P) ks
+  pub stored : (B : List ℕ) → T.entries.bytes ≡ entries_of c.format B → T.entries.slots ≡ header_slots B → HaveStored c B ks s'.answers.now
+
+pub puts-answered : {K V : Type 0} (c : Coding K V) (T : TableParts) (ks : List K) (s s' : InSlice (Option V)) → ArePut c T ks put s s' (length ks) → length s.answers.now ≡ length ks
+    → AreAnswered c T ks s s'
+puts-answered c T ks s s' all fit =
+    let long = puts-same c T ks put (λ s. length s.answers.now) (λ s. length-set s.answers.now) s s' (length ks) all ∙ fit in
+    let known = puts-listed c T ks s s' all (omega (arith, fit)) in
+    record {
+      loan = puts-same c T ks put (λ s. s.answers.ghost_name) (λ s i o. refl) s s' (length ks) all;
+      values = lookups-values c T ks s'.answers.now known long;
+      stored = lookups-stored c T ks s'.answers.now known;
+    }
+
 -- eight steps in turn, each from one number to the next
 pub eight_steps : {X : Type 0} (R : X → ℕ → Type 0) (n : ℕ) (a b c d e f g h i : X) → (R a n → R b (n + 1)) → (R b (n + 1) → R c (n + 1 + 1)) → (R c (n + 2) → R d (n + 2 + 1)) → (R d (n + 3) → R e (n + 3 + 1))
     → (R e (n + 4) → R f (n + 4 + 1)) → (R f (n + 5) → R g (n + 5 + 1)) → (R g (n + 6) → R h (n + 6 + 1)) → (R h (n + 7) → R i (n + 7 + 1)) → R a n → R i (n + 8)
@@ -116,3 +134,20 @@ eight_steps R n a b c d e f g h i first second third fourth fifth sixth seventh 
 pub option_map-twice : {X Y Z : Type 0} (f : X → Y) (h : Y → Z) (o : Option X) → option_map h (option_map f o) ≡ option_map (λ x. h (f x)) o
 option_map-twice f h None = refl
 option_map-twice f h (Some x) = refl
+
+-- ---- a lookup that decodes what is found
+module _ {X V : Type 0} (of : List ℕ → X) (decode : X → V) (o : Option X) where
+  -- of the bytes that a map has, a value that is found is the one that they decode to
+  pub decoded_value : (m : Option (List ℕ)) (x : X) (v : V) → o ≡ option_map of m → o ≡ Some x → v ≡ decode x → Some v ≡ option_map (λ b. decode (of b)) m
+  decoded_value m x v found is value = ap Some value ∙ ap (option_map decode) (sym is ∙ found) ∙ option_map-twice of decode m
+
+  -- and where none is found the map has none
+  pub decoded_none : (m : Option (List ℕ)) → o ≡ option_map of m → o ≡ None → None ≡ option_map (λ b. decode (of b)) m
+  decoded_none m found is = ap (option_map decode) (sym is ∙ found) ∙ option_map-twice of decode m
+
+  -- in any bytes it is decoded from what is stored with the key
+  pub decoded_stored : (F : Format) (B k q : List ℕ) (E : EntryBytes) (x : X) (v : V) → E.bytes ≡ entries_of F B → E.slots ≡ header_slots B → IfSome o (IsBesideKey F of E k) → k ≡ q → o ≡ Some x → v ≡ decode x
+      → (b : List ℕ) × (v ≡ decode (of b)) × Stores F B q b
+  decoded_stored F B k q E x v es s beside key is value =
+      let h : IsBesideKey F of E k x = subst (λ a. IfSome a (IsBesideKey F of E k)) is beside in
+      stored_beside F (λ b. decode (of b)) B q E v es s (h.0, h.1, h.2 ∙ key, value ∙ ap decode h.3)

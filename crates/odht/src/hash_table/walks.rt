@@ -26,6 +26,8 @@ impl<C: Config, D: ByteStore> HashTable<C, D> {
         ensures few { length result ≤ usize.MAX }
     {
         let (control, entries) = self.allocation.data_slices();
-        Slots::new(RawSlots::new(control, entries, from))
+        Slots {
+            raw: RawSlots::new(control, entries, from),
+        }
     }
 }

@@ -5,7 +5,6 @@ ghost use Rattle.odht_raw.specs.Dumps.{counts_text};
 use super::HashTableOwned;
 use crate::config::Config;
 use crate::load::max_item_count_for;
-use crate::raw_table::RawTable;
 use std::fmt;
 
 impl<C: Config> HashTableOwned<C> {
@@ -13,7 +12,7 @@ impl<C: Config> HashTableOwned<C> {
     fn write_counts<W: fmt::Write>(&self, f: &mut fmt::Formatter<W>) -> fmt::Result
         ensures { WritesOnOk W.write_str_gives f.old result (counts_text self.now) f.new }
     {
-        let header = self.table.allocation().header();
+        let header = self.table.allocation.header();
         let item_count = header.item_count();
         let factor = header.max_load_factor();
         let max_item_count = max_item_count_for(header.slot_count(), factor);
@@ -36,10 +35,7 @@ impl<C: Config> fmt::Debug for HashTableOwned<C> {
     // The numbers of the header on a line, the dump of the parts, and an empty line.
     fn fmt<W: fmt::Write>(&self, f: &mut fmt::Formatter<W>) -> fmt::Result {
         self.write_counts(f)?;
-        let (control, entries) = self.table.allocation().data_slices();
-        let table: RawTable<'_, C::EncodedKey, C::EncodedValue, C::H> = RawTable::new(
-            control, entries,
-        );
+        let table = self.table.as_raw();
         writeln!(f, "{table:?}")
     }
 }

@@ -17,8 +17,10 @@ impl<C: Config, D: ByteStore> HashTable<C, D> {
     /// The load factor of valid bytes is at least 655 65536ths of the slots, one percent rounded down. A smaller one is
     /// taken as it is: for 0 no slot count is enough, so the result is None.
     pub fn grown_len(&self) -> Option<usize> {
-        let (_, len) = grown_layout::<C>(&self.allocation().header())?;
-        Some(len)
+        match grown_layout::<C>(&self.allocation.header()) {
+            Some((_, len)) => Some(len),
+            None => None,
+        }
     }
 
     /// Writes the table that this one grows into to `out`, whatever its bytes were. `out` has [`HashTable::grown_len`]
@@ -30,7 +32,7 @@ impl<C: Config, D: ByteStore> HashTable<C, D> {
     /// On any bytes the new header has the item count and the load factor of this one. The pairs of the walk are then
     /// placed as long as a slot is free, which no clause says.
     pub fn grow_into(&self, out: &mut [u8]) {
-        let Some((slot_count, _)) = grown_layout::<C>(&self.allocation().header()) else {
+        let Some((slot_count, _)) = grown_layout::<C>(&self.allocation.header()) else {
             // `out` has the length of the grown table.
             unreachable!()
         };
@@ -43,7 +45,9 @@ impl<C: Config, D: ByteStore> HashTable<C, D> {
 /// slot count is enough, or the length passes `usize`.
 pub(crate) fn grown_layout<C: Config>(header: &Header<'_>) -> Option<(usize, usize)> {
     let factor = header.max_load_factor();
-    let twice = header.item_count().checked_mul(2)?;
+    let Some(twice) = header.item_count().checked_mul(2) else {
+        return None;
+    };
     if factor.0 == 0 {
         return None;
     }
@@ -56,10 +60,10 @@ pub(crate) fn write_grown<C: Config, D: ByteStore>(
     slot_count: usize,
     out: &mut [u8],
 ) {
-    let header = table.allocation().header();
+    let header = table.allocation.header();
     let item_count = header.item_count();
     let factor = header.max_load_factor();
-    let (control, entries) = table.allocation().data_slices();
+    let (control, entries) = table.allocation.data_slices();
     let walk = RawIter::new(control, entries);
     write_table::<C>(out, slot_count, item_count, factor, walk);
 }

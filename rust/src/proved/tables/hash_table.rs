@@ -42,8 +42,10 @@ impl<C: Config, D: ByteStore> HashTable<C, D> {
     /// what their clauses say of any bytes.
     #[inline(always)]
     pub fn from_raw_bytes(data: D) -> Result<Self, Error> {
-        let allocation = Allocation::from_raw_bytes(data)?;
-        Ok(HashTable { allocation })
+        match Allocation::from_raw_bytes(data) {
+            Ok(allocation) => Ok(HashTable { allocation }),
+            Err(refused) => Err(refused),
+        }
     }
 
     /// Opens bytes as a table by their header and their length alone, or returns the first error: of too few bytes, of
@@ -54,8 +56,10 @@ impl<C: Config, D: ByteStore> HashTable<C, D> {
     /// clauses say of any bytes.
     #[inline(always)]
     pub fn from_raw_bytes_by_header(data: D) -> Result<Self, Error> {
-        let allocation = Allocation::from_raw_bytes_by_header(data)?;
-        Ok(HashTable { allocation })
+        match Allocation::from_raw_bytes_by_header(data) {
+            Ok(allocation) => Ok(HashTable { allocation }),
+            Err(refused) => Err(refused),
+        }
     }
 
     /// Takes the bytes as those of a table, without a check: the caller knows that their header and length fit.
@@ -101,7 +105,7 @@ impl<C: Config, D: ByteStore> HashTable<C, D> {
     #[inline]
     pub fn iter(&self) -> Iter<'_, C> {
         let (control, entries) = self.allocation.data_slices();
-        Iter::new(RawIter::new(control, entries))
+        Iter { raw: RawIter::new(control, entries) }
     }
 
     /// The item count of the header. On valid bytes it is the number of items.
@@ -138,18 +142,6 @@ impl<C: Config, D: ByteStore> HashTable<C, D> {
     pub fn as_raw(&self) -> RawTable<'_, C::EncodedKey, C::EncodedValue, C::H> {
         let (control, entries) = self.allocation.data_slices();
         RawTable::new(control, entries)
-    }
-
-    /// The bytes and their parts.
-    #[inline]
-    pub(crate) fn allocation(&self) -> &Allocation<C, D> {
-        &self.allocation
-    }
-
-    /// The table of these bytes.
-    #[inline]
-    pub(crate) fn from_allocation(allocation: Allocation<C, D>) -> Self {
-        HashTable { allocation }
     }
 }
 

@@ -106,7 +106,9 @@ impl<C: Config> HashTableOwned<C> {
     ///
     /// `Memory` when memory is exhausted.
     pub fn from_raw_bytes(alloc: Global, raw_bytes: &[u8]) -> Result<Self, Error> {
-        memory_layout::check_all::<C>(raw_bytes)?;
+        if let Err(refused) = memory_layout::check_all::<C>(raw_bytes) {
+            return Err(refused);
+        }
         Self::from_raw_bytes_unchecked(alloc, raw_bytes)
     }
 
@@ -114,8 +116,11 @@ impl<C: Config> HashTableOwned<C> {
     ///
     /// `Memory` when memory is exhausted.
     pub fn from_raw_bytes_unchecked(alloc: Global, raw_bytes: &[u8]) -> Result<Self, Error> {
-        let bytes = OwnedBytes::new(crate::shim::to_vec(raw_bytes, alloc)?);
-        Ok(HashTableOwned { table: HashTable::from_raw_bytes_unchecked(bytes), alloc })
+        let Ok(bytes) = crate::shim::to_vec(raw_bytes, alloc) else {
+            return Err(Error::Memory);
+        };
+        let table = HashTable::from_raw_bytes_unchecked(OwnedBytes::new(bytes));
+        Ok(HashTableOwned { table, alloc })
     }
 
     /// A table of the same bytes.
@@ -137,15 +142,17 @@ impl<C: Config> HashTableOwned<C> {
     pub fn insert(&mut self, key: &C::Key, value: &C::Value) -> Result<Option<C::Value>, Error> {
         match self.table.insert(key, value) {
             Ok(old) => Ok(old),
-            Err(Error::Full) => self.insert_grown(key, value),
-            Err(refused) => Err(refused),
+            // The error is `Full`: the table is at its maximum, and the key is absent.
+            Err(_) => self.insert_grown(key, value),
         }
     }
 
     // `insert` of an absent key at the maximum: into the grown table.
     #[inline(never)]
     fn insert_grown(&mut self, key: &C::Key, value: &C::Value) -> Result<Option<C::Value>, Error> {
-        let mut grown = self.grown()?;
+        let Ok(mut grown) = self.grown() else {
+            return Err(Error::Memory);
+        };
         let Ok(old) = grown.insert(key, value) else {
             // The grown table is below its maximum.
             unreachable!()
@@ -158,10 +165,12 @@ impl<C: Config> HashTableOwned<C> {
     // least.
     #[inline(never)]
     fn grown(&self) -> Result<HashTable<C, OwnedBytes>, Error> {
-        let Some((slot_count, len)) = grown_layout::<C>(&self.table.allocation().header()) else {
+        let Some((slot_count, len)) = grown_layout::<C>(&self.table.allocation.header()) else {
             return Err(Error::Memory);
         };
-        let mut bytes = crate::shim::zeroed_bytes(self.alloc, len)?;
+        let Ok(mut bytes) = crate::shim::zeroed_bytes(self.alloc, len) else {
+            return Err(Error::Memory);
+        };
         write_grown(&self.table, slot_count, bytes.as_mut_slice());
         Ok(HashTable::from_raw_bytes_unchecked(OwnedBytes::new(bytes)))
     }
@@ -176,6 +185,8 @@ fn empty_table<C: Config>(
     let Some(slot_count) = slots_needed(max_item_count, max_load_factor) else {
         return Err(Error::Capacity);
     };
-    let allocation = memory_layout::allocate(alloc, slot_count, 0, max_load_factor)?;
-    Ok(HashTable::from_allocation(allocation))
+    match memory_layout::allocate(alloc, slot_count, 0, max_load_factor) {
+        Ok(allocation) => Ok(HashTable { allocation }),
+        Err(refused) => Err(refused),
+    }
 }

@@ -9,15 +9,7 @@ use std::iter::FusedIterator;
 ///
 /// A contract speaks of it as of the list of the pairs that are left. A whole walk reads each control byte once.
 pub struct Iter<'a, C: Config> {
-    raw: RawIter<'a, C::EncodedKey, C::EncodedValue>,
-}
-
-impl<'a, C: Config> Iter<'a, C> {
-    /// The pairs of what is left of a raw walk.
-    #[inline]
-    pub(crate) fn new(raw: RawIter<'a, C::EncodedKey, C::EncodedValue>) -> Self {
-        Iter { raw }
-    }
+    pub(crate) raw: RawIter<'a, C::EncodedKey, C::EncodedValue>,
 }
 
 impl<'a, C: Config> Iterator for Iter<'a, C> {
@@ -25,8 +17,10 @@ impl<'a, C: Config> Iterator for Iter<'a, C> {
 
     #[inline(always)]
     fn next(&mut self) -> Option<(C::Key, C::Value)> {
-        let (_, entry) = self.raw.next()?;
-        Some((C::decode_key(&entry.key), C::decode_value(&entry.value)))
+        match self.raw.next() {
+            Some((_, entry)) => Some((C::decode_key(&entry.key), C::decode_value(&entry.value))),
+            None => None,
+        }
     }
 }
 
@@ -37,15 +31,7 @@ impl<'a, C: Config> FusedIterator for Iter<'a, C> {}
 ///
 /// A contract speaks of it as of the list of the slots that are left. A whole walk reads each control byte once.
 pub struct Slots<'a, C: Config> {
-    raw: RawSlots<'a, C::EncodedKey, C::EncodedValue>,
-}
-
-impl<'a, C: Config> Slots<'a, C> {
-    /// The pairs of what is left of a raw walk.
-    #[inline]
-    pub(crate) fn new(raw: RawSlots<'a, C::EncodedKey, C::EncodedValue>) -> Self {
-        Slots { raw }
-    }
+    pub(crate) raw: RawSlots<'a, C::EncodedKey, C::EncodedValue>,
 }
 
 impl<'a, C: Config> Iterator for Slots<'a, C> {
@@ -53,8 +39,12 @@ impl<'a, C: Config> Iterator for Slots<'a, C> {
 
     #[inline(always)]
     fn next(&mut self) -> Option<(usize, (C::Key, C::Value))> {
-        let (slot, (_, entry)) = self.raw.next()?;
-        Some((slot, (C::decode_key(&entry.key), C::decode_value(&entry.value))))
+        match self.raw.next() {
+            Some((slot, (_, entry))) => {
+                Some((slot, (C::decode_key(&entry.key), C::decode_value(&entry.value))))
+            }
+            None => None,
+        }
     }
 }
 

@@ -27,13 +27,13 @@ returns-clause-on_valid g c P is =
     let f = IsFormat-format_of _ _ _ _ g.met.C.Config.key_fits g.met.C.Config.value_fits g.met.C.Config.key_hashes g.met.C.H.HashFn.fits in
     let B = g.D.ByteStore.bytes c.args.table.now in
     let s = c.args.slot_count in
-    let header = c.header-header.ensures.bytes ∙ ap g.D.ByteStore.bytes c.allocation.ensures in
+    let header = c.header-header.ensures.bytes ∙ ap g.D.ByteStore.bytes c.table.view_is in
     let items = c.item_count-item_count.ensures ∙ ap header_count header ∙ count_header F P B is in
     let factor = c.max_load_factor-factor.ensures ∙ ap header_factor header ∙ factor_header F P B is in
     let enough : grown_slots P ≡ Some s = sym (grown_header F P B is) ∙ c.requires.slots in
     let split = c.data_slices-entries.ensures in
     let decodes = (λ j. filter_map (λ x. x) (decoded_cells F (split.entries j) (split.control j)))
-    ∙ decoded_pairs-image F P _ f (record { valid = is.valid; bytes = ap g.D.ByteStore.bytes c.allocation-2.ensures ∙ is.bytes }) in
+    ∙ decoded_pairs-image F P _ f (record { valid = is.valid; bytes = ap g.D.ByteStore.bytes c.table.view_is ∙ is.bytes }) in
     let pairs : map (stored key.bytes value.bytes) c.new-walk.result ≡ walk P =
     ap (map (stored key.bytes value.bytes)) c.new-walk.ensures.items
     ∙ stored-walk key.bytes value.bytes key.of_bytes value.of_bytes key.LEN value.LEN g.C.H.HashFn.hash g.met.C.EncodedKey.ByteArray.kept g.met.C.EncodedValue.ByteArray.kept P
@@ -56,13 +56,13 @@ returns-clause-accepted g c =
 pub returns-clause-count : goal.returns-clause-count
 returns-clause-count g c =
     let F : Format = format_of g.C.EncodedKey.ByteArray.LEN g.C.EncodedValue.ByteArray.LEN g.C.H.HashFn.hash in
-    let header = c.header-header.ensures.bytes ∙ ap g.D.ByteStore.bytes c.allocation.ensures in
+    let header = c.header-header.ensures.bytes ∙ ap g.D.ByteStore.bytes c.table.view_is in
     headed_count F c.write_table.new.bytes c.args.slot_count c.item_count-item_count.result c.max_load_factor-factor.result.0 c.write_table.ensures.header c.item_count-item_count.type_inv
     ∙ c.item_count-item_count.ensures ∙ ap header_count header
 
 pub returns-clause-factor : goal.returns-clause-factor
 returns-clause-factor g c =
     let F : Format = format_of g.C.EncodedKey.ByteArray.LEN g.C.EncodedValue.ByteArray.LEN g.C.H.HashFn.hash in
-    let header = c.header-header.ensures.bytes ∙ ap g.D.ByteStore.bytes c.allocation.ensures in
+    let header = c.header-header.ensures.bytes ∙ ap g.D.ByteStore.bytes c.table.view_is in
     headed_factor F c.write_table.new.bytes c.args.slot_count c.item_count-item_count.result c.max_load_factor-factor.result.0 c.write_table.ensures.header c.max_load_factor-factor.type_inv.1.1.0.1
     ∙ c.max_load_factor-factor.ensures ∙ ap header_factor header

@@ -4,8 +4,8 @@ use Rattle.odht_base.proofs.lemmas.FreeSlots.{empty-IsValid}
 use Rattle.odht_raw.proofs.lemmas.NewTables.{with_count-new}
 use Rattle.odht.proofs.hash_table_owned.empty_table.Goals as goal
 
-pub returns-clause-ok : goal.returns-clause-ok
-returns-clause-ok g c =
+pub returns-in-Ok-clause-ok : goal.returns-in-Ok-clause-ok
+returns-in-Ok-clause-ok g c =
     let F = format_of g.C.EncodedKey.ByteArray.LEN g.C.EncodedValue.ByteArray.LEN g.C.H.HashFn.hash in
     let s = c.in-Some.slot_count in
     let f = c.args.max_load_factor.0 in
@@ -14,6 +14,6 @@ returns-clause-ok g c =
       sym c.in-Some.ensures.value,
       record {
         valid = empty-IsValid s f F count c.requires.low (search rules);
-        bytes = c.from_allocation.ensures ∙ c.in_ok-allocation.ensures.ok ∙ with_count-new F s 0 f count;
+        bytes = c.in-Ok.ensures.ok ∙ with_count-new F s 0 f count;
       },
     )

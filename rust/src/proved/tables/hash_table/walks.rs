@@ -13,6 +13,6 @@ impl<C: Config, D: ByteStore> HashTable<C, D> {
     #[inline]
     pub fn iter_from(&self, from: usize) -> Slots<'_, C> {
         let (control, entries) = self.allocation.data_slices();
-        Slots::new(RawSlots::new(control, entries, from))
+        Slots { raw: RawSlots::new(control, entries, from) }
     }
 }

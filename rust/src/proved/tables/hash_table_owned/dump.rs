@@ -4,13 +4,12 @@
 use super::HashTableOwned;
 use crate::proved::tables::config::Config;
 use crate::proved::tables::load::max_item_count_for;
-use crate::proved::tables::raw_table::RawTable;
 use std::fmt;
 
 impl<C: Config> HashTableOwned<C> {
     // Writes the numbers of the header on a line.
     fn write_counts(&self, f: &mut fmt::Formatter<'_>) -> fmt::Result {
-        let header = self.table.allocation().header();
+        let header = self.table.allocation.header();
         let item_count = header.item_count();
         let factor = header.max_load_factor();
         let max_item_count = max_item_count_for(header.slot_count(), factor);
@@ -26,9 +25,7 @@ impl<C: Config> fmt::Debug for HashTableOwned<C> {
     // The numbers of the header on a line, the dump of the parts, and an empty line.
     fn fmt(&self, f: &mut fmt::Formatter<'_>) -> fmt::Result {
         self.write_counts(f)?;
-        let (control, entries) = self.table.allocation().data_slices();
-        let table: RawTable<'_, C::EncodedKey, C::EncodedValue, C::H> =
-            RawTable::new(control, entries);
+        let table = self.table.as_raw();
         writeln!(f, "{table:?}")
     }
 }

@@ -12,7 +12,7 @@ use Rattle.odht.proofs.hash_table.HashTable.grow_into.Goals as goal
 long : (g : Over) (c : In-Some g) → length c.args.out.now ≡ image_len (format_of g.C.EncodedKey.ByteArray.LEN g.C.EncodedValue.ByteArray.LEN g.C.H.HashFn.hash) c.in-Some.slot_count
 long g c =
     let F : Format = format_of g.C.EncodedKey.ByteArray.LEN g.C.EncodedValue.ByteArray.LEN g.C.H.HashFn.hash in
-    asked_len F c.header.result c.in-Some.slot_count _ _ c.in-Some.ensures (ap (grown_len F) (c.header.ensures.bytes ∙ ap g.D.ByteStore.bytes c.allocation.ensures) ∙ c.requires)
+    asked_len F c.header.result c.in-Some.slot_count _ _ c.in-Some.ensures (ap (grown_len F) (c.header.ensures.bytes ∙ ap g.D.ByteStore.bytes c.self.view_is) ∙ c.requires)
 
 pub clear_entries-requires-after_bounds : goal.clear_entries-requires-after_bounds
 clear_entries-requires-after_bounds g c κs within = long g (goal.at.clear_entries-requires-after_bounds g c).In-Some

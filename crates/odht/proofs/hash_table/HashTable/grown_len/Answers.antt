@@ -4,24 +4,24 @@ use Rattle.odht.specs.Growths.{grown_len}
 use Rattle.odht.proofs.lemmas.GrownBytes.{grown_len-layout, grown_len-image}
 use Rattle.odht.proofs.hash_table.HashTable.grown_len.Goals as goal
 
-pub returns-in_err-len-clause-by_header : goal.returns-in_err-len-clause-by_header
-returns-in_err-len-clause-by_header g c =
+pub returns-in-None-clause-by_header : goal.returns-in-None-clause-by_header
+returns-in-None-clause-by_header g c =
     let F = format_of g.C.EncodedKey.ByteArray.LEN g.C.EncodedValue.ByteArray.LEN g.C.H.HashFn.hash in
-    let none : grown_len F c.header.result ≡ None = c.in_err-len.ensures in
-    c.from_residual.ensures ∙ sym none ∙ ap (grown_len F) (c.header.ensures.bytes ∙ ap g.D.ByteStore.bytes c.allocation.ensures)
+    let none : grown_len F c.header.result ≡ None = c.in-None.ensures in
+    sym none ∙ ap (grown_len F) (c.header.ensures.bytes ∙ ap g.D.ByteStore.bytes c.self.view_is)
 
-pub returns-in_err-len-clause-on_valid : goal.returns-in_err-len-clause-on_valid
-returns-in_err-len-clause-on_valid g c P is =
+pub returns-in-None-clause-on_valid : goal.returns-in-None-clause-on_valid
+returns-in-None-clause-on_valid g c P is =
     let F = format_of g.C.EncodedKey.ByteArray.LEN g.C.EncodedValue.ByteArray.LEN g.C.H.HashFn.hash in
-    returns-in_err-len-clause-by_header g c ∙ grown_len-image F P _ is
+    returns-in-None-clause-by_header g c ∙ grown_len-image F P _ is
 
-pub returns-clause-by_header : goal.returns-clause-by_header
-returns-clause-by_header g c =
+pub returns-in-Some-clause-by_header : goal.returns-in-Some-clause-by_header
+returns-in-Some-clause-by_header g c =
     let F = format_of g.C.EncodedKey.ByteArray.LEN g.C.EncodedValue.ByteArray.LEN g.C.H.HashFn.hash in
-    sym (grown_len-layout F c.header.result _ c.in_ok-len.len c.in_ok-len.ensures)
-    ∙ ap (grown_len F) (c.header.ensures.bytes ∙ ap g.D.ByteStore.bytes c.allocation.ensures)
+    sym (grown_len-layout F c.header.result _ c.in-Some.len c.in-Some.ensures)
+    ∙ ap (grown_len F) (c.header.ensures.bytes ∙ ap g.D.ByteStore.bytes c.self.view_is)
 
-pub returns-clause-on_valid : goal.returns-clause-on_valid
-returns-clause-on_valid g c P is =
+pub returns-in-Some-clause-on_valid : goal.returns-in-Some-clause-on_valid
+returns-in-Some-clause-on_valid g c P is =
     let F = format_of g.C.EncodedKey.ByteArray.LEN g.C.EncodedValue.ByteArray.LEN g.C.H.HashFn.hash in
-    returns-clause-by_header g c ∙ grown_len-image F P _ is
+    returns-in-Some-clause-by_header g c ∙ grown_len-image F P _ is

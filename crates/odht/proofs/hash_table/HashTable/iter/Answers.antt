@@ -17,8 +17,7 @@ returns-clause-on_any g c =
     let F = (coding g).format in
     let parts = c.data_slices-entries.ensures in
     let decodes = decoded_items-decoded_cells g.C.EncodedKey.ByteArray.of_bytes g.C.EncodedValue.ByteArray.of_bytes g.C.Config.decode_key g.C.Config.decode_value F.key_len F.value_len F.hash in
-    c.new-2.ensures.items
-    ∙ ap (decoded_items g.C.Config.decode_key g.C.Config.decode_value) c.new.ensures.items
+    ap (decoded_items g.C.Config.decode_key g.C.Config.decode_value) c.new.ensures.items
     ∙ decodes (record { control = c.data_slices-entries.result.0.now; entries = c.data_slices-entries.result.1 }) parts.len
     ∙ (λ j. map (decoded (coding g)) (filter_map (λ c. c) (decoded_cells F (parts.entries j) (parts.control j))))
     ∙ ap (λ B. map (decoded (coding g)) (decoded_pairs F B)) (ap g.D.ByteStore.bytes c.self.view_is)

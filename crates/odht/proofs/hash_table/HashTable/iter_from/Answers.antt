@@ -17,8 +17,7 @@ returns-clause-on_any g c =
     let parts = c.data_slices-entries.ensures in
     let same = ap g.D.ByteStore.bytes c.self.view_is in
     let decodes = decoded_numbered-decoded_table g.C.EncodedKey.ByteArray.of_bytes g.C.EncodedValue.ByteArray.of_bytes g.C.Config.decode_key g.C.Config.decode_value F.key_len F.value_len F.hash in
-    c.new-2.ensures.items
-    ∙ ap (decoded_numbered g.C.Config.decode_key g.C.Config.decode_value) c.new.ensures.items
+    ap (decoded_numbered g.C.Config.decode_key g.C.Config.decode_value) c.new.ensures.items
     ∙ decodes (record { control = c.data_slices-entries.result.0.now; entries = c.data_slices-entries.result.1 }) (g.D.ByteStore.bytes c.args.self.now) c.args.from parts.len
     (parts.entries ∙ ap (entries_of F) same) (parts.control ∙ ap (controls_of F) same)
 

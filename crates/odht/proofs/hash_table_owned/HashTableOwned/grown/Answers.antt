@@ -11,14 +11,14 @@ pub write_grown-requires-clause-zeros : goal.write_grown-requires-clause-zeros
 write_grown-requires-clause-zeros g c κs within =
     let F : Format = format_of g.C.EncodedKey.ByteArray.LEN g.C.EncodedValue.ByteArray.LEN g.C.H.HashFn.hash in
     let n = c.in-Some.slot_count * entry_len F in
-    let zeros : c.as_mut_slice.result.now ≡ replicate c.in-Some.len 0 = c.as_mut_slice.ensures.value ∙ c.in_ok-bytes.ensures.items_if_clones_equal (λ y e. e) in
+    let zeros : c.as_mut_slice.result.now ≡ replicate c.in-Some.len 0 = c.as_mut_slice.ensures.value ∙ c.in-Ok.ensures.items_if_clones_equal (λ y e. e) in
     ap (λ B. bytes_at B 32 n) zeros ∙ bytes_at-zeros c.in-Some.len 32 n (omega (arith, c.in-Some.ensures.long))
 
 -- the bytes are those that were written
 all : (g : Over) (c : goal.After-new g) → c.new.result ≡ c.write_grown.new.out
 all g c =
-    let long : length c.write_grown.new.out ≡ c.in_ok-bytes.bytes.len = omega (arith, c.write_grown.auto.out, c.as_mut_slice.ensures.len) in
-    c.new.ensures ∙ take_at c.write_grown.new.out _ c.in_ok-bytes.bytes.len long
+    let long : length c.write_grown.new.out ≡ c.in-Ok.bytes.len = omega (arith, c.write_grown.auto.out, c.as_mut_slice.ensures.len) in
+    c.new.ensures ∙ take_at c.write_grown.new.out _ c.in-Ok.bytes.len long
 
 pub from_raw_bytes_unchecked-requires-after_bounds :
     goal.from_raw_bytes_unchecked-requires-after_bounds

@@ -38,24 +38,20 @@ pub invariant_of-self-in-Err : goal.invariant_of-self-in-Err
 invariant_of-self-in-Err g c =
     (c.self.invariant.0, here g _ _ _ _ c.in-Err.ensures.refused refl c.self.invariant.1)
 
-pub invariant_of-self-in-Err-Full : goal.invariant_of-self-in-Err-Full
-invariant_of-self-in-Err-Full g c =
-    (c.self.invariant.0, here g _ _ _ _ c.in-Err-Full.ensures.refused refl c.self.invariant.1)
+pub returns-in-Err-clause-ok : goal.returns-in-Err-clause-ok
+returns-in-Err-clause-ok g c P is =
+    c.insert_grown.ensures.ok P (here g _ _ _ _ c.in-Err.ensures.refused c.self.view_is is)
+    ((c.in-Err.ensures.full P (here g _ _ _ _ refl c.self.view_is is)).0 c.in-Err.ensures.only_full)
 
-pub returns-in-Err-Full-clause-ok : goal.returns-in-Err-Full-clause-ok
-returns-in-Err-Full-clause-ok g c P is =
-    c.insert_grown.ensures.ok P (here g _ _ _ _ c.in-Err-Full.ensures.refused c.self.view_is is)
-    ((c.in-Err-Full.ensures.full P (here g _ _ _ _ refl c.self.view_is is)).0 c.in-Err-Full.ensures.only_full)
-
-pub returns-in-Err-Full-clause-at_maximum : goal.returns-in-Err-Full-clause-at_maximum
-returns-in-Err-Full-clause-at_maximum g c P is =
-    let full = (c.in-Err-Full.ensures.full P (here g _ _ _ _ refl c.self.view_is is)).0 c.in-Err-Full.ensures.only_full in
+pub returns-in-Err-clause-at_maximum : goal.returns-in-Err-clause-at_maximum
+returns-in-Err-clause-at_maximum g c P is =
+    let full = (c.in-Err.ensures.full P (here g _ _ _ _ refl c.self.view_is is)).0 c.in-Err.ensures.only_full in
     on_err_weaker c.insert_grown.result (λ _. full) c.insert_grown.ensures.memory
 
-pub returns-in-Err-Full-clause-memory : goal.returns-in-Err-Full-clause-memory
-returns-in-Err-Full-clause-memory g c = c.insert_grown.ensures.memory
+pub returns-in-Err-clause-memory : goal.returns-in-Err-clause-memory
+returns-in-Err-clause-memory g c = c.insert_grown.ensures.memory
 
-pub returns-in-Err-Full-clause-refused : goal.returns-in-Err-Full-clause-refused
-returns-in-Err-Full-clause-refused g c =
-    on_err_weaker c.insert_grown.result (λ e. e ∙ c.in-Err-Full.ensures.refused ∙ c.self.view_is)
+pub returns-in-Err-clause-refused : goal.returns-in-Err-clause-refused
+returns-in-Err-clause-refused g c =
+    on_err_weaker c.insert_grown.result (λ e. e ∙ c.in-Err.ensures.refused ∙ c.self.view_is)
     c.insert_grown.ensures.refused

@@ -8,7 +8,7 @@ use Rattle.odht.proofs.hash_table_owned.HashTableOwned.write_counts.Goals as goa
 
 pub returns : goal.returns
 returns g c plain ok =
-    let header = c.header-header.ensures.bytes ∙ c.allocation.ensures ∙ c.self.view_is in
+    let header = c.header-header.ensures.bytes ∙ ap (λ s. s.table) c.self-inside.view_is ∙ c.self.view_is in
     let items = c.item_count-item_count.ensures ∙ ap header_count header in
     let slots = c.slot_count.ensures ∙ ap header_slots header in
     let factor = c.max_load_factor-factor.ensures ∙ ap header_factor header in

@@ -13,15 +13,14 @@ returns g c =
     let key_text : DebugText = λ b. g.C.EncodedKey.Debug.debug_output (g.C.EncodedKey.ByteArray.of_bytes b) in
     let value_text : DebugText = λ b. g.C.EncodedValue.Debug.debug_output (g.C.EncodedValue.ByteArray.of_bytes b) in
     let B = c.args.self.now in
-    let bytes : c.allocation.result.now ≡ B = c.allocation.ensures ∙ c.self.view_is in
-    let cut = c.data_slices-entries in
-    let parts : c.new-table.result ≡ parts_of F B = c.new-table.ensures
-    ∙ parts_of-cut F c.allocation.result.now B cut.result.0.now cut.result.1 bytes cut.ensures.control cut.ensures.entries cut.ensures.slots in
+    let table = c.as_raw-table in
+    let parts : c.as_raw-table.result ≡ parts_of F B =
+    parts_of-cut F c.self.inside.table B table.result.control table.result.entries c.self.view_is table.ensures.control table.ensures.entries table.ensures.slots in
     let counts = Some (counts_text B) in
     let dump : TableParts → Option (List ℕ) = λ T. dump_text F key_text value_text g.C.H.HashFn.hash_name T in
     let last = Some (codes "\n") in
     record {
       writes =
           displays_on_ok_of_eq g.W.Write.write_str_gives c.args.f.now c.writeln.new.self c.writeln.result _ _ (λ i. counts ++? dump (parts i) ++? last)
-          (displayed-append g.W.Write.write_str_gives c.args.f.now c.write_counts.new.f c.writeln.new.self c.writeln.result counts (dump c.new-table.result ++? last) c.in_ok-write_counts.ensures c.writeln.ensures.writes);
+          (displayed-append g.W.Write.write_str_gives c.args.f.now c.write_counts.new.f c.writeln.new.self c.writeln.result counts (dump c.as_raw-table.result ++? last) c.in_ok-write_counts.ensures c.writeln.ensures.writes);
     }

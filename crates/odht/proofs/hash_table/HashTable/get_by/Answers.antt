@@ -1,0 +1,36 @@
+use Rattle.std.proofs.Common.{◌∙◌, ap}
+use Rattle.std.specs.Prelude.{option_map}
+use Rattle.odht_base.specs.Format.{format_of}
+use Rattle.odht_base.specs.Map.{map_of}
+use Rattle.odht.proofs.lemmas.Lookups.{decoded_value, decoded_none, decoded_stored}
+use Rattle.odht.proofs.hash_table.HashTable.get_by.Goals as goal
+
+pub returns-in-Some-default : goal.returns-in-Some-default
+returns-in-Some-default g c =
+    let bytes = g.C.EncodedKey.ByteArray.bytes in
+    let of = g.C.EncodedValue.ByteArray.of_bytes in
+    let F = format_of g.C.EncodedKey.ByteArray.LEN g.C.EncodedValue.ByteArray.LEN g.C.H.HashFn.hash in
+    let k = bytes (g.C.Config.encode_key c.args.key.now) in
+    let key = ap bytes c.encode_key-key.ensures in
+    let found = c.find_counted_by.ensures in
+    let r = c.find_counted_by.result.0 in
+    let v = c.decode_value.result in
+    let table = c.as_raw-table in
+    record {
+      on_valid = λ P is.
+          decoded_value of g.C.Config.decode_value r (map_of P k) c.in-Some-default.value v (found.on_placed P (table.ensures.parts P is) ∙ ap (λ b. option_map of (map_of P b)) key) c.in-Some-default.is-0 c.decode_value.ensures;
+      on_any =
+          decoded_stored of g.C.Config.decode_value r F (g.D.ByteStore.bytes c.args.self.now) (bytes c.encode_key-key.result) k table.result.entries c.in-Some-default.value v table.ensures.entries table.ensures.slots found.on_any key c.in-Some-default.is-0 c.decode_value.ensures;
+    }
+
+pub returns-in-None-default : goal.returns-in-None-default
+returns-in-None-default g c =
+    let bytes = g.C.EncodedKey.ByteArray.bytes in
+    let of = g.C.EncodedValue.ByteArray.of_bytes in
+    let k = bytes (g.C.Config.encode_key c.args.key.now) in
+    let key = ap bytes c.encode_key-key.ensures in
+    record {
+      on_valid = λ P is.
+          decoded_none of g.C.Config.decode_value c.find_counted_by.result.0 (map_of P k) (c.find_counted_by.ensures.on_placed P (c.as_raw-table.ensures.parts P is) ∙ ap (λ b. option_map of (map_of P b)) key) c.in-None-default.is-0;
+      on_any = tt;
+    }
