@@ -1,7 +1,7 @@
 //! The header of a table: its fields at their offsets, how it is written, and how it is checked.
 //!
 //! The fields are those of docs/FORMAT.md, "Layout".
-ghost use Rattle.std.specs.Prelude.{◌≡◌, ◌+◌, ◌-◌, ◌*◌, ◌<◌, ◌≤◌, length};
+ghost use Rattle.std.specs.Prelude.{◌≡◌, ◌+◌, ◌-◌, ◌*◌, ◌<◌, ◌≤◌, length, slice_index};
 ghost use Rattle.odht_base.specs.Bytes.{bytes_at};
 ghost use Rattle.odht_base.specs.Image.{header_bytes};
 ghost use Rattle.odht_base.specs.Decoded.{header_count, header_slots, header_factor};
@@ -91,16 +91,17 @@ impl<'a> Header<'a> {
     {
         self.check_tag()?;
         self.check_version()?;
-        self.check_expected_size(METADATA_SIZE_AT, Part::EntryMetadata, METADATA_SIZE)?;
+        self.check_metadata_size()?;
         self.check_expected_size(KEY_SIZE_AT, Part::EncodedKey, C::EncodedKey::LEN)?;
         self.check_expected_size(VALUE_SIZE_AT, Part::EncodedValue, C::EncodedValue::LEN)?;
-        self.check_expected_size(HEADER_SIZE_AT, Part::Header, HEADER_SIZE)?;
+        self.check_header_size()?;
         self.check_slot_count()?;
         self.check_length::<C>(raw_bytes_len)
     }
 
+    /// Whether the first four bytes are those of each table; else `WrongTag`.
     #[inline(always)]
-    fn check_tag(&self) -> Result<(), Error>
+    pub fn check_tag(&self) -> Result<(), Error>
         ensures { result ≡ checked (tag_refusal self.now) }
     {
         let found = self.word(TAG_AT);
@@ -111,8 +112,9 @@ impl<'a> Header<'a> {
         }
     }
 
+    /// Whether the version is the one that is read; else `WrongVersion`.
     #[inline(always)]
-    fn check_version(&self) -> Result<(), Error>
+    pub fn check_version(&self) -> Result<(), Error>
         ensures { result ≡ checked (version_refusal self.now) }
     {
         let found = self.word(VERSION_AT);
@@ -131,6 +133,22 @@ impl<'a> Header<'a> {
     {
         let bytes = self.bytes;
         [bytes[at], bytes[at + 1], bytes[at + 2], bytes[at + 3]]
+    }
+
+    /// Whether by the header a control byte takes one byte; else `WrongSizeOf`.
+    #[inline(always)]
+    pub fn check_metadata_size(&self) -> Result<(), Error>
+        ensures { result ≡ checked (wrong_size self.now 4 Part.EntryMetadata 1) }
+    {
+        self.check_expected_size(METADATA_SIZE_AT, Part::EntryMetadata, METADATA_SIZE)
+    }
+
+    /// Whether by the header it has 32 bytes; else `WrongSizeOf`.
+    #[inline(always)]
+    pub fn check_header_size(&self) -> Result<(), Error>
+        ensures { result ≡ checked (wrong_size self.now 7 Part.Header 32) }
+    {
+        self.check_expected_size(HEADER_SIZE_AT, Part::Header, HEADER_SIZE)
     }
 
     // Whether by the byte `at` the part has this size; else `WrongSizeOf`.
@@ -152,8 +170,10 @@ impl<'a> Header<'a> {
         }
     }
 
+    /// Whether the slot count is a power of two, and at least 16; else `SlotCountNotPowerOfTwo`, then
+    /// `SlotCountTooSmall`.
     #[inline(always)]
-    fn check_slot_count(&self) -> Result<(), Error>
+    pub fn check_slot_count(&self) -> Result<(), Error>
         ensures { result
             ≡ checked (option_or (power_refusal self.now) (few_slots_refusal self.now)) }
     {
@@ -225,6 +245,24 @@ impl<'a> Header<'a> {
             return Err(Error::TooManyItems { count: stated, max });
         }
         Ok(())
+    }
+
+    /// How many bytes a key has by the header.
+    #[inline]
+    pub fn key_size(&self) -> u8
+        ensures { result ≡ slice_index self.now 5 }
+    {
+        let bytes = self.bytes;
+        bytes[KEY_SIZE_AT]
+    }
+
+    /// How many bytes a value has by the header.
+    #[inline]
+    pub fn value_size(&self) -> u8
+        ensures { result ≡ slice_index self.now 6 }
+    {
+        let bytes = self.bytes;
+        bytes[VALUE_SIZE_AT]
     }
 
     /// The header's item count.

@@ -9,7 +9,7 @@ use Rattle.std.proofs.lemmas.List.Folds.{list_all-append}
 use Rattle.odht.specs.Lookups.{HaveStored}
 use Rattle.odht_header.specs.Coding.{Coding, HasStored, value_for}
 use Rattle.odht_tool.specs.Gets.{AreAnswers}
-use Rattle.odht_tool.specs.Texts.{answer_line, answers_text}
+use Rattle.odht_tool_core.specs.Texts.{answer_line, answers_text}
 
 -- as many words as keys
 pub AllZip-length : {X Y : Type 0} (R : X → Y → Type 0) (xs : List X) (ys : List Y) → AllZip R xs ys → length xs ≡ length ys

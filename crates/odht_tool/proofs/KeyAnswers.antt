@@ -7,13 +7,6 @@ use Rattle.odht_tool.specs.GetParts.{IsFlushed}
 use Rattle.odht_tool.specs.Gets.{AreAnswers}
 use Rattle.odht_tool.specs.declared.commands.get.TheConstants.{BATCH}
 
--- one text more, of one key more
-pub AllZip-one_more : {X Y : Type 0} (R : X → Y → Type 0) (xs : List X) (ys : List Y) (x : X) (y : Y) → AllZip R xs ys → R x y → AllZip R (xs ++ (x ∷ [])) (ys ++ (y ∷ []))
-AllZip-one_more R [] [] x y h r = (r, tt)
-AllZip-one_more R [] (b ∷ ys) x y h r = absurd h
-AllZip-one_more R (a ∷ xs) [] x y h r = absurd h
-AllZip-one_more R (a ∷ xs) (b ∷ ys) x y h r = (h.0, AllZip-one_more R xs ys x y h.1 r)
-
 -- of no keys there are no answers
 pub no_answers : {K V : Type 0} (c : Coding K V) (B : List ℕ) → AreAnswers c B [] []
 no_answers c B = record { each = refl; on_valid = λ P is. refl; on_any = λ i k v p q. cc }

@@ -1,19 +1,3 @@
--- laws over numbers' and bytes' texts
-pub mod Words
--- laws over lines that are written one after the other
-pub mod Answered
--- where the first line of an input ends
-pub mod LineEnds
--- in which group of a probe order a slot is
-pub mod GroupPlaces
--- what is written slot by slot
-pub mod Counting
--- the slots of a table of any sizes
-pub mod SizedSlots
--- counts of numbers of groups
-pub mod Tallies
--- the lines of `info`
-pub mod InfoLines
 -- keys and their answers
 pub mod KeyAnswers
 -- answers of lists in two parts
@@ -22,9 +6,5 @@ pub mod AnswerLists
 pub mod LinesTaken
 -- what a command does, from the shape of the bytes on
 pub mod Shaped
--- words and their keys
-pub mod KeyWords
--- which error opening gives, by its stages
-pub mod Refusals
 -- worked examples of the definitions
 pub mod examples

@@ -10,16 +10,18 @@ use Rattle.std.proofs.Math.Seq.{take-append_seam}
 use Rattle.std.proofs.lemmas.List.{append_assoc, append-nil}
 use Rattle.odht_header.specs.Coding.{Coding}
 use Rattle.odht_tool.specs.GetLines.{lines_read, AreFirstAnswered, IsLineFault, AreLinesAnswered}
-use Rattle.odht_tool.specs.GetParts.{AreKeysAnswered, IsKeysFailure, IsFlushed, IsNextKey}
+use Rattle.odht_tool.specs.GetParts.{AreKeysAnswered, IsKeysFailure, IsFlushed}
 use Rattle.odht_tool.specs.Gets.{AreAnswers, IsAnswered, answered_status, found_status}
-use Rattle.odht_tool.specs.InputLines.{IsNextLine}
-use Rattle.odht_tool.specs.Texts.{answers_text}
-use Rattle.odht_tool.specs.declared.commands.get.NextKey.TheVariants.{Key as is_key, NoKey}
+use Rattle.odht_tool_core.specs.InputLines.{IsNextLine}
+use Rattle.odht_tool_core.specs.Texts.{answers_text}
+use Rattle.odht_tool_core.specs.declared.keys.NextKey.TheVariants.{Key as is_key, NoKey}
 use Rattle.odht_tool.specs.declared.commands.get.TheConstants.{BATCH}
-use Rattle.odht_tool.specs.declared.failure.Failure.{Failure}
-use Rattle.odht_tool.specs.declared.failure.Failure.TheVariants.{Memory, Output}
+use Rattle.odht_tool_core.specs.declared.failure.Failure.{Failure}
+use Rattle.odht_tool_core.specs.declared.failure.Failure.TheVariants.{Memory, Output}
 use Rattle.odht_tool.proofs.AnswerLists.{AllZip-length, IsFront, front_of, appended_kept, are_answers_append, written_append, found_append}
-use Rattle.odht_tool.proofs.KeyAnswers.{AllZip-one_more, no_answers}
+use Rattle.odht_tool.proofs.KeyAnswers.{no_answers}
+use Rattle.odht_tool_core.proofs.KeyWords.{AllZip-one_more}
+use Rattle.odht_tool_core.specs.Keys.{IsNextKey}
 
 -- the lines before the one of this number were read as these keys, and the input has the bytes of the others left
 pub record AreRead {K : Type 0} (R : List ℕ → K → Type 0) (bytes : List ℕ) (input : Option (List ℕ)) (number : ℕ) (keys : List K) : Type 0 where

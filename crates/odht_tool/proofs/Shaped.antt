@@ -4,11 +4,11 @@ use Rattle.std.specs.Prelude.{Result, MatchOption, MatchResult, IsErrAnd}
 use Rattle.std.specs.Io.KnownBytes.{Keeps}
 use Rattle.std.specs.Option.{ok_or, option_map_or}
 use Rattle.std.proofs.KnownBytes.{Keeps-refl}
-use Rattle.odht_tool.specs.Outcomes.{Outcome, IsDone, IsOutputFailure}
-use Rattle.odht_tool.specs.Outcomes.Outcome.{fails}
-use Rattle.odht_tool.specs.declared.failure.Failure.{Failure}
-use Rattle.odht_tool.specs.declared.shapes.Shape.{Shape}
-use Rattle.odht_tool.specs.declared.status.Status.{Status}
+use Rattle.odht_tool_core.specs.Endings.{Outcome, IsDone, IsOutputFailure}
+use Rattle.odht_tool_core.specs.Endings.Outcome.{fails}
+use Rattle.odht_tool_core.specs.declared.failure.Failure.{Failure}
+use Rattle.odht_tool_core.specs.declared.shapes.Shape.{Shape}
+use Rattle.odht_tool_core.specs.declared.status.Status.{Status}
 
 -- what was found is a shape
 same_shape : (o : Option Shape) (s : Failure) (x : Shape) → Ok x ≡ ok_or o s → o ≡ Some x

@@ -15,15 +15,16 @@ use Rattle.std.specs.Io.KnownBytes.{Keeps}
 use Rattle.std.specs.Str.Lines.{lines}
 use Rattle.odht_header.specs.Coding.{Coding}
 use Rattle.odht_header.specs.Refusals.{view_refusal}
-use Rattle.odht_tool.specs.Gets.{IsAnswered, IsTextOf, IsTextOfNone, by_shape}
-use Rattle.odht_tool.specs.ReadyShapes.{typed_text, key_part, value_part, shape_coding}
+use Rattle.odht_tool.specs.Gets.{IsAnswered, IsTextOf, by_shape}
+use Rattle.odht_tool_core.specs.Keys.{IsTextOfNone}
+use Rattle.odht_tool_core.specs.ReadyShapes.{typed_text, key_part, value_part, shape_coding}
 use Rattle.odht_tool.specs.declared.commands.get.TheConstants.{BATCH}
-use Rattle.odht_tool.specs.declared.failure.Failure.{Failure}
-use Rattle.odht_tool.specs.declared.failure.Failure.TheVariants.{Refused, Input, Line, Output, Memory}
-use Rattle.odht_tool.specs.declared.failure.LineFault.TheVariants.{Key}
-use Rattle.odht_tool.specs.declared.shapes.Hash.{Hash}
-use Rattle.odht_tool.specs.declared.shapes.Shape.{Shape}
-use Rattle.odht_tool.specs.declared.status.Status.{Status}
+use Rattle.odht_tool_core.specs.declared.failure.Failure.{Failure}
+use Rattle.odht_tool_core.specs.declared.failure.Failure.TheVariants.{Refused, Input, Line, Output, Memory}
+use Rattle.odht_tool_core.specs.declared.failure.LineFault.TheVariants.{Key}
+use Rattle.odht_tool_core.specs.declared.shapes.Hash.{Hash}
+use Rattle.odht_tool_core.specs.declared.shapes.Shape.{Shape}
+use Rattle.odht_tool_core.specs.declared.status.Status.{Status}
 
 abbrev pub lines_read : List ℕ → List (List ℕ)
 lines_read bytes = take (2 ^ 64 - 2) (lines bytes)

@@ -1,17 +1,14 @@
 -- What `get` does with the bytes B of a file. R says which word is a text of which key.
---     IsReadAs W S w x     w is a word, by W, and stands for x, by S
 --     IsTextOf p w x       the word w is a text of x, which is of the type p
---     IsTextOfNone R w     the word w is a text of no key
 --     AreAnswers c B ks os os are the values for the keys ks: on valid bytes those that the table's map has, and on any
 --                          bytes only values that are stored with the key
 --     found_status all     the status where all keys were found, or not all
 --     answered_status os   the status where these are the values
---     IsFirstFault R ws w  the word w is one of ws, and the first that is a text of no key
 --     IsAnswered c f g R B ws old new status   the answers to the words ws were written, which took the writer from the
 --                          bytes old to new; f and g are the texts of keys and of values
 --     AreWordsGot c f g R B ws old new r   what `get` returns, r, and writes for the words ws
 --     AreFileWordsGot B h ws old new r     the same of the bytes of a file, where the hash function h, or none, is named
-use Rattle.std.specs.Prelude.{◌≡◌, Bool, ℕ, List, ◌∷◌, ◌++◌, length, map, is_some, slice_index, Option, Some, None, Result, Ok, Err, MatchOption, string_bytes, if◌then◌else◌}
+use Rattle.std.specs.Prelude.{◌≡◌, Bool, ℕ, List, length, map, is_some, slice_index, Option, Some, None, Result, Ok, Err, MatchOption, string_bytes, if◌then◌else◌}
 use Rattle.std.specs.Io.KnownBytes.{Appends, Keeps}
 use Rattle.std.specs.List.{list_all, AllZip}
 use Rattle.odht.specs.Lookups.{HaveStored}
@@ -19,24 +16,19 @@ use Rattle.odht_base.specs.Table.{Table}
 use Rattle.odht_base.specs.Valid.{IsImage}
 use Rattle.odht_header.specs.Coding.{Coding, value_for}
 use Rattle.odht_header.specs.Refusals.{view_refusal}
-use Rattle.odht_tool.specs.ReadyShapes.{Typed, IsTypedWord, StandsFor, typed_text, key_part, value_part, shape_coding, shape_of_bytes}
-use Rattle.odht_tool.specs.Texts.{answers_text}
-use Rattle.odht_tool.specs.declared.failure.Failure.{Failure}
-use Rattle.odht_tool.specs.declared.failure.Failure.TheVariants.{Refused, NoShape, Output, Memory, Key}
-use Rattle.odht_tool.specs.declared.shapes.Hash.{Hash}
-use Rattle.odht_tool.specs.declared.shapes.Part.{Part}
-use Rattle.odht_tool.specs.declared.shapes.Shape.{Shape}
-use Rattle.odht_tool.specs.declared.status.Status.{Status}
-use Rattle.odht_tool.specs.declared.status.Status.TheVariants.{Done, NotDone}
-
-abbrev pub IsReadAs : {X : Type 0} → (List ℕ → Type 0) → (List ℕ → X → Type 0) → List ℕ → X → Type 0
-IsReadAs W S word x = W word × S word x
+use Rattle.odht_tool_core.specs.Keys.{IsReadAs, IsFirstFault}
+use Rattle.odht_tool_core.specs.ReadyShapes.{Typed, IsTypedWord, StandsFor, typed_text, key_part, value_part, shape_coding, shape_of_bytes}
+use Rattle.odht_tool_core.specs.Texts.{answers_text}
+use Rattle.odht_tool_core.specs.declared.failure.Failure.{Failure}
+use Rattle.odht_tool_core.specs.declared.failure.Failure.TheVariants.{Refused, NoShape, Output, Memory, Key}
+use Rattle.odht_tool_core.specs.declared.shapes.Hash.{Hash}
+use Rattle.odht_tool_core.specs.declared.shapes.Part.{Part}
+use Rattle.odht_tool_core.specs.declared.shapes.Shape.{Shape}
+use Rattle.odht_tool_core.specs.declared.status.Status.{Status}
+use Rattle.odht_tool_core.specs.declared.status.Status.TheVariants.{Done, NotDone}
 
 abbrev pub IsTextOf : (p : Part) → List ℕ → Typed p → Type 0
 IsTextOf p = IsReadAs (IsTypedWord p) (StandsFor p)
-
-abbrev pub IsTextOfNone : {K : Type 0} → (List ℕ → K → Type 0) → List ℕ → Type 0
-IsTextOfNone {K = K} R word = (k : K) → R word k → ⊥
 
 pub record AreAnswers {K V : Type 0} (c : Coding K V) (B : List ℕ) (ks : List K) (os : List (Option V)) : Type 0 where
   pub each : length os ≡ length ks
@@ -48,14 +40,6 @@ found_status all = if all then Done else NotDone
 
 abbrev pub answered_status : {V : Type 0} → List (Option V) → Status
 answered_status os = found_status (list_all is_some os)
-
-pub record IsFirstFault {K : Type 0} (R : List ℕ → K → Type 0) (ws : List (List ℕ)) (word : List ℕ) : Type 0 where
-  pub before : List (List ℕ)
-  pub after : List (List ℕ)
-  pub place : ws ≡ before ++ (word ∷ after)
-  pub keys : List K
-  pub earlier : AllZip R before keys
-  pub fault : IsTextOfNone R word
 
 -- ---- the words of the command line
 pub record IsAnswered {K V : Type 0} (c : Coding K V) (f : K → List ℕ) (g : V → List ℕ) (R : List ℕ → K → Type 0) (B : List ℕ) (ws : List (List ℕ)) (old new : Option (List ℕ)) (returned : Status) : Type 0 where

@@ -1,9 +1,10 @@
 //! Runs the commands, each from its parsed words to the status of the program.
-use crate::arguments::{Command, Keys, Request, parse};
-use crate::failure::Failure;
-use crate::files::read_file;
-use crate::help::help_text;
-use crate::status::{Status, of_output};
+use odht_tool_core::arguments::{Command, Keys, Request, parse};
+use odht_tool_core::failure::Failure;
+use odht_tool_core::files::read_file;
+use odht_tool_core::help::help_text;
+use odht_tool_core::info::info_file;
+use odht_tool_core::status::{Status, of_output};
 use std::alloc::Global;
 use std::io::{BufRead, ErrorKind, Write};
 use std::rt::{Clock, Files};
@@ -12,7 +13,6 @@ mod build;
 mod check;
 mod dump;
 mod get;
-mod info;
 
 /// Does what the words ask for. Each failure is reported by a line on `errors`; where that cannot
 /// be written either, the status alone reports it. Where nobody reads `output` any more, nothing is
@@ -57,7 +57,7 @@ fn run_command<R: Files + AllocGlobal + Clock, I: BufRead, O: Write, E: Write>(
     let alloc: Global = rt.alloc();
     let load = || read_file(rt, file);
     match command {
-        Command::Info => info::info_file(alloc, load()?.as_slice(), output),
+        Command::Info => info_file(alloc, load()?.as_slice(), output),
         Command::Check { hash } => check::check_file(load()?.as_slice(), hash, output),
         Command::Get {
             hash,

@@ -3,23 +3,10 @@
 //! docs/TOOL.md describes each command.
 #![tactic(auto)]
 
-mod answers;
-mod arguments;
 mod commands;
-mod early;
-mod failure;
-mod files;
-mod help;
-mod histogram;
-mod lines;
-mod numbers;
-mod progress;
 mod shapes;
-mod status;
-mod stored;
-mod text;
 
-use status::Status;
+use odht_tool_core::status::Status;
 use std::alloc::Global;
 use std::env;
 use std::io::{self, BufReader, BufWriter};

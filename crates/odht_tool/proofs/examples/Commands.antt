@@ -6,13 +6,14 @@ use Rattle.odht_base.specs.Bytes.{overwritten_at}
 use Rattle.odht_header.specs.declared.error.Error.TheVariants.{TooShort}
 use Rattle.odht_header.proofs.examples.Apart.{unequal_lists}
 use Rattle.odht_header.proofs.examples.Opened.{opened}
-use Rattle.odht_tool.specs.GroupNumbers.{groups_to}
-use Rattle.odht_tool.specs.Outcomes.{IsDone, check_outcome, dump_outcome}
-use Rattle.odht_tool.specs.Outcomes.Outcome.{writes, fails}
-use Rattle.odht_tool.specs.declared.failure.Failure.TheVariants.{Refused, NoShape, Memory}
-use Rattle.odht_tool.specs.declared.shapes.Hash.TheVariants.{Unhash}
-use Rattle.odht_tool.specs.declared.status.Status.TheVariants.{Done, NotDone}
-use Rattle.odht_tool.proofs.examples.Shapes.{one_bytes}
+use Rattle.odht_tool_core.specs.GroupNumbers.{groups_to}
+use Rattle.odht_tool.specs.Outcomes.{check_outcome, dump_outcome}
+use Rattle.odht_tool_core.specs.Endings.{IsDone}
+use Rattle.odht_tool_core.specs.Endings.Outcome.{writes, fails}
+use Rattle.odht_tool_core.specs.declared.failure.Failure.TheVariants.{Refused, NoShape, Memory}
+use Rattle.odht_tool_core.specs.declared.shapes.Hash.TheVariants.{Unhash}
+use Rattle.odht_tool_core.specs.declared.status.Status.TheVariants.{Done, NotDone}
+use Rattle.odht_tool_core.proofs.examples.Shapes.{one_bytes}
 
 -- ---- check
 -- a valid table

@@ -22,19 +22,19 @@ use Rattle.odht_header.proofs.examples.Opened.{opened}
 use Rattle.odht_tool.specs.GetLines.{lines_read, AreFirstAnswered, IsLineFault, AreFileLinesGot, lines_of_shape}
 use Rattle.odht_tool.specs.GetParts.{IsFlushed}
 use Rattle.odht_tool.specs.Gets.{AreAnswers, IsAnswered, IsTextOf, answered_status}
-use Rattle.odht_tool.specs.ReadyShapes.{shape_coding, typed_text}
-use Rattle.odht_tool.specs.Texts.{answers_text}
-use Rattle.odht_tool.specs.declared.failure.Failure.TheVariants.{Refused, NoShape, Input, Line, Output, Memory}
-use Rattle.odht_tool.specs.declared.failure.LineFault.TheVariants.{NoTab, Key}
-use Rattle.odht_tool.specs.declared.shapes.Hash.TheVariants.{Unhash}
-use Rattle.odht_tool.specs.declared.shapes.Part.TheVariants.{U32}
-use Rattle.odht_tool.specs.declared.shapes.Shape.TheVariants.{DirectU32ToU32}
-use Rattle.odht_tool.specs.declared.status.Status.{Status}
-use Rattle.odht_tool.specs.declared.status.Status.TheVariants.{Done, NotDone}
+use Rattle.odht_tool_core.specs.ReadyShapes.{shape_coding, typed_text}
+use Rattle.odht_tool_core.specs.Texts.{answers_text}
+use Rattle.odht_tool_core.specs.declared.failure.Failure.TheVariants.{Refused, NoShape, Input, Line, Output, Memory}
+use Rattle.odht_tool_core.specs.declared.failure.LineFault.TheVariants.{NoTab, Key}
+use Rattle.odht_tool_core.specs.declared.shapes.Hash.TheVariants.{Unhash}
+use Rattle.odht_tool_core.specs.declared.shapes.Part.TheVariants.{U32}
+use Rattle.odht_tool_core.specs.declared.shapes.Shape.TheVariants.{DirectU32ToU32}
+use Rattle.odht_tool_core.specs.declared.status.Status.{Status}
+use Rattle.odht_tool_core.specs.declared.status.Status.TheVariants.{Done, NotDone}
 use Rattle.odht_tool.proofs.AnswerLists.{are_answers_append}
 use Rattle.odht_tool.proofs.KeyAnswers.{no_answers, nothing_flushed}
 use Rattle.odht_tool.proofs.examples.Gots.{no_refusal}
-use Rattle.odht_tool.proofs.examples.Shapes.{one_item, one_bytes}
+use Rattle.odht_tool_core.proofs.examples.Shapes.{one_item, one_bytes}
 
 abbrev C : Coding ℕ ℕ
 C = shape_coding DirectU32ToU32

@@ -5,11 +5,11 @@ use Rattle.odht_header.specs.Refusals.{view_refusal}
 use Rattle.odht_header.proofs.examples.Apart.{unequal_lists}
 use Rattle.odht_header.proofs.examples.Opened.{opened}
 use Rattle.odht_tool.specs.Gets.{answered_status, words_of_shape}
-use Rattle.odht_tool.specs.ReadyShapes.{shape_format}
-use Rattle.odht_tool.specs.declared.failure.Failure.TheVariants.{Memory}
-use Rattle.odht_tool.specs.declared.shapes.Shape.TheVariants.{DirectU32ToU32}
-use Rattle.odht_tool.specs.declared.status.Status.TheVariants.{Done, NotDone}
-use Rattle.odht_tool.proofs.examples.Shapes.{one_bytes}
+use Rattle.odht_tool_core.specs.ReadyShapes.{shape_format}
+use Rattle.odht_tool_core.specs.declared.failure.Failure.TheVariants.{Memory}
+use Rattle.odht_tool_core.specs.declared.shapes.Shape.TheVariants.{DirectU32ToU32}
+use Rattle.odht_tool_core.specs.declared.status.Status.TheVariants.{Done, NotDone}
+use Rattle.odht_tool_core.proofs.examples.Shapes.{one_bytes}
 
 -- the status is `NotDone` where a key is absent
 pub statuses : (answered_status {V = ℕ} (Some 7 ∷ Some 0 ∷ []) ≡ Done)

@@ -6,20 +6,20 @@ ghost use Rattle.odht_base.specs.Valid.{IsImage};
 ghost use Rattle.odht.specs.Inserts.{IsFresh};
 ghost use Rattle.odht.specs.Lists.{encoded_all, IsAfterInserts};
 
-use super::check::shape_of;
-use crate::arguments::{BuildOptions, Percent};
-use crate::failure::{Failure, LineFault};
-use crate::files::replace_file;
-use crate::lines::{read_line, split_at_tab};
-use crate::progress::Progress;
 use crate::shapes::{
     Bytes16Set, Bytes16ToU32, Bytes16ToU64, Bytes20ToU64, Bytes32Set, Bytes32ToU64, DirectU32ToU32,
-    Hash, Shape, U32ToU32, U64ToU32, U64ToU64, for_shape,
+    U32ToU32, U64ToU32, U64ToU64, for_shape,
 };
-use crate::status::Status;
-use crate::text::Text;
 use odht::HashTableOwned;
 use odht::config::{Coded, Config};
+use odht_tool_core::arguments::{BuildOptions, Percent};
+use odht_tool_core::failure::Failure;
+use odht_tool_core::files::replace_file;
+use odht_tool_core::lines::{parse_pair, read_line};
+use odht_tool_core::progress::Progress;
+use odht_tool_core::shapes::{Hash, Shape, shape_of};
+use odht_tool_core::status::Status;
+use odht_tool_core::text::Text;
 use std::alloc::Global;
 use std::io::{BufRead, Write};
 use std::rt::{Clock, Files};
@@ -177,21 +177,4 @@ fn insert_batch<C: Config>(
         Ok(()) => Ok(()),
         Err(_) => Err(Failure::Memory),
     }
-}
-
-/// The key and the value of a line: on either side of its first tab, or, where the text of a value is empty, of a line
-/// without a tab.
-pub fn parse_pair<K: Text, V: Text>(line: &[u8]) -> Result<(K, V), LineFault> {
-    let (key, value) = match split_at_tab(line) {
-        Some(parts) => parts,
-        None => {
-            if V::parse(b"").is_none() {
-                return Err(LineFault::NoTab);
-            }
-            (line, b"".as_slice())
-        }
-    };
-    let key = K::parse(key).ok_or(LineFault::Key)?;
-    let value = V::parse(value).ok_or(LineFault::Value)?;
-    Ok((key, value))
 }

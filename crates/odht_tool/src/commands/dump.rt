@@ -1,33 +1,27 @@
 //! `odht dump`: the pairs of a table file.
-ghost use Rattle.std.specs.Prelude.{◌≡◌, ◌+◌, ◌<◌, true, false, length, OnOk};
+ghost use Rattle.std.specs.Prelude.{◌≡◌, true, false, OnOk};
 ghost use Rattle.std.specs.Io.KnownBytes.{Appends};
-ghost use Rattle.odht_base.specs.Decoded.{decoded_pairs, header_slots};
-ghost use Rattle.odht_base.specs.Load.{IsSlotCount};
+ghost use Rattle.odht_base.specs.Decoded.{decoded_pairs};
 ghost use Rattle.odht_base.specs.Table.{Table, walk};
 ghost use Rattle.odht_base.specs.Valid.{IsImage};
-ghost use Rattle.odht_raw.specs.Dumps.{parts_of};
-ghost use Rattle.odht_raw.specs.Parts.{TableParts};
 ghost use Rattle.odht_raw.specs.Walks.{decoded_all};
-ghost use Rattle.odht_tool.specs.Outcomes.{IsDone, pairs_outcome, slots_outcome, dump_of_shape};
-ghost use Rattle.odht_tool.specs.Outcomes.{dump_outcome, slot_line, slots_text};
-ghost use Rattle.odht_tool.specs.Texts.{pairs_text};
+ghost use Rattle.odht_tool.specs.Outcomes.{pairs_outcome, dump_of_shape, dump_outcome};
+ghost use Rattle.odht_tool_core.specs.Endings.{IsDone};
+ghost use Rattle.odht_tool_core.specs.Texts.{pairs_text};
 
-use super::check::shape_of;
-use crate::answers::write_pair;
-use crate::failure::Failure;
-use crate::histogram::groups_to;
 use crate::shapes::{
     Bytes16Set, Bytes16ToU32, Bytes16ToU64, Bytes20ToU64, Bytes32Set, Bytes32ToU64, DirectU32ToU32,
-    Hash, Shape, U32ToU32, U64ToU32, U64ToU64, for_shape,
+    U32ToU32, U64ToU32, U64ToU64, for_shape,
 };
-use crate::status::{Status, of_output};
-use crate::text::Text;
-use odht::bytes::{Borrowed, ByteArray};
+use odht::bytes::Borrowed;
 use odht::config::{Coded, Config};
-use odht::error::Error;
-use odht::hash::HashFn;
-use odht::memory_layout::{Allocation, Entries};
 use odht::{HashTable, Iter};
+use odht_tool_core::answers::write_pair;
+use odht_tool_core::failure::Failure;
+use odht_tool_core::shapes::{Hash, Shape, shape_of};
+use odht_tool_core::slots::dump_slots;
+use odht_tool_core::status::{Status, of_output};
+use odht_tool_core::text::Text;
 use std::io::{self, Write};
 
 /// `odht dump` of the bytes of a file, with `--slots` or without: writes a line for each pair, in
@@ -108,66 +102,4 @@ where
         write_pair(&key, &value, output)?;
     }
     Ok(())
-}
-
-fn dump_slots<C: Config, O: Write>(bytes: &[u8], output: &mut O) -> Result<Status, Failure>
-where
-    C::Key: Text,
-    C::Value: Text,
-    ensures { IsDone (slots_outcome ⟦<C as Coded>⟧.coding C.Key.text C.Value.text bytes.now)
-        (O.contents output.old) (O.contents output.new) result }
-{
-    let allocation = Allocation::<C, Borrowed<'_>>::from_raw_bytes(Borrowed::new(bytes)).map_err(
-        Failure::Refused,
-    )?;
-    of_output(write_slots(&allocation, output))
-}
-
-// Writes a line for each occupied slot.
-fn write_slots<C: Config, O: Write>(
-    allocation: &Allocation<C, Borrowed<'_>>,
-    output: &mut O,
-) -> io::Result<()>
-where
-    C::Key: Text,
-    C::Value: Text,
-    ensures { let c = ⟦<C as Coded>⟧.coding
-        in let B = allocation.now.0.now
-        in OnOk result (Appends (O.contents output.old) (O.contents output.new)
-        (slots_text c C.Key.text C.Value.text (parts_of c.format B) (header_slots B))) }
-{
-    let (control, entries) = allocation.data_slices();
-    for slot in 0..entries.len() {
-        write_slot::<C, O>(control, &entries, slot, output)?;
-    }
-    Ok(())
-}
-
-// Writes the line of a slot, where it is occupied: its number, its control byte, how many groups a search reads, and its
-// pair.
-fn write_slot<C: Config, O: Write>(
-    control: &[u8],
-    entries: &Entries<'_, C::EncodedKey, C::EncodedValue>,
-    slot: usize,
-    output: &mut O,
-) -> io::Result<()>
-where
-    C::Key: Text,
-    C::Value: Text,
-    requires slots { IsSlotCount entries.now.slots }
-    requires slot { slot < entries.now.slots }
-    requires control { length control.now ≡ entries.now.slots + 16 }
-    ensures { let parts : TableParts = record { control = control.now; entries = entries.now }
-        in OnOk result (Appends (O.contents output.old) (O.contents output.new)
-        (slot_line ⟦<C as Coded>⟧.coding C.Key.text C.Value.text parts slot)) }
-{
-    let tag = control[slot];
-    if tag >= 128 {
-        return Ok(());
-    }
-    let entry = entries.get(slot);
-    let groups = groups_to(C::H::hash(entry.key.as_slice()), slot, entries.len());
-    write!(output, "{slot}\t{tag}\t{groups}\t")?;
-    let (key, value) = (C::decode_key(&entry.key), C::decode_value(&entry.value));
-    write_pair(&key, &value, output)
 }

@@ -1,29 +1,28 @@
 //! `odht get`: lookups in a table file.
-ghost use Rattle.std.specs.Prelude.{◌≡◌, None, [], ◌∷◌, ◌++◌, IfOk, IfErr, OnOk, map, string_bytes};
-ghost use Rattle.std.specs.List.{AllZip};
+ghost use Rattle.std.specs.Prelude.{◌≡◌, None, IfOk, IfErr, OnOk, map, string_bytes};
 ghost use Rattle.odht_header.specs.Refusals.{view_refusal};
-ghost use Rattle.odht_tool.specs.Gets.{IsReadAs, AreAnswers, AreWordsGot, AreFileWordsGot};
-ghost use Rattle.odht_tool.specs.Gets.{words_of_shape};
-ghost use Rattle.odht_tool.specs.GetParts.{IsOpenFailure, NamesWord, NamesFault, AreKeysAnswered};
-ghost use Rattle.odht_tool.specs.GetParts.{IsKeysFailure, IsFlushed, IsNextKey};
+ghost use Rattle.odht_tool.specs.Gets.{AreAnswers, AreWordsGot, AreFileWordsGot, words_of_shape};
+ghost use Rattle.odht_tool.specs.GetParts.{IsOpenFailure, AreKeysAnswered};
+ghost use Rattle.odht_tool.specs.GetParts.{IsKeysFailure, IsFlushed};
 ghost use Rattle.odht_tool.specs.GetLines.{AreLinesAnswered, AreLinesGot, AreFileLinesGot};
 ghost use Rattle.odht_tool.specs.GetLines.{lines_of_shape};
+ghost use Rattle.odht_tool_core.specs.Keys.{IsReadAs};
 
-use super::check::shape_of;
-use crate::answers::{absent_values, are_found, write_answers};
-use crate::failure::{Failure, LineFault};
-use crate::lines::read_line;
 use crate::shapes::{
     Bytes16Set, Bytes16ToU32, Bytes16ToU64, Bytes20ToU64, Bytes32Set, Bytes32ToU64, DirectU32ToU32,
-    Hash, Shape, U32ToU32, U64ToU32, U64ToU64, for_shape,
+    U32ToU32, U64ToU32, U64ToU64, for_shape,
 };
-use crate::status::Status;
-use crate::text::Text;
 use odht::HashTable;
 use odht::bytes::Borrowed;
 use odht::config::{Coded, Config};
+use odht_tool_core::answers::{absent_values, are_found, write_answers};
+use odht_tool_core::failure::{Failure, LineFault};
+use odht_tool_core::keys::{NextKey, next_key, parse_keys, push_key};
+use odht_tool_core::shapes::{Hash, Shape, shape_of};
+use odht_tool_core::status::Status;
+use odht_tool_core::text::Text;
 use std::alloc::{AllocError, Global};
-use std::io::{self, BufRead, Write};
+use std::io::{BufRead, Write};
 
 /// How many keys are looked up at once.
 const BATCH: usize = 1024;
@@ -105,39 +104,6 @@ where
     Ok(Status::of(is_all_found))
 }
 
-// The keys of the words, or the first word that is none.
-fn parse_keys<K: Text>(alloc: Global, words: &[String]) -> Result<Vec<K>, Failure>
-    ensures keys { IfOk result
-        (λ keys. AllZip (IsReadAs K.is_word K.stands_for) (map string_bytes words.now) keys.items) }
-    ensures fault { IfErr result
-        (NamesFault (IsReadAs K.is_word K.stands_for) (map string_bytes words.now)) }
-{
-    let mut keys = Vec::new(alloc);
-    for word in words {
-        match K::parse(word.as_str().as_bytes()) {
-            Some(key) => push_key(&mut keys, key)?,
-            None => return Err(wrong_key(alloc, word.as_str())),
-        }
-    }
-    Ok(keys)
-}
-
-fn push_key<K: Text>(keys: &mut Vec<K>, key: K) -> Result<(), Failure>
-    ensures ok { OnOk result (keys.new.items ≡ keys.old.items ++ key ∷ []) }
-    ensures err { IfErr result (λ failure. failure ≡ Failure.Memory) }
-{
-    keys.push(key).map_err(|_| Failure::Memory)
-}
-
-fn wrong_key(alloc: Global, word: &str) -> Failure
-    ensures { NamesWord word.now result }
-{
-    match String::from_str(alloc, word) {
-        Ok(word) => Failure::Key(word),
-        Err(_) => Failure::Memory,
-    }
-}
-
 // Looks up the keys of the lines, a batch at a time.
 fn get_lines<C: Config, I: BufRead, O: Write>(
     alloc: Global,
@@ -187,31 +153,6 @@ where
     }
     let is_last_found = answer_keys(alloc, table, keys.as_slice(), output)?;
     Ok(Status::of(is_last_found && is_all_found))
-}
-
-/// What the next line of an input is.
-#[derive(Drop)]
-enum NextKey<K> {
-    /// The text of this key.
-    Key(K),
-    /// The text of no key.
-    NoKey,
-    /// There is no line.
-    End,
-}
-
-// Reads the next line, and parses its key. The bytes of `line` are replaced.
-fn next_key<K: Text, I: BufRead>(input: &mut I, line: &mut Vec<u8>) -> io::Result<NextKey<K>>
-    ensures { IfOk result (IsNextKey (IsReadAs K.is_word K.stands_for)
-        (I.remaining input.old) (I.remaining input.new)) }
-{
-    if !read_line(input, line)? {
-        return Ok(NextKey::End);
-    }
-    match K::parse(line.as_slice()) {
-        Some(key) => Ok(NextKey::Key(key)),
-        None => Ok(NextKey::NoKey),
-    }
 }
 
 // Answers the keys where they are a batch, and drops them. Returns whether each was found, and

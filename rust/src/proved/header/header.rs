@@ -65,16 +65,17 @@ impl<'a> Header<'a> {
     pub fn sanity_check<C: Config>(&self, raw_bytes_len: usize) -> Result<(), Error> {
         self.check_tag()?;
         self.check_version()?;
-        self.check_expected_size(METADATA_SIZE_AT, Part::EntryMetadata, METADATA_SIZE)?;
+        self.check_metadata_size()?;
         self.check_expected_size(KEY_SIZE_AT, Part::EncodedKey, C::EncodedKey::LEN)?;
         self.check_expected_size(VALUE_SIZE_AT, Part::EncodedValue, C::EncodedValue::LEN)?;
-        self.check_expected_size(HEADER_SIZE_AT, Part::Header, HEADER_SIZE)?;
+        self.check_header_size()?;
         self.check_slot_count()?;
         self.check_length::<C>(raw_bytes_len)
     }
 
+    /// Whether the first four bytes are those of each table; else `WrongTag`.
     #[inline(always)]
-    fn check_tag(&self) -> Result<(), Error> {
+    pub fn check_tag(&self) -> Result<(), Error> {
         let found = self.word(TAG_AT);
         if found == HEADER_TAG {
             Ok(())
@@ -83,8 +84,9 @@ impl<'a> Header<'a> {
         }
     }
 
+    /// Whether the version is the one that is read; else `WrongVersion`.
     #[inline(always)]
-    fn check_version(&self) -> Result<(), Error> {
+    pub fn check_version(&self) -> Result<(), Error> {
         let found = self.word(VERSION_AT);
         if found == CURRENT_FILE_FORMAT_VERSION {
             Ok(())
@@ -100,6 +102,18 @@ impl<'a> Header<'a> {
         [index!(bytes[at]), index!(bytes[at + 1]), index!(bytes[at + 2]), index!(bytes[at + 3])]
     }
 
+    /// Whether by the header a control byte takes one byte; else `WrongSizeOf`.
+    #[inline(always)]
+    pub fn check_metadata_size(&self) -> Result<(), Error> {
+        self.check_expected_size(METADATA_SIZE_AT, Part::EntryMetadata, METADATA_SIZE)
+    }
+
+    /// Whether by the header it has 32 bytes; else `WrongSizeOf`.
+    #[inline(always)]
+    pub fn check_header_size(&self) -> Result<(), Error> {
+        self.check_expected_size(HEADER_SIZE_AT, Part::Header, HEADER_SIZE)
+    }
+
     // Whether by the byte `at` the part has this size; else `WrongSizeOf`.
     #[inline(always)]
     fn check_expected_size(&self, at: usize, part: Part, expected: usize) -> Result<(), Error> {
@@ -112,8 +126,10 @@ impl<'a> Header<'a> {
         }
     }
 
+    /// Whether the slot count is a power of two, and at least 16; else `SlotCountNotPowerOfTwo`, then
+    /// `SlotCountTooSmall`.
     #[inline(always)]
-    fn check_slot_count(&self) -> Result<(), Error> {
+    pub fn check_slot_count(&self) -> Result<(), Error> {
         let found = self.slot_count();
         if !found.is_power_of_two() {
             Err(Error::SlotCountNotPowerOfTwo { found })
@@ -169,6 +185,20 @@ impl<'a> Header<'a> {
             return Err(Error::TooManyItems { count: stated, max });
         }
         Ok(())
+    }
+
+    /// How many bytes a key has by the header.
+    #[inline]
+    pub fn key_size(&self) -> u8 {
+        let bytes = self.bytes;
+        index!(bytes[KEY_SIZE_AT])
+    }
+
+    /// How many bytes a value has by the header.
+    #[inline]
+    pub fn value_size(&self) -> u8 {
+        let bytes = self.bytes;
+        index!(bytes[VALUE_SIZE_AT])
     }
 
     /// The header's item count.

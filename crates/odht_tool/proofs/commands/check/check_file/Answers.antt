@@ -2,10 +2,10 @@ use Rattle.std.proofs.Common.{rules, ◌≡◌, ◌∙◌, Err, sym, ap, if◌th
 use Rattle.std.specs.Prelude.{slice_index}
 use Rattle.std.specs.Io.KnownBytes.{Appends}
 use Rattle.odht_tool.specs.Outcomes.{check_of_shape}
-use Rattle.odht_tool.specs.ReadyShapes.{shape_of_bytes}
-use Rattle.odht_tool.specs.Texts.{checked_text}
-use Rattle.odht_tool.specs.declared.failure.Failure.TheVariants.{NoShape}
-use Rattle.odht_tool.specs.declared.status.Status.TheVariants.{Done, NotDone}
+use Rattle.odht_tool_core.specs.ReadyShapes.{shape_of_bytes}
+use Rattle.odht_tool_core.specs.Texts.{checked_text}
+use Rattle.odht_tool_core.specs.declared.failure.Failure.TheVariants.{NoShape}
+use Rattle.odht_tool_core.specs.declared.status.Status.TheVariants.{Done, NotDone}
 use Rattle.odht_tool.proofs.Shaped.{without_shape, with_shape, failed_output}
 use Rattle.odht_tool.proofs.commands.check.check_file.Goals as goal
 

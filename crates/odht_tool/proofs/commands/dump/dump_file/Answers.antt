@@ -1,8 +1,8 @@
 use Rattle.std.proofs.Common.{rules, ◌≡◌, ◌∙◌, Err, sym}
 use Rattle.std.specs.Prelude.{slice_index}
 use Rattle.odht_tool.specs.Outcomes.{dump_of_shape}
-use Rattle.odht_tool.specs.ReadyShapes.{shape_of_bytes}
-use Rattle.odht_tool.specs.declared.failure.Failure.TheVariants.{NoShape}
+use Rattle.odht_tool_core.specs.ReadyShapes.{shape_of_bytes}
+use Rattle.odht_tool_core.specs.declared.failure.Failure.TheVariants.{NoShape}
 use Rattle.odht_tool.proofs.Shaped.{without_shape, with_shape}
 use Rattle.odht_tool.proofs.commands.dump.dump_file.Goals as goal
 

@@ -1,6 +1,6 @@
 use Rattle.std.proofs.Common.{◌≡◌, ◌++◌}
 use Rattle.std.specs.Io.KnownBytes.{Appends}
-use Rattle.odht_tool.specs.Texts.{pairs_text}
+use Rattle.odht_tool_core.specs.Texts.{pairs_text}
 use Rattle.odht_tool.proofs.commands.dump.write_pairs.Given as goal
 
 -- the lines of the pairs so far are written, and these and what is left are the walk

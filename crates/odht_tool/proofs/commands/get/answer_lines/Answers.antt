@@ -2,9 +2,10 @@ use Rattle.std.proofs.Common.{rules, length, ◌≡◌, ◌∙◌, ◌+◌, ◌&
 use Rattle.std.proofs.KnownBytes.{Keeps-refl}
 use Rattle.odht_header.specs.Coding.{coding_of}
 use Rattle.odht_tool.specs.GetLines.{AreLinesAnswered}
-use Rattle.odht_tool.specs.GetParts.{AreKeysAnswered, IsNextKey}
-use Rattle.odht_tool.specs.Gets.{IsReadAs, found_status}
-use Rattle.odht_tool.specs.declared.failure.Failure.TheVariants.{Memory}
+use Rattle.odht_tool.specs.GetParts.{AreKeysAnswered}
+use Rattle.odht_tool.specs.Gets.{found_status}
+use Rattle.odht_tool_core.specs.Keys.{IsReadAs, IsNextKey}
+use Rattle.odht_tool_core.specs.declared.failure.Failure.TheVariants.{Memory}
 use Rattle.odht_tool.proofs.LinesTaken.{none_taken, one_taken, batch_at_most, batch_answered, lines_answered, line_fault, first_answered, keys_failed}
 use Rattle.odht_tool.proofs.commands.get.answer_lines.Goals as goal
 use Rattle.odht_tool.proofs.commands.get.answer_lines.Goals.{else-loop-number-test, then-loop-number-test+in-Ok-End, then-is_last_found, else-is_last_found}

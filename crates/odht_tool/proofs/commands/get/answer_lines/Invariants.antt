@@ -1,6 +1,6 @@
 use Rattle.std.proofs.Common.{length, ◌<◌}
 use Rattle.odht_header.specs.Coding.{coding_of}
-use Rattle.odht_tool.specs.Gets.{IsReadAs}
+use Rattle.odht_tool_core.specs.Keys.{IsReadAs}
 use Rattle.odht_tool.specs.declared.commands.get.TheConstants.{BATCH}
 use Rattle.odht_tool.proofs.LinesTaken.{AreTaken}
 use Rattle.odht_tool.proofs.commands.get.answer_lines.Given as goal

@@ -2,8 +2,8 @@ use Rattle.std.proofs.Common.{rules, ◌≡◌, ◌∙◌, Err, sym}
 use Rattle.std.specs.Prelude.{slice_index}
 use Rattle.std.specs.Io.KnownBytes.{Keeps}
 use Rattle.odht_tool.specs.GetLines.{lines_of_shape}
-use Rattle.odht_tool.specs.ReadyShapes.{shape_of_bytes}
-use Rattle.odht_tool.specs.declared.failure.Failure.TheVariants.{NoShape}
+use Rattle.odht_tool_core.specs.ReadyShapes.{shape_of_bytes}
+use Rattle.odht_tool_core.specs.declared.failure.Failure.TheVariants.{NoShape}
 use Rattle.odht_tool.proofs.Shaped.{without_shape_said, with_shape_said}
 use Rattle.odht_tool.proofs.commands.get.get_file_lines.Goals as goal
 

@@ -2,8 +2,8 @@ use Rattle.std.proofs.Common.{rules, ◌≡◌, ◌∙◌, Err, map, sym}
 use Rattle.std.specs.Prelude.{slice_index, string_bytes}
 use Rattle.std.specs.Io.KnownBytes.{Keeps}
 use Rattle.odht_tool.specs.Gets.{words_of_shape}
-use Rattle.odht_tool.specs.ReadyShapes.{shape_of_bytes}
-use Rattle.odht_tool.specs.declared.failure.Failure.TheVariants.{NoShape}
+use Rattle.odht_tool_core.specs.ReadyShapes.{shape_of_bytes}
+use Rattle.odht_tool_core.specs.declared.failure.Failure.TheVariants.{NoShape}
 use Rattle.odht_tool.proofs.Shaped.{without_shape_said, with_shape_said}
 use Rattle.odht_tool.proofs.commands.get.get_file_words.Goals as goal
 

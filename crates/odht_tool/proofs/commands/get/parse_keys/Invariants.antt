@@ -1,9 +1,0 @@
-use Rattle.std.proofs.Common.{take, map}
-use Rattle.std.specs.List.{AllZip}
-use Rattle.std.specs.Prelude.{string_bytes}
-use Rattle.odht_tool.specs.Gets.{IsReadAs}
-use Rattle.odht_tool.proofs.commands.get.parse_keys.Given as goal
-
--- the words so far are texts of the keys
-abbrev pub invariant-loop-word : goal.invariant-loop-word
-invariant-loop-word g l = AllZip (IsReadAs g.K.Text.is_word g.K.Text.stands_for) (map string_bytes (take l.word-index l.words)) l.keys.items

@@ -1,7 +1,0 @@
-use Rattle.std.proofs.Common.{◌∙◌, ap, length}
-use Rattle.odht_tool.specs.InfoNumbers.{sized_parts, found_groups}
-use Rattle.odht_tool.proofs.Tallies.{length-tallies}
-use Rattle.odht_tool.proofs.commands.info.info_file.Goals as goal
-
-pub write_all-requires : goal.write_all-requires
-write_all-requires g c = ap length c.in_ok-numbers.ensures.ok.histogram.counts ∙ length-tallies (found_groups (sized_parts c.args.bytes.now))

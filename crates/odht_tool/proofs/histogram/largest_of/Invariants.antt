@@ -1,7 +1,0 @@
-use Rattle.std.proofs.Common.{◌≡◌, take}
-use Rattle.odht_tool.specs.InfoNumbers.{largest}
-use Rattle.odht_tool.proofs.histogram.largest_of.Given as goal
-
--- it is the largest of the counts so far
-abbrev pub invariant-loop-count : goal.invariant-loop-count
-invariant-loop-count l = l.most ≡ largest (take l.count-index l.counts)

@@ -1,6 +1,0 @@
-use Rattle.odht_tool.specs.InfoNumbers.{IsHistogram, group_numbers}
-use Rattle.odht_tool.proofs.stored.StoredTable.histogram.Given as goal
-
--- the occupied slots so far are counted
-abbrev pub invariant-loop-slot : goal.invariant-loop-slot
-invariant-loop-slot l = IsHistogram (group_numbers l.self l.hash l.slot) l.histogram

@@ -1,0 +1,64 @@
+-- What holds of the slots of a table of any sizes, slot by slot.
+use Rattle.std.proofs.Common.{◌≡◌, ◌∙◌, ℕ, ◌+◌, ◌<◌, ◌≤◌, ◌&&◌, Bool, true, false, not, cond, is_some, is_none, [], ◌∷◌, ◌++◌, Option, Some, None, length, map, refl, ap, ap₂, arith, append-nil, slice_index, nat_le}
+use Rattle.std.proofs.Math.Bool.{and-false}
+use Rattle.std.specs.List.{filter, range_with_len}
+use Rattle.std.proofs.lemmas.Bool.{le-leb}
+use Rattle.std.proofs.lemmas.List.{map-append, length-map}
+use Rattle.std.proofs.lemmas.List.Elements.{filter-append}
+use Rattle.std.proofs.lemmas.List.FromFn.{length-range_with_len}
+use Rattle.std.proofs.lemmas.List.Sums.{length-filter, count_by-le-length}
+use Rattle.odht_base.specs.Decoded.{slot_key, counts_as_free}
+use Rattle.odht_header.specs.Refusals.{first_slot, control_mismatch}
+use Rattle.odht_header.specs.declared.error.Error.{Error}
+use Rattle.odht_header.proofs.lemmas.FirstErrors.{first_slot-None, None-first_slot}
+use Rattle.odht_tool_core.specs.GroupNumbers.{groups_to}
+use Rattle.odht_tool_core.specs.InfoNumbers.{SizedParts, sized_format, least_key_len, agrees, occupied, group_numbers}
+use Rattle.odht_tool_core.specs.ReadyShapes.{hash_of}
+use Rattle.odht_tool_core.specs.declared.shapes.Hash.{Hash}
+use Rattle.odht_tool_core.proofs.Counting.{slots_more}
+
+module _ (T : SizedParts) (h : Hash) where
+  abbrev mismatch : ℕ → Option Error
+  mismatch = control_mismatch (sized_format T h) T.entries T.control
+
+  -- where a slot has another control byte than the tag of its key, the hash function does not agree
+  pub disagrees : (i : ℕ) → i < T.slots → is_some (control_mismatch (sized_format T h) T.entries T.control i) ≡ true → agrees T h ≡ false
+  disagrees i low some = ap (λ t. nat_le (least_key_len h) T.key_len && t) (go (first_slot mismatch T.slots) refl) ∙ and-false _
+    where
+      go : (o : Option Error) → first_slot mismatch T.slots ≡ o → is_none o ≡ false
+      go None e = absurd (let none = first_slot-None mismatch T.slots e i low in cc (none, some))
+      go (Some x) e = refl
+
+  -- and where none has, and keys are long enough, it does
+  pub all_agree : least_key_len h ≤ T.key_len → ((i : ℕ) → i < T.slots → control_mismatch (sized_format T h) T.entries T.control i ≡ None) → agrees T h ≡ true
+  all_agree long none =
+      ap₂ (λ s t. s && t) (le-leb (least_key_len h) T.key_len long) (ap is_none (None-first_slot mismatch T.slots none))
+
+  -- ---- the occupied slots
+  abbrev is_occupied : ℕ → Bool
+  is_occupied i = not (counts_as_free (slice_index T.control i))
+
+  abbrev groups_of : ℕ → ℕ
+  groups_of i = groups_to (hash_of h (slot_key (sized_format T h) T.entries i)) T.slots i
+
+  occupied_more : (n : ℕ) (t : Bool) → is_occupied n ≡ t → occupied T (n + 1) ≡ occupied T n ++ cond t (n ∷ []) []
+  occupied_more n t e =
+      ap (filter is_occupied) (slots_more n) ∙ filter-append is_occupied (range_with_len 0 n) (n ∷ [])
+      ∙ ap (λ b. occupied T n ++ cond b (n ∷ []) []) e
+
+  -- one slot more, which is free
+  pub groups_free : (n : ℕ) → counts_as_free (slice_index T.control n) ≡ true → group_numbers T h (n + 1) ≡ group_numbers T h n
+  groups_free n e = ap (map groups_of) (occupied_more n false (ap not e) ∙ append-nil (occupied T n))
+
+  -- or which is occupied
+  pub groups_more : (n : ℕ) → counts_as_free (slice_index T.control n) ≡ false → group_numbers T h (n + 1) ≡ group_numbers T h n ++ (groups_of n ∷ [])
+  groups_more n e = ap (map groups_of) (occupied_more n true (ap not e)) ∙ map-append groups_of (occupied T n) (n ∷ [])
+
+  -- there are no more of them than slots
+  pub groups_few : (n : ℕ) → length (group_numbers T h n) ≤ n
+  groups_few n =
+      let a = length-map (occupied T n) groups_of in
+      let b = length-filter is_occupied (range_with_len 0 n) in
+      let c = count_by-le-length is_occupied (range_with_len 0 n) in
+      let d = length-range_with_len 0 n in
+      omega (arith, a, b, c, d)

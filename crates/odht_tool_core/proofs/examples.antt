@@ -1,0 +1,11 @@
+-- Worked examples of the definitions, each a closed theorem.
+-- the ready shapes, and the shape that bytes are read as
+pub mod Shapes
+-- lines of an input
+pub mod Inputs
+-- groups of a probe order
+pub mod Groups
+-- what `info` reports
+pub mod Infos
+-- what it writes
+pub mod InfoTexts

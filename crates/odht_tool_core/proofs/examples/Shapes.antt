@@ -1,0 +1,56 @@
+-- Worked examples: the ready shapes, and the shape that bytes are read as.
+--     one_bytes            a table of sixteen slots with the value 7 for the key 5, both numbers of four bytes; the hash
+--                          of the key is the key, and it is in slot 5
+use Rattle.std.proofs.Common.{◌≡◌, ℕ, refl, List, [], ◌∷◌, Some, None, map, set, replicate}
+use Rattle.std.specs.Prelude.{codes}
+use Rattle.odht_base.proofs.examples.Configs.{my_config, test_config, direct_config, pair32}
+use Rattle.odht_base.specs.Bytes.{overwritten_at}
+use Rattle.odht_base.specs.Image.{image}
+use Rattle.odht_base.specs.Load.{factor_of}
+use Rattle.odht_base.specs.Table.{Table}
+use Rattle.odht_header.proofs.examples.Opened.{opened}
+use Rattle.odht_tool_core.specs.ReadyShapes.{typed_len, typed_bytes, typed_of, typed_text, key_part, value_part, shape_hash, shape_format, ready_shapes, shape_of_sizes, shape_of_bytes}
+use Rattle.odht_tool_core.specs.declared.shapes.Hash.TheVariants.{Fx, Unhash}
+use Rattle.odht_tool_core.specs.declared.shapes.Part.TheVariants.{Nothing, U32, U64, Bytes}
+use Rattle.odht_tool_core.specs.declared.shapes.Shape.TheVariants.{U32ToU32, DirectU32ToU32, U64ToU32, Bytes16Set, Bytes32Set}
+
+abbrev pub one_item : Table
+one_item = record { factor = factor_of 7; cells = set (replicate 16 None) 5 (Some (pair32 5 7)) }
+
+abbrev pub one_bytes : List ℕ
+one_bytes = image direct_config one_item
+
+-- numbers are little-endian, bytes are themselves, and nothing has no bytes
+pub typed : (typed_bytes U32 258 ≡ 2 ∷ 1 ∷ 0 ∷ 0 ∷ [])
+    × (typed_of U64 (2 ∷ 1 ∷ 0 ∷ 0 ∷ 0 ∷ 0 ∷ 0 ∷ 0 ∷ []) ≡ 258)
+    × (typed_of (Bytes 2) (10 ∷ 1 ∷ []) ≡ 10 ∷ 1 ∷ [])
+    × (typed_text (Bytes 2) (10 ∷ 255 ∷ []) ≡ codes "0aff")
+    × (typed_text Nothing tt ≡ [])
+typed = (refl, refl, refl, refl, refl)
+
+-- the formats of three shapes
+pub formats : (shape_format U64ToU32 ≡ my_config) × (shape_format U32ToU32 ≡ test_config) × (shape_format DirectU32ToU32 ≡ direct_config)
+formats = (refl, refl, refl)
+
+-- each shape is found by its sizes and its hash function
+pub found : map (λ s. shape_of_sizes (typed_len (key_part s)) (typed_len (value_part s)) (Some (shape_hash s))) ready_shapes ≡ map Some ready_shapes
+found = refl
+
+-- of numbers of four bytes the shape by fx comes first; no shape has another hash function, or sizes, than the ten
+pub sizes : (shape_of_sizes 4 4 None ≡ Some U32ToU32)
+    × (shape_of_sizes 4 4 (Some Unhash) ≡ Some DirectU32ToU32)
+    × (shape_of_sizes 8 4 (Some Unhash) ≡ None)
+    × (shape_of_sizes 16 0 None ≡ Some Bytes16Set)
+    × (shape_of_sizes 32 0 (Some Fx) ≡ None)
+    × (shape_of_sizes 32 0 None ≡ Some Bytes32Set)
+    × (shape_of_sizes 4 8 None ≡ None)
+sizes = (refl, refl, refl, refl, refl, refl, refl)
+
+-- bytes of four and four; with another key size there is no shape, but with a wrong tag before it some shape will do
+pub of_bytes : (shape_of_bytes one_bytes None ≡ Some U32ToU32)
+    × (shape_of_bytes one_bytes (Some Unhash) ≡ Some DirectU32ToU32)
+    × (shape_of_bytes (overwritten_at one_bytes 5 (9 ∷ [])) None ≡ None)
+    × (shape_of_bytes (overwritten_at (overwritten_at one_bytes 5 (9 ∷ [])) 0 (0 ∷ [])) None ≡ Some U64ToU32)
+    × (shape_of_bytes [] (Some Unhash) ≡ Some U64ToU32)
+unfolding opened
+of_bytes = (refl, refl, refl, refl, refl)

@@ -1,0 +1,120 @@
+-- What `info` reports of the bytes B of a table, whose key and value sizes are those in its header.
+--     SizedParts           the parts of a table, and the sizes of its keys and values
+--     format_by B h        the format of the sizes in the header of B, and of the hash function h
+--     sized_parts B        the parts of B
+--     sized_format T h     the format of the sizes of the parts T, and of the hash function h
+--     info_refusal B       the error of opening by header and length for the header's sizes, if there is one
+--     rest_refusal B       that error, where it comes after those of the sizes of keys and values
+--     least_key_len h      how many bytes the hash function h needs at least
+--     agrees T h           keys are long enough for h, and no control byte below 128 differs from the tag of its key
+--     found_hash T         the first of fx and unhash that agrees
+--     occupied T n         those of the first n slots that do not count as free, in slot order
+--     group_numbers T h n  of each of these, how many groups a search for its key reads
+--     found_groups T       the same of all slots, by the hash function that agrees; nothing where none does
+--     tallies xs           how often each of the numbers 1 to 63 is in xs, and how many of xs are 64 or more
+--     largest xs           the largest of xs, or 0
+--     nearest_percent f    the percentage that the load factor f is nearest to
+--     IsHistogram xs h     h has the tallies of xs, and the largest
+--     AreNumbers B n       n are the numbers of B
+--     IsInfoFailure B f    f is the error of opening, or out of memory where there is none
+use Rattle.std.specs.Prelude.{◌≡◌, ℕ, ◌+◌, ◌*◌, ◌/◌, min, max, Bool, not, ◌&&◌, nat_le, ◌==◌, List, [], ◌∷◌, length, map, filter, find, fold, count_by, slice_index, is_none, Option, Some, None}
+use Rattle.std.specs.List.{range_with_len}
+use Rattle.std.specs.Option.{option_map_or}
+use Rattle.odht_base.specs.Decoded.{header_count, header_slots, header_factor, entries_of, controls_of, slot_key, counts_as_free}
+use Rattle.odht_base.specs.Format.{Format, format_of}
+use Rattle.odht_base.specs.Load.{max_items}
+use Rattle.odht_header.specs.Refusals.{first_of, first_slot, wrong_size, power_refusal, few_slots_refusal, length_refusal, control_mismatch, opening_refusal}
+use Rattle.odht_header.specs.declared.error.Error.{Error}
+use Rattle.odht_header.specs.declared.error.Part.TheVariants.{Header}
+use Rattle.odht_tool_core.specs.GroupNumbers.{groups_to}
+use Rattle.odht_tool_core.specs.ReadyShapes.{hash_of}
+use Rattle.odht_tool_core.specs.declared.failure.Failure.{Failure}
+use Rattle.odht_tool_core.specs.declared.failure.Failure.TheVariants.{Refused, Memory}
+use Rattle.odht_tool_core.specs.declared.histogram.Histogram.{Histogram}
+use Rattle.odht_tool_core.specs.declared.numbers.Numbers.{Numbers}
+use Rattle.odht_tool_core.specs.declared.shapes.Hash.{Hash}
+use Rattle.odht_tool_core.specs.declared.shapes.Hash.TheVariants.{Fx, Unhash}
+
+pub record SizedParts : Type 0 where
+  pub key_len : ℕ
+  pub value_len : ℕ
+  pub slots : ℕ
+  pub entries : List ℕ
+  pub control : List ℕ
+
+abbrev pub format_by : List ℕ → Hash → Format
+format_by B h = format_of (slice_index B 5) (slice_index B 6) (hash_of h)
+
+abbrev pub sized_parts : List ℕ → SizedParts
+sized_parts B = record {
+  key_len = slice_index B 5;
+  value_len = slice_index B 6;
+  slots = header_slots B;
+  entries = entries_of (format_by B Fx) B;
+  control = controls_of (format_by B Fx) B;
+}
+
+abbrev pub sized_format : SizedParts → Hash → Format
+sized_format T h = format_of T.key_len T.value_len (hash_of h)
+
+-- ---- opening; the sizes of keys and values are as expected, whatever they are
+abbrev pub info_refusal : List ℕ → Option Error
+info_refusal B = opening_refusal (format_by B Fx) B
+
+abbrev pub rest_refusal : List ℕ → Option Error
+rest_refusal B =
+    first_of (wrong_size B 7 Header 32 ∷ power_refusal B ∷ few_slots_refusal B ∷ length_refusal (format_by B Fx) (length B) B ∷ [])
+
+-- ---- the hash function
+abbrev pub least_key_len : Hash → ℕ
+least_key_len Fx = 0
+least_key_len Unhash = 4
+
+abbrev pub agrees : SizedParts → Hash → Bool
+agrees T h =
+    nat_le (least_key_len h) T.key_len && is_none (first_slot (control_mismatch (sized_format T h) T.entries T.control) T.slots)
+
+abbrev pub found_hash : SizedParts → Option Hash
+found_hash T = find (agrees T) (Fx ∷ Unhash ∷ [])
+
+-- ---- the histogram
+abbrev pub occupied : SizedParts → ℕ → List ℕ
+occupied T n = filter (λ i. not (counts_as_free (slice_index T.control i))) (range_with_len 0 n)
+
+abbrev pub group_numbers : SizedParts → Hash → ℕ → List ℕ
+group_numbers T h n = map (λ i. groups_to (hash_of h (slot_key (sized_format T h) T.entries i)) T.slots i) (occupied T n)
+
+abbrev pub found_groups : SizedParts → List ℕ
+found_groups T = option_map_or (λ h. group_numbers T h T.slots) (found_hash T) []
+
+unfoldable pub tallies : List ℕ → List ℕ
+tallies xs = map (λ g. count_by (λ x. min x 64 == g) xs) (range_with_len 1 64)
+
+unfoldable pub largest : List ℕ → ℕ
+largest xs = fold max 0 xs
+
+pub record IsHistogram (xs : List ℕ) (h : Histogram) : Type 0 where
+  pub counts : h.counts.items ≡ tallies xs
+  pub longest : h.longest ≡ largest xs
+
+-- ---- all numbers
+abbrev pub nearest_percent : ℕ → ℕ
+nearest_percent f = (f * 100 + 32767) / 65535
+
+pub record AreNumbers (B : List ℕ) (n : Numbers) : Type 0 where
+  pub opens : info_refusal B ≡ None
+  pub key_size : n.key_size ≡ slice_index B 5
+  pub value_size : n.value_size ≡ slice_index B 6
+  pub len : n.len ≡ length B
+  pub items : n.item_count ≡ header_count B
+  pub slots : n.slot_count ≡ header_slots B
+  pub maximum : n.max_item_count ≡ max_items (header_slots B) (header_factor B)
+  pub load : n.load ≡ header_count B * 100 / header_slots B
+  pub max_load : n.max_load ≡ nearest_percent (header_factor B)
+  pub hash : n.hash ≡ found_hash (sized_parts B)
+  pub histogram : IsHistogram (found_groups (sized_parts B)) n.histogram
+
+abbrev pub IsInfoFailure : List ℕ → Failure → Type 0
+IsInfoFailure B (Refused error) = info_refusal B ≡ Some error
+IsInfoFailure B Memory = info_refusal B ≡ None
+IsInfoFailure B _ = ⊥

@@ -1,0 +1,77 @@
+-- What `info` writes of the numbers n of a table.
+--     number_line l x e    the line of the label l and the number x, with e behind it
+--     sizes_text n         the lines that do not depend on the hash function
+--     aligned w x          the digits of x, after as many spaces as make them w characters
+--     bar c m              the bar of the count c, where m is the largest: forty `#` times c over m, at least one, but none
+--                          where c is 0
+--     longer_mark l i      a `+` behind 64 groups, where the longest number of groups l is above
+--     tally_line cs l i    the line of the count i of the counts cs, that of i + 1 groups
+--     tallies_text cs l    those of the first l counts
+--     hash_name h          the name of the hash function h
+--     groups_text h cs l   the lines of the hash function h, or of none, and of the histogram
+--     info_text n          all lines
+--     IsInfoDone B old new r   `info` of the bytes B, which took the writer from the bytes old to new and returned r,
+--                          wrote the numbers of B; only opening, memory or the writer may have kept it from that
+use Rattle.std.specs.Prelude.{◌≡◌, ℕ, ◌+◌, ◌-◌, ◌*◌, ◌/◌, min, max, ◌&&◌, ◌==◌, nat_lt, List, [], ◌∷◌, ◌++◌, length, replicate, flat_map, slice_index, codes, decimal, Option, Some, None, Result, Ok, Err, if◌then◌else◌}
+use Rattle.std.specs.Io.KnownBytes.{Appends, Keeps}
+use Rattle.std.specs.List.{range_with_len}
+use Rattle.odht_tool_core.specs.InfoNumbers.{largest, info_refusal, AreNumbers, IsInfoFailure}
+use Rattle.odht_tool_core.specs.declared.failure.Failure.{Failure}
+use Rattle.odht_tool_core.specs.declared.failure.Failure.TheVariants.{Output}
+use Rattle.odht_tool_core.specs.declared.numbers.Numbers.{Numbers}
+use Rattle.odht_tool_core.specs.declared.shapes.Hash.{Hash}
+use Rattle.odht_tool_core.specs.declared.shapes.Hash.TheVariants.{Fx, Unhash}
+use Rattle.odht_tool_core.specs.declared.status.Status.{Status}
+use Rattle.odht_tool_core.specs.declared.status.Status.TheVariants.{Done}
+
+abbrev pub number_line : List ℕ → ℕ → List ℕ → List ℕ
+number_line label x end = label ++ (decimal x ++ (end ++ (10 ∷ [])))
+
+abbrev pub sizes_text : Numbers → List ℕ
+sizes_text n =
+    number_line (codes "key bytes     ") n.key_size []
+    ++ number_line (codes "value bytes   ") n.value_size []
+    ++ number_line (codes "header bytes  ") 32 []
+    ++ number_line (codes "all bytes     ") n.len []
+    ++ number_line (codes "items         ") n.item_count []
+    ++ number_line (codes "slots         ") n.slot_count []
+    ++ number_line (codes "maximum       ") n.max_item_count []
+    ++ number_line (codes "load          ") n.load (codes " percent")
+    ++ number_line (codes "maximum load  ") n.max_load (codes " percent")
+
+-- ---- the histogram
+unfoldable pub aligned : ℕ → ℕ → List ℕ
+aligned w x = replicate (w - length (decimal x)) 32 ++ decimal x
+
+unfoldable pub bar : ℕ → ℕ → List ℕ
+bar c m = if c == 0 then [] else replicate (max (c * 40 / m) 1) 35
+
+abbrev pub longer_mark : ℕ → ℕ → List ℕ
+longer_mark l i = if i + 1 == 64 && nat_lt 64 l then codes "+" else []
+
+abbrev pub tally_line : List ℕ → ℕ → ℕ → List ℕ
+tally_line cs l i =
+    aligned 8 (i + 1) ++ (longer_mark l i ++ (codes "  " ++ (aligned 12 (slice_index cs i) ++ (codes "  " ++ (bar (slice_index cs i) (largest cs) ++ (10 ∷ []))))))
+
+abbrev pub tallies_text : List ℕ → ℕ → List ℕ
+tallies_text cs l = flat_map (tally_line cs l) (range_with_len 0 (min l 64))
+
+-- ---- all lines
+abbrev pub hash_name : Hash → List ℕ
+hash_name Fx = codes "fx"
+hash_name Unhash = codes "unhash"
+
+abbrev pub groups_text : Option Hash → List ℕ → ℕ → List ℕ
+groups_text None cs l = codes "hash          neither fx nor unhash\n"
+groups_text (Some h) cs l =
+    codes "hash          " ++ hash_name h ++ codes "\n  groups         items\n"
+    ++ tallies_text cs l
+    ++ number_line (codes "longest       ") l (codes " groups")
+
+abbrev pub info_text : Numbers → List ℕ
+info_text n = sizes_text n ++ groups_text n.hash n.histogram.counts.items n.histogram.longest
+
+abbrev pub IsInfoDone : List ℕ → Option (List ℕ) → Option (List ℕ) → Result Status Failure → Type 0
+IsInfoDone B old new (Ok status) = (status ≡ Done) × ((n : Numbers) × AreNumbers B n × Appends old new (info_text n))
+IsInfoDone B old new (Err (Output error)) = info_refusal B ≡ None
+IsInfoDone B old new (Err failure) = IsInfoFailure B failure × Keeps old new

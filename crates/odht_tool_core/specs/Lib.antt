@@ -1,0 +1,19 @@
+-- Definitions for the contracts of what the program is made of.
+-- the texts of keys, of values and of answers
+pub mod Texts
+-- the ready shapes, and the shape that bytes are read as
+pub mod ReadyShapes
+-- in which group of its probe order a slot is
+pub mod GroupNumbers
+-- the lines of an input
+pub mod InputLines
+-- words and lines that are read as keys
+pub mod Keys
+-- how a command ends
+pub mod Endings
+-- what `dump --slots` writes
+pub mod Slots
+-- what `info` reports
+pub mod InfoNumbers
+-- its text
+pub mod InfoTexts

@@ -1,0 +1,173 @@
+-- The ready shapes of tables, and the shape that the bytes of a file are read as.
+--     Typed p              the keys or values of the type p: numbers, lists of bytes, or the one value of nothing
+--     typed_len p          how many bytes each of them has in a table
+--     typed_bytes p x      the bytes of x in a table
+--     typed_of p b         what the bytes b decode to
+--     typed_text p x       the text of x
+--     IsTypedWord p w      the word w is the text of some x of the type p
+--     StandsFor p w x      it is that of this x
+--     key_part s           the type of the keys of the shape s
+--     value_part s         that of its values
+--     shape_hash s         the name of its hash function
+--     hash_of h            the hash function that is named h
+--     shape_format s       the format of its tables
+--     shape_coding s       how they encode and decode keys and values
+--     ready_shapes         the ten shapes
+--     is_shape_of k v h s  s has keys of k and values of v bytes, and, where a hash function h is named, that one
+--     shape_of_sizes k v h the first ready shape of this kind, if there is one
+--     early_refusal B      the error of opening the bytes B that comes before those of the key and value sizes, if there
+--                          is one; it is the same for each shape
+--     shape_of_bytes B h   the shape that the bytes B are read as: that of the sizes in the header, and of the hash
+--                          function where one is named; with an early error that of u64 to u32, since any will do
+use Rattle.std.specs.Prelude.{◌≡◌, ℕ, ◌^◌, List, [], ◌∷◌, Bool, true, false, ◌&&◌, ◌==◌, nat_lt, length, slice_index, find, is_some, Option, Some, decimal, if◌then◌else◌}
+use Rattle.std.specs.Int.{w32, w64, to_le_bytes, from_le_bytes}
+use Rattle.std.specs.Option.{option_or, option_map_or}
+use Rattle.std.specs.Str.Parse.{digits_value}
+use Rattle.odht_base.specs.Format.{Format, format_of}
+use Rattle.odht_base.specs.Hashes.{fx, un}
+use Rattle.odht_header.specs.Coding.{Coding}
+use Rattle.odht_header.specs.Refusals.{◌gives◌, first_of, tag_refusal, version_refusal, wrong_size}
+use Rattle.odht_header.specs.declared.error.Error.{Error}
+use Rattle.odht_header.specs.declared.error.Error.TheVariants.{TooShort}
+use Rattle.odht_header.specs.declared.error.Part.TheVariants.{EntryMetadata}
+use Rattle.odht_tool_core.specs.Texts.{IsNumberWord, IsHexWord, WritesBytes, hex_text}
+use Rattle.odht_tool_core.specs.declared.shapes.Hash.{Hash}
+use Rattle.odht_tool_core.specs.declared.shapes.Hash.TheVariants.{Fx, Unhash}
+use Rattle.odht_tool_core.specs.declared.shapes.Part.{Part}
+use Rattle.odht_tool_core.specs.declared.shapes.Part.TheVariants.{Nothing, U32, U64, Bytes}
+use Rattle.odht_tool_core.specs.declared.shapes.Shape.{Shape}
+use Rattle.odht_tool_core.specs.declared.shapes.Shape.TheVariants.{U32ToU32, DirectU32ToU32, U64ToU32, U64ToU64, Bytes16ToU32, Bytes16ToU64, Bytes16Set, Bytes20ToU64, Bytes32ToU64, Bytes32Set}
+
+-- ---- types of keys and values
+abbrev pub Typed : Part → Type 0
+Typed Nothing = Unit {0}
+Typed U32 = ℕ
+Typed U64 = ℕ
+Typed (Bytes n) = List ℕ
+
+abbrev pub typed_len : Part → ℕ
+typed_len Nothing = 0
+typed_len U32 = 4
+typed_len U64 = 8
+typed_len (Bytes n) = n
+
+abbrev pub typed_bytes : (p : Part) → Typed p → List ℕ
+typed_bytes Nothing x = []
+typed_bytes U32 n = to_le_bytes w32 n
+typed_bytes U64 n = to_le_bytes w64 n
+typed_bytes (Bytes n) bytes = bytes
+
+abbrev pub typed_of : (p : Part) → List ℕ → Typed p
+typed_of Nothing b = tt
+typed_of U32 b = from_le_bytes w32 b
+typed_of U64 b = from_le_bytes w64 b
+typed_of (Bytes n) b = b
+
+abbrev pub typed_text : (p : Part) → Typed p → List ℕ
+typed_text Nothing x = []
+typed_text U32 n = decimal n
+typed_text U64 n = decimal n
+typed_text (Bytes n) bytes = hex_text bytes
+
+abbrev pub IsTypedWord : Part → List ℕ → Type 0
+IsTypedWord Nothing word = word ≡ []
+IsTypedWord U32 word = IsNumberWord (2 ^ 32) word
+IsTypedWord U64 word = IsNumberWord (2 ^ 64) word
+IsTypedWord (Bytes n) word = IsHexWord n word
+
+abbrev pub StandsFor : (p : Part) → List ℕ → Typed p → Type 0
+StandsFor Nothing word x = word ≡ []
+StandsFor U32 word n = digits_value 10 word ≡ n
+StandsFor U64 word n = digits_value 10 word ≡ n
+StandsFor (Bytes n) word bytes = WritesBytes word bytes
+
+-- ---- shapes
+abbrev pub key_part : Shape → Part
+key_part U32ToU32 = U32
+key_part DirectU32ToU32 = U32
+key_part U64ToU32 = U64
+key_part U64ToU64 = U64
+key_part Bytes16ToU32 = Bytes 16
+key_part Bytes16ToU64 = Bytes 16
+key_part Bytes16Set = Bytes 16
+key_part Bytes20ToU64 = Bytes 20
+key_part Bytes32ToU64 = Bytes 32
+key_part Bytes32Set = Bytes 32
+
+abbrev pub value_part : Shape → Part
+value_part U32ToU32 = U32
+value_part DirectU32ToU32 = U32
+value_part U64ToU32 = U32
+value_part U64ToU64 = U64
+value_part Bytes16ToU32 = U32
+value_part Bytes16ToU64 = U64
+value_part Bytes16Set = Nothing
+value_part Bytes20ToU64 = U64
+value_part Bytes32ToU64 = U64
+value_part Bytes32Set = Nothing
+
+-- numbers are hashed by fx, but for the direct shape
+abbrev pub shape_hash : Shape → Hash
+shape_hash U32ToU32 = Fx
+shape_hash DirectU32ToU32 = Unhash
+shape_hash U64ToU32 = Fx
+shape_hash U64ToU64 = Fx
+shape_hash Bytes16ToU32 = Unhash
+shape_hash Bytes16ToU64 = Unhash
+shape_hash Bytes16Set = Unhash
+shape_hash Bytes20ToU64 = Unhash
+shape_hash Bytes32ToU64 = Unhash
+shape_hash Bytes32Set = Unhash
+
+abbrev pub hash_of : Hash → List ℕ → ℕ
+hash_of Fx = fx
+hash_of Unhash = un
+
+abbrev pub shape_format : Shape → Format
+shape_format s = format_of (typed_len (key_part s)) (typed_len (value_part s)) (hash_of (shape_hash s))
+
+abbrev pub shape_coding : (s : Shape) → Coding (Typed (key_part s)) (Typed (value_part s))
+shape_coding s = record {
+  format = shape_format s;
+  key_bytes = typed_bytes (key_part s);
+  value_bytes = typed_bytes (value_part s);
+  key_of = typed_of (key_part s);
+  value_of = typed_of (value_part s);
+}
+
+-- ---- the shape of bytes
+abbrev pub ready_shapes : List Shape
+ready_shapes =
+    U32ToU32
+    ∷ DirectU32ToU32
+    ∷ U64ToU32
+    ∷ U64ToU64
+    ∷ Bytes16ToU32
+    ∷ Bytes16ToU64
+    ∷ Bytes16Set
+    ∷ Bytes20ToU64
+    ∷ Bytes32ToU64
+    ∷ Bytes32Set
+    ∷ []
+
+abbrev pub same_hash : Hash → Hash → Bool
+same_hash Fx Fx = true
+same_hash Fx Unhash = false
+same_hash Unhash Fx = false
+same_hash Unhash Unhash = true
+
+abbrev pub is_shape_of : ℕ → ℕ → Option Hash → Shape → Bool
+is_shape_of k v h s =
+    typed_len (key_part s) == k && typed_len (value_part s) == v && option_map_or (same_hash (shape_hash s)) h true
+
+abbrev pub shape_of_sizes : ℕ → ℕ → Option Hash → Option Shape
+shape_of_sizes k v h = find (is_shape_of k v h) ready_shapes
+
+abbrev pub early_refusal : List ℕ → Option Error
+early_refusal B =
+    option_or
+    (nat_lt (length B) 32 gives TooShort (length B))
+    (first_of (tag_refusal B ∷ version_refusal B ∷ wrong_size B 4 EntryMetadata 1 ∷ []))
+
+abbrev pub shape_of_bytes : List ℕ → Option Hash → Option Shape
+shape_of_bytes B h = if is_some (early_refusal B) then Some U64ToU32 else shape_of_sizes (slice_index B 5) (slice_index B 6) h

@@ -1,0 +1,72 @@
+//! The lines in which pairs and answers are printed.
+ghost use Rattle.std.specs.Prelude.{◌≡◌, IfOk, OnOk, is_some, length};
+ghost use Rattle.std.specs.Io.KnownBytes.{Appends};
+ghost use Rattle.std.specs.List.{list_all};
+ghost use Rattle.odht_tool_core.specs.Texts.{answer_line, answers_text, pair_line};
+
+use crate::text::Text;
+use std::alloc::{AllocError, Global};
+use std::io::{self, Write};
+
+/// Writes a line of a key, a tab and a value.
+pub fn write_pair<K: Text, V: Text, O: Write>(key: &K, value: &V, output: &mut O) -> io::Result<()>
+    ensures { OnOk result (Appends (O.contents output.old) (O.contents output.new)
+        (pair_line K.text V.text (key.now, value.now))) }
+{
+    key.write(output)?;
+    output.write_all(b"\t")?;
+    value.write(output)?;
+    output.write_all(b"\n")
+}
+
+/// Writes a line for each key: with its value, or the key alone where it has none.
+pub fn write_answers<K: Text, V: Text, O: Write>(
+    keys: &[K],
+    values: &[Option<V>],
+    output: &mut O,
+) -> io::Result<()>
+    requires { length values.now ≡ length keys.now }
+    ensures { OnOk result (Appends (O.contents output.old) (O.contents output.new)
+        (answers_text K.text V.text keys.now values.now)) }
+{
+    for at in 0..keys.len() {
+        write_answer(&keys[at], &values[at], output)?;
+    }
+    Ok(())
+}
+
+/// So many values, all absent.
+pub fn absent_values<V: Text>(alloc: Global, count: usize) -> Result<Vec<Option<V>>, AllocError>
+    ensures { IfOk result (λ values. length values.items ≡ count) }
+{
+    let mut values = Vec::with_capacity(alloc, count)?;
+    for _ in 0..count {
+        values.push(None)?;
+    }
+    Ok(values)
+}
+
+/// Whether each key has a value.
+pub fn are_found<V>(values: &[Option<V>]) -> bool
+    ensures { result ≡ list_all is_some values.now }
+{
+    values.iter().all(|value| value.is_some())
+}
+
+// Writes the line of a key with its value, or of the key alone.
+fn write_answer<K: Text, V: Text, O: Write>(
+    key: &K,
+    value: &Option<V>,
+    output: &mut O,
+) -> io::Result<()>
+    ensures { OnOk result (Appends (O.contents output.old) (O.contents output.new)
+        (answer_line K.text V.text (key.now, value.now))) }
+{
+    match value {
+        Some(value) => write_pair(key, value, output),
+        None => {
+            key.write(output)?;
+            output.write_all(b"\n")
+        }
+    }
+}

@@ -1,0 +1,95 @@
+//! Why a command stopped.
+use odht_header::error::Error;
+use std::alloc::AllocError;
+use std::{fmt, io};
+
+/// Why a command stopped, as it is printed after the name of its file.
+#[derive(Debug, Drop)]
+pub enum Failure {
+    /// The file could not be read.
+    Read(io::Error),
+    /// The new file could not be written, or not be renamed.
+    Write(io::Error),
+    /// The bytes are no table, or not one of this shape.
+    Refused(Error),
+    /// No ready shape has keys and values of so many bytes under the hash that was named.
+    NoShape { key_size: u8, value_size: u8 },
+    /// Standard input could not be read.
+    Input(io::Error),
+    /// A line of standard input cannot be parsed.
+    Line { number: u64, fault: LineFault },
+    /// Standard output could not be written.
+    Output(io::Error),
+    /// An allocation failed.
+    Memory,
+    /// A word is no key of the table's shape.
+    Key(String),
+}
+
+/// What is wrong with a line of standard input.
+#[derive(Clone, Copy, Debug, PartialEq, Eq)]
+pub enum LineFault {
+    /// There is no tab between a key and a value.
+    NoTab,
+    /// The text before the tab is no key of the shape.
+    Key,
+    /// The text after the tab is no value of the shape.
+    Value,
+}
+
+impl fmt::Display for LineFault {
+    fn fmt<W: fmt::Write>(&self, f: &mut fmt::Formatter<W>) -> fmt::Result {
+        match self {
+            LineFault::NoTab => write!(f, "no tab between key and value"),
+            LineFault::Key => write!(f, "not a key of the table's shape"),
+            LineFault::Value => write!(f, "not a value of the table's shape"),
+        }
+    }
+}
+
+impl fmt::Display for Failure {
+    fn fmt<W: fmt::Write>(&self, f: &mut fmt::Formatter<W>) -> fmt::Result {
+        match self {
+            Failure::Read(error) => write!(f, "cannot be read: {error}"),
+            Failure::Write(error) => write!(f, "cannot be written: {error}"),
+            Failure::Refused(error) => write!(f, "{error}"),
+            Failure::NoShape {
+                key_size,
+                value_size,
+            } => write!(
+                f,
+                "no ready shape has keys of {key_size} and values of {value_size} bytes under this hash; `odht info` takes any"
+            ),
+            Failure::Input(error) => write!(f, "standard input cannot be read: {error}"),
+            Failure::Line { number, fault } => {
+                write!(f, "standard input, line {number}: {fault}")
+            }
+            Failure::Output(error) => write!(f, "standard output cannot be written: {error}"),
+            Failure::Memory => write!(f, "a request for memory was refused"),
+            Failure::Key(word) => write!(f, "{word:?} is not a key of the table's shape"),
+        }
+    }
+}
+
+impl std::error::Error for Failure {}
+
+impl From<AllocError> for Failure {
+    ghost use Rattle.std.specs.Prelude.{◌≡◌};
+    ghost use Rattle.odht_tool_core.specs.declared.failure.Failure.TheVariants.{Memory};
+
+    ghost from_gives = { λ _ f. f ≡ Memory };
+
+    fn from(_refused: AllocError) -> Failure {
+        Failure::Memory
+    }
+}
+
+impl Failure {
+    /// The failure for an error of a table: [`Error::Memory`] is [`Failure::Memory`].
+    pub fn of_table(error: Error) -> Failure {
+        match error {
+            Error::Memory => Failure::Memory,
+            _ => Failure::Refused(error),
+        }
+    }
+}

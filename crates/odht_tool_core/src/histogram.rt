@@ -1,0 +1,159 @@
+//! How many items are found by reading one group, two groups, and so on.
+ghost use Rattle.std.specs.Prelude.{◌≡◌, ◌≤◌, ◌<◌, ◌+◌, ◌%◌, ◌^◌, ℕ, List, [], ◌∷◌, ◌++◌, IfOk};
+ghost use Rattle.std.specs.Prelude.{OnOk, length};
+ghost use Rattle.std.specs.Io.KnownBytes.{Appends};
+ghost use Rattle.odht_base.specs.Load.{IsSlotCount};
+ghost use Rattle.odht_tool_core.specs.GroupNumbers.{groups_to};
+ghost use Rattle.odht_tool_core.specs.InfoNumbers.{IsHistogram, largest};
+ghost use Rattle.odht_tool_core.specs.InfoTexts.{bar, longer_mark, tally_line, tallies_text};
+
+use odht_raw::raw_table::ProbeSeq;
+use std::alloc::{AllocError, Global};
+use std::io::{self, Write};
+
+/// How many counts there are. The last is that of all larger numbers of groups too.
+const MOST: usize = 64;
+
+/// How many `#` the longest bar has.
+const WIDTH: u128 = 40;
+
+/// For each number of groups from 1 on, how many items are found by reading so many.
+#[derive(Drop)]
+pub struct Histogram {
+    counts: Vec<usize>,
+    /// The largest number of groups that was counted.
+    pub longest: usize,
+}
+
+impl Histogram {
+    /// A histogram without items.
+    pub fn new(alloc: Global) -> Result<Self, AllocError>
+        ensures { IfOk result (IsHistogram []) }
+    {
+        Ok(Histogram {
+            counts: vec![in alloc; 0; MOST]?,
+            longest: 0,
+        })
+    }
+
+    /// Counts an item that is found by reading so many groups, at least one.
+    pub fn add(&mut self, groups: usize)
+        requires positive { 1 ≤ groups }
+        requires all { length self.old.counts.items ≡ 64 }
+        ensures { (xs : List ℕ)
+            → length xs < 2 ^ 63
+            → IsHistogram xs self.old
+            → IsHistogram (xs ++ groups ∷ []) self.new }
+    {
+        self.longest = self.longest.max(groups);
+        let index = groups.min(MOST) - 1;
+        self.counts[index] = self.counts[index].saturating_add(1);
+    }
+
+    /// Writes a line for each number of groups up to the largest: the number, the count, and a bar.
+    pub fn write<W: Write>(&self, output: &mut W) -> io::Result<()>
+        requires { length self.now.counts.items ≡ 64 }
+        ensures { OnOk result (Appends (W.contents output.old) (W.contents output.new)
+            (tallies_text self.now.counts.items self.now.longest)) }
+    {
+        let most = largest_of(self.counts.as_slice());
+        for index in 0..self.longest.min(MOST) {
+            self.write_tally(index, most, output)?;
+        }
+        Ok(())
+    }
+
+    // Writes the line of a count.
+    fn write_tally<W: Write>(&self, index: usize, most: usize, output: &mut W) -> io::Result<()>
+        requires index { index < length self.now.counts.items }
+        requires all { length self.now.counts.items ≡ 64 }
+        requires most { most ≡ largest self.now.counts.items }
+        ensures { OnOk result (Appends (W.contents output.old) (W.contents output.new)
+            (tally_line self.now.counts.items self.now.longest index)) }
+    {
+        let groups = index + 1;
+        let count = self.counts[index];
+        let more = longer_mark(index, self.longest);
+        write!(output, "{groups:>8}{more}  {count:>12}  ")?;
+        write_bar(count, most, output)?;
+        output.write_all(b"\n")
+    }
+}
+
+// The largest of some counts, or 0.
+fn largest_of(counts: &[usize]) -> usize
+    ensures { result ≡ largest counts.now }
+{
+    let mut most = 0_usize;
+    for count in counts {
+        most = most.max(*count);
+    }
+    most
+}
+
+// A `+` behind the last count, where it is also that of larger numbers of groups.
+fn longer_mark(index: usize, longest: usize) -> &'static str
+    requires { index < 64 }
+    ensures { result.now ≡ longer_mark longest index }
+{
+    if index + 1 == MOST && longest > MOST {
+        "+"
+    } else {
+        ""
+    }
+}
+
+// Writes a bar. Its length over that of the longest is the count over the largest; at least 1 where the count is not 0.
+fn write_bar<W: Write>(count: usize, most: usize, output: &mut W) -> io::Result<()>
+    requires { count ≤ most }
+    ensures { OnOk result
+        (Appends (W.contents output.old) (W.contents output.new) (bar count most)) }
+{
+    if count == 0 {
+        return Ok(());
+    }
+    let signs = (count as u128 * WIDTH / most as u128).max(1);
+    for _ in 0..signs {
+        output.write_all(b"#")?;
+    }
+    Ok(())
+}
+
+/// The number of the group of a key's probe order that contains a slot, from 1 on: as many groups as a search for the
+/// key in that slot reads.
+///
+/// It goes over the groups of the probe order up to that one.
+pub fn groups_to(hash: u32, slot: usize, slot_count: usize) -> usize
+    requires slots { IsSlotCount slot_count }
+    requires within { slot < slot_count }
+    ensures groups { result ≡ groups_to hash slot_count slot }
+    ensures positive { 1 ≤ result }
+{
+    let mask = slot_count - 1;
+    let groups = slot_count / 16;
+    let mut probe = ProbeSeq::<16>::new(hash as usize, mask);
+    for group in 0..groups {
+        if steps_to(probe.index(), slot, slot_count) < 16 {
+            return group + 1;
+        }
+        if group + 1 < groups {
+            probe.advance(mask);
+        }
+    }
+    groups
+}
+
+// How many slots a slot is behind another one, around the end.
+fn steps_to(start: usize, slot: usize, slot_count: usize) -> usize
+    requires start { start < slot_count }
+    requires slot { slot < slot_count }
+    requires few { slot_count ≤ 2 ^ 63 }
+    ensures below { result < slot_count }
+    ensures slot { (start + result) % slot_count ≡ slot }
+{
+    if start <= slot {
+        slot - start
+    } else {
+        slot + slot_count - start
+    }
+}

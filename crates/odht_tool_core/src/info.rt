@@ -1,0 +1,93 @@
+//! `odht info`: what a table file of any shape holds.
+ghost use Rattle.std.specs.Prelude.{◌≡◌, ◌++◌, OnOk, length};
+ghost use Rattle.std.specs.Io.KnownBytes.{Appends};
+ghost use Rattle.odht_tool_core.specs.InfoTexts.{number_line, sizes_text, hash_name, groups_text};
+ghost use Rattle.odht_tool_core.specs.InfoTexts.{info_text, IsInfoDone};
+
+use crate::failure::Failure;
+use crate::histogram::Histogram;
+use crate::numbers::{Numbers, numbers_of};
+use crate::shapes::Hash;
+use crate::status::Status;
+use std::alloc::Global;
+use std::io::{self, Write};
+
+/// `odht info` of the bytes of a file: writes sizes, counts, load factors, and how many groups a
+/// search reads for the items.
+pub fn info_file<O: Write>(alloc: Global, bytes: &[u8], output: &mut O) -> Result<Status, Failure>
+    ensures { IsInfoDone bytes.now (O.contents output.old) (O.contents output.new) result }
+{
+    let numbers = numbers_of(alloc, bytes)?;
+    match write_all(&numbers, output) {
+        Ok(()) => Ok(Status::Done),
+        Err(error) => Err(Failure::Output(error)),
+    }
+}
+
+fn write_all<O: Write>(numbers: &Numbers, output: &mut O) -> io::Result<()>
+    requires { length numbers.now.histogram.counts.items ≡ 64 }
+    ensures { OnOk result
+        (Appends (O.contents output.old) (O.contents output.new) (info_text numbers.now)) }
+{
+    write_sizes(numbers, output)?;
+    match numbers.hash {
+        None => writeln!(output, "hash          neither fx nor unhash"),
+        Some(hash) => write_groups(hash, &numbers.histogram, output),
+    }
+}
+
+// The lines that do not depend on the hash function.
+fn write_sizes<O: Write>(numbers: &Numbers, output: &mut O) -> io::Result<()>
+    ensures { OnOk result
+        (Appends (O.contents output.old) (O.contents output.new) (sizes_text numbers.now)) }
+{
+    write_number("key bytes     ", numbers.key_size as u128, "", output)?;
+    write_number("value bytes   ", numbers.value_size as u128, "", output)?;
+    write_number("header bytes  ", 32, "", output)?;
+    write_number("all bytes     ", numbers.len as u128, "", output)?;
+    write_number("items         ", numbers.item_count as u128, "", output)?;
+    write_number("slots         ", numbers.slot_count as u128, "", output)?;
+    write_number("maximum       ", numbers.max_item_count as u128, "", output)?;
+    write_number("load          ", numbers.load, " percent", output)?;
+    write_number(
+        "maximum load  ",
+        numbers.max_load as u128,
+        " percent",
+        output,
+    )
+}
+
+// The lines of the hash function and of the histogram.
+fn write_groups<O: Write>(hash: Hash, histogram: &Histogram, output: &mut O) -> io::Result<()>
+    requires { length histogram.now.counts.items ≡ 64 }
+    ensures { OnOk result (Appends (O.contents output.old) (O.contents output.new)
+        (groups_text (Some hash) histogram.now.counts.items histogram.now.longest)) }
+{
+    let name = name_of(hash);
+    write!(output, "hash          {name}\n  groups         items\n")?;
+    histogram.write(output)?;
+    write_number(
+        "longest       ",
+        histogram.longest as u128,
+        " groups",
+        output,
+    )
+}
+
+// The name of a hash function.
+fn name_of(hash: Hash) -> &'static str
+    ensures { result.now ≡ hash_name hash }
+{
+    match hash {
+        Hash::Fx => "fx",
+        Hash::Unhash => "unhash",
+    }
+}
+
+// Writes a line of a label and a number, with `end` behind it.
+fn write_number<O: Write>(label: &str, number: u128, end: &str, output: &mut O) -> io::Result<()>
+    ensures { OnOk result (Appends (O.contents output.old) (O.contents output.new)
+        (number_line label.now number end.now)) }
+{
+    writeln!(output, "{label}{number}{end}")
+}

@@ -1,0 +1,69 @@
+//! Words of the command line, and lines of an input, that are read as keys.
+ghost use Rattle.std.specs.Prelude.{◌≡◌, [], ◌∷◌, ◌++◌, IfOk, IfErr, OnOk, map, string_bytes};
+ghost use Rattle.std.specs.List.{AllZip};
+ghost use Rattle.odht_tool_core.specs.Keys.{IsReadAs, NamesWord, NamesFault, IsNextKey};
+
+use crate::failure::Failure;
+use crate::lines::read_line;
+use crate::text::Text;
+use std::alloc::Global;
+use std::io::{self, BufRead};
+
+/// The keys of the words, or the first word that is none.
+pub fn parse_keys<K: Text>(alloc: Global, words: &[String]) -> Result<Vec<K>, Failure>
+    ensures keys { IfOk result
+        (λ keys. AllZip (IsReadAs K.is_word K.stands_for) (map string_bytes words.now) keys.items) }
+    ensures fault { IfErr result
+        (NamesFault (IsReadAs K.is_word K.stands_for) (map string_bytes words.now)) }
+{
+    let mut keys = Vec::new(alloc);
+    for word in words {
+        match K::parse(word.as_str().as_bytes()) {
+            Some(key) => push_key(&mut keys, key)?,
+            None => return Err(wrong_key(alloc, word.as_str())),
+        }
+    }
+    Ok(keys)
+}
+
+fn wrong_key(alloc: Global, word: &str) -> Failure
+    ensures { NamesWord word.now result }
+{
+    match String::from_str(alloc, word) {
+        Ok(word) => Failure::Key(word),
+        Err(_) => Failure::Memory,
+    }
+}
+
+/// Adds a key.
+pub fn push_key<K: Text>(keys: &mut Vec<K>, key: K) -> Result<(), Failure>
+    ensures ok { OnOk result (keys.new.items ≡ keys.old.items ++ key ∷ []) }
+    ensures err { IfErr result (λ failure. failure ≡ Failure.Memory) }
+{
+    keys.push(key).map_err(|_| Failure::Memory)
+}
+
+/// What the next line of an input is.
+#[derive(Drop)]
+pub enum NextKey<K> {
+    /// The text of this key.
+    Key(K),
+    /// The text of no key.
+    NoKey,
+    /// There is no line.
+    End,
+}
+
+/// Reads the next line, and parses its key. The bytes of `line` are replaced.
+pub fn next_key<K: Text, I: BufRead>(input: &mut I, line: &mut Vec<u8>) -> io::Result<NextKey<K>>
+    ensures { IfOk result (IsNextKey (IsReadAs K.is_word K.stands_for)
+        (I.remaining input.old) (I.remaining input.new)) }
+{
+    if !read_line(input, line)? {
+        return Ok(NextKey::End);
+    }
+    match K::parse(line.as_slice()) {
+        Some(key) => Ok(NextKey::Key(key)),
+        None => Ok(NextKey::NoKey),
+    }
+}

@@ -1,0 +1,21 @@
+//! `odht_tool_core`: what the program for table files, `odht_tool`, is made of that needs no table of `odht`: words,
+//! lines, keys and values as text, files, and the numbers of a table of any sizes.
+#![tactic(auto)]
+
+pub mod answers;
+pub mod arguments;
+mod early;
+pub mod failure;
+pub mod files;
+pub mod help;
+mod histogram;
+pub mod info;
+pub mod keys;
+pub mod lines;
+mod numbers;
+pub mod progress;
+pub mod shapes;
+pub mod slots;
+pub mod status;
+mod stored;
+pub mod text;

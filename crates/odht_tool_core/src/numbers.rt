@@ -1,0 +1,93 @@
+//! The numbers that `odht info` writes of a table of any key and value sizes.
+ghost use Rattle.std.specs.Prelude.{◌≡◌, ◌<◌, ◌*◌, ◌/◌, IfOk, IfErr};
+ghost use Rattle.odht_tool_core.specs.InfoNumbers.{AreNumbers, IsInfoFailure, IsHistogram, found_groups};
+ghost use Rattle.odht_tool_core.specs.InfoNumbers.{found_hash, nearest_percent};
+
+use crate::failure::Failure;
+use crate::histogram::Histogram;
+use crate::shapes::Hash;
+use crate::stored::StoredTable;
+use odht_base::load::{Factor, max_item_count_for};
+use odht_header::header::Header;
+use std::alloc::{AllocError, Global};
+
+/// What a table file holds, in numbers.
+#[derive(Drop)]
+pub struct Numbers {
+    /// How many bytes a key has.
+    pub key_size: u8,
+    /// How many bytes a value has.
+    pub value_size: u8,
+    /// How many bytes the table has.
+    pub len: usize,
+    /// The header's item count.
+    pub item_count: usize,
+    /// The header's slot count.
+    pub slot_count: usize,
+    /// How many items the slots take at most.
+    pub max_item_count: usize,
+    /// How many percent of the slots the items are, rounded down.
+    pub load: u128,
+    /// The percentage that the header's load factor is nearest to: that which it was made from, if it was made from one.
+    pub max_load: u32,
+    /// The hash function that all control bytes agree with, if there is one.
+    pub hash: Option<Hash>,
+    /// How many groups a search reads, by this hash function; of no items where there is none.
+    pub histogram: Histogram,
+}
+
+/// The numbers of the bytes of a file, or the first error of their header and length.
+pub fn numbers_of(alloc: Global, bytes: &[u8]) -> Result<Numbers, Failure>
+    ensures ok { IfOk result (AreNumbers bytes.now) }
+    ensures err { IfErr result (IsInfoFailure bytes.now) }
+{
+    let table = StoredTable::open(bytes).map_err(Failure::Refused)?;
+    let hash = table.hash();
+    let histogram = histogram_of(alloc, &table, hash)?;
+    let header = Header::of(bytes);
+    let (item_count, slot_count) = (header.item_count(), header.slot_count());
+    let factor = header.max_load_factor();
+    Ok(Numbers {
+        key_size: header.key_size(),
+        value_size: header.value_size(),
+        len: bytes.len(),
+        item_count,
+        slot_count,
+        max_item_count: max_item_count_for(slot_count, factor),
+        load: percent_of(item_count, slot_count),
+        max_load: nearest_percent(factor),
+        hash,
+        histogram,
+    })
+}
+
+// The histogram by the hash function that was found; an empty one where there is none.
+fn histogram_of(
+    alloc: Global,
+    table: &StoredTable<'_>,
+    hash: Option<Hash>,
+) -> Result<Histogram, AllocError>
+    requires { hash ≡ found_hash table.now }
+    ensures { IfOk result (IsHistogram (found_groups table.now)) }
+{
+    match hash {
+        Some(hash) => table.histogram(alloc, hash),
+        None => Histogram::new(alloc),
+    }
+}
+
+// How many percent of the slots are occupied, rounded down.
+fn percent_of(item_count: usize, slot_count: usize) -> u128
+    requires { 0 < slot_count }
+    ensures { result ≡ item_count * 100 / slot_count }
+{
+    item_count as u128 * 100 / slot_count as u128
+}
+
+// The percentage that a load factor is nearest to: that which it was made from, if it was made from one.
+fn nearest_percent(factor: Factor) -> u32
+    ensures { result ≡ nearest_percent factor.0 }
+{
+    let Factor(factor) = factor;
+    (factor as u32 * 100 + 32767) / 65535
+}

@@ -1,0 +1,83 @@
+//! The occupied slots of a table, a line for each.
+ghost use Rattle.std.specs.Prelude.{◌≡◌, ◌+◌, ◌<◌, length, OnOk};
+ghost use Rattle.std.specs.Io.KnownBytes.{Appends};
+ghost use Rattle.odht_base.specs.Decoded.{header_slots};
+ghost use Rattle.odht_base.specs.Load.{IsSlotCount};
+ghost use Rattle.odht_raw.specs.Dumps.{parts_of};
+ghost use Rattle.odht_raw.specs.Parts.{TableParts};
+ghost use Rattle.odht_tool_core.specs.Endings.{IsDone};
+ghost use Rattle.odht_tool_core.specs.Slots.{slot_line, slots_text, slots_outcome};
+
+use crate::answers::write_pair;
+use crate::failure::Failure;
+use crate::histogram::groups_to;
+use crate::status::{Status, of_output};
+use crate::text::Text;
+use odht_base::bytes::{Borrowed, ByteArray};
+use odht_base::hash::HashFn;
+use odht_header::config::{Coded, Config};
+use odht_raw::memory_layout::{Allocation, Entries};
+use std::io::{self, Write};
+
+/// `odht dump --slots` of bytes of a configuration: writes a line for each occupied slot, in slot order.
+pub fn dump_slots<C: Config, O: Write>(bytes: &[u8], output: &mut O) -> Result<Status, Failure>
+where
+    C::Key: Text,
+    C::Value: Text,
+    ensures { IsDone (slots_outcome ⟦<C as Coded>⟧.coding C.Key.text C.Value.text bytes.now)
+        (O.contents output.old) (O.contents output.new) result }
+{
+    let allocation = Allocation::<C, Borrowed<'_>>::from_raw_bytes(Borrowed::new(bytes)).map_err(
+        Failure::Refused,
+    )?;
+    of_output(write_slots(&allocation, output))
+}
+
+// Writes a line for each occupied slot.
+fn write_slots<C: Config, O: Write>(
+    allocation: &Allocation<C, Borrowed<'_>>,
+    output: &mut O,
+) -> io::Result<()>
+where
+    C::Key: Text,
+    C::Value: Text,
+    ensures { let c = ⟦<C as Coded>⟧.coding
+        in let B = allocation.now.0.now
+        in OnOk result (Appends (O.contents output.old) (O.contents output.new)
+        (slots_text c C.Key.text C.Value.text (parts_of c.format B) (header_slots B))) }
+{
+    let (control, entries) = allocation.data_slices();
+    for slot in 0..entries.len() {
+        write_slot::<C, O>(control, &entries, slot, output)?;
+    }
+    Ok(())
+}
+
+// Writes the line of a slot, where it is occupied: its number, its control byte, how many groups a search reads, and its
+// pair.
+fn write_slot<C: Config, O: Write>(
+    control: &[u8],
+    entries: &Entries<'_, C::EncodedKey, C::EncodedValue>,
+    slot: usize,
+    output: &mut O,
+) -> io::Result<()>
+where
+    C::Key: Text,
+    C::Value: Text,
+    requires slots { IsSlotCount entries.now.slots }
+    requires slot { slot < entries.now.slots }
+    requires control { length control.now ≡ entries.now.slots + 16 }
+    ensures { let parts : TableParts = record { control = control.now; entries = entries.now }
+        in OnOk result (Appends (O.contents output.old) (O.contents output.new)
+        (slot_line ⟦<C as Coded>⟧.coding C.Key.text C.Value.text parts slot)) }
+{
+    let tag = control[slot];
+    if tag >= 128 {
+        return Ok(());
+    }
+    let entry = entries.get(slot);
+    let groups = groups_to(C::H::hash(entry.key.as_slice()), slot, entries.len());
+    write!(output, "{slot}\t{tag}\t{groups}\t")?;
+    let (key, value) = (C::decode_key(&entry.key), C::decode_value(&entry.value));
+    write_pair(&key, &value, output)
+}

@@ -1,0 +1,51 @@
+//! How a run of the program ended.
+ghost use Rattle.std.specs.Prelude.{◌≡◌, if◌then◌else◌};
+ghost use Rattle.odht_tool_core.specs.Endings.{IsWritten};
+
+use crate::failure::Failure;
+use std::io;
+
+/// How a run ended.
+#[derive(Clone, Copy, Debug, PartialEq, Eq)]
+pub enum Status {
+    /// All was done.
+    Done,
+    /// A table was rejected, a key is absent, or the command failed.
+    NotDone,
+    /// The words cannot be parsed.
+    Misused,
+}
+
+impl Status {
+    /// The exit status that stands for it.
+    pub fn code(self) -> u8
+        ensures done { self ≡ Status.Done → result ≡ 0 }
+        ensures not_done { self ≡ Status.NotDone → result ≡ 1 }
+        ensures misused { self ≡ Status.Misused → result ≡ 2 }
+    {
+        match self {
+            Status::Done => 0,
+            Status::NotDone => 1,
+            Status::Misused => 2,
+        }
+    }
+
+    /// `Done` where all is as it should be, and else `NotDone`.
+    pub fn of(is_done: bool) -> Status
+        ensures { result ≡ if is_done then Status.Done else Status.NotDone }
+    {
+        if is_done {
+            Status::Done
+        } else {
+            Status::NotDone
+        }
+    }
+}
+
+/// The end of a command that did nothing but write.
+pub fn of_output(written: io::Result<()>) -> Result<Status, Failure>
+    ensures { IsWritten written result }
+{
+    written.map_err(Failure::Output)?;
+    Ok(Status::Done)
+}

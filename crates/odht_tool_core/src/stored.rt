@@ -1,0 +1,212 @@
+//! The bytes of a table of any key and value sizes.
+ghost use Rattle.std.specs.Prelude.{◌≡◌, ◌≤◌, ◌<◌, ◌+◌, ◌*◌, length, not, is_some, IfOk, OnOk};
+ghost use Rattle.std.specs.Prelude.{slice_index};
+ghost use Rattle.std.specs.Result.{result_err};
+ghost use Rattle.odht_base.specs.Decoded.{counts_as_free, header_slots, slot_key};
+ghost use Rattle.odht_base.specs.Image.{image_len};
+ghost use Rattle.odht_base.specs.Load.{IsSlotCount};
+ghost use Rattle.odht_header.specs.Refusals.{checked, control_mismatch, length_refusal};
+ghost use Rattle.odht_tool_core.specs.InfoNumbers.{sized_format, format_by, sized_parts, info_refusal};
+ghost use Rattle.odht_tool_core.specs.InfoNumbers.{rest_refusal, least_key_len, agrees, found_hash};
+ghost use Rattle.odht_tool_core.specs.InfoNumbers.{group_numbers, IsHistogram};
+ghost use Rattle.odht_tool_core.specs.ReadyShapes.{hash_of};
+
+use crate::early::check_first;
+use crate::histogram::{Histogram, groups_to};
+use crate::shapes::Hash;
+use odht_base::hash::{FxHashFn, HashFn, UnHashFn};
+use odht_header::error::Error;
+use odht_header::header::{HEADER_SIZE, Header};
+use std::alloc::{AllocError, Global};
+use std::marker::Model;
+
+/// The parts of a table whose header and length fit the header's own key and value sizes.
+#[derive(Drop)]
+pub struct StoredTable<'a> {
+    control: &'a [u8],
+    entries: &'a [u8],
+    key_size: usize,
+    value_size: usize,
+    slot_count: usize,
+}
+
+impl<'a> Model for StoredTable<'a> {
+    ghost use Rattle.std.specs.Prelude.{◌≡◌, ◌+◌, ◌*◌, length};
+    ghost use Rattle.odht_base.specs.Load.{IsSlotCount};
+    ghost use Rattle.odht_tool_core.specs.InfoNumbers.{SizedParts};
+
+    ghost Value = { SizedParts };
+
+    ghost view = { λ t. record {
+      key_len = t.key_size;
+      value_len = t.value_size;
+      slots = t.slot_count;
+      entries = t.entries.now;
+      control = t.control.now;
+    } };
+
+    ghost invariant = { λ t. IsSlotCount t.slot_count × (length t.control.now ≡ t.slot_count + 16)
+        × (length t.entries.now ≡ t.slot_count * (t.key_size + t.value_size)) };
+}
+
+impl<'a> StoredTable<'a> {
+    /// Checks the header and the length alone, and returns the first error, as [`Header::sanity_check`] does for the
+    /// key and value sizes in the header.
+    pub fn open(bytes: &'a [u8]) -> Result<Self, Error>
+        ensures err { result_err result ≡ info_refusal bytes.now }
+        ensures parts { IfOk result (λ t. t ≡ sized_parts bytes.now) }
+        ensures long { OnOk result (32 ≤ length bytes.now) }
+    {
+        check_first(bytes)?;
+        check_rest(bytes)?;
+        Ok(StoredTable::cut(bytes))
+    }
+
+    // The parts of bytes that are as long as their header says.
+    fn cut(bytes: &'a [u8]) -> Self
+        requires slots { IsSlotCount (header_slots bytes.now) }
+        requires long { length bytes.now ≡ image_len (format_by bytes.now Hash.Fx)
+            (header_slots bytes.now) }
+        ensures { result ≡ sized_parts bytes.now }
+    {
+        let header = Header::of(bytes);
+        let (key_size, value_size) = (header.key_size() as usize, header.value_size() as usize);
+        let slot_count = header.slot_count();
+        let control_at = HEADER_SIZE + slot_count * (key_size + value_size);
+        StoredTable {
+            control: &bytes[control_at..],
+            entries: &bytes[HEADER_SIZE..control_at],
+            key_size,
+            value_size,
+            slot_count,
+        }
+    }
+
+    /// The hash function that all control bytes agree with, if there is one.
+    pub fn hash(&self) -> Option<Hash>
+        ensures { result ≡ found_hash self.now }
+    {
+        if self.agrees(Hash::Fx) {
+            Some(Hash::Fx)
+        } else if self.agrees(Hash::Unhash) {
+            Some(Hash::Unhash)
+        } else {
+            None
+        }
+    }
+
+    // Whether the keys are long enough for a hash function, and each occupied slot has the tag of its key by it.
+    fn agrees(&self, hash: Hash) -> bool
+        ensures { result ≡ agrees self.now hash }
+    {
+        if self.key_size < least_key_size(hash) {
+            return false;
+        }
+        for slot in 0..self.slot_count {
+            if self.is_mismatch(slot, hash) {
+                return false;
+            }
+        }
+        true
+    }
+
+    // Whether a slot is occupied, and its control byte is not the tag of its key.
+    fn is_mismatch(&self, slot: usize, hash: Hash) -> bool
+        requires slot { slot < self.now.slots }
+        requires long { least_key_len hash ≤ self.now.key_len }
+        ensures { let T = self.now
+            in result ≡ is_some (control_mismatch (sized_format T hash) T.entries T.control slot) }
+    {
+        self.is_occupied(slot) && self.control[slot] as u32 != self.hash_at(slot, hash) >> 25
+    }
+
+    // Whether the control byte of a slot does not count as free.
+    fn is_occupied(&self, slot: usize) -> bool
+        requires { slot < self.now.slots }
+        ensures { result ≡ not (counts_as_free (slice_index self.now.control slot)) }
+    {
+        self.control[slot] < 128
+    }
+
+    // The hash of the key of a slot.
+    fn hash_at(&self, slot: usize, hash: Hash) -> u32
+        requires slot { slot < self.now.slots }
+        requires long { least_key_len hash ≤ self.now.key_len }
+        ensures { result ≡ hash_of hash (slot_key (sized_format self.now hash) self.now.entries
+            slot) }
+    {
+        let entry_size = self.key_size + self.value_size;
+        let at = slot * entry_size;
+        let entry = &self.entries[at..at + entry_size];
+        hash_key(&entry[..self.key_size], hash)
+    }
+
+    /// Counts for each occupied slot how many groups a search reads to find its key, by this hash function.
+    pub fn histogram(&self, alloc: Global, hash: Hash) -> Result<Histogram, AllocError>
+        requires { least_key_len hash ≤ self.now.key_len }
+        ensures { IfOk result (IsHistogram (group_numbers self.now hash self.now.slots)) }
+    {
+        let mut histogram = Histogram::new(alloc)?;
+        for slot in 0..self.slot_count {
+            if self.is_occupied(slot) {
+                histogram.add(groups_to(self.hash_at(slot, hash), slot, self.slot_count));
+            }
+        }
+        Ok(histogram)
+    }
+}
+
+// The errors of opening that come after those of the key and value sizes.
+fn check_rest(bytes: &[u8]) -> Result<(), Error>
+    requires { 32 ≤ length bytes.now }
+    ensures { result ≡ checked (rest_refusal bytes.now) }
+{
+    let header = Header::of(bytes);
+    header.check_header_size()?;
+    header.check_slot_count()?;
+    check_length(bytes)
+}
+
+// Whether there are as many bytes as the header's numbers say; else `WrongLength`.
+fn check_length(bytes: &[u8]) -> Result<(), Error>
+    requires { 32 ≤ length bytes.now }
+    ensures { result ≡ checked (length_refusal (format_by bytes.now Hash.Fx)
+        (length bytes.now) bytes.now) }
+{
+    let header = Header::of(bytes);
+    let slot_count = header.slot_count();
+    let found = bytes.len();
+    let entry_size = header.key_size() as u128 + header.value_size() as u128;
+    let slots = slot_count as u128;
+    let expected = HEADER_SIZE as u128 + slots * entry_size + slots + 16;
+    if found as u128 == expected {
+        Ok(())
+    } else {
+        Err(Error::WrongLength {
+            slot_count,
+            found,
+            expected,
+        })
+    }
+}
+
+// How many bytes the hash function needs at least.
+fn least_key_size(hash: Hash) -> usize
+    ensures { result ≡ least_key_len hash }
+{
+    match hash {
+        Hash::Fx => FxHashFn::MIN_LEN,
+        Hash::Unhash => UnHashFn::MIN_LEN,
+    }
+}
+
+// The hash of a key.
+fn hash_key(key: &[u8], hash: Hash) -> u32
+    requires { least_key_len hash ≤ length key.now }
+    ensures { result ≡ hash_of hash key.now }
+{
+    match hash {
+        Hash::Fx => FxHashFn::hash(key),
+        Hash::Unhash => UnHashFn::hash(key),
+    }
+}
