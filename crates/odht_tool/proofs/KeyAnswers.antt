@@ -1,6 +1,5 @@
 -- Keys and their answers.
-use Rattle.std.proofs.Common.{List, [], ◌∷◌, ◌++◌, ℕ, Option, Bool, ◌<◌, length, refl, arith}
-use Rattle.std.specs.List.{AllZip}
+use Rattle.std.proofs.Common.{List, [], ℕ, Option, Bool, ◌<◌, length, refl, arith}
 use Rattle.std.proofs.KnownBytes.{Appends-nil}
 use Rattle.odht_header.specs.Coding.{Coding}
 use Rattle.odht_tool.specs.GetParts.{IsFlushed}

@@ -10,14 +10,15 @@ use Rattle.std.proofs.Math.Seq.{take-append_seam}
 use Rattle.std.proofs.lemmas.List.{append_assoc, append-nil}
 use Rattle.odht_header.specs.Coding.{Coding}
 use Rattle.odht_tool.specs.GetLines.{lines_read, AreFirstAnswered, IsLineFault, AreLinesAnswered}
-use Rattle.odht_tool.specs.GetParts.{AreKeysAnswered, IsKeysFailure, IsFlushed}
+use Rattle.odht_tool.specs.GetParts.{AreKeysAnswered, IsKeysFailure, IsFlushed, IsLineFailure}
 use Rattle.odht_tool.specs.Gets.{AreAnswers, IsAnswered, answered_status, found_status}
 use Rattle.odht_tool_core.specs.InputLines.{IsNextLine}
 use Rattle.odht_tool_core.specs.Texts.{answers_text}
 use Rattle.odht_tool_core.specs.declared.keys.NextKey.TheVariants.{Key as is_key, NoKey}
 use Rattle.odht_tool.specs.declared.commands.get.TheConstants.{BATCH}
 use Rattle.odht_tool_core.specs.declared.failure.Failure.{Failure}
-use Rattle.odht_tool_core.specs.declared.failure.Failure.TheVariants.{Memory, Output}
+use Rattle.odht_tool_core.specs.declared.failure.Failure.TheVariants.{Memory, Input, Line, Output}
+use Rattle.odht_tool_core.specs.declared.failure.LineFault.TheVariants.{Key}
 use Rattle.odht_tool.proofs.AnswerLists.{AllZip-length, IsFront, front_of, appended_kept, are_answers_append, written_append, found_append}
 use Rattle.odht_tool.proofs.KeyAnswers.{no_answers}
 use Rattle.odht_tool_core.proofs.KeyWords.{AllZip-one_more}
@@ -171,7 +172,7 @@ module _ {K V : Type 0} (c : Coding K V) (f : K → List ℕ) (g : V → List �
             ap (take (2 ^ 64 - 2)) r.place ∙ ap (λ n. take n (r.words ++ lines r.rest)) (limit r.counted e) ∙ take-append_seam r.words (lines r.rest)
 
     -- where the next line is no key, these are the answers to all before it
-    pub line_fault : (every : Bool) (then : Option (List ℕ)) → IsNextKey R now then NoKey → AreKeysAnswered c f g B pending new last every
+    line_fault : (every : Bool) (then : Option (List ℕ)) → IsNextKey R now then NoKey → AreKeysAnswered c f g B pending new last every
         → IfSome input (λ bytes. IsLineFault c f g R B (lines bytes) number old last)
     line_fault every then next s = if_some input _ _ fault h.read
       where
@@ -190,7 +191,7 @@ module _ {K V : Type 0} (c : Coding K V) (f : K → List ℕ) (g : V → List �
             }
 
     -- where no more is said, answers to some first lines were written
-    pub first_answered : Keeps new last → IfSome input (λ bytes. AreFirstAnswered c f g R B (lines bytes) old last)
+    first_answered : Keeps new last → IfSome input (λ bytes. AreFirstAnswered c f g R B (lines bytes) old last)
     first_answered k = if_some input _ _ (λ bytes r. some bytes r (front_of R r.words h.done pending r.texts)) h.read
       where
         some : (bytes : List ℕ) (r : AreRead R bytes now number (h.done ++ pending)) → IsFront R r.words h.done → AreFirstAnswered c f g R B (lines bytes) old last
@@ -216,3 +217,11 @@ module _ {K V : Type 0} (c : Coding K V) (f : K → List ℕ) (g : V → List �
     keys_failed Memory k = first_answered k
     keys_failed (Output error) k = tt
     keys_failed _ k = absurd k
+
+    -- and with one of the next line
+    pub line_failed : (failure : Failure) → IsLineFailure c f g R B pending number now new last failure → AreLinesAnswered c f g R B input old last (Err failure)
+    line_failed (Line n Key) h = subst (λ m. IfSome input (λ bytes. IsLineFault c f g R B (lines bytes) m old last)) (sym h.0) (line_fault h.1.every h.1.then h.1.fault h.1.answered)
+    line_failed (Input error) k = first_answered k
+    line_failed Memory k = first_answered k
+    line_failed (Output error) k = tt
+    line_failed _ k = absurd k

@@ -6,16 +6,24 @@
 --     IsFlushed c f g B before after old new was all   of the keys `before` those that are not left in `after` were
 --                          answered: all where they are a batch, and else none; `all` says whether each has a value, and
 --                          `was` holds
-use Rattle.std.specs.Prelude.{◌≡◌, ⊤, ℕ, ◌<◌, ◌≤◌, Bool, ◌&&◌, List, [], ◌++◌, length, is_some, Option, Some}
+--     IsReadKey R o o' k   k is the key of the next line of the bytes o, and o' are those after it; or there is no line
+--     AreFaultAnswered c f g R B ks o old new   the next line of the bytes o is a text of no key, and the answers to the
+--                          keys ks were written
+--     IsLineFailure c f g R B ks n o old new f   f is this fault of line n, with these answers; or no memory, or the
+--                          reader failed, and nothing was written; or the writer failed
+use Rattle.std.specs.Prelude.{◌≡◌, ⊤, ℕ, ◌<◌, ◌≤◌, Bool, ◌&&◌, List, [], ◌++◌, length, is_some, Option, Some, None}
 use Rattle.std.specs.Io.KnownBytes.{Appends, Keeps}
 use Rattle.std.specs.List.{list_all}
 use Rattle.odht_header.specs.Coding.{Coding}
 use Rattle.odht_header.specs.declared.error.Error.{Error}
 use Rattle.odht_tool.specs.Gets.{AreAnswers}
+use Rattle.odht_tool_core.specs.Keys.{IsNextKey}
 use Rattle.odht_tool_core.specs.Texts.{answers_text}
 use Rattle.odht_tool.specs.declared.commands.get.TheConstants.{BATCH}
 use Rattle.odht_tool_core.specs.declared.failure.Failure.{Failure}
-use Rattle.odht_tool_core.specs.declared.failure.Failure.TheVariants.{Refused, Output, Memory}
+use Rattle.odht_tool_core.specs.declared.failure.Failure.TheVariants.{Refused, Input, Line, Output, Memory}
+use Rattle.odht_tool_core.specs.declared.failure.LineFault.TheVariants.{Key}
+use Rattle.odht_tool_core.specs.declared.keys.NextKey.TheVariants.{Key as is_key, NoKey, End}
 
 abbrev pub IsOpenFailure : Option Error → Failure → Type 0
 IsOpenFailure o (Refused error) = o ≡ Some error
@@ -41,3 +49,20 @@ pub record IsFlushed {K V : Type 0} (c : Coding K V) (f : K → List ℕ) (g : V
   pub answers : AreAnswers c B done values
   pub written : Appends old new (answers_text f g done values)
   pub found : all ≡ (list_all is_some values && was)
+
+abbrev pub IsReadKey : {K : Type 0} → (List ℕ → K → Type 0) → Option (List ℕ) → Option (List ℕ) → Option K → Type 0
+IsReadKey R old new (Some key) = IsNextKey R old new (is_key key)
+IsReadKey R old new None = IsNextKey R old new End
+
+module _ {K V : Type 0} (c : Coding K V) (f : K → List ℕ) (g : V → List ℕ) (R : List ℕ → K → Type 0) (B : List ℕ) where
+  -- where the line after those of the keys `ks` is no key
+  pub record AreFaultAnswered (ks : List K) (bytes old new : Option (List ℕ)) : Type 0 where
+    pub then : Option (List ℕ)
+    pub fault : IsNextKey R bytes then NoKey
+    pub every : Bool
+    pub answered : AreKeysAnswered c f g B ks old new every
+
+  abbrev pub IsLineFailure : List K → ℕ → Option (List ℕ) → Option (List ℕ) → Option (List ℕ) → Failure → Type 0
+  IsLineFailure ks number bytes old new (Line n Key) = (n ≡ number) × AreFaultAnswered ks bytes old new
+  IsLineFailure ks number bytes old new (Input error) = Keeps old new
+  IsLineFailure ks number bytes old new failure = IsKeysFailure old new failure

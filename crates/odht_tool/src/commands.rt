@@ -1,5 +1,5 @@
 //! Runs the commands, each from its parsed words to the status of the program.
-use odht_tool_core::arguments::{Command, Keys, Request, parse};
+use odht_tool_core::arguments::{Command, Keys, Reading, Request, parse};
 use odht_tool_core::failure::Failure;
 use odht_tool_core::files::read_file;
 use odht_tool_core::help::help_text;
@@ -54,35 +54,49 @@ fn run_command<R: Files + AllocGlobal + Clock, I: BufRead, O: Write, E: Write>(
     output: &mut O,
     errors: &mut E,
 ) -> Result<Status, Failure> {
-    let alloc: Global = rt.alloc();
-    let load = || read_file(rt, file);
     match command {
-        Command::Info => info_file(alloc, load()?.as_slice(), output),
-        Command::Check { hash } => check::check_file(load()?.as_slice(), hash, output),
-        Command::Get {
-            hash,
-            keys: Keys::Words(words),
-        } => get::get_file_words(alloc, load()?.as_slice(), hash, words.as_slice(), output),
-        Command::Get {
-            hash,
-            keys: Keys::Lines,
-        } => get::get_file_lines(alloc, load()?.as_slice(), hash, input, output),
-        Command::Dump { hash, is_slots } => dump::dump_file(
-            load()?.as_slice(),
-            hash,
-            is_slots,
-            output,
-        ),
+        Command::Read(reading) => {
+            run_reading(
+                rt.alloc(),
+                read_file(rt, file)?.as_slice(),
+                reading,
+                input,
+                output,
+            )
+        }
         Command::Build(options) => build::build(rt, file, options, input, errors),
         Command::Put { hash, has_progress } => build::put(
             rt,
             file,
-            load()?,
+            read_file(rt, file)?,
             hash,
             has_progress,
             input,
             errors,
         ),
+    }
+}
+
+// Runs a command that reads its file alone, which has these bytes.
+fn run_reading<I: BufRead, O: Write>(
+    alloc: Global,
+    bytes: &[u8],
+    reading: Reading,
+    input: &mut I,
+    output: &mut O,
+) -> Result<Status, Failure> {
+    match reading {
+        Reading::Info => info_file(alloc, bytes, output),
+        Reading::Check { hash } => check::check_file(bytes, hash, output),
+        Reading::Get {
+            hash,
+            keys: Keys::Words(words),
+        } => get::get_file_words(alloc, bytes, hash, words.as_slice(), output),
+        Reading::Get {
+            hash,
+            keys: Keys::Lines,
+        } => get::get_file_lines(alloc, bytes, hash, input, output),
+        Reading::Dump { hash, is_slots } => dump::dump_file(bytes, hash, is_slots, output),
     }
 }
 

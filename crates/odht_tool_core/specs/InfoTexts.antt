@@ -1,5 +1,6 @@
 -- What `info` writes of the numbers n of a table.
 --     number_line l x e    the line of the label l and the number x, with e behind it
+--     lengths_text n       the lines of the sizes of keys, values and header, and of all bytes
 --     sizes_text n         the lines that do not depend on the hash function
 --     aligned w x          the digits of x, after as many spaces as make them w characters
 --     bar c m              the bar of the count c, where m is the largest: forty `#` times c over m, at least one, but none
@@ -27,12 +28,16 @@ use Rattle.odht_tool_core.specs.declared.status.Status.TheVariants.{Done}
 abbrev pub number_line : List ℕ → ℕ → List ℕ → List ℕ
 number_line label x end = label ++ (decimal x ++ (end ++ (10 ∷ [])))
 
-abbrev pub sizes_text : Numbers → List ℕ
-sizes_text n =
+abbrev pub lengths_text : Numbers → List ℕ
+lengths_text n =
     number_line (codes "key bytes     ") n.key_size []
     ++ number_line (codes "value bytes   ") n.value_size []
     ++ number_line (codes "header bytes  ") 32 []
     ++ number_line (codes "all bytes     ") n.len []
+
+abbrev pub sizes_text : Numbers → List ℕ
+sizes_text n =
+    lengths_text n
     ++ number_line (codes "items         ") n.item_count []
     ++ number_line (codes "slots         ") n.slot_count []
     ++ number_line (codes "maximum       ") n.max_item_count []

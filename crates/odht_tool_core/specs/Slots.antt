@@ -1,4 +1,5 @@
 -- What `dump --slots` writes of bytes B of the coding c, where f and g are the texts of keys and of values.
+--     numbers_text i t n       the numbers of a slot, of its control byte and of groups, a tab behind each
 --     slot_line c f g T i      the line of slot i of the parts T: its number, its control byte, how many groups a search
 --                              for its key reads, and its pair; nothing for a slot that counts as free
 --     slots_text c f g T n     those of the first n slots
@@ -13,6 +14,9 @@ use Rattle.odht_raw.specs.Parts.{TableParts}
 use Rattle.odht_tool_core.specs.Endings.{Outcome, opened_outcome}
 use Rattle.odht_tool_core.specs.GroupNumbers.{groups_to}
 use Rattle.odht_tool_core.specs.Texts.{pair_line}
+
+abbrev pub numbers_text : ℕ → ℕ → ℕ → List ℕ
+numbers_text slot control groups = decimal slot ++ (9 ∷ (decimal control ++ (9 ∷ (decimal groups ++ (9 ∷ [])))))
 
 abbrev pub slot_line : {K V : Type 0} → Coding K V → (K → List ℕ) → (V → List ℕ) → TableParts → ℕ → List ℕ
 slot_line c f g T i =

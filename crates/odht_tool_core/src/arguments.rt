@@ -69,7 +69,7 @@ impl Setting {
 }
 
 /// A load factor in percent.
-#[derive(Clone, Copy, Debug)]
+#[derive(Clone, Copy)]
 pub struct Percent {
     pub value: u8,
     ghost low: { 1 ≤ value },
@@ -89,7 +89,7 @@ impl Percent {
 }
 
 /// The options of `build`.
-#[derive(Clone, Copy, Debug)]
+#[derive(Clone, Copy)]
 pub struct BuildOptions {
     pub key: Part,
     pub value: Part,
@@ -101,7 +101,7 @@ pub struct BuildOptions {
 }
 
 /// Where the keys of a lookup are.
-#[derive(Debug, Drop)]
+#[derive(Drop)]
 pub enum Keys {
     /// These words.
     Words(Vec<String>),
@@ -120,20 +120,10 @@ impl Keys {
 }
 
 /// A command, with all that it needs to know beside its file.
-#[derive(Debug, Drop)]
+#[derive(Drop)]
 pub enum Command {
-    Info,
-    Check {
-        hash: Option<Hash>,
-    },
-    Get {
-        hash: Option<Hash>,
-        keys: Keys,
-    },
-    Dump {
-        hash: Option<Hash>,
-        is_slots: bool,
-    },
+    /// One that reads the file alone.
+    Read(Reading),
     Build(BuildOptions),
     Put {
         hash: Option<Hash>,
@@ -141,8 +131,17 @@ pub enum Command {
     },
 }
 
+/// A command that reads its file alone.
+#[derive(Drop)]
+pub enum Reading {
+    Info,
+    Check { hash: Option<Hash> },
+    Get { hash: Option<Hash>, keys: Keys },
+    Dump { hash: Option<Hash>, is_slots: bool },
+}
+
 /// What the words ask for.
-#[derive(Debug, Drop)]
+#[derive(Drop)]
 pub enum Request {
     /// The help text of a command, or of all.
     Help(Option<Topic>),
@@ -157,18 +156,40 @@ pub enum Misuse {
     NoCommand,
     /// The first word is no command.
     UnknownCommand(String),
-    /// A word begins with two hyphens and is no option of the command.
-    UnknownOption(Topic, String),
-    /// An option's value is missing.
-    NoValue(Topic, String),
-    /// An option has no such value.
-    WrongValue(Topic, String, String),
-    /// There are too few or too many words.
-    WrongCount(Topic),
+    /// The words after a command are none of its words.
+    InCommand(Topic, CommandMisuse),
     /// A table is to be built, and its shape is not given.
     NoParts,
     /// An allocation failed.
     Memory,
+}
+
+/// Why the words after a command cannot be parsed.
+#[derive(Debug, Drop)]
+pub enum CommandMisuse {
+    /// A word begins with two hyphens and is no option of the command.
+    UnknownOption(String),
+    /// An option's value is missing.
+    NoValue(String),
+    /// An option has no such value.
+    WrongValue(String, String),
+    /// There are too few or too many words.
+    WrongCount,
+}
+
+impl CommandMisuse {
+    // Writes it of this command.
+    fn write<W: fmt::Write>(&self, topic: Topic, f: &mut fmt::Formatter<W>) -> fmt::Result {
+        match self {
+            CommandMisuse::UnknownOption(word) => write!(
+                f,
+                "`odht {topic}` has no option {word:?}"
+            ),
+            CommandMisuse::NoValue(option) => write!(f, "a value is wanted behind {option}"),
+            CommandMisuse::WrongValue(option, word) => write!(f, "{option} cannot be {word:?}"),
+            CommandMisuse::WrongCount => write!(f, "too few or too many words"),
+        }
+    }
 }
 
 impl fmt::Display for Misuse {
@@ -179,22 +200,10 @@ impl fmt::Display for Misuse {
                 f,
                 "no command is named {word:?}; there are info, check, get, dump, build and put"
             ),
-            Misuse::UnknownOption(topic, word) => write!(
-                f,
-                "`odht {topic}` has no option {word:?}; try `odht {topic} --help`"
-            ),
-            Misuse::NoValue(topic, option) => write!(
-                f,
-                "a value is wanted behind {option}; try `odht {topic} --help`"
-            ),
-            Misuse::WrongValue(topic, option, word) => write!(
-                f,
-                "{option} cannot be {word:?}; try `odht {topic} --help`"
-            ),
-            Misuse::WrongCount(topic) => write!(
-                f,
-                "too few or too many words; try `odht {topic} --help`"
-            ),
+            Misuse::InCommand(topic, misuse) => {
+                misuse.write(*topic, f)?;
+                write!(f, "; try `odht {topic} --help`")
+            }
             Misuse::NoParts => write!(f, "--key and --value are wanted; try `odht build --help`"),
             Misuse::Memory => write!(f, "a request for memory was refused"),
         }
@@ -221,7 +230,7 @@ pub fn parse(alloc: Global, words: Vec<String>) -> Result<Request, Misuse> {
         waiting = draft.read(waiting, word)?;
     }
     match waiting {
-        Some((_, option)) => Err(Misuse::NoValue(topic, option)),
+        Some((_, option)) => Err(Misuse::InCommand(topic, CommandMisuse::NoValue(option))),
         None => draft.finish(),
     }
 }
@@ -268,7 +277,10 @@ impl Draft {
         match waiting {
             Some((setting, option)) => match self.set(setting, word.as_str()) {
                 Some(()) => Ok(None),
-                None => Err(Misuse::WrongValue(self.topic, option, word)),
+                None => {
+                    let misuse = CommandMisuse::WrongValue(option, word);
+                    Err(Misuse::InCommand(self.topic, misuse))
+                }
             },
             None if word.as_str().starts_with("--") => self.read_option(word),
             None => match self.words.push(word) {
@@ -301,7 +313,10 @@ impl Draft {
             name => {
                 return match Setting::of(topic, name) {
                     Some(setting) => Ok(Some((setting, word))),
-                    None => Err(Misuse::UnknownOption(topic, word)),
+                    None => {
+                        let misuse = CommandMisuse::UnknownOption(word);
+                        Err(Misuse::InCommand(topic, misuse))
+                    }
                 };
             }
         }
@@ -316,20 +331,20 @@ impl Draft {
         }
         let (mut words, hash, has_progress) = (self.words, self.hash, self.has_progress);
         if words.is_empty() || (words.len() > 1) != (topic == Topic::Get) {
-            return Err(Misuse::WrongCount(topic));
+            return Err(Misuse::InCommand(topic, CommandMisuse::WrongCount));
         }
         let file = words.remove(0);
         let command = match topic {
-            Topic::Info => Command::Info,
-            Topic::Check => Command::Check { hash },
-            Topic::Get => Command::Get {
+            Topic::Info => Command::Read(Reading::Info),
+            Topic::Check => Command::Read(Reading::Check { hash }),
+            Topic::Get => Command::Read(Reading::Get {
                 hash,
                 keys: Keys::of_words(words),
-            },
-            Topic::Dump => Command::Dump {
+            }),
+            Topic::Dump => Command::Read(Reading::Dump {
                 hash,
                 is_slots: self.is_slots,
-            },
+            }),
             Topic::Build => {
                 let (Some(key), Some(value)) = (self.key, self.value) else {
                     return Err(Misuse::NoParts);

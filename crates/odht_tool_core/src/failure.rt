@@ -27,7 +27,7 @@ pub enum Failure {
 }
 
 /// What is wrong with a line of standard input.
-#[derive(Clone, Copy, Debug, PartialEq, Eq)]
+#[derive(Clone, Copy, Debug)]
 pub enum LineFault {
     /// There is no tab between a key and a value.
     NoTab,

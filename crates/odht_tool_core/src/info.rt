@@ -1,8 +1,8 @@
 //! `odht info`: what a table file of any shape holds.
 ghost use Rattle.std.specs.Prelude.{◌≡◌, ◌++◌, OnOk, length};
 ghost use Rattle.std.specs.Io.KnownBytes.{Appends};
-ghost use Rattle.odht_tool_core.specs.InfoTexts.{number_line, sizes_text, hash_name, groups_text};
-ghost use Rattle.odht_tool_core.specs.InfoTexts.{info_text, IsInfoDone};
+ghost use Rattle.odht_tool_core.specs.InfoTexts.{number_line, lengths_text, sizes_text, hash_name};
+ghost use Rattle.odht_tool_core.specs.InfoTexts.{groups_text, info_text, IsInfoDone};
 
 use crate::failure::Failure;
 use crate::histogram::Histogram;
@@ -36,15 +36,23 @@ fn write_all<O: Write>(numbers: &Numbers, output: &mut O) -> io::Result<()>
     }
 }
 
+// The lines of the sizes of keys, values and header, and of all bytes.
+fn write_lengths<O: Write>(numbers: &Numbers, output: &mut O) -> io::Result<()>
+    ensures { OnOk result
+        (Appends (O.contents output.old) (O.contents output.new) (lengths_text numbers.now)) }
+{
+    write_number("key bytes     ", numbers.key_size as u128, "", output)?;
+    write_number("value bytes   ", numbers.value_size as u128, "", output)?;
+    write_number("header bytes  ", 32, "", output)?;
+    write_number("all bytes     ", numbers.len as u128, "", output)
+}
+
 // The lines that do not depend on the hash function.
 fn write_sizes<O: Write>(numbers: &Numbers, output: &mut O) -> io::Result<()>
     ensures { OnOk result
         (Appends (O.contents output.old) (O.contents output.new) (sizes_text numbers.now)) }
 {
-    write_number("key bytes     ", numbers.key_size as u128, "", output)?;
-    write_number("value bytes   ", numbers.value_size as u128, "", output)?;
-    write_number("header bytes  ", 32, "", output)?;
-    write_number("all bytes     ", numbers.len as u128, "", output)?;
+    write_lengths(numbers, output)?;
     write_number("items         ", numbers.item_count as u128, "", output)?;
     write_number("slots         ", numbers.slot_count as u128, "", output)?;
     write_number("maximum       ", numbers.max_item_count as u128, "", output)?;

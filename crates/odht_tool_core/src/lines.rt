@@ -4,13 +4,13 @@ ghost use Rattle.std.specs.Io.BufRead.{ends_with_byte, strip_last};
 ghost use Rattle.std.specs.Io.KnownBytes.{IsAtEnd};
 ghost use Rattle.odht_tool_core.specs.InputLines.{IsNextLine, without_end};
 
-use crate::failure::LineFault;
+use crate::failure::{Failure, LineFault};
 use crate::text::Text;
 use std::io::{self, BufRead};
 
-/// Reads the next line into `line`, without its end, `\n` or `\r\n`, and replaces what `line` held. False at the end of
-/// the input. After an error do not use the line.
-pub fn read_line<R: BufRead>(reader: &mut R, line: &mut Vec<u8>) -> io::Result<bool>
+// Reads the next line into `line`, without its end, `\n` or `\r\n`, and replaces what `line` held. False at the end of
+// the input. After an error do not use the line.
+pub(crate) fn read_line<R: BufRead>(reader: &mut R, line: &mut Vec<u8>) -> io::Result<bool>
     ensures line { IfOk result (λ more. IsTrue more
         → IsNextLine (R.remaining reader.old) (R.remaining reader.new) line.new.items) }
     ensures end { IfOk result (λ more. IsFalse more → IsAtEnd (R.remaining reader.old)) }
@@ -46,9 +46,24 @@ fn drop_last(line: &mut Vec<u8>, byte: u8) -> bool
     true
 }
 
-/// The key and the value of a line: on either side of its first tab, or, where the text of a value is empty, of a line
-/// without a tab.
-pub fn parse_pair<K: Text, V: Text>(line: &[u8]) -> Result<(K, V), LineFault> {
+/// Reads the pair of the line of this number, if there is such a line. The bytes of `line` are replaced.
+pub fn read_pair<K: Text, V: Text, I: BufRead>(
+    input: &mut I,
+    line: &mut Vec<u8>,
+    number: u64,
+) -> Result<Option<(K, V)>, Failure> {
+    if !read_line(input, line).map_err(Failure::Input)? {
+        return Ok(None);
+    }
+    match parse_pair(line.as_slice()) {
+        Ok(pair) => Ok(Some(pair)),
+        Err(fault) => Err(Failure::Line { number, fault }),
+    }
+}
+
+// The key and the value of a line: on either side of its first tab, or, where the text of a value is empty, of a line
+// without a tab.
+fn parse_pair<K: Text, V: Text>(line: &[u8]) -> Result<(K, V), LineFault> {
     let (key, value) = match split_at_tab(line) {
         Some(parts) => parts,
         None => {

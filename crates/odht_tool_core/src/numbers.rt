@@ -1,7 +1,7 @@
 //! The numbers that `odht info` writes of a table of any key and value sizes.
 ghost use Rattle.std.specs.Prelude.{◌≡◌, ◌<◌, ◌*◌, ◌/◌, IfOk, IfErr};
-ghost use Rattle.odht_tool_core.specs.InfoNumbers.{AreNumbers, IsInfoFailure, IsHistogram, found_groups};
-ghost use Rattle.odht_tool_core.specs.InfoNumbers.{found_hash, nearest_percent};
+ghost use Rattle.odht_tool_core.specs.InfoNumbers.{AreNumbers, IsInfoFailure, IsHistogram};
+ghost use Rattle.odht_tool_core.specs.InfoNumbers.{found_groups, found_hash, nearest_percent};
 
 use crate::failure::Failure;
 use crate::histogram::Histogram;
@@ -28,7 +28,8 @@ pub struct Numbers {
     pub max_item_count: usize,
     /// How many percent of the slots the items are, rounded down.
     pub load: u128,
-    /// The percentage that the header's load factor is nearest to: that which it was made from, if it was made from one.
+    /// The percentage that the header's load factor is nearest to: that which it was made from, if it was made from
+    /// one.
     pub max_load: u32,
     /// The hash function that all control bytes agree with, if there is one.
     pub hash: Option<Hash>,

@@ -11,7 +11,7 @@ use crate::failure::Failure;
 use odht_header::header::Header;
 
 /// A hash function of keys.
-#[derive(Clone, Copy, Debug, PartialEq, Eq)]
+#[derive(Clone, Copy)]
 pub enum Hash {
     /// `FxHashFn`.
     Fx,
@@ -41,7 +41,7 @@ impl Hash {
 }
 
 /// The type of a key or of a value.
-#[derive(Clone, Copy, Debug, PartialEq, Eq)]
+#[derive(Clone, Copy)]
 pub enum Part {
     /// Nothing, in a table that is a set.
     Nothing,
@@ -93,7 +93,7 @@ impl Part {
 }
 
 /// A ready shape, by the name of its configuration.
-#[derive(Clone, Copy, Debug, PartialEq, Eq)]
+#[derive(Clone, Copy)]
 pub enum Shape {
     U32ToU32,
     DirectU32ToU32,

@@ -6,7 +6,7 @@ ghost use Rattle.odht_base.specs.Load.{IsSlotCount};
 ghost use Rattle.odht_raw.specs.Dumps.{parts_of};
 ghost use Rattle.odht_raw.specs.Parts.{TableParts};
 ghost use Rattle.odht_tool_core.specs.Endings.{IsDone};
-ghost use Rattle.odht_tool_core.specs.Slots.{slot_line, slots_text, slots_outcome};
+ghost use Rattle.odht_tool_core.specs.Slots.{numbers_text, slot_line, slots_text, slots_outcome};
 
 use crate::answers::write_pair;
 use crate::failure::Failure;
@@ -53,8 +53,8 @@ where
     Ok(())
 }
 
-// Writes the line of a slot, where it is occupied: its number, its control byte, how many groups a search reads, and its
-// pair.
+// Writes the line of a slot, where it is occupied: its number, its control byte, how many groups a search reads, and
+// its pair.
 fn write_slot<C: Config, O: Write>(
     control: &[u8],
     entries: &Entries<'_, C::EncodedKey, C::EncodedValue>,
@@ -77,7 +77,15 @@ where
     }
     let entry = entries.get(slot);
     let groups = groups_to(C::H::hash(entry.key.as_slice()), slot, entries.len());
-    write!(output, "{slot}\t{tag}\t{groups}\t")?;
+    write_numbers(slot, tag, groups, output)?;
     let (key, value) = (C::decode_key(&entry.key), C::decode_value(&entry.value));
     write_pair(&key, &value, output)
+}
+
+// Writes the number of a slot, its control byte and a number of groups, a tab behind each.
+fn write_numbers<O: Write>(slot: usize, tag: u8, groups: usize, output: &mut O) -> io::Result<()>
+    ensures { OnOk result (Appends (O.contents output.old) (O.contents output.new)
+        (numbers_text slot tag groups)) }
+{
+    write!(output, "{slot}\t{tag}\t{groups}\t")
 }

@@ -6,9 +6,9 @@ ghost use Rattle.odht_base.specs.Decoded.{counts_as_free, header_slots, slot_key
 ghost use Rattle.odht_base.specs.Image.{image_len};
 ghost use Rattle.odht_base.specs.Load.{IsSlotCount};
 ghost use Rattle.odht_header.specs.Refusals.{checked, control_mismatch, length_refusal};
-ghost use Rattle.odht_tool_core.specs.InfoNumbers.{sized_format, format_by, sized_parts, info_refusal};
-ghost use Rattle.odht_tool_core.specs.InfoNumbers.{rest_refusal, least_key_len, agrees, found_hash};
-ghost use Rattle.odht_tool_core.specs.InfoNumbers.{group_numbers, IsHistogram};
+ghost use Rattle.odht_tool_core.specs.InfoNumbers.{sized_format, format_by, sized_parts};
+ghost use Rattle.odht_tool_core.specs.InfoNumbers.{info_refusal, rest_refusal, least_key_len};
+ghost use Rattle.odht_tool_core.specs.InfoNumbers.{agrees, found_hash, group_numbers, IsHistogram};
 ghost use Rattle.odht_tool_core.specs.ReadyShapes.{hash_of};
 
 use crate::early::check_first;

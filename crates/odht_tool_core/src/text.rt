@@ -6,7 +6,8 @@ ghost use Rattle.std.specs.Fmt.{digit_glyph};
 ghost use Rattle.std.specs.List.{AllPass};
 ghost use Rattle.std.specs.Io.KnownBytes.{Appends};
 ghost use Rattle.std.specs.Str.Parse.{digits_value};
-ghost use Rattle.odht_tool_core.specs.Texts.{IsNumberWord, IsHexWord, WritesBytes, hex_digits, hex_text};
+ghost use Rattle.odht_tool_core.specs.Texts.{IsNumberWord, IsHexWord, WritesBytes};
+ghost use Rattle.odht_tool_core.specs.Texts.{hex_digits, hex_text};
 
 use std::io::{self, Write};
 

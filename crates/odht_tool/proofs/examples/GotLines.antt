@@ -20,7 +20,7 @@ use Rattle.odht_header.specs.declared.error.Error.TheVariants.{TooShort}
 use Rattle.odht_header.proofs.examples.Apart.{unequal_lists}
 use Rattle.odht_header.proofs.examples.Opened.{opened}
 use Rattle.odht_tool.specs.GetLines.{lines_read, AreFirstAnswered, IsLineFault, AreFileLinesGot, lines_of_shape}
-use Rattle.odht_tool.specs.GetParts.{IsFlushed}
+use Rattle.odht_tool.specs.GetParts.{IsFlushed, IsLineFailure}
 use Rattle.odht_tool.specs.Gets.{AreAnswers, IsAnswered, IsTextOf, answered_status}
 use Rattle.odht_tool_core.specs.ReadyShapes.{shape_coding, typed_text}
 use Rattle.odht_tool_core.specs.Texts.{answers_text}
@@ -283,6 +283,23 @@ no_shape input = (refl, refl)
 pub shape_missed : (input old new : Option (List ℕ)) → AreFileLinesGot one_bytes (Some Unhash) input old new (Err (NoShape 4 4)) → ⊥
 unfolding opened
 shape_missed input old new h = h.1
+
+-- ---- the next line
+-- it is the second and no key, and the answer before it is written; counted from 0
+pub faulty : IsLineFailure C f f R one_bytes (5 ∷ []) 2 (Some (codes "x\n6")) (Some (codes "a")) (Some (codes "a5\t7\n")) (Line 2 Key)
+unfolding digits
+faulty = (
+  refl,
+  record {
+    then = Some (codes "6");
+    fault = (codes "x", (codes "6", refl, refl), no_key);
+    every = true;
+    answered = record { values = Some 7 ∷ []; answers = five_answered; written = refl; found = refl };
+  },
+)
+
+pub faulty_from_zero : (old new : Option (List ℕ)) → IsLineFailure C f f R one_bytes (5 ∷ []) 2 (Some (codes "x\n6")) old new (Line 1 Key) → ⊥
+faulty_from_zero old new h = omega (arith, h.0)
 
 -- ---- a batch
 -- one key is none, so it is not answered yet; and a batch is answered

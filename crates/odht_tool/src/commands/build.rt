@@ -15,7 +15,7 @@ use odht::config::{Coded, Config};
 use odht_tool_core::arguments::{BuildOptions, Percent};
 use odht_tool_core::failure::Failure;
 use odht_tool_core::files::replace_file;
-use odht_tool_core::lines::{parse_pair, read_line};
+use odht_tool_core::lines::read_pair;
 use odht_tool_core::progress::Progress;
 use odht_tool_core::shapes::{Hash, Shape, shape_of};
 use odht_tool_core::status::Status;
@@ -142,13 +142,10 @@ where
     let mut pairs = Vec::new(alloc);
     let mut line = Vec::new(alloc);
     for number in 1..u64::MAX {
-        if !read_line(input, &mut line).map_err(Failure::Input)? {
+        let read = read_pair::<C::Key, C::Value, I>(input, &mut line, number)?;
+        let Some(pair) = read else {
             break;
-        }
-        let pair = parse_pair::<C::Key, C::Value>(line.as_slice()).map_err(|fault| Failure::Line {
-            number,
-            fault,
-        })?;
+        };
         pairs.push(pair).or(Err(Failure::Memory))?;
         if pairs.len() >= BATCH {
             insert_batch(table, &mut pairs)?;

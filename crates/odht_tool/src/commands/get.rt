@@ -1,9 +1,9 @@
 //! `odht get`: lookups in a table file.
-ghost use Rattle.std.specs.Prelude.{◌≡◌, None, IfOk, IfErr, OnOk, map, string_bytes};
+ghost use Rattle.std.specs.Prelude.{◌≡◌, None, [], ◌∷◌, ◌++◌, IfOk, IfErr, OnOk, map, string_bytes};
 ghost use Rattle.odht_header.specs.Refusals.{view_refusal};
 ghost use Rattle.odht_tool.specs.Gets.{AreAnswers, AreWordsGot, AreFileWordsGot, words_of_shape};
 ghost use Rattle.odht_tool.specs.GetParts.{IsOpenFailure, AreKeysAnswered};
-ghost use Rattle.odht_tool.specs.GetParts.{IsKeysFailure, IsFlushed};
+ghost use Rattle.odht_tool.specs.GetParts.{IsKeysFailure, IsFlushed, IsReadKey, IsLineFailure};
 ghost use Rattle.odht_tool.specs.GetLines.{AreLinesAnswered, AreLinesGot, AreFileLinesGot};
 ghost use Rattle.odht_tool.specs.GetLines.{lines_of_shape};
 ghost use Rattle.odht_tool_core.specs.Keys.{IsReadAs};
@@ -139,20 +139,78 @@ where
     let mut line = Vec::new(alloc);
     let mut is_all_found = true;
     for number in 1..u64::MAX {
-        match next_key(input, &mut line) {
-            Ok(NextKey::Key(key)) => push_key(&mut keys, key)?,
-            Ok(NextKey::NoKey) => {
-                answer_keys(alloc, table, keys.as_slice(), output)?;
-                let fault = LineFault::Key;
-                return Err(Failure::Line { number, fault });
+        let read = read_key(
+            alloc,
+            table,
+            number,
+            input,
+            &mut line,
+            keys.as_slice(),
+            output,
+        )?;
+        match read {
+            Some(key) => {
+                is_all_found = take_key(alloc, table, &mut keys, key, is_all_found, output)?;
             }
-            Ok(NextKey::End) => break,
-            Err(error) => return Err(Failure::Input(error)),
+            None => break,
         }
-        is_all_found = answer_batch(alloc, table, &mut keys, is_all_found, output)?;
     }
     let is_last_found = answer_keys(alloc, table, keys.as_slice(), output)?;
     Ok(Status::of(is_last_found && is_all_found))
+}
+
+// Reads the key of the line of this number, if there is such a line. Where it is no key, the keys before it are
+// answered first.
+fn read_key<C: Config, I: BufRead, O: Write>(
+    alloc: Global,
+    table: &HashTable<C, Borrowed<'_>>,
+    number: u64,
+    input: &mut I,
+    line: &mut Vec<u8>,
+    keys: &[C::Key],
+    output: &mut O,
+) -> Result<Option<C::Key>, Failure>
+where
+    C::Key: Text,
+    C::Value: Text,
+    ensures key { IfOk result (IsReadKey (IsReadAs C.Key.is_word C.Key.stands_for)
+        (I.remaining input.old) (I.remaining input.new)) }
+    ensures kept { OnOk result (O.contents output.new ≡ O.contents output.old) }
+    ensures err { IfErr result (IsLineFailure ⟦<C as Coded>⟧.coding C.Key.text C.Value.text
+        (IsReadAs C.Key.is_word C.Key.stands_for) table.now.0.now keys.now number
+        (I.remaining input.old) (O.contents output.old) (O.contents output.new)) }
+{
+    match next_key(input, line) {
+        Ok(NextKey::Key(key)) => Ok(Some(key)),
+        Ok(NextKey::End) => Ok(None),
+        Ok(NextKey::NoKey) => {
+            answer_keys(alloc, table, keys, output)?;
+            let fault = LineFault::Key;
+            Err(Failure::Line { number, fault })
+        }
+        Err(error) => Err(Failure::Input(error)),
+    }
+}
+
+// Adds a key, and answers all where they are a batch. Returns whether each was found, and those before.
+fn take_key<C: Config, O: Write>(
+    alloc: Global,
+    table: &HashTable<C, Borrowed<'_>>,
+    keys: &mut Vec<C::Key>,
+    key: C::Key,
+    is_all_found: bool,
+    output: &mut O,
+) -> Result<bool, Failure>
+where
+    C::Key: Text,
+    C::Value: Text,
+    ensures ok { IfOk result (IsFlushed ⟦<C as Coded>⟧.coding C.Key.text C.Value.text
+        table.now.0.now (keys.old.items ++ key ∷ []) keys.new.items
+        (O.contents output.old) (O.contents output.new) is_all_found) }
+    ensures err { IfErr result (IsKeysFailure (O.contents output.old) (O.contents output.new)) }
+{
+    push_key(keys, key)?;
+    answer_batch(alloc, table, keys, is_all_found, output)
 }
 
 // Answers the keys where they are a batch, and drops them. Returns whether each was found, and
