@@ -21,6 +21,7 @@ mod view;
 #[allow(
     clippy::collapsible_if,
     clippy::manual_map,
+    clippy::manual_range_contains,
     clippy::module_inception,
     clippy::needless_range_loop,
     clippy::question_mark

@@ -14,6 +14,7 @@ mod lists;
 #[allow(
     clippy::collapsible_if,
     clippy::manual_map,
+    clippy::manual_range_contains,
     clippy::module_inception,
     clippy::needless_range_loop,
     clippy::question_mark
