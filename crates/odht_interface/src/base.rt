@@ -6,7 +6,6 @@ use crate::checks::{same, same_bytes};
 use odht::bytes::{Borrowed, BorrowedMut, ByteArray, ByteStore, ByteStoreMut, OwnedBytes};
 use odht::hash::{FxHashFn, HashFn, UnHashFn};
 use odht::load::{Factor, max_item_count_for, slots_needed};
-use std::alloc::AllocError;
 use std::fmt::Debug;
 
 /// Compiles only at types with these traits.
@@ -113,7 +112,7 @@ fn write<S: ByteStoreMut>(store: &mut S, at: usize, piece: &[u8])
 }
 
 #[test]
-fn stores(rt: HostRuntime) -> Result<(), AllocError> {
+fn stores(rt: HostRuntime) {
     is_copied::<Borrowed<'_>>();
     let borrowed: Borrowed<'_> = Borrowed::new(&[1, 2]);
     same_bytes(&rt, "Borrowed", bytes_of(&borrowed), &[1, 2]);
@@ -122,10 +121,10 @@ fn stores(rt: HostRuntime) -> Result<(), AllocError> {
     write(&mut written, 1_usize, &[7]);
     let slice: &mut [u8] = written.into_slice();
     same_bytes(&rt, "BorrowedMut", slice, &[1, 7, 3]);
-    let mut owned: OwnedBytes = OwnedBytes::new(vec![in rt.alloc(); 5; 2]?);
+    let fives = vec![in rt.alloc(); 5; 2].expect(&rt, "memory");
+    let mut owned: OwnedBytes = OwnedBytes::new(fives);
     same_bytes(&rt, "OwnedBytes", bytes_of(&owned), &[5, 5]);
     owned.write_at(0, &[6]);
     let bytes: Vec<u8> = owned.into_vec();
     same_bytes(&rt, "OwnedBytes", bytes.as_slice(), &[6, 5]);
-    Ok(())
 }

@@ -7,7 +7,6 @@ use odht::config::{Config, Lossless};
 use odht::configs::U64ToU32;
 use odht::error::{Error, Part};
 use odht::hash::HashFn;
-use std::alloc::AllocError;
 use std::fmt::Display;
 
 // The errors of opening bytes, each with all of its fields.
@@ -120,7 +119,7 @@ fn errors(rt: HostRuntime) {
 fn is_error<E: Display + std::error::Error>() {}
 
 #[test]
-fn texts_of_errors(rt: HostRuntime) -> Result<(), AllocError> {
+fn texts_of_errors(rt: HostRuntime) {
     is_error::<Error>();
     is_plain_value::<Error>();
     is_plain_value::<Part>();
@@ -128,8 +127,8 @@ fn texts_of_errors(rt: HostRuntime) -> Result<(), AllocError> {
         stated: 5,
         found: 0,
     };
-    let text: String = format!(in rt.alloc(); "{error}")?;
-    let debug: String = format!(in rt.alloc(); "{error:?}")?;
+    let text: String = format!(in rt.alloc(); "{error}").expect(&rt, "memory");
+    let debug: String = format!(in rt.alloc(); "{error:?}").expect(&rt, "memory");
     same(
         &rt,
         "the text",
@@ -142,7 +141,6 @@ fn texts_of_errors(rt: HostRuntime) -> Result<(), AllocError> {
         debug.as_str(),
         "WrongItemCount { stated: 5, found: 0 }",
     );
-    Ok(())
 }
 
 fn is_array<A: ByteArray>() {}

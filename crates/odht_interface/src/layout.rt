@@ -83,7 +83,7 @@ fn slot_of<C: Config, M: ByteStore>(
 }
 
 #[test]
-fn allocated_tables(rt: HostRuntime) -> Result<(), Error> {
+fn allocated_tables(rt: HostRuntime) {
     let factor = Factor::from_percent(87);
     let made: Result<Allocation<U32ToU32, OwnedBytes>, Error> = allocate::<U32ToU32>(
         rt.alloc(),
@@ -91,7 +91,7 @@ fn allocated_tables(rt: HostRuntime) -> Result<(), Error> {
         0_usize,
         factor,
     );
-    let mut table = made?;
+    let mut table = made.expect(&rt, "a table");
     same(&rt, "bytes", table.raw_bytes().len(), 192);
     write(&rt, &mut table, 5, &[1, 0, 0, 0], &[2, 0, 0, 0], 0x13_u8);
     let (entry, control) = slot_of(&rt, &table, 5);
@@ -103,23 +103,32 @@ fn allocated_tables(rt: HostRuntime) -> Result<(), Error> {
     same(&rt, "the control byte", control, 0x13);
     let checked: Result<(), Error> = check_all::<U32ToU32>(table.raw_bytes());
     same(&rt, "check_all", checked, Ok(()));
-    Ok(())
 }
 
 #[test]
-fn opened_bytes(rt: HostRuntime) -> Result<(), Error> {
+fn opened_bytes(rt: HostRuntime) {
     let slots = sixteen(&rt);
-    let table: Allocation<U32ToU32, OwnedBytes> = allocate(rt.alloc(), slots, 0, Factor(57015))?;
+    let made: Result<Allocation<U32ToU32, OwnedBytes>, Error> = allocate(
+        rt.alloc(),
+        slots,
+        0,
+        Factor(57015),
+    );
+    let table = made.expect(&rt, "a table");
     let bytes: &[u8] = table.raw_bytes();
     let opened: Result<Allocation<U32ToU32, Borrowed<'_>>, Error> = Allocation::from_raw_bytes(
         Borrowed::new(bytes),
     );
+    same_bytes(
+        &rt,
+        "opened",
+        opened.expect(&rt, "a table").raw_bytes(),
+        bytes,
+    );
     let unchecked: Allocation<U32ToU32, Borrowed<'_>> = Allocation::from_raw_bytes_unchecked(
         Borrowed::new(bytes),
     );
-    same_bytes(&rt, "opened", opened?.raw_bytes(), bytes);
     same_bytes(&rt, "unchecked", unchecked.raw_bytes(), bytes);
-    Ok(())
 }
 
 // A new table in a store that is long enough.

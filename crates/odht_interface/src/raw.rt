@@ -12,7 +12,6 @@ use odht::raw_table::{
     plain_find, plain_insert, probe_order, search,
 };
 use odht::swisstable_group_query::{Group, lanes, no_simd};
-use std::alloc::AllocError;
 use std::fmt::Debug;
 use std::process::Abort;
 
@@ -84,11 +83,11 @@ fn probe_positions(rt: HostRuntime) {
 }
 
 #[test]
-fn probe_orders(rt: HostRuntime) -> Result<(), Error> {
+fn probe_orders(rt: HostRuntime) {
     let order: Result<Vec<usize>, Error> = probe_order(rt.alloc(), 14_usize, sixteen(&rt));
     let expected = [14, 15, 0, 1, 2, 3, 4, 5, 6, 7, 8, 9, 10, 11, 12, 13];
-    same(&rt, "the order", order?.as_slice(), expected.as_slice());
-    Ok(())
+    let order = order.expect(&rt, "an order");
+    same(&rt, "the order", order.as_slice(), expected.as_slice());
 }
 
 #[test]
