@@ -1,7 +1,5 @@
-//! Tests over several crates: what neither a contract nor a vector says. `odht_vectors` uses
-//! `group_starts` too.
+//! Tests over several crates: what neither a contract nor a vector says.
 #![tactic(auto)]
 
-pub mod group_starts;
 #[cfg(test)]
 mod tests;

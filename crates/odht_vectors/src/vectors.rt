@@ -1,5 +1,6 @@
 //! Files of vectors: what their lines say, and which of their cases hold.
 mod answer;
+mod group_starts;
 mod numbers;
 mod tables;
 mod words;
@@ -8,8 +9,9 @@ use answer::Answer;
 use odht::configs::{DirectU32ToU32, Plain, U32ToU32};
 use std::alloc::{AllocError, AllocFailed, Global};
 use std::fmt;
-use std::io::{self, Write};
-use words::{Words, number};
+use std::io::Write;
+use std::ops::Range;
+use words::{Case, Words, number};
 
 /// Why a line or a run ended.
 #[derive(Clone, Copy, Debug, PartialEq, Eq)]
@@ -76,22 +78,20 @@ impl Run {
     /// Runs the cases of a file. Its sections are printed with how many held, and what does not hold, line by line.
     pub fn file(&mut self, text: &str, output: &mut impl Write) -> Result<(), Fault> {
         self.names.clear();
-        self.title.clear();
-        self.config.clear();
         for line in text.lines() {
             self.line(line, output)?;
         }
         if self.title.is_empty() {
-            return self.fail("a file", "without a section", output);
+            return self.fail("a file", &"without a section", output);
         }
         self.end_section(output)
     }
 
     /// Prints how many cases held, and returns whether all did and there was one.
-    pub fn end(self, output: &mut impl Write) -> Result<bool, Fault> {
-        let Run { held, failed, .. } = self;
-        written(writeln!(output, "{held} cases held, {failed} did not"))?;
-        written(output.flush())?;
+    pub fn end(&self, output: &mut impl Write) -> Result<bool, Fault> {
+        let (held, failed) = (self.held, self.failed);
+        say(output, &format_args!("{held} cases held, {failed} did not"))?;
+        output.flush().or(Err(Fault::Output))?;
         Ok(failed == 0 && held > 0)
     }
 
@@ -99,27 +99,28 @@ impl Run {
         if line.is_empty() || line.starts_with('#') {
             return Ok(());
         }
-        if let Some(title) = line.strip_prefix("== ") {
-            self.end_section(output)?;
-            self.title = String::from_str(self.alloc, title)?;
-            self.config.clear();
-            return Ok(());
-        }
-        if self.title.is_empty() {
-            return self.fail(line, "in no section", output);
-        }
-        match line.strip_prefix("each ") {
-            Some(words) => self.each(words, output),
-            None => self.case(line, output),
+        match line.strip_prefix("== ") {
+            Some(title) => self.begin_section(title, output),
+            None if self.title.is_empty() => self.fail(line, &"in no section", output),
+            None => self.cases(line, output),
         }
     }
 
-    // Runs a line once for each number of a range.
-    fn each(&mut self, words: &str, output: &mut impl Write) -> Result<(), Fault> {
-        let Some((first, end, line)) = range_and_line(words) else {
-            return self.fail(words, "not understood", output);
+    fn begin_section(&mut self, title: &str, output: &mut impl Write) -> Result<(), Fault> {
+        self.end_section(output)?;
+        self.title.push_str(title)?;
+        Ok(())
+    }
+
+    // Runs a line, or one of `each` once for each number of its range.
+    fn cases(&mut self, line: &str, output: &mut impl Write) -> Result<(), Fault> {
+        let Some(words) = line.strip_prefix("each ") else {
+            return self.case(line, output);
         };
-        for number in first..end {
+        let Some((numbers, line)) = range_and_line(words) else {
+            return self.fail(words, &"not understood", output);
+        };
+        for number in numbers {
             let line = with_number(self.alloc, line, number)?;
             self.case(line.as_str(), output)?;
         }
@@ -128,43 +129,58 @@ impl Run {
 
     // Runs a case, or keeps what a line defines.
     fn case(&mut self, line: &str, output: &mut impl Write) -> Result<(), Fault> {
-        match self.outcome(line) {
-            Ok(None) => Ok(()),
-            Ok(Some(found)) => self.fail(line, found.as_str(), output),
-            Err(Fault::Unread) => self.fail(line, "not understood", output),
-            Err(fault) => Err(fault),
+        match self.read(line, output) {
+            Err(Fault::Unread) => self.fail(line, &"not understood", output),
+            ended => ended,
         }
     }
 
-    // What was found in place of what is expected.
-    fn outcome(&mut self, line: &str) -> Result<Option<String>, Fault> {
-        let words = Words {
+    fn read(&mut self, line: &str, output: &mut impl Write) -> Result<(), Fault> {
+        if let Some(config) = line.strip_prefix("config ") {
+            self.config.clear();
+            return Ok(self.config.push_str(config)?);
+        }
+        match line.strip_prefix("let ") {
+            Some(definition) => self.define(definition),
+            None => self.compare(line, output),
+        }
+    }
+
+    fn words(&self) -> Words<'_> {
+        Words {
             alloc: self.alloc,
             names: self.names.as_slice(),
-        };
-        if let Some(config) = line.strip_prefix("config ") {
-            self.config = String::from_str(self.alloc, config)?;
-            return Ok(None);
         }
-        let (asked, expected) = line.split_once(" = ").ok_or(Fault::Unread)?;
-        if let Some(name) = asked.strip_prefix("let ") {
-            let bytes = words.bytes(expected)?;
-            self.names
-                .push((String::from_str(self.alloc, name)?, bytes))?;
-            return Ok(None);
-        }
-        let asked: Vec<&str> = asked.split(' ').collect(self.alloc)?;
-        let answer = answer_of(&words, self.config.as_str(), asked.as_slice())?;
-        if answer.is_as(&words, expected)? {
-            self.held_here = self.held_here.wrapping_add(1);
-            return Ok(None);
-        }
-        Ok(Some(answer.written()?))
     }
 
-    fn fail(&mut self, line: &str, found: &str, output: &mut impl Write) -> Result<(), Fault> {
+    // Keeps the bytes of a name.
+    fn define(&mut self, definition: &str) -> Result<(), Fault> {
+        let (name, bytes) = definition.split_once(" = ").ok_or(Fault::Unread)?;
+        let bytes = self.words().bytes(bytes)?;
+        let name = String::from_str(self.alloc, name)?;
+        Ok(self.names.push((name, bytes))?)
+    }
+
+    // Compares the answer to a case with the one that is expected.
+    fn compare(&mut self, line: &str, output: &mut impl Write) -> Result<(), Fault> {
+        let (asked, expected) = line.split_once(" = ").ok_or(Fault::Unread)?;
+        let words = self.words();
+        let answer = answer_to(&words, self.config.as_str(), asked)?;
+        if !answer.is_as(&words, expected)? {
+            return self.fail(line, &answer, output);
+        }
+        self.held_here = self.held_here.wrapping_add(1);
+        Ok(())
+    }
+
+    fn fail(
+        &mut self,
+        line: &str,
+        found: &impl fmt::Display,
+        output: &mut impl Write,
+    ) -> Result<(), Fault> {
         self.failed = self.failed.wrapping_add(1);
-        written(writeln!(output, "{line}\n    {found}"))
+        say(output, &format_args!("{line}\n    {found}"))
     }
 
     // Reports the section that ends, of which one case at least has to hold.
@@ -172,26 +188,33 @@ impl Run {
         if self.title.is_empty() {
             return Ok(());
         }
-        let held = self.held_here;
-        self.held_here = 0;
-        self.held = self.held.wrapping_add(held);
-        written(writeln!(output, "{}: {held} held", self.title.as_str()))?;
-        if held > 0 {
-            return Ok(());
+        let (title, held) = (self.title.as_str(), self.held_here);
+        say(output, &format_args!("{title}: {held} held"))?;
+        if held == 0 {
+            say(output, &"    a section where none held")?;
+            self.failed = self.failed.wrapping_add(1);
         }
-        self.failed = self.failed.wrapping_add(1);
-        written(writeln!(output, "    a section where none held"))
+        self.held = self.held.wrapping_add(held);
+        self.held_here = 0;
+        self.title.clear();
+        self.config.clear();
+        Ok(())
     }
 }
 
-// The first number of a range, the one after its last, and the line after these words. No range is empty.
-fn range_and_line(words: &str) -> Option<(usize, usize, &str)> {
+// Writes a line. One that cannot be written stops the run.
+fn say(output: &mut impl Write, line: &impl fmt::Display) -> Result<(), Fault> {
+    writeln!(output, "{line}").or(Err(Fault::Output))
+}
+
+// The numbers of a range, and the line after these words. No range is empty.
+fn range_and_line(words: &str) -> Option<(Range<usize>, &str)> {
     let (first, rest) = words.split_once(' ')?;
     let (last, line) = rest.split_once(' ')?;
     let first = number(first).ok()?;
     let end = number(last).ok()?.checked_add(1)?;
     if first < end {
-        Some((first, end, line))
+        Some((first..end, line))
     } else {
         None
     }
@@ -206,29 +229,35 @@ fn with_number(alloc: Global, line: &str, number: usize) -> Result<String, Alloc
         .replace(alloc, "{x}", digits.as_str())
 }
 
-// A line that could not be written stops the run.
-fn written(line: io::Result<()>) -> Result<(), Fault> {
-    line.or(Err(Fault::Output))
-}
-
 // The answer to the words of a case: of a call by itself, or of one for a configuration.
-fn answer_of(words: &Words<'_>, config: &str, asked: &[&str]) -> Result<Answer, Fault> {
-    let [call, args @ ..] = asked else {
+fn answer_to(words: &Words<'_>, config: &str, asked: &str) -> Result<Answer, Fault> {
+    let mut answer = Answer::new(words.alloc);
+    let asked: Vec<&str> = asked.split(' ').collect(words.alloc)?;
+    let [call, args @ ..] = asked.as_slice() else {
         return Err(Fault::Unread);
+    };
+    let case = Case {
+        words: *words,
+        call: *call,
+        args,
     };
     if config.is_empty() {
-        return numbers::answer(words, *call, args);
+        numbers::answer(&case, &mut answer)?;
+    } else {
+        configured(&case, config, &mut answer)?;
     }
-    let config: Vec<&str> = config.split(' ').collect(words.alloc)?;
-    let [name, shape @ ..] = config.as_slice() else {
-        return Err(Fault::Unread);
-    };
-    match *name {
-        "u32_u32" => tables::answer::<U32ToU32>(words, shape, *call, args),
-        "u32_u32_direct" => tables::answer::<DirectU32ToU32>(words, shape, *call, args),
-        "u64_u32" => tables::answer::<Plain<[u8; 8], [u8; 4]>>(words, shape, *call, args),
-        "u8_none" => tables::answer::<Plain<[u8; 1], [u8; 0]>>(words, shape, *call, args),
-        "none_none" => tables::answer::<Plain<[u8; 0], [u8; 0]>>(words, shape, *call, args),
+    Ok(answer)
+}
+
+// Answers a call for a configuration.
+fn configured(case: &Case<'_>, config: &str, answer: &mut Answer) -> Result<(), Fault> {
+    let (name, shape) = config.split_once(' ').ok_or(Fault::Unread)?;
+    match name {
+        "u32_u32" => tables::answer::<U32ToU32>(case, shape, answer),
+        "u32_u32_direct" => tables::answer::<DirectU32ToU32>(case, shape, answer),
+        "u64_u32" => tables::answer::<Plain<[u8; 8], [u8; 4]>>(case, shape, answer),
+        "u8_none" => tables::answer::<Plain<[u8; 1], [u8; 0]>>(case, shape, answer),
+        "none_none" => tables::answer::<Plain<[u8; 0], [u8; 0]>>(case, shape, answer),
         _ => Err(Fault::Unread),
     }
 }

@@ -50,19 +50,25 @@ fn insert_plainly<C: Config>(
     assert!(rt; inserted.is_ok());
 }
 
+// The bytes of a new table for so many items.
+fn empty_table<C: Config>(rt: &impl Abort, alloc: Global, items: usize) -> Vec<u8> {
+    let made = HashTableOwned::<C>::with_capacity(alloc, items, 87);
+    let table = made.expect(rt, "a table");
+    table.raw_bytes().to_vec(alloc).expect(rt, "memory")
+}
+
 // The bytes of a new table after inserts of these pairs slot by slot, which leave its header.
 fn built_plainly<C: Config>(
     rt: &impl Abort,
     alloc: Global,
     items: &[(C::EncodedKey, C::EncodedValue)],
-) -> Result<Vec<u8>, Error> {
+) -> Vec<u8> {
     let slots = slots_for(rt, items.len());
-    let table: HashTableOwned<C> = HashTableOwned::with_capacity(alloc, items.len(), 87)?;
-    let mut bytes = table.raw_bytes().to_vec(alloc)?;
+    let mut bytes = empty_table::<C>(rt, alloc, items.len());
     for (key, value) in items {
         insert_plainly::<C>(rt, slots, bytes.as_mut_slice(), *key, *value);
     }
-    Ok(bytes)
+    bytes
 }
 
 // Writes a pair where the search with this group search ends.
@@ -87,13 +93,14 @@ fn built_by<C: Config, Q: Group>(
     rt: &impl Abort,
     alloc: Global,
     items: &[(C::EncodedKey, C::EncodedValue)],
-) -> Result<Allocation<C, OwnedBytes>, Error> {
+) -> Allocation<C, OwnedBytes> {
     let slots = slots_for(rt, items.len());
-    let mut table: Allocation<C, OwnedBytes> = allocate(alloc, slots, 0, factor(rt))?;
+    let made: Result<Allocation<C, OwnedBytes>, Error> = allocate(alloc, slots, 0, factor(rt));
+    let mut table = made.expect(rt, "a table");
     for (key, value) in items {
         insert_by::<C, Q>(rt, &mut table, key, value);
     }
-    Ok(table)
+    table
 }
 
 /// Inserts slot by slot, with the search by a word and with the search by lanes leave the same bytes.
@@ -101,11 +108,10 @@ pub fn check_three_builds<C: Config>(
     rt: &impl Abort,
     alloc: Global,
     items: &[(C::EncodedKey, C::EncodedValue)],
-) -> Result<(), Error> {
-    let plain = built_plainly::<C>(rt, alloc, items)?;
-    let word = built_by::<C, no_simd::GroupQuery>(rt, alloc, items)?;
+) {
+    let plain = built_plainly::<C>(rt, alloc, items);
+    let word = built_by::<C, no_simd::GroupQuery>(rt, alloc, items);
     same_bytes(rt, "by a word", word.raw_bytes(), plain.as_slice());
-    let lanes = built_by::<C, lanes::GroupQuery>(rt, alloc, items)?;
+    let lanes = built_by::<C, lanes::GroupQuery>(rt, alloc, items);
     same_bytes(rt, "by lanes", lanes.raw_bytes(), plain.as_slice());
-    Ok(())
 }

@@ -6,8 +6,13 @@ use crate::tests::slot_counts::slots_for;
 use odht::FxHashFn;
 use odht::error::Error;
 use odht::raw_table::{Entries, RawTable, RawTableMut};
-use std::alloc::AllocError;
+use std::alloc::Global;
 use std::process::Abort;
+
+// So many bytes of one value.
+fn bytes_of(rt: &impl Abort, alloc: Global, byte: u8, len: usize) -> Vec<u8> {
+    vec![in alloc; byte; len].expect(rt, "memory")
+}
 
 // The value of a number, of which there are two.
 fn value(number: u16, is_second: bool) -> [u8; 2] {
@@ -65,9 +70,9 @@ fn find_each(rt: &impl Abort, control: &[u8], entries: &[u8], slots: usize, is_s
 }
 
 #[test]
-fn all_keys_of_two_bytes_in_as_many_slots(rt: HostRuntime) -> Result<(), AllocError> {
-    let mut control = vec![in rt.alloc(); 255; 65552]?;
-    let mut entries = vec![in rt.alloc(); 0; 262144]?;
+fn all_keys_of_two_bytes_in_as_many_slots(rt: HostRuntime) {
+    let mut control = bytes_of(&rt, rt.alloc(), 255, 65552);
+    let mut entries = bytes_of(&rt, rt.alloc(), 0, 262144);
     let slots = slots_for(&rt, 65535);
     insert_each(
         &rt,
@@ -76,17 +81,16 @@ fn all_keys_of_two_bytes_in_as_many_slots(rt: HostRuntime) -> Result<(), AllocEr
         slots,
         false,
     );
-    for byte in control.as_slice() {
-        assert!(rt; *byte < 128);
+    for (index, byte) in control.iter().enumerate() {
+        holds_at(&rt, "control byte", index, *byte < 128);
     }
     find_each(&rt, control.as_slice(), entries.as_slice(), slots, false);
-    Ok(())
 }
 
 #[test]
-fn stress(rt: HostRuntime) -> Result<(), AllocError> {
-    let mut control = vec![in rt.alloc(); 255; 131088]?;
-    let mut entries = vec![in rt.alloc(); 0; 524288]?;
+fn stress(rt: HostRuntime) {
+    let mut control = bytes_of(&rt, rt.alloc(), 255, 131088);
+    let mut entries = bytes_of(&rt, rt.alloc(), 0, 524288);
     let slots = slots_for(&rt, 131070);
     insert_each(
         &rt,
@@ -104,7 +108,6 @@ fn stress(rt: HostRuntime) -> Result<(), AllocError> {
         true,
     );
     find_each(&rt, control.as_slice(), entries.as_slice(), slots, true);
-    Ok(())
 }
 
 // Inserts the keys of four bytes from 0 to 65,535, and then one more, which fails.
@@ -140,11 +143,10 @@ fn check_absent(rt: &impl Abort, control: &[u8], entries: &[u8], slots: usize, k
 }
 
 #[test]
-fn a_key_that_a_full_table_has_not(rt: HostRuntime) -> Result<(), AllocError> {
-    let mut control = vec![in rt.alloc(); 255; 65552]?;
-    let mut entries = vec![in rt.alloc(); 0; 524288]?;
+fn a_key_that_a_full_table_has_not(rt: HostRuntime) {
+    let mut control = bytes_of(&rt, rt.alloc(), 255, 65552);
+    let mut entries = bytes_of(&rt, rt.alloc(), 0, 524288);
     let slots = slots_for(&rt, 65535);
     insert_past_the_last(&rt, control.as_mut_slice(), entries.as_mut_slice(), slots);
     check_absent(&rt, control.as_slice(), entries.as_slice(), slots, 65536);
-    Ok(())
 }

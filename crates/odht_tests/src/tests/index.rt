@@ -1,6 +1,7 @@
 //! A small index and one of no pairs, byte for byte, and a cut one. The expected bytes were worked out by hand from
 //! docs/FORMAT.md.
 
+use crate::tests::checks::{same, same_at, same_len};
 use odht::error::Error;
 use odht_index::{Index, build, built_and_looked_up};
 use std::process::Abort;
@@ -45,45 +46,36 @@ fn byte_at(path: &[u8; 16], at: usize) -> u8 {
     path.get(at).copied().unwrap_or(255)
 }
 
-// Asserts this number of a path.
-fn same_number(
-    rt: &impl Abort,
-    bytes: &[u8],
-    path: &[u8; 16],
-    expected: Option<u32>,
-) -> Result<(), Error> {
-    let index = Index::open(bytes)?;
-    assert_eq!(rt; index.lookup(path), expected);
-    Ok(())
+// Asserts the numbers of A, of B and of a path that is in no pair.
+fn check_numbers(rt: &impl Abort, bytes: &[u8], expected: [Option<u32>; 3]) {
+    let index = Index::open(bytes).expect(rt, "an index");
+    let found = [index.lookup(&A), index.lookup(&B), index.lookup(&[0; 16])];
+    same(rt, "numbers", found, expected);
 }
 
 #[test]
-fn three_pairs_byte_for_byte(rt: HostRuntime) -> Result<(), Error> {
-    let bytes = build(rt.alloc(), &PAIRS)?;
-    assert_eq!(rt; bytes.len(), 384);
+fn three_pairs_byte_for_byte(rt: HostRuntime) {
+    let bytes = build(rt.alloc(), &PAIRS).expect(&rt, "an index");
+    same_len(&rt, "bytes", bytes.len(), 384);
     for (at, byte) in bytes.iter().enumerate() {
-        assert_eq!(rt; *byte, expected_byte(at), "byte {at}");
+        same_at(&rt, "byte", at, *byte, expected_byte(at));
     }
-    same_number(&rt, &bytes, &A, Some(3))?;
-    same_number(&rt, &bytes, &B, Some(2))?;
-    same_number(&rt, &bytes, &[0; 16], None)
+    check_numbers(&rt, bytes.as_slice(), [Some(3), Some(2), None]);
 }
 
 #[test]
-fn no_pairs(rt: HostRuntime) -> Result<(), Error> {
-    let bytes = build(rt.alloc(), &[])?;
-    assert_eq!(rt; bytes.len(), 384);
+fn no_pairs(rt: HostRuntime) {
+    let bytes = build(rt.alloc(), &[]).expect(&rt, "an index");
+    same_len(&rt, "bytes", bytes.len(), 384);
     for (at, byte) in bytes.iter().enumerate() {
-        assert_eq!(rt; *byte, empty_byte(at), "byte {at}");
+        same_at(&rt, "byte", at, *byte, empty_byte(at));
     }
-    same_number(&rt, &bytes, &A, None)?;
-    same_number(&rt, &bytes, &B, None)?;
-    same_number(&rt, &bytes, &[0; 16], None)
+    check_numbers(&rt, bytes.as_slice(), [None, None, None]);
 }
 
 #[test]
-fn a_cut_index_is_refused(rt: HostRuntime) -> Result<(), Error> {
-    let bytes = build(rt.alloc(), &PAIRS)?;
+fn a_cut_index_is_refused(rt: HostRuntime) {
+    let bytes = build(rt.alloc(), &PAIRS).expect(&rt, "an index");
     let refused = match Index::open(bytes.get(..383).unwrap_or(&[])) {
         Err(
             Error::WrongLength {
@@ -94,12 +86,11 @@ fn a_cut_index_is_refused(rt: HostRuntime) -> Result<(), Error> {
         ) => (found, expected),
         _ => (0, 0),
     };
-    assert_eq!(rt; refused, (383, 384));
-    Ok(())
+    same(&rt, "lengths", refused, (383, 384));
 }
 
 #[test]
-fn built_and_looked_into_at_once(rt: HostRuntime) -> Result<(), Error> {
-    assert_eq!(rt; built_and_looked_up(rt.alloc(), &PAIRS, &A)?, Some(3));
-    Ok(())
+fn built_and_looked_into_at_once(rt: HostRuntime) {
+    let found = built_and_looked_up(rt.alloc(), &PAIRS, &A);
+    same(&rt, "the number of A", found, Ok(Some(3)));
 }

@@ -2,10 +2,9 @@
 //! make the table again. Single tables, and tables that no inserts make, are in vectors/insert_orders.txt.
 use crate::tests::checks::{same, same_bytes};
 use odht::bytes::ByteArray;
-use odht::error::Error;
 use odht::laws::rebuilt;
 use odht::{Config, HashTableOwned};
-use std::alloc::{AllocError, Global};
+use std::alloc::Global;
 use std::process::Abort;
 
 // A table's bytes, whatever length its keys and values have. They are read by docs/FORMAT.md, "Layout".
@@ -29,14 +28,14 @@ impl<'a> Bytes<'a> {
     }
 
     // The slots whose control byte is that of an occupied one, rising.
-    fn occupied_slots(&self, alloc: Global) -> Result<Vec<usize>, AllocError> {
+    fn occupied_slots(&self, rt: &impl Abort, alloc: Global) -> Vec<usize> {
         let mut occupied = Vec::new(alloc);
         for slot in 0..self.slots() {
             if self.byte(self.controls().wrapping_add(slot)) < 128 {
-                occupied.push(slot)?;
+                occupied.push(slot).expect(rt, "memory");
             }
         }
-        Ok(occupied)
+        occupied
     }
 
     // The array that begins at an offset.
@@ -64,12 +63,25 @@ fn items_of<C: Config>(
     alloc: Global,
     bytes: Bytes<'_>,
     order: &[usize],
-) -> Result<Vec<(C::Key, C::Value)>, AllocError> {
+) -> Vec<(C::Key, C::Value)> {
     let mut items = Vec::new(alloc);
     for slot in order {
-        items.push(bytes.pair::<C>(rt, *slot))?;
+        items.push(bytes.pair::<C>(rt, *slot)).expect(rt, "memory");
     }
-    Ok(items)
+    items
+}
+
+// Asserts that an order lists the occupied slots, each once.
+fn check_slots(rt: &impl Abort, alloc: Global, bytes: Bytes<'_>, order: &[usize]) {
+    let mut rising = order.to_vec(alloc).expect(rt, "memory");
+    rising.as_mut_slice().sort_unstable();
+    let occupied = bytes.occupied_slots(rt, alloc);
+    same(
+        rt,
+        "slots of the order",
+        rising.as_slice(),
+        occupied.as_slice(),
+    );
 }
 
 /// Asserts that an order of inserts is found of a table that was made for so many items at 87 percent, that it lists
@@ -79,26 +91,15 @@ pub fn check_insert_order<C: Config>(
     alloc: Global,
     table: &HashTableOwned<C>,
     max_item_count: usize,
-) -> Result<(), Error> {
-    let mut order = vec![in alloc; 0; table.len()]?;
-    same(
-        rt,
-        "an order is found",
-        table.insert_order(order.as_mut_slice()),
-        true,
-    );
+) {
+    let mut order = vec![in alloc; 0; table.len()].expect(rt, "memory");
+    let is_found = table.insert_order(order.as_mut_slice());
+    same(rt, "an order is found", is_found, true);
     let bytes = Bytes(table.raw_bytes());
-    let mut rising = order.as_slice().to_vec(alloc)?;
-    rising.as_mut_slice().sort_unstable();
-    let occupied = bytes.occupied_slots(alloc)?;
-    same(
-        rt,
-        "slots of the order",
-        rising.as_slice(),
-        occupied.as_slice(),
+    check_slots(rt, alloc, bytes, order.as_slice());
+    let items = items_of::<C>(rt, alloc, bytes, order.as_slice());
+    let again: HashTableOwned<C> = rebuilt(alloc, items.as_slice(), max_item_count, 87).expect(
+        rt, "a table",
     );
-    let items = items_of::<C>(rt, alloc, bytes, order.as_slice())?;
-    let again: HashTableOwned<C> = rebuilt(alloc, items.as_slice(), max_item_count, 87)?;
     same_bytes(rt, "made again", again.raw_bytes(), bytes.0);
-    Ok(())
 }

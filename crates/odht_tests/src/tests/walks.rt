@@ -7,7 +7,6 @@ ghost use Rattle.odht_raw.specs.Walks.{decoded_all};
 use crate::tests::checks::{same_answer, same_len, same_pairs};
 use odht::config::Coded;
 use odht::configs::U32ToU32;
-use odht::error::Error;
 use odht::{Config, HashTableOwned};
 use std::alloc::{AllocError, Global};
 
@@ -33,13 +32,13 @@ fn collected<C: Config>(
 
 // The keys 1 and 3 have the slots 5 and 15.
 #[test]
-fn pairs_in_slot_order(rt: HostRuntime) -> Result<(), Error> {
-    let mut table: HashTableOwned<U32ToU32> = HashTableOwned::default(rt.alloc())?;
+fn pairs_in_slot_order(rt: HostRuntime) {
+    let made = HashTableOwned::<U32ToU32>::default(rt.alloc());
+    let mut table = made.expect(&rt, "a table");
     same_len(&rt, "pairs that come", counted(&table), 0);
     same_answer(&rt, 3, table.insert(&3, &4), Ok(None));
     same_answer(&rt, 1, table.insert(&1, &2), Ok(None));
     same_len(&rt, "pairs that come", counted(&table), 2);
-    let found = collected(rt.alloc(), &table)?;
+    let found = collected(rt.alloc(), &table).expect(&rt, "memory");
     same_pairs(&rt, found.as_slice(), &[(1, 2), (3, 4)]);
-    Ok(())
 }

@@ -4,101 +4,158 @@ ghost use Rattle.std.specs.Prelude.{◌≤◌, IfOk};
 mod raw;
 
 use super::Fault;
-use super::answer::{Answer, add_former, add_hex, add_word, begin_word};
-use super::words::{Words, array, number, percent};
+use super::answer::Answer;
+use super::words::{Case, Words, number, percent};
 use odht::bytes::{ByteArray, OwnedBytes};
 use odht::error::Error;
 use odht::hash::HashFn;
-use odht::{Config, HashTable, HashTableOwned, bytes_needed, memory_layout};
-use std::alloc::{AllocError, Global};
+use odht::memory_layout::{self, check_all};
+use odht::{Config, HashTable, HashTableOwned, bytes_needed};
+use std::alloc::Global;
 
-/// The answer to a call of the configuration with these lengths and this hash function.
-pub fn answer<C: Config>(
-    words: &Words<'_>,
-    shape: &[&str],
-    call: &str,
-    args: &[&str],
-) -> Result<Answer, Fault> {
-    let [key, value, hash] = shape else {
-        return Err(Fault::Unread);
-    };
-    let is_key = number(*key)? == C::EncodedKey::LEN;
-    let is_value = number(*value)? == C::EncodedValue::LEN;
-    if !is_key || !is_value || *hash != C::H::NAME {
+type View<C> = HashTable<C, OwnedBytes>;
+
+/// Answers a call of the configuration with these lengths and this hash function.
+pub fn answer<C: Config>(case: &Case<'_>, shape: &str, answer: &mut Answer) -> Result<(), Fault> {
+    if !is_shape(shape, C::EncodedKey::LEN, C::EncodedValue::LEN, C::H::NAME) {
         return Err(Fault::Unread);
     }
-    match call {
-        "hash" => hash_of::<C::H>(words, args),
-        "bytes_needed" => needed::<C>(words.alloc, args),
-        "table_len" => table_len::<C>(words.alloc, args),
-        "new" => new_table::<C>(words.alloc, args),
-        "with_capacity" => with_capacity::<C>(words, args),
-        "from_iterator" => collected::<C>(words, args),
-        _ => table::<C>(words, call, args),
+    match case.call {
+        "hash" => hash_of::<C::H>(case, answer),
+        "bytes_needed" => needed::<C>(case, answer),
+        "table_len" => table_len::<C>(case, answer),
+        "new" => new_table::<C>(case, answer),
+        "with_capacity" => with_capacity::<C>(case, answer),
+        "from_iterator" => collected::<C>(case, answer),
+        _ => table::<C>(case, answer),
     }
+}
+
+// Whether words say these lengths of a key and of a value, and the name of this hash function.
+fn is_shape(shape: &str, key: usize, value: usize, hash: &str) -> bool {
+    let mut words = shape.split(' ');
+    let key_len = words.next().map(number);
+    let value_len = words.next().map(number);
+    key_len == Some(Ok(key)) && value_len == Some(Ok(value)) && words.next() == Some(hash)
 }
 
 // A call on the bytes of a table.
-fn table<C: Config>(words: &Words<'_>, call: &str, args: &[&str]) -> Result<Answer, Fault> {
-    let [bytes, args @ ..] = args else {
+fn table<C: Config>(case: &Case<'_>, answer: &mut Answer) -> Result<(), Fault> {
+    let [bytes, args @ ..] = case.args else {
         return Err(Fault::Unread);
     };
-    let bytes = words.bytes(*bytes)?;
-    match call {
-        "open" if args.is_empty() => open::<C>(words.alloc, bytes),
-        "check" if args.is_empty() => {
-            let checked = memory_layout::check_all::<C>(bytes.as_slice());
-            Answer::refusal(words.alloc, checked.err())
+    let mut bytes = case.words.bytes(*bytes)?;
+    let case = case.with(args);
+    match case.call {
+        "raw_insert" => raw::insert::<C>(&case, bytes.as_mut_slice(), answer),
+        "check" if args.is_empty() => answer.refusal(check_all::<C>(bytes.as_slice())),
+        "owned" | "insert_order" | "insert_slots" if args.is_empty() => {
+            owned::<C>(&case, bytes.as_slice(), answer)
         }
-        "owned" if args.is_empty() => {
-            made::<C>(
-                words.alloc,
-                HashTableOwned::from_raw_bytes(words.alloc, bytes.as_slice()),
-            )
-        }
-        "insert_order" if args.is_empty() => insert_order::<C>(words.alloc, bytes, false),
-        "insert_slots" if args.is_empty() => insert_order::<C>(words.alloc, bytes, true),
-        "raw_insert" => raw::insert::<C>(words, bytes, args),
-        _ => match HashTable::from_raw_bytes(OwnedBytes::new(bytes)) {
-            Ok(view) => on_view::<C>(words, call, view, args),
-            Err(refused) => Answer::refusal(words.alloc, Some(refused)),
-        },
+        _ => opened::<C>(&case, bytes, answer),
     }
 }
 
-// A call on a view.
-fn on_view<C: Config>(
-    words: &Words<'_>,
+// A call on a table that owns a copy of the bytes.
+fn owned<C: Config>(case: &Case<'_>, bytes: &[u8], answer: &mut Answer) -> Result<(), Fault> {
+    match HashTableOwned::<C>::from_raw_bytes(case.words.alloc, bytes) {
+        Ok(table) if case.call == "owned" => answer.table(table.raw_bytes()),
+        Ok(table) => insert_order(case, &table, answer),
+        Err(refused) => answer.word(&refused),
+    }
+}
+
+// Whether inserts make a table, and then its occupied slots, in an order in which they do or rising.
+fn insert_order<C: Config>(
+    case: &Case<'_>,
+    table: &HashTableOwned<C>,
+    answer: &mut Answer,
+) -> Result<(), Fault> {
+    let mut order = vec![in case.words.alloc; 0; table.len()]?;
+    let is_found = table.insert_order(order.as_mut_slice());
+    tell_order(case.call, is_found, order.as_mut_slice(), answer)
+}
+
+fn tell_order(
     call: &str,
-    view: HashTable<C, OwnedBytes>,
-    args: &[&str],
-) -> Result<Answer, Fault> {
-    match (call, args) {
-        ("len", []) => Answer::text(words.alloc, &view.len()),
-        ("verify", []) => Answer::text(words.alloc, &view.verify()),
-        ("walk", []) => walk(words.alloc, &view),
-        ("get", [key]) => get(words, &view, *key),
-        ("dump", [line]) => dump(words.alloc, &view, number(*line)?),
-        ("check_slots", [slots]) => {
-            let checked = view.as_raw().sanity_check_hashes(number(*slots)?);
-            Answer::refusal(words.alloc, checked.err())
-        }
-        ("insert", pairs) => insert(words, view, pairs),
-        ("insert_all", pairs) => insert_all(words, view, pairs),
+    is_found: bool,
+    order: &mut [usize],
+    answer: &mut Answer,
+) -> Result<(), Fault> {
+    if !is_found {
+        return answer.word(&false);
+    }
+    if call == "insert_slots" {
+        order.sort_unstable();
+    }
+    answer.word(&true)?;
+    answer.numbers(order)
+}
+
+// A call on a view of the bytes.
+fn opened<C: Config>(case: &Case<'_>, bytes: Vec<u8>, answer: &mut Answer) -> Result<(), Fault> {
+    match HashTable::from_raw_bytes(OwnedBytes::new(bytes)) {
+        Ok(mut view) => on_view::<C>(case, &mut view, answer),
+        Err(refused) => answer.word(&refused),
+    }
+}
+
+fn on_view<C: Config>(
+    case: &Case<'_>,
+    view: &mut View<C>,
+    answer: &mut Answer,
+) -> Result<(), Fault> {
+    match case.call {
+        "insert" => insert(case, view, answer),
+        "insert_all" => insert_all(case, view, answer),
+        _ => read(case, view, answer),
+    }
+}
+
+// A call that reads a view.
+fn read<C: Config>(case: &Case<'_>, view: &View<C>, answer: &mut Answer) -> Result<(), Fault> {
+    match case.args {
+        [] => read_whole(case.call, view, answer),
+        [arg] if case.call == "get" => get(view, &case.words.array(*arg)?, answer),
+        [arg] => read_slots(case, view, number(*arg)?, answer),
+        _ => Err(Fault::Unread),
+    }
+}
+
+fn read_whole<C: Config>(call: &str, view: &View<C>, answer: &mut Answer) -> Result<(), Fault> {
+    match call {
+        "open" => answer.word(&"ok"),
+        "len" => answer.word(&view.len()),
+        "verify" => answer.word(&view.verify()),
+        "walk" => walk(view, answer),
+        _ => Err(Fault::Unread),
+    }
+}
+
+// Reads a line of the dump, or checks so many slots.
+fn read_slots<C: Config>(
+    case: &Case<'_>,
+    view: &View<C>,
+    number: usize,
+    answer: &mut Answer,
+) -> Result<(), Fault> {
+    match case.call {
+        "dump" => dump(case.words.alloc, view, number, answer),
+        "check_slots" => answer.refusal(view.as_raw().sanity_check_hashes(number)),
         _ => Err(Fault::Unread),
     }
 }
 
 // The hash of some bytes.
-fn hash_of<H: HashFn>(words: &Words<'_>, args: &[&str]) -> Result<Answer, Fault> {
-    let [bytes] = args else {
+fn hash_of<H: HashFn>(case: &Case<'_>, answer: &mut Answer) -> Result<(), Fault> {
+    let [bytes] = case.args else {
         return Err(Fault::Unread);
     };
-    let bytes = words.bytes(*bytes)?;
+    let bytes = case.words.bytes(*bytes)?;
     if bytes.len() < H::MIN_LEN {
         return Err(Fault::Unread);
     }
-    Answer::text(words.alloc, &H::hash(bytes.as_slice()))
+    answer.word(&H::hash(bytes.as_slice()))
 }
 
 // So many items, and the percentage of a load factor, which is at least 1.
@@ -113,209 +170,139 @@ fn size(count: &str, of_percent: &str) -> Result<(usize, u8), Fault>
     Ok((number(count)?, percent))
 }
 
-fn needed<C: Config>(alloc: Global, args: &[&str]) -> Result<Answer, Fault> {
-    let [count, of_percent] = args else {
+fn needed<C: Config>(case: &Case<'_>, answer: &mut Answer) -> Result<(), Fault> {
+    let [count, of_percent] = case.args else {
         return Err(Fault::Unread);
     };
     let (items, percent) = size(*count, *of_percent)?;
-    Answer::number(alloc, bytes_needed::<C>(items, percent))
+    answer.number(bytes_needed::<C>(items, percent))
 }
 
 // How many bytes a table of so many slots has.
-fn table_len<C: Config>(alloc: Global, args: &[&str]) -> Result<Answer, Fault> {
-    let [slots] = args else {
+fn table_len<C: Config>(case: &Case<'_>, answer: &mut Answer) -> Result<(), Fault> {
+    let [slots] = case.args else {
         return Err(Fault::Unread);
     };
-    Answer::number(alloc, memory_layout::bytes_needed::<C>(number(*slots)?))
+    answer.number(memory_layout::bytes_needed::<C>(number(*slots)?))
 }
 
 // A new table in so many bytes, which had other contents before.
-fn new_table<C: Config>(alloc: Global, args: &[&str]) -> Result<Answer, Fault> {
-    let [count, of_percent, len] = args else {
+fn new_table<C: Config>(case: &Case<'_>, answer: &mut Answer) -> Result<(), Fault> {
+    let [count, of_percent, len] = case.args else {
         return Err(Fault::Unread);
     };
     let (items, percent) = size(*count, *of_percent)?;
-    let bytes = OwnedBytes::new(vec![in alloc; 0xa7; number(*len)?]?);
-    match HashTable::<C, OwnedBytes>::init_in_place(bytes, items, percent) {
-        Ok(table) => Ok(Answer::table(String::new(alloc), table.into_data().into_vec())),
-        Err(refused) => Answer::refusal(alloc, Some(refused)),
+    let bytes = OwnedBytes::new(vec![in case.words.alloc; 0xa7; number(*len)?]?);
+    match View::<C>::init_in_place(bytes, items, percent) {
+        Ok(table) => answer.table(table.raw_bytes()),
+        Err(refused) => answer.word(&refused),
     }
 }
 
 // A list inserted at once into a new table that grows.
-fn with_capacity<C: Config>(words: &Words<'_>, args: &[&str]) -> Result<Answer, Fault> {
-    let [count, of_percent, pairs @ ..] = args else {
+fn with_capacity<C: Config>(case: &Case<'_>, answer: &mut Answer) -> Result<(), Fault> {
+    let [count, of_percent, pairs @ ..] = case.args else {
         return Err(Fault::Unread);
     };
     let (items, percent) = size(*count, *of_percent)?;
-    let list = list::<C>(words, pairs)?;
-    let mut table: HashTableOwned<C> = match HashTableOwned::with_capacity(
-        words.alloc,
-        items,
-        percent,
-    ) {
-        Ok(table) => table,
-        Err(refused) => return Answer::refusal(words.alloc, Some(refused)),
-    };
-    let (accepted, refused) = table.insert_all(list.as_slice());
-    let bytes = table.raw_bytes().to_vec(words.alloc)?;
-    after_list(words.alloc, accepted, refused.err(), bytes)
+    let list = list::<C>(&case.words, pairs)?;
+    match HashTableOwned::<C>::with_capacity(case.words.alloc, items, percent) {
+        Ok(mut table) => {
+            let outcome = table.insert_all(list.as_slice());
+            answer.list(outcome, table.raw_bytes())
+        }
+        Err(refused) => answer.word(&refused),
+    }
 }
 
 // A list collected into a table.
-fn collected<C: Config>(words: &Words<'_>, args: &[&str]) -> Result<Answer, Fault> {
-    let [of_percent, pairs @ ..] = args else {
+fn collected<C: Config>(case: &Case<'_>, answer: &mut Answer) -> Result<(), Fault> {
+    let [of_percent, pairs @ ..] = case.args else {
         return Err(Fault::Unread);
     };
     let (_, percent) = size("0", *of_percent)?;
-    let list = list::<C>(words, pairs)?;
-    made::<C>(
-        words.alloc,
-        HashTableOwned::from_iterator(words.alloc, list.into_iter(), percent),
-    )
+    let list = list::<C>(&case.words, pairs)?;
+    let table = HashTableOwned::from_iterator(case.words.alloc, list.into_iter(), percent);
+    made::<C>(table, answer)
 }
 
 // The bytes of a table that was made, or the error.
-fn made<C: Config>(alloc: Global, made: Result<HashTableOwned<C>, Error>) -> Result<Answer, Fault> {
+fn made<C: Config>(
+    made: Result<HashTableOwned<C>, Error>,
+    answer: &mut Answer,
+) -> Result<(), Fault> {
     match made {
-        Ok(table) => {
-            let bytes = table.raw_bytes().to_vec(alloc)?;
-            Ok(Answer::table(String::new(alloc), bytes))
-        }
-        Err(refused) => Answer::refusal(alloc, Some(refused)),
+        Ok(table) => answer.table(table.raw_bytes()),
+        Err(refused) => answer.word(&refused),
     }
-}
-
-// Whether inserts make the table, and then its occupied slots, in an order in which they do or rising.
-fn insert_order<C: Config>(
-    alloc: Global,
-    bytes: Vec<u8>,
-    is_rising: bool,
-) -> Result<Answer, Fault> {
-    let table: HashTableOwned<C> = match HashTableOwned::from_raw_bytes(alloc, bytes.as_slice()) {
-        Ok(table) => table,
-        Err(refused) => return Answer::refusal(alloc, Some(refused)),
-    };
-    let mut order = vec![in alloc; 0; table.len()]?;
-    if !table.insert_order(order.as_mut_slice()) {
-        return Answer::text(alloc, &false);
-    }
-    if is_rising {
-        order.as_mut_slice().sort_unstable();
-    }
-    let mut text = true.to_string(alloc)?;
-    for slot in order.as_slice() {
-        add_word(&mut text, slot)?;
-    }
-    Ok(Answer::words(text))
-}
-
-// How many items were accepted, what stopped the list, and the bytes that it left.
-fn after_list(
-    alloc: Global,
-    accepted: usize,
-    refused: Option<Error>,
-    bytes: Vec<u8>,
-) -> Result<Answer, Fault> {
-    let mut text = accepted.to_string(alloc)?;
-    match refused {
-        Some(refused) => add_word(&mut text, &refused)?,
-        None => add_word(&mut text, &"ok")?,
-    }
-    Ok(Answer::table(text, bytes))
-}
-
-fn open<C: Config>(alloc: Global, bytes: Vec<u8>) -> Result<Answer, Fault> {
-    let opened: Result<HashTable<C, OwnedBytes>, Error> = HashTable::from_raw_bytes(OwnedBytes::new(
-        bytes,
-    ));
-    Answer::refusal(alloc, opened.err())
 }
 
 // The value of a key, and how many groups were read.
-fn get<C: Config>(
-    words: &Words<'_>,
-    view: &HashTable<C, OwnedBytes>,
-    key: &str,
-) -> Result<Answer, Fault> {
-    let key = C::decode_key(&array(words.bytes(key)?.as_slice())?);
-    let (found, groups) = view.get_counted(&key);
-    let mut text = String::new(words.alloc);
-    match found {
-        Some(value) => add_hex(&mut text, C::encode_value(&value).as_slice())?,
-        None => add_word(&mut text, &"none")?,
+fn get<C: Config>(view: &View<C>, key: &C::EncodedKey, answer: &mut Answer) -> Result<(), Fault> {
+    let (value, groups) = view.get_counted(&C::decode_key(key));
+    answer.value(encoded::<C>(value))?;
+    answer.word(&groups)
+}
+
+fn encoded<C: Config>(value: Option<C::Value>) -> Option<C::EncodedValue> {
+    match value {
+        Some(value) => Some(C::encode_value(&value)),
+        None => None,
     }
-    add_word(&mut text, &groups)?;
-    Ok(Answer::words(text))
 }
 
 // The pairs in slot order.
-fn walk<C: Config>(alloc: Global, view: &HashTable<C, OwnedBytes>) -> Result<Answer, Fault> {
-    let mut text = String::new(alloc);
+fn walk<C: Config>(view: &View<C>, answer: &mut Answer) -> Result<(), Fault> {
     for (key, value) in view.iter() {
-        add_pair::<C>(&mut text, &key, &value)?;
+        answer.pair(&C::encode_key(&key), &C::encode_value(&value))?;
     }
-    if text.is_empty() {
-        add_word(&mut text, &"none")?;
-    }
-    Ok(Answer::words(text))
-}
-
-fn add_pair<C: Config>(
-    text: &mut String,
-    key: &C::Key,
-    value: &C::Value,
-) -> Result<(), AllocError> {
-    begin_word(text)?;
-    add_hex(text, C::encode_key(key).as_slice())?;
-    text.push(':')?;
-    add_hex(text, C::encode_value(value).as_slice())
+    answer.or_none()
 }
 
 // A line of the dump of the slots.
 fn dump<C: Config>(
     alloc: Global,
-    view: &HashTable<C, OwnedBytes>,
+    view: &View<C>,
     line: usize,
-) -> Result<Answer, Fault> {
+    answer: &mut Answer,
+) -> Result<(), Fault> {
     let text = format!(in alloc; "{:?}", view.as_raw())?;
     match text.as_str().lines().nth(line) {
-        Some(line) => Answer::text(alloc, &line),
+        Some(line) => answer.word(&line),
         None => Err(Fault::Unread),
     }
 }
 
 // What each pair's insert returns, and the bytes that they leave.
 fn insert<C: Config>(
-    words: &Words<'_>,
-    mut view: HashTable<C, OwnedBytes>,
-    pairs: &[&str],
-) -> Result<Answer, Fault> {
-    let mut text = String::new(words.alloc);
-    for (key, value) in list::<C>(words, pairs)?.as_slice() {
-        let former = match view.insert(key, value) {
-            Ok(Some(value)) => Ok(Some(C::encode_value(&value))),
-            Ok(None) => Ok(None),
-            Err(refused) => Err(refused),
-        };
-        add_former(&mut text, former)?;
+    case: &Case<'_>,
+    view: &mut View<C>,
+    answer: &mut Answer,
+) -> Result<(), Fault> {
+    for pair in case.args {
+        let (key, value) = case.words.pair(*pair)?;
+        answer.former(insert_one(view, &key, &value))?;
     }
-    Ok(Answer::table(text, view.into_data().into_vec()))
+    answer.table(view.raw_bytes())
+}
+
+fn insert_one<C: Config>(
+    view: &mut View<C>,
+    key: &C::EncodedKey,
+    value: &C::EncodedValue,
+) -> Result<Option<C::EncodedValue>, Error> {
+    let former = view.insert(&C::decode_key(key), &C::decode_value(value))?;
+    Ok(encoded::<C>(former))
 }
 
 fn insert_all<C: Config>(
-    words: &Words<'_>,
-    mut view: HashTable<C, OwnedBytes>,
-    pairs: &[&str],
-) -> Result<Answer, Fault> {
-    let list = list::<C>(words, pairs)?;
-    let (accepted, refused) = view.insert_all(list.as_slice());
-    after_list(
-        words.alloc,
-        accepted,
-        refused.err(),
-        view.into_data().into_vec(),
-    )
+    case: &Case<'_>,
+    view: &mut View<C>,
+    answer: &mut Answer,
+) -> Result<(), Fault> {
+    let list = list::<C>(&case.words, case.args)?;
+    let outcome = view.insert_all(list.as_slice());
+    answer.list(outcome, view.raw_bytes())
 }
 
 // The pairs that words write.
@@ -323,9 +310,7 @@ fn list<C: Config>(words: &Words<'_>, pairs: &[&str]) -> Result<Vec<(C::Key, C::
     let mut list = Vec::new(words.alloc);
     for pair in pairs {
         let (key, value) = words.pair(*pair)?;
-        let key = C::decode_key(&array(key.as_slice())?);
-        let value = C::decode_value(&array(value.as_slice())?);
-        list.push((key, value))?;
+        list.push((C::decode_key(&key), C::decode_value(&value)))?;
     }
     Ok(list)
 }

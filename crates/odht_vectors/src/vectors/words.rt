@@ -12,6 +12,21 @@ pub struct Words<'a> {
     pub names: &'a [(String, Vec<u8>)],
 }
 
+/// A call and its arguments, and what reads these.
+#[derive(Clone, Copy)]
+pub struct Case<'a> {
+    pub words: Words<'a>,
+    pub call: &'a str,
+    pub args: &'a [&'a str],
+}
+
+impl<'a> Case<'a> {
+    /// The call with other arguments.
+    pub fn with(&self, args: &'a [&'a str]) -> Case<'a> {
+        Case { args, ..*self }
+    }
+}
+
 /// The number that a word writes in decimal digits.
 pub fn number(word: &str) -> Result<usize, Fault> {
     if word.starts_with('+') {
@@ -35,10 +50,12 @@ impl<'a> Words<'a> {
     /// `-` for no bytes. Each further one changes them: `AT:HEX` writes these bytes from offset `AT` on, `..N` keeps
     /// the first `N`, and `+HEX` appends these.
     pub fn bytes(&self, word: &str) -> Result<Vec<u8>, Fault> {
-        let mut pieces = word.split(',');
-        let first = pieces.next().ok_or(Fault::Unread)?;
+        let (first, changes) = match word.split_once(',') {
+            None => return self.named(word),
+            Some(pieces) => pieces,
+        };
         let mut bytes = self.named(first)?;
-        for piece in pieces {
+        for piece in changes.split(',') {
             self.change(&mut bytes, piece)?;
         }
         Ok(bytes)
@@ -60,29 +77,30 @@ impl<'a> Words<'a> {
             return Ok(());
         }
         if let Some(digits) = piece.strip_prefix("+") {
-            for byte in hex(self.alloc, digits)?.as_slice() {
-                bytes.push(*byte)?;
-            }
-            return Ok(());
+            return append(bytes, digits);
         }
         let (at, digits) = piece.split_once(':').ok_or(Fault::Unread)?;
-        let mut at = number(at)?;
-        for byte in hex(self.alloc, digits)?.as_slice() {
-            *bytes.get_mut(at).ok_or(Fault::Unread)? = *byte;
-            at = at.wrapping_add(1);
-        }
-        Ok(())
+        write_at(
+            bytes.as_mut_slice(),
+            number(at)?,
+            hex(self.alloc, digits)?.as_slice(),
+        )
     }
 
-    /// The bytes of a key and of a value, `KEY:VALUE`.
-    pub fn pair(&self, word: &str) -> Result<(Vec<u8>, Vec<u8>), Fault> {
+    /// The array that a word writes.
+    pub fn array<A: ByteArray>(&self, word: &str) -> Result<A, Fault> {
+        array(self.bytes(word)?.as_slice())
+    }
+
+    /// A key and a value, `KEY:VALUE`.
+    pub fn pair<K: ByteArray, V: ByteArray>(&self, word: &str) -> Result<(K, V), Fault> {
         let (key, value) = word.split_once(':').ok_or(Fault::Unread)?;
-        Ok((hex(self.alloc, key)?, hex(self.alloc, value)?))
+        Ok((self.array(key)?, self.array(value)?))
     }
 }
 
-/// The array of these bytes.
-pub fn array<A: ByteArray>(bytes: &[u8]) -> Result<A, Fault> {
+// The array of these bytes.
+fn array<A: ByteArray>(bytes: &[u8]) -> Result<A, Fault> {
     if bytes.len() != A::LEN {
         return Err(Fault::Unread);
     }
@@ -92,21 +110,23 @@ pub fn array<A: ByteArray>(bytes: &[u8]) -> Result<A, Fault> {
 // The bytes that hexadecimal digits write, two digits a byte. `-` means no bytes.
 fn hex(alloc: Global, digits: &str) -> Result<Vec<u8>, Fault> {
     let mut bytes = Vec::new(alloc);
+    append(&mut bytes, digits)?;
+    Ok(bytes)
+}
+
+// Appends the bytes that digits write.
+fn append(bytes: &mut Vec<u8>, digits: &str) -> Result<(), Fault> {
     if digits == "-" {
-        return Ok(bytes);
+        return Ok(());
     }
-    let mut rest = digits.as_bytes();
-    for _ in 0..digits.len() {
-        let [high, low, more @ ..] = rest else {
-            break;
-        };
-        bytes.push(digit(*high)? << 4 | digit(*low)?)?;
-        rest = more;
-    }
-    if bytes.is_empty() || !rest.is_empty() {
+    let (pairs, rest) = digits.as_bytes().as_chunks::<2>();
+    if pairs.is_empty() || !rest.is_empty() {
         return Err(Fault::Unread);
     }
-    Ok(bytes)
+    for [high, low] in pairs {
+        bytes.push(digit(*high)? << 4 | digit(*low)?)?;
+    }
+    Ok(())
 }
 
 fn digit(digit: u8) -> Result<u8, Fault> {
@@ -115,4 +135,14 @@ fn digit(digit: u8) -> Result<u8, Fault> {
         b'a'..=b'f' => Ok(digit.wrapping_sub(b'a' - 10)),
         _ => Err(Fault::Unread),
     }
+}
+
+// Writes a piece over the bytes from an offset on.
+fn write_at(bytes: &mut [u8], at: usize, piece: &[u8]) -> Result<(), Fault> {
+    let place = bytes.get_mut(at..).ok_or(Fault::Unread)?;
+    if place.len() < piece.len() {
+        return Err(Fault::Unread);
+    }
+    place[..piece.len()].copy_from_slice(piece);
+    Ok(())
 }

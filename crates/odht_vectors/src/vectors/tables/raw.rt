@@ -5,9 +5,9 @@ ghost use Rattle.odht_base.specs.Load.{IsSlotCount};
 ghost use Rattle.odht_raw.specs.PartLengths.{ArePartLengths};
 
 use crate::vectors::Fault;
-use crate::vectors::answer::{Answer, add_former};
+use crate::vectors::answer::Answer;
 use crate::vectors::numbers::slot_count;
-use crate::vectors::words::{Words, array};
+use crate::vectors::words::{Case, Words};
 use odht::bytes::ByteArray;
 use odht::config::{Coded, Config};
 use odht::error::Error;
@@ -18,24 +18,31 @@ use odht::raw_table::{RawTableMut, plain_insert};
 /// What each pair's insert into the parts returns, and the bytes that they leave. The header stays. Both forms of an
 /// insert are run, and have to agree.
 pub fn insert<C: Config>(
-    words: &Words<'_>,
-    bytes: Vec<u8>,
-    pairs: &[&str],
-) -> Result<Answer, Fault> {
-    let mut text = String::new(words.alloc);
-    let (mut bytes, mut plain) = (bytes.as_slice().to_vec(words.alloc)?, bytes);
-    for pair in pairs {
-        let (key, value) = words.pair(*pair)?;
-        let key = array(key.as_slice())?;
-        let value = array(value.as_slice())?;
-        let found = insert_one::<C>(bytes.as_mut_slice(), key, value, false)?;
-        let expected = insert_one::<C>(plain.as_mut_slice(), key, value, true)?;
-        if found != expected || bytes.as_slice() != plain.as_slice() {
-            return Answer::text(words.alloc, &"both forms differ");
+    case: &Case<'_>,
+    bytes: &mut [u8],
+    answer: &mut Answer,
+) -> Result<(), Fault> {
+    let mut copy = bytes.to_vec(case.words.alloc)?;
+    let mut plain = Answer::new(case.words.alloc);
+    for pair in case.args {
+        insert_pair::<C>(&case.words, bytes, *pair, false, answer)?;
+        insert_pair::<C>(&case.words, copy.as_mut_slice(), *pair, true, &mut plain)?;
+        if !answer.has_words_of(&plain) || *bytes != *copy.as_slice() {
+            return answer.word(&"both forms differ");
         }
-        add_former(&mut text, found)?;
     }
-    Ok(Answer::table(text, bytes))
+    answer.table(bytes)
+}
+
+fn insert_pair<C: Config>(
+    words: &Words<'_>,
+    bytes: &mut [u8],
+    pair: &str,
+    is_plain: bool,
+    answer: &mut Answer,
+) -> Result<(), Fault> {
+    let (key, value) = words.pair(pair)?;
+    answer.former(insert_one::<C>(bytes, key, value, is_plain)?)
 }
 
 // Inserts a pair into the parts of a table in these bytes, slot by slot or by groups.

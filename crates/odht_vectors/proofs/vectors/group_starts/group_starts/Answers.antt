@@ -4,8 +4,8 @@ use Rattle.std.specs.List.{range_with_len}
 use Rattle.std.proofs.lemmas.List.FromFn.{map-range_with_len_more}
 use Rattle.odht_base.specs.Probe.{probe_slot}
 use Rattle.odht_raw.proofs.lemmas.ProbeSteps.{divisor_pos}
-use Rattle.odht_tests.proofs.group_starts.group_starts.Goals as goal
-use Rattle.odht_tests.proofs.group_starts.group_starts.Goals.{then-group-groups, else-group-groups}
+use Rattle.odht_vectors.proofs.vectors.group_starts.group_starts.Goals as goal
+use Rattle.odht_vectors.proofs.vectors.group_starts.group_starts.Goals.{then-group-groups, else-group-groups}
 
 pub advance-requires : goal.advance-requires
 advance-requires g c =

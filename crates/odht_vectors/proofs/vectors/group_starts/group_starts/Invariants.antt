@@ -2,7 +2,7 @@ use Rattle.std.proofs.Common.{◌≡◌, ◌*◌, ◌<◌, ◌≤◌, ◌%◌, m
 use Rattle.std.specs.List.{range_with_len}
 use Rattle.std.specs.Vec.{vec_len, vec_capacity}
 use Rattle.odht_base.specs.Probe.{probe_slot}
-use Rattle.odht_tests.proofs.group_starts.group_starts.Given as goal
+use Rattle.odht_vectors.proofs.vectors.group_starts.group_starts.Given as goal
 
 abbrev pub invariant-loop-group : goal.invariant-loop-group
 invariant-loop-group g l = record {
