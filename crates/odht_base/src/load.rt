@@ -5,6 +5,8 @@ ghost use Rattle.std.specs.Prelude.{◌≡◌, ℕ, ◌*◌, ◌<◌, ◌≤◌,
 ghost use Rattle.odht_base.specs.Load.{factor_of, percent_of, max_items, slots_for, IsLeastSlots};
 ghost use Rattle.odht_base.specs.Load.{IsPercent};
 
+use std::marker::Model;
+
 /// A load factor in units of 1/65536: of `s` slots at most `s * factor / 65536`, rounded down, are occupied.
 ///
 /// 100 percent is 65535, so a table at its maximum item count always has a free slot.
@@ -54,19 +56,30 @@ impl Factor {
     }
 }
 
-/// A load factor in percent of the slots that a table can be made at, from 1 to 100.
+/// A load factor in percent of the slots that a table can be made at, from 1 to 100. In a contract it is this number.
 #[derive(Debug, Clone, Copy, PartialEq, Eq)]
 pub struct Percent {
     value: u8,
-    ghost low: { 1 ≤ value },
-    ghost high: { value ≤ 100 },
+}
+
+impl Model for Percent {
+    ghost use Rattle.std.specs.Prelude.{ℕ};
+    ghost use Rattle.odht_base.specs.Load.{IsPercent};
+
+    ghost Value = { ℕ };
+
+    ghost view = { λ p. p.value };
+
+    ghost inverse = { λ n. record { value = n } };
+
+    ghost invariant = { λ p. IsPercent p.value };
 }
 
 impl Percent {
     /// The percentage `value`, or None where it is not from 1 to 100.
     #[inline]
     pub fn new(value: u8) -> Option<Percent>
-        ensures value { IfSome result (λ percent. percent.value ≡ value) }
+        ensures value { IfSome result (λ percent. percent ≡ value) }
         ensures some { IsSome result ↔ IsPercent value }
     {
         if value < 1 || value > 100 {
@@ -78,7 +91,7 @@ impl Percent {
     /// The number itself, from 1 to 100.
     #[inline]
     pub fn value(self) -> u8
-        ensures value { result ≡ self.value }
+        ensures value { result ≡ self }
         ensures percent { IsPercent result }
     {
         self.value
@@ -87,7 +100,7 @@ impl Percent {
     /// The load factor of so many percent, rounded down.
     #[inline]
     pub fn factor(self) -> Factor
-        ensures { result.0 ≡ factor_of self.value }
+        ensures { result.0 ≡ factor_of self }
     {
         Factor::from_percent(self.value)
     }

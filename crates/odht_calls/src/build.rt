@@ -74,8 +74,8 @@ fn insert_into_new<C: Config>(
 )
     requires lengths { length values.now ≡ length keys.now }
     requires fits { new_refusal ⟦<C as Coded>⟧.coding.format (length keys.now)
-        (factor_of percent.value) (length bytes.old) ≡ None }
-    ensures { IsFreshAfterInserts ⟦<C as Coded>⟧.coding percent.value (zip keys.now values.now)
+        (factor_of percent) (length bytes.old) ≡ None }
+    ensures { IsFreshAfterInserts ⟦<C as Coded>⟧.coding percent (zip keys.now values.now)
         bytes.new }
 {
     let mut store = BorrowedMut::new(bytes);
@@ -93,9 +93,9 @@ fn insert_into_store<C: Config, M: ByteStoreMut>(
 )
     requires lengths { length values.now ≡ length keys.now }
     requires fits { new_refusal ⟦<C as Coded>⟧.coding.format (length keys.now)
-        (factor_of percent.value) (length (M.bytes store.old)) ≡ None }
+        (factor_of percent) (length (M.bytes store.old)) ≡ None }
     ensures inserted { let items = zip keys.now values.now
-        in IsFreshAfterInserts ⟦<C as Coded>⟧.coding percent.value items (M.bytes store.new) }
+        in IsFreshAfterInserts ⟦<C as Coded>⟧.coding percent items (M.bytes store.new) }
     ensures same_store { store.new ≡ M.holding store.old (M.bytes store.new) }
 {
     let Ok(()) = HashTable::<C, M>::init_store(store, keys.len(), percent.value()) else {

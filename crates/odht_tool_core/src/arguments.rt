@@ -1,8 +1,8 @@
 //! The arguments that the program is called with.
-ghost use Rattle.std.specs.Prelude.{◌≤◌};
 
 use crate::shapes::{Hash, Part};
 use crate::text::parse_number;
+use odht_base::load::Percent;
 use std::alloc::Global;
 use std::fmt;
 
@@ -64,26 +64,6 @@ impl Setting {
             "--percent" if topic == Topic::Build => Some(Setting::Percent),
             "--capacity" if topic == Topic::Build => Some(Setting::Capacity),
             _ => None,
-        }
-    }
-}
-
-/// A load factor in percent.
-#[derive(Clone, Copy)]
-pub struct Percent {
-    pub value: u8,
-    ghost low: { 1 ≤ value },
-    ghost high: { value ≤ 100 },
-}
-
-impl Percent {
-    // The percentage of this text, a number from 1 to 100.
-    fn parse(text: &str) -> Option<Percent> {
-        let value = u8::try_from(parse_number(text.as_bytes())?).ok()?;
-        if value >= 1 && value <= 100 {
-            Some(Percent { value })
-        } else {
-            None
         }
     }
 }
@@ -259,7 +239,7 @@ impl Draft {
             hash: None,
             key: None,
             value: None,
-            percent: Percent { value: 87 },
+            percent: Percent::new(87).unwrap(),
             capacity: 12,
             is_help: false,
             is_slots: false,
@@ -296,7 +276,7 @@ impl Draft {
             Setting::Hash => self.hash = Some(Hash::named(value)?),
             Setting::Key => self.key = Some(Part::named(value)?),
             Setting::Value => self.value = Some(Part::named(value)?),
-            Setting::Percent => self.percent = Percent::parse(value)?,
+            Setting::Percent => self.percent = parse_percent(value)?,
             Setting::Capacity => self.capacity = parse_number(value.as_bytes())? as usize,
         }
         Some(())
@@ -362,4 +342,9 @@ impl Draft {
         };
         Ok(Request::Run { file, command })
     }
+}
+
+// The percentage of this text, a number from 1 to 100.
+fn parse_percent(text: &str) -> Option<Percent> {
+    Percent::new(u8::try_from(parse_number(text.as_bytes())?).ok()?)
 }

@@ -12,7 +12,8 @@ use crate::shapes::{
 };
 use odht::HashTableOwned;
 use odht::config::{Coded, Config};
-use odht_tool_core::arguments::{BuildOptions, Percent};
+use odht::load::Percent;
+use odht_tool_core::arguments::BuildOptions;
 use odht_tool_core::failure::Failure;
 use odht_tool_core::files::replace_file;
 use odht_tool_core::lines::read_pair;
@@ -64,9 +65,9 @@ fn make_table<C: Config>(
     capacity: usize,
     percent: Percent,
 ) -> Result<HashTableOwned<C>, Failure>
-    ensures { IfOk result (IsFresh ⟦<C as Coded>⟧.coding.format capacity percent.value) }
+    ensures { IfOk result (IsFresh ⟦<C as Coded>⟧.coding.format capacity percent) }
 {
-    HashTableOwned::with_capacity(alloc, capacity, percent.value).map_err(Failure::of_table)
+    HashTableOwned::with_capacity(alloc, capacity, percent.value()).map_err(Failure::of_table)
 }
 
 /// Adds the lines to the table of the file, which has these bytes.

@@ -45,10 +45,10 @@ insert_into_new-requires-clause-fits g c κs within =
     let n = length c.args.keys.now in
     let needed = c.in-Some-bytes_needed.needed in
     let layout = c.in-Some-bytes_needed.ensures.len in
-    let slots : slots_for n (factor_of c.in-Some.percent.value) ≡ Some layout.0 = ap (λ q. slots_for n (factor_of q)) (sym c.value.ensures.value) ∙ layout.1 in
+    let slots : slots_for n (factor_of c.in-Some.percent) ≡ Some layout.0 = ap (λ q. slots_for n (factor_of q)) (sym c.value.ensures.value) ∙ layout.1 in
     let low : image_len F layout.0 < 2 ^ 64 = omega (arith, layout.2, c.if-out-needed.false) in
     let long : length (take needed c.args.out.now) ≡ needed = length-take-le needed c.args.out.now c.if-out-needed.false in
-    new_refusal-fits F n (factor_of c.in-Some.percent.value) (length (take needed c.args.out.now)) layout.0 slots low (long ∙ layout.2)
+    new_refusal-fits F n (factor_of c.in-Some.percent) (length (take needed c.args.out.now)) layout.0 slots low (long ∙ layout.2)
 
 pub returns-in_default : goal.returns-in_default
 returns-in_default g c =

@@ -23,7 +23,7 @@ pub returns-clause-inserted : goal.returns-clause-inserted
 returns-clause-inserted g c =
     let K = coding g in
     let F = K.format in
-    let p = c.args.percent.value in
+    let p = c.args.percent in
     let items = zip c.args.keys.now c.args.values.now in
     let long : length c.args.keys.now ≡ length items = omega (arith, length-zip c.args.keys.now c.args.values.now, c.requires.lengths) in
     let bytes = g.M.ByteStore.bytes in
