@@ -41,7 +41,7 @@ impl Factor {
     }
 }
 
-/// A load factor in percent of the slots that a table can be made at, from 1 to 100.
+/// A load factor in percent of the slots that a table can be made at, from 1 to 100. In a contract it is this number.
 #[derive(Debug, Clone, Copy, PartialEq, Eq)]
 pub struct Percent {
     value: u8,

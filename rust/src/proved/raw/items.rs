@@ -1,6 +1,9 @@
 // Made by `make rust` of crates/odht_raw/src/items.rt.
 //! Lists of keys and values, whatever their form in memory.
 
+use crate::proved::raw::bytes::ByteArray;
+use crate::proved::raw::config::Config;
+
 /// A list of keys and their values, each read where it is in memory.
 pub trait Items<K, V> {
     /// How many items there are.
@@ -49,4 +52,18 @@ impl<'k, 'v, K, V> Items<K, V> for Zipped<'k, 'v, K, V> {
         let (keys, values) = (self.keys, self.values);
         (&index!(keys[index]), &index!(values[index]))
     }
+}
+
+/// The bytes of a key and those of its value. Each has as many as its type says.
+#[inline(always)]
+pub(crate) fn encode_pair<C: Config>(
+    key: &C::Key,
+    value: &C::Value,
+) -> (C::EncodedKey, C::EncodedValue) {
+    let key = C::encode_key(key);
+    let value = C::encode_value(value);
+    // To read them is what tells the prover how long they are.
+    let _ = key.as_slice();
+    let _ = value.as_slice();
+    (key, value)
 }

@@ -49,8 +49,20 @@ pub fn search_hashed<K: ByteArray, V: ByteArray, H: HashFn, Q: Group>(
     }
 }
 
-/// The whole search of a key whose hash is known, for callers that looked at its first group already, or cannot use
-/// that look. It is not inlined: where a first look ends the search, this is not called.
+/// Where the search for a key ends whose hash is known. It is for those who do not ask how many groups that takes.
+#[inline(always)]
+pub(super) fn search_end<K: ByteArray, V: ByteArray, H: HashFn, Q: Group>(
+    control: &[EntryMetadata],
+    entries: &Entries<'_, K, V>,
+    key: &K,
+    hash: u32,
+) -> Search {
+    let mut scan = Scan::new(control, entries.len());
+    search_hashed::<K, V, H, Q>(&mut scan, entries, key, hash)
+}
+
+/// `search_end` for callers that looked at the first group already, or cannot use that look. It is not inlined: where
+/// a first look ends the search, this is not called.
 #[inline(never)]
 pub(super) fn whole_search<K: ByteArray, V: ByteArray, H: HashFn>(
     control: &[EntryMetadata],
@@ -58,8 +70,7 @@ pub(super) fn whole_search<K: ByteArray, V: ByteArray, H: HashFn>(
     key: &K,
     hash: u32,
 ) -> Search {
-    let mut scan = Scan::new(control, entries.len());
-    search_hashed::<K, V, H, GroupQuery>(&mut scan, entries, key, hash)
+    search_end::<K, V, H, GroupQuery>(control, entries, key, hash)
 }
 
 // Searches the sixteen slots from `start` on, whose control bytes are `bytes`, in pieces of the group search's size.

@@ -1,7 +1,8 @@
 // Made by `make rust` of crates/odht_raw/src/raw_table/insert.rt.
 //! The insert of one pair into the parts of a table: one search, and the write where it ends.
 
-use super::{search_hashed, tag_of, Entries, EntryMetadata, Scan, Search};
+use super::group_search::search_end;
+use super::{tag_of, Entries, EntryMetadata, Search};
 use crate::proved::raw::bytes::{write_slice, ByteArray};
 use crate::proved::raw::error::Error;
 use crate::proved::raw::hash::HashFn;
@@ -23,8 +24,7 @@ pub(crate) fn insert_step<K: ByteArray, V: ByteArray, H: HashFn, Q: Group>(
     let slots = control.len() - REFERENCE_GROUP_SIZE;
     let hash = H::hash(key.as_slice());
     let stored: Entries<'_, K, V> = Entries::new(entries, slots);
-    let mut scan = Scan::new(control, slots);
-    let end = search_hashed::<K, V, H, Q>(&mut scan, &stored, &key, hash);
+    let end = search_end::<K, V, H, Q>(control, &stored, &key, hash);
     insert_at::<K, V, H>(control, entries, key, value, tag_of(hash), end, room)
 }
 

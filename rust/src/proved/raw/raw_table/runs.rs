@@ -4,9 +4,8 @@
 use super::ahead::{expected_slot, insert_ahead};
 use super::insert::insert_step;
 use super::EntryMetadata;
-use crate::proved::raw::bytes::ByteArray;
 use crate::proved::raw::config::Config;
-use crate::proved::raw::items::Items;
+use crate::proved::raw::items::{encode_pair, Items};
 use crate::proved::raw::swisstable_group_query::{GroupQuery, REFERENCE_GROUP_SIZE};
 
 // How many keys are looked up ahead.
@@ -47,11 +46,7 @@ fn insert_in_turn<C: Config, I: Items<C::Key, C::Value>>(
     let mut added = 0;
     for index in from..to {
         let (key, value) = items.at(index);
-        let key = C::encode_key(key);
-        let value = C::encode_value(value);
-        // Key and value each have as many bytes as their type says.
-        let _ = key.as_slice();
-        let _ = value.as_slice();
+        let (key, value) = encode_pair::<C>(key, value);
         let answer = insert_step::<C::EncodedKey, C::EncodedValue, C::H, GroupQuery>(
             control,
             entries,
@@ -107,11 +102,7 @@ fn insert_batch<C: Config, I: Items<C::Key, C::Value>>(
     let mut added = 0;
     for offset in 0..BATCH {
         let (key, value) = items.at(from + offset);
-        let key = C::encode_key(key);
-        let value = C::encode_value(value);
-        // Key and value each have as many bytes as their type says.
-        let _ = key.as_slice();
-        let _ = value.as_slice();
+        let (key, value) = encode_pair::<C>(key, value);
         let (hash, slot) = index!(ahead[offset]);
         let answer = insert_ahead::<C::EncodedKey, C::EncodedValue, C::H>(
             control,

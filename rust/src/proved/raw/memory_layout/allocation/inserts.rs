@@ -4,11 +4,11 @@
 
 use super::Allocation;
 use crate::proved::header::header::ITEM_COUNT_AT;
-use crate::proved::raw::bytes::{write_slice, ByteArray, ByteStoreMut};
+use crate::proved::raw::bytes::{write_slice, ByteStoreMut};
 use crate::proved::raw::config::Config;
 use crate::proved::raw::error::Error;
-use crate::proved::raw::items::Items;
-use crate::proved::raw::load::max_item_count_for;
+use crate::proved::raw::items::{encode_pair, Items};
+use crate::proved::raw::load::{max_item_count_for, Factor};
 use crate::proved::raw::memory_layout::check::hold_bytes;
 use crate::proved::raw::memory_layout::{entry_at, Header, HEADER_SIZE};
 use crate::proved::raw::raw_table::{insert_run, insert_step};
@@ -51,15 +51,11 @@ fn insert_into_bytes<C: Config, Q: Group>(
     value: &C::Value,
 ) -> Result<Option<C::Value>, Error> {
     hold_bytes(bytes);
-    let key = C::encode_key(key);
-    let value = C::encode_value(value);
-    // Key and value each have as many bytes as their type says.
-    let _ = key.as_slice();
-    let _ = value.as_slice();
+    let (key, value) = encode_pair::<C>(key, value);
     let header = Header::of(bytes);
     let count = header.item_count();
     let slots = header.slot_count();
-    let room = room_of(&header);
+    let room = room_for(slots, header.max_load_factor(), count);
     let (table, control) = bytes.split_at_mut(entry_at::<C>(slots));
     let (front, entries) = table.split_at_mut(HEADER_SIZE);
     match insert_step::<C::EncodedKey, C::EncodedValue, C::H, Q>(control, entries, key, value, room)
@@ -84,7 +80,7 @@ fn run_in_bytes<C: Config, I: Items<C::Key, C::Value>>(
     let header = Header::of(bytes);
     let count = header.item_count();
     let slots = header.slot_count();
-    let room = room_of(&header);
+    let room = room_for(slots, header.max_load_factor(), count);
     let (table, control) = bytes.split_at_mut(entry_at::<C>(slots));
     let (front, entries) = table.split_at_mut(HEADER_SIZE);
     let (end, added) = insert_run::<C, I>(control, entries, items, from, room);
@@ -92,11 +88,10 @@ fn run_in_bytes<C: Config, I: Items<C::Key, C::Value>>(
     end
 }
 
-// How many new entries there is room for by the header: as many as its maximum item count exceeds its item count.
+// How many new entries there is room for: as many as the maximum item count exceeds the item count.
 #[inline(always)]
-fn room_of(header: &Header<'_>) -> usize {
-    max_item_count_for(header.slot_count(), header.max_load_factor())
-        .saturating_sub(header.item_count())
+fn room_for(slot_count: usize, max_load_factor: Factor, item_count: usize) -> usize {
+    max_item_count_for(slot_count, max_load_factor).saturating_sub(item_count)
 }
 
 // Writes the item count of a header.
