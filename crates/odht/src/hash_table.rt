@@ -49,8 +49,8 @@ pub fn bytes_needed<C: Config>(max_item_count: usize, max_load_factor_percent: u
 }
 
 /// A table in the bytes of a store: a view. It cannot grow. A contract speaks of it as of this store: `D.bytes` are the
-/// table's bytes, and the clauses and fields named `same_store` say that it stays the store that was passed in, so bytes that were
-/// borrowed hold the table.
+/// table's bytes, and the clauses and fields named `same_store` say that it stays the store that was passed in, so
+/// bytes that were borrowed hold the table.
 #[derive(Drop)]
 pub struct HashTable<C: Config, D: ByteStore> {
     pub(crate) allocation: Allocation<C, D>,
@@ -301,8 +301,8 @@ impl<C: Config, D: ByteStoreMut> HashTable<C, D> {
     ///
     /// On any bytes either one value that is stored with an equal key changes; or, where the header's count is below
     /// its maximum, one entry and its tag are written to a slot that counted as free and the count rises by one. No
-    /// other byte changes. `Full` comes only where a search slot by slot can end without the key, and the header's count
-    /// is its maximum or more, or each slot counts as occupied.
+    /// other byte changes. `Full` comes only where a search slot by slot can end without the key, and the header's
+    /// count is its maximum or more, or each slot counts as occupied.
     ///
     /// The key is hashed once. [`HashTable::get_counted`] says how many groups the search reads.
     #[inline(always)]

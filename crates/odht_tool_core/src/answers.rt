@@ -39,11 +39,7 @@ pub fn write_answers<K: Text, V: Text, O: Write>(
 pub fn absent_values<V: Text>(alloc: Global, count: usize) -> Result<Vec<Option<V>>, AllocError>
     ensures { IfOk result (λ values. length values.items ≡ count) }
 {
-    let mut values = Vec::with_capacity(alloc, count)?;
-    for _ in 0..count {
-        values.push(None)?;
-    }
-    Ok(values)
+    vec![in alloc; None; count]
 }
 
 /// Whether each key has a value.

@@ -50,12 +50,11 @@ pub fn replace_file<R: Files + AllocGlobal>(
 
 fn store<R: Files>(
     rt: &R,
-    file: R::File,
+    mut file: R::File,
     bytes: &[u8],
     beside: &str,
     path: &str,
 ) -> io::Result<()> {
-    let mut file = file;
     file.write_all(bytes)?;
     file.sync_all()?;
     fs::rename(rt, beside, path)

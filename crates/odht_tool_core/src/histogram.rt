@@ -91,7 +91,7 @@ fn largest_of(counts: &[usize]) -> usize
     most
 }
 
-// A `+` behind the last count, where it is also that of larger numbers of groups.
+// A `+` after the last count, where it is also that of larger numbers of groups.
 fn longer_mark(index: usize, longest: usize) -> &'static str
     requires { index < 64 }
     ensures { result.now ≡ longer_mark longest index }

@@ -9,6 +9,7 @@ use crate::histogram::Histogram;
 use crate::numbers::{Numbers, numbers_of};
 use crate::shapes::Hash;
 use crate::status::Status;
+use odht_header::header::HEADER_SIZE;
 use std::alloc::Global;
 use std::io::{self, Write};
 
@@ -43,7 +44,7 @@ fn write_lengths<O: Write>(numbers: &Numbers, output: &mut O) -> io::Result<()>
 {
     write_number("key bytes     ", numbers.key_size as u128, "", output)?;
     write_number("value bytes   ", numbers.value_size as u128, "", output)?;
-    write_number("header bytes  ", 32, "", output)?;
+    write_number("header bytes  ", HEADER_SIZE as u128, "", output)?;
     write_number("all bytes     ", numbers.len as u128, "", output)
 }
 
@@ -92,7 +93,7 @@ fn name_of(hash: Hash) -> &'static str
     }
 }
 
-// Writes a line of a label and a number, with `end` behind it.
+// Writes a line of a label and a number, with `end` after it.
 fn write_number<O: Write>(label: &str, number: u128, end: &str, output: &mut O) -> io::Result<()>
     ensures { OnOk result (Appends (O.contents output.old) (O.contents output.new)
         (number_line label.now number end.now)) }

@@ -8,8 +8,8 @@ use crate::failure::{Failure, LineFault};
 use crate::text::Text;
 use std::io::{self, BufRead};
 
-// Reads the next line into `line`, without its end, `\n` or `\r\n`, and replaces what `line` held. False at the end of
-// the input. After an error do not use the line.
+/// Reads the next line into `line`, without its end, `\n` or `\r\n`, and replaces what `line` held. False at the end of
+/// the input. After an error do not use the line.
 pub(crate) fn read_line<R: BufRead>(reader: &mut R, line: &mut Vec<u8>) -> io::Result<bool>
     ensures line { IfOk result (λ more. IsTrue more
         → IsNextLine (R.remaining reader.old) (R.remaining reader.new) line.new.items) }

@@ -21,7 +21,7 @@ pub enum Hash {
 
 impl Hash {
     /// The hash function of this name.
-    pub fn named(name: &str) -> Option<Hash> {
+    pub(crate) fn named(name: &str) -> Option<Hash> {
         match name {
             "fx" => Some(Hash::Fx),
             "unhash" => Some(Hash::Unhash),
@@ -55,7 +55,7 @@ pub enum Part {
 
 impl Part {
     /// The type of this name: `u32`, `u64`, `none`, or `hex` and a number of bytes from 1 to 255.
-    pub fn named(name: &str) -> Option<Part> {
+    pub(crate) fn named(name: &str) -> Option<Part> {
         match name {
             "none" => Some(Part::Nothing),
             "u32" => Some(Part::U32),
@@ -122,9 +122,9 @@ const SHAPES: [Shape; 10] = [
 ];
 
 impl Shape {
-    /// The ready shape of keys and values of so many bytes. Where both hash functions are possible and none is given,
-    /// it is the one of `fx`.
-    pub fn of_sizes(key_size: u8, value_size: u8, hash: Option<Hash>) -> Option<Shape>
+    // The ready shape of keys and values of so many bytes. Where both hash functions are possible and none is given,
+    // it is the one of `fx`.
+    fn of_sizes(key_size: u8, value_size: u8, hash: Option<Hash>) -> Option<Shape>
         ensures { result ≡ shape_of_sizes key_size value_size hash }
     {
         SHAPES

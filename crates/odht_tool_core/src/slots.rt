@@ -82,7 +82,7 @@ where
     write_pair(&key, &value, output)
 }
 
-// Writes the number of a slot, its control byte and a number of groups, a tab behind each.
+// Writes the number of a slot, its control byte and a number of groups, each with a tab after it.
 fn write_numbers<O: Write>(slot: usize, tag: u8, groups: usize, output: &mut O) -> io::Result<()>
     ensures { OnOk result (Appends (O.contents output.old) (O.contents output.new)
         (numbers_text slot tag groups)) }

@@ -17,6 +17,7 @@ use crate::shapes::Hash;
 use odht_base::hash::{FxHashFn, HashFn, UnHashFn};
 use odht_header::error::Error;
 use odht_header::header::{HEADER_SIZE, Header};
+use odht_raw::raw_table::tag_of;
 use std::alloc::{AllocError, Global};
 use std::marker::Model;
 
@@ -117,7 +118,7 @@ impl<'a> StoredTable<'a> {
         ensures { let T = self.now
             in result ≡ is_some (control_mismatch (sized_format T hash) T.entries T.control slot) }
     {
-        self.is_occupied(slot) && self.control[slot] as u32 != self.hash_at(slot, hash) >> 25
+        self.is_occupied(slot) && self.control[slot] != tag_of(self.hash_at(slot, hash))
     }
 
     // Whether the control byte of a slot does not count as free.

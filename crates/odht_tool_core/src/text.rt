@@ -130,7 +130,7 @@ impl Text for [u8; 32] {
 
 /// The number with these decimal digits. A sign is not a digit; `parse` alone would accept a plus.
 #[tactic(auto, using(crate::proofs::Words::numeral_utf8))]
-pub fn parse_number(word: &[u8]) -> Option<u64>
+pub(crate) fn parse_number(word: &[u8]) -> Option<u64>
     ensures { SomeIff result (IsNumberWord (2 ^ 64) word.now) (digits_value 10 word.now) }
 {
     match std::str::from_utf8(word) {

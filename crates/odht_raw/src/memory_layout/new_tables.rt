@@ -16,8 +16,8 @@ use crate::load::Factor;
 use crate::raw_table::FREE;
 use std::alloc::Global;
 
-/// Makes a table of `slot_count` free slots in `data`, whatever its bytes were. The header's item count is `item_count`.
-/// Each byte is written.
+/// Makes a table of `slot_count` free slots in `data`, whatever its bytes were. The header's item count is
+/// `item_count`. Each byte is written.
 pub fn init_in_place<C: Config, M: ByteStoreMut>(
     mut data: M,
     slot_count: usize,

@@ -22,8 +22,8 @@ use crate::swisstable_group_query::{Group, REFERENCE_GROUP_SIZE};
 /// finds it; else the slot count: where a key may have to be compared, or where none of these control bytes counts as
 /// free.
 ///
-/// The clause says what such a slot is, not when there is one: the slot count would always be right, and slower. No entry
-/// is read, so the calls for several keys do not depend on one another.
+/// The clause says what such a slot is, not when there is one: the slot count would always be right, and slower. No
+/// entry is read, so the calls for several keys do not depend on one another.
 #[inline(always)]
 pub(crate) fn expected_slot<K: ByteArray, V: ByteArray, H: HashFn, Q: Group>(
     control: &[EntryMetadata],

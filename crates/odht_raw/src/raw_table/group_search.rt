@@ -19,8 +19,8 @@ use crate::swisstable_group_query::{Group, GroupQuery, REFERENCE_GROUP_SIZE};
 /// where a pair with the key is placed, and exactly the groups up to this slot are read. On any parts `Found` is a slot
 /// whose entry has an equal key, `Free` is a slot that counts as free, `Neither` is answered only where each slot
 /// counts as occupied, by its control byte or its mirror. No slot before it in the probe order has this key with its
-/// tag; and none before a `Free`, none in a group before that of a `Found`, and none at all on `Neither`, counts as free:
-/// each by its control byte or its mirror. No more groups are read than there are. All this holds for every group
+/// tag; and none before a `Free`, none in a group before that of a `Found`, and none at all on `Neither`, counts as
+/// free: each by its control byte or its mirror. No more groups are read than there are. All this holds for every group
 /// search. The rules are those of docs/FORMAT.md, "Search".
 #[inline]
 pub fn search<K: ByteArray, V: ByteArray, H: HashFn, Q: Group>(
@@ -66,7 +66,7 @@ pub fn search_hashed<K: ByteArray, V: ByteArray, H: HashFn, Q: Group>(
     }
 }
 
-/// Where the search for a key ends whose hash is known. It is for those who do not ask how many groups that takes.
+/// Where the search for a key with this hash ends, for callers that do not ask how many groups it reads.
 #[inline(always)]
 pub(super) fn search_end<K: ByteArray, V: ByteArray, H: HashFn, Q: Group>(
     control: &[EntryMetadata],

@@ -67,8 +67,8 @@ impl<'c, 'e, K: ByteArray, V: ByteArray, H: HashFn> RawTableMut<'c, 'e, K, V, H>
         self.insert_by::<GroupQuery>(key, value)
     }
 
-    /// `insert` by a group search of the caller's choice. On the parts of a table whose keys are all reached all searches
-    /// leave the same parts.
+    /// `insert` by a group search of the caller's choice. On the parts of a table whose keys are all reached all
+    /// searches leave the same parts.
     #[inline(always)]
     pub fn insert_by<Q: Group>(&mut self, key: K, value: V) -> Result<Option<V>, Error>
         ensures { IsMutInsert self.old key value result self.new }
@@ -91,8 +91,8 @@ impl<'c, 'e, K: ByteArray, V: ByteArray, H: HashFn> RawTableMut<'c, 'e, K, V, H>
         self.place_by::<GroupQuery>(key, value)
     }
 
-    /// `place` by a group search of the caller's choice. On the parts of a table whose keys are all reached all searches
-    /// leave the same parts.
+    /// `place` by a group search of the caller's choice. On the parts of a table whose keys are all reached all
+    /// searches leave the same parts.
     #[inline(always)]
     pub fn place_by<Q: Group>(&mut self, key: K, value: V) -> Result<(), Error>
         ensures { IsMutPlacing self.old key value result self.new }

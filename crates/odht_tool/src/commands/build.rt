@@ -130,7 +130,7 @@ where
 fn fill<C: Config, R: AllocGlobal + Clock, I: BufRead, E: Write>(
     rt: &R,
     table: &mut HashTableOwned<C>,
-    progress: Progress,
+    mut progress: Progress,
     input: &mut I,
     errors: &mut E,
 ) -> Result<(), Failure>
@@ -139,7 +139,6 @@ where
     C::Value: Text,
 {
     let alloc: Global = rt.alloc();
-    let mut progress = progress;
     let mut pairs = Vec::new(alloc);
     let mut line = Vec::new(alloc);
     for number in 1..u64::MAX {

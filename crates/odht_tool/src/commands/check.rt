@@ -46,8 +46,8 @@ fn check_bytes<C: Config>(bytes: &[u8]) -> Result<(), Error>
     check_all::<C>(bytes)
 }
 
-/// Writes a line with `valid`, or with the error.
-pub fn write_checked<O: Write>(checked: &Result<(), Error>, output: &mut O) -> io::Result<()>
+// Writes a line with `valid`, or with the error.
+fn write_checked<O: Write>(checked: &Result<(), Error>, output: &mut O) -> io::Result<()>
     ensures { OnOk result
         (Appends (O.contents output.old) (O.contents output.new) (checked_text checked.now)) }
 {

@@ -59,7 +59,7 @@ fn slots(case: &Case<'_>, answer: &mut Answer) -> Result<(), Fault> {
     }
 }
 
-/// A slot count.
+/// The number itself, where it is a slot count; any other is not understood.
 pub fn slot_count(count: usize) -> Result<usize, Fault>
     ensures { IfOk result (λ slots. IsSlotCount slots) }
 {

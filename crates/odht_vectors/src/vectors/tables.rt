@@ -1,5 +1,4 @@
 //! Calls of a configuration: what its tables are, and how they are read, walked and written.
-ghost use Rattle.std.specs.Prelude.{◌≤◌, IfOk};
 
 mod raw;
 
@@ -9,6 +8,7 @@ use super::words::{Case, Words, number, percent};
 use odht::bytes::{ByteArray, OwnedBytes};
 use odht::error::Error;
 use odht::hash::HashFn;
+use odht::load::Percent;
 use odht::memory_layout::{self, check_all};
 use odht::{Config, HashTable, HashTableOwned, bytes_needed};
 use std::alloc::Global;
@@ -158,16 +158,14 @@ fn hash_of<H: HashFn>(case: &Case<'_>, answer: &mut Answer) -> Result<(), Fault>
     answer.word(&H::hash(bytes.as_slice()))
 }
 
-// So many items, and the percentage of a load factor, which is at least 1.
-fn size(count: &str, of_percent: &str) -> Result<(usize, u8), Fault>
-    ensures low { IfOk result (λ size. 1 ≤ size.1) }
-    ensures high { IfOk result (λ size. size.1 ≤ 100) }
-{
-    let percent = percent(of_percent)?;
-    if percent < 1 {
-        return Err(Fault::Unread);
-    }
-    Ok((number(count)?, percent))
+// The percentage of a load factor with which a table can be made.
+fn table_percent(word: &str) -> Result<Percent, Fault> {
+    Percent::new(percent(word)?).ok_or(Fault::Unread)
+}
+
+// So many items, and such a percentage.
+fn size(count: &str, of_percent: &str) -> Result<(usize, Percent), Fault> {
+    Ok((number(count)?, table_percent(of_percent)?))
 }
 
 fn needed<C: Config>(case: &Case<'_>, answer: &mut Answer) -> Result<(), Fault> {
@@ -175,7 +173,7 @@ fn needed<C: Config>(case: &Case<'_>, answer: &mut Answer) -> Result<(), Fault> 
         return Err(Fault::Unread);
     };
     let (items, percent) = size(*count, *of_percent)?;
-    answer.number(bytes_needed::<C>(items, percent))
+    answer.number(bytes_needed::<C>(items, percent.value()))
 }
 
 // How many bytes a table of so many slots has.
@@ -193,7 +191,7 @@ fn new_table<C: Config>(case: &Case<'_>, answer: &mut Answer) -> Result<(), Faul
     };
     let (items, percent) = size(*count, *of_percent)?;
     let bytes = OwnedBytes::new(vec![in case.words.alloc; 0xa7; number(*len)?]?);
-    match View::<C>::init_in_place(bytes, items, percent) {
+    match View::<C>::init_in_place(bytes, items, percent.value()) {
         Ok(table) => answer.table(table.raw_bytes()),
         Err(refused) => answer.word(&refused),
     }
@@ -206,7 +204,7 @@ fn with_capacity<C: Config>(case: &Case<'_>, answer: &mut Answer) -> Result<(), 
     };
     let (items, percent) = size(*count, *of_percent)?;
     let list = list::<C>(&case.words, pairs)?;
-    match HashTableOwned::<C>::with_capacity(case.words.alloc, items, percent) {
+    match HashTableOwned::<C>::with_capacity(case.words.alloc, items, percent.value()) {
         Ok(mut table) => {
             let outcome = table.insert_all(list.as_slice());
             answer.list(outcome, table.raw_bytes())
@@ -220,9 +218,9 @@ fn collected<C: Config>(case: &Case<'_>, answer: &mut Answer) -> Result<(), Faul
     let [of_percent, pairs @ ..] = case.args else {
         return Err(Fault::Unread);
     };
-    let (_, percent) = size("0", *of_percent)?;
+    let percent = table_percent(*of_percent)?;
     let list = list::<C>(&case.words, pairs)?;
-    let table = HashTableOwned::from_iterator(case.words.alloc, list.into_iter(), percent);
+    let table = HashTableOwned::from_iterator(case.words.alloc, list.into_iter(), percent.value());
     made::<C>(table, answer)
 }
 

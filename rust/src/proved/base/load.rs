@@ -41,7 +41,7 @@ impl Factor {
     }
 }
 
-/// A load factor in percent of the slots that a table can be made at, from 1 to 100. In a contract it is this number.
+/// A load factor in percent with which a table can be made: from 1 to 100. In a contract it is this number.
 #[derive(Debug, Clone, Copy, PartialEq, Eq)]
 pub struct Percent {
     value: u8,
@@ -61,12 +61,6 @@ impl Percent {
     #[inline]
     pub fn value(self) -> u8 {
         self.value
-    }
-
-    /// The load factor of so many percent, rounded down.
-    #[inline]
-    pub fn factor(self) -> Factor {
-        Factor::from_percent(self.value)
     }
 }
 

@@ -73,7 +73,7 @@ impl<'a> Header<'a> {
         self.check_length::<C>(raw_bytes_len)
     }
 
-    /// Whether the first four bytes are those of each table; else `WrongTag`.
+    /// Whether the first four bytes are those that every table begins with; else `WrongTag`.
     #[inline(always)]
     pub fn check_tag(&self) -> Result<(), Error> {
         let found = self.word(TAG_AT);
@@ -102,13 +102,13 @@ impl<'a> Header<'a> {
         [index!(bytes[at]), index!(bytes[at + 1]), index!(bytes[at + 2]), index!(bytes[at + 3])]
     }
 
-    /// Whether by the header a control byte takes one byte; else `WrongSizeOf`.
+    /// Whether the header says that a control byte takes one byte; else `WrongSizeOf`.
     #[inline(always)]
     pub fn check_metadata_size(&self) -> Result<(), Error> {
         self.check_expected_size(METADATA_SIZE_AT, Part::EntryMetadata, METADATA_SIZE)
     }
 
-    /// Whether by the header it has 32 bytes; else `WrongSizeOf`.
+    /// Whether the header says that it is 32 bytes long; else `WrongSizeOf`.
     #[inline(always)]
     pub fn check_header_size(&self) -> Result<(), Error> {
         self.check_expected_size(HEADER_SIZE_AT, Part::Header, HEADER_SIZE)
@@ -187,14 +187,14 @@ impl<'a> Header<'a> {
         Ok(())
     }
 
-    /// How many bytes a key has by the header.
+    /// The key size in the header, in bytes.
     #[inline]
     pub fn key_size(&self) -> u8 {
         let bytes = self.bytes;
         index!(bytes[KEY_SIZE_AT])
     }
 
-    /// How many bytes a value has by the header.
+    /// The value size in the header, in bytes.
     #[inline]
     pub fn value_size(&self) -> u8 {
         let bytes = self.bytes;

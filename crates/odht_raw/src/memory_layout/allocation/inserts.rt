@@ -1,5 +1,5 @@
 //! Inserts into the bytes of a table: what they need of the header is read first, then the parts are written, and last
-//! the item count, where it has changed.
+//! the item count: by a single insert where it added an entry, by a list in any case.
 ghost use Rattle.std.specs.Prelude.{◌≡◌, ◌-◌, ◌≤◌, length, IfOk};
 ghost use Rattle.odht_base.specs.Load.{max_items};
 ghost use Rattle.odht_base.specs.Table.{Table};
@@ -25,7 +25,7 @@ impl<C: Config, M: ByteStoreMut> Allocation<C, M> {
     /// nothing changed, where the search does not find the key and the header's item count is its maximum or more, or
     /// where it finds neither the key nor a free slot. A new entry raises the item count by one.
     ///
-    /// The header is read before the search alone, and the key is hashed once.
+    /// The header is read once, before the search, and the key is hashed once.
     #[inline(always)]
     pub fn insert_by<Q: Group>(
         &mut self,

@@ -9,8 +9,8 @@ use crate::proved::raw::load::Factor;
 use crate::proved::raw::raw_table::FREE;
 use crate::shim::Global;
 
-/// Makes a table of `slot_count` free slots in `data`, whatever its bytes were. The header's item count is `item_count`.
-/// Each byte is written.
+/// Makes a table of `slot_count` free slots in `data`, whatever its bytes were. The header's item count is
+/// `item_count`. Each byte is written.
 pub fn init_in_place<C: Config, M: ByteStoreMut>(
     mut data: M,
     slot_count: usize,

@@ -40,8 +40,8 @@ impl<'c, 'e, K: ByteArray, V: ByteArray, H: HashFn> RawTableMut<'c, 'e, K, V, H>
         self.insert_by::<GroupQuery>(key, value)
     }
 
-    /// `insert` by a group search of the caller's choice. On the parts of a table whose keys are all reached all searches
-    /// leave the same parts.
+    /// `insert` by a group search of the caller's choice. On the parts of a table whose keys are all reached all
+    /// searches leave the same parts.
     #[inline(always)]
     pub fn insert_by<Q: Group>(&mut self, key: K, value: V) -> Result<Option<V>, Error> {
         // As many entries may be added as there are free slots.
@@ -60,8 +60,8 @@ impl<'c, 'e, K: ByteArray, V: ByteArray, H: HashFn> RawTableMut<'c, 'e, K, V, H>
         self.place_by::<GroupQuery>(key, value)
     }
 
-    /// `place` by a group search of the caller's choice. On the parts of a table whose keys are all reached all searches
-    /// leave the same parts.
+    /// `place` by a group search of the caller's choice. On the parts of a table whose keys are all reached all
+    /// searches leave the same parts.
     #[inline(always)]
     pub fn place_by<Q: Group>(&mut self, key: K, value: V) -> Result<(), Error> {
         place_parts::<K, V, H, Q>(self.control, self.entries, key, value)
