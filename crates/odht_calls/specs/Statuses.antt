@@ -3,7 +3,7 @@
 --     done absent replaced bad_percent bad_lengths too_small unmade   the statuses that are no error of the library
 --     status_or_ok o       the status of an error, or `done` where there is none
 --     AreAsLong n a b      two arrays, of a and of b elements, have an element for each of n keys
-use Rattle.std.specs.Prelude.{◌≡◌, ◌≤◌, ℕ, Option, Some, None}
+use Rattle.std.specs.Prelude.{◌≡◌, ℕ, Option, Some, None}
 use Rattle.odht_header.specs.declared.error.Error.{Error}
 use Rattle.odht_header.specs.declared.error.Error.TheVariants.{TooShort, WrongTag, WrongVersion, WrongSizeOf, SlotCountNotPowerOfTwo, SlotCountTooSmall, WrongLength, NonZeroEmpty, ControlMismatch, LoadFactorTooSmall, NonZeroPadding, BadFreeControl, MirrorMismatch, WrongItemCount, TooManyItems, Unreachable, InitLength, Full, Memory, Capacity}
 

@@ -1,5 +1,5 @@
 -- Worked examples: the number of each status, as include/odht.h has it, and what calls require of their arguments.
-use Rattle.std.proofs.Common.{◌≡◌, ℕ, refl, lit≤, arith, List, Some, None}
+use Rattle.std.proofs.Common.{◌≡◌, ℕ, refl, arith, List, Some, None}
 use Rattle.odht_header.specs.declared.error.Error.TheVariants.{TooShort, WrongTag, WrongVersion, WrongSizeOf, SlotCountNotPowerOfTwo, SlotCountTooSmall, WrongLength, NonZeroEmpty, ControlMismatch, LoadFactorTooSmall, NonZeroPadding, BadFreeControl, MirrorMismatch, WrongItemCount, TooManyItems, Unreachable, InitLength, Full, Memory, Capacity}
 use Rattle.odht_header.specs.declared.error.Part.{Part}
 use Rattle.odht_calls.specs.Statuses.{status_of, done, absent, replaced, bad_percent, bad_lengths, too_small, unmade, status_or_ok, AreAsLong}

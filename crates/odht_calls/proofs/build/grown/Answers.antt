@@ -1,5 +1,4 @@
 use Rattle.std.proofs.Common.{rules, ◌≡◌, ◌↔◌, subst, take, length, List, IsOk}
-use Rattle.std.specs.List.{zip}
 use Rattle.odht_base.specs.Insert.{insert_owned}
 use Rattle.odht_base.specs.Table.{Table}
 use Rattle.odht_base.specs.Valid.{IsImage}
