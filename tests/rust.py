@@ -99,7 +99,7 @@ FAULTS = [
     ("src/proved/raw/raw_table/scan.rs", "start + 16", "start"),
     ("src/proved/raw/raw_table/scan.rs", "index!(control[start..start + 16])", "control[start..start + 15]"),
     ("src/proved/raw/raw_table/plain.rs", "return Search::Free(slot);", ""),
-    ("src/proved/tables/iter.rs", "self.raw.next()?", "self.raw.next()?; self.raw.next()?"),
+    ("src/proved/tables/iter.rs", "match self.raw.next()", "self.raw.next(); match self.raw.next()"),
     ("src/proved/raw/raw_table/insert.rs", "room == 0", "room == 1"),
     ("src/proved/tables/growth.rs", "'_", "'static"),
     ("src/proved/header/error.rs", "Table is full", "The table is full"),
