@@ -109,7 +109,7 @@ def main(*words):
     edits = sum(known.values())
     lanes = len(os.sched_getaffinity(0))
     print(f"proving {len(known)} crates from nothing, and trying {edits} edits that must be refused;")
-    print(f"on four processors expect thirty-five minutes; here are {lanes}", flush=True)
+    print(f"on four processors expect half an hour or less; here are {lanes}", flush=True)
     began, proved = time.monotonic(), []
     with tempfile.TemporaryDirectory(prefix="odht-prove-") as room:
         tree = f"{room}/word" if by_word else os.getcwd()
