@@ -136,7 +136,7 @@ pub enum Misuse {
     NoCommand,
     /// The first word is no command.
     UnknownCommand(String),
-    /// The words after a command are none of its words.
+    /// The words after a command cannot be parsed.
     InCommand(Topic, CommandMisuse),
     /// A table is to be built, and its shape is not given.
     NoParts,
@@ -158,7 +158,7 @@ pub enum CommandMisuse {
 }
 
 impl CommandMisuse {
-    // Writes it of this command.
+    // Writes what is wrong with the words of this command.
     fn write<W: fmt::Write>(&self, topic: Topic, f: &mut fmt::Formatter<W>) -> fmt::Result {
         match self {
             CommandMisuse::UnknownOption(word) => write!(
