@@ -111,6 +111,7 @@ UNDONE = {
     "room": (r"crate :: shim :: with_capacity", "Vec :: with_capacity"),
     "a list of items": (r"crate :: shim :: (collect|to_vec) \( (\w+) , ", r"\2 . \1 ( "),
     "memory": (r"(?<=use )crate :: shim", "std :: alloc"),
+    "a cut": (r"split_at_mut ! \( (\w+) , ", r"\1 . split_at_mut ( "),
     "a push": (r"list \. push \(", "list . push_reserved ("),
     "a formatter": (r"Formatter < '_ >", "Formatter < W >"),
     "an allocator of C": (r"\blet alloc = Global ; ", ""),

@@ -1,5 +1,6 @@
-//! Index expressions of which the proofs say that they are in bounds. Without the feature `fast` they are what Rust
-//! writes as `list[index]`, with its check. With it they are not checked, and with debug assertions each is asserted.
+//! Index expressions, and cuts of slices, of which the proofs say that they are in bounds. Without the feature `fast`
+//! they are what Rust writes as `list[index]` and `list.split_at_mut(index)`, with its check. With it they are not
+//! checked, and with debug assertions each is asserted.
 
 /// `list[index]`, to be read.
 #[cfg(not(feature = "fast"))]
@@ -14,6 +15,14 @@ macro_rules! index {
 macro_rules! index_mut {
     ($($list:ident).+ [$index:expr]) => {
         $($list).+[$index]
+    };
+}
+
+/// `list.split_at_mut(index)`.
+#[cfg(not(feature = "fast"))]
+macro_rules! split_at_mut {
+    ($list:ident, $index:expr) => {
+        $list.split_at_mut($index)
     };
 }
 
@@ -40,8 +49,19 @@ macro_rules! index_mut {
     };
 }
 
+/// `list.split_at_mut(index)`.
 #[cfg(feature = "fast")]
-pub(crate) use unchecked::{at, at_mut};
+macro_rules! split_at_mut {
+    ($list:ident, $index:expr) => {
+        match $index {
+            // SAFETY: as in `index!`.
+            index => unsafe { $crate::shim::index::split_at_mut(&mut $list[..], index) },
+        }
+    };
+}
+
+#[cfg(feature = "fast")]
+pub(crate) use unchecked::{at, at_mut, split_at_mut};
 
 #[cfg(feature = "fast")]
 #[allow(unsafe_code)]
@@ -76,5 +96,26 @@ mod unchecked {
         }
         // SAFETY: the caller says that the index is in bounds.
         unsafe { list.get_unchecked_mut(index) }
+    }
+
+    /// `list.split_at_mut(index)`.
+    ///
+    /// # Safety
+    ///
+    /// The index is at most the length.
+    #[inline(always)]
+    #[track_caller]
+    pub(crate) unsafe fn split_at_mut<T>(list: &mut [T], index: usize) -> (&mut [T], &mut [T]) {
+        if cfg!(debug_assertions) {
+            return list.split_at_mut(index);
+        }
+        let (start, rest) = (list.as_mut_ptr(), list.len().wrapping_sub(index));
+        // SAFETY: the caller says that the index is in bounds, so the two slices are parts of the list, and apart.
+        unsafe {
+            (
+                std::slice::from_raw_parts_mut(start, index),
+                std::slice::from_raw_parts_mut(start.add(index), rest),
+            )
+        }
     }
 }

@@ -1,4 +1,4 @@
-//! Index expressions.
+//! Index expressions, and cuts of slices.
 
 use crate::rules::Eraser;
 use crate::source::Done;
@@ -22,6 +22,18 @@ impl Eraser<'_> {
         self.source.replace(base, base, &first);
         self.source.replace(end, end, "])");
         Ok(Some(at))
+    }
+
+    /// `list.split_at_mut(index)` is `split_at_mut!(list, index)`.
+    pub fn cut(&mut self, at: usize) -> Done<Option<usize>> {
+        let is_cut =
+            self.source.kind(at) == Kind::Word && self.source.has(at + 1, ". split_at_mut (");
+        if !self.is_indexed || !is_cut {
+            return Ok(None);
+        }
+        let first = format!("split_at_mut!({},", self.source.text(at));
+        self.source.replace(at, at + 3, &first);
+        Ok(Some(at + 3))
     }
 
     // Whether the bracket at a place stands right behind a name.

@@ -15,7 +15,7 @@ const PLAN: Plan<'static> = Plan {
     ],
     dropped_traits: &["Model", "Coded", "Lossless"],
     dropped_modules: &["odht_base::laws", "odht::laws"],
-    // What lookups, inserts, walks and opening do most. Each index in them is in bounds by lengths alone.
+    // What lookups, inserts, walks and opening do most. Each index and cut in them is in bounds by lengths alone.
     indexed: &[
         "odht/lookups",
         "odht_base/bytes/arrays",
@@ -23,6 +23,7 @@ const PLAN: Plan<'static> = Plan {
         "odht_header/header",
         "odht_raw/items",
         "odht_raw/memory_layout/allocation",
+        "odht_raw/memory_layout/allocation/inserts",
         "odht_raw/raw_table",
         "odht_raw/raw_table/ahead",
         "odht_raw/raw_table/entries",
@@ -32,6 +33,7 @@ const PLAN: Plan<'static> = Plan {
         "odht_raw/raw_table/runs",
         "odht_raw/raw_table/scan",
         "odht_raw/raw_table/walk",
+        "odht_raw/writes",
     ],
 };
 

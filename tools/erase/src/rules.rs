@@ -24,12 +24,13 @@ pub struct Eraser<'e> {
 }
 
 impl<'e> Eraser<'e> {
-    const RULES: [Rule<'e>; 16] = [
+    const RULES: [Rule<'e>; 17] = [
         Self::ghost,
         Self::clause,
         Self::attribute,
         Self::export,
         Self::index,
+        Self::cut,
         Self::use_item,
         Self::final_function,
         Self::dropped_block,

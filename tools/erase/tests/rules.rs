@@ -130,6 +130,7 @@ fn texts_comments_and_operators_stay() {
 fn an_index_is_a_macro_in_the_files_of_the_plan() {
     for (source, wanted) in [
         ("fn f() { a[i] }", "fn f() { index!(a[i]) }"),
+        ("fn f() { a.split_at_mut(g(b[i])) }", "fn f() { split_at_mut!(a,g(index!(b[i]))) }"),
         ("fn f() { &self.a[i..j] }", "fn f() { &index!(self.a[i..j]) }"),
         (
             "fn f() { g(&mut a[i..i + b.len()]) }",

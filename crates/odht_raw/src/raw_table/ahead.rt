@@ -73,7 +73,16 @@ pub(crate) fn insert_ahead<K: ByteArray, V: ByteArray, H: HashFn>(
         in IsStepChange F V.of_bytes room entries.old control.old p result entries.new control.new }
 {
     let end = expected_end::<K, V, H>(control, entries, &key, hash, slot, room);
-    insert_at::<K, V, H>(control, entries, key, value, tag_of(hash), end, room)
+    let slots = control.len() - REFERENCE_GROUP_SIZE;
+    insert_at::<K, V, H>(
+        control,
+        entries,
+        slots,
+        key,
+        value,
+        (end, tag_of(hash)),
+        room,
+    )
 }
 
 // Where the search for the key ends. It was expected to end at this slot. Without room it is the whole search, which

@@ -1,4 +1,7 @@
 //! The insert of one pair into the parts of a table: one search, and the write where it ends.
+//!
+//! These functions take the slot count where their caller has it, though the control bytes have a length: so the
+//! compiler need not keep both.
 ghost use Rattle.std.specs.Prelude.{◌≡◌, ◌-◌, ◌*◌, ◌<◌, ◌++◌, length};
 ghost use Rattle.odht_base.specs.Bytes.{overwritten_at};
 ghost use Rattle.odht_base.specs.Format.{format_of, entry_len, tag as key_tag};
@@ -8,7 +11,9 @@ ghost use Rattle.odht_base.specs.Valid.{IsPartsOf};
 ghost use Rattle.odht_base.specs.Writes.{tagged};
 ghost use Rattle.odht_raw.specs.SearchResults.{answer};
 ghost use Rattle.odht_raw.specs.PartLengths.{ArePartLengths};
+ghost use Rattle.odht_raw.specs.Parts.{stored_in};
 ghost use Rattle.odht_raw.specs.PartsInserts.{AnswersFormer};
+ghost use Rattle.odht_raw.specs.Searches.{IsSearchEnd};
 ghost use Rattle.odht_raw.specs.Steps.{IsStepChange, IsStepEnd};
 
 use super::group_search::search_end;
@@ -42,42 +47,62 @@ pub(crate) fn insert_step<K: ByteArray, V: ByteArray, H: HashFn, Q: Group>(
         in IsStepChange F V.of_bytes room entries.old control.old p result entries.new control.new }
 {
     let slots = control.len() - REFERENCE_GROUP_SIZE;
-    let hash = H::hash(key.as_slice());
-    let stored: Entries<'_, K, V> = Entries::new(entries, slots);
-    let end = search_end::<K, V, H, Q>(control, &stored, &key, hash);
-    insert_at::<K, V, H>(control, entries, key, value, tag_of(hash), end, room)
+    let end = step_end::<K, V, H, Q>(control, entries, slots, &key);
+    insert_at::<K, V, H>(control, entries, slots, key, value, end, room)
 }
 
-/// Writes a pair where the search for its key ended: the value alone into the slot that holds the key, or, where there
-/// is room, the entry with its tag into the free slot. Answers the former value; or `Full`, with nothing changed,
-/// where there is no room for a new entry, or the search met neither slot.
+/// Where the search for a key that is inserted ends, and the key's tag.
+#[inline(always)]
+pub(crate) fn step_end<K: ByteArray, V: ByteArray, H: HashFn, Q: Group>(
+    control: &[EntryMetadata],
+    entries: &[u8],
+    slots: usize,
+    key: &K,
+) -> (Search, u8)
+    requires lengths { ArePartLengths H.MIN_LEN K.LEN V.LEN (length entries.now)
+        (length control.now) }
+    requires slots { slots ≡ length control.now - 16 }
+    ensures end { IsSearchEnd (format_of K.LEN V.LEN H.hash) (stored_in entries.now control.now)
+        control.now (K.bytes key.now) result.0 }
+    ensures tag { result.1 ≡ key_tag (format_of K.LEN V.LEN H.hash) (K.bytes key.now) }
+{
+    let hash = H::hash(key.as_slice());
+    let stored: Entries<'_, K, V> = Entries::new(entries, slots);
+    let end = search_end::<K, V, H, Q>(control, &stored, key, hash);
+    (end, tag_of(hash))
+}
+
+/// Writes a pair where the search for its key ended, which comes with the key's tag: the value alone into the slot
+/// that holds the key, or, where there is room, the entry with its tag into the free slot. Answers the former value; or
+/// `Full`, with nothing changed, where there is no room for a new entry, or the search met neither slot.
 #[inline(always)]
 pub(crate) fn insert_at<K: ByteArray, V: ByteArray, H: HashFn>(
     control: &mut [EntryMetadata],
     entries: &mut [u8],
+    slots: usize,
     key: K,
     value: V,
-    tag: u8,
-    end: Search,
+    end: (Search, u8),
     room: usize,
 ) -> Result<Option<V>, Error>
     requires lengths { ArePartLengths H.MIN_LEN K.LEN V.LEN (length entries.old)
         (length control.old) }
-    requires tag { tag ≡ key_tag (format_of K.LEN V.LEN H.hash) (K.bytes key) }
+    requires slots { slots ≡ length control.old - 16 }
+    requires tag { end.1 ≡ key_tag (format_of K.LEN V.LEN H.hash) (K.bytes key) }
     requires end { IsStepEnd (format_of K.LEN V.LEN H.hash) room entries.old control.old
-        (K.bytes key) end }
+        (K.bytes key) end.0 }
     ensures placed { let F = format_of K.LEN V.LEN H.hash
         in let p : Pair = record { key = K.bytes key; value = V.bytes value }
-        in (P : Table) → IsPartsOf F P entries.old control.old → end ≡ answer F P.cells p.key
+        in (P : Table) → IsPartsOf F P entries.old control.old → end.0 ≡ answer F P.cells p.key
         → AnswersFormer F V.of_bytes P p result entries.new control.new }
     ensures any { let p : Pair = record { key = K.bytes key; value = V.bytes value }
         in IsStepChange (format_of K.LEN V.LEN H.hash) V.of_bytes room entries.old control.old p
         result entries.new control.new }
 {
-    let slots = control.len() - REFERENCE_GROUP_SIZE;
-    let stored: Entries<'_, K, V> = Entries::new(entries, slots);
+    let (end, tag) = end;
     match end {
         Search::Found(slot) => {
+            let stored: Entries<'_, K, V> = Entries::new(entries, slots);
             let old = stored.get(slot).value;
             write_slice(entries, slot * (K::LEN + V::LEN) + K::LEN, value.as_slice());
             Ok(Some(old))
@@ -86,7 +111,7 @@ pub(crate) fn insert_at<K: ByteArray, V: ByteArray, H: HashFn>(
             if room == 0 {
                 return Err(Error::Full);
             }
-            fill_slot::<K, V, H>(control, entries, &key, &value, tag, slot);
+            fill_slot::<K, V, H>(control, entries, slots, &key, &value, tag, slot);
             Ok(None)
         }
         Search::Neither => Err(Error::Full),
@@ -98,6 +123,7 @@ pub(crate) fn insert_at<K: ByteArray, V: ByteArray, H: HashFn>(
 pub(crate) fn fill_slot<K: ByteArray, V: ByteArray, H: HashFn>(
     control: &mut [EntryMetadata],
     entries: &mut [u8],
+    slots: usize,
     key: &K,
     value: &V,
     tag: u8,
@@ -105,6 +131,7 @@ pub(crate) fn fill_slot<K: ByteArray, V: ByteArray, H: HashFn>(
 )
     requires lengths { ArePartLengths H.MIN_LEN K.LEN V.LEN (length entries.old)
         (length control.old) }
+    requires slots { slots ≡ length control.old - 16 }
     requires slot { slot < length control.old - 16 }
     requires tag { tag ≡ key_tag (format_of K.LEN V.LEN H.hash) (K.bytes key.now) }
     ensures entries { let at = slot * entry_len (format_of K.LEN V.LEN H.hash)
@@ -114,7 +141,6 @@ pub(crate) fn fill_slot<K: ByteArray, V: ByteArray, H: HashFn>(
     ensures key { IsBytes K.LEN (K.bytes key.now) }
     ensures value { IsBytes V.LEN (V.bytes value.now) }
 {
-    let slots = control.len() - REFERENCE_GROUP_SIZE;
     write_pair(entries, slot * (K::LEN + V::LEN), key, value);
     write_tag(control, 0, slots, slot, tag);
 }

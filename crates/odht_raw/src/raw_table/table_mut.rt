@@ -123,7 +123,8 @@ fn place_parts<K: ByteArray, V: ByteArray, H: HashFn, Q: Group>(
     let Some(slot) = first_free::<Q>(control, hash) else {
         return Err(Error::Full);
     };
-    fill_slot::<K, V, H>(control, entries, &key, &value, tag_of(hash), slot);
+    let slots = control.len() - REFERENCE_GROUP_SIZE;
+    fill_slot::<K, V, H>(control, entries, slots, &key, &value, tag_of(hash), slot);
     Ok(())
 }
 

@@ -29,8 +29,8 @@ pub(crate) fn write_tag(
     slot: usize,
     tag: EntryMetadata,
 ) {
-    bytes[control + slot] = tag;
+    index_mut!(bytes[control + slot]) = tag;
     if slot < REFERENCE_GROUP_SIZE {
-        bytes[control + (slots + slot)] = tag;
+        index_mut!(bytes[control + (slots + slot)]) = tag;
     }
 }

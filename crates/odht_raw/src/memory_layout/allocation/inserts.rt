@@ -1,5 +1,5 @@
-//! Inserts into the bytes of a table: what they need of the header is read first, then the parts are written, and last
-//! the item count: by a single insert where it added an entry, by a list in any case.
+//! Inserts into the bytes of a table: the parts are written, and last the item count: by a single insert where it added
+//! an entry, by a list in any case.
 ghost use Rattle.std.specs.Prelude.{◌≡◌, ◌-◌, ◌≤◌, length, IfOk};
 ghost use Rattle.odht_base.specs.Load.{max_items};
 ghost use Rattle.odht_base.specs.Table.{Table};
@@ -16,7 +16,7 @@ use crate::items::{Items, encode_pair};
 use crate::load::{Factor, max_item_count_for};
 use crate::memory_layout::check::hold_bytes;
 use crate::memory_layout::{HEADER_SIZE, Header, entry_at};
-use crate::raw_table::{insert_run, insert_step};
+use crate::raw_table::{insert_at, insert_run, step_end};
 use crate::swisstable_group_query::Group;
 use odht_header::header::ITEM_COUNT_AT;
 
@@ -25,7 +25,7 @@ impl<C: Config, M: ByteStoreMut> Allocation<C, M> {
     /// nothing changed, where the search does not find the key and the header's item count is its maximum or more, or
     /// where it finds neither the key nor a free slot. A new entry raises the item count by one.
     ///
-    /// The header is read once, before the search, and the key is hashed once.
+    /// The slot count is read before the search, the rest of the header after it, and the key is hashed once.
     #[inline(always)]
     pub fn insert_by<Q: Group>(
         &mut self,
@@ -82,14 +82,16 @@ fn insert_into_bytes<C: Config, Q: Group>(
 {
     hold_bytes(bytes);
     let (key, value) = encode_pair::<C>(key, value);
-    let header = Header::of(bytes);
-    let count = header.item_count();
-    let slots = header.slot_count();
-    let room = room_for(slots, header.max_load_factor(), count);
+    let slots = Header::of(bytes).slot_count();
     let (table, control) = bytes.split_at_mut(entry_at::<C>(slots));
     let (front, entries) = table.split_at_mut(HEADER_SIZE);
-    match insert_step::<C::EncodedKey, C::EncodedValue, C::H, Q>(
-        control, entries, key, value, room,
+    let end = step_end::<C::EncodedKey, C::EncodedValue, C::H, Q>(control, entries, slots, &key);
+    // Read after the search, which needs the registers.
+    let header = Header::of(front);
+    let count = header.item_count();
+    let room = room_for(slots, header.max_load_factor(), count);
+    match insert_at::<C::EncodedKey, C::EncodedValue, C::H>(
+        control, entries, slots, key, value, end, room,
     ) {
         Ok(Some(old)) => Ok(Some(C::decode_value(&old))),
         Ok(None) => {

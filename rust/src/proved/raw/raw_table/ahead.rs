@@ -47,7 +47,8 @@ pub(crate) fn insert_ahead<K: ByteArray, V: ByteArray, H: HashFn>(
     room: usize,
 ) -> Result<Option<V>, Error> {
     let end = expected_end::<K, V, H>(control, entries, &key, hash, slot, room);
-    insert_at::<K, V, H>(control, entries, key, value, tag_of(hash), end, room)
+    let slots = control.len() - REFERENCE_GROUP_SIZE;
+    insert_at::<K, V, H>(control, entries, slots, key, value, (end, tag_of(hash)), room)
 }
 
 // Where the search for the key ends. It was expected to end at this slot. Without room it is the whole search, which

@@ -1,5 +1,8 @@
 // Made by `make rust` of crates/odht_raw/src/raw_table/insert.rt.
 //! The insert of one pair into the parts of a table: one search, and the write where it ends.
+//!
+//! These functions take the slot count where their caller has it, though the control bytes have a length: so the
+//! compiler need not keep both.
 
 use super::group_search::search_end;
 use super::{tag_of, Entries, EntryMetadata, Search};
@@ -22,29 +25,41 @@ pub(crate) fn insert_step<K: ByteArray, V: ByteArray, H: HashFn, Q: Group>(
     room: usize,
 ) -> Result<Option<V>, Error> {
     let slots = control.len() - REFERENCE_GROUP_SIZE;
-    let hash = H::hash(key.as_slice());
-    let stored: Entries<'_, K, V> = Entries::new(entries, slots);
-    let end = search_end::<K, V, H, Q>(control, &stored, &key, hash);
-    insert_at::<K, V, H>(control, entries, key, value, tag_of(hash), end, room)
+    let end = step_end::<K, V, H, Q>(control, entries, slots, &key);
+    insert_at::<K, V, H>(control, entries, slots, key, value, end, room)
 }
 
-/// Writes a pair where the search for its key ended: the value alone into the slot that holds the key, or, where there
-/// is room, the entry with its tag into the free slot. Answers the former value; or `Full`, with nothing changed,
-/// where there is no room for a new entry, or the search met neither slot.
+/// Where the search for a key that is inserted ends, and the key's tag.
+#[inline(always)]
+pub(crate) fn step_end<K: ByteArray, V: ByteArray, H: HashFn, Q: Group>(
+    control: &[EntryMetadata],
+    entries: &[u8],
+    slots: usize,
+    key: &K,
+) -> (Search, u8) {
+    let hash = H::hash(key.as_slice());
+    let stored: Entries<'_, K, V> = Entries::new(entries, slots);
+    let end = search_end::<K, V, H, Q>(control, &stored, key, hash);
+    (end, tag_of(hash))
+}
+
+/// Writes a pair where the search for its key ended, which comes with the key's tag: the value alone into the slot
+/// that holds the key, or, where there is room, the entry with its tag into the free slot. Answers the former value; or
+/// `Full`, with nothing changed, where there is no room for a new entry, or the search met neither slot.
 #[inline(always)]
 pub(crate) fn insert_at<K: ByteArray, V: ByteArray, H: HashFn>(
     control: &mut [EntryMetadata],
     entries: &mut [u8],
+    slots: usize,
     key: K,
     value: V,
-    tag: u8,
-    end: Search,
+    end: (Search, u8),
     room: usize,
 ) -> Result<Option<V>, Error> {
-    let slots = control.len() - REFERENCE_GROUP_SIZE;
-    let stored: Entries<'_, K, V> = Entries::new(entries, slots);
+    let (end, tag) = end;
     match end {
         Search::Found(slot) => {
+            let stored: Entries<'_, K, V> = Entries::new(entries, slots);
             let old = stored.get(slot).value;
             write_slice(entries, slot * (K::LEN + V::LEN) + K::LEN, value.as_slice());
             Ok(Some(old))
@@ -53,7 +68,7 @@ pub(crate) fn insert_at<K: ByteArray, V: ByteArray, H: HashFn>(
             if room == 0 {
                 return Err(Error::Full);
             }
-            fill_slot::<K, V, H>(control, entries, &key, &value, tag, slot);
+            fill_slot::<K, V, H>(control, entries, slots, &key, &value, tag, slot);
             Ok(None)
         }
         Search::Neither => Err(Error::Full),
@@ -65,12 +80,12 @@ pub(crate) fn insert_at<K: ByteArray, V: ByteArray, H: HashFn>(
 pub(crate) fn fill_slot<K: ByteArray, V: ByteArray, H: HashFn>(
     control: &mut [EntryMetadata],
     entries: &mut [u8],
+    slots: usize,
     key: &K,
     value: &V,
     tag: u8,
     slot: usize,
 ) {
-    let slots = control.len() - REFERENCE_GROUP_SIZE;
     write_pair(entries, slot * (K::LEN + V::LEN), key, value);
     write_tag(control, 0, slots, slot, tag);
 }

@@ -44,7 +44,7 @@ pub fn plain_insert<K: ByteArray, V: ByteArray, H: HashFn>(
     let hash = H::hash(key.as_slice());
     let stored: Entries<'_, K, V> = Entries::new(entries, slots);
     let end = plain_search::<K, V, H>(control, &stored, &key, hash);
-    insert_at::<K, V, H>(control, entries, key, value, tag_of(hash), end, usize::MAX)
+    insert_at::<K, V, H>(control, entries, slots, key, value, (end, tag_of(hash)), usize::MAX)
 }
 
 // Searches for the key with this hash slot by slot along its probe order, and stops at the first slot that is free or

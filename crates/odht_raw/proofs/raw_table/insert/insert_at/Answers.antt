@@ -40,7 +40,7 @@ overflow_mul-slot g c =
     let F : Format = format_of g.K.ByteArray.LEN g.V.ByteArray.LEN g.H.HashFn.hash in
     let es = c.args.entries.now in
     let ctrl = c.args.control.now in
-    let low = found_low F es ctrl (g.K.ByteArray.bytes c.args.key) c.args.end c.in-Found.slot c.in-Found.is c.requires.end.slot in
+    let low = found_low F es ctrl (g.K.ByteArray.bytes c.args.key) c.args.end.0 c.in-Found.slot c.in-Found.is c.requires.end.slot in
     rw (c.LEN.ensures, c.LEN-in-Found.ensures) (omega (arith, within F es ctrl c.in-Found.slot c.requires.lengths.entries low))
 
 pub overflow_add-slot : goal.overflow_add-slot
@@ -48,7 +48,7 @@ overflow_add-slot g c =
     let F : Format = format_of g.K.ByteArray.LEN g.V.ByteArray.LEN g.H.HashFn.hash in
     let es = c.args.entries.now in
     let ctrl = c.args.control.now in
-    let low = found_low F es ctrl (g.K.ByteArray.bytes c.args.key) c.args.end c.in-Found.slot c.in-Found.is c.requires.end.slot in
+    let low = found_low F es ctrl (g.K.ByteArray.bytes c.args.key) c.args.end.0 c.in-Found.slot c.in-Found.is c.requires.end.slot in
     rw (c.LEN.ensures, c.LEN-in-Found.ensures, c.LEN-in-Found-2.ensures) (omega (arith, within F es ctrl c.in-Found.slot c.requires.lengths.entries low))
 
 pub write_slice-requires : goal.write_slice-requires
@@ -56,14 +56,14 @@ write_slice-requires g c =
     let F : Format = format_of g.K.ByteArray.LEN g.V.ByteArray.LEN g.H.HashFn.hash in
     let es = c.args.entries.now in
     let ctrl = c.args.control.now in
-    let low = found_low F es ctrl (g.K.ByteArray.bytes c.args.key) c.args.end c.in-Found.slot c.in-Found.is c.requires.end.slot in
+    let low = found_low F es ctrl (g.K.ByteArray.bytes c.args.key) c.args.end.0 c.in-Found.slot c.in-Found.is c.requires.end.slot in
     rw (c.LEN.ensures, c.LEN-in-Found.ensures, c.LEN-in-Found-2.ensures)
     (omega (arith, within F es ctrl c.in-Found.slot c.requires.lengths.entries low, ap length c.as_slice.ensures.value, c.as_slice.ensures.bytes.len))
 
 pub fill_slot-requires-clause-slot : goal.fill_slot-requires-clause-slot
 fill_slot-requires-clause-slot g c κs within =
     let F : Format = format_of g.K.ByteArray.LEN g.V.ByteArray.LEN g.H.HashFn.hash in
-    free_low F c.args.entries.now c.args.control.now (g.K.ByteArray.bytes c.args.key) c.args.end c.in-Free.slot c.in-Free.is c.requires.end.slot
+    free_low F c.args.entries.now c.args.control.now (g.K.ByteArray.bytes c.args.key) c.args.end.0 c.in-Free.slot c.in-Free.is c.requires.end.slot
 
 pub returns-in-Found-clause-placed : goal.returns-in-Found-clause-placed
 returns-in-Found-clause-placed g c P h e =

@@ -1,6 +1,6 @@
 // Made by `make rust` of crates/odht_raw/src/memory_layout/allocation/inserts.rt.
-//! Inserts into the bytes of a table: what they need of the header is read first, then the parts are written, and last
-//! the item count: by a single insert where it added an entry, by a list in any case.
+//! Inserts into the bytes of a table: the parts are written, and last the item count: by a single insert where it added
+//! an entry, by a list in any case.
 
 use super::Allocation;
 use crate::proved::header::header::ITEM_COUNT_AT;
@@ -11,7 +11,7 @@ use crate::proved::raw::items::{encode_pair, Items};
 use crate::proved::raw::load::{max_item_count_for, Factor};
 use crate::proved::raw::memory_layout::check::hold_bytes;
 use crate::proved::raw::memory_layout::{entry_at, Header, HEADER_SIZE};
-use crate::proved::raw::raw_table::{insert_run, insert_step};
+use crate::proved::raw::raw_table::{insert_at, insert_run, step_end};
 use crate::proved::raw::swisstable_group_query::Group;
 
 impl<C: Config, M: ByteStoreMut> Allocation<C, M> {
@@ -19,7 +19,7 @@ impl<C: Config, M: ByteStoreMut> Allocation<C, M> {
     /// nothing changed, where the search does not find the key and the header's item count is its maximum or more, or
     /// where it finds neither the key nor a free slot. A new entry raises the item count by one.
     ///
-    /// The header is read once, before the search, and the key is hashed once.
+    /// The slot count is read before the search, the rest of the header after it, and the key is hashed once.
     #[inline(always)]
     pub fn insert_by<Q: Group>(
         &mut self,
@@ -52,14 +52,17 @@ fn insert_into_bytes<C: Config, Q: Group>(
 ) -> Result<Option<C::Value>, Error> {
     hold_bytes(bytes);
     let (key, value) = encode_pair::<C>(key, value);
-    let header = Header::of(bytes);
+    let slots = Header::of(bytes).slot_count();
+    let (table, control) = split_at_mut!(bytes, entry_at::<C>(slots));
+    let (front, entries) = split_at_mut!(table, HEADER_SIZE);
+    let end = step_end::<C::EncodedKey, C::EncodedValue, C::H, Q>(control, entries, slots, &key);
+    // Read after the search, which needs the registers.
+    let header = Header::of(front);
     let count = header.item_count();
-    let slots = header.slot_count();
     let room = room_for(slots, header.max_load_factor(), count);
-    let (table, control) = bytes.split_at_mut(entry_at::<C>(slots));
-    let (front, entries) = table.split_at_mut(HEADER_SIZE);
-    match insert_step::<C::EncodedKey, C::EncodedValue, C::H, Q>(control, entries, key, value, room)
-    {
+    match insert_at::<C::EncodedKey, C::EncodedValue, C::H>(
+        control, entries, slots, key, value, end, room,
+    ) {
         Ok(Some(old)) => Ok(Some(C::decode_value(&old))),
         Ok(None) => {
             write_count(front, count + 1);
@@ -81,8 +84,8 @@ fn run_in_bytes<C: Config, I: Items<C::Key, C::Value>>(
     let count = header.item_count();
     let slots = header.slot_count();
     let room = room_for(slots, header.max_load_factor(), count);
-    let (table, control) = bytes.split_at_mut(entry_at::<C>(slots));
-    let (front, entries) = table.split_at_mut(HEADER_SIZE);
+    let (table, control) = split_at_mut!(bytes, entry_at::<C>(slots));
+    let (front, entries) = split_at_mut!(table, HEADER_SIZE);
     let (end, added) = insert_run::<C, I>(control, entries, items, from, room);
     write_count(front, count + added);
     end
