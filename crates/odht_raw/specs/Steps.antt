@@ -1,5 +1,6 @@
 -- What an insert of a pair p with room for m new entries does to the parts of a table.
 --     IsStepEnd F m es ctrl k r  r is where a search for k ends; without room it also says what comes before
+--     IsTaggedEnd F m es ctrl k r  r is such an end, with the tag of k
 --     StepFrame F m es ctrl p a es' ctrl'  without room the answer may be Full, with nothing changed, where a search
 --                          slot by slot can end without the key; or an insert does what PartsFrame says, and adds an
 --                          entry only where there is room
@@ -7,7 +8,7 @@
 --     IsStepChange F f m es ctrl p r es' ctrl'  this frame; Full is the only error and changes nothing
 use Rattle.std.specs.Prelude.{◌≡◌, ℕ, ◌<◌, List, Option, option_map, None, Result, Ok, Err}
 use Rattle.std.specs.Result.{result_map_both}
-use Rattle.odht_base.specs.Format.{Format}
+use Rattle.odht_base.specs.Format.{Format, tag as key_tag}
 use Rattle.odht_base.specs.Table.{Pair}
 use Rattle.odht_raw.specs.ControlBytes.{IsMissing}
 use Rattle.odht_raw.specs.Frame.{PartsFrame, IsOnlyFull}
@@ -20,6 +21,10 @@ use Rattle.odht_raw.specs.declared.raw_table.search_result.Search.{Search}
 pub record IsStepEnd (F : Format) (m : ℕ) (es ctrl k : List ℕ) (r : Search) : Type 0 where
   pub slot : IsEnd F (stored_in es ctrl) ctrl k r
   pub earlier : m ≡ 0 → IsAfter F (stored_in es ctrl) ctrl k r
+
+pub record IsTaggedEnd (F : Format) (m : ℕ) (es ctrl k : List ℕ) (r : Search × ℕ) : Type 0 where
+  pub end : IsStepEnd F m es ctrl k r.0
+  pub tag : r.1 ≡ key_tag F k
 
 pub data StepFrame (F : Format) (m : ℕ) (es ctrl : List ℕ) (p : Pair) : Result (Option (List ℕ)) Error → List ℕ → List ℕ → Type 0 where
   no_room : m ≡ 0 → IsMissing F (stored_in es ctrl) ctrl p.key → StepFrame F m es ctrl p (Err Full) es ctrl

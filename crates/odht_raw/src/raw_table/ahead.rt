@@ -108,12 +108,8 @@ fn expected_end<K: ByteArray, V: ByteArray, H: HashFn>(
         (K.bytes key.now) result }
 {
     let slots = control.len() - REFERENCE_GROUP_SIZE;
-    if room > 0 {
-        if slot < slots {
-            if is_empty_or_deleted(control[slot]) {
-                return Search::Free(slot);
-            }
-        }
+    if room > 0 && slot < slots && is_empty_or_deleted(control[slot]) {
+        return Search::Free(slot);
     }
     whole_search::<K, V, H>(control, &Entries::new(entries, slots), key, hash)
 }

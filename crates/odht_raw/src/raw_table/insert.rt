@@ -14,7 +14,7 @@ ghost use Rattle.odht_raw.specs.PartLengths.{ArePartLengths};
 ghost use Rattle.odht_raw.specs.Parts.{stored_in};
 ghost use Rattle.odht_raw.specs.PartsInserts.{AnswersFormer};
 ghost use Rattle.odht_raw.specs.Searches.{IsSearchEnd};
-ghost use Rattle.odht_raw.specs.Steps.{IsStepChange, IsStepEnd};
+ghost use Rattle.odht_raw.specs.Steps.{IsStepChange, IsTaggedEnd};
 
 use super::group_search::search_end;
 use super::{Entries, EntryMetadata, Search, tag_of};
@@ -88,9 +88,8 @@ pub(crate) fn insert_at<K: ByteArray, V: ByteArray, H: HashFn>(
     requires lengths { ArePartLengths H.MIN_LEN K.LEN V.LEN (length entries.old)
         (length control.old) }
     requires slots { slots ≡ length control.old - 16 }
-    requires tag { end.1 ≡ key_tag (format_of K.LEN V.LEN H.hash) (K.bytes key) }
-    requires end { IsStepEnd (format_of K.LEN V.LEN H.hash) room entries.old control.old
-        (K.bytes key) end.0 }
+    requires end { IsTaggedEnd (format_of K.LEN V.LEN H.hash) room entries.old control.old
+        (K.bytes key) end }
     ensures placed { let F = format_of K.LEN V.LEN H.hash
         in let p : Pair = record { key = K.bytes key; value = V.bytes value }
         in (P : Table) → IsPartsOf F P entries.old control.old → end.0 ≡ answer F P.cells p.key

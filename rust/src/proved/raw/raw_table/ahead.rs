@@ -63,12 +63,8 @@ fn expected_end<K: ByteArray, V: ByteArray, H: HashFn>(
     room: usize,
 ) -> Search {
     let slots = control.len() - REFERENCE_GROUP_SIZE;
-    if room > 0 {
-        if slot < slots {
-            if is_empty_or_deleted(index!(control[slot])) {
-                return Search::Free(slot);
-            }
-        }
+    if room > 0 && slot < slots && is_empty_or_deleted(index!(control[slot])) {
+        return Search::Free(slot);
     }
     whole_search::<K, V, H>(control, &Entries::new(entries, slots), key, hash)
 }

@@ -40,7 +40,7 @@ overflow_mul-slot g c =
     let F : Format = format_of g.K.ByteArray.LEN g.V.ByteArray.LEN g.H.HashFn.hash in
     let es = c.args.entries.now in
     let ctrl = c.args.control.now in
-    let low = found_low F es ctrl (g.K.ByteArray.bytes c.args.key) c.args.end.0 c.in-Found.slot c.in-Found.is c.requires.end.slot in
+    let low = found_low F es ctrl (g.K.ByteArray.bytes c.args.key) c.args.end.0 c.in-Found.slot c.in-Found.is c.requires.end.end.slot in
     rw (c.LEN.ensures, c.LEN-in-Found.ensures) (omega (arith, within F es ctrl c.in-Found.slot c.requires.lengths.entries low))
 
 pub overflow_add-slot : goal.overflow_add-slot
@@ -48,7 +48,7 @@ overflow_add-slot g c =
     let F : Format = format_of g.K.ByteArray.LEN g.V.ByteArray.LEN g.H.HashFn.hash in
     let es = c.args.entries.now in
     let ctrl = c.args.control.now in
-    let low = found_low F es ctrl (g.K.ByteArray.bytes c.args.key) c.args.end.0 c.in-Found.slot c.in-Found.is c.requires.end.slot in
+    let low = found_low F es ctrl (g.K.ByteArray.bytes c.args.key) c.args.end.0 c.in-Found.slot c.in-Found.is c.requires.end.end.slot in
     rw (c.LEN.ensures, c.LEN-in-Found.ensures, c.LEN-in-Found-2.ensures) (omega (arith, within F es ctrl c.in-Found.slot c.requires.lengths.entries low))
 
 pub write_slice-requires : goal.write_slice-requires
@@ -56,14 +56,14 @@ write_slice-requires g c =
     let F : Format = format_of g.K.ByteArray.LEN g.V.ByteArray.LEN g.H.HashFn.hash in
     let es = c.args.entries.now in
     let ctrl = c.args.control.now in
-    let low = found_low F es ctrl (g.K.ByteArray.bytes c.args.key) c.args.end.0 c.in-Found.slot c.in-Found.is c.requires.end.slot in
+    let low = found_low F es ctrl (g.K.ByteArray.bytes c.args.key) c.args.end.0 c.in-Found.slot c.in-Found.is c.requires.end.end.slot in
     rw (c.LEN.ensures, c.LEN-in-Found.ensures, c.LEN-in-Found-2.ensures)
     (omega (arith, within F es ctrl c.in-Found.slot c.requires.lengths.entries low, ap length c.as_slice.ensures.value, c.as_slice.ensures.bytes.len))
 
 pub fill_slot-requires-clause-slot : goal.fill_slot-requires-clause-slot
 fill_slot-requires-clause-slot g c κs within =
     let F : Format = format_of g.K.ByteArray.LEN g.V.ByteArray.LEN g.H.HashFn.hash in
-    free_low F c.args.entries.now c.args.control.now (g.K.ByteArray.bytes c.args.key) c.args.end.0 c.in-Free.slot c.in-Free.is c.requires.end.slot
+    free_low F c.args.entries.now c.args.control.now (g.K.ByteArray.bytes c.args.key) c.args.end.0 c.in-Free.slot c.in-Free.is c.requires.end.end.slot
 
 pub returns-in-Found-clause-placed : goal.returns-in-Found-clause-placed
 returns-in-Found-clause-placed g c P h e =
@@ -96,7 +96,7 @@ returns-in-Found-clause-any g c =
     let es = c.args.entries.now in
     let ctrl = c.args.control.now in
     let slot = c.in-Found.slot in
-    let known = subst (IsEnd F (stored_in es ctrl) ctrl p.key) c.in-Found.is c.requires.end.slot in
+    let known = subst (IsEnd F (stored_in es ctrl) ctrl p.key) c.in-Found.is c.requires.end.end.slot in
     let old = rw c.new-stored.ensures at c.get-old.ensures.value in
     let bytes : c.write_slice.new.all ≡ overwritten_at es (slot * entry_len F + F.key_len) p.value =
     c.write_slice.ensures ∙ (λ i. overwritten_at es (slot * (c.LEN.ensures i + c.LEN-in-Found.ensures i) + c.LEN-in-Found-2.ensures i) (c.as_slice.ensures.value i)) in
@@ -116,8 +116,8 @@ returns-then-room-eq0-clause-any g c =
     let k : List ℕ = g.K.ByteArray.bytes c.args.key in
     let stored = stored_in c.args.entries.now c.args.control.now in
     let ctrl = c.args.control.now in
-    let known = subst (IsEnd F stored ctrl k) c.in-Free.is c.requires.end.slot in
-    let earlier = subst (IsAfter F stored ctrl k) c.in-Free.is (c.requires.end.earlier c.if-room-eq0.true) in
+    let known = subst (IsEnd F stored ctrl k) c.in-Free.is c.requires.end.end.slot in
+    let earlier = subst (IsAfter F stored ctrl k) c.in-Free.is (c.requires.end.end.earlier c.if-room-eq0.true) in
     record { frame = (Err Full, refl, StepFrame.no_room c.if-room-eq0.true (missing-free F stored ctrl k c.in-Free.slot known earlier)); errors = record { only_full = refl; refused_control = refl; refused_entries = refl } }
 
 pub returns-else-room-eq0-clause-any : goal.returns-else-room-eq0-clause-any
@@ -127,7 +127,7 @@ returns-else-room-eq0-clause-any g c =
     let es = c.args.entries.now in
     let ctrl = c.args.control.now in
     let slot = c.in-Free.slot in
-    let known = subst (IsEnd F (stored_in es ctrl) ctrl p.key) c.in-Free.is c.requires.end.slot in
+    let known = subst (IsEnd F (stored_in es ctrl) ctrl p.key) c.in-Free.is c.requires.end.end.slot in
     let some : 0 < c.args.room = omega (arith, c.if-room-eq0.false) in
     let framed : StepFrame F c.args.room es ctrl p (Ok None) c.fill_slot.new.entries c.fill_slot.new.control =
     StepFrame.framed (Ok None) c.fill_slot.new.entries c.fill_slot.new.control (λ e. some) (rw (c.fill_slot.ensures.control, c.fill_slot.ensures.entries) (PartsFrame.added slot known.0 known.1)) in
@@ -139,6 +139,6 @@ returns-in-Neither-clause-any g c =
     let k : List ℕ = g.K.ByteArray.bytes c.args.key in
     let es = c.args.entries.now in
     let ctrl = c.args.control.now in
-    let known = subst (IsEnd F (stored_in es ctrl) ctrl k) c.in-Neither.is c.requires.end.slot in
+    let known = subst (IsEnd F (stored_in es ctrl) ctrl k) c.in-Neither.is c.requires.end.end.slot in
     let frame = StepFrame.framed (Err Full) es ctrl (λ e. cc) (PartsFrame.no_slot known.0 (missing-neither F (stored_in es ctrl) ctrl k known.1)) in
     record { frame = (Err Full, refl, frame); errors = record { only_full = refl; refused_control = refl; refused_entries = refl } }

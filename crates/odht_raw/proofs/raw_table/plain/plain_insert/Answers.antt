@@ -1,4 +1,4 @@
-use Rattle.std.proofs.Common.{◌<◌, ◌-◌, ◌+◌, ◌≡◌, arith, length}
+use Rattle.std.proofs.Common.{rules, ◌<◌, ◌-◌, ◌+◌, ◌≡◌, arith, length}
 use Rattle.odht_base.specs.Format.{Format, format_of}
 use Rattle.odht_base.specs.Table.{Pair}
 use Rattle.odht_header.proofs.lemmas.Formats.{IsFormat-format_of}
@@ -33,6 +33,9 @@ insert_at-requires-clause-end g c κs within =
     let ctrl = c.args.control.now in
     let end = rw c.new-stored.ensures at c.plain_search-end.ensures.slot in
     record {
-      slot = plain-end F (stored_in c.args.entries.now ctrl) ctrl (g.K.ByteArray.bytes c.args.key) c.plain_search-end.result (omega (arith, c.requires.slots.least)) end;
-      earlier = λ none. absurd (omega (arith, none));
+      end = record {
+        slot = plain-end F (stored_in c.args.entries.now ctrl) ctrl (g.K.ByteArray.bytes c.args.key) c.plain_search-end.result (omega (arith, c.requires.slots.least)) end;
+        earlier = λ none. absurd (omega (arith, none));
+      };
+      tag = search rules;
     }

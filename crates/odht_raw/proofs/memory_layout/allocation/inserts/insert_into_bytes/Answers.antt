@@ -77,7 +77,10 @@ pub insert_at-requires-clause-slots : goal.insert_at-requires-clause-slots
 insert_at-requires-clause-slots g c κs within = slots_are g (goal.at.insert_at-requires-clause-slots g c).After-split_at_mut-front
 
 pub insert_at-requires-clause-end : goal.insert_at-requires-clause-end
-insert_at-requires-clause-end g c κs within = record { slot = c.step_end-end.ensures.end.slot; earlier = λ none. c.step_end-end.ensures.end.earlier }
+insert_at-requires-clause-end g c κs within = record {
+  end = record { slot = c.step_end-end.ensures.end.slot; earlier = λ none. c.step_end-end.ensures.end.earlier };
+  tag = c.step_end-end.ensures.tag;
+}
 
 -- the coding of the configuration
 abbrev coding : (g : Over) → Coding g.row.C-Key.Denot g.row.C-Value.Denot
