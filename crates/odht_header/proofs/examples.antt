@@ -5,6 +5,8 @@ pub mod Opened
 pub mod Apart
 -- forged headers and cut bytes
 pub mod Refused
+-- tables at the front of longer bytes
+pub mod Prefixes
 -- each header byte set to each of its values
 pub mod HeaderBytes
 -- bytes that a view accepts and the whole check rejects

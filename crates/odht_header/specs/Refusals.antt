@@ -6,6 +6,9 @@
 --     first_slot f n               the first of the errors that f gives for the first n slots
 --     header_refusal F n B         of the header, for n bytes in all: tag, version, sizes, slot count, length
 --     opening_refusal F B          of opening by header and length: too few bytes, then the header
+--     front_header_refusal F n B   of the header of a table that more may follow, for n bytes in all: the same, but the
+--                                  length only where there are fewer bytes than the table has
+--     prefix_refusal F B           of a table at the front of B: too few bytes for a header, then this
 --     hashes_refusal F es ctrl n   of the first n slots, as opening a view checks them: an entry that is not zeros in a
 --                                  slot that counts as free, or a control byte that is not the key's tag
 --     view_refusal F B             of opening a view: opening_refusal, then the first ten slots
@@ -20,7 +23,7 @@
 --     IsTooLarge F n f             no slot count is enough for n items at f, or a table of the least one has 2 ^ 64
 --                                  bytes or more
 --     checked o                    the answer of a check whose error is o
-use Rattle.std.specs.Prelude.{◌≡◌, ◌≤◌, Result, Ok, Err, ℕ, ◌+◌, ◌-◌, ◌^◌, min, Bool, not, ◌&&◌, nat_le, nat_lt, ◌==◌, List, [], ◌∷◌, length, map, bytes_eq, slice_index, Option, Some, None}
+use Rattle.std.specs.Prelude.{◌≡◌, ◌≤◌, Result, Ok, Err, ℕ, ◌+◌, ◌-◌, ◌^◌, min, Bool, not, ◌&&◌, nat_le, nat_lt, ◌==◌, List, [], ◌∷◌, ◌++◌, length, map, bytes_eq, slice_index, Option, Some, None}
 use Rattle.std.specs.List.{range_with_len, list_all}
 use Rattle.std.specs.Option.{option_or, option_map_or}
 use Rattle.std.specs.Bool.{then_some}
@@ -69,9 +72,13 @@ few_slots_refusal B = nat_lt (header_slots B) 16 gives SlotCountTooSmall (header
 abbrev pub length_refusal : Format → ℕ → List ℕ → Option Error
 length_refusal F n B = differs n (image_len F (header_slots B)) gives WrongLength (header_slots B) n (image_len F (header_slots B))
 
--- the errors of the fields; B has at least 32 bytes and is the front of n bytes
-abbrev pub header_refusals : Format → ℕ → List ℕ → List (Option Error)
-header_refusals F n B =
+-- n bytes are too few for the table
+abbrev pub cut_refusal : Format → ℕ → List ℕ → Option Error
+cut_refusal F n B = nat_lt n (image_len F (header_slots B)) gives WrongLength (header_slots B) n (image_len F (header_slots B))
+
+-- the errors of the fields alone; B has at least 32 bytes
+abbrev pub field_refusals : Format → List ℕ → List (Option Error)
+field_refusals F B =
     tag_refusal B
     ∷ version_refusal B
     ∷ wrong_size B 4 EntryMetadata 1
@@ -80,15 +87,29 @@ header_refusals F n B =
     ∷ wrong_size B 7 Header 32
     ∷ power_refusal B
     ∷ few_slots_refusal B
-    ∷ length_refusal F n B
     ∷ []
+
+unfoldable pub field_refusal : Format → List ℕ → Option Error
+field_refusal F B = first_of (field_refusals F B)
+
+-- and then of the length; B is the front of n bytes
+abbrev pub header_refusals : Format → ℕ → List ℕ → List (Option Error)
+header_refusals F n B = field_refusals F B ++ (length_refusal F n B ∷ [])
 
 unfoldable pub header_refusal : Format → ℕ → List ℕ → Option Error
 header_refusal F n B = first_of (header_refusals F n B)
 
+-- the same where more may follow the table
+unfoldable pub front_header_refusal : Format → ℕ → List ℕ → Option Error
+front_header_refusal F n B = first_of (field_refusals F B ++ (cut_refusal F n B ∷ []))
+
 -- the error of opening before any slot is read
 unfoldable pub opening_refusal : Format → List ℕ → Option Error
 opening_refusal F B = option_or (nat_lt (length B) 32 gives TooShort (length B)) (header_refusal F (length B) B)
+
+-- that of a table at the front of the bytes
+unfoldable pub prefix_refusal : Format → List ℕ → Option Error
+prefix_refusal F B = option_or (nat_lt (length B) 32 gives TooShort (length B)) (front_header_refusal F (length B) B)
 
 -- the errors of one slot of the parts
 abbrev pub non_zero_empty : Format → List ℕ → List ℕ → ℕ → Option Error

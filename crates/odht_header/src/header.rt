@@ -1,21 +1,23 @@
 //! The header of a table: its fields at their offsets, how it is written, and how it is checked.
 //!
 //! The fields are those of docs/FORMAT.md, "Layout".
-ghost use Rattle.std.specs.Prelude.{◌≡◌, ◌+◌, ◌-◌, ◌*◌, ◌<◌, ◌≤◌, length, slice_index};
+ghost use Rattle.std.specs.Prelude.{◌≡◌, ◌+◌, ◌-◌, ◌*◌, ◌<◌, ◌≤◌, length, slice_index, IfOk};
 ghost use Rattle.odht_base.specs.Bytes.{bytes_at};
-ghost use Rattle.odht_base.specs.Image.{header_bytes};
+ghost use Rattle.odht_base.specs.Image.{header_bytes, image_len};
 ghost use Rattle.odht_base.specs.Decoded.{header_count, header_slots, header_factor};
 ghost use Rattle.std.specs.Option.{option_or};
+ghost use Rattle.std.specs.Result.{result_err};
 ghost use Rattle.odht_header.specs.Refusals.{checked, tag_refusal, version_refusal, wrong_size};
 ghost use Rattle.odht_header.specs.Refusals.{power_refusal, few_slots_refusal, length_refusal};
-ghost use Rattle.odht_header.specs.Refusals.{header_refusal, factor_refusal, padding_refusal};
+ghost use Rattle.odht_header.specs.Refusals.{field_refusal, header_refusal, front_header_refusal};
+ghost use Rattle.odht_header.specs.Refusals.{factor_refusal, padding_refusal};
 ghost use Rattle.odht_header.specs.Refusals.{count_refusal, room_refusal};
 
 use crate::bytes::{ByteArray, read_u64, write_slice};
 use crate::config::{Coded, Config};
 use crate::error::{Error, Part};
 use crate::load::{Factor, max_item_count_for};
-use crate::sizes::table_len;
+use crate::sizes::len_of_slots;
 use crate::swisstable_group_query::REFERENCE_GROUP_SIZE;
 use std::marker::Model;
 
@@ -89,14 +91,47 @@ impl<'a> Header<'a> {
         ensures { result
             ≡ checked (header_refusal ⟦<C as Coded>⟧.coding.format raw_bytes_len self.now) }
     {
+        self.check_fields::<C>()?;
+        self.check_length::<C>(raw_bytes_len)
+    }
+
+    /// How many bytes a table with this header has, that is at the front of `found` bytes; what follows is not the
+    /// table's. The first error: those of [`Header::sanity_check`], but `WrongLength` only where there are fewer bytes
+    /// than the table has. It has the number of these as `expected`.
+    ///
+    /// The length is computed in 128 bits, so a forged slot count cannot make it wrap. Constant time.
+    #[inline]
+    pub fn table_len<C: Config>(&self, found: usize) -> Result<usize, Error>
+        ensures len { IfOk result
+            (λ n. n ≡ image_len ⟦<C as Coded>⟧.coding.format (header_slots self.now)) }
+        ensures err { result_err result
+            ≡ front_header_refusal ⟦<C as Coded>⟧.coding.format found self.now }
+    {
+        self.check_fields::<C>()?;
+        let slot_count = self.slot_count();
+        let expected = len_of_slots::<C>(slot_count);
+        if (found as u128) < expected {
+            return Err(Error::WrongLength {
+                slot_count,
+                found,
+                expected,
+            });
+        }
+        Ok(expected as usize)
+    }
+
+    // The first error of the fields: those of `sanity_check` but `WrongLength`.
+    #[inline(always)]
+    fn check_fields<C: Config>(&self) -> Result<(), Error>
+        ensures { result ≡ checked (field_refusal ⟦<C as Coded>⟧.coding.format self.now) }
+    {
         self.check_tag()?;
         self.check_version()?;
         self.check_metadata_size()?;
         self.check_expected_size(KEY_SIZE_AT, Part::EncodedKey, C::EncodedKey::LEN)?;
         self.check_expected_size(VALUE_SIZE_AT, Part::EncodedValue, C::EncodedValue::LEN)?;
         self.check_header_size()?;
-        self.check_slot_count()?;
-        self.check_length::<C>(raw_bytes_len)
+        self.check_slot_count()
     }
 
     /// Whether the first four bytes are those that every table begins with; else `WrongTag`.
@@ -193,7 +228,7 @@ impl<'a> Header<'a> {
         ensures { result ≡ checked (length_refusal ⟦<C as Coded>⟧.coding.format found self.now) }
     {
         let slot_count = self.slot_count();
-        let expected = table_len::<C>(slot_count);
+        let expected = len_of_slots::<C>(slot_count);
         if found as u128 == expected {
             Ok(())
         } else {

@@ -19,7 +19,7 @@ pub fn bytes_needed<C: Config>(slot_count: usize) -> Option<usize>
         in MatchOption result (usize.MAX < len) (λ n. n ≡ len) }
     ensures fits { IfSome result (λ n. n < 2 ^ 64) }
 {
-    let len = table_len::<C>(slot_count);
+    let len = len_of_slots::<C>(slot_count);
     if len > usize::MAX as u128 {
         return None;
     }
@@ -54,7 +54,7 @@ pub fn entry_at<C: Config>(slot: usize) -> usize
 
 // How many bytes a table of `slot_count` slots has.
 #[inline]
-pub(crate) fn table_len<C: Config>(slot_count: usize) -> u128
+pub(crate) fn len_of_slots<C: Config>(slot_count: usize) -> u128
     ensures { result ≡ image_len ⟦<C as Coded>⟧.coding.format slot_count }
 {
     let entry = C::EncodedKey::LEN as u128 + C::EncodedValue::LEN as u128;

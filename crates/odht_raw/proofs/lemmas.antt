@@ -19,6 +19,8 @@ pub mod Openings
 pub mod SoundBytes
 -- valid bytes are never rejected by a view
 pub mod ImagesOpen
+-- a table at the front of longer bytes
+pub mod Prefixes
 -- the whole check has no error exactly for valid bytes
 pub mod WholeChecks
 -- bytes whose entries were overwritten with zeros

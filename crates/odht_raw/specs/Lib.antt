@@ -18,6 +18,8 @@ pub mod ControlBytes
 pub mod Checks
 -- what an insert may do to bytes whose header and length fit, valid or not
 pub mod Frame
+-- a table at the front of longer bytes
+pub mod Prefixes
 -- where a search ends on any parts
 pub mod SearchEnds
 -- what a search by groups answers and leaves

@@ -5,6 +5,7 @@
 mod allocation;
 mod check;
 mod new_tables;
+mod prefix;
 
 pub use crate::raw_table::{Entries, EntryMetadata};
 pub use allocation::Allocation;
@@ -12,3 +13,4 @@ pub use check::check_all;
 pub use new_tables::{allocate, clear_entries, init_in_place, write_empty};
 pub use odht_header::header::{HEADER_SIZE, Header, LEAST_FACTOR, write_header};
 pub use odht_header::sizes::{bytes_needed, entry_at, layout_for};
+pub use prefix::table_len;

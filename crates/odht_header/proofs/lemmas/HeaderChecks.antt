@@ -8,8 +8,8 @@ use Rattle.odht_base.specs.Load.{is_power_of_two}
 use Rattle.odht_base.specs.Decoded.{header_slots}
 use Rattle.odht_header.specs.declared.error.Error.{Error}
 use Rattle.odht_header.specs.declared.error.Error.TheVariants.{SlotCountNotPowerOfTwo, SlotCountTooSmall}
-use Rattle.odht_header.specs.Refusals.{first_of, header_refusals, header_refusal, power_refusal, few_slots_refusal}
-use Rattle.odht_header.proofs.lemmas.FirstErrors.{option_or-second}
+use Rattle.odht_header.specs.Refusals.{first_of, field_refusals, field_refusal, header_refusal, front_header_refusal, length_refusal, cut_refusal, power_refusal, few_slots_refusal}
+use Rattle.odht_header.proofs.lemmas.FirstErrors.{option_or-second, last-first}
 use Rattle.odht_header.proofs.lemmas.PowersOfTwo.{same_test}
 
 -- none of the list is an error
@@ -22,10 +22,26 @@ pub first_of-behind : (rs ss : List (Option Error)) → IsPassed rs → first_of
 first_of-behind [] ss p = refl
 first_of-behind (r ∷ rs) ss p = option_or-second r _ p.0 ∙ first_of-behind rs ss p.1
 
--- the header's error once the first k fields have passed
-pub past : (F : Format) (n : ℕ) (B : List ℕ) (k : ℕ) → IsPassed (take k (header_refusals F n B)) → header_refusal F n B ≡ first_of (drop k (header_refusals F n B))
-unfolding header_refusal
-past F n B k p = ap first_of (sym (take-append-drop k (header_refusals F n B))) ∙ first_of-behind (take k (header_refusals F n B)) (drop k (header_refusals F n B)) p
+-- the error of the fields once the first k of them have passed
+pub past : (F : Format) (B : List ℕ) (k : ℕ) → IsPassed (take k (field_refusals F B)) → field_refusal F B ≡ first_of (drop k (field_refusals F B))
+unfolding field_refusal
+past F B k p = ap first_of (sym (take-append-drop k (field_refusals F B))) ∙ first_of-behind (take k (field_refusals F B)) (drop k (field_refusals F B)) p
+
+-- the first error of two lists in turn
+first_of-append : (rs ss : List (Option Error)) → first_of (rs ++ ss) ≡ option_or (first_of rs) (first_of ss)
+first_of-append [] ss = refl
+first_of-append (None ∷ rs) ss = first_of-append rs ss
+first_of-append (Some x ∷ rs) ss = refl
+
+-- the error of the header is that of the fields, then of the length
+pub header_refusal-fields : (F : Format) (n : ℕ) (B : List ℕ) → header_refusal F n B ≡ option_or (field_refusal F B) (length_refusal F n B)
+unfolding header_refusal field_refusal
+header_refusal-fields F n B = first_of-append (field_refusals F B) (length_refusal F n B ∷ []) ∙ ap (option_or (field_refusal F B)) (last-first (length_refusal F n B))
+
+-- and where more may follow, of too few bytes
+pub front_header_refusal-fields : (F : Format) (n : ℕ) (B : List ℕ) → front_header_refusal F n B ≡ option_or (field_refusal F B) (cut_refusal F n B)
+unfolding front_header_refusal field_refusal
+front_header_refusal-fields F n B = first_of-append (field_refusals F B) (cut_refusal F n B ∷ []) ∙ ap (option_or (field_refusal F B)) (last-first (cut_refusal F n B))
 
 -- ---- the slot count, s in the header
 

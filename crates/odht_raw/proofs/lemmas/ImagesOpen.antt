@@ -17,7 +17,7 @@ use Rattle.odht_raw.proofs.lemmas.Openings.{view_refusal-slots}
 use Rattle.odht_raw.proofs.lemmas.SlotChecks.{zero_entry_passes, occupied_refusal, hashes_refusal-None}
 
 -- a result without an error is Ok
-IsOk-none : {T : Type 0} (r : Result T Error) → result_err r ≡ None → IsOk r
+pub IsOk-none : {T : Type 0} (r : Result T Error) → result_err r ≡ None → IsOk r
 IsOk-none (Ok t) e = refl
 IsOk-none (Err x) e = cc
 

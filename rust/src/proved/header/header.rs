@@ -7,7 +7,7 @@ use crate::proved::header::bytes::{read_u64, write_slice, ByteArray};
 use crate::proved::header::config::Config;
 use crate::proved::header::error::{Error, Part};
 use crate::proved::header::load::{max_item_count_for, Factor};
-use crate::proved::header::sizes::table_len;
+use crate::proved::header::sizes::len_of_slots;
 use crate::proved::header::swisstable_group_query::REFERENCE_GROUP_SIZE;
 
 /// How many bytes the header has.
@@ -63,14 +63,36 @@ impl<'a> Header<'a> {
     /// wrap.
     #[inline(always)]
     pub fn sanity_check<C: Config>(&self, raw_bytes_len: usize) -> Result<(), Error> {
+        self.check_fields::<C>()?;
+        self.check_length::<C>(raw_bytes_len)
+    }
+
+    /// How many bytes a table with this header has, that is at the front of `found` bytes; what follows is not the
+    /// table's. The first error: those of [`Header::sanity_check`], but `WrongLength` only where there are fewer bytes
+    /// than the table has. It has the number of these as `expected`.
+    ///
+    /// The length is computed in 128 bits, so a forged slot count cannot make it wrap. Constant time.
+    #[inline]
+    pub fn table_len<C: Config>(&self, found: usize) -> Result<usize, Error> {
+        self.check_fields::<C>()?;
+        let slot_count = self.slot_count();
+        let expected = len_of_slots::<C>(slot_count);
+        if (found as u128) < expected {
+            return Err(Error::WrongLength { slot_count, found, expected });
+        }
+        Ok(expected as usize)
+    }
+
+    // The first error of the fields: those of `sanity_check` but `WrongLength`.
+    #[inline(always)]
+    fn check_fields<C: Config>(&self) -> Result<(), Error> {
         self.check_tag()?;
         self.check_version()?;
         self.check_metadata_size()?;
         self.check_expected_size(KEY_SIZE_AT, Part::EncodedKey, C::EncodedKey::LEN)?;
         self.check_expected_size(VALUE_SIZE_AT, Part::EncodedValue, C::EncodedValue::LEN)?;
         self.check_header_size()?;
-        self.check_slot_count()?;
-        self.check_length::<C>(raw_bytes_len)
+        self.check_slot_count()
     }
 
     /// Whether the first four bytes are those that every table begins with; else `WrongTag`.
@@ -144,7 +166,7 @@ impl<'a> Header<'a> {
     #[inline(always)]
     fn check_length<C: Config>(&self, found: usize) -> Result<(), Error> {
         let slot_count = self.slot_count();
-        let expected = table_len::<C>(slot_count);
+        let expected = len_of_slots::<C>(slot_count);
         if found as u128 == expected {
             Ok(())
         } else {

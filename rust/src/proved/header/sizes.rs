@@ -10,7 +10,7 @@ use crate::proved::header::swisstable_group_query::REFERENCE_GROUP_SIZE;
 /// How many bytes a table of `slot_count` slots has. None exactly where that passes `usize::MAX`.
 #[inline]
 pub fn bytes_needed<C: Config>(slot_count: usize) -> Option<usize> {
-    let len = table_len::<C>(slot_count);
+    let len = len_of_slots::<C>(slot_count);
     if len > usize::MAX as u128 {
         return None;
     }
@@ -36,7 +36,7 @@ pub fn entry_at<C: Config>(slot: usize) -> usize {
 
 // How many bytes a table of `slot_count` slots has.
 #[inline]
-pub(crate) fn table_len<C: Config>(slot_count: usize) -> u128 {
+pub(crate) fn len_of_slots<C: Config>(slot_count: usize) -> u128 {
     let entry = C::EncodedKey::LEN as u128 + C::EncodedValue::LEN as u128;
     let slots = slot_count as u128;
     HEADER_SIZE as u128 + slots * entry + slots + REFERENCE_GROUP_SIZE as u128

@@ -6,6 +6,7 @@
 mod allocation;
 mod check;
 mod new_tables;
+mod prefix;
 
 pub use crate::proved::header::header::{write_header, Header, HEADER_SIZE, LEAST_FACTOR};
 pub use crate::proved::header::sizes::{bytes_needed, entry_at, layout_for};
@@ -13,3 +14,4 @@ pub use crate::proved::raw::raw_table::{Entries, EntryMetadata};
 pub use allocation::Allocation;
 pub use check::check_all;
 pub use new_tables::{allocate, clear_entries, init_in_place, write_empty};
+pub use prefix::table_len;

@@ -1,0 +1,28 @@
+//! A table at the front of longer bytes.
+ghost use Rattle.std.specs.Prelude.{◌≡◌, ℕ, Ok, IfOk};
+ghost use Rattle.std.specs.Result.{result_err};
+ghost use Rattle.odht_header.specs.Refusals.{prefix_refusal};
+ghost use Rattle.odht_raw.specs.Prefixes.{IsFront};
+
+use super::{HEADER_SIZE, Header};
+use crate::config::{Coded, Config};
+use crate::error::Error;
+
+/// How many bytes the table at the front of `bytes` has, by its header. What follows is not looked at, nor is any slot.
+///
+/// The first error: `TooShort`, then those of [`Header::sanity_check`], but `WrongLength` only where there are fewer
+/// bytes than the table has. It is Ok exactly where so many bytes would be accepted by
+/// [`Allocation::from_raw_bytes_by_header`](super::Allocation::from_raw_bytes_by_header), and then no other number of
+/// bytes at the front would. Constant time.
+#[inline]
+pub fn table_len<C: Config>(bytes: &[u8]) -> Result<usize, Error>
+    ensures ok { IfOk result (IsFront ⟦<C as Coded>⟧.coding.format bytes.now) }
+    ensures only { (n : ℕ) → IsFront ⟦<C as Coded>⟧.coding.format bytes.now n → result ≡ Ok n }
+    ensures err { result_err result ≡ prefix_refusal ⟦<C as Coded>⟧.coding.format bytes.now }
+{
+    let found = bytes.len();
+    if found < HEADER_SIZE {
+        return Err(Error::TooShort { found });
+    }
+    Header::of(bytes).table_len::<C>(found)
+}

@@ -1,0 +1,21 @@
+// Made by `make rust` of crates/odht_raw/src/memory_layout/prefix.rt.
+//! A table at the front of longer bytes.
+
+use super::{Header, HEADER_SIZE};
+use crate::proved::raw::config::Config;
+use crate::proved::raw::error::Error;
+
+/// How many bytes the table at the front of `bytes` has, by its header. What follows is not looked at, nor is any slot.
+///
+/// The first error: `TooShort`, then those of [`Header::sanity_check`], but `WrongLength` only where there are fewer
+/// bytes than the table has. It is Ok exactly where so many bytes would be accepted by
+/// [`Allocation::from_raw_bytes_by_header`](super::Allocation::from_raw_bytes_by_header), and then no other number of
+/// bytes at the front would. Constant time.
+#[inline]
+pub fn table_len<C: Config>(bytes: &[u8]) -> Result<usize, Error> {
+    let found = bytes.len();
+    if found < HEADER_SIZE {
+        return Err(Error::TooShort { found });
+    }
+    Header::of(bytes).table_len::<C>(found)
+}
