@@ -13,6 +13,7 @@ use crate::proved::tables::swisstable_group_query::GroupQuery;
 
 mod by_search;
 mod lists;
+mod prefix;
 mod walks;
 
 /// The length in bytes of a new table for `max_item_count` items, at a load factor in percent of the slots. None
