@@ -50,6 +50,28 @@ pub fn try_bytes_needed<C: Config>(
     tables::bytes_needed::<Proved<C>>(max_item_count, percent).ok_or(Error::Capacity)
 }
 
+/// How many bytes the table at the front of `bytes` has, by its header. What follows the table is not looked at, nor is
+/// any slot: it takes constant time. Where it returns a length, opening accepts the header of so many bytes at the
+/// front, and of no other number of them.
+///
+/// ```
+/// use odht::{configs::U64ToU32, table_len, HashTableOwned};
+///
+/// let mut file = HashTableOwned::<U64ToU32>::with_capacity(3, 95).raw_bytes().to_vec();
+/// file.extend(b"and more");
+/// assert_eq!(table_len::<U64ToU32>(&file), Ok(256));
+/// ```
+///
+/// # Errors
+///
+/// The first of `TooShort`, `WrongTag`, `WrongVersion`, `WrongSizeOf`, `SlotCountNotPowerOfTwo`, `SlotCountTooSmall`,
+/// that the header gives, then `WrongLength` where there are fewer bytes than the table has: it has their number as
+/// `found` and the table's length as `expected`.
+pub fn table_len<C: Config>(bytes: &[u8]) -> Result<usize, Error> {
+    let () = Proved::<C>::FITS;
+    raw::memory_layout::table_len::<Proved<C>>(bytes)
+}
+
 /// Checks all of the bytes. They are accepted exactly where they are those of a table that the format allows, to the
 /// last byte; lookups in such a table answer as a map does.
 ///

@@ -15,6 +15,7 @@ use std::fmt;
 use std::marker::PhantomData;
 
 mod growth;
+mod prefix;
 mod writing;
 
 /// A table in bytes of any kind: a view. It cannot grow; [`grow_into`](HashTable::grow_into) writes the grown table

@@ -4,7 +4,8 @@
 use super::configs::Plain;
 use super::random::Random;
 use super::reading::{Format, Hash, Reading};
-use odht::{check_all, Error, FxHashFn, HashFn, HashTable, HashTableOwned, UnHashFn};
+use odht::{check_all, table_len, Error, FxHashFn};
+use odht::{HashFn, HashTable, HashTableOwned, UnHashFn};
 
 /// The format's name of a hash function.
 pub trait Named: HashFn {
@@ -42,6 +43,7 @@ pub fn calls_stay_in_frame<const K: usize, const V: usize, H: Named>(
     assert_eq!(text(view.as_ref()), opening);
     assert_eq!(text(View::<K, V, H>::try_from_raw_bytes(bytes)), opening);
     assert_eq!(text(check_all::<Plain<K, V, H>>(bytes)), whole);
+    fronts_are_read::<K, V, H>(&reading);
     let owned = HashTableOwned::<Plain<K, V, H>>::from_raw_bytes(bytes);
     assert_eq!(text(owned.as_ref()), whole);
     if let Ok(owned) = owned {
@@ -55,6 +57,29 @@ pub fn calls_stay_in_frame<const K: usize, const V: usize, H: Named>(
         grows(&view, &reading);
     }
     whole
+}
+
+/// Compares what the calls say of a table at the front of the bytes with the second reading. Returns its length, where
+/// it is opened.
+pub fn fronts_are_read<const K: usize, const V: usize, H: Named>(
+    reading: &Reading<'_>,
+) -> Option<usize> {
+    let bytes = reading.bytes;
+    let len = table_len::<Plain<K, V, H>>(bytes).map_err(|error| error.to_string());
+    assert_eq!(len, reading.front_len());
+    let opened = View::<K, V, H>::open_prefix(bytes);
+    let Ok(len) = len else {
+        assert_eq!(text(opened), len.err());
+        return None;
+    };
+    let (front, rest) = bytes.split_at(len);
+    assert_eq!(text(opened.as_ref()), Reading::new(reading.format, front).open_error());
+    let (view, behind) = opened.ok()?;
+    assert_eq!(
+        (view.raw_bytes().as_ptr_range(), behind.as_ptr_range()),
+        (front.as_ptr_range(), rest.as_ptr_range())
+    );
+    Some(len)
 }
 
 // A key that is stored somewhere, or with one byte changed, or a random one.

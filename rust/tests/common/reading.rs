@@ -132,6 +132,19 @@ impl<'b> Reading<'b> {
 
     /// The first error of the header and of the length.
     pub fn header_error(&self) -> Option<String> {
+        self.fields_error().or_else(|| self.length_error(|found, expected| found != expected))
+    }
+
+    /// How many bytes the table at the front has, or the first error of its header, or that it is cut.
+    pub fn front_len(&self) -> Result<usize, String> {
+        let error = self.fields_error();
+        match error.or_else(|| self.length_error(|found, expected| found < expected)) {
+            Some(error) => Err(error),
+            None => Ok(self.format.table_len(number(&self.bytes[16..24])) as usize),
+        }
+    }
+
+    fn fields_error(&self) -> Option<String> {
         if self.bytes.len() < 32 {
             let found = self.bytes.len();
             return Some(format!("Provided data has {found} bytes but the header needs 32"));
@@ -165,16 +178,20 @@ impl<'b> Reading<'b> {
     }
 
     fn slots_error(&self) -> Option<String> {
-        let (slots, found) = (number(&self.bytes[16..24]), self.bytes.len());
-        let expected = self.format.table_len(slots);
+        let slots = number(&self.bytes[16..24]);
         if slots.count_ones() != 1 {
             let text = "Slot count of hashtable should be a power of two but is";
             return Some(format!("{text} {slots}"));
         }
-        if slots < 16 {
-            return Some(format!("Slot count of hashtable should be at least 16 but is {slots}"));
-        }
-        (found as u128 != expected).then(|| {
+        (slots < 16)
+            .then(|| format!("Slot count of hashtable should be at least 16 but is {slots}"))
+    }
+
+    // Of a number of bytes that is wrong beside the table's length.
+    fn length_error(&self, is_wrong: impl Fn(u128, u128) -> bool) -> Option<String> {
+        let (slots, found) = (number(&self.bytes[16..24]), self.bytes.len());
+        let expected = self.format.table_len(slots);
+        is_wrong(found as u128, expected).then(|| {
             format!(
                 "Provided allocation has wrong size for slot count {slots}. \
                  The allocation's size is {found} but the expected size is {expected}."
