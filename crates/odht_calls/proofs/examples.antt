@@ -13,6 +13,8 @@ pub mod Views
 pub mod Walks
 -- the numbers of a header
 pub mod Sizes
+-- tables at the front of longer bytes
+pub mod Prefixes
 -- orders of inserts
 pub mod Orders
 -- growths

@@ -12,6 +12,8 @@ pub mod Refused
 pub mod Made
 -- the numbers in a header
 pub mod Sizes
+-- the length of a table at the front of longer bytes
+pub mod Prefixes
 -- iterators that are called until they end
 pub mod Drained
 -- tables that are handed out, and what the two calls answer that build one

@@ -3,6 +3,8 @@
 pub mod Statuses
 -- the calls that read a table
 pub mod Reads
+-- the call for the length of a table at the front of longer bytes
+pub mod Prefixes
 -- the call that walks over a table and writes its pairs to arrays
 pub mod Walks
 -- lookups of many keys

@@ -4,6 +4,7 @@ ghost use Rattle.std.specs.Result.{result_err};
 ghost use Rattle.odht_header.specs.Refusals.{opening_refusal, view_refusal, check_refusal};
 ghost use Rattle.odht_calls.specs.Statuses.{status_or_ok};
 ghost use Rattle.odht_calls.specs.Reads.{GetAnswers, GetAllAnswers, LenAnswers, SizesAnswers};
+ghost use Rattle.odht_calls.specs.Prefixes.{TableLenAnswers};
 
 use crate::status::{OK, status_of};
 use crate::view;
@@ -33,6 +34,21 @@ pub fn open<C: Config>(bytes: &[u8]) -> u32
     ));
     match opened {
         Ok(_) => OK,
+        Err(refused) => status_of(&refused),
+    }
+}
+
+/// Writes to `len` how many bytes the table at the front of the bytes has, by its header; what follows is not looked at,
+/// nor is any slot. An error leaves `len` unchanged: one of the header, or of fewer bytes than the table has.
+#[inline]
+pub fn table_len<C: Config>(bytes: &[u8], len: &mut usize) -> u32
+    ensures { TableLenAnswers ⟦<C as Coded>⟧.coding.format bytes.now len.old result len.new }
+{
+    match memory_layout::table_len::<C>(bytes) {
+        Ok(found) => {
+            *len = found;
+            OK
+        }
         Err(refused) => status_of(&refused),
     }
 }

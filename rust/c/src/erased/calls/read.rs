@@ -27,6 +27,19 @@ pub fn open<C: Config>(bytes: &[u8]) -> u32 {
     }
 }
 
+/// Writes to `len` how many bytes the table at the front of the bytes has, by its header; what follows is not looked at,
+/// nor is any slot. An error leaves `len` unchanged: one of the header, or of fewer bytes than the table has.
+#[inline]
+pub fn table_len<C: Config>(bytes: &[u8], len: &mut usize) -> u32 {
+    match memory_layout::table_len::<C>(bytes) {
+        Ok(found) => {
+            *len = found;
+            OK
+        }
+        Err(refused) => status_of(&refused),
+    }
+}
+
 /// OK where the bytes are valid, else the number of the first error of the whole check.
 #[inline]
 pub fn check<C: Config>(bytes: &[u8]) -> u32 {
