@@ -294,6 +294,13 @@ typedef struct odht_view {
  *     header's load factor in percent. It is rounded down, so it may be one below that
  *     which the table was made with. An error, 1 to 7.
  *
+ * odht_S_table_len(bytes, bytes_len, *len)
+ *     How many bytes the table at the front of longer bytes has, by its header. So a
+ *     table inside a file is found without a length of one's own: the other calls take
+ *     exactly these bytes, and what follows them is not the table's. Slots are not read.
+ *     OK: *len is its length in bytes, which is not above bytes_len. An error, 1 to 7;
+ *     WRONG_LENGTH only where bytes_len is below the length of the table.
+ *
  * odht_S_get(bytes, bytes_len, key, *value)
  *     OK: the key is there, and *value is its value. ABSENT: it is not there.
  *     An error, 1 to 7.
@@ -447,6 +454,11 @@ ODHT_CALL uint32_t odht_u32_u32_sizes(
     const uint8_t *bytes, size_t bytes_len, size_t *slots, size_t *max_item_count, uint8_t *percent)
     ODHT_INLINE(u32_u32_sizes);
 
+/* OK: *len is how many bytes the table at the front of the bytes has. An error, 1 to 7: it is
+   unchanged. */
+ODHT_CALL uint32_t odht_u32_u32_table_len(const uint8_t *bytes, size_t bytes_len, size_t *len)
+    ODHT_INLINE(u32_u32_table_len);
+
 /* OK: the occupied slots, in an order of inserts. UNMADE: no inserts make the table, and what slots
    holds is unspecified. BAD_LENGTHS, or an error, 1 to 16: slots is unchanged. */
 ODHT_CALL uint32_t odht_u32_u32_insert_order(
@@ -483,6 +495,8 @@ uint32_t odht_symbol_u32_u32_len(const uint8_t *bytes, size_t bytes_len, size_t 
 uint32_t odht_symbol_u32_u32_sizes(
     const uint8_t *bytes, size_t bytes_len, size_t *slots, size_t *max_item_count, uint8_t *percent)
     ODHT_SYMBOL(u32_u32_sizes);
+uint32_t odht_symbol_u32_u32_table_len(const uint8_t *bytes, size_t bytes_len, size_t *len)
+    ODHT_SYMBOL(u32_u32_table_len);
 uint32_t odht_symbol_u32_u32_insert_order(
     const uint8_t *bytes, size_t bytes_len, size_t *slots, size_t slots_len)
     ODHT_SYMBOL(u32_u32_insert_order);
@@ -533,6 +547,14 @@ static inline uint32_t odht_u32_u32_sizes(
     return odht_symbol_u32_u32_sizes(
         odht_read_uint8_t(bytes, bytes_len), bytes_len, slots ? slots : &unwanted[0],
         max_item_count ? max_item_count : &unwanted[1], percent ? percent : &unwanted_percent);
+}
+
+static inline uint32_t odht_u32_u32_table_len(
+    const uint8_t *bytes, size_t bytes_len, size_t *len)
+{
+    size_t unwanted = 0;
+    return odht_symbol_u32_u32_table_len(
+        odht_read_uint8_t(bytes, bytes_len), bytes_len, len ? len : &unwanted);
 }
 
 static inline uint32_t odht_u32_u32_insert_order(
@@ -776,6 +798,11 @@ ODHT_CALL uint32_t odht_u64_u32_sizes(
     const uint8_t *bytes, size_t bytes_len, size_t *slots, size_t *max_item_count, uint8_t *percent)
     ODHT_INLINE(u64_u32_sizes);
 
+/* OK: *len is how many bytes the table at the front of the bytes has. An error, 1 to 7: it is
+   unchanged. */
+ODHT_CALL uint32_t odht_u64_u32_table_len(const uint8_t *bytes, size_t bytes_len, size_t *len)
+    ODHT_INLINE(u64_u32_table_len);
+
 /* OK: the occupied slots, in an order of inserts. UNMADE: no inserts make the table, and what slots
    holds is unspecified. BAD_LENGTHS, or an error, 1 to 16: slots is unchanged. */
 ODHT_CALL uint32_t odht_u64_u32_insert_order(
@@ -812,6 +839,8 @@ uint32_t odht_symbol_u64_u32_len(const uint8_t *bytes, size_t bytes_len, size_t 
 uint32_t odht_symbol_u64_u32_sizes(
     const uint8_t *bytes, size_t bytes_len, size_t *slots, size_t *max_item_count, uint8_t *percent)
     ODHT_SYMBOL(u64_u32_sizes);
+uint32_t odht_symbol_u64_u32_table_len(const uint8_t *bytes, size_t bytes_len, size_t *len)
+    ODHT_SYMBOL(u64_u32_table_len);
 uint32_t odht_symbol_u64_u32_insert_order(
     const uint8_t *bytes, size_t bytes_len, size_t *slots, size_t slots_len)
     ODHT_SYMBOL(u64_u32_insert_order);
@@ -862,6 +891,14 @@ static inline uint32_t odht_u64_u32_sizes(
     return odht_symbol_u64_u32_sizes(
         odht_read_uint8_t(bytes, bytes_len), bytes_len, slots ? slots : &unwanted[0],
         max_item_count ? max_item_count : &unwanted[1], percent ? percent : &unwanted_percent);
+}
+
+static inline uint32_t odht_u64_u32_table_len(
+    const uint8_t *bytes, size_t bytes_len, size_t *len)
+{
+    size_t unwanted = 0;
+    return odht_symbol_u64_u32_table_len(
+        odht_read_uint8_t(bytes, bytes_len), bytes_len, len ? len : &unwanted);
 }
 
 static inline uint32_t odht_u64_u32_insert_order(
@@ -1105,6 +1142,11 @@ ODHT_CALL uint32_t odht_u64_u64_sizes(
     const uint8_t *bytes, size_t bytes_len, size_t *slots, size_t *max_item_count, uint8_t *percent)
     ODHT_INLINE(u64_u64_sizes);
 
+/* OK: *len is how many bytes the table at the front of the bytes has. An error, 1 to 7: it is
+   unchanged. */
+ODHT_CALL uint32_t odht_u64_u64_table_len(const uint8_t *bytes, size_t bytes_len, size_t *len)
+    ODHT_INLINE(u64_u64_table_len);
+
 /* OK: the occupied slots, in an order of inserts. UNMADE: no inserts make the table, and what slots
    holds is unspecified. BAD_LENGTHS, or an error, 1 to 16: slots is unchanged. */
 ODHT_CALL uint32_t odht_u64_u64_insert_order(
@@ -1141,6 +1183,8 @@ uint32_t odht_symbol_u64_u64_len(const uint8_t *bytes, size_t bytes_len, size_t 
 uint32_t odht_symbol_u64_u64_sizes(
     const uint8_t *bytes, size_t bytes_len, size_t *slots, size_t *max_item_count, uint8_t *percent)
     ODHT_SYMBOL(u64_u64_sizes);
+uint32_t odht_symbol_u64_u64_table_len(const uint8_t *bytes, size_t bytes_len, size_t *len)
+    ODHT_SYMBOL(u64_u64_table_len);
 uint32_t odht_symbol_u64_u64_insert_order(
     const uint8_t *bytes, size_t bytes_len, size_t *slots, size_t slots_len)
     ODHT_SYMBOL(u64_u64_insert_order);
@@ -1191,6 +1235,14 @@ static inline uint32_t odht_u64_u64_sizes(
     return odht_symbol_u64_u64_sizes(
         odht_read_uint8_t(bytes, bytes_len), bytes_len, slots ? slots : &unwanted[0],
         max_item_count ? max_item_count : &unwanted[1], percent ? percent : &unwanted_percent);
+}
+
+static inline uint32_t odht_u64_u64_table_len(
+    const uint8_t *bytes, size_t bytes_len, size_t *len)
+{
+    size_t unwanted = 0;
+    return odht_symbol_u64_u64_table_len(
+        odht_read_uint8_t(bytes, bytes_len), bytes_len, len ? len : &unwanted);
 }
 
 static inline uint32_t odht_u64_u64_insert_order(
@@ -1434,6 +1486,11 @@ ODHT_CALL uint32_t odht_b16_u32_sizes(
     const uint8_t *bytes, size_t bytes_len, size_t *slots, size_t *max_item_count, uint8_t *percent)
     ODHT_INLINE(b16_u32_sizes);
 
+/* OK: *len is how many bytes the table at the front of the bytes has. An error, 1 to 7: it is
+   unchanged. */
+ODHT_CALL uint32_t odht_b16_u32_table_len(const uint8_t *bytes, size_t bytes_len, size_t *len)
+    ODHT_INLINE(b16_u32_table_len);
+
 /* OK: the occupied slots, in an order of inserts. UNMADE: no inserts make the table, and what slots
    holds is unspecified. BAD_LENGTHS, or an error, 1 to 16: slots is unchanged. */
 ODHT_CALL uint32_t odht_b16_u32_insert_order(
@@ -1470,6 +1527,8 @@ uint32_t odht_symbol_b16_u32_len(const uint8_t *bytes, size_t bytes_len, size_t 
 uint32_t odht_symbol_b16_u32_sizes(
     const uint8_t *bytes, size_t bytes_len, size_t *slots, size_t *max_item_count, uint8_t *percent)
     ODHT_SYMBOL(b16_u32_sizes);
+uint32_t odht_symbol_b16_u32_table_len(const uint8_t *bytes, size_t bytes_len, size_t *len)
+    ODHT_SYMBOL(b16_u32_table_len);
 uint32_t odht_symbol_b16_u32_insert_order(
     const uint8_t *bytes, size_t bytes_len, size_t *slots, size_t slots_len)
     ODHT_SYMBOL(b16_u32_insert_order);
@@ -1520,6 +1579,14 @@ static inline uint32_t odht_b16_u32_sizes(
     return odht_symbol_b16_u32_sizes(
         odht_read_uint8_t(bytes, bytes_len), bytes_len, slots ? slots : &unwanted[0],
         max_item_count ? max_item_count : &unwanted[1], percent ? percent : &unwanted_percent);
+}
+
+static inline uint32_t odht_b16_u32_table_len(
+    const uint8_t *bytes, size_t bytes_len, size_t *len)
+{
+    size_t unwanted = 0;
+    return odht_symbol_b16_u32_table_len(
+        odht_read_uint8_t(bytes, bytes_len), bytes_len, len ? len : &unwanted);
 }
 
 static inline uint32_t odht_b16_u32_insert_order(
@@ -1763,6 +1830,11 @@ ODHT_CALL uint32_t odht_b16_u64_sizes(
     const uint8_t *bytes, size_t bytes_len, size_t *slots, size_t *max_item_count, uint8_t *percent)
     ODHT_INLINE(b16_u64_sizes);
 
+/* OK: *len is how many bytes the table at the front of the bytes has. An error, 1 to 7: it is
+   unchanged. */
+ODHT_CALL uint32_t odht_b16_u64_table_len(const uint8_t *bytes, size_t bytes_len, size_t *len)
+    ODHT_INLINE(b16_u64_table_len);
+
 /* OK: the occupied slots, in an order of inserts. UNMADE: no inserts make the table, and what slots
    holds is unspecified. BAD_LENGTHS, or an error, 1 to 16: slots is unchanged. */
 ODHT_CALL uint32_t odht_b16_u64_insert_order(
@@ -1799,6 +1871,8 @@ uint32_t odht_symbol_b16_u64_len(const uint8_t *bytes, size_t bytes_len, size_t 
 uint32_t odht_symbol_b16_u64_sizes(
     const uint8_t *bytes, size_t bytes_len, size_t *slots, size_t *max_item_count, uint8_t *percent)
     ODHT_SYMBOL(b16_u64_sizes);
+uint32_t odht_symbol_b16_u64_table_len(const uint8_t *bytes, size_t bytes_len, size_t *len)
+    ODHT_SYMBOL(b16_u64_table_len);
 uint32_t odht_symbol_b16_u64_insert_order(
     const uint8_t *bytes, size_t bytes_len, size_t *slots, size_t slots_len)
     ODHT_SYMBOL(b16_u64_insert_order);
@@ -1849,6 +1923,14 @@ static inline uint32_t odht_b16_u64_sizes(
     return odht_symbol_b16_u64_sizes(
         odht_read_uint8_t(bytes, bytes_len), bytes_len, slots ? slots : &unwanted[0],
         max_item_count ? max_item_count : &unwanted[1], percent ? percent : &unwanted_percent);
+}
+
+static inline uint32_t odht_b16_u64_table_len(
+    const uint8_t *bytes, size_t bytes_len, size_t *len)
+{
+    size_t unwanted = 0;
+    return odht_symbol_b16_u64_table_len(
+        odht_read_uint8_t(bytes, bytes_len), bytes_len, len ? len : &unwanted);
 }
 
 static inline uint32_t odht_b16_u64_insert_order(
@@ -2092,6 +2174,11 @@ ODHT_CALL uint32_t odht_b20_u64_sizes(
     const uint8_t *bytes, size_t bytes_len, size_t *slots, size_t *max_item_count, uint8_t *percent)
     ODHT_INLINE(b20_u64_sizes);
 
+/* OK: *len is how many bytes the table at the front of the bytes has. An error, 1 to 7: it is
+   unchanged. */
+ODHT_CALL uint32_t odht_b20_u64_table_len(const uint8_t *bytes, size_t bytes_len, size_t *len)
+    ODHT_INLINE(b20_u64_table_len);
+
 /* OK: the occupied slots, in an order of inserts. UNMADE: no inserts make the table, and what slots
    holds is unspecified. BAD_LENGTHS, or an error, 1 to 16: slots is unchanged. */
 ODHT_CALL uint32_t odht_b20_u64_insert_order(
@@ -2128,6 +2215,8 @@ uint32_t odht_symbol_b20_u64_len(const uint8_t *bytes, size_t bytes_len, size_t 
 uint32_t odht_symbol_b20_u64_sizes(
     const uint8_t *bytes, size_t bytes_len, size_t *slots, size_t *max_item_count, uint8_t *percent)
     ODHT_SYMBOL(b20_u64_sizes);
+uint32_t odht_symbol_b20_u64_table_len(const uint8_t *bytes, size_t bytes_len, size_t *len)
+    ODHT_SYMBOL(b20_u64_table_len);
 uint32_t odht_symbol_b20_u64_insert_order(
     const uint8_t *bytes, size_t bytes_len, size_t *slots, size_t slots_len)
     ODHT_SYMBOL(b20_u64_insert_order);
@@ -2178,6 +2267,14 @@ static inline uint32_t odht_b20_u64_sizes(
     return odht_symbol_b20_u64_sizes(
         odht_read_uint8_t(bytes, bytes_len), bytes_len, slots ? slots : &unwanted[0],
         max_item_count ? max_item_count : &unwanted[1], percent ? percent : &unwanted_percent);
+}
+
+static inline uint32_t odht_b20_u64_table_len(
+    const uint8_t *bytes, size_t bytes_len, size_t *len)
+{
+    size_t unwanted = 0;
+    return odht_symbol_b20_u64_table_len(
+        odht_read_uint8_t(bytes, bytes_len), bytes_len, len ? len : &unwanted);
 }
 
 static inline uint32_t odht_b20_u64_insert_order(
@@ -2421,6 +2518,11 @@ ODHT_CALL uint32_t odht_b32_u64_sizes(
     const uint8_t *bytes, size_t bytes_len, size_t *slots, size_t *max_item_count, uint8_t *percent)
     ODHT_INLINE(b32_u64_sizes);
 
+/* OK: *len is how many bytes the table at the front of the bytes has. An error, 1 to 7: it is
+   unchanged. */
+ODHT_CALL uint32_t odht_b32_u64_table_len(const uint8_t *bytes, size_t bytes_len, size_t *len)
+    ODHT_INLINE(b32_u64_table_len);
+
 /* OK: the occupied slots, in an order of inserts. UNMADE: no inserts make the table, and what slots
    holds is unspecified. BAD_LENGTHS, or an error, 1 to 16: slots is unchanged. */
 ODHT_CALL uint32_t odht_b32_u64_insert_order(
@@ -2457,6 +2559,8 @@ uint32_t odht_symbol_b32_u64_len(const uint8_t *bytes, size_t bytes_len, size_t 
 uint32_t odht_symbol_b32_u64_sizes(
     const uint8_t *bytes, size_t bytes_len, size_t *slots, size_t *max_item_count, uint8_t *percent)
     ODHT_SYMBOL(b32_u64_sizes);
+uint32_t odht_symbol_b32_u64_table_len(const uint8_t *bytes, size_t bytes_len, size_t *len)
+    ODHT_SYMBOL(b32_u64_table_len);
 uint32_t odht_symbol_b32_u64_insert_order(
     const uint8_t *bytes, size_t bytes_len, size_t *slots, size_t slots_len)
     ODHT_SYMBOL(b32_u64_insert_order);
@@ -2507,6 +2611,14 @@ static inline uint32_t odht_b32_u64_sizes(
     return odht_symbol_b32_u64_sizes(
         odht_read_uint8_t(bytes, bytes_len), bytes_len, slots ? slots : &unwanted[0],
         max_item_count ? max_item_count : &unwanted[1], percent ? percent : &unwanted_percent);
+}
+
+static inline uint32_t odht_b32_u64_table_len(
+    const uint8_t *bytes, size_t bytes_len, size_t *len)
+{
+    size_t unwanted = 0;
+    return odht_symbol_b32_u64_table_len(
+        odht_read_uint8_t(bytes, bytes_len), bytes_len, len ? len : &unwanted);
 }
 
 static inline uint32_t odht_b32_u64_insert_order(
@@ -2750,6 +2862,11 @@ ODHT_CALL uint32_t odht_b16_sizes(
     const uint8_t *bytes, size_t bytes_len, size_t *slots, size_t *max_item_count, uint8_t *percent)
     ODHT_INLINE(b16_sizes);
 
+/* OK: *len is how many bytes the table at the front of the bytes has. An error, 1 to 7: it is
+   unchanged. */
+ODHT_CALL uint32_t odht_b16_table_len(const uint8_t *bytes, size_t bytes_len, size_t *len)
+    ODHT_INLINE(b16_table_len);
+
 /* OK: the occupied slots, in an order of inserts. UNMADE: no inserts make the table, and what slots
    holds is unspecified. BAD_LENGTHS, or an error, 1 to 16: slots is unchanged. */
 ODHT_CALL uint32_t odht_b16_insert_order(
@@ -2786,6 +2903,8 @@ uint32_t odht_symbol_b16_len(const uint8_t *bytes, size_t bytes_len, size_t *cou
 uint32_t odht_symbol_b16_sizes(
     const uint8_t *bytes, size_t bytes_len, size_t *slots, size_t *max_item_count, uint8_t *percent)
     ODHT_SYMBOL(b16_sizes);
+uint32_t odht_symbol_b16_table_len(const uint8_t *bytes, size_t bytes_len, size_t *len)
+    ODHT_SYMBOL(b16_table_len);
 uint32_t odht_symbol_b16_insert_order(
     const uint8_t *bytes, size_t bytes_len, size_t *slots, size_t slots_len)
     ODHT_SYMBOL(b16_insert_order);
@@ -2836,6 +2955,14 @@ static inline uint32_t odht_b16_sizes(
     return odht_symbol_b16_sizes(
         odht_read_uint8_t(bytes, bytes_len), bytes_len, slots ? slots : &unwanted[0],
         max_item_count ? max_item_count : &unwanted[1], percent ? percent : &unwanted_percent);
+}
+
+static inline uint32_t odht_b16_table_len(
+    const uint8_t *bytes, size_t bytes_len, size_t *len)
+{
+    size_t unwanted = 0;
+    return odht_symbol_b16_table_len(
+        odht_read_uint8_t(bytes, bytes_len), bytes_len, len ? len : &unwanted);
 }
 
 static inline uint32_t odht_b16_insert_order(
@@ -3063,6 +3190,11 @@ ODHT_CALL uint32_t odht_b32_sizes(
     const uint8_t *bytes, size_t bytes_len, size_t *slots, size_t *max_item_count, uint8_t *percent)
     ODHT_INLINE(b32_sizes);
 
+/* OK: *len is how many bytes the table at the front of the bytes has. An error, 1 to 7: it is
+   unchanged. */
+ODHT_CALL uint32_t odht_b32_table_len(const uint8_t *bytes, size_t bytes_len, size_t *len)
+    ODHT_INLINE(b32_table_len);
+
 /* OK: the occupied slots, in an order of inserts. UNMADE: no inserts make the table, and what slots
    holds is unspecified. BAD_LENGTHS, or an error, 1 to 16: slots is unchanged. */
 ODHT_CALL uint32_t odht_b32_insert_order(
@@ -3099,6 +3231,8 @@ uint32_t odht_symbol_b32_len(const uint8_t *bytes, size_t bytes_len, size_t *cou
 uint32_t odht_symbol_b32_sizes(
     const uint8_t *bytes, size_t bytes_len, size_t *slots, size_t *max_item_count, uint8_t *percent)
     ODHT_SYMBOL(b32_sizes);
+uint32_t odht_symbol_b32_table_len(const uint8_t *bytes, size_t bytes_len, size_t *len)
+    ODHT_SYMBOL(b32_table_len);
 uint32_t odht_symbol_b32_insert_order(
     const uint8_t *bytes, size_t bytes_len, size_t *slots, size_t slots_len)
     ODHT_SYMBOL(b32_insert_order);
@@ -3149,6 +3283,14 @@ static inline uint32_t odht_b32_sizes(
     return odht_symbol_b32_sizes(
         odht_read_uint8_t(bytes, bytes_len), bytes_len, slots ? slots : &unwanted[0],
         max_item_count ? max_item_count : &unwanted[1], percent ? percent : &unwanted_percent);
+}
+
+static inline uint32_t odht_b32_table_len(
+    const uint8_t *bytes, size_t bytes_len, size_t *len)
+{
+    size_t unwanted = 0;
+    return odht_symbol_b32_table_len(
+        odht_read_uint8_t(bytes, bytes_len), bytes_len, len ? len : &unwanted);
 }
 
 static inline uint32_t odht_b32_insert_order(

@@ -24,6 +24,7 @@ static void TEST(void)
     EXPECT(CALL(insert_order)(NULL, 0, NULL, 0), ODHT_TOO_SHORT);
     EXPECT(CALL(open_view)(NULL, 0, &view), ODHT_TOO_SHORT);
     EXPECT(CALL(sizes)(NULL, 0, NULL, NULL, NULL), ODHT_TOO_SHORT);
+    EXPECT(CALL(table_len)(NULL, 0, NULL), ODHT_TOO_SHORT);
     EXPECT(CALL(grow)(NULL, 0, NULL, 0, NULL), ODHT_TOO_SHORT);
 
     EXPECT(CALL(bytes_needed)(13, 87, NULL), ODHT_OK);
@@ -42,6 +43,7 @@ static void TEST(void)
     EXPECT(count, 77);
     EXPECT(CALL(walk)(bytes, LENGTH, &cursor, NULL, 0, NULL, 0, NULL), ODHT_OK);
     EXPECT(CALL(sizes)(bytes, LENGTH, NULL, NULL, NULL), ODHT_OK);
+    EXPECT(CALL(table_len)(bytes, LENGTH, NULL), ODHT_OK);
     EXPECT(CALL(grow)(bytes, LENGTH, NULL, 0, NULL), ODHT_TOO_SMALL);
     EXPECT(CALL(grow)(bytes, LENGTH, NULL, 0, &count), ODHT_TOO_SMALL);
     EXPECT(count, LENGTH);

@@ -77,11 +77,11 @@
     { \
         #shape, { key, value, hash }, odht_##shape##_bytes_needed, odht_##shape##_init, \
         odht_##shape##_open, odht_##shape##_check, odht_##shape##_len, odht_##shape##_sizes, \
-        odht_##shape##_insert_order, odht_##shape##_grow, odht_##shape##_open_view, \
-        odht_##shape##_view_len, shape##_get_of_bytes, shape##_get_all_of_bytes, \
-        shape##_insert_of_bytes, shape##_insert_all_of_bytes, shape##_walk_of_bytes, \
-        shape##_view_get_of_bytes, shape##_view_get_all_of_bytes, shape##_build_of_bytes, \
-        shape##_build_growing_of_bytes \
+        odht_##shape##_table_len, odht_##shape##_insert_order, odht_##shape##_grow, \
+        odht_##shape##_open_view, odht_##shape##_view_len, shape##_get_of_bytes, \
+        shape##_get_all_of_bytes, shape##_insert_of_bytes, shape##_insert_all_of_bytes, \
+        shape##_walk_of_bytes, shape##_view_get_of_bytes, shape##_view_get_all_of_bytes, \
+        shape##_build_of_bytes, shape##_build_growing_of_bytes \
     }
 
 const struct calls all_shapes[SHAPES] = {

@@ -31,6 +31,7 @@ struct calls {
     uint32_t (*len)(const uint8_t *bytes, size_t len, size_t *count);
     uint32_t (*sizes)(const uint8_t *bytes, size_t len, size_t *slots, size_t *maximum,
                       uint8_t *percent);
+    uint32_t (*table_len)(const uint8_t *bytes, size_t len, size_t *found);
     uint32_t (*insert_order)(const uint8_t *bytes, size_t len, size_t *slots, size_t slots_len);
     uint32_t (*grow)(const uint8_t *bytes, size_t len, uint8_t *out, size_t out_len,
                      size_t *grown);

@@ -57,7 +57,11 @@ size_t search_end(const struct reading *table, const uint8_t *key);
 /* The length in bytes of a table of so many slots, which fits 64 bits. */
 size_t image_len(struct shape shape, size_t slots);
 
-/* The first error of header and length; of opening, which reads ten slots too; and of the whole check; or ODHT_OK. */
+/*
+ * The first error, or ODHT_OK: of a table at the front of the bytes, whatever follows it; of header and length; of
+ * opening, which reads ten slots too; and of the whole check.
+ */
+uint32_t front_error(const struct reading *table);
 uint32_t header_error(const struct reading *table);
 uint32_t opening_error(const struct reading *table);
 uint32_t whole_error(const struct reading *table);

@@ -31,24 +31,38 @@ static bool is_power_of_two(uint64_t number)
     return false;
 }
 
-/* Whether so many slots have the length of the bytes. A slot takes at least a byte, so more slots than bytes do not. */
-static bool is_long_enough(const struct reading *table, size_t slots)
+/* Steps 1 to 5, all but the length. */
+static uint32_t early_error(const struct reading *table)
 {
-    return slots <= table->len && image_len(table->shape, slots) == table->len;
+    uint32_t error = field_error(table);
+
+    if (error != ODHT_OK)
+        return error;
+    if (!is_power_of_two(slots_of(table)))
+        return ODHT_SLOT_COUNT_NOT_POWER_OF_TWO;
+    return slots_of(table) < 16 ? ODHT_SLOT_COUNT_TOO_SMALL : ODHT_OK;
 }
 
 uint32_t header_error(const struct reading *table)
 {
-    uint32_t error = field_error(table);
+    uint32_t error = front_error(table);
+
+    if (error == ODHT_OK && image_len(table->shape, slots_of(table)) != table->len)
+        return ODHT_WRONG_LENGTH;
+    return error;
+}
+
+/* A slot takes at least a byte, so more slots than bytes are too many, and the length of fewer does not wrap. */
+uint32_t front_error(const struct reading *table)
+{
+    uint32_t error = early_error(table);
     size_t slots = slots_of(table);
 
     if (error != ODHT_OK)
         return error;
-    if (!is_power_of_two(slots))
-        return ODHT_SLOT_COUNT_NOT_POWER_OF_TWO;
-    if (slots < 16)
-        return ODHT_SLOT_COUNT_TOO_SMALL;
-    return is_long_enough(table, slots) ? ODHT_OK : ODHT_WRONG_LENGTH;
+    if (slots > table->len || image_len(table->shape, slots) > table->len)
+        return ODHT_WRONG_LENGTH;
+    return ODHT_OK;
 }
 
 /* A free slot's entry is not zero. */

@@ -20,6 +20,7 @@ pub trait Calls {
     fn open(bytes: &[u8]) -> u32;
     fn check(bytes: &[u8]) -> u32;
     fn sizes(bytes: &[u8], slots: &mut usize, max_items: &mut usize, percent: &mut u8) -> u32;
+    fn table_len(bytes: &[u8], len: &mut usize) -> u32;
     fn insert(bytes: &mut [u8], key: &Self::Key, value: Self::Value, former: &mut Self::Value) -> u32;
     fn insert_all(bytes: &mut [u8], keys: &[Self::Key], values: &[Self::Value], accepted: &mut usize) -> u32;
     fn walk(
@@ -92,6 +93,12 @@ macro_rules! calls {
             fn sizes(bytes: &[u8], slots: &mut usize, max_items: &mut usize, percent: &mut u8) -> u32 {
                 // SAFETY: of a slice, and of references that are apart.
                 unsafe { sys::$module::sizes(bytes.as_ptr(), bytes.len(), slots, max_items, percent) }
+            }
+
+            #[inline]
+            fn table_len(bytes: &[u8], len: &mut usize) -> u32 {
+                // SAFETY: of a slice, and a reference that is apart.
+                unsafe { sys::$module::table_len(bytes.as_ptr(), bytes.len(), len) }
             }
 
             #[inline]

@@ -71,6 +71,10 @@ macro_rules! shape {
                     percent: *mut u8,
                 ) -> u32;
 
+                /// How many bytes the table at the front of the bytes has.
+                #[link_name = concat!("odht_", stringify!($shape), "_table_len")]
+                pub fn table_len(bytes: *const u8, bytes_len: usize, len: *mut usize) -> u32;
+
                 /// The header's item count.
                 #[link_name = concat!("odht_", stringify!($shape), "_len")]
                 pub fn len(bytes: *const u8, bytes_len: usize, count: *mut usize) -> u32;

@@ -95,6 +95,19 @@ impl<'a, S: Shape> Table<'a, S> {
         Table::open(bytes)
     }
 
+    /// How many bytes the table at the front of `bytes` has, by its header. What follows the table is not looked at, nor
+    /// is any slot, so `bytes` may be the rest of a file. [`Table::open`] takes exactly these bytes.
+    ///
+    /// # Errors
+    ///
+    /// The first of [`Error::TooShort`] to [`Error::WrongLength`] (1 to 7) that applies; `WrongLength` only where there
+    /// are fewer bytes than the table has.
+    pub fn table_len(bytes: &[u8]) -> Result<usize, Error> {
+        let mut len = 0;
+        Error::unless_ok(S::Calls::table_len(bytes, &mut len), ())?;
+        Ok(len)
+    }
+
     /// # Safety
     ///
     /// `open` or `init` of this shape has returned `OK` for the bytes, and nothing but inserts of this shape has

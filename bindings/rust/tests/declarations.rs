@@ -81,6 +81,6 @@ fn the_header_declares_the_same() {
         return;
     };
     let declared = declared_in_rust();
-    assert_eq!(declared.len(), 9 * 19);
+    assert_eq!(declared.len(), 9 * 20);
     assert_eq!(declared, declared_in_c(&header));
 }

@@ -47,6 +47,25 @@ fn lookups_do_not_ask_for_the_count() {
 }
 
 #[test]
+fn a_table_is_found_in_longer_bytes() {
+    let table = worked_example();
+    for (before, behind) in [(0, 0), (0, 1), (1, 300), (7, 7)] {
+        let file = [vec![79; before], table.clone(), vec![79; behind]].concat();
+        let len = Table::<U64U32>::table_len(&file[before..]).unwrap();
+        assert_eq!(len, 256);
+        assert_eq!(Table::<U64U32>::open(&file[before..][..len]).unwrap().get(&3), Some(4));
+    }
+    for length in 0..table.len() {
+        let expected = if length < 32 { Error::TooShort } else { Error::WrongLength };
+        assert_eq!(Table::<U64U32>::table_len(&table[..length]), Err(expected));
+    }
+    assert_eq!(Table::<B32>::table_len(&table), Err(Error::WrongSize));
+    let mut forged = table;
+    forged[16..24].copy_from_slice(&(1_u64 << 63).to_le_bytes());
+    assert_eq!(Table::<U64U32>::table_len(&forged), Err(Error::WrongLength));
+}
+
+#[test]
 fn orders_and_growth_are_refused() {
     for count in HUGE {
         let bytes = stating(count);

@@ -48,6 +48,13 @@
  *     header's load factor in percent. It is rounded down, so it may be one below that
  *     which the table was made with. An error, 1 to 7.
  *
+ * odht_S_table_len(bytes, bytes_len, *len)
+ *     How many bytes the table at the front of longer bytes has, by its header. So a
+ *     table inside a file is found without a length of one's own: the other calls take
+ *     exactly these bytes, and what follows them is not the table's. Slots are not read.
+ *     OK: *len is its length in bytes, which is not above bytes_len. An error, 1 to 7;
+ *     WRONG_LENGTH only where bytes_len is below the length of the table.
+ *
  * odht_S_get(bytes, bytes_len, key, *value)
  *     OK: the key is there, and *value is its value. ABSENT: it is not there.
  *     An error, 1 to 7.

@@ -27,6 +27,11 @@ ODHT_CALL uint32_t odht_@S@_sizes(
     const uint8_t *bytes, size_t bytes_len, size_t *slots, size_t *max_item_count, uint8_t *percent)
     ODHT_INLINE(@S@_sizes);
 
+/* OK: *len is how many bytes the table at the front of the bytes has. An error, 1 to 7: it is
+   unchanged. */
+ODHT_CALL uint32_t odht_@S@_table_len(const uint8_t *bytes, size_t bytes_len, size_t *len)
+    ODHT_INLINE(@S@_table_len);
+
 /* OK: the occupied slots, in an order of inserts. UNMADE: no inserts make the table, and what slots
    holds is unspecified. BAD_LENGTHS, or an error, 1 to 16: slots is unchanged. */
 ODHT_CALL uint32_t odht_@S@_insert_order(
@@ -90,6 +95,14 @@ static inline uint32_t odht_@S@_sizes(
     return odht_symbol_@S@_sizes(
         odht_read_uint8_t(bytes, bytes_len), bytes_len, slots ? slots : &unwanted[0],
         max_item_count ? max_item_count : &unwanted[1], percent ? percent : &unwanted_percent);
+}
+
+static inline uint32_t odht_@S@_table_len(
+    const uint8_t *bytes, size_t bytes_len, size_t *len)
+{
+    size_t unwanted = 0;
+    return odht_symbol_@S@_table_len(
+        odht_read_uint8_t(bytes, bytes_len), bytes_len, len ? len : &unwanted);
 }
 
 static inline uint32_t odht_@S@_insert_order(
