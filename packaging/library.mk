@@ -28,10 +28,10 @@ build/$(SHARED): build/libodht.a packaging/odht.map
 	@ln -sf $(SONAME) build/libodht.so
 
 exports:
-	@sh crates/odht_c/exports/generate.sh
+	@python3 tools/shapes
 
 exports_are_current:
-	@sh crates/odht_c/exports/generate.sh --check
+	@python3 tools/shapes --check
 	@sh crates/odht_c/exports/statuses.sh > /dev/null
 
 # below ${prefix} where they are, so that the installed folder can be moved

@@ -71,7 +71,7 @@ def each(*commands):
 
 def generated():
     return each(
-        ["sh", "crates/odht_c/exports/generate.sh", "--check"],
+        [sys.executable, "tools/shapes", "--check"],
         ["sh", "crates/odht_c/exports/statuses.sh"],
         ["sh", "examples/quoted.sh"],
     )

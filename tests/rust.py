@@ -166,16 +166,16 @@ def package():
 
 
 def declared():
-    """Returns the symbols that include/odht.h declares."""
-    with open(f"{TOP}/include/odht.h", encoding="utf-8") as it:
-        return {"odht_version"} | {f"odht_{name}" for name in re.findall(r"^ +ODHT_SYMBOL\((\w+)\)", it.read(), re.M)}
+    """Returns the symbols that include/odht.h declares, whose macros the preprocessor of C expands."""
+    text = run(["cc", "-E", "-P", "-x", "c", "include/odht.h"])
+    return {"odht_version"} | {f"odht_{name}" for name in re.findall(r'__asm__\("odht_" "(\w+)"\)', text)}
 
 
 def library_for_c():
     cargo("rust/c", "build", "--release")
     passed = cargo("rust/c", "test", "--lib")
     libraries = f"{CARGO_FILES}/release"
-    if has("nm", "--version"):
+    if has("nm", "--version") and has("cc", "--version"):
         names = set(re.findall(r" T (odht_\w+)", run(["nm", "-D", "--defined-only", f"{libraries}/libodht.so"])))
         if names != declared():
             raise Failed(f"declared and not there, or there and not declared: {sorted(names ^ declared())}")

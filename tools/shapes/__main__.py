@@ -4,9 +4,10 @@ Each module here makes the files of one kind of user. Its `files(shapes)` return
 Its FOLDERS have generated files alone: another file that is found there is removed."""
 import sys
 
+import c
 import shape_list
 
-MAKERS = []
+MAKERS = [c]
 
 
 def differences(texts, folders):

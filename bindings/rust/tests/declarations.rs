@@ -2,17 +2,18 @@
 //! parameters in the same order, as far as their types at the machine level differ.
 
 use std::collections::BTreeMap;
+use std::process::Command;
 
 /// What a parameter is to the machine: `*const`, `*mut`, or a number of so many bits.
 type Kinds = Vec<String>;
 
-/// The header without its comments; `None` outside of the repository.
+/// What the preprocessor of C makes of the header, whose macros declare the calls; `None` outside of the repository.
 fn header() -> Option<String> {
     let path = concat!(env!("CARGO_MANIFEST_DIR"), "/../../include/odht.h");
-    let text = std::fs::read_to_string(path).ok()?;
-    let mut parts = text.split("/*");
-    let first = parts.next()?.to_string();
-    Some(parts.fold(first, |text, part| text + part.split_once("*/").map_or("", |(_, behind)| behind)))
+    std::fs::metadata(path).ok()?;
+    let ran = Command::new("cc").args(["-E", "-P", "-x", "c", path]).output().expect("there is no compiler of C");
+    assert!(ran.status.success(), "the header is not preprocessed");
+    Some(String::from_utf8(ran.stdout).unwrap())
 }
 
 fn kind_in_c(parameter: &str) -> String {
@@ -36,10 +37,10 @@ fn declared_in_c(header: &str) -> BTreeMap<String, Kinds> {
         let (name, behind) = piece.split_once('(').unwrap();
         let (parameters, behind) = behind.split_once(')').unwrap();
         // Otherwise it is a call, in the body of a function.
-        if behind.trim_start().starts_with("ODHT_SYMBOL") {
+        if behind.trim_start().starts_with("__asm__") {
             let answer = before.split_whitespace().last().unwrap();
             let kinds = parameters.split(',').map(kind_in_c).chain([kind_in_c(answer)]);
-            symbols.insert(name.to_string(), kinds.collect());
+            symbols.insert(name.trim_end().to_string(), kinds.collect());
         }
         before = piece;
     }

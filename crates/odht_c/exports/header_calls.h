@@ -1,7 +1,8 @@
 /* ---- The calls ----
  *
- * S is the name of a kind of table, KEY and VALUE are its keys and values. An out-parameter
- * is written with the answers that name it, and otherwise is unchanged.
+ * S is the name of a kind of table. A single key or value that is a number is passed as it is, and one of N bytes as a
+ * pointer to these; *value and *former are the number, or the N bytes. An out-parameter is written with the answers that
+ * name it, and otherwise is unchanged.
  *
  * odht_S_bytes_needed(max_item_count, percent, *len)
  *     How many bytes a table for max_item_count items has in which at most percent

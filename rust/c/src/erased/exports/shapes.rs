@@ -1,5 +1,5 @@
 // Made by `make rust` of crates/odht_c/src/shapes.rt.
-//! The exports of each shape of table, each file written by exports/generate.sh.
+//! The exports of each shape of table: this list and each file are written by tools/shapes.
 
 pub(crate) mod b16;
 pub(crate) mod b16_u32;

@@ -5,7 +5,7 @@
 //! docs/PROOFS.md, "Calls for C", lists what is proved. Load factors are in percent of slots. An error of the header or
 //! length has a number from 1 to 7.
 //!
-//! Written by exports/generate.sh from exports/shape.rt.in: edit that one.
+//! Written by tools/shapes from exports/shape.rt.in: edit that one.
 
 use crate::erased::calls::status::BAD_LENGTHS;
 use crate::erased::calls::view::{self, View};
