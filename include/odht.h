@@ -8,11 +8,18 @@
  *   odht_u32_u32_*  from 32-bit numbers to 32-bit numbers, FxHashFn
  *   odht_u64_u32_*  from 64-bit numbers to 32-bit numbers, FxHashFn
  *   odht_u64_u64_*  from 64-bit numbers to 64-bit numbers, FxHashFn
+ *   odht_u64_*      of 64-bit numbers, a set, FxHashFn
+ *   odht_b8_u32_*   from hashes of 8 bytes to 32-bit numbers, UnHashFn
+ *   odht_b8_u64_*   from hashes of 8 bytes to 64-bit numbers, UnHashFn
  *   odht_b16_u32_*  from hashes of 16 bytes to 32-bit numbers, UnHashFn
  *   odht_b16_u64_*  from hashes of 16 bytes to 64-bit numbers, UnHashFn
  *   odht_b20_u64_*  from hashes of 20 bytes to 64-bit numbers, UnHashFn
  *   odht_b32_u64_*  from hashes of 32 bytes to 64-bit numbers, UnHashFn
+ *   odht_b16_b16_*  from hashes of 16 bytes to hashes of 16 bytes, UnHashFn
+ *   odht_b32_b32_*  from hashes of 32 bytes to hashes of 32 bytes, UnHashFn
+ *   odht_b8_*       of hashes of 8 bytes, a set, UnHashFn
  *   odht_b16_*      of hashes of 16 bytes, a set, UnHashFn
+ *   odht_b20_*      of hashes of 20 bytes, a set, UnHashFn
  *   odht_b32_*      of hashes of 32 bytes, a set, UnHashFn
  *
  * FxHashFn hashes numbers. UnHashFn is for keys that are hashes already: their
@@ -738,11 +745,18 @@ ODHT_NODISCARD extern uint32_t odht_version(void);
 ODHT_DECLARE_MAP(u32_u32, ODHT_NUMBER, 32, ODHT_NUMBER, 32)
 ODHT_DECLARE_MAP(u64_u32, ODHT_NUMBER, 64, ODHT_NUMBER, 32)
 ODHT_DECLARE_MAP(u64_u64, ODHT_NUMBER, 64, ODHT_NUMBER, 64)
+ODHT_DECLARE_SET(u64, ODHT_NUMBER, 64)
+ODHT_DECLARE_MAP(b8_u32, ODHT_BYTES, 8, ODHT_NUMBER, 32)
+ODHT_DECLARE_MAP(b8_u64, ODHT_BYTES, 8, ODHT_NUMBER, 64)
 ODHT_DECLARE_MAP(b16_u32, ODHT_BYTES, 16, ODHT_NUMBER, 32)
 ODHT_DECLARE_MAP(b16_u64, ODHT_BYTES, 16, ODHT_NUMBER, 64)
 ODHT_DECLARE_MAP(b20_u64, ODHT_BYTES, 20, ODHT_NUMBER, 64)
 ODHT_DECLARE_MAP(b32_u64, ODHT_BYTES, 32, ODHT_NUMBER, 64)
+ODHT_DECLARE_MAP(b16_b16, ODHT_BYTES, 16, ODHT_BYTES, 16)
+ODHT_DECLARE_MAP(b32_b32, ODHT_BYTES, 32, ODHT_BYTES, 32)
+ODHT_DECLARE_SET(b8, ODHT_BYTES, 8)
 ODHT_DECLARE_SET(b16, ODHT_BYTES, 16)
+ODHT_DECLARE_SET(b20, ODHT_BYTES, 20)
 ODHT_DECLARE_SET(b32, ODHT_BYTES, 32)
 #undef ODHT_CALL
 #undef ODHT_SYMBOL

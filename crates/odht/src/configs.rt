@@ -7,15 +7,16 @@ ghost use Rattle.std.proofs.Common.{lit≤, zero-le};
 use crate::bytes::ByteArray;
 use crate::config::Config;
 use crate::hash::FxHashFn;
-pub use hashed::{
-    Bytes16Set, Bytes16ToU32, Bytes16ToU64, Bytes20ToU64, Bytes32Set, Bytes32ToU64, HashBytes,
-    Hashes,
+pub use pairs::{
+    Bytes8Set, Bytes8ToU32, Bytes8ToU64, Bytes16Set, Bytes16ToBytes16, Bytes16ToU32, Bytes16ToU64,
+    Bytes20Set, Bytes20ToU64, Bytes32Set, Bytes32ToBytes32, Bytes32ToU64, DirectU32ToU32, Pairs,
+    U32ToU32, U64Set, U64ToU32, U64ToU64,
 };
-pub use numbers::{DirectU32ToU32, HashedBy, Numbers, Stored, U32ToU32, U64ToU32, U64ToU64};
 use std::marker::PhantomData;
+pub use stored::{Fits, HashedBy, Stored};
 
-mod hashed;
-mod numbers;
+mod pairs;
+mod stored;
 
 /// A byte array that may be a key or a value: of at most 255 bytes.
 pub trait Short: ByteArray {
