@@ -2,6 +2,7 @@
 #include <stdint.h>
 #include <stdio.h>
 #include <stdlib.h>
+#include <string.h>
 
 #include "odht.h"
 #include "expect.h"
@@ -57,6 +58,26 @@ static void null_builds(void)
     EXPECT(odht_u64_u32_check(out, 256), ODHT_OK);
 }
 
+/* Values of bytes: a table of 16 slots has 32 + 16 * (16 + 16) + 32 bytes. */
+static void null_values_of_bytes(void)
+{
+    const uint8_t *key = hashes;
+    const uint8_t *other = hashes + 16;
+    uint8_t bytes[576];
+    uint8_t value[16] = {0};
+
+    EXPECT(odht_b16_b16_init(bytes, 576, 13, 87), ODHT_OK);
+    EXPECT(odht_b16_b16_insert(bytes, 576, key, other, NULL), ODHT_OK);
+    EXPECT(odht_b16_b16_insert(bytes, 576, key, key, NULL), ODHT_REPLACED);
+    EXPECT(odht_b16_b16_insert(bytes, 576, key, other, value), ODHT_REPLACED);
+    EXPECT(memcmp(value, key, 16), 0);
+    EXPECT(odht_b16_b16_get(bytes, 576, key, NULL), ODHT_OK);
+    EXPECT(odht_b16_b16_get(bytes, 576, other, NULL), ODHT_ABSENT);
+    EXPECT(odht_b16_b16_get(bytes, 576, key, value), ODHT_OK);
+    EXPECT(memcmp(value, other, 16), 0);
+    EXPECT(odht_b16_b16_get_all(bytes, 576, NULL, 0, NULL, 0, NULL, 0), ODHT_OK);
+}
+
 /* A pointer to a function points to the inline function, which takes NULL. */
 static void null_through_pointer(void)
 {
@@ -71,6 +92,7 @@ int main(void)
     null_u64_u32();
     null_b16_u32();
     null_builds();
+    null_values_of_bytes();
     null_through_pointer();
     printf("%u answers are as they must be\n", compared);
     return EXIT_SUCCESS;

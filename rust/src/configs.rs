@@ -1,4 +1,5 @@
-//! Ready configurations: numbers to numbers, and hashes to numbers or to nothing. Numbers are stored little-endian.
+//! Ready configurations: from numbers and hashes to numbers, hashes or nothing. Numbers are stored little-endian. Keys
+//! that are hashed by [`UnHashFn`] are hashes already: their last four bytes are the hash, and should vary.
 //!
 //! They are those of the proved library, where it is proved that their decodings undo their encodings.
 //!
@@ -16,8 +17,10 @@ use crate::proved::header::config;
 use crate::proved::tables::configs as proved;
 
 macro_rules! ready {
-    ($($(#[$doc:meta])* $name:ident: $key:ty => $value:ty, $key_len:literal, $value_len:literal, $hash:ty;)*) => { $(
-        $(#[$doc])*
+    ($(
+        $name:ident: $key:ty => $value:ty, $key_len:literal, $value_len:literal, $hash:ty, $words:literal;
+    )*) => { $(
+        #[doc = concat!($words, ", hashed by [`", stringify!($hash), "`].")]
         #[derive(Clone, Copy, PartialEq, Eq, Debug)]
         pub struct $name;
 
@@ -51,25 +54,5 @@ macro_rules! ready {
     )* };
 }
 
-ready! {
-    /// From `u32` to `u32`, hashed by [`FxHashFn`].
-    U32ToU32: u32 => u32, 4, 4, FxHashFn;
-    /// From `u32` to `u32`. The hash of a key is the key.
-    DirectU32ToU32: u32 => u32, 4, 4, UnHashFn;
-    /// From `u64` to `u32`, hashed by [`FxHashFn`].
-    U64ToU32: u64 => u32, 8, 4, FxHashFn;
-    /// From `u64` to `u64`, hashed by [`FxHashFn`].
-    U64ToU64: u64 => u64, 8, 8, FxHashFn;
-    /// From hashes of 16 bytes to `u32`. The last four bytes of a key are its hash, as in all that follow.
-    Bytes16ToU32: [u8; 16] => u32, 16, 4, UnHashFn;
-    /// From hashes of 16 bytes to `u64`.
-    Bytes16ToU64: [u8; 16] => u64, 16, 8, UnHashFn;
-    /// From hashes of 20 bytes to `u64`.
-    Bytes20ToU64: [u8; 20] => u64, 20, 8, UnHashFn;
-    /// From hashes of 32 bytes to `u64`.
-    Bytes32ToU64: [u8; 32] => u64, 32, 8, UnHashFn;
-    /// A set of hashes of 16 bytes.
-    Bytes16Set: [u8; 16] => (), 16, 0, UnHashFn;
-    /// A set of hashes of 32 bytes.
-    Bytes32Set: [u8; 32] => (), 32, 0, UnHashFn;
-}
+include!("configs/list.rs");
+each_configuration!(ready);

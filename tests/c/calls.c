@@ -1,76 +1,14 @@
 /* The calls of every shape. Numbers in memory have the lowest byte first, as in a table: odht is for such machines. */
 #include "calls.h"
 
-#define JOINED(left, middle, right) left##middle##right
-#define JOIN(left, middle, right) JOINED(left, middle, right)
-
-/* A call of the library, and the one that is made of it here. */
-#define CALL(call) JOIN(odht_, SHAPE, _##call)
-#define OF(call) JOIN(, SHAPE, _##call##_of_bytes)
-
-#define SHAPE u32_u32
-#define KEY(key) (*(const uint32_t *)(key))
-#define VALUE uint32_t
 #include "calls_of_map.h"
-#undef SHAPE
-#undef KEY
-#undef VALUE
-
-#define SHAPE u64_u32
-#define KEY(key) (*(const uint64_t *)(key))
-#define VALUE uint32_t
-#include "calls_of_map.h"
-#undef SHAPE
-#undef KEY
-#undef VALUE
-
-#define SHAPE u64_u64
-#define KEY(key) (*(const uint64_t *)(key))
-#define VALUE uint64_t
-#include "calls_of_map.h"
-#undef SHAPE
-#undef KEY
-#undef VALUE
-
-#define SHAPE b16_u32
-#define KEY(key) ((const uint8_t *)(key))
-#define VALUE uint32_t
-#include "calls_of_map.h"
-#undef SHAPE
-#undef KEY
-#undef VALUE
-
-#define SHAPE b16_u64
-#define KEY(key) ((const uint8_t *)(key))
-#define VALUE uint64_t
-#include "calls_of_map.h"
-#undef SHAPE
-#undef KEY
-#undef VALUE
-
-#define SHAPE b20_u64
-#define KEY(key) ((const uint8_t *)(key))
-#define VALUE uint64_t
-#include "calls_of_map.h"
-#undef SHAPE
-#undef KEY
-#undef VALUE
-
-#define SHAPE b32_u64
-#define KEY(key) ((const uint8_t *)(key))
-#define VALUE uint64_t
-#include "calls_of_map.h"
-#undef SHAPE
-#undef KEY
-#undef VALUE
-
-#define SHAPE b16
 #include "calls_of_set.h"
-#undef SHAPE
 
-#define SHAPE b32
-#include "calls_of_set.h"
-#undef SHAPE
+EACH_SHAPE(CALLS_OF_MAP, CALLS_OF_SET)
+
+/* How many bytes a number of so many bits has, and so many bytes. */
+#define LENGTH_NUMBER(bits) ((bits) / 8)
+#define LENGTH_BYTES(count) (count)
 
 /* The row of a shape. */
 #define ROW(shape, key, value, hash) \
@@ -84,18 +22,11 @@
         shape##_build_of_bytes, shape##_build_growing_of_bytes \
     }
 
-const struct calls all_shapes[SHAPES] = {
-    ROW(u32_u32, 4, 4, FX),
-    ROW(u64_u32, 8, 4, FX),
-    ROW(u64_u64, 8, 8, FX),
-    ROW(b16_u32, 16, 4, UN),
-    ROW(b16_u64, 16, 8, UN),
-    ROW(b20_u64, 20, 8, UN),
-    ROW(b32_u64, 32, 8, UN),
-    ROW(b16, 16, 0, UN),
-    ROW(b32, 32, 0, UN),
-};
+#define ROW_OF_MAP(shape, K, k, V, v, hash) ROW(shape, LENGTH_##K(k), LENGTH_##V(v), hash),
+#define ROW_OF_SET(shape, K, k, hash) ROW(shape, LENGTH_##K(k), 0, hash),
 
-const struct calls *const u32_u32_calls = &all_shapes[0];
-const struct calls *const u64_u32_calls = &all_shapes[1];
-const struct calls *const b16_u32_calls = &all_shapes[3];
+const struct calls all_shapes[SHAPES] = { EACH_SHAPE(ROW_OF_MAP, ROW_OF_SET) };
+
+const struct calls *const u32_u32_calls = &all_shapes[AT_u32_u32];
+const struct calls *const u64_u32_calls = &all_shapes[AT_u64_u32];
+const struct calls *const b16_u32_calls = &all_shapes[AT_b16_u32];

@@ -9,6 +9,7 @@
 #include <stdint.h>
 
 #include "odht.h"
+#include "shape_list.h"
 
 /* How a key is hashed. */
 enum hash { FX, UN };
@@ -55,8 +56,10 @@ struct calls {
                               size_t values_len, uint8_t *out, size_t out_len, size_t *len);
 };
 
-/* All shapes. */
-enum { SHAPES = 9 };
+/* All shapes: the place of each in their list, and how many there are. */
+#define PLACE_OF_MAP(name, key_kind, key, value_kind, value, hash) AT_##name,
+#define PLACE_OF_SET(name, key_kind, key, hash) AT_##name,
+enum { EACH_SHAPE(PLACE_OF_MAP, PLACE_OF_SET) SHAPES };
 extern const struct calls all_shapes[SHAPES];
 
 /* From 32-bit numbers to 32-bit numbers, from 64-bit numbers to 32-bit ones, from 16 bytes to 32-bit numbers. */

@@ -1,68 +1,71 @@
-/* The calls of a set, for the table in calls.c. Before this is included, SHAPE is the shape's name. */
-static uint32_t OF(get)(const uint8_t *bytes, size_t len, const void *key, void *value)
-{
-    (void)value;
-    return CALL(contains)(bytes, len, key);
-}
-
-static uint32_t OF(get_all)(const uint8_t *bytes, size_t len, const void *keys, size_t keys_len,
-                            void *values, size_t values_len, uint8_t *found, size_t found_len)
-{
-    (void)values;
-    (void)values_len;
-    return CALL(contains_all)(bytes, len, keys, keys_len, found, found_len);
-}
-
-static uint32_t OF(insert)(uint8_t *bytes, size_t len, const void *key, const void *value,
-                           void *former)
-{
-    (void)value;
-    (void)former;
-    return CALL(insert)(bytes, len, key);
-}
-
-static uint32_t OF(insert_all)(uint8_t *bytes, size_t len, const void *keys, size_t keys_len,
-                               const void *values, size_t values_len, size_t *accepted)
-{
-    (void)values;
-    (void)values_len;
-    return CALL(insert_all)(bytes, len, keys, keys_len, accepted);
-}
-
-static uint32_t OF(walk)(const uint8_t *bytes, size_t len, size_t *cursor, void *keys,
-                         size_t keys_len, void *values, size_t values_len, size_t *count)
-{
-    (void)values;
-    (void)values_len;
-    return CALL(walk)(bytes, len, cursor, keys, keys_len, count);
-}
-
-static uint32_t OF(view_get)(const odht_view *view, const void *key, void *value)
-{
-    (void)value;
-    return CALL(view_contains)(view, key);
-}
-
-static uint32_t OF(view_get_all)(const odht_view *view, const void *keys, size_t keys_len,
-                                 void *values, size_t values_len, uint8_t *found, size_t found_len)
-{
-    (void)values;
-    (void)values_len;
-    return CALL(view_contains_all)(view, keys, keys_len, found, found_len);
-}
-
-static uint32_t OF(build)(const void *keys, size_t keys_len, const void *values, size_t values_len,
-                          uint8_t percent, uint8_t *out, size_t out_len, size_t *len)
-{
-    (void)values;
-    (void)values_len;
-    return CALL(build)(keys, keys_len, percent, out, out_len, len);
-}
-
-static uint32_t OF(build_growing)(const void *keys, size_t keys_len, const void *values,
-                                  size_t values_len, uint8_t *out, size_t out_len, size_t *len)
-{
-    (void)values;
-    (void)values_len;
-    return CALL(build_growing)(keys, keys_len, out, out_len, len);
-}
+/* The calls of a set, for the table in calls.c. K is NUMBER or BYTES, k how many bits or bytes. */
+#define CALLS_OF_SET(shape, K, k, hash) \
+    static uint32_t shape##_get_of_bytes(const uint8_t *bytes, size_t len, const void *key, \
+        void *value) \
+    { \
+        (void)value; \
+        return odht_##shape##_contains(bytes, len, PASSED_##K(k, key)); \
+    } \
+\
+    static uint32_t shape##_get_all_of_bytes(const uint8_t *bytes, size_t len, const void *keys, \
+        size_t keys_len, void *values, size_t values_len, uint8_t *found, size_t found_len) \
+    { \
+        (void)values; \
+        (void)values_len; \
+        return odht_##shape##_contains_all(bytes, len, keys, keys_len, found, found_len); \
+    } \
+\
+    static uint32_t shape##_insert_of_bytes(uint8_t *bytes, size_t len, const void *key, \
+        const void *value, void *former) \
+    { \
+        (void)value; \
+        (void)former; \
+        return odht_##shape##_insert(bytes, len, PASSED_##K(k, key)); \
+    } \
+\
+    static uint32_t shape##_insert_all_of_bytes(uint8_t *bytes, size_t len, const void *keys, \
+        size_t keys_len, const void *values, size_t values_len, size_t *accepted) \
+    { \
+        (void)values; \
+        (void)values_len; \
+        return odht_##shape##_insert_all(bytes, len, keys, keys_len, accepted); \
+    } \
+\
+    static uint32_t shape##_walk_of_bytes(const uint8_t *bytes, size_t len, size_t *cursor, \
+        void *keys, size_t keys_len, void *values, size_t values_len, size_t *count) \
+    { \
+        (void)values; \
+        (void)values_len; \
+        return odht_##shape##_walk(bytes, len, cursor, keys, keys_len, count); \
+    } \
+\
+    static uint32_t shape##_view_get_of_bytes(const odht_view *view, const void *key, \
+        void *value) \
+    { \
+        (void)value; \
+        return odht_##shape##_view_contains(view, PASSED_##K(k, key)); \
+    } \
+\
+    static uint32_t shape##_view_get_all_of_bytes(const odht_view *view, const void *keys, \
+        size_t keys_len, void *values, size_t values_len, uint8_t *found, size_t found_len) \
+    { \
+        (void)values; \
+        (void)values_len; \
+        return odht_##shape##_view_contains_all(view, keys, keys_len, found, found_len); \
+    } \
+\
+    static uint32_t shape##_build_of_bytes(const void *keys, size_t keys_len, const void *values, \
+        size_t values_len, uint8_t percent, uint8_t *out, size_t out_len, size_t *len) \
+    { \
+        (void)values; \
+        (void)values_len; \
+        return odht_##shape##_build(keys, keys_len, percent, out, out_len, len); \
+    } \
+\
+    static uint32_t shape##_build_growing_of_bytes(const void *keys, size_t keys_len, \
+        const void *values, size_t values_len, uint8_t *out, size_t out_len, size_t *len) \
+    { \
+        (void)values; \
+        (void)values_len; \
+        return odht_##shape##_build_growing(keys, keys_len, out, out_len, len); \
+    }

@@ -24,7 +24,7 @@ struct spoiled {
     uint8_t *out;
 };
 
-enum { KEYS = 3, OUT_LEN = 2000 };
+enum { KEYS = 3, OUT_LEN = 2400 };
 
 /* The table with up to two ways to spoil it, right before a page that faults where buffers are so. */
 static struct spoiled spoiled_table(const struct calls *calls, const struct spoiling *first,

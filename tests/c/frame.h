@@ -31,7 +31,7 @@ struct cases {
 void check_each_case(const struct cases *cases);
 
 /* Tables of at most so many bytes and slots. */
-enum { FRAME_BYTES = 2048, FRAME_SLOTS = 32 };
+enum { FRAME_BYTES = 2304, FRAME_SLOTS = 32 };
 
 /* The calls that read a table that was opened stay in the frame, and write nothing to it. */
 void check_reads(const struct calls *calls, const uint8_t *bytes, size_t len, struct cases *cases);

@@ -9,7 +9,7 @@
 #include "test.h"
 
 /* The keys of the slots, and for each two that are near it and far from it. */
-enum { KEYS = 3 * FRAME_SLOTS, OUT_LEN = 4096 };
+enum { KEYS = 3 * FRAME_SLOTS, OUT_LEN = 4608 };
 static const uint32_t far = 0x9e3779b9;
 
 /* A table whose calls are looked at, and the keys that are looked up. */

@@ -15,7 +15,7 @@
 #include "subjects.h"
 
 /* At most so many pairs, and bytes of a table of 128 slots with the longest entries. */
-enum { SEEDS = 32, MOST_PAIRS = 3 * SEEDS, MOST_BYTES = 32 + 128 * 41 + 16 };
+enum { SEEDS = 32, MOST_PAIRS = 3 * SEEDS, MOST_BYTES = 32 + 128 * 65 + 16 };
 
 /* A list, and room for tables of it. */
 struct list {

@@ -54,14 +54,14 @@ static struct looked looked_at(const struct calls *calls)
 /* Asserts the value of a number, or that no value was written. */
 static void check_value(struct shape shape, uint32_t number, const uint8_t *value)
 {
-    uint64_t expected = 0;
+    uint8_t expected[UINT8_MAX];
 
     if (!is_present(number)) {
         ALL_BYTES(value, shape.value, FILL);
         return;
     }
-    write_value(shape, 100 + number / 2, &expected);
-    SAME_BYTES(value, &expected, shape.value);
+    write_value(shape, 100 + number / 2, expected);
+    SAME_BYTES(value, expected, shape.value);
 }
 
 /* Each key alone. */

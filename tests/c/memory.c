@@ -13,7 +13,7 @@
 #include "subjects.h"
 
 /* As many items as 64 slots take at 87 percent, and the most bytes of a table of 64 slots: keys of 32, values of 8. */
-enum { MOST_ITEMS = 55, MOST_BYTES = 32 + 64 * 40 + 64 + 16 };
+enum { MOST_ITEMS = 55, MOST_BYTES = 32 + 64 * 64 + 64 + 16 };
 
 /* The pairs of a build, and what it writes. */
 struct build {
@@ -144,9 +144,11 @@ static size_t make_full(const struct calls *calls, uint8_t *bytes)
     STATUS(calls->init(bytes, *len, 13, 87), ODHT_OK);
     STATUS(calls->insert_all(bytes, *len, keys, 14, values, 14, accepted), ODHT_FULL);
     EQUAL(*accepted, 13);
-    STATUS(calls->insert(bytes, *len, keys, values, numbers_of(8)), ODHT_REPLACED);
+    STATUS(calls->insert(bytes, *len, keys, values, numbers_of(calls->shape.value)),
+           ODHT_REPLACED);
     STATUS(
-        calls->insert(bytes, *len, (uint8_t *)keys + 13 * calls->shape.key, values, numbers_of(8)),
+        calls->insert(bytes, *len, (uint8_t *)keys + 13 * calls->shape.key, values,
+                      numbers_of(calls->shape.value)),
         ODHT_FULL);
     return *len;
 }

@@ -1,11 +1,13 @@
 /*
- * Each shape once: its length, an insert, a lookup, and a lookup of an absent key. A table of sixteen slots has
- * 32 + 16 * (key + value) + 32 bytes.
+ * Each shape of the list once, and some by their own calls: the length, an insert, a lookup, and a lookup of an absent
+ * key. A table of sixteen slots has 32 + 16 * (key + value) + 32 bytes.
  */
 #include <stdint.h>
 #include <string.h>
 
 #include "buffers.h"
+#include "calls.h"
+#include "keys.h"
 #include "odht.h"
 #include "subjects.h"
 
@@ -143,6 +145,37 @@ static void a_set_of_32_bytes(void)
     SAME_BYTES(found, ((const uint8_t[]){ 1, 0 }), 2);
 }
 
+/* The same of a shape of the list, by the lengths of its keys and values. */
+static void check_shape(const struct calls *calls)
+{
+    struct shape shape = calls->shape;
+    size_t expected_len = 32 + 16 * (shape.key + shape.value) + 32;
+    uint8_t *table = bytes_of(expected_len);
+    uint8_t *keys = counted_keys(shape, 3);
+    uint8_t *values = counted_values(shape, 3);
+    uint8_t *value = numbers_of(shape.value);
+    size_t *len = SIZES(0);
+
+    STATUS(calls->bytes_needed(13, 87, len), ODHT_OK);
+    EQUAL(*len, expected_len);
+    STATUS(calls->init(table, *len, 13, 87), ODHT_OK);
+    STATUS(calls->insert(table, *len, keys, values + shape.value, value), ODHT_OK);
+    STATUS(calls->insert(table, *len, keys, values + 2 * shape.value, value), ODHT_REPLACED);
+    SAME_BYTES(value, values + shape.value, shape.value);
+    STATUS(calls->get(table, *len, keys, value), ODHT_OK);
+    SAME_BYTES(value, values + 2 * shape.value, shape.value);
+    STATUS(calls->get(table, *len, keys + 2 * shape.key, value), ODHT_ABSENT);
+    STATUS(calls->check(table, *len), ODHT_OK);
+}
+
+static void each_shape(void)
+{
+    for (size_t index = 0; index < SHAPES; index++) {
+        in_case(all_shapes[index].name, index);
+        check_shape(&all_shapes[index]);
+    }
+}
+
 static void the_version_is_that_of_the_header(void)
 {
     EQUAL(odht_version(), ODHT_VERSION);
@@ -158,6 +191,7 @@ const struct test shape_tests[] = {
     TEST(b32_u64),
     TEST(a_set_of_16_bytes),
     TEST(a_set_of_32_bytes),
+    TEST(each_shape),
     TEST(the_version_is_that_of_the_header),
     END_OF_TESTS
 };

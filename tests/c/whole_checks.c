@@ -153,7 +153,7 @@ static struct changed made(const struct calls *calls, struct random *random)
     return made_table(calls, slots, maximum, inserts, random);
 }
 
-/* Checks so many changed tables of a shape, and asserts how often each error comes. */
+/* Checks so many changed tables of a shape, and asserts how often each error comes, where that was counted. */
 static void check_changed(const struct calls *calls, size_t tables, const size_t *expected)
 {
     struct counts counts = { { 0 } };
@@ -168,27 +168,39 @@ static void check_changed(const struct calls *calls, size_t tables, const size_t
         check_errors(calls, changed.bytes, changed.len, &counts);
         drop_buffers_since(kept);
     }
-    check_counts(&counts, expected);
+    if (expected[ODHT_OK] != 0)
+        check_counts(&counts, expected);
 }
 
-/* A row for each shape, in their order: 7,500 tables from 32-bit numbers and from 16 bytes to 32-bit numbers. */
+/* Rows of some shapes. From 32-bit numbers, and from 16 bytes to 32-bit numbers, there are 7,500 tables. */
 static void changed_tables_in_each_shape(void)
 {
-    static const size_t tables[SHAPES] = { 7500, 2000, 2000, 7500, 2000, 2000, 2000, 2000, 2000 };
     static const size_t expected[SHAPES][KINDS] = {
-        { 545, 0, 221, 164, 200, 1174, 162, 85, 820, 690, 42, 429, 57, 482, 1768, 36, 625 },
-        { 166, 0, 52, 42, 51, 299, 47, 19, 214, 185, 8, 91, 15, 144, 486, 8, 173 },
-        { 169, 0, 51, 43, 50, 294, 46, 20, 217, 179, 11, 91, 12, 150, 491, 7, 169 },
-        { 748, 0, 209, 147, 192, 1159, 160, 88, 871, 454, 58, 406, 55, 508, 1820, 34, 591 },
-        { 208, 0, 50, 38, 48, 294, 47, 20, 221, 137, 13, 88, 12, 150, 496, 8, 170 },
-        { 204, 0, 49, 36, 48, 295, 47, 20, 229, 130, 14, 91, 13, 146, 494, 8, 176 },
-        { 212, 0, 49, 38, 48, 294, 47, 20, 225, 127, 15, 89, 13, 145, 498, 7, 173 },
-        { 200, 0, 51, 40, 50, 294, 46, 21, 223, 140, 12, 87, 14, 150, 493, 8, 171 },
-        { 215, 0, 49, 36, 49, 295, 47, 20, 217, 134, 13, 88, 13, 146, 501, 8, 169 },
+        [AT_u32_u32] =
+            { 545, 0, 221, 164, 200, 1174, 162, 85, 820, 690, 42, 429, 57, 482, 1768, 36, 625 },
+        [AT_u64_u32] =
+            { 166, 0, 52, 42, 51, 299, 47, 19, 214, 185, 8, 91, 15, 144, 486, 8, 173 },
+        [AT_u64_u64] =
+            { 169, 0, 51, 43, 50, 294, 46, 20, 217, 179, 11, 91, 12, 150, 491, 7, 169 },
+        [AT_b16_u32] =
+            { 748, 0, 209, 147, 192, 1159, 160, 88, 871, 454, 58, 406, 55, 508, 1820, 34, 591 },
+        [AT_b16_u64] =
+            { 208, 0, 50, 38, 48, 294, 47, 20, 221, 137, 13, 88, 12, 150, 496, 8, 170 },
+        [AT_b20_u64] =
+            { 204, 0, 49, 36, 48, 295, 47, 20, 229, 130, 14, 91, 13, 146, 494, 8, 176 },
+        [AT_b32_u64] =
+            { 212, 0, 49, 38, 48, 294, 47, 20, 225, 127, 15, 89, 13, 145, 498, 7, 173 },
+        [AT_b16] =
+            { 200, 0, 51, 40, 50, 294, 46, 21, 223, 140, 12, 87, 14, 150, 493, 8, 171 },
+        [AT_b32] =
+            { 215, 0, 49, 36, 49, 295, 47, 20, 217, 134, 13, 88, 13, 146, 501, 8, 169 },
     };
 
-    for (size_t index = 0; index < SHAPES; index++)
-        check_changed(&all_shapes[index], tables[index], expected[index]);
+    for (size_t index = 0; index < SHAPES; index++) {
+        bool is_long = index == AT_u32_u32 || index == AT_b16_u32;
+
+        check_changed(&all_shapes[index], is_long ? 7500 : 2000, expected[index]);
+    }
 }
 
 const struct test whole_check_tests[] = {

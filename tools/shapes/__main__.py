@@ -5,9 +5,10 @@ Its FOLDERS have generated files alone: another file that is found there is remo
 import sys
 
 import c
+import rust
 import shape_list
 
-MAKERS = [c]
+MAKERS = [c, rust]
 
 
 def differences(texts, folders):

@@ -7,8 +7,8 @@
 //! else, and nobody else reads or writes it meanwhile; what is borrowed for reading nobody writes. The archive keeps
 //! no pointer, but for a view in the out-parameter that it is given.
 
+use crate::shape::*;
 use crate::sys::{self, View};
-use crate::{B16, B16U32, B16U64, B20U64, B32, B32U64, U32U32, U64U32, U64U64};
 
 /// The calls for one shape of table.
 pub trait Calls {
@@ -57,13 +57,26 @@ pub trait Calls {
     unsafe fn view_len(view: &View) -> usize;
 }
 
-/// `$key => $passed` says how a single key is passed, and `$value => $given` a single value: a set's is not passed.
+include!("shapes.rs");
+
+// How the key or value of a reference is passed.
+macro_rules! by {
+    (number $reference:expr) => {
+        *$reference
+    };
+    (bytes $reference:expr) => {
+        $reference
+    };
+}
+
 macro_rules! calls {
-    ($shape:ty, $module:ident, $key_type:ty, $value_type:ty, $key:ident => $passed:expr,
-     $value:pat => $($given:expr)?) => {
+    ($(
+        $module:ident, $shape:ident, $config:ident:
+        $key:ty as $key_kind:ident => $value:ty $(as $value_kind:ident)?, $words:literal;
+    )*) => { $(
         impl Calls for $shape {
-            type Key = $key_type;
-            type Value = $value_type;
+            type Key = $key;
+            type Value = $value;
 
             #[inline]
             fn bytes_needed(max_items: usize, percent: u8, len: &mut usize) -> u32 {
@@ -95,6 +108,8 @@ macro_rules! calls {
                 unsafe { sys::$module::sizes(bytes.as_ptr(), bytes.len(), slots, max_items, percent) }
             }
 
+            // The value of a set is not passed.
+            #[allow(unused_variables)]
             #[inline]
             fn table_len(bytes: &[u8], len: &mut usize) -> u32 {
                 // SAFETY: of a slice, and a reference that is apart.
@@ -104,20 +119,22 @@ macro_rules! calls {
             #[inline]
             fn insert(
                 bytes: &mut [u8],
-                $key: &$key_type,
-                $value: $value_type,
-                former: &mut $value_type,
+                key: &$key,
+                value: $value,
+                former: &mut $value,
             ) -> u32 {
                 let (pointer, length) = (bytes.as_mut_ptr(), bytes.len());
                 // SAFETY: of a slice and a reference that are borrowed for writing, so apart from the key too.
-                unsafe { sys::$module::insert(pointer, length, $passed, $($given,)? former) }
+                unsafe {
+                    sys::$module::insert(pointer, length, by!($key_kind key), $(by!($value_kind &value),)? former)
+                }
             }
 
             #[inline]
             fn insert_all(
                 bytes: &mut [u8],
-                keys: &[$key_type],
-                values: &[$value_type],
+                keys: &[$key],
+                values: &[$value],
                 accepted: &mut usize,
             ) -> u32 {
                 // SAFETY: of slices and a reference; those that are borrowed for writing are apart from all others.
@@ -133,8 +150,8 @@ macro_rules! calls {
             fn walk(
                 bytes: &[u8],
                 cursor: &mut usize,
-                keys: &mut [$key_type],
-                values: &mut [$value_type],
+                keys: &mut [$key],
+                values: &mut [$value],
                 count: &mut usize,
             ) -> u32 {
                 // SAFETY: of slices and references; those that are borrowed for writing are apart from all others.
@@ -165,8 +182,8 @@ macro_rules! calls {
 
             #[inline]
             fn build(
-                keys: &[$key_type],
-                values: &[$value_type],
+                keys: &[$key],
+                values: &[$value],
                 percent: u8,
                 out: &mut [u8],
                 len: &mut usize,
@@ -182,8 +199,8 @@ macro_rules! calls {
 
             #[inline]
             fn build_growing(
-                keys: &[$key_type],
-                values: &[$value_type],
+                keys: &[$key],
+                values: &[$value],
                 out: &mut [u8],
                 len: &mut usize,
             ) -> u32 {
@@ -205,16 +222,16 @@ macro_rules! calls {
             }
 
             #[inline]
-            unsafe fn view_get(view: &View, $key: &$key_type, value: &mut $value_type) -> u32 {
+            unsafe fn view_get(view: &View, key: &$key, value: &mut $value) -> u32 {
                 // SAFETY: the safety section of this function is what the call requires; the rest are references.
-                unsafe { sys::$module::view_get(view, $passed, value) }
+                unsafe { sys::$module::view_get(view, by!($key_kind key), value) }
             }
 
             #[inline]
             unsafe fn view_get_all(
                 view: &View,
-                keys: &[$key_type],
-                values: &mut [$value_type],
+                keys: &[$key],
+                values: &mut [$value],
                 found: &mut [u8],
             ) -> u32 {
                 // SAFETY: the safety section of this function is what the call requires; the rest are slices, and those
@@ -233,15 +250,7 @@ macro_rules! calls {
                 unsafe { sys::$module::view_len(view) }
             }
         }
-    };
+    )* };
 }
 
-calls!(U32U32, u32_u32, u32, u32, key => *key, value => value);
-calls!(U64U32, u64_u32, u64, u32, key => *key, value => value);
-calls!(U64U64, u64_u64, u64, u64, key => *key, value => value);
-calls!(B16U32, b16_u32, [u8; 16], u32, key => key, value => value);
-calls!(B16U64, b16_u64, [u8; 16], u64, key => key, value => value);
-calls!(B20U64, b20_u64, [u8; 20], u64, key => key, value => value);
-calls!(B32U64, b32_u64, [u8; 32], u64, key => key, value => value);
-calls!(B16, b16, [u8; 16], (), key => key, () =>);
-calls!(B32, b32, [u8; 32], (), key => key, () =>);
+each_shape!(calls);

@@ -15,7 +15,7 @@ mod table_mut;
 pub use builder::{Builder, DEFAULT_PERCENT};
 pub use error::Error;
 pub use iter::Iter;
-pub use shape::{Shape, B16, B16U32, B16U64, B20U64, B32, B32U64, U32U32, U64U32, U64U64};
+pub use shape::*;
 pub use table::{Sizes, Table, Walked};
 pub use table_mut::{bytes_needed, empty_table, insert_growing, TableMut};
 

@@ -25,9 +25,14 @@ mod sealed {
     pub trait Sealed {}
 }
 
-macro_rules! shape {
-    ($(#[$comment:meta])* $shape:ident, $key:ty, $value:ty) => {
-        $(#[$comment])*
+include!("shapes.rs");
+
+macro_rules! declare {
+    ($(
+        $module:ident, $shape:ident, $config:ident:
+        $key:ty as $key_kind:ident => $value:ty $(as $value_kind:ident)?, $words:literal;
+    )*) => { $(
+        #[doc = concat!($words, ".")]
         #[derive(Clone, Copy, Debug, Default, PartialEq, Eq, Hash)]
         pub struct $shape;
 
@@ -38,50 +43,7 @@ macro_rules! shape {
             type Value = $value;
             type Calls = $shape;
         }
-    };
+    )* };
 }
 
-shape! {
-    /// Keys of 32 bits, values of 32 bits.
-    U32U32, u32, u32
-}
-
-shape! {
-    /// Keys of 64 bits, values of 32 bits.
-    U64U32, u64, u32
-}
-
-shape! {
-    /// Keys of 64 bits, values of 64 bits.
-    U64U64, u64, u64
-}
-
-shape! {
-    /// Keys of 16 bytes, values of 32 bits.
-    B16U32, [u8; 16], u32
-}
-
-shape! {
-    /// Keys of 16 bytes, values of 64 bits.
-    B16U64, [u8; 16], u64
-}
-
-shape! {
-    /// Keys of 20 bytes, values of 64 bits.
-    B20U64, [u8; 20], u64
-}
-
-shape! {
-    /// Keys of 32 bytes, values of 64 bits.
-    B32U64, [u8; 32], u64
-}
-
-shape! {
-    /// Sets of keys of 16 bytes.
-    B16, [u8; 16], ()
-}
-
-shape! {
-    /// Sets of keys of 32 bytes.
-    B32, [u8; 32], ()
-}
+each_shape!(declare);

@@ -34,35 +34,44 @@ unsafe extern "C" {
     pub safe fn odht_version() -> u32;
 }
 
-/// `$passed` is how a single key is passed, and the words after `insert` are the single value of an insert: a set has
-/// none.
-macro_rules! shape {
-    ($(#[$comment:meta])* $shape:ident, $key:ty, $passed:ty, $value:ty, insert($($word:ident: $type:ty)?)) => {
-        $(#[$comment])*
-        pub mod $shape {
+include!("shapes.rs");
+
+// How a single key or value is passed.
+macro_rules! passed {
+    (number $type:ty) => { $type };
+    (bytes $type:ty) => { *const $type };
+}
+
+macro_rules! declare {
+    ($(
+        $module:ident, $shape:ident, $config:ident:
+        $key:ty as $key_kind:ident => $value:ty $(as $value_kind:ident)?, $words:literal;
+    )*) => { $(
+        #[doc = concat!($words, ".")]
+        pub mod $module {
             use super::View;
 
             // A set's values are `()`: the calls take pointers to these, and never read or write through them.
             #[allow(improper_ctypes)]
             unsafe extern "C" {
                 /// How many bytes a new table has.
-                #[link_name = concat!("odht_", stringify!($shape), "_bytes_needed")]
+                #[link_name = concat!("odht_", stringify!($module), "_bytes_needed")]
                 pub fn bytes_needed(max_items: usize, percent: u8, len: *mut usize) -> u32;
 
                 /// Makes an empty table.
-                #[link_name = concat!("odht_", stringify!($shape), "_init")]
+                #[link_name = concat!("odht_", stringify!($module), "_init")]
                 pub fn init(bytes: *mut u8, bytes_len: usize, max_items: usize, percent: u8) -> u32;
 
                 /// Whether bytes can be used as a table.
-                #[link_name = concat!("odht_", stringify!($shape), "_open")]
+                #[link_name = concat!("odht_", stringify!($module), "_open")]
                 pub fn open(bytes: *const u8, bytes_len: usize) -> u32;
 
                 /// Whether bytes are valid, to the last one.
-                #[link_name = concat!("odht_", stringify!($shape), "_check")]
+                #[link_name = concat!("odht_", stringify!($module), "_check")]
                 pub fn check(bytes: *const u8, bytes_len: usize) -> u32;
 
                 /// What the header says of the slots.
-                #[link_name = concat!("odht_", stringify!($shape), "_sizes")]
+                #[link_name = concat!("odht_", stringify!($module), "_sizes")]
                 pub fn sizes(
                     bytes: *const u8,
                     bytes_len: usize,
@@ -76,15 +85,15 @@ macro_rules! shape {
                 pub fn table_len(bytes: *const u8, bytes_len: usize, len: *mut usize) -> u32;
 
                 /// The header's item count.
-                #[link_name = concat!("odht_", stringify!($shape), "_len")]
+                #[link_name = concat!("odht_", stringify!($module), "_len")]
                 pub fn len(bytes: *const u8, bytes_len: usize, count: *mut usize) -> u32;
 
                 /// The value of a key.
-                #[link_name = concat!("odht_", stringify!($shape), "_get")]
-                pub fn get(bytes: *const u8, bytes_len: usize, key: $passed, value: *mut $value) -> u32;
+                #[link_name = concat!("odht_", stringify!($module), "_get")]
+                pub fn get(bytes: *const u8, bytes_len: usize, key: passed!($key_kind $key), value: *mut $value) -> u32;
 
                 /// The values of many keys.
-                #[link_name = concat!("odht_", stringify!($shape), "_get_all")]
+                #[link_name = concat!("odht_", stringify!($module), "_get_all")]
                 pub fn get_all(
                     bytes: *const u8,
                     bytes_len: usize,
@@ -97,17 +106,17 @@ macro_rules! shape {
                 ) -> u32;
 
                 /// Inserts a key with its value, or gives a key that is there another value.
-                #[link_name = concat!("odht_", stringify!($shape), "_insert")]
+                #[link_name = concat!("odht_", stringify!($module), "_insert")]
                 pub fn insert(
                     bytes: *mut u8,
                     bytes_len: usize,
-                    key: $passed,
-                    $($word: $type,)?
+                    key: passed!($key_kind $key),
+                    $(value: passed!($value_kind $value),)?
                     former: *mut $value,
                 ) -> u32;
 
                 /// Inserts keys with their values, up to the first that does not fit.
-                #[link_name = concat!("odht_", stringify!($shape), "_insert_all")]
+                #[link_name = concat!("odht_", stringify!($module), "_insert_all")]
                 pub fn insert_all(
                     bytes: *mut u8,
                     bytes_len: usize,
@@ -119,7 +128,7 @@ macro_rules! shape {
                 ) -> u32;
 
                 /// The pairs from a slot on, in slot order.
-                #[link_name = concat!("odht_", stringify!($shape), "_walk")]
+                #[link_name = concat!("odht_", stringify!($module), "_walk")]
                 pub fn walk(
                     bytes: *const u8,
                     bytes_len: usize,
@@ -132,7 +141,7 @@ macro_rules! shape {
                 ) -> u32;
 
                 /// The occupied slots in an order of inserts that makes the table.
-                #[link_name = concat!("odht_", stringify!($shape), "_insert_order")]
+                #[link_name = concat!("odht_", stringify!($module), "_insert_order")]
                 pub fn insert_order(
                     bytes: *const u8,
                     bytes_len: usize,
@@ -141,7 +150,7 @@ macro_rules! shape {
                 ) -> u32;
 
                 /// The table that this one grows into at its maximum.
-                #[link_name = concat!("odht_", stringify!($shape), "_grow")]
+                #[link_name = concat!("odht_", stringify!($module), "_grow")]
                 pub fn grow(
                     bytes: *const u8,
                     bytes_len: usize,
@@ -151,7 +160,7 @@ macro_rules! shape {
                 ) -> u32;
 
                 /// A table with slots for as many items as there are pairs.
-                #[link_name = concat!("odht_", stringify!($shape), "_build")]
+                #[link_name = concat!("odht_", stringify!($module), "_build")]
                 pub fn build(
                     keys: *const $key,
                     keys_len: usize,
@@ -164,7 +173,7 @@ macro_rules! shape {
                 ) -> u32;
 
                 /// A table that grows as these pairs are inserted.
-                #[link_name = concat!("odht_", stringify!($shape), "_build_growing")]
+                #[link_name = concat!("odht_", stringify!($module), "_build_growing")]
                 pub fn build_growing(
                     keys: *const $key,
                     keys_len: usize,
@@ -176,15 +185,15 @@ macro_rules! shape {
                 ) -> u32;
 
                 /// Opens bytes, to look up in them often.
-                #[link_name = concat!("odht_", stringify!($shape), "_open_view")]
+                #[link_name = concat!("odht_", stringify!($module), "_open_view")]
                 pub fn open_view(bytes: *const u8, bytes_len: usize, view: *mut View) -> u32;
 
                 /// The value of a key of an opened table.
-                #[link_name = concat!("odht_", stringify!($shape), "_view_get")]
-                pub fn view_get(view: *const View, key: $passed, value: *mut $value) -> u32;
+                #[link_name = concat!("odht_", stringify!($module), "_view_get")]
+                pub fn view_get(view: *const View, key: passed!($key_kind $key), value: *mut $value) -> u32;
 
                 /// The values of many keys of an opened table.
-                #[link_name = concat!("odht_", stringify!($shape), "_view_get_all")]
+                #[link_name = concat!("odht_", stringify!($module), "_view_get_all")]
                 pub fn view_get_all(
                     view: *const View,
                     keys: *const $key,
@@ -196,54 +205,11 @@ macro_rules! shape {
                 ) -> u32;
 
                 /// The item count in the header of an opened table.
-                #[link_name = concat!("odht_", stringify!($shape), "_view_len")]
+                #[link_name = concat!("odht_", stringify!($module), "_view_len")]
                 pub fn view_len(view: *const View) -> usize;
             }
         }
-    };
+    )* };
 }
 
-shape! {
-    /// Keys of 32 bits, values of 32 bits.
-    u32_u32, u32, u32, u32, insert(value: u32)
-}
-
-shape! {
-    /// Keys of 64 bits, values of 32 bits.
-    u64_u32, u64, u64, u32, insert(value: u32)
-}
-
-shape! {
-    /// Keys of 64 bits, values of 64 bits.
-    u64_u64, u64, u64, u64, insert(value: u64)
-}
-
-shape! {
-    /// Keys of 16 bytes, values of 32 bits.
-    b16_u32, [u8; 16], *const [u8; 16], u32, insert(value: u32)
-}
-
-shape! {
-    /// Keys of 16 bytes, values of 64 bits.
-    b16_u64, [u8; 16], *const [u8; 16], u64, insert(value: u64)
-}
-
-shape! {
-    /// Keys of 20 bytes, values of 64 bits.
-    b20_u64, [u8; 20], *const [u8; 20], u64, insert(value: u64)
-}
-
-shape! {
-    /// Keys of 32 bytes, values of 64 bits.
-    b32_u64, [u8; 32], *const [u8; 32], u64, insert(value: u64)
-}
-
-shape! {
-    /// Sets of keys of 16 bytes.
-    b16, [u8; 16], *const [u8; 16], (), insert()
-}
-
-shape! {
-    /// Sets of keys of 32 bytes.
-    b32, [u8; 32], *const [u8; 32], (), insert()
-}
+each_shape!(declare);

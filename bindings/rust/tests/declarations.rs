@@ -19,7 +19,7 @@ fn header() -> Option<String> {
 fn kind_in_c(parameter: &str) -> String {
     let kind = match parameter.split_whitespace().next().unwrap() {
         "const" => "*const",
-        _ if parameter.contains('*') => "*mut",
+        _ if parameter.contains(['*', '[']) => "*mut",
         "size_t" => "usize",
         "uint8_t" => "u8",
         "uint32_t" => "u32",
@@ -47,32 +47,46 @@ fn declared_in_c(header: &str) -> BTreeMap<String, Kinds> {
     symbols
 }
 
-fn kind_in_rust(part: &str, key: &str) -> String {
-    let kind = part.split_once(':').map_or(part, |(_, kind)| kind).trim();
-    let kind = if kind == "$passed" { key } else { kind };
+fn kind_in_rust(part: &str) -> String {
+    let kind = part.split_once(": ").map_or(part, |(_, kind)| kind).trim();
     kind.split_whitespace().next().unwrap().to_string()
 }
 
-/// The symbols that src/sys.rs declares, in the same way.
-fn declared_in_rust() -> BTreeMap<String, Kinds> {
-    let (template, shapes) =
-        include_str!("../src/sys.rs").split_once("macro_rules! shape").unwrap().1.split_once("shape! {").unwrap();
-    let mut symbols = BTreeMap::new();
-    for line in shapes.lines().filter(|line| line.contains("insert(")) {
-        let (types, value) = line.split_once("insert(").unwrap();
-        let types: Vec<&str> = types.split(',').map(str::trim).collect();
-        let value = value.replace(')', if value.len() > 1 { "," } else { "" });
-        for call in template.split("pub fn ").skip(1) {
-            let call = call.replace("$($word: $type,)?", &value);
-            let (name, behind) = call.split_once('(').unwrap();
-            let (parameters, answer) = behind.split_once(") -> ").unwrap();
-            let parts = parameters.split(',').filter(|part| !part.trim().is_empty());
-            let answer = answer.split_once(';').unwrap().0;
-            let kinds = parts.chain([answer]).map(|part| kind_in_rust(part, types[2]));
-            symbols.insert(format!("{}_{name}", types[0]), kinds.collect());
-        }
+/// How src/sys.rs passes a key or value that is written `TYPE as KIND` in the list of shapes.
+fn passed(written: &str) -> String {
+    let (kind, how) = written.split_once(" as ").unwrap();
+    if how == "number" {
+        kind.to_string()
+    } else {
+        format!("*const {kind}")
     }
-    symbols
+}
+
+/// The calls of a shape by the template of src/sys.rs.
+fn calls_of_shape(template: &str, line: &str) -> BTreeMap<String, Kinds> {
+    let (names, behind) = line.trim().split_once(": ").unwrap();
+    let module = names.split_once(',').unwrap().0;
+    let (key, behind) = behind.split_once(" => ").unwrap();
+    let value = behind.split_once(", \"").unwrap().0;
+    let value = if value == "()" { String::new() } else { format!("value: {},", passed(value)) };
+    let template = template
+        .replace("passed!($key_kind $key)", &passed(key))
+        .replace("$(value: passed!($value_kind $value),)?", &value);
+    let calls = template.split("pub fn ").skip(1).map(|call| {
+        let (name, behind) = call.split_once('(').unwrap();
+        let (parameters, answer) = behind.split_once(") -> ").unwrap();
+        let parts = parameters.split(',').filter(|part| !part.trim().is_empty());
+        let kinds = parts.chain([answer.split_once(';').unwrap().0]).map(kind_in_rust).collect();
+        (format!("{module}_{name}"), kinds)
+    });
+    calls.collect()
+}
+
+/// The symbols that src/sys.rs declares for the shapes of src/shapes.rs, in the same way, and how many shapes these are.
+fn declared_in_rust() -> (usize, BTreeMap<String, Kinds>) {
+    let template = include_str!("../src/sys.rs").split_once("macro_rules! declare").unwrap().1;
+    let lines: Vec<&str> = include_str!("../src/shapes.rs").lines().filter(|line| line.ends_with("\";")).collect();
+    (lines.len(), lines.into_iter().flat_map(|line| calls_of_shape(template, line)).collect())
 }
 
 #[test]
@@ -81,7 +95,7 @@ fn the_header_declares_the_same() {
         println!("There is no include/odht.h: this package is not in its repository.");
         return;
     };
-    let declared = declared_in_rust();
-    assert_eq!(declared.len(), 9 * 20);
+    let (shapes, declared) = declared_in_rust();
+    assert_eq!(declared.len(), shapes * 19);
     assert_eq!(declared, declared_in_c(&header));
 }

@@ -4,7 +4,7 @@
 mod common;
 
 use common::{worked_example, Chance, Random};
-use odht_ffi::{Builder, Error, Shape, Sizes, Table, TableMut, B16U32, B32, U64U32};
+use odht_ffi::{Builder, Error, Shape, Sizes, Table, TableMut, U64U32};
 
 fn stating(count: u64) -> Vec<u8> {
     let mut bytes = worked_example();
@@ -123,9 +123,31 @@ fn read_changed<S: Shape>(bytes: &[u8], key: &S::Key) {
         assert!(pairs.iter().all(|(key, value)| table.get(key) == Some(*value)));
     }
     if let Ok(larger) = table.grown() {
-        assert!(larger.len() <= 2 * bytes.len().max(32 + 128 * 41));
+        assert!(larger.len() <= 2 * bytes.len().max(32 + 128 * 65));
         let opened = Table::<S>::checked(&larger).map(|larger| larger.len());
         assert!(valid.is_err() || opened == Ok(table.len()));
+    }
+}
+
+/// A table of twelve items, and each of its bytes changed in turn: what opens is read, and written.
+fn each_byte_changed<S: Shape>()
+where
+    S::Key: Chance,
+    S::Value: Chance,
+{
+    let random = &mut Random(12);
+    let mut builder = Builder::<S>::new(87);
+    builder.extend((0..12).map(|_| (S::Key::by_chance(random), S::Value::by_chance(random))));
+    let valid = builder.build().unwrap();
+    assert_eq!(Table::<S>::checked(&valid).unwrap().len(), 12);
+    for place in 0..valid.len() {
+        let mut bytes = valid.clone();
+        bytes[place] ^= 1 << random.below(8);
+        let key = S::Key::by_chance(random);
+        read_changed::<S>(&bytes, &key);
+        if Table::<S>::open(&bytes).is_ok() {
+            insert_into_changed::<S>(&mut bytes, &key, S::Value::by_chance(random));
+        }
     }
 }
 
@@ -153,17 +175,19 @@ where
     }
 }
 
-#[test]
-fn changed_tables_of_numbers() {
-    change_by_chance::<U64U32>();
+include!("../src/shapes.rs");
+
+macro_rules! test {
+    ($(
+        $module:ident, $shape:ident, $config:ident:
+        $key:ty as $key_kind:ident => $value:ty $(as $value_kind:ident)?, $words:literal;
+    )*) => { $(
+        #[test]
+        fn $module() {
+            each_byte_changed::<odht_ffi::$shape>();
+            change_by_chance::<odht_ffi::$shape>();
+        }
+    )* };
 }
 
-#[test]
-fn changed_tables_of_bytes() {
-    change_by_chance::<B16U32>();
-}
-
-#[test]
-fn changed_sets() {
-    change_by_chance::<B32>();
-}
+each_shape!(test);

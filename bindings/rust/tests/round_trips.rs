@@ -6,7 +6,6 @@ use std::collections::HashMap;
 
 use common::{Chance, Random};
 use odht_ffi::{Builder, Error, Shape, Table, TableMut};
-use odht_ffi::{B16, B16U32, B16U64, B20U64, B32, B32U64, U32U32, U64U32, U64U64};
 
 const SEEDS: [u64; 3] = [1, 2, 0xdead_beef];
 const COUNTS: [usize; 6] = [0, 1, 13, 64, 200, 1500];
@@ -173,47 +172,18 @@ where
     }
 }
 
-#[test]
-fn u32_u32() {
-    round_trip::<U32U32>();
+include!("../src/shapes.rs");
+
+macro_rules! test {
+    ($(
+        $module:ident, $shape:ident, $config:ident:
+        $key:ty as $key_kind:ident => $value:ty $(as $value_kind:ident)?, $words:literal;
+    )*) => { $(
+        #[test]
+        fn $module() {
+            round_trip::<odht_ffi::$shape>();
+        }
+    )* };
 }
 
-#[test]
-fn u64_u32() {
-    round_trip::<U64U32>();
-}
-
-#[test]
-fn u64_u64() {
-    round_trip::<U64U64>();
-}
-
-#[test]
-fn b16_u32() {
-    round_trip::<B16U32>();
-}
-
-#[test]
-fn b16_u64() {
-    round_trip::<B16U64>();
-}
-
-#[test]
-fn b20_u64() {
-    round_trip::<B20U64>();
-}
-
-#[test]
-fn b32_u64() {
-    round_trip::<B32U64>();
-}
-
-#[test]
-fn b16() {
-    round_trip::<B16>();
-}
-
-#[test]
-fn b32() {
-    round_trip::<B32>();
-}
+each_shape!(test);

@@ -46,54 +46,71 @@ pub trait Calls: Config {
     ) -> u32;
 }
 
-// `$key => $passed` is how a single key is passed, and the words behind `insert` the single value, which a set has not.
-macro_rules! shape {
-    ($shape:ident, $config:ty, $key_type:ty, $value_type:ty, $passed_type:ty,
-     $key:ident => $passed:expr, insert($($word:ident: $type:ty)?)) => {
-        mod $shape {
+include!("../../../bindings/rust/src/shapes.rs");
+
+// The type that a single key or value is passed as, and what is passed for a reference to one.
+macro_rules! passed {
+    (number $type:ty) => { $type };
+    (bytes $type:ty) => { *const $type };
+}
+macro_rules! by {
+    (number $reference:expr) => {
+        *$reference
+    };
+    (bytes $reference:expr) => {
+        $reference
+    };
+}
+
+macro_rules! declare {
+    ($(
+        $module:ident, $shape:ident, $config:ident:
+        $key:ty as $key_kind:ident => $value:ty $(as $value_kind:ident)?, $words:literal;
+    )*) => { $(
+        mod $module {
             // A set's values are `()`: the calls take pointers to these, and never read or write through them.
             #[allow(improper_ctypes)]
             unsafe extern "C" {
-                #[link_name = concat!("odht_", stringify!($shape), "_bytes_needed")]
+                #[link_name = concat!("odht_", stringify!($module), "_bytes_needed")]
                 pub fn bytes_needed(items: usize, percent: u8, length: *mut usize) -> u32;
-                #[link_name = concat!("odht_", stringify!($shape), "_init")]
+                #[link_name = concat!("odht_", stringify!($module), "_init")]
                 pub fn init(bytes: *mut u8, len: usize, items: usize, percent: u8) -> u32;
-                #[link_name = concat!("odht_", stringify!($shape), "_open")]
+                #[link_name = concat!("odht_", stringify!($module), "_open")]
                 pub fn open(bytes: *const u8, len: usize) -> u32;
-                #[link_name = concat!("odht_", stringify!($shape), "_check")]
+                #[link_name = concat!("odht_", stringify!($module), "_check")]
                 pub fn check(bytes: *const u8, len: usize) -> u32;
-                #[link_name = concat!("odht_", stringify!($shape), "_get")]
+                #[link_name = concat!("odht_", stringify!($module), "_get")]
                 pub fn get(
-                    bytes: *const u8, len: usize, key: $passed_type, value: *mut $value_type,
+                    bytes: *const u8, len: usize, key: passed!($key_kind $key), value: *mut $value,
                 ) -> u32;
-                #[link_name = concat!("odht_", stringify!($shape), "_insert")]
+                #[link_name = concat!("odht_", stringify!($module), "_insert")]
                 pub fn insert(
-                    bytes: *mut u8, len: usize, key: $passed_type, $($word: $type,)?
-                    former: *mut $value_type,
+                    bytes: *mut u8, len: usize, key: passed!($key_kind $key), $(value: passed!($value_kind $value),)?
+                    former: *mut $value,
                 ) -> u32;
-                #[link_name = concat!("odht_", stringify!($shape), "_insert_all")]
+                #[link_name = concat!("odht_", stringify!($module), "_insert_all")]
                 pub fn insert_all(
-                    bytes: *mut u8, len: usize, keys: *const $key_type, keys_len: usize,
-                    values: *const $value_type, values_len: usize, accepted: *mut usize,
+                    bytes: *mut u8, len: usize, keys: *const $key, keys_len: usize,
+                    values: *const $value, values_len: usize, accepted: *mut usize,
                 ) -> u32;
-                #[link_name = concat!("odht_", stringify!($shape), "_walk")]
+                #[link_name = concat!("odht_", stringify!($module), "_walk")]
                 pub fn walk(
-                    bytes: *const u8, len: usize, cursor: *mut usize, keys: *mut $key_type,
-                    keys_len: usize, values: *mut $value_type, values_len: usize,
+                    bytes: *const u8, len: usize, cursor: *mut usize, keys: *mut $key,
+                    keys_len: usize, values: *mut $value, values_len: usize,
                     count: *mut usize,
                 ) -> u32;
-                #[link_name = concat!("odht_", stringify!($shape), "_insert_order")]
+                #[link_name = concat!("odht_", stringify!($module), "_insert_order")]
                 pub fn insert_order(
                     bytes: *const u8, len: usize, out: *mut usize, out_len: usize,
                 ) -> u32;
-                #[link_name = concat!("odht_", stringify!($shape), "_grow")]
+                #[link_name = concat!("odht_", stringify!($module), "_grow")]
                 pub fn grow(
                     bytes: *const u8, len: usize, out: *mut u8, out_len: usize,
                     length: *mut usize,
                 ) -> u32;
-                #[link_name = concat!("odht_", stringify!($shape), "_build")]
+                #[link_name = concat!("odht_", stringify!($module), "_build")]
                 pub fn build(
-                    keys: *const $key_type, keys_len: usize, values: *const $value_type,
+                    keys: *const $key, keys_len: usize, values: *const $value,
                     values_len: usize, percent: u8, out: *mut u8, out_len: usize,
                     length: *mut usize,
                 ) -> u32;
@@ -102,47 +119,46 @@ macro_rules! shape {
 
         // SAFETY, of each call: pointers and lengths are those of slices, and pointers to numbers those of references.
         // What is borrowed to be written overlaps nothing else.
-        impl Calls for $config {
+        impl Calls for configs::$config {
             fn bytes_needed(items: usize, percent: u8, length: &mut usize) -> u32 {
-                unsafe { $shape::bytes_needed(items, percent, length) }
+                unsafe { $module::bytes_needed(items, percent, length) }
             }
             fn init(bytes: &mut [u8], items: usize, percent: u8) -> u32 {
-                unsafe { $shape::init(bytes.as_mut_ptr(), bytes.len(), items, percent) }
+                unsafe { $module::init(bytes.as_mut_ptr(), bytes.len(), items, percent) }
             }
             fn open(bytes: &[u8]) -> u32 {
-                unsafe { $shape::open(bytes.as_ptr(), bytes.len()) }
+                unsafe { $module::open(bytes.as_ptr(), bytes.len()) }
             }
             fn check(bytes: &[u8]) -> u32 {
-                unsafe { $shape::check(bytes.as_ptr(), bytes.len()) }
+                unsafe { $module::check(bytes.as_ptr(), bytes.len()) }
             }
-            fn get(bytes: &[u8], $key: &$key_type, value: &mut $value_type) -> u32 {
-                unsafe { $shape::get(bytes.as_ptr(), bytes.len(), $passed, value) }
+            fn get(bytes: &[u8], key: &$key, value: &mut $value) -> u32 {
+                unsafe { $module::get(bytes.as_ptr(), bytes.len(), by!($key_kind key), value) }
             }
             fn insert(
-                bytes: &mut [u8], $key: &$key_type, value: $value_type, former: &mut $value_type,
+                bytes: &mut [u8], key: &$key, value: $value, former: &mut $value,
             ) -> u32 {
-                $(let $word: $type = value;)?
                 let _ = value;
                 let (pointer, len) = (bytes.as_mut_ptr(), bytes.len());
-                unsafe { $shape::insert(pointer, len, $passed, $($word,)? former) }
+                unsafe { $module::insert(pointer, len, by!($key_kind key), $(by!($value_kind &value),)? former) }
             }
             fn insert_all(
-                bytes: &mut [u8], keys: &[$key_type], values: &[$value_type],
+                bytes: &mut [u8], keys: &[$key], values: &[$value],
                 accepted: &mut usize,
             ) -> u32 {
                 unsafe {
-                    $shape::insert_all(
+                    $module::insert_all(
                         bytes.as_mut_ptr(), bytes.len(), keys.as_ptr(), keys.len(),
                         values.as_ptr(), values.len(), accepted,
                     )
                 }
             }
             fn walk(
-                bytes: &[u8], cursor: &mut usize, keys: &mut [$key_type],
-                values: &mut [$value_type], count: &mut usize,
+                bytes: &[u8], cursor: &mut usize, keys: &mut [$key],
+                values: &mut [$value], count: &mut usize,
             ) -> u32 {
                 unsafe {
-                    $shape::walk(
+                    $module::walk(
                         bytes.as_ptr(), bytes.len(), cursor, keys.as_mut_ptr(), keys.len(),
                         values.as_mut_ptr(), values.len(), count,
                     )
@@ -150,42 +166,28 @@ macro_rules! shape {
             }
             fn insert_order(bytes: &[u8], out: &mut [usize]) -> u32 {
                 let (pointer, length) = (out.as_mut_ptr(), out.len());
-                unsafe { $shape::insert_order(bytes.as_ptr(), bytes.len(), pointer, length) }
+                unsafe { $module::insert_order(bytes.as_ptr(), bytes.len(), pointer, length) }
             }
             fn grow(bytes: &[u8], out: &mut [u8], length: &mut usize) -> u32 {
                 let (pointer, len) = (out.as_mut_ptr(), out.len());
-                unsafe { $shape::grow(bytes.as_ptr(), bytes.len(), pointer, len, length) }
+                unsafe { $module::grow(bytes.as_ptr(), bytes.len(), pointer, len, length) }
             }
             fn build(
-                keys: &[$key_type], values: &[$value_type], percent: u8, out: &mut [u8],
+                keys: &[$key], values: &[$value], percent: u8, out: &mut [u8],
                 length: &mut usize,
             ) -> u32 {
                 unsafe {
-                    $shape::build(
+                    $module::build(
                         keys.as_ptr(), keys.len(), values.as_ptr(), values.len(), percent,
                         out.as_mut_ptr(), out.len(), length,
                     )
                 }
             }
         }
-    };
+    )* };
 }
 
-shape!(u32_u32, configs::U32ToU32, u32, u32, u32, key => *key, insert(value: u32));
-shape!(u64_u32, configs::U64ToU32, u64, u32, u64, key => *key, insert(value: u32));
-shape!(u64_u64, configs::U64ToU64, u64, u64, u64, key => *key, insert(value: u64));
-shape!(b16_u32, configs::Bytes16ToU32, [u8; 16], u32, *const [u8; 16],
-    key => key, insert(value: u32));
-shape!(b16_u64, configs::Bytes16ToU64, [u8; 16], u64, *const [u8; 16],
-    key => key, insert(value: u64));
-shape!(b20_u64, configs::Bytes20ToU64, [u8; 20], u64, *const [u8; 20],
-    key => key, insert(value: u64));
-shape!(b32_u64, configs::Bytes32ToU64, [u8; 32], u64, *const [u8; 32],
-    key => key, insert(value: u64));
-shape!(b16, configs::Bytes16Set, [u8; 16], (), *const [u8; 16],
-    key => key, insert());
-shape!(b32, configs::Bytes32Set, [u8; 32], (), *const [u8; 32],
-    key => key, insert());
+each_shape!(declare);
 
 /// The status of a result.
 pub fn status<T>(result: &Result<T, Error>) -> u32 {

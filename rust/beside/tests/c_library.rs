@@ -229,16 +229,19 @@ mod with_the_library {
         }
     }
 
-    #[test]
-    fn nine_shapes() {
-        compare::<U32ToU32>(1);
-        compare::<U64ToU32>(2);
-        compare::<U64ToU64>(3);
-        compare::<Bytes16ToU32>(4);
-        compare::<Bytes16ToU64>(5);
-        compare::<Bytes20ToU64>(6);
-        compare::<Bytes32ToU64>(7);
-        compare::<Bytes16Set>(8);
-        compare::<Bytes32Set>(9);
+    include!("../../../bindings/rust/src/shapes.rs");
+
+    macro_rules! test {
+        ($(
+            $module:ident, $shape:ident, $config:ident:
+            $key:ty as $key_kind:ident => $value:ty $(as $value_kind:ident)?, $words:literal;
+        )*) => { $(
+            #[test]
+            fn $module() {
+                compare::<odht::configs::$config>(1);
+            }
+        )* };
     }
+
+    each_shape!(test);
 }
