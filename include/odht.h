@@ -421,7 +421,6 @@ ODHT_SLICES(size_t)
 /* The version of the linked library, a number as ODHT_VERSION. Where they differ this header is not the library's. */
 ODHT_NODISCARD extern uint32_t odht_version(void);
 
-
 /* ---- How the calls are declared ----
  *
  * ODHT_DECLARE_MAP and ODHT_DECLARE_SET declare the calls of a shape S, and the lines at the end of this file use them
@@ -758,6 +757,7 @@ ODHT_DECLARE_SET(b8, ODHT_BYTES, 8)
 ODHT_DECLARE_SET(b16, ODHT_BYTES, 16)
 ODHT_DECLARE_SET(b20, ODHT_BYTES, 20)
 ODHT_DECLARE_SET(b32, ODHT_BYTES, 32)
+
 #undef ODHT_CALL
 #undef ODHT_SYMBOL
 #undef ODHT_FUNCTION

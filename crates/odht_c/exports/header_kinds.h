@@ -1,4 +1,3 @@
-
 /* ---- How the calls are declared ----
  *
  * ODHT_DECLARE_MAP and ODHT_DECLARE_SET declare the calls of a shape S, and the lines at the end of this file use them

@@ -1,3 +1,4 @@
+
 #undef ODHT_CALL
 #undef ODHT_SYMBOL
 #undef ODHT_FUNCTION
