@@ -297,6 +297,13 @@ typedef struct odht_view {
  *     header's load factor in percent. It is rounded down, so it may be one below that
  *     which the table was made with. An error, 1 to 7.
  *
+ * odht_S_table_len(bytes, bytes_len, *len)
+ *     How many bytes the table at the front of longer bytes has, by its header. So a
+ *     table inside a file is found without a length of one's own: the other calls take
+ *     exactly these bytes, and what follows them is not the table's. Slots are not read.
+ *     OK: *len is its length in bytes, which is not above bytes_len. An error, 1 to 7;
+ *     WRONG_LENGTH only where bytes_len is below the length of the table.
+ *
  * odht_S_get(bytes, bytes_len, key, *value)
  *     OK: the key is there, and *value is its value. ABSENT: it is not there.
  *     An error, 1 to 7.
@@ -510,6 +517,13 @@ ODHT_NODISCARD extern uint32_t odht_version(void);
             odht_read_uint8_t(bytes, bytes_len), bytes_len, slots ? slots : &unwanted_slots, \
             max_item_count ? max_item_count : &unwanted_count, \
             percent ? percent : &unwanted_percent);) \
+\
+    /* OK: *len is how many bytes the table at the front of the bytes has. An error, 1 to 7: it is \
+       unchanged. */ \
+    ODHT_CALL(uint32_t, P##table_len, (const uint8_t *bytes, size_t bytes_len, size_t *len), \
+        size_t unwanted = 0; \
+        return odht_symbol_##P##table_len( \
+            odht_read_uint8_t(bytes, bytes_len), bytes_len, len ? len : &unwanted);) \
 \
     /* OK: the occupied slots, in an order of inserts. UNMADE: no inserts make the table, and what \
        slots holds is unspecified. BAD_LENGTHS, or an error, 1 to 16: slots is unchanged. */ \

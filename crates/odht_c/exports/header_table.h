@@ -40,6 +40,13 @@
             max_item_count ? max_item_count : &unwanted_count, \
             percent ? percent : &unwanted_percent);) \
 \
+    /* OK: *len is how many bytes the table at the front of the bytes has. An error, 1 to 7: it is \
+       unchanged. */ \
+    ODHT_CALL(uint32_t, P##table_len, (const uint8_t *bytes, size_t bytes_len, size_t *len), \
+        size_t unwanted = 0; \
+        return odht_symbol_##P##table_len( \
+            odht_read_uint8_t(bytes, bytes_len), bytes_len, len ? len : &unwanted);) \
+\
     /* OK: the occupied slots, in an order of inserts. UNMADE: no inserts make the table, and what \
        slots holds is unspecified. BAD_LENGTHS, or an error, 1 to 16: slots is unchanged. */ \
     ODHT_CALL(uint32_t, P##insert_order, \

@@ -10,6 +10,7 @@ ghost use Rattle.odht_raw.specs.Frame.{IsAccepted};
 ghost use Rattle.odht_header.specs.Refusals.{view_refusal, check_refusal};
 ghost use Rattle.odht_calls.specs.Statuses.{status_or_ok};
 ghost use Rattle.odht_calls.specs.Reads.{GetAnswers, GetAllAnswers, LenAnswers, SizesAnswers};
+ghost use Rattle.odht_calls.specs.Prefixes.{TableLenAnswers};
 ghost use Rattle.odht_calls.specs.Walks.{WalkAnswers};
 ghost use Rattle.odht_calls.specs.Views.{OpenViewAnswers, ViewGetAnswers, ViewGetAllAnswers};
 ghost use Rattle.odht_calls.specs.Views.{ViewLenAnswers};
@@ -167,6 +168,16 @@ pub extern "C" fn odht_b32_b32_sizes(
         slot_count.new max_item_count.new max_load_factor_percent.new }
 {
     read::sizes::<Shape>(bytes, slot_count, max_item_count, max_load_factor_percent)
+}
+
+/// Writes to `len` how many bytes the table at the front of the bytes has, by its header: status 0. What follows the
+/// table is not looked at, nor is any slot. Or an error of the header, or `WRONG_LENGTH` where there are fewer bytes
+/// than the table has; then `len` is unchanged.
+#[unsafe(no_mangle)]
+pub extern "C" fn odht_b32_b32_table_len(bytes: &[u8], len: &mut usize) -> u32
+    ensures { TableLenAnswers ⟦<Shape as Coded>⟧.coding.format bytes.now len.old result len.new }
+{
+    read::table_len::<Shape>(bytes, len)
 }
 
 /// Writes the keys and values in the slots from `cursor` on (0 at first), in slot order, as many as fit, and to

@@ -150,6 +150,19 @@ pub unsafe extern "C" fn odht_b32_b32_sizes(
     read::sizes::<Shape>(bytes, slot_count, max_item_count, max_load_factor_percent)
 }
 
+/// Writes to `len` how many bytes the table at the front of the bytes has, by its header: status 0. What follows the
+/// table is not looked at, nor is any slot. Or an error of the header, or `WRONG_LENGTH` where there are fewer bytes
+/// than the table has; then `len` is unchanged.
+#[unsafe(no_mangle)]
+pub unsafe extern "C" fn odht_b32_b32_table_len(
+    bytes: *const u8,
+    bytes_len: usize,
+    len: &mut usize,
+) -> u32 {
+    let bytes = unsafe { crate::lists::list(bytes, bytes_len) };
+    read::table_len::<Shape>(bytes, len)
+}
+
 /// Writes the keys and values in the slots from `cursor` on (0 at first), in slot order, as many as fit, and to
 /// `item_count` how many. Status 0 where these are all; `TOO_SMALL` where the arrays are full and there are more.
 /// Either way `cursor` is then the slot to continue at: the pairs from there on are those that are left. `BAD_LENGTHS`
