@@ -7,8 +7,9 @@ import sys
 import c
 import rust
 import shape_list
+import tool
 
-MAKERS = [c, rust]
+MAKERS = [c, rust, tool]
 
 
 def differences(texts, folders):

@@ -7,7 +7,7 @@ use Rattle.std.proofs.KnownBytes.{Keeps-refl}
 use Rattle.odht_tool_core.specs.Endings.{Outcome, IsDone, IsOutputFailure}
 use Rattle.odht_tool_core.specs.Endings.Outcome.{fails}
 use Rattle.odht_tool_core.specs.declared.failure.Failure.{Failure}
-use Rattle.odht_tool_core.specs.declared.shapes.Shape.{Shape}
+use Rattle.odht_tool_core.specs.declared.shapes.ready.Shape.{Shape}
 use Rattle.odht_tool_core.specs.declared.status.Status.{Status}
 
 -- what was found is a shape

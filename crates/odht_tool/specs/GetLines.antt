@@ -17,13 +17,14 @@ use Rattle.odht_header.specs.Coding.{Coding}
 use Rattle.odht_header.specs.Refusals.{view_refusal}
 use Rattle.odht_tool.specs.Gets.{IsAnswered, IsTextOf, by_shape}
 use Rattle.odht_tool_core.specs.Keys.{IsTextOfNone}
-use Rattle.odht_tool_core.specs.ReadyShapes.{typed_text, key_part, value_part, shape_coding}
+use Rattle.odht_tool_core.specs.ReadyShapes.{typed_text, shape_coding}
+use Rattle.odht_tool_core.specs.ShapeList.{key_part, value_part}
 use Rattle.odht_tool.specs.declared.commands.get.TheConstants.{BATCH}
 use Rattle.odht_tool_core.specs.declared.failure.Failure.{Failure}
 use Rattle.odht_tool_core.specs.declared.failure.Failure.TheVariants.{Refused, Input, Line, Output, Memory}
 use Rattle.odht_tool_core.specs.declared.failure.LineFault.TheVariants.{Key}
 use Rattle.odht_tool_core.specs.declared.shapes.Hash.{Hash}
-use Rattle.odht_tool_core.specs.declared.shapes.Shape.{Shape}
+use Rattle.odht_tool_core.specs.declared.shapes.ready.Shape.{Shape}
 use Rattle.odht_tool_core.specs.declared.status.Status.{Status}
 
 abbrev pub lines_read : List ℕ → List (List ℕ)

@@ -17,13 +17,14 @@ use Rattle.odht_base.specs.Valid.{IsImage}
 use Rattle.odht_header.specs.Coding.{Coding, value_for}
 use Rattle.odht_header.specs.Refusals.{view_refusal}
 use Rattle.odht_tool_core.specs.Keys.{IsReadAs, IsFirstFault}
-use Rattle.odht_tool_core.specs.ReadyShapes.{Typed, IsTypedWord, StandsFor, typed_text, key_part, value_part, shape_coding, shape_of_bytes}
+use Rattle.odht_tool_core.specs.ReadyShapes.{Typed, IsTypedWord, StandsFor, typed_text, shape_coding, shape_of_bytes}
+use Rattle.odht_tool_core.specs.ShapeList.{key_part, value_part}
 use Rattle.odht_tool_core.specs.Texts.{answers_text}
 use Rattle.odht_tool_core.specs.declared.failure.Failure.{Failure}
 use Rattle.odht_tool_core.specs.declared.failure.Failure.TheVariants.{Refused, NoShape, Output, Memory, Key}
 use Rattle.odht_tool_core.specs.declared.shapes.Hash.{Hash}
 use Rattle.odht_tool_core.specs.declared.shapes.Part.{Part}
-use Rattle.odht_tool_core.specs.declared.shapes.Shape.{Shape}
+use Rattle.odht_tool_core.specs.declared.shapes.ready.Shape.{Shape}
 use Rattle.odht_tool_core.specs.declared.status.Status.{Status}
 use Rattle.odht_tool_core.specs.declared.status.Status.TheVariants.{Done, NotDone}
 

@@ -13,12 +13,13 @@ use Rattle.odht_header.specs.Refusals.{checked, view_refusal, check_refusal}
 use Rattle.odht_raw.specs.Walks.{decoded_all}
 use Rattle.odht_tool_core.specs.Endings.{Outcome, opened_outcome}
 use Rattle.odht_tool_core.specs.Endings.Outcome.{writes, fails}
-use Rattle.odht_tool_core.specs.ReadyShapes.{shape_of_bytes, shape_format, shape_coding, key_part, value_part, typed_text}
+use Rattle.odht_tool_core.specs.ReadyShapes.{shape_of_bytes, shape_format, shape_coding, typed_text}
+use Rattle.odht_tool_core.specs.ShapeList.{key_part, value_part}
 use Rattle.odht_tool_core.specs.Slots.{slots_outcome}
 use Rattle.odht_tool_core.specs.Texts.{checked_text, pairs_text}
 use Rattle.odht_tool_core.specs.declared.failure.Failure.TheVariants.{NoShape}
 use Rattle.odht_tool_core.specs.declared.shapes.Hash.{Hash}
-use Rattle.odht_tool_core.specs.declared.shapes.Shape.{Shape}
+use Rattle.odht_tool_core.specs.declared.shapes.ready.Shape.{Shape}
 use Rattle.odht_tool_core.specs.declared.status.Status.TheVariants.{Done, NotDone}
 
 abbrev pub by_shape : List ℕ → Option Hash → (Shape → Outcome) → Outcome

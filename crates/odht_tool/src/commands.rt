@@ -1,12 +1,12 @@
 //! Runs the commands, each from its parsed words to the status of the program.
-use odht_tool_core::arguments::{Command, Keys, Reading, Request, parse};
+use odht_tool_core::arguments::{Command, Keys, Reading, Request, Topic, parse};
 use odht_tool_core::failure::Failure;
 use odht_tool_core::files::read_file;
-use odht_tool_core::help::help_text;
+use odht_tool_core::help::{help_end, help_text};
 use odht_tool_core::info::info_file;
 use odht_tool_core::status::{Status, of_output};
 use std::alloc::Global;
-use std::io::{BufRead, ErrorKind, Write};
+use std::io::{self, BufRead, ErrorKind, Write};
 use std::rt::{Clock, Files};
 
 mod build;
@@ -26,10 +26,7 @@ pub fn run<R: Files + AllocGlobal + Clock, I: BufRead, O: Write, E: Write>(
 ) -> Status {
     let alloc: Global = rt.alloc();
     match parse(alloc, words) {
-        Ok(Request::Help(topic)) => {
-            let written = output.write_all(help_text(topic).as_bytes());
-            finish("help", of_output(written), errors)
-        }
+        Ok(Request::Help(topic)) => { finish("help", of_output(write_help(topic, output)), errors) }
         Ok(Request::Run { file, command }) => {
             let file = file.as_str();
             let done = run_command(rt, file, command, input, output, errors);
@@ -44,6 +41,12 @@ pub fn run<R: Files + AllocGlobal + Clock, I: BufRead, O: Write, E: Write>(
             Status::Misused
         }
     }
+}
+
+// Writes the help text of a command, or of all.
+fn write_help<O: Write>(topic: Option<Topic>, output: &mut O) -> io::Result<()> {
+    output.write_all(help_text(topic).as_bytes())?;
+    output.write_all(help_end(topic).as_bytes())
 }
 
 fn run_command<R: Files + AllocGlobal + Clock, I: BufRead, O: Write, E: Write>(

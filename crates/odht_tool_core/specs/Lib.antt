@@ -1,7 +1,9 @@
 -- Definitions for the contracts of what the program is made of.
 -- the texts of keys, of values and of answers
 pub mod Texts
--- the ready shapes, and the shape that bytes are read as
+-- the list of ready shapes
+pub mod ShapeList
+-- what follows of it, and the shape that bytes are read as
 pub mod ReadyShapes
 -- in which group of its probe order a slot is
 pub mod GroupNumbers

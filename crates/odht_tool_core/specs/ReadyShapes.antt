@@ -6,13 +6,12 @@
 --     typed_text p x       the text of x
 --     IsTypedWord p w      the word w is the text of some x of the type p
 --     StandsFor p w x      it is that of this x
---     key_part s           the type of the keys of the shape s
---     value_part s         that of its values
---     shape_hash s         the name of its hash function
 --     hash_of h            the hash function that is named h
 --     shape_format s       the format of its tables
 --     shape_coding s       how they encode and decode keys and values
---     ready_shapes         the ten shapes
+--     is_hashed_by h s     s has the hash function h, where one is named
+--     has_parts p q h s    s has keys of the type p and values of the type q, and, where a hash function h is named, that one
+--     shape_of_parts p q h the first ready shape of this kind, if there is one
 --     is_shape_of k v h s  s has keys of k and values of v bytes, and, where a hash function h is named, that one
 --     shape_of_sizes k v h the first ready shape of this kind, if there is one
 --     early_refusal B      the error of opening the bytes B that comes before those of the key and value sizes, if there
@@ -30,13 +29,14 @@ use Rattle.odht_header.specs.Refusals.{◌gives◌, first_of, tag_refusal, versi
 use Rattle.odht_header.specs.declared.error.Error.{Error}
 use Rattle.odht_header.specs.declared.error.Error.TheVariants.{TooShort}
 use Rattle.odht_header.specs.declared.error.Part.TheVariants.{EntryMetadata}
+use Rattle.odht_tool_core.specs.ShapeList.{key_part, value_part, shape_hash, ready_shapes}
 use Rattle.odht_tool_core.specs.Texts.{IsNumberWord, IsHexWord, WritesBytes, hex_text}
 use Rattle.odht_tool_core.specs.declared.shapes.Hash.{Hash}
 use Rattle.odht_tool_core.specs.declared.shapes.Hash.TheVariants.{Fx, Unhash}
 use Rattle.odht_tool_core.specs.declared.shapes.Part.{Part}
 use Rattle.odht_tool_core.specs.declared.shapes.Part.TheVariants.{Nothing, U32, U64, Bytes}
-use Rattle.odht_tool_core.specs.declared.shapes.Shape.{Shape}
-use Rattle.odht_tool_core.specs.declared.shapes.Shape.TheVariants.{U32ToU32, DirectU32ToU32, U64ToU32, U64ToU64, Bytes16ToU32, Bytes16ToU64, Bytes16Set, Bytes20ToU64, Bytes32ToU64, Bytes32Set}
+use Rattle.odht_tool_core.specs.declared.shapes.ready.Shape.{Shape}
+use Rattle.odht_tool_core.specs.declared.shapes.ready.Shape.TheVariants.{U64ToU32}
 
 -- ---- types of keys and values
 abbrev pub Typed : Part → Type 0
@@ -82,43 +82,6 @@ StandsFor U64 word n = digits_value 10 word ≡ n
 StandsFor (Bytes n) word bytes = WritesBytes word bytes
 
 -- ---- shapes
-abbrev pub key_part : Shape → Part
-key_part U32ToU32 = U32
-key_part DirectU32ToU32 = U32
-key_part U64ToU32 = U64
-key_part U64ToU64 = U64
-key_part Bytes16ToU32 = Bytes 16
-key_part Bytes16ToU64 = Bytes 16
-key_part Bytes16Set = Bytes 16
-key_part Bytes20ToU64 = Bytes 20
-key_part Bytes32ToU64 = Bytes 32
-key_part Bytes32Set = Bytes 32
-
-abbrev pub value_part : Shape → Part
-value_part U32ToU32 = U32
-value_part DirectU32ToU32 = U32
-value_part U64ToU32 = U32
-value_part U64ToU64 = U64
-value_part Bytes16ToU32 = U32
-value_part Bytes16ToU64 = U64
-value_part Bytes16Set = Nothing
-value_part Bytes20ToU64 = U64
-value_part Bytes32ToU64 = U64
-value_part Bytes32Set = Nothing
-
--- numbers are hashed by fx, but for the direct shape
-abbrev pub shape_hash : Shape → Hash
-shape_hash U32ToU32 = Fx
-shape_hash DirectU32ToU32 = Unhash
-shape_hash U64ToU32 = Fx
-shape_hash U64ToU64 = Fx
-shape_hash Bytes16ToU32 = Unhash
-shape_hash Bytes16ToU64 = Unhash
-shape_hash Bytes16Set = Unhash
-shape_hash Bytes20ToU64 = Unhash
-shape_hash Bytes32ToU64 = Unhash
-shape_hash Bytes32Set = Unhash
-
 abbrev pub hash_of : Hash → List ℕ → ℕ
 hash_of Fx = fx
 hash_of Unhash = un
@@ -136,29 +99,30 @@ shape_coding s = record {
 }
 
 -- ---- the shape of bytes
-abbrev pub ready_shapes : List Shape
-ready_shapes =
-    U32ToU32
-    ∷ DirectU32ToU32
-    ∷ U64ToU32
-    ∷ U64ToU64
-    ∷ Bytes16ToU32
-    ∷ Bytes16ToU64
-    ∷ Bytes16Set
-    ∷ Bytes20ToU64
-    ∷ Bytes32ToU64
-    ∷ Bytes32Set
-    ∷ []
-
 abbrev pub same_hash : Hash → Hash → Bool
 same_hash Fx Fx = true
 same_hash Fx Unhash = false
 same_hash Unhash Fx = false
 same_hash Unhash Unhash = true
 
+abbrev pub same_part : Part → Part → Bool
+same_part Nothing Nothing = true
+same_part U32 U32 = true
+same_part U64 U64 = true
+same_part (Bytes m) (Bytes n) = m == n
+same_part p q = false
+
+abbrev pub is_hashed_by : Option Hash → Shape → Bool
+is_hashed_by h s = option_map_or (same_hash (shape_hash s)) h true
+
+abbrev pub has_parts : Part → Part → Option Hash → Shape → Bool
+has_parts p q h s = same_part (key_part s) p && same_part (value_part s) q && is_hashed_by h s
+
+abbrev pub shape_of_parts : Part → Part → Option Hash → Option Shape
+shape_of_parts p q h = find (has_parts p q h) ready_shapes
+
 abbrev pub is_shape_of : ℕ → ℕ → Option Hash → Shape → Bool
-is_shape_of k v h s =
-    typed_len (key_part s) == k && typed_len (value_part s) == v && option_map_or (same_hash (shape_hash s)) h true
+is_shape_of k v h s = typed_len (key_part s) == k && typed_len (value_part s) == v && is_hashed_by h s
 
 abbrev pub shape_of_sizes : ℕ → ℕ → Option Hash → Option Shape
 shape_of_sizes k v h = find (is_shape_of k v h) ready_shapes

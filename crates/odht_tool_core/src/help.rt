@@ -1,6 +1,18 @@
 //! The texts of `--help`.
 use crate::arguments::Topic;
 
+mod ready;
+
+use ready::READY;
+
+/// What comes after the help text of a command, or of all: for `build` the ready shapes.
+pub fn help_end(topic: Option<Topic>) -> &'static str {
+    match topic {
+        Some(Topic::Build) => READY,
+        _ => "",
+    }
+}
+
 /// The help text of a command, or of all.
 pub fn help_text(topic: Option<Topic>) -> &'static str {
     match topic {
@@ -64,9 +76,6 @@ odht build FILE --key SHAPE --value SHAPE [--hash fx|unhash]
     it as FILE, in the place of an older one, which stays where something fails.
     The last line of a key wins.
     SHAPE       u32, u64, none (a value only), or hexN: N bytes as 2 N digits
-    ready       u32 to u32 (fx or unhash); u64 to u32, u64 (fx);
-                hex16 to u32, u64, none (unhash); hex20 to u64 (unhash);
-                hex32 to u64, none (unhash)
     --percent   the load factor, 1 to 100, else 87
     --capacity  the number of items for which room is made at first, else 12
     --progress  a line on standard error each second

@@ -1,14 +1,19 @@
 //! The shapes of tables that the commands read and write: the types of keys and values, and the hash function.
 ghost use Rattle.std.specs.Prelude.{◌≡◌, slice_index};
 ghost use Rattle.std.specs.Option.{ok_or};
-ghost use Rattle.odht_tool_core.specs.ReadyShapes.{typed_len, key_part, value_part, shape_hash};
-ghost use Rattle.odht_tool_core.specs.ReadyShapes.{same_hash, is_shape_of, shape_of_sizes};
-ghost use Rattle.odht_tool_core.specs.ReadyShapes.{shape_of_bytes};
+ghost use Rattle.odht_tool_core.specs.ReadyShapes.{typed_len, same_part, same_hash, is_hashed_by};
+ghost use Rattle.odht_tool_core.specs.ReadyShapes.{has_parts, shape_of_parts, is_shape_of};
+ghost use Rattle.odht_tool_core.specs.ReadyShapes.{shape_of_sizes, shape_of_bytes};
 ghost use Rattle.odht_tool_core.specs.declared.failure.Failure.TheVariants.{NoShape};
 
 use crate::early::check_first;
 use crate::failure::Failure;
 use odht_header::header::Header;
+
+mod ready;
+
+use ready::SHAPES;
+pub use ready::Shape;
 
 /// A hash function of keys.
 #[derive(Clone, Copy)]
@@ -83,47 +88,21 @@ impl Part {
         }
     }
 
-    // Whether a ready shape has this type for this size: there 4 and 8 bytes are numbers.
-    fn is_ready(self) -> bool {
-        match self {
-            Part::Bytes(size) => size != 4 && size != 8,
-            _ => true,
+    // Whether both are the same type.
+    fn is(self, other: Part) -> bool
+        ensures { result ≡ same_part self other }
+    {
+        match (self, other) {
+            (Part::Nothing, Part::Nothing) | (Part::U32, Part::U32) | (Part::U64, Part::U64) =>
+                true,
+            (Part::Bytes(size), Part::Bytes(other)) => size == other,
+            _ => false,
         }
     }
 }
 
-/// A ready shape, by the name of its configuration.
-#[derive(Clone, Copy)]
-pub enum Shape {
-    U32ToU32,
-    DirectU32ToU32,
-    U64ToU32,
-    U64ToU64,
-    Bytes16ToU32,
-    Bytes16ToU64,
-    Bytes16Set,
-    Bytes20ToU64,
-    Bytes32ToU64,
-    Bytes32Set,
-}
-
-/// The ready shapes. Of two with the same sizes the first is taken where no hash function is named.
-const SHAPES: [Shape; 10] = [
-    Shape::U32ToU32,
-    Shape::DirectU32ToU32,
-    Shape::U64ToU32,
-    Shape::U64ToU64,
-    Shape::Bytes16ToU32,
-    Shape::Bytes16ToU64,
-    Shape::Bytes16Set,
-    Shape::Bytes20ToU64,
-    Shape::Bytes32ToU64,
-    Shape::Bytes32Set,
-];
-
 impl Shape {
-    // The ready shape of keys and values of so many bytes. Where both hash functions are possible and none is given,
-    // it is the one of `fx`.
+    // The first ready shape of keys and values of so many bytes, and of the hash function, where one is given.
     fn of_sizes(key_size: u8, value_size: u8, hash: Option<Hash>) -> Option<Shape>
         ensures { result ≡ shape_of_sizes key_size value_size hash }
     {
@@ -139,55 +118,33 @@ impl Shape {
     {
         self.key().size() == key_size
             && self.value().size() == value_size
-            && match hash {
-                Some(hash) => self.hash().is(hash),
-                None => true,
-            }
+            && self.is_hashed_by(hash)
     }
 
     /// The ready shape of these types of keys and values.
-    pub fn of_parts(key: Part, value: Part, hash: Option<Hash>) -> Option<Shape> {
-        if key.is_ready() && value.is_ready() {
-            Shape::of_sizes(key.size(), value.size(), hash)
-        } else {
-            None
-        }
+    pub fn of_parts(key: Part, value: Part, hash: Option<Hash>) -> Option<Shape>
+        ensures { result ≡ shape_of_parts key value hash }
+    {
+        SHAPES
+            .iter()
+            .copied()
+            .find(|shape| shape.has_parts(key, value, hash))
     }
 
-    // The type of its keys.
-    fn key(self) -> Part
-        ensures { result ≡ key_part self }
+    // Whether keys and values are of these types, and the hash function is this one, where one is given.
+    fn has_parts(self, key: Part, value: Part, hash: Option<Hash>) -> bool
+        ensures { result ≡ has_parts key value hash self }
     {
-        match self {
-            Shape::U32ToU32 | Shape::DirectU32ToU32 => Part::U32,
-            Shape::U64ToU32 | Shape::U64ToU64 => Part::U64,
-            Shape::Bytes16ToU32 | Shape::Bytes16ToU64 | Shape::Bytes16Set => Part::Bytes(16),
-            Shape::Bytes20ToU64 => Part::Bytes(20),
-            Shape::Bytes32ToU64 | Shape::Bytes32Set => Part::Bytes(32),
-        }
+        self.key().is(key) && self.value().is(value) && self.is_hashed_by(hash)
     }
 
-    // The type of its values.
-    fn value(self) -> Part
-        ensures { result ≡ value_part self }
+    // Whether the hash function is this one, where one is given.
+    fn is_hashed_by(self, hash: Option<Hash>) -> bool
+        ensures { result ≡ is_hashed_by hash self }
     {
-        match self {
-            Shape::U32ToU32 | Shape::DirectU32ToU32 | Shape::U64ToU32 | Shape::Bytes16ToU32 => {
-                Part::U32
-            }
-            Shape::U64ToU64 | Shape::Bytes16ToU64 | Shape::Bytes20ToU64 | Shape::Bytes32ToU64 =>
-                Part::U64,
-            Shape::Bytes16Set | Shape::Bytes32Set => Part::Nothing,
-        }
-    }
-
-    // Its hash function.
-    fn hash(self) -> Hash
-        ensures { result ≡ shape_hash self }
-    {
-        match self {
-            Shape::U32ToU32 | Shape::U64ToU32 | Shape::U64ToU64 => Hash::Fx,
-            _ => Hash::Unhash,
+        match hash {
+            Some(hash) => self.hash().is(hash),
+            None => true,
         }
     }
 }

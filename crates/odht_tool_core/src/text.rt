@@ -80,46 +80,14 @@ impl Text for () {
     }
 }
 
-impl Text for [u8; 16] {
+impl<const N: usize> Text for [u8; N] {
     ghost text = { hex_text };
 
-    ghost is_word = { IsHexWord 16 };
+    ghost is_word = { IsHexWord N };
 
     ghost stands_for = { WritesBytes };
 
-    fn parse(word: &[u8]) -> Option<[u8; 16]> {
-        parse_bytes(word)
-    }
-
-    fn write<W: Write>(&self, output: &mut W) -> io::Result<()> {
-        write_bytes(self, output)
-    }
-}
-
-impl Text for [u8; 20] {
-    ghost text = { hex_text };
-
-    ghost is_word = { IsHexWord 20 };
-
-    ghost stands_for = { WritesBytes };
-
-    fn parse(word: &[u8]) -> Option<[u8; 20]> {
-        parse_bytes(word)
-    }
-
-    fn write<W: Write>(&self, output: &mut W) -> io::Result<()> {
-        write_bytes(self, output)
-    }
-}
-
-impl Text for [u8; 32] {
-    ghost text = { hex_text };
-
-    ghost is_word = { IsHexWord 32 };
-
-    ghost stands_for = { WritesBytes };
-
-    fn parse(word: &[u8]) -> Option<[u8; 32]> {
+    fn parse(word: &[u8]) -> Option<[u8; N]> {
         parse_bytes(word)
     }
 

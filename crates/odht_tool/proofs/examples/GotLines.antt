@@ -28,7 +28,7 @@ use Rattle.odht_tool_core.specs.declared.failure.Failure.TheVariants.{Refused, N
 use Rattle.odht_tool_core.specs.declared.failure.LineFault.TheVariants.{NoTab, Key}
 use Rattle.odht_tool_core.specs.declared.shapes.Hash.TheVariants.{Unhash}
 use Rattle.odht_tool_core.specs.declared.shapes.Part.TheVariants.{U32}
-use Rattle.odht_tool_core.specs.declared.shapes.Shape.TheVariants.{DirectU32ToU32}
+use Rattle.odht_tool_core.specs.declared.shapes.ready.Shape.TheVariants.{DirectU32ToU32}
 use Rattle.odht_tool_core.specs.declared.status.Status.{Status}
 use Rattle.odht_tool_core.specs.declared.status.Status.TheVariants.{Done, NotDone}
 use Rattle.odht_tool.proofs.AnswerLists.{are_answers_append}

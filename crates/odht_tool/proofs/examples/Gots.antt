@@ -7,7 +7,7 @@ use Rattle.odht_header.proofs.examples.Opened.{opened}
 use Rattle.odht_tool.specs.Gets.{answered_status, words_of_shape}
 use Rattle.odht_tool_core.specs.ReadyShapes.{shape_format}
 use Rattle.odht_tool_core.specs.declared.failure.Failure.TheVariants.{Memory}
-use Rattle.odht_tool_core.specs.declared.shapes.Shape.TheVariants.{DirectU32ToU32}
+use Rattle.odht_tool_core.specs.declared.shapes.ready.Shape.TheVariants.{DirectU32ToU32}
 use Rattle.odht_tool_core.specs.declared.status.Status.TheVariants.{Done, NotDone}
 use Rattle.odht_tool_core.proofs.examples.Shapes.{one_bytes}
 

@@ -6,10 +6,7 @@ ghost use Rattle.odht_base.specs.Valid.{IsImage};
 ghost use Rattle.odht.specs.Inserts.{IsFresh};
 ghost use Rattle.odht.specs.Lists.{encoded_all, IsAfterInserts};
 
-use crate::shapes::{
-    Bytes16Set, Bytes16ToU32, Bytes16ToU64, Bytes20ToU64, Bytes32Set, Bytes32ToU64, DirectU32ToU32,
-    U32ToU32, U64ToU32, U64ToU64, for_shape,
-};
+use crate::shapes::for_shape;
 use odht::HashTableOwned;
 use odht::config::{Coded, Config};
 use odht::load::Percent;

@@ -7,10 +7,7 @@ ghost use Rattle.odht_tool_core.specs.Endings.{IsDone};
 ghost use Rattle.odht_tool_core.specs.ReadyShapes.{shape_format};
 ghost use Rattle.odht_tool_core.specs.Texts.{checked_text};
 
-use crate::shapes::{
-    Bytes16Set, Bytes16ToU32, Bytes16ToU64, Bytes20ToU64, Bytes32Set, Bytes32ToU64, DirectU32ToU32,
-    U32ToU32, U64ToU32, U64ToU64, for_shape,
-};
+use crate::shapes::for_shape;
 use odht::config::{Coded, Config};
 use odht::error::Error;
 use odht::memory_layout::check_all;

@@ -9,10 +9,7 @@ ghost use Rattle.odht_tool.specs.Outcomes.{pairs_outcome, dump_of_shape, dump_ou
 ghost use Rattle.odht_tool_core.specs.Endings.{IsDone};
 ghost use Rattle.odht_tool_core.specs.Texts.{pairs_text};
 
-use crate::shapes::{
-    Bytes16Set, Bytes16ToU32, Bytes16ToU64, Bytes20ToU64, Bytes32Set, Bytes32ToU64, DirectU32ToU32,
-    U32ToU32, U64ToU32, U64ToU64, for_shape,
-};
+use crate::shapes::for_shape;
 use odht::bytes::Borrowed;
 use odht::config::{Coded, Config};
 use odht::{HashTable, Iter};

@@ -8,10 +8,7 @@ ghost use Rattle.odht_tool.specs.GetLines.{AreLinesAnswered, AreLinesGot, AreFil
 ghost use Rattle.odht_tool.specs.GetLines.{lines_of_shape};
 ghost use Rattle.odht_tool_core.specs.Keys.{IsReadAs};
 
-use crate::shapes::{
-    Bytes16Set, Bytes16ToU32, Bytes16ToU64, Bytes20ToU64, Bytes32Set, Bytes32ToU64, DirectU32ToU32,
-    U32ToU32, U64ToU32, U64ToU64, for_shape,
-};
+use crate::shapes::for_shape;
 use odht::HashTable;
 use odht::bytes::Borrowed;
 use odht::config::{Coded, Config};

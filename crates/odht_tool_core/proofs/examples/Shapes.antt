@@ -9,10 +9,11 @@ use Rattle.odht_base.specs.Image.{image}
 use Rattle.odht_base.specs.Load.{factor_of}
 use Rattle.odht_base.specs.Table.{Table}
 use Rattle.odht_header.proofs.examples.Opened.{opened}
-use Rattle.odht_tool_core.specs.ReadyShapes.{typed_len, typed_bytes, typed_of, typed_text, key_part, value_part, shape_hash, shape_format, ready_shapes, shape_of_sizes, shape_of_bytes}
+use Rattle.odht_tool_core.specs.ReadyShapes.{typed_len, typed_bytes, typed_of, typed_text, shape_format, shape_of_parts, shape_of_sizes, shape_of_bytes}
+use Rattle.odht_tool_core.specs.ShapeList.{key_part, value_part, shape_hash, ready_shapes}
 use Rattle.odht_tool_core.specs.declared.shapes.Hash.TheVariants.{Fx, Unhash}
 use Rattle.odht_tool_core.specs.declared.shapes.Part.TheVariants.{Nothing, U32, U64, Bytes}
-use Rattle.odht_tool_core.specs.declared.shapes.Shape.TheVariants.{U32ToU32, DirectU32ToU32, U64ToU32, Bytes16Set, Bytes32Set}
+use Rattle.odht_tool_core.specs.declared.shapes.ready.Shape.TheVariants.{U32ToU32, DirectU32ToU32, U64ToU32, Bytes16Set, Bytes32Set}
 
 abbrev pub one_item : Table
 one_item = record { factor = factor_of 7; cells = set (replicate 16 None) 5 (Some (pair32 5 7)) }
@@ -36,15 +37,22 @@ formats = (refl, refl, refl)
 pub found : map (λ s. shape_of_sizes (typed_len (key_part s)) (typed_len (value_part s)) (Some (shape_hash s))) ready_shapes ≡ map Some ready_shapes
 found = refl
 
--- of numbers of four bytes the shape by fx comes first; no shape has another hash function, or sizes, than the ten
+-- of numbers of four bytes the shape by fx comes first; no shape of the list has other sizes, or for these another hash function
 pub sizes : (shape_of_sizes 4 4 None ≡ Some U32ToU32)
     × (shape_of_sizes 4 4 (Some Unhash) ≡ Some DirectU32ToU32)
-    × (shape_of_sizes 8 4 (Some Unhash) ≡ None)
+    × (shape_of_sizes 20 8 (Some Fx) ≡ None)
     × (shape_of_sizes 16 0 None ≡ Some Bytes16Set)
     × (shape_of_sizes 32 0 (Some Fx) ≡ None)
     × (shape_of_sizes 32 0 None ≡ Some Bytes32Set)
     × (shape_of_sizes 4 8 None ≡ None)
 sizes = (refl, refl, refl, refl, refl, refl, refl)
+
+-- by its types each is found too; bytes are no numbers of as many bytes
+pub parts : (map (λ s. shape_of_parts (key_part s) (value_part s) (Some (shape_hash s))) ready_shapes ≡ map Some ready_shapes)
+    × (shape_of_parts U32 U32 None ≡ Some U32ToU32)
+    × (shape_of_parts (Bytes 4) U32 None ≡ None)
+    × (shape_of_parts U64 (Bytes 4) None ≡ None)
+parts = (refl, refl, refl, refl)
 
 -- bytes of four and four; with another key size there is no shape, but with a wrong tag before it some shape will do
 pub of_bytes : (shape_of_bytes one_bytes None ≡ Some U32ToU32)

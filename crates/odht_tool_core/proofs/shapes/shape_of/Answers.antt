@@ -5,7 +5,7 @@ use Rattle.odht_header.specs.Refusals.{checked}
 use Rattle.odht_header.specs.declared.error.Error.{Error}
 use Rattle.odht_tool_core.specs.ReadyShapes.{early_refusal, shape_of_sizes}
 use Rattle.odht_tool_core.specs.declared.failure.Failure.TheVariants.{NoShape}
-use Rattle.odht_tool_core.specs.declared.shapes.Shape.TheVariants.{U64ToU32}
+use Rattle.odht_tool_core.specs.declared.shapes.ready.Shape.TheVariants.{U64ToU32}
 use Rattle.odht_tool_core.proofs.shapes.shape_of.Goals as goal
 
 -- a check that fails has an error
