@@ -50,7 +50,7 @@ def method(shapes, words, name, result, definition, value):
     """A method of `Shape` with an arm for each shape."""
     arms = "".join(f"            Shape::{it.configuration} => {value(it)},\n" for it in shapes)
     return f"""    /// {words}
-    pub(super) fn {name}(self) -> {result}
+    pub(crate) fn {name}(self) -> {result}
         ensures {{ result ≡ {definition} self }}
     {{
         match self {{
@@ -80,7 +80,7 @@ pub enum Shape {{
 {variants}}}
 
 /// The ready shapes. Of two that a file fits the first is taken.
-pub(super) const SHAPES: [Shape; {len(shapes)}] = [
+pub(crate) const SHAPES: [Shape; {len(shapes)}] = [
 {listed}];
 
 impl Shape {{

@@ -122,6 +122,13 @@ def slots_text(table, key_text, value_text):
     return text
 
 
+def misfits(table, hash):
+    """The slots whose control byte is not the tag of their key by another hash function, with both numbers."""
+    for slot, cell in enumerate(table.cells):
+        if cell is not None and hash(cell[0]) >> 25 != table.hash(cell[0]) >> 25:
+            yield slot, hash(cell[0]) >> 25, table.hash(cell[0]) >> 25
+
+
 def le(number, size):
     return number.to_bytes(size, "little")
 
@@ -150,16 +157,28 @@ class Case:
         return (f"== {title}\nargs: {args}\n{kind} {self.name}.odht: < crates/odht_tool/data/{self.name}.odht\n"
                 + block("stdin", stdin) + block("stdout", stdout) + "\n")
 
+    def rejected_text(self, other, other_name, name):
+        """The case of `check` under another hash function, which is that of the list where none is named."""
+        slot, expected, found = next(misfits(self.table, other))
+        rule = f"Control byte does not match hash value for entry {slot}. Expected {expected}, found {found}.\n"
+        file = f"{self.name}.odht"
+        hint = f"odht: {file}: all control bytes fit {name}: try --hash {name}, or `odht info`\n"
+        runs = [("check without --hash", f"check {file}", hint), ("check under another", f"check {file} --hash {other_name}", "")]
+        return "".join(
+            self.run_text(title, args, "", rule).rstrip("\n") + "\n" + block("stderr", errors) + "status: 1\n\n"
+            for title, args, errors in runs)
+
     def write_cases(self):
         """The runs of all commands; `info` alone where no words build the table."""
         file, hash = f"{self.name}.odht", self.hash_words
         text = HEAD + self.run_text("info", f"info {file}", "", self.info)
         if self.words:
             text += self.run_text("check", f"check {file}{hash}", "", "valid\n")
-            text += self.run_text("dump", f"dump {file}{hash}", "", self.dump)
-            text += self.run_text("dump --slots", f"dump --slots {file}{hash}", "", self.slots)
-            text += self.run_text("get all keys, in lines that end with \\r\\n", f"get {file} -{hash}", self.keys,
-                                  self.dump)
+            if hash:
+                text += self.rejected_text(fx, "fx", "unhash")
+            text += self.run_text("dump", f"dump {file}", "", self.dump)
+            text += self.run_text("dump --slots", f"dump --slots {file}", "", self.slots)
+            text += self.run_text("get all keys, in lines that end with \\r\\n", f"get {file} -", self.keys, self.dump)
             text += self.run_text("build", f"build {file} {self.words}", self.pairs, "", "after")
         write_test(f"tool/tables/{self.name}.cases", text)
 

@@ -8,7 +8,7 @@
 --                          bytes old to new; f and g are the texts of keys and of values
 --     AreWordsGot c f g R B ws old new r   what `get` returns, r, and writes for the words ws
 --     AreFileWordsGot B h ws old new r     the same of the bytes of a file, where the hash function h, or none, is named
-use Rattle.std.specs.Prelude.{◌≡◌, Bool, ℕ, List, length, map, is_some, slice_index, Option, Some, None, Result, Ok, Err, MatchOption, string_bytes, if◌then◌else◌}
+use Rattle.std.specs.Prelude.{◌≡◌, Bool, ℕ, List, length, map, is_some, Option, Some, None, Result, Ok, Err, MatchResult, string_bytes, if◌then◌else◌}
 use Rattle.std.specs.Io.KnownBytes.{Appends, Keeps}
 use Rattle.std.specs.List.{list_all, AllZip}
 use Rattle.odht.specs.Lookups.{HaveStored}
@@ -16,12 +16,13 @@ use Rattle.odht_base.specs.Table.{Table}
 use Rattle.odht_base.specs.Valid.{IsImage}
 use Rattle.odht_header.specs.Coding.{Coding, value_for}
 use Rattle.odht_header.specs.Refusals.{view_refusal}
+use Rattle.odht_tool_core.specs.FoundShapes.{found_shape}
 use Rattle.odht_tool_core.specs.Keys.{IsReadAs, IsFirstFault}
-use Rattle.odht_tool_core.specs.ReadyShapes.{Typed, IsTypedWord, StandsFor, typed_text, shape_coding, shape_of_bytes}
+use Rattle.odht_tool_core.specs.ReadyShapes.{Typed, IsTypedWord, StandsFor, typed_text, shape_coding}
 use Rattle.odht_tool_core.specs.ShapeList.{key_part, value_part}
 use Rattle.odht_tool_core.specs.Texts.{answers_text}
 use Rattle.odht_tool_core.specs.declared.failure.Failure.{Failure}
-use Rattle.odht_tool_core.specs.declared.failure.Failure.TheVariants.{Refused, NoShape, Output, Memory, Key}
+use Rattle.odht_tool_core.specs.declared.failure.Failure.TheVariants.{Refused, Output, Memory, Key}
 use Rattle.odht_tool_core.specs.declared.shapes.Hash.{Hash}
 use Rattle.odht_tool_core.specs.declared.shapes.Part.{Part}
 use Rattle.odht_tool_core.specs.declared.shapes.ready.Shape.{Shape}
@@ -65,9 +66,9 @@ abbrev pub words_of_shape : List ℕ → List (List ℕ) → Option (List ℕ) �
 words_of_shape B ws old new r s =
     AreWordsGot (shape_coding s) (typed_text (key_part s)) (typed_text (value_part s)) (IsTextOf (key_part s)) B ws old new r
 
--- with no shape there is the failure of the sizes in the header
+-- with no shape there is its failure
 abbrev pub by_shape : List ℕ → Option Hash → Option (List ℕ) → Option (List ℕ) → Result Status Failure → (Shape → Type 0) → Type 0
-by_shape B h old new r P = MatchOption (shape_of_bytes B h) ((r ≡ Err (NoShape (slice_index B 5) (slice_index B 6))) × Keeps old new) P
+by_shape B h old new r P = MatchResult (found_shape B h) P (λ failure. (r ≡ Err failure) × Keeps old new)
 
 abbrev pub AreFileWordsGot : List ℕ → Option Hash → List (List ℕ) → Option (List ℕ) → Option (List ℕ) → Result Status Failure → Type 0
 AreFileWordsGot B h ws old new r = by_shape B h old new r (words_of_shape B ws old new r)

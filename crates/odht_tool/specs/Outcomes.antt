@@ -1,29 +1,34 @@
 -- What `check` and `dump` do with the bytes of a file.
---     by_shape B h f           what f says of the shape of the bytes B, where the hash function h, or none, is named;
---                              with none there is the failure of its sizes
---     check_outcome B h        of `check`
+--     by_shape r f             what f says of a shape, where r is one; else the failure
+--     check_outcome B h        of `check`, where the hash function h, or none, is named
+--     hint_of B h              the hash function to name for bytes that were rejected, where none was named
+--     hint_text file h         the line of that
 --     pairs_outcome c f g B    of `dump` for bytes of the coding c: the pairs that the slots hold, in slot order, where f
 --                              and g are the texts of keys and of values
 --     dump_outcome B h is_slots    of `dump`, with `--slots` or without
-use Rattle.std.specs.Prelude.{ℕ, Bool, List, slice_index, Option, is_ok, if◌then◌else◌}
-use Rattle.std.specs.Option.{option_map_or}
+use Rattle.std.specs.Prelude.{ℕ, Bool, List, ◌++◌, codes, Option, None, Result, Ok, Err, is_ok, is_none, if◌then◌else◌}
+use Rattle.std.specs.Option.{option_and_then}
+use Rattle.std.specs.Result.{result_ok}
 use Rattle.odht_base.specs.Decoded.{decoded_pairs}
 use Rattle.odht_header.specs.Coding.{Coding}
 use Rattle.odht_header.specs.Refusals.{checked, view_refusal, check_refusal}
 use Rattle.odht_raw.specs.Walks.{decoded_all}
 use Rattle.odht_tool_core.specs.Endings.{Outcome, opened_outcome}
 use Rattle.odht_tool_core.specs.Endings.Outcome.{writes, fails}
-use Rattle.odht_tool_core.specs.ReadyShapes.{shape_of_bytes, shape_format, shape_coding, typed_text}
+use Rattle.odht_tool_core.specs.FoundShapes.{named_shape, found_shape, hinted_hash}
+use Rattle.odht_tool_core.specs.InfoTexts.{hash_name}
+use Rattle.odht_tool_core.specs.ReadyShapes.{shape_format, shape_coding, typed_text}
 use Rattle.odht_tool_core.specs.ShapeList.{key_part, value_part}
 use Rattle.odht_tool_core.specs.Slots.{slots_outcome}
 use Rattle.odht_tool_core.specs.Texts.{checked_text, pairs_text}
-use Rattle.odht_tool_core.specs.declared.failure.Failure.TheVariants.{NoShape}
+use Rattle.odht_tool_core.specs.declared.failure.Failure.{Failure}
 use Rattle.odht_tool_core.specs.declared.shapes.Hash.{Hash}
 use Rattle.odht_tool_core.specs.declared.shapes.ready.Shape.{Shape}
 use Rattle.odht_tool_core.specs.declared.status.Status.TheVariants.{Done, NotDone}
 
-abbrev pub by_shape : List ℕ → Option Hash → (Shape → Outcome) → Outcome
-by_shape B h f = option_map_or f (shape_of_bytes B h) (fails (NoShape (slice_index B 5) (slice_index B 6)))
+abbrev pub by_shape : Result Shape Failure → (Shape → Outcome) → Outcome
+by_shape (Ok s) f = f s
+by_shape (Err failure) f = fails failure
 
 -- ---- check
 abbrev pub check_of_shape : List ℕ → Shape → Outcome
@@ -32,7 +37,14 @@ check_of_shape B s =
     writes (checked_text r) (if is_ok r then Done else NotDone)
 
 abbrev pub check_outcome : List ℕ → Option Hash → Outcome
-check_outcome B h = by_shape B h (check_of_shape B)
+check_outcome B h = by_shape (named_shape B h) (check_of_shape B)
+
+abbrev pub hint_of : List ℕ → Option Hash → Option Hash
+hint_of B h = if is_none h then option_and_then (hinted_hash B) (result_ok (named_shape B None)) else None
+
+abbrev pub hint_text : List ℕ → Hash → List ℕ
+hint_text file h =
+    codes "odht: " ++ (file ++ (codes ": all control bytes fit " ++ (hash_name h ++ (codes ": try --hash " ++ (hash_name h ++ codes ", or `odht info`\n")))))
 
 -- ---- dump
 abbrev pub pairs_outcome : {K V : Type 0} → Coding K V → (K → List ℕ) → (V → List ℕ) → List ℕ → Outcome
@@ -45,4 +57,4 @@ dump_of_shape B is_slots s =
     else pairs_outcome (shape_coding s) (typed_text (key_part s)) (typed_text (value_part s)) B
 
 abbrev pub dump_outcome : List ℕ → Option Hash → Bool → Outcome
-dump_outcome B h is_slots = by_shape B h (dump_of_shape B is_slots)
+dump_outcome B h is_slots = by_shape (found_shape B h) (dump_of_shape B is_slots)

@@ -61,10 +61,12 @@ fn run_command<R: Files + AllocGlobal + Clock, I: BufRead, O: Write, E: Write>(
         Command::Read(reading) => {
             run_reading(
                 rt.alloc(),
+                file,
                 read_file(rt, file)?.as_slice(),
                 reading,
                 input,
                 output,
+                errors,
             )
         }
         Command::Build(options) => build::build(rt, file, options, input, errors),
@@ -81,16 +83,27 @@ fn run_command<R: Files + AllocGlobal + Clock, I: BufRead, O: Write, E: Write>(
 }
 
 // Runs a command that reads its file alone, which has these bytes.
-fn run_reading<I: BufRead, O: Write>(
+fn run_reading<I: BufRead, O: Write, E: Write>(
     alloc: Global,
+    file: &str,
     bytes: &[u8],
     reading: Reading,
     input: &mut I,
     output: &mut O,
+    errors: &mut E,
 ) -> Result<Status, Failure> {
     match reading {
         Reading::Info => info_file(alloc, bytes, output),
-        Reading::Check { hash } => check::check_file(bytes, hash, output),
+        Reading::Check { hash } => {
+            let status = check::check_file(bytes, hash, output)?;
+            if !status.is_done()
+                && let Some(other) = check::hint_of(bytes, hash)
+            {
+                // A hint that cannot be written is no failure.
+                let _ = check::write_hint(file, other, errors);
+            }
+            Ok(status)
+        }
         Reading::Get {
             hash,
             keys: Keys::Words(words),

@@ -9,3 +9,5 @@ pub mod Groups
 pub mod Infos
 -- what it writes
 pub mod InfoTexts
+-- the shape whose hash function the control bytes have
+pub mod FoundShapes

@@ -19,3 +19,5 @@ pub mod Slots
 pub mod InfoNumbers
 -- its text
 pub mod InfoTexts
+-- the shape whose hash function the control bytes have
+pub mod FoundShapes

@@ -14,6 +14,8 @@ pub enum Failure {
     Refused(Error),
     /// No ready shape has keys and values of so many bytes under the hash that was named.
     NoShape { key_size: u8, value_size: u8 },
+    /// The control bytes are not the tags of the keys under any hash function of the ready shapes of these sizes.
+    NoHash { key_size: u8, value_size: u8 },
     /// Standard input could not be read.
     Input(io::Error),
     /// A line of standard input cannot be parsed.
@@ -59,6 +61,13 @@ impl fmt::Display for Failure {
             } => write!(
                 f,
                 "no ready shape has keys of {key_size} and values of {value_size} bytes under this hash; `odht info` takes any"
+            ),
+            Failure::NoHash {
+                key_size,
+                value_size,
+            } => write!(
+                f,
+                "the control bytes fit no hash function of ready shapes with keys of {key_size} and values of {value_size} bytes; `odht check` and `odht info` say more"
             ),
             Failure::Input(error) => write!(f, "standard input cannot be read: {error}"),
             Failure::Line { number, fault } => {

@@ -50,23 +50,24 @@ odht info FILE
 const CHECK: &str = "\
 odht check FILE [--hash fx|unhash]
     Says `valid`, or the first rule of the format that the file breaks, and then
-    ends with status 1. The shape is that of the file's key and value sizes.
-    --hash names the hash function where both are possible, with keys and values
-    of four bytes; fx is assumed.
+    ends with status 1. The shape is the first of the file's key and value sizes,
+    and of the hash function that --hash names; `odht build --help` lists them.
 ";
 
 const GET: &str = "\
 odht get FILE KEY.. [--hash fx|unhash]
     Writes a line for each key, in their order: KEY, a tab and VALUE; or KEY alone
     where it is absent, and then ends with status 1. With the one word - the keys
-    are the lines of standard input.
+    are the lines of standard input. The hash function is the one that all control
+    bytes fit, unless --hash names it.
 ";
 
 const DUMP: &str = "\
 odht dump FILE [--slots] [--hash fx|unhash]
     Writes a line for each pair, in slot order: KEY, a tab and VALUE. With --slots
     the slot, the control byte and the number of groups that a search for the key
-    looks at stand before them, with tabs too.
+    looks at stand before them, with tabs too. The hash function is the one that
+    all control bytes fit, unless --hash names it.
 ";
 
 const BUILD: &str = "\
@@ -85,5 +86,6 @@ const PUT: &str = "\
 odht put FILE [--hash fx|unhash] [--progress]
     Adds the lines of standard input, KEY, a tab and VALUE, to the table in FILE,
     which grows as needed, and stores it in the place of the older one, which
-    stays where something fails. The last line of a key wins.
+    stays where something fails. The last line of a key wins. The hash function is
+    the one that all control bytes fit, unless --hash names it.
 ";

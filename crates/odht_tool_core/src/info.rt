@@ -83,8 +83,8 @@ fn write_groups<O: Write>(hash: Hash, histogram: &Histogram, output: &mut O) -> 
     )
 }
 
-// The name of a hash function.
-fn name_of(hash: Hash) -> &'static str
+/// The name of a hash function.
+pub fn name_of(hash: Hash) -> &'static str
     ensures { result.now ≡ hash_name hash }
 {
     match hash {

@@ -7,6 +7,7 @@ pub mod arguments;
 mod early;
 pub mod failure;
 pub mod files;
+pub mod found;
 pub mod help;
 mod histogram;
 pub mod info;

@@ -5,6 +5,7 @@ ghost use Rattle.odht_tool_core.specs.ReadyShapes.{typed_len, same_part, same_ha
 ghost use Rattle.odht_tool_core.specs.ReadyShapes.{has_parts, shape_of_parts, is_shape_of};
 ghost use Rattle.odht_tool_core.specs.ReadyShapes.{shape_of_sizes, shape_of_bytes};
 ghost use Rattle.odht_tool_core.specs.declared.failure.Failure.TheVariants.{NoShape};
+ghost use Rattle.odht_tool_core.specs.FoundShapes.{other_hash};
 
 use crate::early::check_first;
 use crate::failure::Failure;
@@ -12,7 +13,7 @@ use odht_header::header::Header;
 
 mod ready;
 
-use ready::SHAPES;
+pub(crate) use ready::SHAPES;
 pub use ready::Shape;
 
 /// A hash function of keys.
@@ -31,6 +32,16 @@ impl Hash {
             "fx" => Some(Hash::Fx),
             "unhash" => Some(Hash::Unhash),
             _ => None,
+        }
+    }
+
+    /// The other hash function.
+    pub(crate) fn other(self) -> Hash
+        ensures { result ≡ other_hash self }
+    {
+        match self {
+            Hash::Fx => Hash::Unhash,
+            Hash::Unhash => Hash::Fx,
         }
     }
 
@@ -112,8 +123,8 @@ impl Shape {
             .find(|shape| shape.is_of(key_size, value_size, hash))
     }
 
-    // Whether keys and values have so many bytes, and the hash function is this one, where one is given.
-    fn is_of(self, key_size: u8, value_size: u8, hash: Option<Hash>) -> bool
+    /// Whether keys and values have so many bytes, and the hash function is this one, where one is given.
+    pub(crate) fn is_of(self, key_size: u8, value_size: u8, hash: Option<Hash>) -> bool
         ensures { result ≡ is_shape_of key_size value_size hash self }
     {
         self.key().size() == key_size

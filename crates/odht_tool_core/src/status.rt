@@ -1,5 +1,5 @@
 //! How a run of the program ended.
-ghost use Rattle.std.specs.Prelude.{◌≡◌, if◌then◌else◌};
+ghost use Rattle.std.specs.Prelude.{◌≡◌, ◌↔◌, IsTrue, if◌then◌else◌};
 ghost use Rattle.odht_tool_core.specs.Endings.{IsWritten};
 
 use crate::failure::Failure;
@@ -27,6 +27,16 @@ impl Status {
             Status::Done => 0,
             Status::NotDone => 1,
             Status::Misused => 2,
+        }
+    }
+
+    /// Whether all was done.
+    pub fn is_done(self) -> bool
+        ensures { IsTrue result ↔ (self ≡ Status.Done) }
+    {
+        match self {
+            Status::Done => true,
+            _ => false,
         }
     }
 

@@ -96,8 +96,9 @@ impl<'a> StoredTable<'a> {
         }
     }
 
-    // Whether the keys are long enough for a hash function, and each occupied slot has the tag of its key by it.
-    fn agrees(&self, hash: Hash) -> bool
+    /// Whether the keys are long enough for a hash function, and each occupied slot has the tag of its key by it. It ends
+    /// at the first that has not.
+    pub fn agrees(&self, hash: Hash) -> bool
         ensures { result ≡ agrees self.now hash }
     {
         if self.key_size < least_key_size(hash) {

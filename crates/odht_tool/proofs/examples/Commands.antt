@@ -7,11 +7,11 @@ use Rattle.odht_header.specs.declared.error.Error.TheVariants.{TooShort}
 use Rattle.odht_header.proofs.examples.Apart.{unequal_lists}
 use Rattle.odht_header.proofs.examples.Opened.{opened}
 use Rattle.odht_tool_core.specs.GroupNumbers.{groups_to}
-use Rattle.odht_tool.specs.Outcomes.{check_outcome, dump_outcome}
+use Rattle.odht_tool.specs.Outcomes.{check_outcome, dump_outcome, hint_of, hint_text}
 use Rattle.odht_tool_core.specs.Endings.{IsDone}
 use Rattle.odht_tool_core.specs.Endings.Outcome.{writes, fails}
-use Rattle.odht_tool_core.specs.declared.failure.Failure.TheVariants.{Refused, NoShape, Memory}
-use Rattle.odht_tool_core.specs.declared.shapes.Hash.TheVariants.{Unhash}
+use Rattle.odht_tool_core.specs.declared.failure.Failure.TheVariants.{Refused, NoShape, NoHash, Memory}
+use Rattle.odht_tool_core.specs.declared.shapes.Hash.TheVariants.{Fx, Unhash}
 use Rattle.odht_tool_core.specs.declared.status.Status.TheVariants.{Done, NotDone}
 use Rattle.odht_tool_core.proofs.examples.Shapes.{one_bytes}
 
@@ -44,6 +44,19 @@ pairs = refl
 pub slots : dump_outcome one_bytes (Some Unhash) true ≡ writes (codes "5\t0\t1\t5\t7\n") Done
 unfolding opened digits groups_to
 slots = refl
+
+-- the hash function is found, where none is named; with another control byte none fits
+pub found : (dump_outcome one_bytes None false ≡ writes (codes "5\t7\n") Done) × (dump_outcome (overwritten_at one_bytes 165 (1 ∷ [])) None false ≡ fails (NoHash 4 4))
+unfolding opened digits
+found = (refl, refl)
+
+-- the hint is for bytes that are rejected where none is named
+pub hinted : (hint_of one_bytes None ≡ Some Unhash) × (hint_of one_bytes (Some Fx) ≡ None) × (hint_of (overwritten_at one_bytes 165 (1 ∷ [])) None ≡ None)
+unfolding opened
+hinted = (refl, refl, refl)
+
+pub hint_line : hint_text (codes "a.odht") Unhash ≡ codes "odht: a.odht: all control bytes fit unhash: try --hash unhash, or `odht info`\n"
+hint_line = refl
 
 pub refused : (dump_outcome (79 ∷ 68 ∷ []) None false ≡ fails (Refused (TooShort 2)))
     × (dump_outcome (79 ∷ 68 ∷ []) None true ≡ fails (Refused (TooShort 2)))

@@ -13,9 +13,10 @@ use odht::load::Percent;
 use odht_tool_core::arguments::BuildOptions;
 use odht_tool_core::failure::Failure;
 use odht_tool_core::files::replace_file;
+use odht_tool_core::found::found_shape;
 use odht_tool_core::lines::read_pair;
 use odht_tool_core::progress::Progress;
-use odht_tool_core::shapes::{Hash, Shape, shape_of};
+use odht_tool_core::shapes::{Hash, Shape};
 use odht_tool_core::status::Status;
 use odht_tool_core::text::Text;
 use std::alloc::Global;
@@ -77,7 +78,7 @@ pub fn put<R: Files + AllocGlobal + Clock, I: BufRead, E: Write>(
     input: &mut I,
     errors: &mut E,
 ) -> Result<Status, Failure> {
-    let shape = shape_of(bytes.as_slice(), hash)?;
+    let shape = found_shape(bytes.as_slice(), hash)?;
     for_shape!(shape, put_file[R, I, E](rt, file, bytes, has_progress, input, errors))
 }
 

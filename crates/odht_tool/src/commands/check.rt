@@ -2,7 +2,7 @@
 ghost use Rattle.std.specs.Prelude.{◌≡◌, OnOk};
 ghost use Rattle.std.specs.Io.KnownBytes.{Appends};
 ghost use Rattle.odht_header.specs.Refusals.{checked, check_refusal};
-ghost use Rattle.odht_tool.specs.Outcomes.{check_outcome};
+ghost use Rattle.odht_tool.specs.Outcomes.{check_outcome, hint_of, hint_text};
 ghost use Rattle.odht_tool_core.specs.Endings.{IsDone};
 ghost use Rattle.odht_tool_core.specs.ReadyShapes.{shape_format};
 ghost use Rattle.odht_tool_core.specs.Texts.{checked_text};
@@ -12,6 +12,8 @@ use odht::config::{Coded, Config};
 use odht::error::Error;
 use odht::memory_layout::check_all;
 use odht_tool_core::failure::Failure;
+use odht_tool_core::found::hinted_hash;
+use odht_tool_core::info::name_of;
 use odht_tool_core::shapes::{Hash, Shape, shape_of};
 use odht_tool_core::status::Status;
 use std::io::{self, Write};
@@ -52,4 +54,27 @@ fn write_checked<O: Write>(checked: &Result<(), Error>, output: &mut O) -> io::R
         Ok(()) => writeln!(output, "valid"),
         Err(refused) => writeln!(output, "{refused}"),
     }
+}
+
+/// The hash function to name for bytes that were rejected where none was named: the other one than that of their shape,
+/// where all control bytes agree with it.
+pub fn hint_of(bytes: &[u8], hash: Option<Hash>) -> Option<Hash>
+    ensures { result ≡ hint_of bytes.now hash }
+{
+    match (hash, shape_of(bytes, None)) {
+        (None, Ok(shape)) => hinted_hash(bytes, shape),
+        _ => None,
+    }
+}
+
+/// Writes a line that tells of this hash function.
+pub fn write_hint<E: Write>(file: &str, hash: Hash, errors: &mut E) -> io::Result<()>
+    ensures { OnOk result
+        (Appends (E.contents errors.old) (E.contents errors.new) (hint_text file.now hash)) }
+{
+    let name = name_of(hash);
+    writeln!(
+        errors,
+        "odht: {file}: all control bytes fit {name}: try --hash {name}, or `odht info`"
+    )
 }

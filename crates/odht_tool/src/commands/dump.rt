@@ -15,7 +15,8 @@ use odht::config::{Coded, Config};
 use odht::{HashTable, Iter};
 use odht_tool_core::answers::write_pair;
 use odht_tool_core::failure::Failure;
-use odht_tool_core::shapes::{Hash, Shape, shape_of};
+use odht_tool_core::found::found_shape;
+use odht_tool_core::shapes::{Hash, Shape};
 use odht_tool_core::slots::dump_slots;
 use odht_tool_core::status::{Status, of_output};
 use odht_tool_core::text::Text;
@@ -32,7 +33,7 @@ pub fn dump_file<O: Write>(
     ensures { IsDone (dump_outcome bytes.now hash is_slots)
         (O.contents output.old) (O.contents output.new) result }
 {
-    let shape = shape_of(bytes, hash)?;
+    let shape = found_shape(bytes, hash)?;
     if is_slots {
         dump_slots_of(shape, bytes, output)
     } else {

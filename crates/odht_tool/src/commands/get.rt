@@ -14,8 +14,9 @@ use odht::bytes::Borrowed;
 use odht::config::{Coded, Config};
 use odht_tool_core::answers::{absent_values, are_found, write_answers};
 use odht_tool_core::failure::{Failure, LineFault};
+use odht_tool_core::found::found_shape;
 use odht_tool_core::keys::{NextKey, next_key, parse_keys, push_key};
-use odht_tool_core::shapes::{Hash, Shape, shape_of};
+use odht_tool_core::shapes::{Hash, Shape};
 use odht_tool_core::status::Status;
 use odht_tool_core::text::Text;
 use std::alloc::{AllocError, Global};
@@ -36,7 +37,7 @@ pub fn get_file_words<O: Write>(
     ensures { AreFileWordsGot bytes.now hash (map string_bytes words.now)
         (O.contents output.old) (O.contents output.new) result }
 {
-    let shape = shape_of(bytes, hash)?;
+    let shape = found_shape(bytes, hash)?;
     get_words_of(alloc, shape, bytes, words, output)
 }
 
@@ -64,7 +65,7 @@ pub fn get_file_lines<I: BufRead, O: Write>(
     ensures { AreFileLinesGot bytes.now hash (I.remaining input.old)
         (O.contents output.old) (O.contents output.new) result }
 {
-    let shape = shape_of(bytes, hash)?;
+    let shape = found_shape(bytes, hash)?;
     get_lines_of(alloc, shape, bytes, input, output)
 }
 

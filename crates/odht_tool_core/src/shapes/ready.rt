@@ -44,7 +44,7 @@ pub enum Shape {
 }
 
 /// The ready shapes. Of two that a file fits the first is taken.
-pub(super) const SHAPES: [Shape; 17] = [
+pub(crate) const SHAPES: [Shape; 17] = [
     Shape::U32ToU32,
     Shape::DirectU32ToU32,
     Shape::U64ToU32,
@@ -66,7 +66,7 @@ pub(super) const SHAPES: [Shape; 17] = [
 
 impl Shape {
     /// The type of its keys.
-    pub(super) fn key(self) -> Part
+    pub(crate) fn key(self) -> Part
         ensures { result ≡ key_part self }
     {
         match self {
@@ -91,7 +91,7 @@ impl Shape {
     }
 
     /// The type of its values.
-    pub(super) fn value(self) -> Part
+    pub(crate) fn value(self) -> Part
         ensures { result ≡ value_part self }
     {
         match self {
@@ -116,7 +116,7 @@ impl Shape {
     }
 
     /// Its hash function.
-    pub(super) fn hash(self) -> Hash
+    pub(crate) fn hash(self) -> Hash
         ensures { result ≡ shape_hash self }
     {
         match self {

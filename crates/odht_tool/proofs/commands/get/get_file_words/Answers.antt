@@ -1,9 +1,8 @@
 use Rattle.std.proofs.Common.{rules, ◌≡◌, ◌∙◌, Err, map, sym}
-use Rattle.std.specs.Prelude.{slice_index, string_bytes}
+use Rattle.std.specs.Prelude.{string_bytes}
 use Rattle.std.specs.Io.KnownBytes.{Keeps}
 use Rattle.odht_tool.specs.Gets.{words_of_shape}
-use Rattle.odht_tool_core.specs.ReadyShapes.{shape_of_bytes}
-use Rattle.odht_tool_core.specs.declared.failure.Failure.TheVariants.{NoShape}
+use Rattle.odht_tool_core.specs.FoundShapes.{found_shape}
 use Rattle.odht_tool.proofs.Shaped.{without_shape_said, with_shape_said}
 use Rattle.odht_tool.proofs.commands.get.get_file_words.Goals as goal
 
@@ -13,13 +12,12 @@ returns-in_err-shape g c =
     let x = c.in_err-shape.field-0.0 in
     let old = g.O.Write.contents c.args.output.now in
     let failed : c.from_residual.result ≡ Err x = search rules in
-    rw failed (without_shape_said (shape_of_bytes B c.args.hash) (NoShape (slice_index B 5) (slice_index B 6)) x old (words_of_shape B (map string_bytes c.args.words.now) old old (Err x)) (sym c.in_err-shape.was ∙ c.shape_of.ensures))
+    rw failed (without_shape_said (found_shape B c.args.hash) x old (words_of_shape B (map string_bytes c.args.words.now) old old (Err x)) (sym c.in_err-shape.was ∙ c.found_shape.ensures))
 
 pub returns : goal.returns
 returns g c =
     let B = c.args.bytes.now in
-    let s = NoShape (slice_index B 5) (slice_index B 6) in
     let old = g.O.Write.contents c.args.output.now in
     let new = g.O.Write.contents c.get_words_of.new.output in
-    with_shape_said (shape_of_bytes B c.args.hash) s c.in_ok-shape.shape ((c.get_words_of.result ≡ Err s) × Keeps old new) (words_of_shape B (map string_bytes c.args.words.now) old new c.get_words_of.result)
-    (sym c.in_ok-shape.was ∙ c.shape_of.ensures) c.get_words_of.ensures
+    with_shape_said (found_shape B c.args.hash) c.in_ok-shape.shape (words_of_shape B (map string_bytes c.args.words.now) old new c.get_words_of.result) (λ x. (c.get_words_of.result ≡ Err x) × Keeps old new)
+    (sym c.in_ok-shape.was ∙ c.found_shape.ensures) c.get_words_of.ensures
