@@ -12,7 +12,7 @@ mod with_the_library {
     use beside::c_library::{status, Calls, ABSENT, OK, REPLACED, TOO_SMALL, UNMADE};
     use beside::operations;
     use beside::random::Random;
-    use odht::{check_all, configs::*, try_bytes_needed, HashTable, HashTableOwned};
+    use odht::{check_all, try_bytes_needed, HashTable, HashTableOwned};
     use std::fmt::Debug;
 
     trait Chance: Copy + PartialEq + Debug {
