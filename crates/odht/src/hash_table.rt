@@ -28,6 +28,7 @@ use crate::raw_table::{RawIter, RawTable};
 use crate::swisstable_group_query::GroupQuery;
 use std::marker::Model;
 
+mod bounds;
 mod by_search;
 mod lists;
 mod prefix;

@@ -1,5 +1,5 @@
 //! The table that owns its bytes, and grows.
-ghost use Rattle.std.specs.Prelude.{◌≡◌, ℕ, List, ◌≤◌, ◌↔◌, ◌⊎◌, Some, length, IfOk, IsSome};
+ghost use Rattle.std.specs.Prelude.{◌≡◌, ℕ, List, ◌≤◌, ◌↔◌, ◌⊎◌, None, Some, length, IfOk, IsSome};
 ghost use Rattle.std.specs.Prelude.{IsTrue, IsErrOf, OnErr};
 ghost use Rattle.odht_base.specs.Load.{factor_of, slots_for, IsPercent};
 ghost use Rattle.odht_base.specs.Table.{Table, walk, count, empty};
@@ -13,7 +13,7 @@ ghost use Rattle.odht.specs.Lists.{EndsAfter, IsFreshAfterInserts};
 ghost use Rattle.odht.specs.Inserts.{IsFresh, IsInserted};
 ghost use Rattle.odht_raw.specs.Walks.{decoded_all};
 ghost use Rattle.std.specs.Iterator.{IsFinite};
-ghost use Rattle.odht_header.specs.Refusals.{IsTooLarge, check_refusal};
+ghost use Rattle.odht_header.specs.Refusals.{IsTooLarge, check_refusal, check_refusal_by};
 
 use crate::bytes::OwnedBytes;
 use crate::config::{Coded, Config};
@@ -192,6 +192,28 @@ impl<C: Config> HashTableOwned<C> {
             → OnErr result (result ≡ Err Error.Memory) }
     {
         if let Err(refused) = memory_layout::check_all::<C>(raw_bytes) {
+            return Err(refused);
+        }
+        Self::from_raw_bytes_unchecked(alloc, raw_bytes)
+    }
+
+    /// `from_raw_bytes` for bytes of strangers: also rejected, as by [`memory_layout::check_all_within`], are bytes in
+    /// which a search may read more than `groups` groups of control bytes. The check costs what that call does.
+    ///
+    /// `Memory` when memory is exhausted.
+    pub fn from_raw_bytes_within(
+        alloc: Global,
+        raw_bytes: &[u8],
+        groups: usize,
+    ) -> Result<Self, Error>
+        ensures ok { IfOk result (λ t. t ≡ raw_bytes.now) }
+        ensures refused { (e : Error)
+            → check_refusal_by ⟦<C as Coded>⟧.coding.format (Some groups) raw_bytes.now ≡ Some e
+            → result ≡ Err e }
+        ensures memory { check_refusal_by ⟦<C as Coded>⟧.coding.format (Some groups) raw_bytes.now
+            ≡ None → OnErr result (result ≡ Err Error.Memory) }
+    {
+        if let Err(refused) = memory_layout::check_all_within::<C>(raw_bytes, groups) {
             return Err(refused);
         }
         Self::from_raw_bytes_unchecked(alloc, raw_bytes)

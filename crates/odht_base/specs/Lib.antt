@@ -43,3 +43,5 @@ pub mod Writes
 pub mod Groups
 -- the set bits of a mask
 pub mod Masks
+-- how many groups a search may read, told from control bytes
+pub mod Bounds

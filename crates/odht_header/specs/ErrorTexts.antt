@@ -7,7 +7,7 @@
 use Rattle.std.specs.Prelude.{ℕ, List, ◌++◌, codes, decimal}
 use Rattle.std.specs.List.{join_by}
 use Rattle.odht_header.specs.declared.error.Error.{Error}
-use Rattle.odht_header.specs.declared.error.Error.TheVariants.{TooShort, WrongTag, WrongVersion, WrongSizeOf, SlotCountNotPowerOfTwo, SlotCountTooSmall, WrongLength, NonZeroEmpty, ControlMismatch, LoadFactorTooSmall, NonZeroPadding, BadFreeControl, MirrorMismatch, WrongItemCount, TooManyItems, Unreachable, InitLength, Full, Memory, Capacity}
+use Rattle.odht_header.specs.declared.error.Error.TheVariants.{TooShort, WrongTag, WrongVersion, WrongSizeOf, SlotCountNotPowerOfTwo, SlotCountTooSmall, WrongLength, NonZeroEmpty, ControlMismatch, LoadFactorTooSmall, NonZeroPadding, BadFreeControl, MirrorMismatch, WrongItemCount, TooManyItems, Unreachable, SearchTooLong, InitLength, Full, Memory, Capacity}
 use Rattle.odht_header.specs.declared.error.Part.{Part}
 use Rattle.odht_header.specs.declared.error.Part.TheVariants.{EntryMetadata, EncodedKey, EncodedValue, Header}
 
@@ -46,6 +46,8 @@ error_text (WrongItemCount stated found) =
 error_text (TooManyItems count max) =
     codes "Header states " ++ decimal count ++ codes " items but at most " ++ decimal max ++ codes " are allowed"
 error_text (Unreachable slot) = codes "Key in slot " ++ decimal slot ++ codes " is not reachable by its search"
+error_text (SearchTooLong home groups) =
+    codes "Searches from slot " ++ decimal home ++ codes " may read more than " ++ decimal groups ++ codes " groups"
 error_text (InitLength found expected) =
     codes "byte slice to initialize has wrong length (" ++ decimal found ++ codes " instead of " ++ decimal expected ++ codes ")"
 error_text Full = codes "Table is full"

@@ -15,15 +15,18 @@
 --     slots_refusal F es ctrl      of all slots, as in the whole check: also a free control byte other than 255
 --     mirror_refusal ctrl          of the mirror, the sixteen control bytes after those of the slots
 --     reach_refusal F es ctrl      of a key that is not where the search for it ends among the decoded cells
---     late_refusal F B             of what the whole check adds to opening a view: load factor, padding, all slots, the
---                                  mirror, the item count, its maximum, and that the search for each key ends at its
---                                  slot
---     check_refusal F B            of everything: view_refusal, then late_refusal
+--     longer_refusal ctrl o        of searches that may read more groups than the bound o, where there is a bound
+--     late_refusal_by F o B        of what the whole check adds to opening a view: load factor, padding, all slots, the
+--                                  mirror, the item count, its maximum, the bound o of searches, where there is one,
+--                                  and that the search for each key ends at its slot
+--     late_refusal F B             the same without a bound
+--     check_refusal_by F o B       of everything: view_refusal, then late_refusal_by
+--     check_refusal F B            the same without a bound
 --     new_refusal F n f len        of a new table for n items at the load factor f in len bytes: capacity, then length
 --     IsTooLarge F n f             no slot count is enough for n items at f, or a table of the least one has 2 ^ 64
 --                                  bytes or more
 --     checked o                    the answer of a check whose error is o
-use Rattle.std.specs.Prelude.{◌≡◌, ◌≤◌, Result, Ok, Err, ℕ, ◌+◌, ◌-◌, ◌^◌, min, Bool, not, ◌&&◌, nat_le, nat_lt, ◌==◌, List, [], ◌∷◌, ◌++◌, length, map, bytes_eq, slice_index, Option, Some, None}
+use Rattle.std.specs.Prelude.{◌≡◌, ◌≤◌, Result, Ok, Err, ℕ, ◌+◌, ◌-◌, ◌^◌, min, Bool, not, ◌&&◌, nat_le, nat_lt, ◌==◌, List, [], ◌∷◌, ◌++◌, length, map, bytes_eq, slice_index, Option, Some, None, option_map}
 use Rattle.std.specs.List.{range_with_len, list_all}
 use Rattle.std.specs.Option.{option_or, option_map_or}
 use Rattle.std.specs.Bool.{then_some}
@@ -32,10 +35,11 @@ use Rattle.odht_base.specs.Load.{max_items, is_power_of_two, slots_for}
 use Rattle.odht_base.specs.Table.{count}
 use Rattle.odht_base.specs.Image.{image_len}
 use Rattle.odht_base.specs.Search.{search_end, is_at}
+use Rattle.odht_base.specs.Bounds.{first_longer}
 use Rattle.odht_base.specs.Bytes.{bytes_at}
 use Rattle.odht_base.specs.Decoded.{header_count, header_slots, header_factor, counts_as_free, decoded_table, decoded_cells, slot_entry, slot_key, entries_of, controls_of}
 use Rattle.odht_header.specs.declared.error.Error.{Error}
-use Rattle.odht_header.specs.declared.error.Error.TheVariants.{TooShort, WrongTag, WrongVersion, WrongSizeOf, SlotCountNotPowerOfTwo, SlotCountTooSmall, WrongLength, NonZeroEmpty, ControlMismatch, LoadFactorTooSmall, NonZeroPadding, BadFreeControl, MirrorMismatch, WrongItemCount, TooManyItems, Unreachable, InitLength, Capacity}
+use Rattle.odht_header.specs.declared.error.Error.TheVariants.{TooShort, WrongTag, WrongVersion, WrongSizeOf, SlotCountNotPowerOfTwo, SlotCountTooSmall, WrongLength, NonZeroEmpty, ControlMismatch, LoadFactorTooSmall, NonZeroPadding, BadFreeControl, MirrorMismatch, WrongItemCount, TooManyItems, Unreachable, SearchTooLong, InitLength, Capacity}
 use Rattle.odht_header.specs.declared.error.Part.{Part}
 use Rattle.odht_header.specs.declared.error.Part.TheVariants.{EntryMetadata, EncodedKey, EncodedValue, Header}
 
@@ -177,23 +181,34 @@ room_refusal B =
     nat_lt (max_items (header_slots B) (header_factor B)) (header_count B) gives
     TooManyItems (header_count B) (max_items (header_slots B) (header_factor B))
 
+abbrev pub longer_refusal : List ℕ → Option ℕ → Option Error
+longer_refusal ctrl None = None
+longer_refusal ctrl (Some groups) = option_map (λ home. SearchTooLong home groups) (first_longer ctrl groups)
+
 -- the further errors of bytes that a view opens
-abbrev pub late_refusals : Format → List ℕ → List (Option Error)
-late_refusals F B =
+abbrev pub late_refusals : Format → Option ℕ → List ℕ → List (Option Error)
+late_refusals F o B =
     factor_refusal B
     ∷ padding_refusal B
     ∷ slots_refusal F (entries_of F B) (controls_of F B)
     ∷ mirror_refusal (controls_of F B)
     ∷ count_refusal (count (decoded_table F B)) B
     ∷ room_refusal B
+    ∷ longer_refusal (controls_of F B) o
     ∷ reach_refusal F (entries_of F B) (controls_of F B)
     ∷ []
 
-unfoldable pub late_refusal : Format → List ℕ → Option Error
-late_refusal F B = first_of (late_refusals F B)
+unfoldable pub late_refusal_by : Format → Option ℕ → List ℕ → Option Error
+late_refusal_by F o B = first_of (late_refusals F o B)
 
-unfoldable pub check_refusal : Format → List ℕ → Option Error
-check_refusal F B = option_or (view_refusal F B) (late_refusal F B)
+abbrev pub late_refusal : Format → List ℕ → Option Error
+late_refusal F B = late_refusal_by F None B
+
+unfoldable pub check_refusal_by : Format → Option ℕ → List ℕ → Option Error
+check_refusal_by F o B = option_or (view_refusal F B) (late_refusal_by F o B)
+
+abbrev pub check_refusal : Format → List ℕ → Option Error
+check_refusal F B = check_refusal_by F None B
 
 -- the error of a new table of s slots in len bytes
 abbrev pub slots_new_refusal : Format → ℕ → ℕ → Option Error

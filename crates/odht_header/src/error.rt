@@ -112,6 +112,12 @@ pub enum Error {
     Unreachable {
         slot: usize,
     },
+    /// A search from the slot `home` may read more than `groups` groups of control bytes: none of those that it would
+    /// read has a byte that counts as free.
+    SearchTooLong {
+        home: usize,
+        groups: usize,
+    },
     /// The bytes in which a new table is to be made have another length than the table.
     InitLength {
         found: usize,
@@ -220,6 +226,10 @@ fn write_contents_error<W: fmt::Write>(error: &Error, f: &mut fmt::Formatter<W>)
         Error::Unreachable { slot } => {
             write!(f, "Key in slot {slot} is not reachable by its search")
         }
+        Error::SearchTooLong { home, groups } => write!(
+            f,
+            "Searches from slot {home} may read more than {groups} groups"
+        ),
         _ => write_call_error(error, f),
     }
 }

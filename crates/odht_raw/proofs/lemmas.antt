@@ -47,6 +47,10 @@ pub mod FirstLooks
 pub mod MirrorChecks
 -- the slots before a key's own, in its probe order
 pub mod KeyPasses
+-- how many groups a search may read
+pub mod Bounds
+-- and that none reads more in a placed table
+pub mod BoundedSearches
 -- and the slot's own position there
 pub mod KeyPositions
 -- a look at the slots in turn

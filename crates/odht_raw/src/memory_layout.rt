@@ -9,7 +9,7 @@ mod prefix;
 
 pub use crate::raw_table::{Entries, EntryMetadata};
 pub use allocation::Allocation;
-pub use check::check_all;
+pub use check::{DEFAULT_GROUPS, check_all, check_all_within};
 pub use new_tables::{allocate, clear_entries, init_in_place, write_empty};
 pub use odht_header::header::{HEADER_SIZE, Header, LEAST_FACTOR, write_header};
 pub use odht_header::sizes::{bytes_needed, entry_at, layout_for};

@@ -20,6 +20,7 @@ use crate::swisstable_group_query::{Group, GroupQuery};
 use std::marker::{Model, PhantomData};
 
 mod ahead;
+mod bound;
 mod check;
 mod dump;
 mod entries;

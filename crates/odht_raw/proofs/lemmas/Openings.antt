@@ -1,11 +1,11 @@
 -- Which error bytes give, stage by stage: when they are opened, and then by the whole check.
-use Rattle.std.proofs.Common.{◌≡◌, ◌<◌, ◌≤◌, ◌∙◌, List, ℕ, Some, None, length, lt-ltb, le-ltb}
+use Rattle.std.proofs.Common.{Option, ◌≡◌, ◌<◌, ◌≤◌, ◌∙◌, List, ℕ, Some, None, length, lt-ltb, le-ltb}
 use Rattle.odht_base.specs.Format.{Format}
 use Rattle.odht_base.specs.Decoded.{entries_of, controls_of}
 use Rattle.odht_header.specs.declared.error.Error.{Error}
 use Rattle.odht_header.specs.declared.error.Error.TheVariants.{TooShort}
 use Rattle.odht_raw.specs.Frame.{IsAccepted}
-use Rattle.odht_header.specs.Refusals.{header_refusal, opening_refusal, hashes_refusal, view_refusal, late_refusal, check_refusal}
+use Rattle.odht_header.specs.Refusals.{header_refusal, opening_refusal, hashes_refusal, view_refusal, late_refusal_by, check_refusal_by}
 use Rattle.odht_header.proofs.lemmas.FirstErrors.{option_or-None, option_or-first, option_or-second, gives-Some, None-gives}
 
 module _ (F : Format) (B : List ℕ) where
@@ -39,11 +39,11 @@ module _ (F : Format) (B : List ℕ) where
   view_refusal-accepted e = (option_or-None _ _ e).0
 
   -- an error of a view is one of the whole check
-  pub check_refusal-view : (x : Error) → view_refusal F B ≡ Some x → check_refusal F B ≡ Some x
-  unfolding check_refusal
-  check_refusal-view x e = option_or-first _ _ _ e
+  pub check_refusal-view : (o : Option ℕ) (x : Error) → view_refusal F B ≡ Some x → check_refusal_by F o B ≡ Some x
+  unfolding check_refusal_by
+  check_refusal-view o x e = option_or-first _ _ _ e
 
   -- and then comes what it looks at beyond a view
-  pub check_refusal-late : view_refusal F B ≡ None → check_refusal F B ≡ late_refusal F B
-  unfolding check_refusal
-  check_refusal-late e = option_or-second _ _ e
+  pub check_refusal-late : (o : Option ℕ) → view_refusal F B ≡ None → check_refusal_by F o B ≡ late_refusal_by F o B
+  unfolding check_refusal_by
+  check_refusal-late o e = option_or-second _ _ e

@@ -60,8 +60,9 @@ count_next f a (suc n) =
     let last = ap (λ x. one (f x)) at in
     omega (arith, h, here, rest, last)
 
--- ---- the slots before n: none has an error, m of them are occupied, and o is the first of these that is unreachable
-module _ (F : Format) (T : TableParts) where
+-- ---- the slots before n: none has an error, m of them are occupied, and where searches are made o is the first of
+-- these that is unreachable
+module _ (F : Format) (T : TableParts) (searches : Bool) where
   abbrev es : List ℕ
   es = T.entries.bytes
 
@@ -80,7 +81,7 @@ module _ (F : Format) (T : TableParts) where
   pub record IsSummary (n m : ℕ) (o : Option ℕ) : Type 0 where
     pub passed : (i : ℕ) → i < n → slot_refusal_at F es ctrl i ≡ None
     pub counted : m ≡ occupied_before n
-    pub reached : IsFitting F T → IsFirstUnreachable n o
+    pub reached : searches ≡ true → IsFitting F T → IsFirstUnreachable n o
 
   occupied_next : (n : ℕ) → occupied_before (n + 1) ≡ occupied_before n + one (decoded_cell F es ctrl (0 + n))
   occupied_next n = let next : n + 1 ≡ suc n = omega arith in ap occupied_before next ∙ count_next (decoded_cell F es ctrl) 0 n
@@ -100,7 +101,7 @@ module _ (F : Format) (T : TableParts) where
   summary_free n m o summary e free right = record {
     passed = one_more (λ i. slot_refusal_at F es ctrl i ≡ None) n summary.passed (passes n e right);
     counted = let more = occupied_next n in let none = ap one shows in omega (arith, summary.counted, more, none);
-    reached = λ fitting. go o (summary.reached fitting);
+    reached = λ made fitting. go o (summary.reached made fitting);
   }
     where
       shows : decoded_cell F es ctrl (0 + n) ≡ None
@@ -128,8 +129,8 @@ module _ (F : Format) (T : TableParts) where
     ends = is_at n (search_end F (cells_of F T) (slot_key F es n))
 
     -- which is reached, or is behind one that is not
-    pub summary_occupied : (is_some o ≡ false → IsFitting F T → true ≡ ends) → IsSummary (n + 1) (m + 1) o
-    summary_occupied known = record { passed = occupied_passed; counted = occupied_counted; reached = λ fitting. go o (λ h. known h fitting) (summary.reached fitting) }
+    pub summary_occupied : (searches ≡ true → is_some o ≡ false → IsFitting F T → true ≡ ends) → IsSummary (n + 1) (m + 1) o
+    summary_occupied known = record { passed = occupied_passed; counted = occupied_counted; reached = λ made fitting. go o (λ h. known made h fitting) (summary.reached made fitting) }
       where
         go : (o : Option ℕ) → (is_some o ≡ false → true ≡ ends) → IsFirstUnreachable n o → IsFirstUnreachable (n + 1) o
         go None known all = one_more (λ i. unreachable F es ctrl i ≡ None) n all (None-gives _ _ (ap (λ b. not (counts_as_free (slice_index ctrl n)) && not b) (sym (known refl)) ∙ ends_false (not (counts_as_free (slice_index ctrl n)))))
@@ -141,7 +142,7 @@ module _ (F : Format) (T : TableParts) where
 
     -- or is the first that is not reached
     pub summary_unreachable : is_some o ≡ false → (IsFitting F T → false ≡ ends) → IsSummary (n + 1) (m + 1) (Some n)
-    summary_unreachable none known = record { passed = occupied_passed; counted = occupied_counted; reached = λ fitting. (omega arith, go o none (summary.reached fitting), gives-Some _ _ (here fitting)) }
+    summary_unreachable none known = record { passed = occupied_passed; counted = occupied_counted; reached = λ made fitting. (omega arith, go o none (summary.reached made fitting), gives-Some _ _ (here fitting)) }
       where
         go : (o : Option ℕ) → is_some o ≡ false → IsFirstUnreachable n o → (i : ℕ) → i < n → unreachable F es ctrl i ≡ None
         go None h all = all
@@ -177,9 +178,9 @@ module _ (F : Format) (T : TableParts) where
     all_counted = summary.counted ∙ ap occupied_before (sym all)
 
     -- and the first unreachable slot is known
-    pub all_reached : mirror_refusal ctrl ≡ None → option_map Unreachable o ≡ reach_refusal F es ctrl
+    pub all_reached : searches ≡ true → mirror_refusal ctrl ≡ None → option_map Unreachable o ≡ reach_refusal F es ctrl
     unfolding reach_refusal
-    all_reached mirror = go o (summary.reached (record { slots = all_passed; mirror = mirror }))
+    all_reached made mirror = go o (summary.reached made (record { slots = all_passed; mirror = mirror }))
       where
         go : (o : Option ℕ) → IsFirstUnreachable n o → option_map Unreachable o ≡ reach_refusal F es ctrl
         go None none = sym (None-first_slot (unreachable F es ctrl) (length ctrl - 16) (subst (λ k. (i : ℕ) → i < k → unreachable F es ctrl i ≡ None) (sym all) none))

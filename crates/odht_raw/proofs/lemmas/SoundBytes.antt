@@ -1,6 +1,6 @@
 -- Bytes for which the check has no error, part by part; such bytes are those of the valid table that they decode to.
 --     IsSound F B   the header and the length of B fit, and so does all that the whole check looks at beyond them
-use Rattle.std.proofs.Common.{◌≡◌, ◌<◌, ◌≤◌, ◌∙◌, ◌+◌, ◌-◌, ◌*◌, ◌++◌, ℕ, suc, Bool, true, false, cond, sym, ap, ap₂, subst, subst₂, refl, List, [], ◌∷◌, Some, None, drop, length, slice_index, arith, All, length-drop, length-take-le, drop-cons, ltb-false, le-ltb}
+use Rattle.std.proofs.Common.{◌≡◌, ◌<◌, ◌≤◌, ◌∙◌, ◌+◌, ◌-◌, ◌*◌, ◌++◌, ℕ, suc, Bool, true, false, cond, sym, ap, ap₂, subst, subst₂, refl, List, [], ◌∷◌, Option, Some, None, drop, length, slice_index, arith, All, length-drop, length-take-le, drop-cons, ltb-false, le-ltb}
 use Rattle.std.proofs.lemmas.List.Elements.{All-take, All-drop}
 use Rattle.std.proofs.lemmas.Option.{none-some}
 use Rattle.odht_base.specs.Bytes.{bytes_at}
@@ -20,7 +20,7 @@ use Rattle.odht_base.proofs.lemmas.Options.{some_same}
 use Rattle.odht_base.proofs.lemmas.PartsOf.{length-slot_entry}
 use Rattle.odht_base.proofs.lemmas.Placed.{AllArrive, IsPlaced-AllArrive}
 use Rattle.odht_raw.specs.Frame.{IsAccepted}
-use Rattle.odht_header.specs.Refusals.{factor_refusal, padding_refusal, slots_refusal, mirror_refusal, count_refusal, room_refusal, reach_refusal, late_refusal}
+use Rattle.odht_header.specs.Refusals.{factor_refusal, padding_refusal, slots_refusal, mirror_refusal, count_refusal, room_refusal, reach_refusal, longer_refusal, late_refusal_by}
 use Rattle.odht_raw.proofs.lemmas.Accepted.{accepted_opening, accepted_slots, accepted_len}
 use Rattle.odht_header.proofs.lemmas.FirstErrors.{option_or-None, None-option_or, gives-None, None-gives, differs-false, false-differs, lists_differ-false, false-lists_differ}
 use Rattle.odht_raw.proofs.lemmas.SlotFits.{AllFit, IsMirrored, AllFound, AllFit-slots_refusal, slots_refusal-AllFit, IsMirrored-mirror_refusal, mirror_refusal-IsMirrored, search_end-unreachable, unreachable-search_end, unreachable-reach_refusal, reach_refusal-unreachable, length-decoded_cells, cell_at-decoded_cells, entries-decoded_cells, controls-decoded_cells}
@@ -35,10 +35,10 @@ pub record IsSound (F : Format) (B : List ℕ) : Type 0 where
   pub room : header_count B ≤ max_items (header_slots B) (header_factor B)
   pub found : AllFound F (entries_of F B) (controls_of F B)
 
--- for accepted bytes the rest of the check has no error exactly where they are sound
-pub IsSound-late_refusal : (F : Format) (B : List ℕ) → IsAccepted F B → late_refusal F B ≡ None → IsSound F B
-unfolding late_refusal
-IsSound-late_refusal F B accepted e =
+-- for accepted bytes the rest of the check has no error exactly where they are sound, and searches within the bound
+pub IsSound-late_refusal : (F : Format) (o : Option ℕ) (B : List ℕ) → IsAccepted F B → late_refusal_by F o B ≡ None → IsSound F B × (longer_refusal (controls_of F B) o ≡ None)
+unfolding late_refusal_by
+IsSound-late_refusal F o B accepted e =
     let es = entries_of F B in
     let ctrl = controls_of F B in
     let a = option_or-None (factor_refusal B) _ e in
@@ -47,22 +47,25 @@ IsSound-late_refusal F B accepted e =
     let d = option_or-None (mirror_refusal ctrl) _ c.1 in
     let f = option_or-None (count_refusal (count (decoded_table F B)) B) _ d.1 in
     let g = option_or-None (room_refusal B) _ f.1 in
-    let h = option_or-None (reach_refusal F es ctrl) None g.1 in
-    record {
-      accepted = accepted;
-      factor_low = ltb-false _ _ (gives-None _ _ a.0);
-      padding_is = lists_differ-false _ _ (gives-None _ _ b.0);
-      slots_fit = AllFit-slots_refusal F es ctrl c.0;
-      mirrored = IsMirrored-mirror_refusal ctrl d.0;
-      count_is = differs-false _ _ (gives-None _ _ f.0);
-      room = ltb-false _ _ (gives-None _ _ g.0);
-      found = λ i l. search_end-unreachable F es ctrl i (unreachable-reach_refusal F es ctrl h.0 i l);
-    }
+    let k = option_or-None (longer_refusal ctrl o) _ g.1 in
+    let h = option_or-None (reach_refusal F es ctrl) None k.1 in (
+      record {
+        accepted = accepted;
+        factor_low = ltb-false _ _ (gives-None _ _ a.0);
+        padding_is = lists_differ-false _ _ (gives-None _ _ b.0);
+        slots_fit = AllFit-slots_refusal F es ctrl c.0;
+        mirrored = IsMirrored-mirror_refusal ctrl d.0;
+        count_is = differs-false _ _ (gives-None _ _ f.0);
+        room = ltb-false _ _ (gives-None _ _ g.0);
+        found = λ i l. search_end-unreachable F es ctrl i (unreachable-reach_refusal F es ctrl h.0 i l);
+      },
+      k.0,
+    )
 
 -- and the converse
-pub late_refusal-IsSound : (F : Format) (B : List ℕ) → IsSound F B → late_refusal F B ≡ None
-unfolding late_refusal
-late_refusal-IsSound F B h =
+pub late_refusal-IsSound : (F : Format) (o : Option ℕ) (B : List ℕ) → IsSound F B → longer_refusal (controls_of F B) o ≡ None → late_refusal_by F o B ≡ None
+unfolding late_refusal_by
+late_refusal-IsSound F o B h within =
     let es = entries_of F B in
     let ctrl = controls_of F B in
     None-option_or _ _ (None-gives _ _ (le-ltb _ _ h.factor_low))
@@ -71,7 +74,8 @@ late_refusal-IsSound F B h =
     (None-option_or _ _ (mirror_refusal-IsMirrored ctrl h.mirrored)
     (None-option_or _ _ (None-gives _ _ (false-differs _ _ h.count_is))
     (None-option_or _ _ (None-gives _ _ (le-ltb _ _ h.room))
-    (None-option_or _ _ (reach_refusal-unreachable F es ctrl (λ i l. unreachable-search_end F es ctrl i (h.found i l))) refl))))))
+    (None-option_or _ _ within
+    (None-option_or _ _ (reach_refusal-unreachable F es ctrl (λ i l. unreachable-search_end F es ctrl i (h.found i l))) refl)))))))
 
 -- ---- the cells that parts decode to
 module _ (F : Format) (es ctrl : List ℕ) where

@@ -1,5 +1,5 @@
 -- The whole check has no error exactly for valid bytes.
-use Rattle.std.proofs.Common.{◌≡◌, ◌<◌, ◌≤◌, ◌∙◌, ◌+◌, ◌-◌, ◌==◌, ℕ, true≢false, sym, ap, ap₂, subst, subst₂, refl, List, [], ◌∷◌, Option, Some, None, is_none, All, length, slice_index, arith}
+use Rattle.std.proofs.Common.{◌≡◌, ◌<◌, ◌≤◌, ◌∙◌, ◌+◌, ◌-◌, ◌==◌, ℕ, true≢false, sym, ap, ap₂, subst, subst₂, refl, List, [], ◌∷◌, Option, Some, None, option_map, is_none, All, length, slice_index, arith}
 use Rattle.std.specs.List.{list_all}
 use Rattle.odht_base.specs.Bytes.{bytes_at}
 use Rattle.odht_base.specs.Format.{Format, IsFormat, entry_len, tag}
@@ -14,7 +14,10 @@ use Rattle.odht_base.proofs.lemmas.Image.{header_slots-image, header_count-image
 use Rattle.odht_base.proofs.lemmas.Lookups.{AllArrive-IsPlaced}
 use Rattle.odht_base.proofs.lemmas.Parts.{length-controls, slice_index-controls, slice_index-mirror, slot_entry-free, decoded_cells-parts}
 use Rattle.odht_raw.specs.Frame.{IsAccepted}
-use Rattle.odht_header.specs.Refusals.{view_refusal, late_refusal, check_refusal}
+use Rattle.std.proofs.lemmas.Option.{none-some}
+use Rattle.odht_base.specs.Bounds.{first_longer}
+use Rattle.odht_header.specs.declared.error.Error.TheVariants.{SearchTooLong}
+use Rattle.odht_header.specs.Refusals.{view_refusal, longer_refusal, late_refusal_by, check_refusal}
 use Rattle.odht_raw.proofs.lemmas.Accepted.{IsAccepted-image}
 use Rattle.odht_raw.proofs.lemmas.ImagesOpen.{view_refusal-image}
 use Rattle.odht_raw.proofs.lemmas.Openings.{check_refusal-late}
@@ -95,15 +98,24 @@ IsSound-image F f P h =
     }
 
 -- ---- the whole check
--- accepted bytes for which the rest has no error are valid
-pub valid_late : (F : Format) (B : List ℕ) → All (λ x. x < 256) B → IsAccepted F B → late_refusal F B ≡ None → IsValidBytes F B
-valid_late F B small accepted e = IsValidBytes-IsSound F B small (IsSound-late_refusal F B accepted e)
+-- accepted bytes for which the rest has no error are valid, and searches in them are within the bound
+pub valid_late : (F : Format) (o : Option ℕ) (B : List ℕ) → All (λ x. x < 256) B → IsAccepted F B → late_refusal_by F o B ≡ None → IsValidBytes F B × (longer_refusal (controls_of F B) o ≡ None)
+valid_late F o B small accepted e = let sound = IsSound-late_refusal F o B accepted e in (IsValidBytes-IsSound F B small sound.0, sound.1)
 
 -- and the converse
-pub late_valid : (F : Format) (B : List ℕ) → IsFormat F → IsValidBytes F B → late_refusal F B ≡ None
-late_valid F B f (P, is) = ap (late_refusal F) is.bytes ∙ late_refusal-IsSound F (image F P) (IsSound-image F f P is.valid)
+pub late_valid : (F : Format) (o : Option ℕ) (B : List ℕ) → IsFormat F → IsValidBytes F B → longer_refusal (controls_of F B) o ≡ None → late_refusal_by F o B ≡ None
+late_valid F o B f (P, is) within =
+    ap (late_refusal_by F o) is.bytes ∙ late_refusal-IsSound F o (image F P) (IsSound-image F f P is.valid) (ap (λ b. longer_refusal (controls_of F b) o) (sym is.bytes) ∙ within)
+
+-- there is no error of the bound exactly where no search is longer
+pub longer_refusal-None : (ctrl : List ℕ) (g : ℕ) → longer_refusal ctrl (Some g) ≡ None → first_longer ctrl g ≡ None
+longer_refusal-None ctrl g e = go (first_longer ctrl g) e
+  where
+    go : (o : Option ℕ) → option_map (λ home. SearchTooLong home g) o ≡ None → o ≡ None
+    go None e = refl
+    go (Some b) e = absurd (none-some _ (sym e))
 
 -- the whole check has no error for them
 pub valid_check : (F : Format) (B : List ℕ) → IsFormat F → IsValidBytes F B → check_refusal F B ≡ None
 valid_check F B f (P, is) =
-    check_refusal-late F B (ap (view_refusal F) is.bytes ∙ view_refusal-image F f P is.valid.placed) ∙ late_valid F B f (P, is)
+    check_refusal-late F B None (ap (view_refusal F) is.bytes ∙ view_refusal-image F f P is.valid.placed) ∙ late_valid F None B f (P, is) refl

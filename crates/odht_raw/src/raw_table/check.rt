@@ -29,18 +29,19 @@ impl<'a, K: ByteArray, V: ByteArray, H: HashFn> RawTable<'a, K, V, H> {
     /// Checks each slot once, in slot order, and answers the first error: `NonZeroEmpty`, then `BadFreeControl`, of a
     /// slot that counts as free, `ControlMismatch` of any other.
     ///
-    /// `unreachable` is what its comment says only where no slot gives an error and the mirror has no mismatch. The
-    /// whole check reads it in no other case.
+    /// `unreachable` is what its comment says only where searches are made, no slot gives an error, and the mirror has no
+    /// mismatch. The whole check reads it in no other case.
     // Inlined next to an opening, it would keep the first ten control bytes in registers.
     #[inline(never)]
-    pub(crate) fn check_slots(&self) -> Result<SlotSummary, Error>
+    pub(crate) fn check_slots(&self, searches: bool) -> Result<SlotSummary, Error>
         ensures err { let F = format_of K.LEN V.LEN H.hash
             in result_err result ≡ slots_refusal F self.now.entries.bytes self.now.control }
         ensures occupied { IfOk result
             (λ summary. summary.occupied ≡ decoded_count (format_of K.LEN V.LEN H.hash) self.now) }
         ensures reached { let reach = reach_refusal
             (format_of K.LEN V.LEN H.hash) self.now.entries.bytes self.now.control
-            in mirror_refusal self.now.control ≡ None
+            in IsTrue searches
+            → mirror_refusal self.now.control ≡ None
             → IfOk result (λ summary. option_map Error.Unreachable summary.unreachable ≡ reach) }
     {
         let mut occupied = 0;
@@ -50,7 +51,7 @@ impl<'a, K: ByteArray, V: ByteArray, H: HashFn> RawTable<'a, K, V, H> {
                 None => self.check_free_control(slot)?,
                 Some(hash) => {
                     occupied += 1;
-                    if unreachable.is_none() && !self.is_reached(slot, hash) {
+                    if searches && unreachable.is_none() && !self.is_reached(slot, hash) {
                         unreachable = Some(slot);
                     }
                 }

@@ -17,6 +17,9 @@ returns-in-WrongItemCount g c = rw c.in-WrongItemCount.is (simp append_assoc c.w
 pub returns-in-TooManyItems : goal.returns-in-TooManyItems
 returns-in-TooManyItems g c = rw c.in-TooManyItems.is (simp append_assoc c.write-in-TooManyItems.ensures.writes)
 
+pub returns-in-SearchTooLong : goal.returns-in-SearchTooLong
+returns-in-SearchTooLong g c = rw c.in-SearchTooLong.is (simp append_assoc c.write-in-SearchTooLong.ensures.writes)
+
 pub returns-in-Unreachable : goal.returns-in-Unreachable
 returns-in-Unreachable g c = rw c.in-Unreachable.is (simp append_assoc c.write-in-Unreachable.ensures.writes)
 

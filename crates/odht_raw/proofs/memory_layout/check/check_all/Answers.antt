@@ -11,11 +11,11 @@ returns-in_err-allocation-clause-first g c =
     let refusal : c.from_residual.result ≡ Err c.in_err-allocation.field-0.0 = search rules in
     let view : view_refusal F c.args.bytes.now ≡ Some c.in_err-allocation.field-0.0 =
     ap (view_refusal F) (sym c.new.ensures) ∙ sym c.from_raw_bytes.ensures.err ∙ ap result_err c.in_err-allocation.was in
-    refusal ∙ sym (ap checked (check_refusal-view F c.args.bytes.now c.in_err-allocation.field-0.0 view))
+    refusal ∙ sym (ap checked (check_refusal-view F c.args.bytes.now None c.in_err-allocation.field-0.0 view))
 
 pub returns-clause-first : goal.returns-clause-first
 returns-clause-first g c =
     let F : Format = format_of g.C.EncodedKey.ByteArray.LEN g.C.EncodedValue.ByteArray.LEN g.C.H.HashFn.hash in
     let view : view_refusal F c.args.bytes.now ≡ None =
     ap (view_refusal F) (sym c.new.ensures) ∙ sym c.from_raw_bytes.ensures.err ∙ ap result_err c.in_ok-allocation.was in
-    c.check_rest.ensures.first ∙ (λ i. checked (late_refusal F (c.in_ok-allocation.ensures.ok i).0.now)) ∙ ap (λ b. checked (late_refusal F b)) c.new.ensures ∙ sym (ap checked (check_refusal-late F c.args.bytes.now view))
+    c.check_rest.ensures.first ∙ (λ i. checked (late_refusal F (c.in_ok-allocation.ensures.ok i).0.now)) ∙ ap (λ b. checked (late_refusal F b)) c.new.ensures ∙ sym (ap checked (check_refusal-late F c.args.bytes.now None view))

@@ -3,4 +3,4 @@ use Rattle.odht_raw.proofs.lemmas.SlotSummary.{IsSummary}
 use Rattle.odht_raw.proofs.raw_table.RawTable.check_slots.Given as goal
 
 abbrev pub invariant-loop-slot : goal.invariant-loop-slot
-invariant-loop-slot g l = IsSummary (format_of g.K.ByteArray.LEN g.V.ByteArray.LEN g.H.HashFn.hash) l.self l.slot l.occupied l.unreachable
+invariant-loop-slot g l = IsSummary (format_of g.K.ByteArray.LEN g.V.ByteArray.LEN g.H.HashFn.hash) l.self l.fn.searches l.slot l.occupied l.unreachable

@@ -1,4 +1,4 @@
-use Rattle.std.proofs.Common.{◌<◌, sym, subst, All}
+use Rattle.std.proofs.Common.{◌<◌, None, refl, sym, subst, All}
 use Rattle.std.specs.Prelude.{IsOk}
 use Rattle.odht_base.specs.Format.{Format, format_of}
 use Rattle.odht_header.proofs.lemmas.FirstErrors.{IsOk-checked, checked-IsOk}
@@ -11,6 +11,6 @@ returns-clause-valid g c =
     let F : Format = format_of g.C.EncodedKey.ByteArray.LEN g.C.EncodedValue.ByteArray.LEN g.C.H.HashFn.hash in
     let f = IsFormat-format_of _ _ _ _ g.met.C.Config.key_fits g.met.C.Config.value_fits g.met.C.Config.key_hashes g.met.C.H.HashFn.fits in
     let small = subst (All (λ x. x < 256)) c.raw_bytes.ensures.bytes c.hold_bytes.ensures in (
-      λ ok. valid_late F _ small c.raw_bytes.ensures.accepted (IsOk-checked _ (subst IsOk c.check_late.ensures ok)),
-      λ valid. subst IsOk (sym c.check_late.ensures) (checked-IsOk _ (late_valid F _ f valid)),
+      λ ok. (valid_late F None _ small c.raw_bytes.ensures.accepted (IsOk-checked _ (subst IsOk c.check_late.ensures ok))).0,
+      λ valid. subst IsOk (sym c.check_late.ensures) (checked-IsOk _ (late_valid F None _ f valid refl)),
     )

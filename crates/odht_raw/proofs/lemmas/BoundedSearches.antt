@@ -1,0 +1,95 @@
+-- In the parts of a placed table whose control bytes are within the bound of g groups, no search reads more.
+use Rattle.std.proofs.Common.{◌≡◌, ◌∙◌, ℕ, ◌+◌, ◌-◌, ◌*◌, ◌/◌, ◌<◌, ◌≤◌, inl, inr, sym, ap, refl, arith, true, false, true≢false, not, List, length, slice_get, get_or, min, Option, Some, None, is_some}
+use Rattle.std.specs.List.{range_with_len}
+use Rattle.std.specs.Option.{option_map_or}
+use Rattle.std.proofs.Math.Nat.{min-le_left, min-le_right, mod-lt}
+use Rattle.std.proofs.lemmas.Option.{slice_get-get_or}
+use Rattle.std.proofs.lemmas.Bool.{cases_lt, or_parts}
+use Rattle.std.proofs.lemmas.List.FromFn.{length-range_with_len, get_or-range_with_len}
+use Rattle.std.proofs.lemmas.List.Quantifiers.{position-Some}
+use Rattle.odht_base.specs.Bounds.{group_of, ends_within, first_longer}
+use Rattle.odht_base.specs.Bytes.{bytes_at}
+use Rattle.odht_base.specs.Decoded.{counts_as_free}
+use Rattle.odht_base.specs.Format.{Format, IsFormat, home}
+use Rattle.odht_base.specs.Groups.{first_free}
+use Rattle.odht_base.specs.Probe.{probe_slot}
+use Rattle.odht_base.specs.Search.{stops_at, reach, groups_read, search_order}
+use Rattle.odht_base.specs.Table.{Table, slot_count}
+use Rattle.odht_base.specs.Valid.{IsPartsOf}
+use Rattle.odht_base.proofs.lemmas.ByteRanges.{length-bytes_at}
+use Rattle.odht_base.proofs.lemmas.FirstMatch.{find-None, position_none}
+use Rattle.odht_base.proofs.lemmas.Parts.{counts_as_free-control_byte}
+use Rattle.odht_base.proofs.lemmas.Orders.{length-order, get_or-order, probe_slot-lt}
+use Rattle.odht_header.proofs.lemmas.FirstErrors.{not-false}
+use Rattle.odht_raw.specs.Parts.{EntryBytes}
+use Rattle.odht_raw.specs.SearchSteps.{Passed, slot_of}
+use Rattle.odht_raw.proofs.lemmas.Bounds.{goes_on}
+use Rattle.odht_raw.proofs.lemmas.GroupLooks.{position-None}
+use Rattle.odht_raw.proofs.lemmas.GroupSearches.{IsGroupAt-group}
+use Rattle.odht_raw.proofs.lemmas.PartCells.{slots_are}
+
+module _ (F : Format) (P : Table) (E : EntryBytes) (ctrl k : List ℕ) (f : IsFormat F) (h : IsPartsOf F P E.bytes ctrl) (len : length ctrl ≡ E.slots + 16) (g : ℕ) where
+  slots : length ctrl - 16 ≡ E.slots
+  slots = omega (arith, len)
+
+  count : E.slots ≡ slot_count P
+  count = slots_are F f P E.bytes ctrl h E.slots len
+
+  abbrev b : ℕ
+  b = home F k E.slots
+
+  abbrev n : ℕ
+  n = min g ((length ctrl - 16) / 16)
+
+  -- a group that a search passes has no free byte
+  passed_group : (j : ℕ) → j < n → Passed F P k (16 * n) → is_some (first_free (group_of ctrl b j)) ≡ false
+  passed_group j l passed =
+      let start : ℕ = probe_slot b (length ctrl - 16) (16 * j) in
+      let is : start ≡ probe_slot b E.slots (16 * j) = ap (λ s. probe_slot b s (16 * j)) slots in
+      let within : 16 * j + 16 ≤ E.slots = omega (arith, l, min-le_right g ((length ctrl - 16) / 16), slots) in
+      let here = IsGroupAt-group F P E ctrl k f h len (16 * j) start (omega arith) within is (λ q low. passed q (omega (arith, low, l))) in
+      let long : length (group_of ctrl b j) ≡ 16 = length-bytes_at ctrl start 16 (omega (arith, is, len, probe_slot-lt b E.slots (16 * j) (omega (arith, within)))) in
+      let bytes : group_of ctrl b j ≡ bytes_at ctrl start 16 = refl in
+      ap is_some (position_none counts_as_free (group_of ctrl b j) 0 (λ i less.
+      let inside : 16 * j + i < 16 * n = omega (arith, l, less, long) in
+      let slot_low : slot_of F P k (16 * j + i) < slot_count P = probe_slot-lt (home F k (slot_count P)) (slot_count P) (16 * j + i) (omega (arith, h.placed.slots.least)) in
+      ap counts_as_free (here.bytes_are i less) ∙ counts_as_free-control_byte F P.cells (slot_of F P k (16 * j + i)) f h.placed.pairs ∙ (or_parts _ _ (passed (16 * j + i) inside)).0))
+
+  -- where a search passes all of them it may be longer than the bound
+  longer : Passed F P k (16 * n) → ends_within ctrl g b ≡ false
+  longer passed = goes_on ctrl g b (λ j l. passed_group j l passed)
+
+  -- a search that reads more groups than the bound passes them
+  passes : g < groups_read F P.cells k → Passed F P k (16 * n)
+  unfolding reach
+  passes more = go (reach F P.cells k) refl more
+    where
+      all : 16 * n ≤ slot_count P
+      all = omega (arith, min-le_right g ((length ctrl - 16) / 16), slots, count)
+
+      few : 16 * n ≤ 16 * g
+      few = omega (arith, min-le_left g ((length ctrl - 16) / 16))
+
+      at_slot : (q : ℕ) → q < slot_count P → get_or (search_order F P.cells k) q 0 ≡ slot_of F P k q
+      at_slot q l = get_or-order (home F k (slot_count P)) (slot_count P) q 0 l
+
+      go : (o : Option ℕ) → reach F P.cells k ≡ o → g < option_map_or (λ p. p / 16 + 1) o (slot_count P / 16) → Passed F P k (16 * n)
+      go None e more q l =
+          ap (stops_at P.cells k) (sym (at_slot q (omega (arith, l, all))))
+          ∙ position-None (stops_at P.cells k) (search_order F P.cells k) 0 e q (omega (arith, l, all, length-order (home F k (slot_count P)) (slot_count P)))
+      go (Some r) e more q l =
+          let at = position-Some (stops_at P.cells k) (search_order F P.cells k) r 0 e in
+          ap (stops_at P.cells k) (sym (at_slot q (omega (arith, l, all)))) ∙ at.2 q (omega (arith, l, few, more))
+
+  -- so none does
+  pub bounded : first_longer ctrl g ≡ None → groups_read F P.cells k ≤ g
+  unfolding first_longer
+  bounded none = elim (cases_lt g (groups_read F P.cells k)) [
+    | inl more ↦
+        let low : b < length ctrl - 16 = omega (arith, mod-lt (F.hash k) {m = E.slots} (omega (arith, count, h.placed.slots.least)), slots) in
+        let at : slice_get (range_with_len 0 (length ctrl - 16)) b ≡ Some b =
+        slice_get-get_or (range_with_len 0 (length ctrl - 16)) b 0 (omega (arith, low, length-range_with_len 0 (length ctrl - 16))) ∙ ap Some (get_or-range_with_len 0 (length ctrl - 16) b 0 low ∙ omega arith) in
+        let ends : ends_within ctrl g b ≡ true = not-false _ (find-None (λ a. not (ends_within ctrl g a)) (range_with_len 0 (length ctrl - 16)) none b b at) in
+        absurd (true≢false (sym ends ∙ longer (passes more)))
+    | inr few ↦ few
+  ]
