@@ -117,6 +117,10 @@
 extern "C" {
 #endif
 
+/* A bound of searches for odht_*_check_within, in groups of sixteen control bytes, that tables of
+   keys whose hashes vary keep. */
+#define ODHT_DEFAULT_GROUPS 128
+
 /* What a call answers. Beside each number: Error::Name is the name of the library's error in
    Rattle, and then when it occurs. docs/FORMAT.md, "Numbers for C", has the same table. */
 enum odht_status {
@@ -156,6 +160,9 @@ enum odht_status {
     ODHT_MEMORY = 19,                     /* Error::Memory: malloc has failed */
     ODHT_CAPACITY = 20,                   /* Error::Capacity: more items than any table takes */
 
+    /* The error of odht_*_check_within, after 1 to 15 and before 16. */
+    ODHT_SEARCH_TOO_LONG = 21,            /* Error::SearchTooLong: a search may read more groups than the bound */
+
     /* Answers that are no error of the library. */
     ODHT_ABSENT = 32,                     /* the key is not in the table */
     ODHT_REPLACED = 33,                   /* the key was there with a value */
@@ -190,6 +197,7 @@ static inline const char *odht_status_name(uint32_t status)
     case ODHT_FULL: return "full";
     case ODHT_MEMORY: return "no memory";
     case ODHT_CAPACITY: return "capacity";
+    case ODHT_SEARCH_TOO_LONG: return "search too long";
     case ODHT_ABSENT: return "absent";
     case ODHT_REPLACED: return "replaced";
     case ODHT_BAD_PERCENT: return "bad percent";
@@ -284,8 +292,19 @@ typedef struct odht_view {
  *     and a half times as long as looking up each key once.
  *     Where many keys have one hash, by chance or since somebody has forged them, it
  *     takes far longer: up to one comparison for each pair of keys, so the time grows
- *     as the square of the number of slots. bench/README.md has times. A caller that
- *     takes untrusted bytes should bound their length.
+ *     as the square of the number of slots. bench/README.md has times. For untrusted
+ *     bytes there is odht_S_check_within.
+ *
+ * odht_S_check_within(bytes, bytes_len, groups)
+ *     odht_S_check for bytes of strangers, whose time nobody can make long: also whether
+ *     no search, of a present or an absent key, reads more than so many groups of sixteen
+ *     control bytes. ODHT_DEFAULT_GROUPS is a bound that tables of keys whose hashes vary
+ *     keep.
+ *     OK: they are valid, and searches end in time. An error, 1 to 16, as of odht_S_check,
+ *     or SEARCH_TOO_LONG, which comes after 1 to 15 and before 16.
+ *     For s slots it reads at most 2 * s * groups groups, and compares at most
+ *     16 * s * groups keys. With s / 16 groups or more it answers as odht_S_check. It
+ *     allocates nothing.
  *
  * odht_S_len(bytes, bytes_len, *count)
  *     OK: *count is the header's count of items. It may be untrue: before odht_S_check
@@ -498,6 +517,12 @@ ODHT_NODISCARD extern uint32_t odht_version(void);
     /* OK: the bytes are valid to the last one. An error, 1 to 16. Goes over all slots. */ \
     ODHT_CALL(uint32_t, P##check, (const uint8_t *bytes, size_t bytes_len), \
         return odht_symbol_##P##check(odht_read_uint8_t(bytes, bytes_len), bytes_len);) \
+\
+    /* OK: they are, and no search reads more than so many groups. An error, 1 to 16, or \
+       SEARCH_TOO_LONG. Its time is bounded by slots times groups, whatever the bytes are. */ \
+    ODHT_CALL(uint32_t, P##check_within, (const uint8_t *bytes, size_t bytes_len, size_t groups), \
+        return odht_symbol_##P##check_within( \
+            odht_read_uint8_t(bytes, bytes_len), bytes_len, groups);) \
 \
     /* OK: *count is the header's count of items. An error, 1 to 7: it is unchanged. */ \
     ODHT_CALL(uint32_t, P##len, (const uint8_t *bytes, size_t bytes_len, size_t *count), \

@@ -15,6 +15,7 @@ static void TEST(void)
     /* An empty slice is too short, and nothing is written. */
     EXPECT(CALL(open)(NULL, 0), ODHT_TOO_SHORT);
     EXPECT(CALL(check)(NULL, 0), ODHT_TOO_SHORT);
+    EXPECT(CALL(check_within)(NULL, 0, ODHT_DEFAULT_GROUPS), ODHT_TOO_SHORT);
     EXPECT(CALL(len)(NULL, 0, NULL), ODHT_TOO_SHORT);
     EXPECT(CALL(get)(NULL, 0, KEY, NULL), ODHT_TOO_SHORT);
     EXPECT(CALL(get_all)(NULL, 0, NULL, 0, NULL, 0, NULL, 0), ODHT_TOO_SHORT);

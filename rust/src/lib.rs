@@ -40,7 +40,8 @@ pub use iter::{Iter, Slots};
 pub use owned::HashTableOwned;
 pub use proved::base::hash::{FxHashFn, UnHashFn};
 pub use proved::header::error::{Error, Part};
-pub use sizes::{bytes_needed, check_all, table_len, try_bytes_needed};
+pub use proved::raw::memory_layout::DEFAULT_GROUPS;
+pub use sizes::{bytes_needed, check_all, check_all_within, table_len, try_bytes_needed};
 pub use view::HashTable;
 
 // The proofs are of counts of 64 bits.

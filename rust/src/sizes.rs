@@ -103,6 +103,26 @@ pub fn check_all<C: Config>(bytes: &[u8]) -> Result<(), Error> {
     raw::memory_layout::check_all::<Proved<C>>(bytes)
 }
 
+/// [`check_all`] with a bound of searches, for bytes of strangers: also checks that no search, of a present or an absent
+/// key, reads more than `groups` groups of sixteen control bytes. For `s` slots it reads at most `2 * s * groups` groups
+/// and compares at most `16 * s * groups` keys, whatever the bytes are.
+///
+/// ```
+/// use odht::{check_all_within, configs::U64ToU32, HashTableOwned, DEFAULT_GROUPS};
+///
+/// let mut table = HashTableOwned::<U64ToU32>::default();
+/// table.insert(&1, &2);
+/// assert_eq!(check_all_within::<U64ToU32>(table.raw_bytes(), DEFAULT_GROUPS), Ok(()));
+/// ```
+///
+/// # Errors
+///
+/// Those of [`check_all`] in their order, and [`Error::SearchTooLong`] before `Unreachable`.
+pub fn check_all_within<C: Config>(bytes: &[u8], groups: usize) -> Result<(), Error> {
+    let () = Proved::<C>::FITS;
+    raw::memory_layout::check_all_within::<Proved<C>>(bytes, groups)
+}
+
 /// What the proved library requires of a load factor.
 #[track_caller]
 pub fn percent_of<C: Config>(max_load_factor_percent: u8) -> u8 {

@@ -302,6 +302,35 @@ impl<C: Config, D: Borrow<[u8]>> HashTable<C, D> {
         self.view().verify()
     }
 
+    /// [`verify`](HashTable::verify) for bytes of strangers, whose time nobody can make long: also whether no search, of
+    /// a present or an absent key, reads more than `groups` groups of sixteen control bytes.
+    ///
+    /// ```
+    /// # use odht::{configs::U64ToU32, HashTable, HashTableOwned, DEFAULT_GROUPS};
+    /// # let mut table = HashTableOwned::<U64ToU32>::default();
+    /// # table.insert(&1, &2);
+    /// # let view = HashTable::<U64ToU32, _>::from_raw_bytes(table.raw_bytes())?;
+    /// assert!(view.verify_within(DEFAULT_GROUPS));
+    /// # Ok::<(), Box<dyn std::error::Error>>(())
+    /// ```
+    pub fn verify_within(&self, groups: usize) -> bool {
+        self.view().verify_within(groups)
+    }
+
+    /// Whether no search reads more than `groups` groups of sixteen control bytes. It reads control bytes alone.
+    ///
+    /// ```
+    /// # use odht::{configs::U64ToU32, HashTable, HashTableOwned};
+    /// # let mut table = HashTableOwned::<U64ToU32>::default();
+    /// # table.insert(&1, &2);
+    /// # let view = HashTable::<U64ToU32, _>::from_raw_bytes(table.raw_bytes())?;
+    /// assert!(view.searches_within(1));
+    /// # Ok::<(), Box<dyn std::error::Error>>(())
+    /// ```
+    pub fn searches_within(&self, groups: usize) -> bool {
+        self.view().searches_within(groups)
+    }
+
     /// The bytes of the table.
     ///
     /// ```

@@ -29,6 +29,7 @@ struct calls {
     uint32_t (*init)(uint8_t *bytes, size_t len, size_t items, uint8_t percent);
     uint32_t (*open)(const uint8_t *bytes, size_t len);
     uint32_t (*check)(const uint8_t *bytes, size_t len);
+    uint32_t (*check_within)(const uint8_t *bytes, size_t len, size_t groups);
     uint32_t (*len)(const uint8_t *bytes, size_t len, size_t *count);
     uint32_t (*sizes)(const uint8_t *bytes, size_t len, size_t *slots, size_t *maximum,
                       uint8_t *percent);

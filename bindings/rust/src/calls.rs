@@ -19,6 +19,7 @@ pub trait Calls {
     fn init(bytes: &mut [u8], max_items: usize, percent: u8) -> u32;
     fn open(bytes: &[u8]) -> u32;
     fn check(bytes: &[u8]) -> u32;
+    fn check_within(bytes: &[u8], groups: usize) -> u32;
     fn sizes(bytes: &[u8], slots: &mut usize, max_items: &mut usize, percent: &mut u8) -> u32;
     fn table_len(bytes: &[u8], len: &mut usize) -> u32;
     fn insert(bytes: &mut [u8], key: &Self::Key, value: Self::Value, former: &mut Self::Value) -> u32;
@@ -100,6 +101,11 @@ macro_rules! calls {
             fn check(bytes: &[u8]) -> u32 {
                 // SAFETY: the pointer and the length are those of a slice.
                 unsafe { sys::$module::check(bytes.as_ptr(), bytes.len()) }
+            }
+
+            fn check_within(bytes: &[u8], groups: usize) -> u32 {
+                // SAFETY: the pointer and the length are those of a slice.
+                unsafe { sys::$module::check_within(bytes.as_ptr(), bytes.len(), groups) }
             }
 
             #[inline]

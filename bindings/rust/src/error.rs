@@ -94,6 +94,8 @@ errors! {
     Memory = 19 "no memory",
     /// No table takes so many items.
     Capacity = 20 "capacity",
+    /// A search may read more groups of control bytes than the bound.
+    SearchTooLong = 21 "search too long",
     /// The load factor is 0 percent, or more than 100.
     BadPercent = 34 "bad percent",
     /// Slices have different lengths, or not one element for each item.

@@ -16,7 +16,7 @@ pub use builder::{Builder, DEFAULT_PERCENT};
 pub use error::Error;
 pub use iter::Iter;
 pub use shape::*;
-pub use table::{Sizes, Table, Walked};
+pub use table::{Sizes, Table, Walked, DEFAULT_GROUPS};
 pub use table_mut::{bytes_needed, empty_table, insert_growing, TableMut};
 
 /// The version of the archive that is linked: 10000 times the major number, 100 times the minor one, and the patch.

@@ -70,6 +70,10 @@ macro_rules! declare {
                 #[link_name = concat!("odht_", stringify!($module), "_check")]
                 pub fn check(bytes: *const u8, bytes_len: usize) -> u32;
 
+                /// The same, and whether no search reads more than so many groups.
+                #[link_name = concat!("odht_", stringify!($module), "_check_within")]
+                pub fn check_within(bytes: *const u8, bytes_len: usize, groups: usize) -> u32;
+
                 /// What the header says of the slots.
                 #[link_name = concat!("odht_", stringify!($module), "_sizes")]
                 pub fn sizes(

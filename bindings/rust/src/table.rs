@@ -10,6 +10,9 @@ use crate::shape::Shape;
 use crate::sys::View;
 use crate::zeros;
 
+/// A bound of searches, in groups of sixteen control bytes, that tables of keys whose hashes vary keep.
+pub const DEFAULT_GROUPS: usize = 128;
+
 /// A table in borrowed bytes, to look up in: its header and its length are checked once.
 ///
 /// It copies nothing and has nothing to free. The bytes may begin at any address, as those of a mapped file or of a
@@ -92,6 +95,20 @@ impl<'a, S: Shape> Table<'a, S> {
     /// The first of [`Error::TooShort`] to [`Error::Unreachable`] (1 to 16) that applies.
     pub fn checked(bytes: &'a [u8]) -> Result<Self, Error> {
         Error::unless_ok(S::Calls::check(bytes), ())?;
+        Table::open(bytes)
+    }
+
+    /// [`Table::checked`] for bytes of strangers, whose time nobody can make long: also checks that no search, of a
+    /// present or an absent key, reads more than `groups` groups of sixteen control bytes, of which [`DEFAULT_GROUPS`]
+    /// is a bound that tables of keys whose hashes vary keep. For `s` slots it reads at most `2 * s * groups` groups.
+    ///
+    /// # Errors
+    ///
+    /// As of [`Table::checked`], or [`Error::SearchTooLong`], which comes before [`Error::Unreachable`] alone.
+    ///
+    /// [`DEFAULT_GROUPS`]: crate::DEFAULT_GROUPS
+    pub fn checked_within(bytes: &'a [u8], groups: usize) -> Result<Self, Error> {
+        Error::unless_ok(S::Calls::check_within(bytes, groups), ())?;
         Table::open(bytes)
     }
 

@@ -6,7 +6,7 @@ use common::{changed, worked_example};
 use odht_ffi::{bytes_needed, Builder, Error, Table, TableMut, B16, B16U32, U64U32, U64U64};
 
 /// The numbers and texts of include/odht.h.
-const ERRORS: [(u32, Error, &str); 23] = [
+const ERRORS: [(u32, Error, &str); 24] = [
     (1, Error::TooShort, "too short"),
     (2, Error::WrongTag, "wrong tag"),
     (3, Error::WrongVersion, "wrong version"),
@@ -27,6 +27,7 @@ const ERRORS: [(u32, Error, &str); 23] = [
     (18, Error::Full, "full"),
     (19, Error::Memory, "no memory"),
     (20, Error::Capacity, "capacity"),
+    (21, Error::SearchTooLong, "search too long"),
     (34, Error::BadPercent, "bad percent"),
     (35, Error::BadLengths, "bad lengths"),
     (36, Error::TooSmall, "too small"),

@@ -36,8 +36,19 @@
  *     and a half times as long as looking up each key once.
  *     Where many keys have one hash, by chance or since somebody has forged them, it
  *     takes far longer: up to one comparison for each pair of keys, so the time grows
- *     as the square of the number of slots. bench/README.md has times. A caller that
- *     takes untrusted bytes should bound their length.
+ *     as the square of the number of slots. bench/README.md has times. For untrusted
+ *     bytes there is odht_S_check_within.
+ *
+ * odht_S_check_within(bytes, bytes_len, groups)
+ *     odht_S_check for bytes of strangers, whose time nobody can make long: also whether
+ *     no search, of a present or an absent key, reads more than so many groups of sixteen
+ *     control bytes. ODHT_DEFAULT_GROUPS is a bound that tables of keys whose hashes vary
+ *     keep.
+ *     OK: they are valid, and searches end in time. An error, 1 to 16, as of odht_S_check,
+ *     or SEARCH_TOO_LONG, which comes after 1 to 15 and before 16.
+ *     For s slots it reads at most 2 * s * groups groups, and compares at most
+ *     16 * s * groups keys. With s / 16 groups or more it answers as odht_S_check. It
+ *     allocates nothing.
  *
  * odht_S_len(bytes, bytes_len, *count)
  *     OK: *count is the header's count of items. It may be untrue: before odht_S_check

@@ -102,6 +102,10 @@
 extern "C" {
 #endif
 
+/* A bound of searches for odht_*_check_within, in groups of sixteen control bytes, that tables of
+   keys whose hashes vary keep. */
+#define ODHT_DEFAULT_GROUPS 128
+
 /* What a call answers. Beside each number: Error::Name is the name of the library's error in
    Rattle, and then when it occurs. docs/FORMAT.md, "Numbers for C", has the same table. */
 enum odht_status {
@@ -141,6 +145,9 @@ enum odht_status {
     ODHT_MEMORY = 19,                     /* Error::Memory: malloc has failed */
     ODHT_CAPACITY = 20,                   /* Error::Capacity: more items than any table takes */
 
+    /* The error of odht_*_check_within, after 1 to 15 and before 16. */
+    ODHT_SEARCH_TOO_LONG = 21,            /* Error::SearchTooLong: a search may read more groups than the bound */
+
     /* Answers that are no error of the library. */
     ODHT_ABSENT = 32,                     /* the key is not in the table */
     ODHT_REPLACED = 33,                   /* the key was there with a value */
@@ -175,6 +182,7 @@ static inline const char *odht_status_name(uint32_t status)
     case ODHT_FULL: return "full";
     case ODHT_MEMORY: return "no memory";
     case ODHT_CAPACITY: return "capacity";
+    case ODHT_SEARCH_TOO_LONG: return "search too long";
     case ODHT_ABSENT: return "absent";
     case ODHT_REPLACED: return "replaced";
     case ODHT_BAD_PERCENT: return "bad percent";

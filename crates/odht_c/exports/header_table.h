@@ -21,6 +21,12 @@
     ODHT_CALL(uint32_t, P##check, (const uint8_t *bytes, size_t bytes_len), \
         return odht_symbol_##P##check(odht_read_uint8_t(bytes, bytes_len), bytes_len);) \
 \
+    /* OK: they are, and no search reads more than so many groups. An error, 1 to 16, or \
+       SEARCH_TOO_LONG. Its time is bounded by slots times groups, whatever the bytes are. */ \
+    ODHT_CALL(uint32_t, P##check_within, (const uint8_t *bytes, size_t bytes_len, size_t groups), \
+        return odht_symbol_##P##check_within( \
+            odht_read_uint8_t(bytes, bytes_len), bytes_len, groups);) \
+\
     /* OK: *count is the header's count of items. An error, 1 to 7: it is unchanged. */ \
     ODHT_CALL(uint32_t, P##len, (const uint8_t *bytes, size_t bytes_len, size_t *count), \
         size_t unwanted = 0; \

@@ -5,7 +5,7 @@
 --     AreAsLong n a b      two arrays, of a and of b elements, have an element for each of n keys
 use Rattle.std.specs.Prelude.{◌≡◌, ℕ, Option, Some, None}
 use Rattle.odht_header.specs.declared.error.Error.{Error}
-use Rattle.odht_header.specs.declared.error.Error.TheVariants.{TooShort, WrongTag, WrongVersion, WrongSizeOf, SlotCountNotPowerOfTwo, SlotCountTooSmall, WrongLength, NonZeroEmpty, ControlMismatch, LoadFactorTooSmall, NonZeroPadding, BadFreeControl, MirrorMismatch, WrongItemCount, TooManyItems, Unreachable, InitLength, Full, Memory, Capacity}
+use Rattle.odht_header.specs.declared.error.Error.TheVariants.{TooShort, WrongTag, WrongVersion, WrongSizeOf, SlotCountNotPowerOfTwo, SlotCountTooSmall, WrongLength, NonZeroEmpty, ControlMismatch, LoadFactorTooSmall, NonZeroPadding, BadFreeControl, MirrorMismatch, WrongItemCount, TooManyItems, Unreachable, SearchTooLong, InitLength, Full, Memory, Capacity}
 
 abbrev pub status_of : Error → ℕ
 status_of (TooShort found) = 1
@@ -28,6 +28,7 @@ status_of (InitLength found expected) = 17
 status_of Full = 18
 status_of Memory = 19
 status_of Capacity = 20
+status_of (SearchTooLong home groups) = 21
 
 abbrev pub done : ℕ
 done = 0

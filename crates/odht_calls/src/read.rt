@@ -1,7 +1,8 @@
 //! The calls that read the bytes of a table, for every configuration.
-ghost use Rattle.std.specs.Prelude.{◌≡◌, length, IfOk};
+ghost use Rattle.std.specs.Prelude.{◌≡◌, length, IfOk, Some};
 ghost use Rattle.std.specs.Result.{result_err};
 ghost use Rattle.odht_header.specs.Refusals.{opening_refusal, view_refusal, check_refusal};
+ghost use Rattle.odht_header.specs.Refusals.{check_refusal_by};
 ghost use Rattle.odht_calls.specs.Statuses.{status_or_ok};
 ghost use Rattle.odht_calls.specs.Reads.{GetAnswers, GetAllAnswers, LenAnswers, SizesAnswers};
 ghost use Rattle.odht_calls.specs.Prefixes.{TableLenAnswers};
@@ -59,6 +60,19 @@ pub fn check<C: Config>(bytes: &[u8]) -> u32
     ensures { result ≡ status_or_ok (check_refusal ⟦<C as Coded>⟧.coding.format bytes.now) }
 {
     match memory_layout::check_all::<C>(bytes) {
+        Ok(()) => OK,
+        Err(refused) => status_of(&refused),
+    }
+}
+
+/// OK where the bytes are valid and no search in them reads more than `groups` groups, else the number of the first
+/// error of the whole check with this bound.
+#[inline]
+pub fn check_within<C: Config>(bytes: &[u8], groups: usize) -> u32
+    ensures { let F = ⟦<C as Coded>⟧.coding.format
+        in result ≡ status_or_ok (check_refusal_by F (Some groups) bytes.now) }
+{
+    match memory_layout::check_all_within::<C>(bytes, groups) {
         Ok(()) => OK,
         Err(refused) => status_of(&refused),
     }

@@ -60,5 +60,6 @@ pub(crate) fn status_of(error: &Error) -> u32
         Error::Full => 18,
         Error::Memory => 19,
         Error::Capacity => 20,
+        Error::SearchTooLong { .. } => 21,
     }
 }

@@ -88,6 +88,7 @@ fn kind_of(error: Error) -> &'static str {
         | Error::WrongItemCount { .. }
         | Error::TooManyItems { .. }
         | Error::Unreachable { .. } => "checking",
+        Error::SearchTooLong { .. } => "checking within a bound",
         Error::InitLength { .. } | Error::Full | Error::Memory | Error::Capacity => "calls",
     }
 }

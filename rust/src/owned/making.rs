@@ -142,6 +142,29 @@ impl<C: Config> HashTableOwned<C> {
         tables::HashTableOwned::from_raw_bytes(Global, data).map(HashTableOwned)
     }
 
+    /// [`try_from_raw_bytes`](HashTableOwned::try_from_raw_bytes) for bytes of strangers: rejected are also bytes in which
+    /// a search may read more than `groups` groups of sixteen control bytes, as by
+    /// [`check_all_within`](crate::check_all_within).
+    ///
+    /// ```
+    /// use odht::{configs::U64ToU32, HashTableOwned, DEFAULT_GROUPS};
+    ///
+    /// let mut table = HashTableOwned::<U64ToU32>::default();
+    /// table.insert(&1, &2);
+    /// let copy = HashTableOwned::<U64ToU32>::from_raw_bytes_within(table.raw_bytes(), DEFAULT_GROUPS)?;
+    /// assert_eq!(copy.get(&1), Some(2));
+    /// # Ok::<(), odht::Error>(())
+    /// ```
+    ///
+    /// # Errors
+    ///
+    /// The first that [`check_all_within`](crate::check_all_within) finds, else [`Error::Memory`] where memory is
+    /// refused.
+    pub fn from_raw_bytes_within(data: &[u8], groups: usize) -> Result<Self, Error> {
+        let () = Proved::<C>::FITS;
+        tables::HashTableOwned::from_raw_bytes_within(Global, data, groups).map(HashTableOwned)
+    }
+
     /// A copy of the bytes, of which length and slot count alone are looked at. Where memory is refused it ends as
     /// Rust's collections do.
     ///

@@ -5,9 +5,9 @@
 //! length has a number from 1 to 7.
 //!
 //! Written by tools/shapes from exports/shape.rt.in: edit that one.
-ghost use Rattle.std.specs.Prelude.{◌≡◌};
+ghost use Rattle.std.specs.Prelude.{◌≡◌, Some};
 ghost use Rattle.odht_raw.specs.Frame.{IsAccepted};
-ghost use Rattle.odht_header.specs.Refusals.{view_refusal, check_refusal};
+ghost use Rattle.odht_header.specs.Refusals.{view_refusal, check_refusal, check_refusal_by};
 ghost use Rattle.odht_calls.specs.Statuses.{status_or_ok};
 ghost use Rattle.odht_calls.specs.Reads.{GetAnswers, GetAllAnswers, LenAnswers, SizesAnswers};
 ghost use Rattle.odht_calls.specs.Prefixes.{TableLenAnswers};
@@ -74,6 +74,17 @@ pub extern "C" fn odht_u64_u32_check(bytes: &[u8]) -> u32
     ensures { result ≡ status_or_ok (check_refusal ⟦<Shape as Coded>⟧.coding.format bytes.now) }
 {
     read::check::<Shape>(bytes)
+}
+
+/// `check` with a bound of searches: 0 exactly where the bytes are valid and no search reads more than `groups` groups;
+/// else the first error of the whole check, or `SEARCH_TOO_LONG`, which comes before `UNREACHABLE`. At most `groups`
+/// reads of sixteen control bytes a slot for the bound, and as many for the searches.
+#[unsafe(no_mangle)]
+pub extern "C" fn odht_u64_u32_check_within(bytes: &[u8], groups: usize) -> u32
+    ensures { let F = ⟦<Shape as Coded>⟧.coding.format
+        in result ≡ status_or_ok (check_refusal_by F (Some groups) bytes.now) }
+{
+    read::check_within::<Shape>(bytes, groups)
 }
 
 /// Gives the key this value: status 0 where the key was new, `REPLACED` where it had a value, which is written to

@@ -1,7 +1,7 @@
 -- No error has the status of a call that is done.
 use Rattle.std.proofs.Common.{◌≡◌, arith}
 use Rattle.odht_header.specs.declared.error.Error.{Error}
-use Rattle.odht_header.specs.declared.error.Error.TheVariants.{TooShort, WrongTag, WrongVersion, WrongSizeOf, SlotCountNotPowerOfTwo, SlotCountTooSmall, WrongLength, NonZeroEmpty, ControlMismatch, LoadFactorTooSmall, NonZeroPadding, BadFreeControl, MirrorMismatch, WrongItemCount, TooManyItems, Unreachable, InitLength, Full, Memory, Capacity}
+use Rattle.odht_header.specs.declared.error.Error.TheVariants.{TooShort, WrongTag, WrongVersion, WrongSizeOf, SlotCountNotPowerOfTwo, SlotCountTooSmall, WrongLength, NonZeroEmpty, ControlMismatch, LoadFactorTooSmall, NonZeroPadding, BadFreeControl, MirrorMismatch, WrongItemCount, TooManyItems, Unreachable, SearchTooLong, InitLength, Full, Memory, Capacity}
 use Rattle.odht_calls.specs.Statuses.{status_of, done}
 
 -- its number is from 1 on
@@ -26,3 +26,4 @@ not_done (InitLength a b) h = omega (arith, h)
 not_done Full h = omega (arith, h)
 not_done Memory h = omega (arith, h)
 not_done Capacity h = omega (arith, h)
+not_done (SearchTooLong a b) h = omega (arith, h)

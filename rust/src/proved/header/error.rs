@@ -66,6 +66,9 @@ pub enum Error {
     TooManyItems { count: usize, max: usize },
     /// The search slot by slot for the key of this occupied slot does not end at it.
     Unreachable { slot: usize },
+    /// A search from the slot `home` may read more than `groups` groups of control bytes: none of those that it would
+    /// read has a byte that counts as free.
+    SearchTooLong { home: usize, groups: usize },
     /// The bytes in which a new table is to be made have another length than the table.
     InitLength { found: usize, expected: usize },
     /// No room for a new key: the view is at its maximum item count, or the search met no free slot.
@@ -164,6 +167,10 @@ fn write_contents_error(error: &Error, f: &mut fmt::Formatter<'_>) -> fmt::Resul
         Error::Unreachable { slot } => {
             write!(f, "Key in slot {slot} is not reachable by its search")
         }
+        Error::SearchTooLong { home, groups } => write!(
+            f,
+            "Searches from slot {home} may read more than {groups} groups"
+        ),
         _ => write_call_error(error, f),
     }
 }

@@ -11,6 +11,7 @@ use crate::proved::raw::swisstable_group_query::{Group, GroupQuery};
 use std::marker::PhantomData;
 
 mod ahead;
+mod bound;
 mod check;
 mod dump;
 mod entries;

@@ -11,6 +11,7 @@ use crate::proved::tables::memory_layout::{self, Allocation};
 use crate::proved::tables::raw_table::{RawIter, RawTable};
 use crate::proved::tables::swisstable_group_query::GroupQuery;
 
+mod bounds;
 mod by_search;
 mod lists;
 mod prefix;

@@ -112,6 +112,21 @@ impl<C: Config> HashTableOwned<C> {
         Self::from_raw_bytes_unchecked(alloc, raw_bytes)
     }
 
+    /// `from_raw_bytes` for bytes of strangers: also rejected, as by [`memory_layout::check_all_within`], are bytes in
+    /// which a search may read more than `groups` groups of control bytes. The check costs what that call does.
+    ///
+    /// `Memory` when memory is exhausted.
+    pub fn from_raw_bytes_within(
+        alloc: Global,
+        raw_bytes: &[u8],
+        groups: usize,
+    ) -> Result<Self, Error> {
+        if let Err(refused) = memory_layout::check_all_within::<C>(raw_bytes, groups) {
+            return Err(refused);
+        }
+        Self::from_raw_bytes_unchecked(alloc, raw_bytes)
+    }
+
     /// A copy of the bytes without a check: the caller knows that they are valid.
     ///
     /// `Memory` when memory is exhausted.

@@ -49,6 +49,16 @@ pub fn check<C: Config>(bytes: &[u8]) -> u32 {
     }
 }
 
+/// OK where the bytes are valid and no search in them reads more than `groups` groups, else the number of the first
+/// error of the whole check with this bound.
+#[inline]
+pub fn check_within<C: Config>(bytes: &[u8], groups: usize) -> u32 {
+    match memory_layout::check_all_within::<C>(bytes, groups) {
+        Ok(()) => OK,
+        Err(refused) => status_of(&refused),
+    }
+}
+
 /// Writes the value of a key to `value`. ABSENT and errors leave `value` unchanged.
 #[inline]
 pub fn get<C: Config>(bytes: &[u8], key: &C::Key, value: &mut C::Value) -> u32 {

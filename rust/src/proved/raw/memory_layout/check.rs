@@ -7,6 +7,10 @@ use crate::proved::raw::config::Config;
 use crate::proved::raw::error::Error;
 use crate::proved::raw::raw_table::RawTable;
 
+/// A bound of searches, in groups, that tables of hashes that vary keep: twice the longest search that was seen in
+/// random tables of up to 2^24 slots at 95 percent (docs/FORMAT.md, "How long searches are").
+pub const DEFAULT_GROUPS: usize = 128;
+
 /// Checks all of the bytes, and answers the first error: first those of [`Allocation::from_raw_bytes`], then those of
 /// [`Allocation::check_rest`]. Ok exactly for valid bytes.
 ///
@@ -19,6 +23,18 @@ pub fn check_all<C: Config>(bytes: &[u8]) -> Result<(), Error> {
     allocation.check_rest()
 }
 
+/// `check_all` with a bound of searches: after the maximum item count, and before any search for a key,
+/// `SearchTooLong` of the least home from which a search may read more than `groups` groups. Ok exactly for valid bytes
+/// of which no search, of a present or an absent key, reads more.
+///
+/// For bytes of strangers: whatever they are, for `s` slots it reads at most `2 * s * groups` groups and makes at most
+/// `16 * s * groups` comparisons of keys. It allocates nothing. With `groups` of `s / 16` or more it answers as
+/// `check_all`.
+pub fn check_all_within<C: Config>(bytes: &[u8], groups: usize) -> Result<(), Error> {
+    let allocation: Allocation<C, Borrowed<'_>> = Allocation::from_raw_bytes(Borrowed::new(bytes))?;
+    allocation.check_rest_within(groups)
+}
+
 impl<C: Config, M: ByteStore> Allocation<C, M> {
     /// Checks what opening leaves out, and answers the first error: `LoadFactorTooSmall`, `NonZeroPadding`; of the
     /// slots in order `NonZeroEmpty`, `BadFreeControl` or `ControlMismatch`; `MirrorMismatch`, `WrongItemCount`,
@@ -29,20 +45,31 @@ impl<C: Config, M: ByteStore> Allocation<C, M> {
     /// to it, sixteen at a time. A key is compared only with keys at earlier positions that have its tag.
     pub fn check_rest(&self) -> Result<(), Error> {
         hold_bytes(self.raw_bytes());
-        self.check_late()
+        self.check_late(None)
     }
 
-    // `check_rest`; its contract gives the first error alone.
-    fn check_late(&self) -> Result<(), Error> {
+    /// `check_rest` with a bound of searches, as in [`check_all_within`].
+    pub fn check_rest_within(&self, groups: usize) -> Result<(), Error> {
+        hold_bytes(self.raw_bytes());
+        self.check_late(Some(groups))
+    }
+
+    // `check_rest` with a bound of searches, where there is one; its contract gives the first error alone.
+    fn check_late(&self, groups: Option<usize>) -> Result<(), Error> {
         let header = self.header();
         header.check_load_factor()?;
         header.check_padding()?;
         let (control, entries) = self.data_slices();
         let table: RawTable<'_, C::EncodedKey, C::EncodedValue, C::H> =
             RawTable::new(control, entries);
-        let summary = table.check_slots()?;
+        // From control bytes alone, before anything is searched for.
+        let longer = table.longer_refusal(groups);
+        let summary = table.check_slots(longer.is_none())?;
         table.check_mirror()?;
         header.check_item_count(summary.occupied)?;
+        if let Some(error) = longer {
+            return Err(error);
+        }
         match summary.unreachable {
             Some(slot) => Err(Error::Unreachable { slot }),
             None => Ok(()),

@@ -21,11 +21,11 @@ impl<'a, K: ByteArray, V: ByteArray, H: HashFn> RawTable<'a, K, V, H> {
     /// Checks each slot once, in slot order, and answers the first error: `NonZeroEmpty`, then `BadFreeControl`, of a
     /// slot that counts as free, `ControlMismatch` of any other.
     ///
-    /// `unreachable` is what its comment says only where no slot gives an error and the mirror has no mismatch. The
-    /// whole check reads it in no other case.
+    /// `unreachable` is what its comment says only where searches are made, no slot gives an error, and the mirror has no
+    /// mismatch. The whole check reads it in no other case.
     // Inlined next to an opening, it would keep the first ten control bytes in registers.
     #[inline(never)]
-    pub(crate) fn check_slots(&self) -> Result<SlotSummary, Error> {
+    pub(crate) fn check_slots(&self, searches: bool) -> Result<SlotSummary, Error> {
         let mut occupied = 0;
         let mut unreachable = None;
         for slot in 0..self.entries.len() {
@@ -33,7 +33,7 @@ impl<'a, K: ByteArray, V: ByteArray, H: HashFn> RawTable<'a, K, V, H> {
                 None => self.check_free_control(slot)?,
                 Some(hash) => {
                     occupied += 1;
-                    if unreachable.is_none() && !self.is_reached(slot, hash) {
+                    if searches && unreachable.is_none() && !self.is_reached(slot, hash) {
                         unreachable = Some(slot);
                     }
                 }

@@ -56,6 +56,19 @@ pub unsafe extern "C" fn odht_u64_u64_check(bytes: *const u8, bytes_len: usize) 
     read::check::<Shape>(bytes)
 }
 
+/// `check` with a bound of searches: 0 exactly where the bytes are valid and no search reads more than `groups` groups;
+/// else the first error of the whole check, or `SEARCH_TOO_LONG`, which comes before `UNREACHABLE`. At most `groups`
+/// reads of sixteen control bytes a slot for the bound, and as many for the searches.
+#[unsafe(no_mangle)]
+pub unsafe extern "C" fn odht_u64_u64_check_within(
+    bytes: *const u8,
+    bytes_len: usize,
+    groups: usize,
+) -> u32 {
+    let bytes = unsafe { crate::lists::list(bytes, bytes_len) };
+    read::check_within::<Shape>(bytes, groups)
+}
+
 /// Gives the key this value: status 0 where the key was new, `REPLACED` where it had a value, which is written to
 /// `former`. `FULL` at the maximum where the key is absent, or an error of the header or length; then nothing changes.
 /// A view of the bytes remains usable, whatever the status.
