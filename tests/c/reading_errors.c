@@ -158,3 +158,26 @@ uint32_t whole_error(const struct reading *table)
         error = steps[step](table);
     return error;
 }
+
+/* Whether a search from this home meets a free slot in so many groups: sixteen positions of its probe order each. */
+static bool ends_within(const struct reading *table, size_t home, size_t groups)
+{
+    size_t slots = slots_of(table);
+
+    for (size_t position = 0; position < slots && position / 16 < groups; position++)
+        if (!is_occupied(table, probe_slot((uint32_t)home, slots, position)))
+            return true;
+    return false;
+}
+
+uint32_t within_error(const struct reading *table, size_t groups)
+{
+    uint32_t error = whole_error(table);
+
+    if (error != ODHT_OK && error != ODHT_UNREACHABLE)
+        return error;
+    for (size_t home = 0; home < slots_of(table); home++)
+        if (!ends_within(table, home, groups))
+            return ODHT_SEARCH_TOO_LONG;
+    return error;
+}
