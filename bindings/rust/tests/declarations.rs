@@ -82,7 +82,7 @@ fn calls_of_shape(template: &str, line: &str) -> BTreeMap<String, Kinds> {
     calls.collect()
 }
 
-/// The symbols that src/sys.rs declares for the shapes of src/shapes.rs, in the same way, and how many shapes these are.
+/// The symbols that src/sys.rs declares for the shapes of src/shapes.rs, in the same way, and the number of shapes.
 fn declared_in_rust() -> (usize, BTreeMap<String, Kinds>) {
     let template = include_str!("../src/sys.rs").split_once("macro_rules! declare").unwrap().1;
     let lines: Vec<&str> = include_str!("../src/shapes.rs").lines().filter(|line| line.ends_with("\";")).collect();
