@@ -96,8 +96,8 @@ impl<'a> Header<'a> {
     }
 
     /// How many bytes a table with this header has, that is at the front of `found` bytes; what follows is not the
-    /// table's. The first error: those of [`Header::sanity_check`], but `WrongLength` only where there are fewer bytes
-    /// than the table has. It has the number of these as `expected`.
+    /// table's. Or the first error: those of [`Header::sanity_check`], but `WrongLength` only where there are fewer
+    /// bytes than the table has, whose length is then `expected`.
     ///
     /// The length is computed in 128 bits, so a forged slot count cannot make it wrap. Constant time.
     #[inline]

@@ -1,5 +1,5 @@
 -- A table at the front of longer bytes: its length, and which error the bytes give.
-use Rattle.std.proofs.Common.{◌≡◌, ◌<◌, ◌≤◌, ◌∙◌, ℕ, not, nat_lt, sym, ap, subst, List, [], ◌∷◌, Ok, Err, Some, None, Result, take, ◌++◌, drop, length, arith, length-append, take-append-drop, get_or-take, lit<, ltb-false, le-ltb, lt-ltb}
+use Rattle.std.proofs.Common.{◌≡◌, ◌<◌, ◌≤◌, ◌∙◌, ℕ, not, nat_lt, sym, ap, subst, List, [], ◌∷◌, Ok, Err, Some, None, Result, take, ◌++◌, length, arith, length-append, get_or-take, lit<, ltb-false, le-ltb, lt-ltb}
 use Rattle.std.specs.Prelude.{slice_index, IfOk, IsOk}
 use Rattle.std.specs.Result.{result_err}
 use Rattle.std.proofs.lemmas.List.{length-take-le}
@@ -19,7 +19,7 @@ use Rattle.odht_header.specs.Refusals.{◌gives◌, first_of, differs, lists_dif
 use Rattle.odht_header.proofs.lemmas.FirstErrors.{option_or-None, None-option_or, option_or-first, option_or-second, gives-None, gives-Some, None-gives, false-differs}
 use Rattle.odht_header.proofs.lemmas.HeaderChecks.{header_refusal-fields, front_header_refusal-fields}
 use Rattle.odht_raw.specs.Frame.{IsAccepted}
-use Rattle.odht_raw.specs.Prefixes.{IsFront, IsCut, front_refusal}
+use Rattle.odht_raw.specs.Prefixes.{IsFront, front_refusal}
 use Rattle.odht_raw.proofs.lemmas.Accepted.{IsOpening-opening_refusal, IsAccepted-IsValidBytes}
 use Rattle.odht_raw.proofs.lemmas.Openings.{opening_refusal-header, view_refusal-slots}
 use Rattle.odht_raw.proofs.lemmas.ImagesOpen.{IsOk-none, view_refusal-image}
@@ -151,9 +151,3 @@ valid_front F f V R (P, is) r e =
     let opens : view_refusal F V ≡ None = ap (view_refusal F) is.bytes ∙ view_refusal-image F f P is.valid.placed in
     let front = IsFront-append F V R (IsAccepted-IsValidBytes F V (P, is)) in
     opened_front F (V ++ R) (length V) front (ap (view_refusal F) (take-append_seam V R) ∙ opens) r e
-
--- the front that is cut off and the rest
-pub IsCut-split : (F : Format) (B front rest : List ℕ) (n : ℕ) → IsFront F B n → front ≡ take n B → rest ≡ drop n B → IsCut F B front rest
-IsCut-split F B front rest n is e g =
-    let long : length front ≡ n = ap length e ∙ length-take-le n B is.within in
-    record { joined = (λ i. e i ++ g i) ∙ take-append-drop n B; table = subst (IsFront F B) (sym long) is }
