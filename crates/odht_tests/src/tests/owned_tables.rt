@@ -66,7 +66,7 @@ fn byte_of_new_table(at: usize) -> u8 {
 }
 
 // The same with the pair of 1 and 2 in slot 5, whose tag is 19.
-fn byte_with_a_pair(at: usize) -> u8 {
+pub fn byte_with_a_pair(at: usize) -> u8 {
     match at {
         8 | 72 => 1,
         76 => 2,
