@@ -8,7 +8,7 @@
 #include "subjects.h"
 #include "tables.h"
 
-enum { LEN = 256, STATUSES = 27, UNMADE_LEN = 1392 };
+enum { LEN = 256, STATUSES = 28, UNMADE_LEN = 1392 };
 
 /* The worked example with one byte changed. */
 static uint32_t check_with(size_t at, uint8_t byte)
@@ -134,6 +134,12 @@ static uint32_t capacity(void)
     return odht_u64_u32_bytes_needed((size_t)1 << 63, 100, SIZES(0));
 }
 
+/* No search of a group is allowed. */
+static uint32_t search_too_long(void)
+{
+    return odht_u64_u32_check_within(number_table(), LEN, 0);
+}
+
 static uint32_t absent(void)
 {
     return odht_u64_u32_get(number_table(), LEN, 7, U32S(0));
@@ -188,8 +194,8 @@ static const struct row {
     { 8, non_zero_empty }, { 9, control_mismatch }, { 10, load_factor_too_small },
     { 11, non_zero_padding }, { 12, bad_free_control }, { 13, mirror_mismatch },
     { 14, wrong_item_count }, { 15, too_many_items }, { 16, unreachable }, { 17, init_length },
-    { 18, full }, { 19, memory }, { 20, capacity }, { 32, absent }, { 33, replaced },
-    { 34, bad_percent }, { 35, bad_lengths }, { 36, too_small }, { 37, unmade },
+    { 18, full }, { 19, memory }, { 20, capacity }, { 21, search_too_long }, { 32, absent },
+    { 33, replaced }, { 34, bad_percent }, { 35, bad_lengths }, { 36, too_small }, { 37, unmade },
 };
 
 static void each_status_is_reached(void)

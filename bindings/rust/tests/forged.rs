@@ -4,7 +4,7 @@
 mod common;
 
 use common::{worked_example, Chance, Random};
-use odht_ffi::{Builder, Error, Shape, Sizes, Table, TableMut, U64U32};
+use odht_ffi::{Builder, Error, Shape, Sizes, Table, TableMut, B32, U64U32};
 
 fn stating(count: u64) -> Vec<u8> {
     let mut bytes = worked_example();
