@@ -251,6 +251,51 @@ def wrong_tag():
     return image
 
 
+def fits_word(table):
+    """The hash functions that give all control bytes of a table."""
+    named = {"fx": fx, "unhash": unhash} if table.key_size >= 4 else {"fx": fx}
+    fitting = [name for name, hash in named.items() if not any(misfits(table, hash))]
+    return "both" if len(fitting) == 2 else fitting[0]
+
+
+def write_find_cases():
+    """A file with tables among other bytes, and what the commands have to write of them."""
+    made = {case.name: case for case in cases()}
+    head = made["direct"].table.image()[:32]
+    pieces = [b"xx", made["direct"], b"ODHT", head, made["u64_u32"], made["odd_sizes"], wrong_tag(), made["empty"],
+              made["bytes16_set"].table.image()[:-1]]
+    data, rows, places = b"", "", {}
+    for piece in pieces:
+        if isinstance(piece, Case):
+            table, places[piece.name] = piece.table, len(data)
+            image = table.image()
+            checked = "valid" if piece.words or piece.name == "empty" else "-"
+            columns = [len(data), len(image), table.key_size, table.value_size, table.count(), len(table.cells),
+                       table.count() * 100 // len(table.cells), fits_word(table), checked]
+            rows += "\t".join(str(it) for it in columns) + "\n"
+            data += image
+        else:
+            data += bytes(piece)
+    with open(os.path.join(HERE, "inside.bin"), "wb") as file:
+        file.write(data)
+
+    def case(title, args, stdout):
+        return (f"== {title}\nargs: {args}\nbefore inside.bin: < crates/odht_tool/data/inside.bin\n"
+                + block("stdout", stdout) + "\n")
+
+    text = HEAD + case("the tables inside a file", "find inside.bin", rows)
+    for name in ("direct", "u64_u32", "odd_sizes"):
+        at = f"inside.bin --at {places[name]}"
+        text += case(f"info of {name} inside a file", f"info {at}", made[name].info)
+        if made[name].words:
+            text += case(f"check of {name}", f"check {at}{made[name].hash_words}", "valid\n")
+            text += case(f"dump of {name}", f"dump {at}", made[name].dump)
+            text += case(f"dump --slots of {name}", f"dump --slots {at}", made[name].slots)
+            key, value = made[name].dump.split("\n")[1].split("\t")
+            text += case(f"get of {name}", f"get {at} {key}", f"{key}\t{value}\n")
+    write_test("tool/tables/inside.cases", text)
+
+
 def write_hex_case():
     """The bytes of the table of the largest key and the largest value, on one line of digits."""
     table = Table(8, 4, fx, 95, 3)
@@ -268,3 +313,4 @@ if __name__ == "__main__":
     with open(os.path.join(HERE, "wrong_tag.odht"), "wb") as file:
         file.write(wrong_tag())
     write_hex_case()
+    write_find_cases()

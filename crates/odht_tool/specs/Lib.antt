@@ -7,3 +7,5 @@ pub mod Gets
 pub mod GetParts
 -- of the lines of an input
 pub mod GetLines
+-- what a command writes and returns: `find`
+pub mod FindLines

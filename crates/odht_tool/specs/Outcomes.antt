@@ -3,6 +3,7 @@
 --     check_outcome B h        of `check`, where the hash function h, or none, is named
 --     hint_of B h              the hash function to name for bytes that were rejected, where none was named
 --     hint_text file h         the line of that
+--     check_word B r           what `find` says of the check of the table B, which is of the shape r, if there is one
 --     pairs_outcome c f g B    of `dump` for bytes of the coding c: the pairs that the slots hold, in slot order, where f
 --                              and g are the texts of keys and of values
 --     dump_outcome B h is_slots    of `dump`, with `--slots` or without
@@ -45,6 +46,11 @@ hint_of B h = if is_none h then option_and_then (hinted_hash B) (result_ok (name
 abbrev pub hint_text : List ℕ → Hash → List ℕ
 hint_text file h =
     codes "odht: " ++ (file ++ (codes ": all control bytes fit " ++ (hash_name h ++ (codes ": try --hash " ++ (hash_name h ++ codes ", or `odht info`\n")))))
+
+-- ---- find
+abbrev pub check_word : List ℕ → Result Shape Failure → List ℕ
+check_word B (Ok s) = if is_ok (checked (check_refusal (shape_format s) B)) then codes "valid" else codes "rejected"
+check_word B (Err failure) = codes "-"
 
 -- ---- dump
 abbrev pub pairs_outcome : {K V : Type 0} → Coding K V → (K → List ℕ) → (V → List ℕ) → List ℕ → Outcome

@@ -2,6 +2,7 @@
 use odht_tool_core::arguments::{Command, Keys, Reading, Request, Topic, parse};
 use odht_tool_core::failure::Failure;
 use odht_tool_core::files::read_file;
+use odht_tool_core::front::table_at;
 use odht_tool_core::help::{help_end, help_text};
 use odht_tool_core::info::info_file;
 use odht_tool_core::status::{Status, of_output};
@@ -12,6 +13,7 @@ use std::rt::{Clock, Files};
 mod build;
 mod check;
 mod dump;
+mod find;
 mod get;
 
 /// Does what the words ask for. Each failure is reported by a line on `errors`; where that cannot
@@ -58,16 +60,13 @@ fn run_command<R: Files + AllocGlobal + Clock, I: BufRead, O: Write, E: Write>(
     errors: &mut E,
 ) -> Result<Status, Failure> {
     match command {
-        Command::Read(reading) => {
-            run_reading(
-                rt.alloc(),
-                file,
-                read_file(rt, file)?.as_slice(),
-                reading,
-                input,
-                output,
-                errors,
-            )
+        Command::Read { at, reading } => {
+            let bytes = read_file(rt, file)?;
+            let table = match at {
+                Some(offset) => table_at(bytes.as_slice(), offset)?,
+                None => bytes.as_slice(),
+            };
+            run_reading(rt.alloc(), file, table, reading, input, output, errors)
         }
         Command::Build(options) => build::build(rt, file, options, input, errors),
         Command::Put { hash, has_progress } => build::put(
@@ -112,6 +111,7 @@ fn run_reading<I: BufRead, O: Write, E: Write>(
             hash,
             keys: Keys::Lines,
         } => get::get_file_lines(alloc, bytes, hash, input, output),
+        Reading::Find => find::find_file(alloc, bytes, output),
         Reading::Dump { hash, is_slots } => dump::dump_file(bytes, hash, is_slots, output),
     }
 }

@@ -18,5 +18,9 @@ pub mod InfoLines
 pub mod KeyWords
 -- which error opening gives, by its stages
 pub mod Refusals
+-- the table that begins with some bytes
+pub mod Fronts
+-- the search for tables inside some bytes
+pub mod Finds
 -- worked examples of the definitions
 pub mod examples

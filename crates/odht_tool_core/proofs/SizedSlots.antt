@@ -1,5 +1,5 @@
 -- What holds of the slots of a table of any sizes, slot by slot.
-use Rattle.std.proofs.Common.{◌≡◌, ◌∙◌, ℕ, ◌+◌, ◌<◌, ◌≤◌, ◌&&◌, Bool, true, false, not, cond, is_some, is_none, [], ◌∷◌, ◌++◌, Option, Some, None, length, map, refl, ap, ap₂, arith, append-nil, slice_index, nat_le}
+use Rattle.std.proofs.Common.{◌≡◌, ◌∙◌, ℕ, ◌+◌, ◌<◌, ◌≤◌, ◌&&◌, Bool, true, false, not, cond, is_some, is_none, [], ◌∷◌, ◌++◌, Option, Some, None, length, map, refl, ap, ap₂, arith, append-nil, length-append, slice_index, nat_le}
 use Rattle.std.proofs.Math.Bool.{and-false}
 use Rattle.std.specs.List.{filter, range_with_len}
 use Rattle.std.proofs.lemmas.Bool.{le-leb}
@@ -15,6 +15,7 @@ use Rattle.odht_tool_core.specs.GroupNumbers.{groups_to}
 use Rattle.odht_tool_core.specs.InfoNumbers.{SizedParts, sized_format, least_key_len, agrees, occupied, group_numbers}
 use Rattle.odht_tool_core.specs.ReadyShapes.{hash_of}
 use Rattle.odht_tool_core.specs.declared.shapes.Hash.{Hash}
+use Rattle.odht_tool_core.specs.declared.shapes.Hash.TheVariants.{Fx}
 use Rattle.odht_tool_core.proofs.Counting.{slots_more}
 
 module _ (T : SizedParts) (h : Hash) where
@@ -62,3 +63,10 @@ module _ (T : SizedParts) (h : Hash) where
       let c = count_by-le-length is_occupied (range_with_len 0 n) in
       let d = length-range_with_len 0 n in
       omega (arith, a, b, c, d)
+
+-- how many slots are occupied, with one slot more
+pub count_free : (T : SizedParts) (n : ℕ) → counts_as_free (slice_index T.control n) ≡ true → length (occupied T (n + 1)) ≡ length (occupied T n)
+count_free T n e = ap length (occupied_more T Fx n false (ap not e) ∙ append-nil (occupied T n))
+
+pub count_more : (T : SizedParts) (n : ℕ) → counts_as_free (slice_index T.control n) ≡ false → length (occupied T (n + 1)) ≡ length (occupied T n) + 1
+count_more T n e = ap length (occupied_more T Fx n true (ap not e)) ∙ length-append (occupied T n) (n ∷ [])

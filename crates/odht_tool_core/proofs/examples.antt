@@ -11,3 +11,5 @@ pub mod Infos
 pub mod InfoTexts
 -- the shape whose hash function the control bytes have
 pub mod FoundShapes
+-- the table that begins with some bytes, and what bytes are a table
+pub mod Finds

@@ -19,5 +19,9 @@ pub mod Slots
 pub mod InfoNumbers
 -- its text
 pub mod InfoTexts
+-- the table that begins with some bytes
+pub mod Fronts
+-- the tables inside some bytes
+pub mod Finds
 -- the shape whose hash function the control bytes have
 pub mod FoundShapes

@@ -13,6 +13,7 @@ pub enum Topic {
     Check,
     Get,
     Dump,
+    Find,
     Build,
     Put,
 }
@@ -24,9 +25,20 @@ impl Topic {
             "check" => Some(Topic::Check),
             "get" => Some(Topic::Get),
             "dump" => Some(Topic::Dump),
+            "find" => Some(Topic::Find),
             "build" => Some(Topic::Build),
             "put" => Some(Topic::Put),
             _ => None,
+        }
+    }
+}
+
+impl Topic {
+    // Whether the command takes one table of its file, which may begin at any byte.
+    fn has_offset(self) -> bool {
+        match self {
+            Topic::Info | Topic::Check | Topic::Get | Topic::Dump => true,
+            Topic::Find | Topic::Build | Topic::Put => false,
         }
     }
 }
@@ -38,6 +50,7 @@ impl fmt::Display for Topic {
             Topic::Check => write!(f, "check"),
             Topic::Get => write!(f, "get"),
             Topic::Dump => write!(f, "dump"),
+            Topic::Find => write!(f, "find"),
             Topic::Build => write!(f, "build"),
             Topic::Put => write!(f, "put"),
         }
@@ -47,6 +60,7 @@ impl fmt::Display for Topic {
 // An option that its value follows.
 #[derive(Clone, Copy)]
 enum Setting {
+    At,
     Hash,
     Key,
     Value,
@@ -58,7 +72,8 @@ impl Setting {
     // The option of this name, if the command has it.
     fn of(topic: Topic, name: &str) -> Option<Setting> {
         match name {
-            "--hash" if topic != Topic::Info => Some(Setting::Hash),
+            "--at" if topic.has_offset() => Some(Setting::At),
+            "--hash" if topic != Topic::Info && topic != Topic::Find => Some(Setting::Hash),
             "--key" if topic == Topic::Build => Some(Setting::Key),
             "--value" if topic == Topic::Build => Some(Setting::Value),
             "--percent" if topic == Topic::Build => Some(Setting::Percent),
@@ -102,8 +117,11 @@ impl Keys {
 /// A command, with all that it needs to know beside its file.
 #[derive(Drop)]
 pub enum Command {
-    /// One that reads the file alone.
-    Read(Reading),
+    /// One that reads the file alone, from the given byte on where there is one.
+    Read {
+        at: Option<usize>,
+        reading: Reading,
+    },
     Build(BuildOptions),
     Put {
         hash: Option<Hash>,
@@ -118,6 +136,7 @@ pub enum Reading {
     Check { hash: Option<Hash> },
     Get { hash: Option<Hash>, keys: Keys },
     Dump { hash: Option<Hash>, is_slots: bool },
+    Find,
 }
 
 /// What the words ask for.
@@ -178,7 +197,7 @@ impl fmt::Display for Misuse {
             Misuse::NoCommand => write!(f, "a command is wanted; try `odht --help`"),
             Misuse::UnknownCommand(word) => write!(
                 f,
-                "no command is named {word:?}; there are info, check, get, dump, build and put"
+                "no command is named {word:?}; there are info, check, get, dump, find, build and put"
             ),
             Misuse::InCommand(topic, misuse) => {
                 misuse.write(*topic, f)?;
@@ -221,6 +240,7 @@ struct Draft {
     topic: Topic,
     // The file and those after it, without options.
     words: Vec<String>,
+    at: Option<usize>,
     hash: Option<Hash>,
     key: Option<Part>,
     value: Option<Part>,
@@ -236,6 +256,7 @@ impl Draft {
         Draft {
             topic,
             words: Vec::new(alloc),
+            at: None,
             hash: None,
             key: None,
             value: None,
@@ -273,6 +294,7 @@ impl Draft {
     // Sets an option. None where it has no such value.
     fn set(&mut self, setting: Setting, value: &str) -> Option<()> {
         match setting {
+            Setting::At => self.at = Some(parse_number(value.as_bytes())? as usize),
             Setting::Hash => self.hash = Some(Hash::named(value)?),
             Setting::Key => self.key = Some(Part::named(value)?),
             Setting::Value => self.value = Some(Part::named(value)?),
@@ -310,21 +332,38 @@ impl Draft {
             return Ok(Request::Help(Some(topic)));
         }
         let (mut words, hash, has_progress) = (self.words, self.hash, self.has_progress);
+        let at = self.at;
         if words.is_empty() || (words.len() > 1) != (topic == Topic::Get) {
             return Err(Misuse::InCommand(topic, CommandMisuse::WrongCount));
         }
         let file = words.remove(0);
         let command = match topic {
-            Topic::Info => Command::Read(Reading::Info),
-            Topic::Check => Command::Read(Reading::Check { hash }),
-            Topic::Get => Command::Read(Reading::Get {
-                hash,
-                keys: Keys::of_words(words),
-            }),
-            Topic::Dump => Command::Read(Reading::Dump {
-                hash,
-                is_slots: self.is_slots,
-            }),
+            Topic::Info => Command::Read {
+                at,
+                reading: Reading::Info,
+            },
+            Topic::Check => Command::Read {
+                at,
+                reading: Reading::Check { hash },
+            },
+            Topic::Get => Command::Read {
+                at,
+                reading: Reading::Get {
+                    hash,
+                    keys: Keys::of_words(words),
+                },
+            },
+            Topic::Dump => Command::Read {
+                at,
+                reading: Reading::Dump {
+                    hash,
+                    is_slots: self.is_slots,
+                },
+            },
+            Topic::Find => Command::Read {
+                at,
+                reading: Reading::Find,
+            },
             Topic::Build => {
                 let (Some(key), Some(value)) = (self.key, self.value) else {
                     return Err(Misuse::NoParts);

@@ -16,6 +16,10 @@ pub enum Failure {
     NoShape { key_size: u8, value_size: u8 },
     /// The control bytes are not the tags of the keys under any hash function of the ready shapes of these sizes.
     NoHash { key_size: u8, value_size: u8 },
+    /// The file ends before this byte.
+    PastEnd { offset: usize, len: usize },
+    /// There are headers of tables that overlap, more than a file has that is not forged.
+    Forged,
     /// Standard input could not be read.
     Input(io::Error),
     /// A line of standard input cannot be parsed.
@@ -68,6 +72,13 @@ impl fmt::Display for Failure {
             } => write!(
                 f,
                 "the control bytes fit no hash function of ready shapes with keys of {key_size} and values of {value_size} bytes; `odht check` and `odht info` say more"
+            ),
+            Failure::PastEnd { offset, len } => {
+                write!(f, "has {len} bytes, and so none at the offset {offset}")
+            }
+            Failure::Forged => write!(
+                f,
+                "is forged: it has headers that overlap, and no tables for them"
             ),
             Failure::Input(error) => write!(f, "standard input cannot be read: {error}"),
             Failure::Line { number, fault } => {

@@ -21,6 +21,7 @@ pub fn help_text(topic: Option<Topic>) -> &'static str {
         Some(Topic::Check) => CHECK,
         Some(Topic::Get) => GET,
         Some(Topic::Dump) => DUMP,
+        Some(Topic::Find) => FIND,
         Some(Topic::Build) => BUILD,
         Some(Topic::Put) => PUT,
     }
@@ -31,6 +32,7 @@ odht info FILE       tells what a table file holds, of any key and value sizes
 odht check FILE      tells whether a file is a valid table
 odht get FILE KEY..  looks keys up; with - instead of keys, those of standard input
 odht dump FILE       tells each pair
+odht find FILE       tells each table that is inside a file
 odht build FILE --key SHAPE --value SHAPE
                      makes a table file of the lines of standard input
 odht put FILE        adds the lines of standard input to a table file
@@ -40,22 +42,23 @@ Each has --help. Status 0: done; 1: refused, failed, or a key is absent;
 ";
 
 const INFO: &str = "\
-odht info FILE
+odht info FILE [--at OFFSET]
     Tells sizes, item and slot count, load factors, the hash function that the
     control bytes agree with, and how many items are found by looking at one
     group of control bytes, at two, and so on. The file may have any key and
-    value sizes. Only its header and its length are checked.
+    value sizes. Only its header and its length are checked. With --at the table
+    begins at that byte of the file; bytes after its end are not looked at.
 ";
 
 const CHECK: &str = "\
-odht check FILE [--hash fx|unhash]
+odht check FILE [--hash fx|unhash] [--at OFFSET]
     Says `valid`, or the first rule of the format that the file breaks, and then
     ends with status 1. The shape is the first of the file's key and value sizes,
     and of the hash function that --hash names; `odht build --help` lists them.
 ";
 
 const GET: &str = "\
-odht get FILE KEY.. [--hash fx|unhash]
+odht get FILE KEY.. [--hash fx|unhash] [--at OFFSET]
     Writes a line for each key, in their order: KEY, a tab and VALUE; or KEY alone
     where it is absent, and then ends with status 1. With the one word - the keys
     are the lines of standard input. The hash function is the one that all control
@@ -63,11 +66,20 @@ odht get FILE KEY.. [--hash fx|unhash]
 ";
 
 const DUMP: &str = "\
-odht dump FILE [--slots] [--hash fx|unhash]
+odht dump FILE [--slots] [--hash fx|unhash] [--at OFFSET]
     Writes a line for each pair, in slot order: KEY, a tab and VALUE. With --slots
     the slot, the control byte and the number of groups that a search for the key
     looks at stand before them, with tabs too. The hash function is the one that
     all control bytes fit, unless --hash names it.
+";
+
+const FIND: &str = "\
+odht find FILE
+    Tells each table that is inside a file, at whatever byte it begins: its offset,
+    for --at, its length, the sizes of keys and values, the item count, the slot
+    count, the load in percent, the hash function that the control bytes fit (fx,
+    unhash or both), and what the whole check says: valid, rejected, or - where no
+    ready shape has these sizes. Status 1 where there is none.
 ";
 
 const BUILD: &str = "\

@@ -8,7 +8,9 @@ ghost use Rattle.odht_base.specs.Load.{IsSlotCount};
 ghost use Rattle.odht_header.specs.Refusals.{checked, control_mismatch, length_refusal};
 ghost use Rattle.odht_tool_core.specs.InfoNumbers.{sized_format, format_by, sized_parts};
 ghost use Rattle.odht_tool_core.specs.InfoNumbers.{info_refusal, rest_refusal, least_key_len};
-ghost use Rattle.odht_tool_core.specs.InfoNumbers.{agrees, found_hash, group_numbers, IsHistogram};
+ghost use Rattle.odht_tool_core.specs.InfoNumbers.{agrees, found_hash, group_numbers, IsHistogram, occupied};
+ghost use Rattle.odht_tool_core.specs.Finds.{has_mirror};
+ghost use Rattle.odht_tool_core.specs.Fronts.{stated_len};
 ghost use Rattle.odht_tool_core.specs.ReadyShapes.{hash_of};
 
 use crate::early::check_first;
@@ -112,6 +114,27 @@ impl<'a> StoredTable<'a> {
         true
     }
 
+    /// How many slots are occupied.
+    pub fn count(&self) -> usize
+        ensures { result ≡ length (occupied self.now self.now.slots) }
+    {
+        let mut count = 0_usize;
+        for slot in 0..self.slot_count {
+            if self.is_occupied(slot) {
+                count += 1;
+            }
+        }
+        count
+    }
+
+    /// Whether the mirror is the first sixteen control bytes.
+    pub fn has_mirror(&self) -> bool
+        ensures { result ≡ has_mirror self.now }
+    {
+        let (control, slots) = (self.control, self.slot_count);
+        control[slots..slots + 16] == control[0..16]
+    }
+
     // Whether a slot is occupied, and its control byte is not the tag of its key.
     fn is_mismatch(&self, slot: usize, hash: Hash) -> bool
         requires slot { slot < self.now.slots }
@@ -175,21 +198,27 @@ fn check_length(bytes: &[u8]) -> Result<(), Error>
     ensures { result ≡ checked (length_refusal (format_by bytes.now Hash.Fx)
         (length bytes.now) bytes.now) }
 {
-    let header = Header::of(bytes);
-    let slot_count = header.slot_count();
-    let found = bytes.len();
-    let entry_size = header.key_size() as u128 + header.value_size() as u128;
-    let slots = slot_count as u128;
-    let expected = HEADER_SIZE as u128 + slots * entry_size + slots + 16;
+    let (found, expected) = (bytes.len(), stated_len(bytes));
     if found as u128 == expected {
         Ok(())
     } else {
         Err(Error::WrongLength {
-            slot_count,
+            slot_count: Header::of(bytes).slot_count(),
             found,
             expected,
         })
     }
+}
+
+/// How many bytes a table of the slot count and the sizes in the header has.
+pub fn stated_len(bytes: &[u8]) -> u128
+    requires { 32 ≤ length bytes.now }
+    ensures { result ≡ stated_len bytes.now }
+{
+    let header = Header::of(bytes);
+    let entry_size = header.key_size() as u128 + header.value_size() as u128;
+    let slots = header.slot_count() as u128;
+    HEADER_SIZE as u128 + slots * entry_size + slots + 16
 }
 
 // How many bytes the hash function needs at least.

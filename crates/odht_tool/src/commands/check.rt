@@ -33,7 +33,8 @@ pub fn check_file<O: Write>(
     Ok(Status::of(checked.is_ok()))
 }
 
-fn check_shape(shape: Shape, bytes: &[u8]) -> Result<(), Error>
+/// The first rule that the bytes break, as a table of this shape.
+pub fn check_shape(shape: Shape, bytes: &[u8]) -> Result<(), Error>
     ensures { result ≡ checked (check_refusal (shape_format shape) bytes.now) }
 {
     for_shape!(shape, check_bytes[](bytes))

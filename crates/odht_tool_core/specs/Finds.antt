@@ -1,0 +1,94 @@
+-- The tables inside the bytes of a file.
+--     has_fields B         nothing is rejected of the load factor, the padding, and the item count that it allows
+--     has_front B          B begins with a header of which nothing is rejected, and there are as many bytes as it says
+--     has_mirror T         the last sixteen control bytes of the parts T are as the first
+--     has_controls B       B opens, the mirror is so, as many slots are occupied as the header says, and all control bytes
+--                          agree with a hash function
+--     is_table B           B begins with a table
+--     is_false B           B begins with a header, but not with a table
+--     AreTables B p ts     the offsets ts are those of the tables in B from p on: the first of all, then those behind its end
+--     false_slots B n      how many slots the headers say in all that begin before n and are not those of tables
+--     fits_word T          which hash functions all control bytes of T agree with
+--     row_text at B w      the line of the table B that begins at the offset `at`, where w is what the check says of it
+--     IsSeen B l           the look l at the bytes B tells what they begin with
+--     IsFindFailure B f    the failure f is that of memory; or that of forged headers, whose slots are more than B has bytes
+use Rattle.std.specs.Prelude.{◌≡◌, ⊤, ℕ, ◌+◌, ◌*◌, ◌/◌, max, ◌++◌, codes, decimal, slice_index, ◌<◌, ◌≤◌, Bool, true, false, not, ◌&&◌, ◌==◌, bytes_eq, List, [], ◌∷◌, length, take, drop, map, sum, is_none, is_some, if◌then◌else◌}
+use Rattle.std.specs.List.{range_with_len}
+use Rattle.odht_base.specs.Bytes.{bytes_at}
+use Rattle.odht_base.specs.Decoded.{header_count, header_slots}
+use Rattle.odht_header.specs.Refusals.{factor_refusal, padding_refusal, room_refusal}
+use Rattle.odht_tool_core.specs.Fronts.{stated_len, front_refusal}
+use Rattle.odht_tool_core.specs.InfoNumbers.{SizedParts, sized_parts, info_refusal, occupied, agrees, found_hash}
+use Rattle.odht_tool_core.specs.declared.failure.Failure.{Failure}
+use Rattle.odht_tool_core.specs.declared.failure.Failure.TheVariants.{Memory, Forged}
+use Rattle.odht_tool_core.specs.declared.shapes.Hash.TheVariants.{Fx, Unhash}
+use Rattle.odht_tool_core.specs.declared.find.Look.{Look}
+use Rattle.odht_tool_core.specs.declared.find.Look.TheVariants.{Table, False, Nothing}
+
+abbrev pub has_fields : List ℕ → Bool
+has_fields B = is_none (factor_refusal B) && is_none (padding_refusal B) && is_none (room_refusal B)
+
+abbrev pub has_front : List ℕ → Bool
+has_front B = is_none (front_refusal B) && has_fields B
+
+abbrev pub has_mirror : SizedParts → Bool
+has_mirror T = bytes_eq (bytes_at T.control T.slots 16) (bytes_at T.control 0 16)
+
+abbrev pub has_controls : List ℕ → Bool
+has_controls B =
+    let T = sized_parts B in
+    is_none (info_refusal B) && has_mirror T && length (occupied T T.slots) == header_count B && is_some (found_hash T)
+
+unfoldable pub is_table : List ℕ → Bool
+is_table B = has_front B && has_controls (take (stated_len B) B)
+
+unfoldable pub is_false : List ℕ → Bool
+is_false B = has_front B && not (has_controls (take (stated_len B) B))
+
+-- ---- the lines
+abbrev pub sizes_row : ℕ → ℕ → ℕ → ℕ → List ℕ
+sizes_row at len key value = decimal at ++ (9 ∷ (decimal len ++ (9 ∷ (decimal key ++ (9 ∷ (decimal value ++ (9 ∷ [])))))))
+
+abbrev pub counts_row : ℕ → ℕ → ℕ → List ℕ
+counts_row items slots load = decimal items ++ (9 ∷ (decimal slots ++ (9 ∷ (decimal load ++ (9 ∷ [])))))
+
+abbrev pub words_row : List ℕ → List ℕ → List ℕ
+words_row fits checked = fits ++ (9 ∷ (checked ++ (10 ∷ [])))
+
+-- ---- the search
+-- no table begins from p on and before q
+abbrev pub AreNone : List ℕ → ℕ → ℕ → Type 0
+AreNone B p q = (i : ℕ) → p ≤ i → i < q → is_table (drop i B) ≡ false
+
+abbrev pub AreTables : List ℕ → ℕ → List ℕ → Type 0
+AreTables B p [] = AreNone B p (length B)
+AreTables B p (t ∷ ts) = (p ≤ t) × AreNone B p t × (is_table (drop t B) ≡ true) × AreTables B (t + stated_len (drop t B)) ts
+
+abbrev pub false_slots_at : List ℕ → ℕ → ℕ
+false_slots_at B i = if is_false (drop i B) then header_slots (drop i B) else 0
+
+abbrev pub false_slots : List ℕ → ℕ → ℕ
+false_slots B n = sum (map (false_slots_at B) (range_with_len 0 n))
+
+abbrev pub IsFindFailure : List ℕ → Failure → Type 0
+IsFindFailure B Memory = ⊤
+IsFindFailure B Forged = length B < false_slots B (length B)
+IsFindFailure B _ = ⊥
+
+-- the line of the table B at the offset `at`, of which the check says `checked`
+abbrev pub fits_word : SizedParts → List ℕ
+fits_word T =
+    if agrees T Fx then (if agrees T Unhash then codes "both" else codes "fx")
+    else if agrees T Unhash then codes "unhash"
+    else codes "none"
+
+abbrev pub row_text : ℕ → List ℕ → List ℕ → List ℕ
+row_text at B checked =
+    (sizes_row at (length B) (slice_index B 5) (slice_index B 6)
+    ++ counts_row (header_count B) (header_slots B) (header_count B * 100 / max (header_slots B) 1))
+    ++ words_row (fits_word (sized_parts B)) checked
+
+abbrev pub IsSeen : List ℕ → Look → Type 0
+IsSeen B (Table n) = (is_table B ≡ true) × (n ≡ stated_len B) × (n ≤ length B)
+IsSeen B (False n) = (is_table B ≡ false) × (is_false B ≡ true) × (n ≡ header_slots B)
+IsSeen B Nothing = is_table B ≡ false
