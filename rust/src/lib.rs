@@ -20,6 +20,7 @@ mod view;
 #[allow(dead_code, unused_imports, unused_variables, missing_docs)]
 #[allow(
     clippy::collapsible_if,
+    clippy::manual_find,
     clippy::manual_map,
     clippy::manual_range_contains,
     clippy::module_inception,

@@ -59,12 +59,13 @@ size_t image_len(struct shape shape, size_t slots);
 
 /*
  * The first error, or ODHT_OK: of a table at the front of the bytes, whatever follows it; of header and length; of
- * opening, which reads ten slots too; of the whole check; and of the whole check with a bound of searches, in groups.
+ * opening, which reads ten slots too; of the whole check; and, where that is `whole`, of the whole check with a bound
+ * of searches, in groups.
  */
 uint32_t front_error(const struct reading *table);
 uint32_t header_error(const struct reading *table);
 uint32_t opening_error(const struct reading *table);
 uint32_t whole_error(const struct reading *table);
-uint32_t within_error(const struct reading *table, size_t groups);
+uint32_t within_error(const struct reading *table, uint32_t whole, size_t groups);
 
 #endif

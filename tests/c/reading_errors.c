@@ -170,14 +170,12 @@ static bool ends_within(const struct reading *table, size_t home, size_t groups)
     return false;
 }
 
-uint32_t within_error(const struct reading *table, size_t groups)
+uint32_t within_error(const struct reading *table, uint32_t whole, size_t groups)
 {
-    uint32_t error = whole_error(table);
-
-    if (error != ODHT_OK && error != ODHT_UNREACHABLE)
-        return error;
+    if (whole != ODHT_OK && whole != ODHT_UNREACHABLE)
+        return whole;
     for (size_t home = 0; home < slots_of(table); home++)
         if (!ends_within(table, home, groups))
             return ODHT_SEARCH_TOO_LONG;
-    return error;
+    return whole;
 }

@@ -85,7 +85,7 @@ macro_rules! declare {
                 ) -> u32;
 
                 /// How many bytes the table at the front of the bytes has.
-                #[link_name = concat!("odht_", stringify!($shape), "_table_len")]
+                #[link_name = concat!("odht_", stringify!($module), "_table_len")]
                 pub fn table_len(bytes: *const u8, bytes_len: usize, len: *mut usize) -> u32;
 
                 /// The header's item count.

@@ -214,6 +214,7 @@ pub fn status<T>(result: &Result<T, Error>) -> u32 {
             Error::Full => 18,
             Error::Memory => 19,
             Error::Capacity => 20,
+            Error::SearchTooLong { .. } => 21,
         },
     }
 }
