@@ -13,6 +13,7 @@ mod lists;
 #[allow(dead_code, unused_imports, unused_variables)]
 #[allow(
     clippy::collapsible_if,
+    clippy::manual_find,
     clippy::manual_map,
     clippy::manual_range_contains,
     clippy::module_inception,
