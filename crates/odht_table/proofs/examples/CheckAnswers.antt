@@ -5,7 +5,7 @@ use Rattle.std.specs.Fmt.{digits}
 use Rattle.odht_header.proofs.examples.Apart.{unequal_lists}
 use Rattle.odht_base.specs.Format.{Format}
 use Rattle.odht_base.proofs.examples.Configs.{my_config}
-use Rattle.odht_header.specs.Refusals.{opening_refusal, view_refusal, check_refusal}
+use Rattle.odht_header.specs.Refusals.{opening_refusal, view_refusal, check_refusal, check_refusal_by}
 use Rattle.odht_table.specs.Answers.{refused_text, check_text, IsChecked}
 
 -- bytes in which no error is found are valid
@@ -14,7 +14,7 @@ passed F B e = inl (sym (ap refused_text e))
 
 -- two bytes are too few for a header
 pub too_short : check_text my_config (79 ∷ 68 ∷ []) ≡ codes "Provided data has 2 bytes but the header needs 32"
-unfolding check_refusal view_refusal opening_refusal digits
+unfolding check_refusal_by view_refusal opening_refusal digits
 too_short = refl
 
 pub refused : IsChecked my_config (79 ∷ 68 ∷ []) (codes "Provided data has 2 bytes but the header needs 32")
