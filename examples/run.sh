@@ -162,6 +162,6 @@ done
 if has cc && has rustc && [ -x "$top/crates/odht_tool/out/odht_tool" ]; then
     sh "$top/examples/toolchain/run.sh" "-I$room/usr/include $room/usr/lib/libodht.a" \
         "$top/crates/odht_tool/out/odht_tool" > printed || { cat printed; fail "the tables of the Rust toolchain"; }
-    if [ -s printed ]; then well "toolchain: the same $(cat printed) in C, Rust, Rattle and odht"; fi
+    if [ -s printed ]; then well "toolchain: $(cat printed)"; fi
 fi
 echo "$passed passed, 0 failed"

@@ -22,7 +22,7 @@ static void write_key(uint8_t key[16], uint64_t number, uint32_t hash)
     memcpy(key + 12, &hash, 4);
 }
 
-/* 222 keys of one hash fill 13 groups of its probe order, and 14 slots of the next: so searches from its home read 14. */
+/* 222 keys of one hash fill 13 groups of its probe order, and 14 slots of the next: its searches read 14 groups. */
 static void keys_of_one_hash(void)
 {
     size_t len = image_len(shape, SLOTS);
@@ -40,7 +40,8 @@ static void keys_of_one_hash(void)
     STATUS(odht_b16_u32_check_within(bytes, len, 13), ODHT_SEARCH_TOO_LONG);
     STATUS(odht_b16_u32_check_within(bytes, len, 16), ODHT_OK);
     for (size_t groups = 0; groups <= 17; groups++)
-        STATUS(odht_b16_u32_check_within(bytes, len, groups), within_error(&table, ODHT_OK, groups));
+        STATUS(odht_b16_u32_check_within(bytes, len, groups),
+               within_error(&table, ODHT_OK, groups));
 }
 
 /* Writes a key into the slot at a position of its probe order, if this slot is free. */
@@ -60,7 +61,8 @@ static bool write_at(uint8_t *bytes, uint32_t hash, size_t position, uint64_t nu
 }
 
 /* Writes so many keys of one hash into the free slots of the first positions of its probe order. */
-static uint64_t write_hash(uint8_t *bytes, uint32_t hash, size_t positions, uint64_t count, uint64_t most)
+static uint64_t write_hash(uint8_t *bytes, uint32_t hash, size_t positions, uint64_t count,
+                           uint64_t most)
 {
     for (size_t position = 0; position < positions && count < most; position++)
         count += write_at(bytes, hash, position, count);
@@ -87,7 +89,7 @@ static void a_large_table_of_one_hash(void)
     check_in_time(bytes, write_hash(bytes, 5, LARGE_SLOTS, 0, most), ODHT_SEARCH_TOO_LONG);
 }
 
-/* As many keys of one hash as the bound allows, for one home after the other: the most comparisons of a valid table. */
+/* 24 groups of keys of one hash, for one home after the other. */
 static void a_large_table_up_to_the_bound(void)
 {
     uint8_t *bytes = bytes_of(image_len(shape, LARGE_SLOTS));

@@ -109,7 +109,9 @@ mod unchecked {
         if cfg!(debug_assertions) {
             return list.split_at_mut(index);
         }
-        let (start, rest) = (list.as_mut_ptr(), list.len().wrapping_sub(index));
+        // `split_at_mut_unchecked` of std is newer than the Rust that this crate needs.
+        let rest = list.len().wrapping_sub(index);
+        let start = list.as_mut_ptr();
         // SAFETY: the caller says that the index is in bounds, so the two slices are parts of the list, and apart.
         unsafe {
             (

@@ -12,8 +12,9 @@ use crate::config::{Coded, Config};
 use crate::error::Error;
 use crate::raw_table::RawTable;
 
-/// A bound of searches, in groups, that tables of hashes that vary keep: twice the longest search that was seen in
-/// random tables of up to 2^24 slots at 95 percent (docs/FORMAT.md, "How long searches are").
+/// A bound of searches, in groups, that tables of hashes that vary keep: nearly twice the longest search that was seen
+/// in random tables of up to 2^24 slots at 95 percent (docs/FORMAT.md, "How long searches are"). Fuller or larger ones
+/// may exceed it.
 pub const DEFAULT_GROUPS: usize = 128;
 
 /// Checks all of the bytes, and answers the first error: first those of [`Allocation::from_raw_bytes`], then those of
