@@ -122,6 +122,8 @@ macro_rules! calls {
                 unsafe { sys::$module::table_len(bytes.as_ptr(), bytes.len(), len) }
             }
 
+            // the value of a set is `()`, and is not passed
+            #[allow(unused_variables)]
             #[inline]
             fn insert(
                 bytes: &mut [u8],
