@@ -2,7 +2,9 @@
 //! changes nothing; the other calls end as Rust's collections do; and calls that take no memory make no request.
 
 use odht::configs::U64ToU32;
-use odht::{bytes_needed, check_all, try_bytes_needed, Error, HashTable, HashTableOwned};
+use odht::{
+    bytes_needed, check_all, try_bytes_needed, Error, HashTable, HashTableOwned, DEFAULT_GROUPS,
+};
 use std::alloc::{GlobalAlloc, Layout, System};
 use std::cell::Cell;
 use std::process::Command;
@@ -93,6 +95,7 @@ fn new_tables_and_copies() {
     let table = Owned::from_iterator(pairs(30), 87);
     refused_from_each(1, || Owned::try_with_capacity(100, 87));
     refused_from_each(1, || Owned::try_from_raw_bytes(table.raw_bytes()));
+    refused_from_each(1, || Owned::from_raw_bytes_within(table.raw_bytes(), DEFAULT_GROUPS));
     refused_from_each(1, || table.try_clone());
     // Room for the items, and the table.
     refused_from_each(2, || Owned::try_from_iterator(pairs_of(30), 87));
