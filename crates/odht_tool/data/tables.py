@@ -6,6 +6,9 @@ import os
 import struct
 
 FREE = 255
+# docs/TOOL.md: the bound of searches, in groups, where `--whole` is not given, and what `check` then writes
+BOUND = 128
+VALID = "valid, and no search reads more than 128 groups\n"
 HERE = os.path.dirname(os.path.abspath(__file__))
 TESTS = os.path.join(HERE, "..", "..", "..", "tests")
 
@@ -41,11 +44,21 @@ class Table:
             slots *= 2
         return slots
 
-    def order(self, key):
-        slots, home = len(self.cells), self.hash(key) % len(self.cells)
+    def order_from(self, home):
+        slots = len(self.cells)
         for j in range(slots // 16):
             for i in range(16):
                 yield j + 1, (home + 8 * j * (j + 1) + i) % slots
+
+    def order(self, key):
+        return self.order_from(self.hash(key) % len(self.cells))
+
+    def groups_to_free(self, home):
+        """How many groups a search from this home reads at most: up to one with a free slot, or all."""
+        for groups, slot in self.order_from(home):
+            if self.cells[slot] is None:
+                return groups
+        return len(self.cells) // 16
 
     def count(self):
         return sum(cell is not None for cell in self.cells)
@@ -89,7 +102,11 @@ def nothing(data):
     return ""
 
 
-def info_text(table, percent):
+def groups_line(label, groups, bound):
+    return f"{label:<14}" + (f"more than {bound}" if bound is not None and groups > bound else f"{groups}") + " groups\n"
+
+
+def info_text(table, percent, bound=BOUND):
     lines = [
         ("key bytes", table.key_size), ("value bytes", table.value_size), ("header bytes", 32),
         ("all bytes", len(table.image())), ("items", table.count()), ("slots", len(table.cells)),
@@ -101,11 +118,13 @@ def info_text(table, percent):
     text += "  groups         items\n"
     groups = [table.find(cell[0])[0] for cell in table.cells if cell is not None]
     longest = max(groups, default=0)
-    counts = [groups.count(n) for n in range(1, longest + 1)]
+    counts = [sum(min(it, 64) == n for it in groups) for n in range(1, min(longest, 64) + 1)]
     for n, count in enumerate(counts, 1):
         bar = "#" * max(1, count * 40 // max(counts)) if count else ""
-        text += f"{n:>8}  {count:>12}  {bar}\n"
-    return text + f"{'longest':<14}{longest} groups\n"
+        more = "+" if n == 64 and longest > 64 else ""
+        text += f"{n:>8}{more}  {count:>12}  {bar}\n"
+    misses = [table.groups_to_free(home) for home in range(len(table.cells))]
+    return text + groups_line("longest hit", longest, bound) + groups_line("longest miss", max(misses), bound)
 
 
 def dump_text(table, key_text, value_text):
@@ -173,7 +192,8 @@ class Case:
         file, hash = f"{self.name}.odht", self.hash_words
         text = HEAD + self.run_text("info", f"info {file}", "", self.info)
         if self.words:
-            text += self.run_text("check", f"check {file}{hash}", "", "valid\n")
+            text += self.run_text("check", f"check {file}{hash}", "", VALID)
+            text += self.run_text("check --whole", f"check --whole {file}{hash}", "", "valid\n")
             if hash:
                 text += self.rejected_text(fx, "fx", "unhash")
             text += self.run_text("dump", f"dump {file}", "", self.dump)
@@ -288,12 +308,39 @@ def write_find_cases():
         at = f"inside.bin --at {places[name]}"
         text += case(f"info of {name} inside a file", f"info {at}", made[name].info)
         if made[name].words:
-            text += case(f"check of {name}", f"check {at}{made[name].hash_words}", "valid\n")
+            text += case(f"check of {name}", f"check {at}{made[name].hash_words}", VALID)
             text += case(f"dump of {name}", f"dump {at}", made[name].dump)
             text += case(f"dump --slots of {name}", f"dump --slots {at}", made[name].slots)
             key, value = made[name].dump.split("\n")[1].split("\t")
             text += case(f"get of {name}", f"get {at} {key}", f"{key}\t{value}\n")
     write_test("tool/tables/inside.cases", text)
+
+
+def write_bound_cases():
+    """A table in which a search reads more groups than the bound: its 2,064 keys have one home, of 4,096 slots."""
+    keys = [le(4096 * k, 4) for k in range(2064)]
+    made = Case("one_home", "", 4, 4, unhash, 87, 2064, [(key, le(0, 4)) for key in keys])
+    made.write_file()
+    slots = len(made.table.cells)
+    home = next(it for it in range(slots) if made.table.groups_to_free(it) > BOUND)
+    long = f"Searches from slot {home} may read more than 128 groups; --whole checks without a bound\n"
+    failure = block("stderr", f"odht: one_home.odht: {long}") + "status: 1\n\n"
+    columns = [0, len(made.table.image()), 4, 4, 2064, slots, 2064 * 100 // slots, "unhash"]
+    row = "\t".join(str(it) for it in columns)
+
+    def case(title, args, stdout, stdin=""):
+        return made.run_text(title, args, stdin, stdout)
+
+    text = HEAD + case("info", "info one_home.odht", made.info)
+    text += case("info --whole", "info --whole one_home.odht", info_text(made.table, 87, None))
+    text += case("check", "check one_home.odht --hash unhash", long).rstrip("\n") + "\nstatus: 1\n\n"
+    text += case("check --whole", "check one_home.odht --hash unhash --whole", "valid\n")
+    text += case("find", "find one_home.odht", f"{row}\tlong\n")
+    text += case("find --whole", "find one_home.odht --whole", f"{row}\tvalid\n")
+    text += case("get", "get one_home.odht 8450048", "8450048\t0\n")
+    text += case("put", "put one_home.odht", "", "0\t0\n").rstrip("\n") + "\n" + failure
+    text += case("put --whole", "put one_home.odht --whole", "", "0\t0\n")
+    write_test("tool/tables/one_home.cases", text)
 
 
 def write_hex_case():
@@ -314,3 +361,4 @@ if __name__ == "__main__":
         file.write(wrong_tag())
     write_hex_case()
     write_find_cases()
+    write_bound_cases()

@@ -1,18 +1,25 @@
 -- What `check` and `dump` do with the bytes of a file.
 --     by_shape r f             what f says of a shape, where r is one; else the failure
---     check_outcome B h        of `check`, where the hash function h, or none, is named
+--     check_outcome B h o      of `check`, where the hash function h, or none, is named, and o is the bound of searches, or
+--                              there is none
 --     hint_of B h              the hash function to name for bytes that were rejected, where none was named
 --     hint_text file h         the line of that
---     check_word B r           what `find` says of the check of the table B, which is of the shape r, if there is one
+--     check_word o B r         what `find` says of the check, by the bound o, of the table B, which is of the shape r, if
+--                              there is one
+--     IsCopyFailure F o B f    f is the first error of the check, by the bound o, of the bytes B of the format F; or out of
+--                              memory where there is none
 --     pairs_outcome c f g B    of `dump` for bytes of the coding c: the pairs that the slots hold, in slot order, where f
 --                              and g are the texts of keys and of values
 --     dump_outcome B h is_slots    of `dump`, with `--slots` or without
-use Rattle.std.specs.Prelude.{ℕ, Bool, List, ◌++◌, codes, Option, None, Result, Ok, Err, is_ok, is_none, if◌then◌else◌}
+use Rattle.std.specs.Prelude.{◌≡◌, ℕ, Bool, List, ◌++◌, codes, Option, Some, None, Result, Ok, Err, is_ok, is_none, if◌then◌else◌}
 use Rattle.std.specs.Option.{option_and_then}
 use Rattle.std.specs.Result.{result_ok}
 use Rattle.odht_base.specs.Decoded.{decoded_pairs}
+use Rattle.odht_base.specs.Format.{Format}
 use Rattle.odht_header.specs.Coding.{Coding}
-use Rattle.odht_header.specs.Refusals.{checked, view_refusal, check_refusal}
+use Rattle.odht_header.specs.Refusals.{checked, view_refusal, check_refusal_by}
+use Rattle.odht_header.specs.declared.error.Error.{Error}
+use Rattle.odht_header.specs.declared.error.Error.TheVariants.{SearchTooLong}
 use Rattle.odht_raw.specs.Walks.{decoded_all}
 use Rattle.odht_tool_core.specs.Endings.{Outcome, opened_outcome}
 use Rattle.odht_tool_core.specs.Endings.Outcome.{writes, fails}
@@ -23,6 +30,7 @@ use Rattle.odht_tool_core.specs.ShapeList.{key_part, value_part}
 use Rattle.odht_tool_core.specs.Slots.{slots_outcome}
 use Rattle.odht_tool_core.specs.Texts.{checked_text, pairs_text}
 use Rattle.odht_tool_core.specs.declared.failure.Failure.{Failure}
+use Rattle.odht_tool_core.specs.declared.failure.Failure.TheVariants.{Refused, Memory}
 use Rattle.odht_tool_core.specs.declared.shapes.Hash.{Hash}
 use Rattle.odht_tool_core.specs.declared.shapes.ready.Shape.{Shape}
 use Rattle.odht_tool_core.specs.declared.status.Status.TheVariants.{Done, NotDone}
@@ -32,13 +40,13 @@ by_shape (Ok s) f = f s
 by_shape (Err failure) f = fails failure
 
 -- ---- check
-abbrev pub check_of_shape : List ℕ → Shape → Outcome
-check_of_shape B s =
-    let r = checked (check_refusal (shape_format s) B) in
-    writes (checked_text r) (if is_ok r then Done else NotDone)
+abbrev pub check_of_shape : List ℕ → Option ℕ → Shape → Outcome
+check_of_shape B o s =
+    let r = checked (check_refusal_by (shape_format s) o B) in
+    writes (checked_text o r) (if is_ok r then Done else NotDone)
 
-abbrev pub check_outcome : List ℕ → Option Hash → Outcome
-check_outcome B h = by_shape (named_shape B h) (check_of_shape B)
+abbrev pub check_outcome : List ℕ → Option Hash → Option ℕ → Outcome
+check_outcome B h o = by_shape (named_shape B h) (check_of_shape B o)
 
 abbrev pub hint_of : List ℕ → Option Hash → Option Hash
 hint_of B h = if is_none h then option_and_then (hinted_hash B) (result_ok (named_shape B None)) else None
@@ -48,9 +56,20 @@ hint_text file h =
     codes "odht: " ++ (file ++ (codes ": all control bytes fit " ++ (hash_name h ++ (codes ": try --hash " ++ (hash_name h ++ codes ", or `odht info`\n")))))
 
 -- ---- find
-abbrev pub check_word : List ℕ → Result Shape Failure → List ℕ
-check_word B (Ok s) = if is_ok (checked (check_refusal (shape_format s) B)) then codes "valid" else codes "rejected"
-check_word B (Err failure) = codes "-"
+abbrev pub refusal_word : Option Error → List ℕ
+refusal_word None = codes "valid"
+refusal_word (Some (SearchTooLong home groups)) = codes "long"
+refusal_word (Some error) = codes "rejected"
+
+abbrev pub check_word : Option ℕ → List ℕ → Result Shape Failure → List ℕ
+check_word o B (Ok s) = refusal_word (check_refusal_by (shape_format s) o B)
+check_word o B (Err failure) = codes "-"
+
+-- ---- put
+abbrev pub IsCopyFailure : Format → Option ℕ → List ℕ → Failure → Type 0
+IsCopyFailure F o B (Refused error) = check_refusal_by F o B ≡ Some error
+IsCopyFailure F o B Memory = check_refusal_by F o B ≡ None
+IsCopyFailure F o B _ = ⊥
 
 -- ---- dump
 abbrev pub pairs_outcome : {K V : Type 0} → Coding K V → (K → List ℕ) → (V → List ℕ) → List ℕ → Outcome

@@ -69,11 +69,16 @@ fn run_command<R: Files + AllocGlobal + Clock, I: BufRead, O: Write, E: Write>(
             run_reading(rt.alloc(), file, table, reading, input, output, errors)
         }
         Command::Build(options) => build::build(rt, file, options, input, errors),
-        Command::Put { hash, has_progress } => build::put(
+        Command::Put {
+            hash,
+            bound,
+            has_progress,
+        } => build::put(
             rt,
             file,
             read_file(rt, file)?,
             hash,
+            bound,
             has_progress,
             input,
             errors,
@@ -92,9 +97,9 @@ fn run_reading<I: BufRead, O: Write, E: Write>(
     errors: &mut E,
 ) -> Result<Status, Failure> {
     match reading {
-        Reading::Info => info_file(alloc, bytes, output),
-        Reading::Check { hash } => {
-            let status = check::check_file(bytes, hash, output)?;
+        Reading::Info { bound } => info_file(alloc, bytes, bound, output),
+        Reading::Check { hash, bound } => {
+            let status = check::check_file(bytes, hash, bound, output)?;
             if !status.is_done()
                 && let Some(other) = check::hint_of(bytes, hash)
             {
@@ -111,7 +116,7 @@ fn run_reading<I: BufRead, O: Write, E: Write>(
             hash,
             keys: Keys::Lines,
         } => get::get_file_lines(alloc, bytes, hash, input, output),
-        Reading::Find => find::find_file(alloc, bytes, output),
+        Reading::Find { bound } => find::find_file(alloc, bytes, bound, output),
         Reading::Dump { hash, is_slots } => dump::dump_file(bytes, hash, is_slots, output),
     }
 }

@@ -6,6 +6,8 @@ pub mod Answered
 pub mod LineEnds
 -- in which group of a probe order a slot is
 pub mod GroupPlaces
+-- numbers of groups, by a bound
+pub mod GroupBounds
 -- what is written slot by slot
 pub mod Counting
 -- the slots of a table of any sizes

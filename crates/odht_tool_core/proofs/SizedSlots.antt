@@ -1,5 +1,5 @@
 -- What holds of the slots of a table of any sizes, slot by slot.
-use Rattle.std.proofs.Common.{◌≡◌, ◌∙◌, ℕ, ◌+◌, ◌<◌, ◌≤◌, ◌&&◌, Bool, true, false, not, cond, is_some, is_none, [], ◌∷◌, ◌++◌, Option, Some, None, length, map, refl, ap, ap₂, arith, append-nil, length-append, slice_index, nat_le}
+use Rattle.std.proofs.Common.{◌≡◌, ◌∙◌, ℕ, ◌+◌, ◌<◌, ◌≤◌, ◌&&◌, max, Bool, true, false, not, cond, is_some, is_none, [], ◌∷◌, ◌++◌, Option, Some, None, length, map, refl, ap, ap₂, arith, append-nil, length-append, slice_index, nat_le}
 use Rattle.std.proofs.Math.Bool.{and-false}
 use Rattle.std.specs.List.{filter, range_with_len}
 use Rattle.std.proofs.lemmas.Bool.{le-leb}
@@ -11,12 +11,13 @@ use Rattle.odht_base.specs.Decoded.{slot_key, counts_as_free}
 use Rattle.odht_header.specs.Refusals.{first_slot, control_mismatch}
 use Rattle.odht_header.specs.declared.error.Error.{Error}
 use Rattle.odht_header.proofs.lemmas.FirstErrors.{first_slot-None, None-first_slot}
-use Rattle.odht_tool_core.specs.GroupNumbers.{groups_to}
-use Rattle.odht_tool_core.specs.InfoNumbers.{SizedParts, sized_format, least_key_len, agrees, occupied, group_numbers}
+use Rattle.odht_tool_core.specs.GroupNumbers.{capped, groups_to, groups_to_free}
+use Rattle.odht_tool_core.specs.InfoNumbers.{SizedParts, sized_format, least_key_len, agrees, occupied, group_numbers, miss_numbers, largest}
 use Rattle.odht_tool_core.specs.ReadyShapes.{hash_of}
 use Rattle.odht_tool_core.specs.declared.shapes.Hash.{Hash}
 use Rattle.odht_tool_core.specs.declared.shapes.Hash.TheVariants.{Fx}
 use Rattle.odht_tool_core.proofs.Counting.{slots_more}
+use Rattle.odht_tool_core.proofs.Tallies.{largest-more}
 
 module _ (T : SizedParts) (h : Hash) where
   abbrev mismatch : ℕ → Option Error
@@ -39,8 +40,8 @@ module _ (T : SizedParts) (h : Hash) where
   abbrev is_occupied : ℕ → Bool
   is_occupied i = not (counts_as_free (slice_index T.control i))
 
-  abbrev groups_of : ℕ → ℕ
-  groups_of i = groups_to (hash_of h (slot_key (sized_format T h) T.entries i)) T.slots i
+  abbrev groups_of : Option ℕ → ℕ → ℕ
+  groups_of o i = capped o (groups_to (hash_of h (slot_key (sized_format T h) T.entries i)) T.slots i)
 
   occupied_more : (n : ℕ) (t : Bool) → is_occupied n ≡ t → occupied T (n + 1) ≡ occupied T n ++ cond t (n ∷ []) []
   occupied_more n t e =
@@ -48,17 +49,17 @@ module _ (T : SizedParts) (h : Hash) where
       ∙ ap (λ b. occupied T n ++ cond b (n ∷ []) []) e
 
   -- one slot more, which is free
-  pub groups_free : (n : ℕ) → counts_as_free (slice_index T.control n) ≡ true → group_numbers T h (n + 1) ≡ group_numbers T h n
-  groups_free n e = ap (map groups_of) (occupied_more n false (ap not e) ∙ append-nil (occupied T n))
+  pub groups_free : (o : Option ℕ) (n : ℕ) → counts_as_free (slice_index T.control n) ≡ true → group_numbers T h o (n + 1) ≡ group_numbers T h o n
+  groups_free o n e = ap (map (groups_of o)) (occupied_more n false (ap not e) ∙ append-nil (occupied T n))
 
   -- or which is occupied
-  pub groups_more : (n : ℕ) → counts_as_free (slice_index T.control n) ≡ false → group_numbers T h (n + 1) ≡ group_numbers T h n ++ (groups_of n ∷ [])
-  groups_more n e = ap (map groups_of) (occupied_more n true (ap not e)) ∙ map-append groups_of (occupied T n) (n ∷ [])
+  pub groups_more : (o : Option ℕ) (n : ℕ) → counts_as_free (slice_index T.control n) ≡ false → group_numbers T h o (n + 1) ≡ group_numbers T h o n ++ (groups_of o n ∷ [])
+  groups_more o n e = ap (map (groups_of o)) (occupied_more n true (ap not e)) ∙ map-append (groups_of o) (occupied T n) (n ∷ [])
 
   -- there are no more of them than slots
-  pub groups_few : (n : ℕ) → length (group_numbers T h n) ≤ n
-  groups_few n =
-      let a = length-map (occupied T n) groups_of in
+  pub groups_few : (o : Option ℕ) (n : ℕ) → length (group_numbers T h o n) ≤ n
+  groups_few o n =
+      let a = length-map (occupied T n) (groups_of o) in
       let b = length-filter is_occupied (range_with_len 0 n) in
       let c = count_by-le-length is_occupied (range_with_len 0 n) in
       let d = length-range_with_len 0 n in
@@ -70,3 +71,9 @@ count_free T n e = ap length (occupied_more T Fx n false (ap not e) ∙ append-n
 
 pub count_more : (T : SizedParts) (n : ℕ) → counts_as_free (slice_index T.control n) ≡ false → length (occupied T (n + 1)) ≡ length (occupied T n) + 1
 count_more T n e = ap length (occupied_more T Fx n true (ap not e)) ∙ length-append (occupied T n) (n ∷ [])
+
+-- the longest search for an absent key, from one home more
+pub misses_more : (T : SizedParts) (o : Option ℕ) (n : ℕ) → largest (miss_numbers T o (n + 1)) ≡ max (largest (miss_numbers T o n)) (capped o (groups_to_free T.control n))
+misses_more T o n =
+    let miss : ℕ → ℕ = λ b. capped o (groups_to_free T.control b) in
+    ap largest (ap (map miss) (slots_more n) ∙ map-append miss (range_with_len 0 n) (n ∷ [])) ∙ largest-more (miss_numbers T o n) (miss n)

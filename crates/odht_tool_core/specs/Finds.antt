@@ -7,12 +7,15 @@
 --     is_table B           B begins with a table
 --     is_false B           B begins with a header, but not with a table
 --     AreTables B p ts     the offsets ts are those of the tables in B from p on: the first of all, then those behind its end
---     false_slots B n      how many slots the headers say in all that begin before n and are not those of tables
+--     false_slots B p ts   how many slots the headers state in all that begin from p on, outside of the tables ts, and are
+--                          not those of tables
 --     fits_word T          which hash functions all control bytes of T agree with
 --     row_text at B w      the line of the table B that begins at the offset `at`, where w is what the check says of it
 --     IsSeen B l           the look l at the bytes B tells what they begin with
---     IsFindFailure B f    the failure f is that of memory; or that of forged headers, whose slots are more than B has bytes
-use Rattle.std.specs.Prelude.{◌≡◌, ⊤, ℕ, ◌+◌, ◌*◌, ◌/◌, max, ◌++◌, codes, decimal, slice_index, ◌<◌, ◌≤◌, Bool, true, false, not, ◌&&◌, ◌==◌, bytes_eq, List, [], ◌∷◌, length, take, drop, map, sum, is_none, is_some, if◌then◌else◌}
+--     IsFindFailure B f    the failure f is that of memory; or that of forged headers, which state more slots than B has
+--                          bytes
+--     IsRowFailure B f     the failure f is that of the writer; or that of opening the table B
+use Rattle.std.specs.Prelude.{◌≡◌, ⊤, ℕ, ◌+◌, ◌*◌, ◌/◌, max, ◌++◌, codes, decimal, slice_index, ◌<◌, ◌≤◌, Bool, true, false, not, ◌&&◌, ◌==◌, bytes_eq, List, [], ◌∷◌, length, take, drop, map, sum, is_none, is_some, Some, ◌-◌, if◌then◌else◌}
 use Rattle.std.specs.List.{range_with_len}
 use Rattle.odht_base.specs.Bytes.{bytes_at}
 use Rattle.odht_base.specs.Decoded.{header_count, header_slots}
@@ -20,7 +23,7 @@ use Rattle.odht_header.specs.Refusals.{factor_refusal, padding_refusal, room_ref
 use Rattle.odht_tool_core.specs.Fronts.{stated_len, front_refusal}
 use Rattle.odht_tool_core.specs.InfoNumbers.{SizedParts, sized_parts, info_refusal, occupied, agrees, found_hash}
 use Rattle.odht_tool_core.specs.declared.failure.Failure.{Failure}
-use Rattle.odht_tool_core.specs.declared.failure.Failure.TheVariants.{Memory, Forged}
+use Rattle.odht_tool_core.specs.declared.failure.Failure.TheVariants.{Memory, Forged, Output, Refused}
 use Rattle.odht_tool_core.specs.declared.shapes.Hash.TheVariants.{Fx, Unhash}
 use Rattle.odht_tool_core.specs.declared.find.Look.{Look}
 use Rattle.odht_tool_core.specs.declared.find.Look.TheVariants.{Table, False, Nothing}
@@ -67,13 +70,23 @@ AreTables B p (t ∷ ts) = (p ≤ t) × AreNone B p t × (is_table (drop t B) �
 abbrev pub false_slots_at : List ℕ → ℕ → ℕ
 false_slots_at B i = if is_false (drop i B) then header_slots (drop i B) else 0
 
-abbrev pub false_slots : List ℕ → ℕ → ℕ
-false_slots B n = sum (map (false_slots_at B) (range_with_len 0 n))
+-- of those that begin from p on and before q
+abbrev pub false_between : List ℕ → ℕ → ℕ → ℕ
+false_between B p q = sum (map (false_slots_at B) (range_with_len p (q - p)))
+
+abbrev pub false_slots : List ℕ → ℕ → List ℕ → ℕ
+false_slots B p [] = false_between B p (length B)
+false_slots B p (t ∷ ts) = false_between B p t + false_slots B (t + stated_len (drop t B)) ts
 
 abbrev pub IsFindFailure : List ℕ → Failure → Type 0
 IsFindFailure B Memory = ⊤
-IsFindFailure B Forged = length B < false_slots B (length B)
+IsFindFailure B Forged = (ts : List ℕ) → AreTables B 0 ts → length B < false_slots B 0 ts
 IsFindFailure B _ = ⊥
+
+abbrev pub IsRowFailure : List ℕ → Failure → Type 0
+IsRowFailure B (Output error) = ⊤
+IsRowFailure B (Refused error) = info_refusal B ≡ Some error
+IsRowFailure B _ = ⊥
 
 -- the line of the table B at the offset `at`, of which the check says `checked`
 abbrev pub fits_word : SizedParts → List ℕ
@@ -91,4 +104,4 @@ row_text at B checked =
 abbrev pub IsSeen : List ℕ → Look → Type 0
 IsSeen B (Table n) = (is_table B ≡ true) × (n ≡ stated_len B) × (n ≤ length B)
 IsSeen B (False n) = (is_table B ≡ false) × (is_false B ≡ true) × (n ≡ header_slots B)
-IsSeen B Nothing = is_table B ≡ false
+IsSeen B Nothing = (is_table B ≡ false) × (is_false B ≡ false)

@@ -9,13 +9,14 @@
 --     agrees T h           keys are long enough for h, and no control byte below 128 differs from the tag of its key
 --     found_hash T         the first of fx and unhash that agrees
 --     occupied T n         those of the first n slots that do not count as free, in slot order
---     group_numbers T h n  of each of these, how many groups a search for its key reads
---     found_groups T       the same of all slots, by the hash function that agrees; nothing where none does
+--     group_numbers T h o n    of each of these, how many groups a search for its key reads, by the bound o
+--     found_groups T o     the same of all slots, by the hash function that agrees; nothing where none does
+--     longest_miss T o     how many groups the longest search for an absent key reads at most, by the bound o
 --     tallies xs           how often each of the numbers 1 to 63 is in xs, and how many of xs are 64 or more
 --     largest xs           the largest of xs, or 0
 --     nearest_percent f    the percentage that the load factor f is nearest to
 --     IsHistogram xs h     h has the tallies of xs, and the largest
---     AreNumbers B n       n are the numbers of B
+--     AreNumbers B o n     n are the numbers of B, those of groups by the bound o
 --     IsInfoFailure B f    f is the error of opening, or out of memory where there is none
 use Rattle.std.specs.Prelude.{◌≡◌, ℕ, ◌+◌, ◌*◌, ◌/◌, min, max, Bool, not, ◌&&◌, nat_le, ◌==◌, List, [], ◌∷◌, length, map, filter, find, fold, count_by, slice_index, is_none, Option, Some, None}
 use Rattle.std.specs.List.{range_with_len}
@@ -26,7 +27,7 @@ use Rattle.odht_base.specs.Load.{max_items}
 use Rattle.odht_header.specs.Refusals.{first_of, first_slot, wrong_size, power_refusal, few_slots_refusal, length_refusal, control_mismatch, opening_refusal}
 use Rattle.odht_header.specs.declared.error.Error.{Error}
 use Rattle.odht_header.specs.declared.error.Part.TheVariants.{Header}
-use Rattle.odht_tool_core.specs.GroupNumbers.{groups_to}
+use Rattle.odht_tool_core.specs.GroupNumbers.{groups_to, groups_to_free, capped}
 use Rattle.odht_tool_core.specs.ReadyShapes.{hash_of}
 use Rattle.odht_tool_core.specs.declared.failure.Failure.{Failure}
 use Rattle.odht_tool_core.specs.declared.failure.Failure.TheVariants.{Refused, Memory}
@@ -81,17 +82,24 @@ found_hash T = find (agrees T) (Fx ∷ Unhash ∷ [])
 abbrev pub occupied : SizedParts → ℕ → List ℕ
 occupied T n = filter (λ i. not (counts_as_free (slice_index T.control i))) (range_with_len 0 n)
 
-abbrev pub group_numbers : SizedParts → Hash → ℕ → List ℕ
-group_numbers T h n = map (λ i. groups_to (hash_of h (slot_key (sized_format T h) T.entries i)) T.slots i) (occupied T n)
+abbrev pub group_numbers : SizedParts → Hash → Option ℕ → ℕ → List ℕ
+group_numbers T h o n =
+    map (λ i. capped o (groups_to (hash_of h (slot_key (sized_format T h) T.entries i)) T.slots i)) (occupied T n)
 
-abbrev pub found_groups : SizedParts → List ℕ
-found_groups T = option_map_or (λ h. group_numbers T h T.slots) (found_hash T) []
+abbrev pub found_groups : SizedParts → Option ℕ → List ℕ
+found_groups T o = option_map_or (λ h. group_numbers T h o T.slots) (found_hash T) []
 
 unfoldable pub tallies : List ℕ → List ℕ
 tallies xs = map (λ g. count_by (λ x. min x 64 == g) xs) (range_with_len 1 64)
 
 unfoldable pub largest : List ℕ → ℕ
 largest xs = fold max 0 xs
+
+abbrev pub miss_numbers : SizedParts → Option ℕ → ℕ → List ℕ
+miss_numbers T o n = map (λ b. capped o (groups_to_free T.control b)) (range_with_len 0 n)
+
+abbrev pub longest_miss : SizedParts → Option ℕ → ℕ
+longest_miss T o = largest (miss_numbers T o T.slots)
 
 pub record IsHistogram (xs : List ℕ) (h : Histogram) : Type 0 where
   pub counts : h.counts.items ≡ tallies xs
@@ -101,7 +109,7 @@ pub record IsHistogram (xs : List ℕ) (h : Histogram) : Type 0 where
 abbrev pub nearest_percent : ℕ → ℕ
 nearest_percent f = (f * 100 + 32767) / 65535
 
-pub record AreNumbers (B : List ℕ) (n : Numbers) : Type 0 where
+pub record AreNumbers (B : List ℕ) (o : Option ℕ) (n : Numbers) : Type 0 where
   pub opens : info_refusal B ≡ None
   pub key_size : n.key_size ≡ slice_index B 5
   pub value_size : n.value_size ≡ slice_index B 6
@@ -112,7 +120,9 @@ pub record AreNumbers (B : List ℕ) (n : Numbers) : Type 0 where
   pub load : n.load ≡ header_count B * 100 / header_slots B
   pub max_load : n.max_load ≡ nearest_percent (header_factor B)
   pub hash : n.hash ≡ found_hash (sized_parts B)
-  pub histogram : IsHistogram (found_groups (sized_parts B)) n.histogram
+  pub bound : n.bound ≡ o
+  pub histogram : IsHistogram (found_groups (sized_parts B) o) n.histogram
+  pub miss : n.longest_miss ≡ longest_miss (sized_parts B) o
 
 abbrev pub IsInfoFailure : List ℕ → Failure → Type 0
 IsInfoFailure B (Refused error) = info_refusal B ≡ Some error

@@ -9,9 +9,11 @@
 --     tally_line cs l i    the line of the count i of the counts cs, that of i + 1 groups
 --     tallies_text cs l    those of the first l counts
 --     hash_name h          the name of the hash function h
---     groups_text h cs l   the lines of the hash function h, or of none, and of the histogram
+--     groups_line l o x    the line of the label l and the number of groups x; where it is above the bound o, that it is
+--     groups_text h o cs l the lines of the hash function h, or of none, of the histogram, and of the longest search for a
+--                          present key, by the bound o
 --     info_text n          all lines
---     IsInfoDone B old new r   `info` of the bytes B, which took the writer from the bytes old to new and returned r,
+--     IsInfoDone B o old new r `info` of the bytes B by the bound o, which took the writer from the bytes old to new and returned r,
 --                          wrote the numbers of B; only opening, memory or the writer may have kept it from that
 use Rattle.std.specs.Prelude.{◌≡◌, ℕ, ◌+◌, ◌-◌, ◌*◌, ◌/◌, min, max, ◌&&◌, ◌==◌, nat_lt, List, [], ◌∷◌, ◌++◌, length, replicate, flat_map, slice_index, codes, decimal, Option, Some, None, Result, Ok, Err, if◌then◌else◌}
 use Rattle.std.specs.Io.KnownBytes.{Appends, Keeps}
@@ -66,17 +68,26 @@ abbrev pub hash_name : Hash → List ℕ
 hash_name Fx = codes "fx"
 hash_name Unhash = codes "unhash"
 
-abbrev pub groups_text : Option Hash → List ℕ → ℕ → List ℕ
-groups_text None cs l = codes "hash          neither fx nor unhash\n"
-groups_text (Some h) cs l =
+abbrev pub groups_line : List ℕ → Option ℕ → ℕ → List ℕ
+groups_line label None x = number_line label x (codes " groups")
+groups_line label (Some bound) x =
+    if nat_lt bound x then number_line (label ++ codes "more than ") bound (codes " groups")
+    else number_line label x (codes " groups")
+
+abbrev pub groups_text : Option Hash → Option ℕ → List ℕ → ℕ → List ℕ
+groups_text None o cs l = codes "hash          neither fx nor unhash\n"
+groups_text (Some h) o cs l =
     codes "hash          " ++ hash_name h ++ codes "\n  groups         items\n"
     ++ tallies_text cs l
-    ++ number_line (codes "longest       ") l (codes " groups")
+    ++ groups_line (codes "longest hit   ") o l
 
 abbrev pub info_text : Numbers → List ℕ
-info_text n = sizes_text n ++ groups_text n.hash n.histogram.counts.items n.histogram.longest
+info_text n =
+    sizes_text n
+    ++ groups_text n.hash n.bound n.histogram.counts.items n.histogram.longest
+    ++ groups_line (codes "longest miss  ") n.bound n.longest_miss
 
-abbrev pub IsInfoDone : List ℕ → Option (List ℕ) → Option (List ℕ) → Result Status Failure → Type 0
-IsInfoDone B old new (Ok status) = (status ≡ Done) × ((n : Numbers) × AreNumbers B n × Appends old new (info_text n))
-IsInfoDone B old new (Err (Output error)) = info_refusal B ≡ None
-IsInfoDone B old new (Err failure) = IsInfoFailure B failure × Keeps old new
+abbrev pub IsInfoDone : List ℕ → Option ℕ → Option (List ℕ) → Option (List ℕ) → Result Status Failure → Type 0
+IsInfoDone B o old new (Ok status) = (status ≡ Done) × ((n : Numbers) × AreNumbers B o n × Appends old new (info_text n))
+IsInfoDone B o old new (Err (Output error)) = info_refusal B ≡ None
+IsInfoDone B o old new (Err failure) = IsInfoFailure B failure × Keeps old new

@@ -3,8 +3,13 @@
 use crate::shapes::{Hash, Part};
 use crate::text::parse_number;
 use odht_base::load::Percent;
+use odht_raw::memory_layout::DEFAULT_GROUPS;
 use std::alloc::Global;
 use std::fmt;
+
+mod misuse;
+
+pub use misuse::{CommandMisuse, Misuse};
 
 /// The name of a command.
 #[derive(Clone, Copy, Debug, PartialEq, Eq)]
@@ -39,6 +44,14 @@ impl Topic {
         match self {
             Topic::Info | Topic::Check | Topic::Get | Topic::Dump => true,
             Topic::Find | Topic::Build | Topic::Put => false,
+        }
+    }
+
+    // Whether the command reads whole tables, and so within a bound of searches where none is to be made slow.
+    fn has_bound(self) -> bool {
+        match self {
+            Topic::Info | Topic::Check | Topic::Find | Topic::Put => true,
+            Topic::Get | Topic::Dump | Topic::Build => false,
         }
     }
 }
@@ -125,18 +138,32 @@ pub enum Command {
     Build(BuildOptions),
     Put {
         hash: Option<Hash>,
+        bound: Option<usize>,
         has_progress: bool,
     },
 }
 
-/// A command that reads its file alone.
+/// A command that reads its file alone. A bound is one of searches, in groups; none with `--whole`.
 #[derive(Drop)]
 pub enum Reading {
-    Info,
-    Check { hash: Option<Hash> },
-    Get { hash: Option<Hash>, keys: Keys },
-    Dump { hash: Option<Hash>, is_slots: bool },
-    Find,
+    Info {
+        bound: Option<usize>,
+    },
+    Check {
+        hash: Option<Hash>,
+        bound: Option<usize>,
+    },
+    Get {
+        hash: Option<Hash>,
+        keys: Keys,
+    },
+    Dump {
+        hash: Option<Hash>,
+        is_slots: bool,
+    },
+    Find {
+        bound: Option<usize>,
+    },
 }
 
 /// What the words ask for.
@@ -147,69 +174,6 @@ pub enum Request {
     /// A command to run on a file.
     Run { file: String, command: Command },
 }
-
-/// Why the words cannot be parsed.
-#[derive(Debug, Drop)]
-pub enum Misuse {
-    /// There is no word.
-    NoCommand,
-    /// The first word is no command.
-    UnknownCommand(String),
-    /// The words after a command cannot be parsed.
-    InCommand(Topic, CommandMisuse),
-    /// A table is to be built, and its shape is not given.
-    NoParts,
-    /// An allocation failed.
-    Memory,
-}
-
-/// Why the words after a command cannot be parsed.
-#[derive(Debug, Drop)]
-pub enum CommandMisuse {
-    /// A word begins with two hyphens and is no option of the command.
-    UnknownOption(String),
-    /// An option's value is missing.
-    NoValue(String),
-    /// An option has no such value.
-    WrongValue(String, String),
-    /// There are too few or too many words.
-    WrongCount,
-}
-
-impl CommandMisuse {
-    // Writes what is wrong with the words of this command.
-    fn write<W: fmt::Write>(&self, topic: Topic, f: &mut fmt::Formatter<W>) -> fmt::Result {
-        match self {
-            CommandMisuse::UnknownOption(word) => write!(
-                f,
-                "`odht {topic}` has no option {word:?}"
-            ),
-            CommandMisuse::NoValue(option) => write!(f, "a value is wanted behind {option}"),
-            CommandMisuse::WrongValue(option, word) => write!(f, "{option} cannot be {word:?}"),
-            CommandMisuse::WrongCount => write!(f, "too few or too many words"),
-        }
-    }
-}
-
-impl fmt::Display for Misuse {
-    fn fmt<W: fmt::Write>(&self, f: &mut fmt::Formatter<W>) -> fmt::Result {
-        match self {
-            Misuse::NoCommand => write!(f, "a command is wanted; try `odht --help`"),
-            Misuse::UnknownCommand(word) => write!(
-                f,
-                "no command is named {word:?}; there are info, check, get, dump, find, build and put"
-            ),
-            Misuse::InCommand(topic, misuse) => {
-                misuse.write(*topic, f)?;
-                write!(f, "; try `odht {topic} --help`")
-            }
-            Misuse::NoParts => write!(f, "--key and --value are wanted; try `odht build --help`"),
-            Misuse::Memory => write!(f, "a request for memory was refused"),
-        }
-    }
-}
-
-impl std::error::Error for Misuse {}
 
 /// Parses the words after the program's name.
 pub fn parse(alloc: Global, words: Vec<String>) -> Result<Request, Misuse> {
@@ -248,6 +212,7 @@ struct Draft {
     capacity: usize,
     is_help: bool,
     is_slots: bool,
+    is_whole: bool,
     has_progress: bool,
 }
 
@@ -264,6 +229,7 @@ impl Draft {
             capacity: 12,
             is_help: false,
             is_slots: false,
+            is_whole: false,
             has_progress: false,
         }
     }
@@ -309,6 +275,7 @@ impl Draft {
         match word.as_str() {
             "--help" => self.is_help = true,
             "--slots" if topic == Topic::Dump => self.is_slots = true,
+            "--whole" if topic.has_bound() => self.is_whole = true,
             "--progress" if topic == Topic::Build || topic == Topic::Put => {
                 self.has_progress = true;
             }
@@ -332,7 +299,7 @@ impl Draft {
             return Ok(Request::Help(Some(topic)));
         }
         let (mut words, hash, has_progress) = (self.words, self.hash, self.has_progress);
-        let at = self.at;
+        let (at, bound) = (self.at, bound_of(self.is_whole));
         if words.is_empty() || (words.len() > 1) != (topic == Topic::Get) {
             return Err(Misuse::InCommand(topic, CommandMisuse::WrongCount));
         }
@@ -340,11 +307,11 @@ impl Draft {
         let command = match topic {
             Topic::Info => Command::Read {
                 at,
-                reading: Reading::Info,
+                reading: Reading::Info { bound },
             },
             Topic::Check => Command::Read {
                 at,
-                reading: Reading::Check { hash },
+                reading: Reading::Check { hash, bound },
             },
             Topic::Get => Command::Read {
                 at,
@@ -362,7 +329,7 @@ impl Draft {
             },
             Topic::Find => Command::Read {
                 at,
-                reading: Reading::Find,
+                reading: Reading::Find { bound },
             },
             Topic::Build => {
                 let (Some(key), Some(value)) = (self.key, self.value) else {
@@ -377,10 +344,19 @@ impl Draft {
                     has_progress,
                 })
             }
-            Topic::Put => Command::Put { hash, has_progress },
+            Topic::Put => Command::Put {
+                hash,
+                bound,
+                has_progress,
+            },
         };
         Ok(Request::Run { file, command })
     }
+}
+
+// The bound of searches that a command has which is not to be made slow by its file: that of the library.
+fn bound_of(is_whole: bool) -> Option<usize> {
+    if is_whole { None } else { Some(DEFAULT_GROUPS) }
 }
 
 // The percentage of this text, a number from 1 to 100.

@@ -1,4 +1,8 @@
 //! Why a command stopped.
+ghost use Rattle.std.specs.Prelude.{◌≡◌};
+ghost use Rattle.odht_tool_core.specs.Endings.{failure_of};
+ghost use Rattle.odht_tool_core.specs.Texts.{advice_text};
+
 use odht_header::error::Error;
 use std::alloc::AllocError;
 use std::{fmt, io};
@@ -58,7 +62,10 @@ impl fmt::Display for Failure {
         match self {
             Failure::Read(error) => write!(f, "cannot be read: {error}"),
             Failure::Write(error) => write!(f, "cannot be written: {error}"),
-            Failure::Refused(error) => write!(f, "{error}"),
+            Failure::Refused(error) => {
+                let advice = advice_of(error);
+                write!(f, "{error}{advice}")
+            }
             Failure::NoShape {
                 key_size,
                 value_size,
@@ -104,9 +111,21 @@ impl From<AllocError> for Failure {
     }
 }
 
+/// What can be done about an error, as it follows its text: of a bound of searches, that there need be none.
+pub fn advice_of(error: &Error) -> &'static str
+    ensures { result.now ≡ advice_text error.now }
+{
+    match error {
+        Error::SearchTooLong { .. } => "; --whole checks without a bound",
+        _ => "",
+    }
+}
+
 impl Failure {
     /// The failure for an error of a table: [`Error::Memory`] is [`Failure::Memory`].
-    pub fn of_table(error: Error) -> Failure {
+    pub fn of_table(error: Error) -> Failure
+        ensures { result ≡ failure_of error }
+    {
         match error {
             Error::Memory => Failure::Memory,
             _ => Failure::Refused(error),

@@ -4,7 +4,8 @@ ghost use Rattle.std.specs.Prelude.{◌*◌, ◌/◌, is_some, length, max, slic
 ghost use Rattle.odht_base.specs.Decoded.{header_count, header_slots};
 ghost use Rattle.odht_header.specs.Refusals.{room_refusal};
 ghost use Rattle.odht_tool_core.specs.Finds.{has_fields, has_front, has_controls, IsSeen};
-ghost use Rattle.odht_tool_core.specs.Finds.{AreTables, IsFindFailure, row_text, fits_word};
+ghost use Rattle.odht_tool_core.specs.Finds.{AreTables, IsFindFailure, IsRowFailure, false_slots};
+ghost use Rattle.odht_tool_core.specs.Finds.{row_text, fits_word};
 ghost use Rattle.odht_tool_core.specs.Finds.{sizes_row, counts_row, words_row};
 ghost use Rattle.std.specs.Io.KnownBytes.{Appends};
 ghost use Rattle.odht_tool_core.specs.InfoNumbers.{occupied, sized_parts};
@@ -39,9 +40,11 @@ enum Look {
 /// Each byte is looked at once for a first byte of a header. Where a header fits, its control bytes and the keys of
 /// its occupied slots are read, up to the first misfit of these. The slots of the headers whose control bytes do not
 /// fit are counted, and where they become more than the file has bytes, which no file has whose headers do not overlap,
-/// it is `Forged`.
+/// it is `Forged`, and only there.
 pub fn find_tables(alloc: Global, bytes: &[u8]) -> Result<Vec<usize>, Failure>
     ensures ok { IfOk result (λ tables. AreTables bytes.now 0 tables.items) }
+    ensures honest { IfOk result
+        (λ tables. false_slots bytes.now 0 tables.items ≤ length bytes.now) }
     ensures err { IfErr result (IsFindFailure bytes.now) }
 {
     let mut tables = Vec::new(alloc);
@@ -88,8 +91,9 @@ pub fn write_row<O: Write>(
     checked: &str,
     output: &mut O,
 ) -> Result<(), Failure>
-    ensures { OnOk result (Appends (O.contents output.old) (O.contents output.new)
+    ensures ok { OnOk result (Appends (O.contents output.old) (O.contents output.new)
         (row_text at table.now checked.now)) }
+    ensures err { IfErr result (IsRowFailure table.now) }
 {
     let parts = StoredTable::open(table).map_err(Failure::Refused)?;
     write_columns(at, table, &parts, checked, output).map_err(Failure::Output)

@@ -42,18 +42,23 @@ Each has --help. Status 0: done; 1: refused, failed, or a key is absent;
 ";
 
 const INFO: &str = "\
-odht info FILE [--at OFFSET]
-    Tells sizes, item and slot count, load factors, the hash function that the
-    control bytes agree with, and how many items are found by looking at one
-    group of control bytes, at two, and so on. The file may have any key and
-    value sizes. Only its header and its length are checked. With --at the table
-    begins at that byte of the file; bytes after its end are not looked at.
+odht info FILE [--whole] [--at OFFSET]
+    Prints sizes, item and slot count, load factors, the hash function that the
+    control bytes agree with, how many items are found by reading one group of
+    control bytes, two, and so on, and how many groups the longest search reads
+    for a key that is there (hit) and for one that is not (miss). Above 128 groups
+    it does not count further, so that no file takes long; with --whole it does.
+    The file may have any key and value sizes. Only its header and its length are
+    checked. With --at the table begins at that byte of the file; bytes after its
+    end are not read.
 ";
 
 const CHECK: &str = "\
-odht check FILE [--hash fx|unhash] [--at OFFSET]
-    Says `valid`, or the first rule of the format that the file breaks, and then
-    ends with status 1. The shape is the first of the file's key and value sizes,
+odht check FILE [--whole] [--hash fx|unhash] [--at OFFSET]
+    Prints that the file is valid, or the first rule of the format that it breaks,
+    and then ends with status 1. A search that may read more than 128 groups of
+    control bytes breaks a rule too, so that no file takes long to check; with
+    --whole it does not. The shape is the first of the file's key and value sizes,
     and of the hash function that --hash names; `odht build --help` lists them.
 ";
 
@@ -74,12 +79,13 @@ odht dump FILE [--slots] [--hash fx|unhash] [--at OFFSET]
 ";
 
 const FIND: &str = "\
-odht find FILE
-    Tells each table that is inside a file, at whatever byte it begins: its offset,
+odht find FILE [--whole]
+    Prints each table that is inside a file, at whatever byte it begins: its offset,
     for --at, its length, the sizes of keys and values, the item count, the slot
     count, the load in percent, the hash function that the control bytes fit (fx,
-    unhash or both), and what the whole check says: valid, rejected, or - where no
-    ready shape has these sizes. Status 1 where there is none.
+    unhash or both), and what the check finds: valid, rejected, long where a search
+    may read more than 128 groups of control bytes (not so with --whole), or - where
+    no ready shape has these sizes. Status 1 where there is none.
 ";
 
 const BUILD: &str = "\
@@ -95,9 +101,10 @@ odht build FILE --key SHAPE --value SHAPE [--hash fx|unhash]
 ";
 
 const PUT: &str = "\
-odht put FILE [--hash fx|unhash] [--progress]
+odht put FILE [--whole] [--hash fx|unhash] [--progress]
     Adds the lines of standard input, KEY, a tab and VALUE, to the table in FILE,
     which grows as needed, and stores it in the place of the older one, which
-    stays where something fails. The last line of a key wins. The hash function is
-    the one that all control bytes fit, unless --hash names it.
+    stays where something fails. The last line of a key wins. The file is checked
+    before, as by `odht check`; --whole is as there. The hash function is the one
+    that all control bytes fit, unless --hash names it.
 ";

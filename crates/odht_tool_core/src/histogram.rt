@@ -1,13 +1,10 @@
 //! How many items are found by reading one group, two groups, and so on.
-ghost use Rattle.std.specs.Prelude.{◌≡◌, ◌≤◌, ◌<◌, ◌+◌, ◌%◌, ◌^◌, ℕ, List, [], ◌∷◌, ◌++◌, IfOk};
+ghost use Rattle.std.specs.Prelude.{◌≡◌, ◌≤◌, ◌<◌, ◌^◌, ℕ, List, [], ◌∷◌, ◌++◌, IfOk};
 ghost use Rattle.std.specs.Prelude.{OnOk, length};
 ghost use Rattle.std.specs.Io.KnownBytes.{Appends};
-ghost use Rattle.odht_base.specs.Load.{IsSlotCount};
-ghost use Rattle.odht_tool_core.specs.GroupNumbers.{groups_to};
 ghost use Rattle.odht_tool_core.specs.InfoNumbers.{IsHistogram, largest};
 ghost use Rattle.odht_tool_core.specs.InfoTexts.{bar, longer_mark, tally_line, tallies_text};
 
-use odht_raw::raw_table::ProbeSeq;
 use std::alloc::{AllocError, Global};
 use std::io::{self, Write};
 
@@ -117,43 +114,4 @@ fn write_bar<W: Write>(count: usize, most: usize, output: &mut W) -> io::Result<
         output.write_all(b"#")?;
     }
     Ok(())
-}
-
-/// The number of the group of a key's probe order that contains a slot, from 1 on: as many groups as a search for the
-/// key in that slot reads.
-///
-/// It goes over the groups of the probe order up to that one.
-pub fn groups_to(hash: u32, slot: usize, slot_count: usize) -> usize
-    requires slots { IsSlotCount slot_count }
-    requires within { slot < slot_count }
-    ensures groups { result ≡ groups_to hash slot_count slot }
-    ensures positive { 1 ≤ result }
-{
-    let mask = slot_count - 1;
-    let groups = slot_count / 16;
-    let mut probe = ProbeSeq::<16>::new(hash as usize, mask);
-    for group in 0..groups {
-        if steps_to(probe.index(), slot, slot_count) < 16 {
-            return group + 1;
-        }
-        if group + 1 < groups {
-            probe.advance(mask);
-        }
-    }
-    groups
-}
-
-// How many slots a slot is behind another one, around the end.
-fn steps_to(start: usize, slot: usize, slot_count: usize) -> usize
-    requires start { start < slot_count }
-    requires slot { slot < slot_count }
-    requires few { slot_count ≤ 2 ^ 63 }
-    ensures below { result < slot_count }
-    ensures slot { (start + result) % slot_count ≡ slot }
-{
-    if start <= slot {
-        slot - start
-    } else {
-        slot + slot_count - start
-    }
 }

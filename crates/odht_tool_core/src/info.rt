@@ -2,7 +2,7 @@
 ghost use Rattle.std.specs.Prelude.{◌≡◌, ◌++◌, OnOk, length};
 ghost use Rattle.std.specs.Io.KnownBytes.{Appends};
 ghost use Rattle.odht_tool_core.specs.InfoTexts.{number_line, lengths_text, sizes_text, hash_name};
-ghost use Rattle.odht_tool_core.specs.InfoTexts.{groups_text, info_text, IsInfoDone};
+ghost use Rattle.odht_tool_core.specs.InfoTexts.{groups_line, groups_text, info_text, IsInfoDone};
 
 use crate::failure::Failure;
 use crate::histogram::Histogram;
@@ -14,11 +14,16 @@ use std::alloc::Global;
 use std::io::{self, Write};
 
 /// `odht info` of the bytes of a file: writes sizes, counts, load factors, and how many groups a
-/// search reads for the items.
-pub fn info_file<O: Write>(alloc: Global, bytes: &[u8], output: &mut O) -> Result<Status, Failure>
-    ensures { IsInfoDone bytes.now (O.contents output.old) (O.contents output.new) result }
+/// search reads for the items and for absent keys, up to the bound.
+pub fn info_file<O: Write>(
+    alloc: Global,
+    bytes: &[u8],
+    bound: Option<usize>,
+    output: &mut O,
+) -> Result<Status, Failure>
+    ensures { IsInfoDone bytes.now bound (O.contents output.old) (O.contents output.new) result }
 {
-    let numbers = numbers_of(alloc, bytes)?;
+    let numbers = numbers_of(alloc, bytes, bound)?;
     match write_all(&numbers, output) {
         Ok(()) => Ok(Status::Done),
         Err(error) => Err(Failure::Output(error)),
@@ -31,9 +36,25 @@ fn write_all<O: Write>(numbers: &Numbers, output: &mut O) -> io::Result<()>
         (Appends (O.contents output.old) (O.contents output.new) (info_text numbers.now)) }
 {
     write_sizes(numbers, output)?;
+    write_hash(numbers, output)?;
+    write_longest(
+        "longest miss  ",
+        numbers.longest_miss,
+        numbers.bound,
+        output,
+    )
+}
+
+// The lines of the hash function, where there is one with the histogram.
+fn write_hash<O: Write>(numbers: &Numbers, output: &mut O) -> io::Result<()>
+    requires { length numbers.now.histogram.counts.items ≡ 64 }
+    ensures { let h = numbers.now.histogram
+        in OnOk result (Appends (O.contents output.old) (O.contents output.new)
+        (groups_text numbers.now.hash numbers.now.bound h.counts.items h.longest)) }
+{
     match numbers.hash {
         None => writeln!(output, "hash          neither fx nor unhash"),
-        Some(hash) => write_groups(hash, &numbers.histogram, output),
+        Some(hash) => write_groups(hash, &numbers.histogram, numbers.bound, output),
     }
 }
 
@@ -67,20 +88,36 @@ fn write_sizes<O: Write>(numbers: &Numbers, output: &mut O) -> io::Result<()>
 }
 
 // The lines of the hash function and of the histogram.
-fn write_groups<O: Write>(hash: Hash, histogram: &Histogram, output: &mut O) -> io::Result<()>
+fn write_groups<O: Write>(
+    hash: Hash,
+    histogram: &Histogram,
+    bound: Option<usize>,
+    output: &mut O,
+) -> io::Result<()>
     requires { length histogram.now.counts.items ≡ 64 }
     ensures { OnOk result (Appends (O.contents output.old) (O.contents output.new)
-        (groups_text (Some hash) histogram.now.counts.items histogram.now.longest)) }
+        (groups_text (Some hash) bound histogram.now.counts.items histogram.now.longest)) }
 {
     let name = name_of(hash);
     write!(output, "hash          {name}\n  groups         items\n")?;
     histogram.write(output)?;
-    write_number(
-        "longest       ",
-        histogram.longest as u128,
-        " groups",
-        output,
-    )
+    write_longest("longest hit   ", histogram.longest, bound, output)
+}
+
+// Writes a line of a label and a number of groups, or that it is above the bound.
+fn write_longest<O: Write>(
+    label: &str,
+    groups: usize,
+    bound: Option<usize>,
+    output: &mut O,
+) -> io::Result<()>
+    ensures { OnOk result (Appends (O.contents output.old) (O.contents output.new)
+        (groups_line label.now bound groups)) }
+{
+    match bound {
+        Some(bound) if bound < groups => { writeln!(output, "{label}more than {bound} groups") }
+        _ => write_number(label, groups as u128, " groups", output),
+    }
 }
 
 /// The name of a hash function.

@@ -10,6 +10,7 @@ pub mod files;
 pub mod find;
 pub mod found;
 pub mod front;
+mod groups;
 pub mod help;
 mod histogram;
 pub mod info;

@@ -33,18 +33,23 @@ pub struct Numbers {
     pub max_load: u32,
     /// The hash function that all control bytes agree with, if there is one.
     pub hash: Option<Hash>,
+    /// The bound of the numbers of groups, where there is one: larger ones are counted as one more than it.
+    pub bound: Option<usize>,
     /// How many groups a search reads, by this hash function; of no items where there is none.
     pub histogram: Histogram,
+    /// How many groups the longest search for an absent key reads at most.
+    pub longest_miss: usize,
 }
 
-/// The numbers of the bytes of a file, or the first error of their header and length.
-pub fn numbers_of(alloc: Global, bytes: &[u8]) -> Result<Numbers, Failure>
-    ensures ok { IfOk result (AreNumbers bytes.now) }
+/// The numbers of the bytes of a file, or the first error of their header and length. With a bound it takes time in
+/// proportion to the bytes and the bound.
+pub fn numbers_of(alloc: Global, bytes: &[u8], bound: Option<usize>) -> Result<Numbers, Failure>
+    ensures ok { IfOk result (AreNumbers bytes.now bound) }
     ensures err { IfErr result (IsInfoFailure bytes.now) }
 {
     let table = StoredTable::open(bytes).map_err(Failure::Refused)?;
     let hash = table.hash();
-    let histogram = histogram_of(alloc, &table, hash)?;
+    let histogram = histogram_of(alloc, &table, hash, bound)?;
     let header = Header::of(bytes);
     let (item_count, slot_count) = (header.item_count(), header.slot_count());
     let factor = header.max_load_factor();
@@ -58,7 +63,9 @@ pub fn numbers_of(alloc: Global, bytes: &[u8]) -> Result<Numbers, Failure>
         load: percent_of(item_count, slot_count),
         max_load: nearest_percent(factor),
         hash,
+        bound,
         histogram,
+        longest_miss: table.longest_miss(bound),
     })
 }
 
@@ -67,12 +74,13 @@ fn histogram_of(
     alloc: Global,
     table: &StoredTable<'_>,
     hash: Option<Hash>,
+    bound: Option<usize>,
 ) -> Result<Histogram, AllocError>
     requires { hash ≡ found_hash table.now }
-    ensures { IfOk result (IsHistogram (found_groups table.now)) }
+    ensures { IfOk result (IsHistogram (found_groups table.now bound)) }
 {
     match hash {
-        Some(hash) => table.histogram(alloc, hash),
+        Some(hash) => table.histogram(alloc, hash, bound),
         None => Histogram::new(alloc),
     }
 }

@@ -10,7 +10,7 @@ ghost use Rattle.odht_tool_core.specs.Slots.{numbers_text, slot_line, slots_text
 
 use crate::answers::write_pair;
 use crate::failure::Failure;
-use crate::histogram::groups_to;
+use crate::groups::groups_to;
 use crate::status::{Status, of_output};
 use crate::text::Text;
 use odht_base::bytes::{Borrowed, ByteArray};
@@ -76,7 +76,7 @@ where
         return Ok(());
     }
     let entry = entries.get(slot);
-    let groups = groups_to(C::H::hash(entry.key.as_slice()), slot, entries.len());
+    let groups = groups_to(C::H::hash(entry.key.as_slice()), slot, entries.len(), None);
     write_numbers(slot, tag, groups, output)?;
     let (key, value) = (C::decode_key(&entry.key), C::decode_value(&entry.value));
     write_pair(&key, &value, output)

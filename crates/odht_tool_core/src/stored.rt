@@ -9,12 +9,14 @@ ghost use Rattle.odht_header.specs.Refusals.{checked, control_mismatch, length_r
 ghost use Rattle.odht_tool_core.specs.InfoNumbers.{sized_format, format_by, sized_parts};
 ghost use Rattle.odht_tool_core.specs.InfoNumbers.{info_refusal, rest_refusal, least_key_len};
 ghost use Rattle.odht_tool_core.specs.InfoNumbers.{agrees, found_hash, group_numbers, IsHistogram, occupied};
+ghost use Rattle.odht_tool_core.specs.InfoNumbers.{longest_miss};
 ghost use Rattle.odht_tool_core.specs.Finds.{has_mirror};
 ghost use Rattle.odht_tool_core.specs.Fronts.{stated_len};
 ghost use Rattle.odht_tool_core.specs.ReadyShapes.{hash_of};
 
 use crate::early::check_first;
-use crate::histogram::{Histogram, groups_to};
+use crate::groups::{groups_to, groups_to_free};
+use crate::histogram::Histogram;
 use crate::shapes::Hash;
 use odht_base::hash::{FxHashFn, HashFn, UnHashFn};
 use odht_header::error::Error;
@@ -166,18 +168,38 @@ impl<'a> StoredTable<'a> {
         hash_key(&entry[..self.key_size], hash)
     }
 
-    /// Counts for each occupied slot how many groups a search reads to find its key, by this hash function.
-    pub fn histogram(&self, alloc: Global, hash: Hash) -> Result<Histogram, AllocError>
+    /// Counts for each occupied slot how many groups a search reads to find its key, by this hash function; numbers above
+    /// the bound as one more than the bound. At most `bound` steps a slot.
+    pub fn histogram(
+        &self,
+        alloc: Global,
+        hash: Hash,
+        bound: Option<usize>,
+    ) -> Result<Histogram, AllocError>
         requires { least_key_len hash ≤ self.now.key_len }
-        ensures { IfOk result (IsHistogram (group_numbers self.now hash self.now.slots)) }
+        ensures { IfOk result (IsHistogram (group_numbers self.now hash bound self.now.slots)) }
     {
         let mut histogram = Histogram::new(alloc)?;
         for slot in 0..self.slot_count {
             if self.is_occupied(slot) {
-                histogram.add(groups_to(self.hash_at(slot, hash), slot, self.slot_count));
+                let hash = self.hash_at(slot, hash);
+                histogram.add(groups_to(hash, slot, self.slot_count, bound));
             }
         }
         Ok(histogram)
+    }
+
+    /// How many groups the longest search for an absent key reads at most, whatever the hash function is; where that is
+    /// above the bound, one more than the bound. It reads control bytes alone, at most `bound` groups a slot.
+    pub fn longest_miss(&self, bound: Option<usize>) -> usize
+        ensures { result ≡ longest_miss self.now bound }
+    {
+        let mut longest = 0_usize;
+        for home in 0..self.slot_count {
+            let groups = groups_to_free(self.control, home, self.slot_count, bound);
+            longest = longest.max(groups);
+        }
+        longest
     }
 }
 

@@ -1,6 +1,8 @@
 //! `odht build` and `odht put`: tables from the lines of standard input.
-ghost use Rattle.std.specs.Prelude.{◌≡◌, OnOk, IfOk, length};
+ghost use Rattle.std.specs.Prelude.{◌≡◌, None, OnOk, IfErr, IfOk, length};
 ghost use Rattle.odht_base.specs.Table.{Table};
+ghost use Rattle.odht_header.specs.Refusals.{check_refusal_by};
+ghost use Rattle.odht_tool.specs.Outcomes.{IsCopyFailure};
 ghost use Rattle.odht_base.specs.Insert.{insert_owned};
 ghost use Rattle.odht_base.specs.Valid.{IsImage};
 ghost use Rattle.odht.specs.Inserts.{IsFresh};
@@ -68,18 +70,20 @@ fn make_table<C: Config>(
     HashTableOwned::with_capacity(alloc, capacity, percent.value()).map_err(Failure::of_table)
 }
 
-/// Adds the lines to the table of the file, which has these bytes.
+/// Adds the lines to the table of the file, which has these bytes. They are checked whole before, with the bound of
+/// searches where there is one.
 pub fn put<R: Files + AllocGlobal + Clock, I: BufRead, E: Write>(
     rt: &R,
     file: &str,
     bytes: Vec<u8>,
     hash: Option<Hash>,
+    bound: Option<usize>,
     has_progress: bool,
     input: &mut I,
     errors: &mut E,
 ) -> Result<Status, Failure> {
     let shape = found_shape(bytes.as_slice(), hash)?;
-    for_shape!(shape, put_file[R, I, E](rt, file, bytes, has_progress, input, errors))
+    for_shape!(shape, put_file[R, I, E](rt, file, bytes, bound, has_progress, input, errors))
 }
 
 // The bytes are freed once the table has a copy.
@@ -87,6 +91,7 @@ fn put_file<C: Config, R: Files + AllocGlobal + Clock, I: BufRead, E: Write>(
     rt: &R,
     file: &str,
     bytes: Vec<u8>,
+    bound: Option<usize>,
     has_progress: bool,
     input: &mut I,
     errors: &mut E,
@@ -95,14 +100,26 @@ where
     C::Key: Text,
     C::Value: Text,
 {
-    let table = copy_table::<C>(rt.alloc(), bytes)?;
+    let table = copy_table::<C>(rt.alloc(), bytes, bound)?;
     insert_into_file(rt, file, table, has_progress, input, errors)
 }
 
-fn copy_table<C: Config>(alloc: Global, bytes: Vec<u8>) -> Result<HashTableOwned<C>, Failure>
-    ensures { IfOk result (λ table. table ≡ bytes.items) }
+fn copy_table<C: Config>(
+    alloc: Global,
+    bytes: Vec<u8>,
+    bound: Option<usize>,
+) -> Result<HashTableOwned<C>, Failure>
+    ensures ok { IfOk result (λ table. table ≡ bytes.items) }
+    ensures valid { IfOk result (λ _. let F = ⟦<C as Coded>⟧.coding.format
+        in check_refusal_by F bound bytes.items ≡ None) }
+    ensures err { IfErr result (IsCopyFailure ⟦<C as Coded>⟧.coding.format bound bytes.items) }
 {
-    HashTableOwned::from_raw_bytes(alloc, bytes.as_slice()).map_err(Failure::of_table)
+    let bytes = bytes.as_slice();
+    match bound {
+        Some(groups) => HashTableOwned::from_raw_bytes_within(alloc, bytes, groups),
+        None => HashTableOwned::from_raw_bytes(alloc, bytes),
+    }
+    .map_err(Failure::of_table)
 }
 
 // Adds the lines to the table, and stores it as the file.

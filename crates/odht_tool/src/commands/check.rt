@@ -1,7 +1,7 @@
 //! `odht check`: whether a file is a valid table.
 ghost use Rattle.std.specs.Prelude.{◌≡◌, OnOk};
 ghost use Rattle.std.specs.Io.KnownBytes.{Appends};
-ghost use Rattle.odht_header.specs.Refusals.{checked, check_refusal};
+ghost use Rattle.odht_header.specs.Refusals.{checked, check_refusal_by};
 ghost use Rattle.odht_tool.specs.Outcomes.{check_outcome, hint_of, hint_text};
 ghost use Rattle.odht_tool_core.specs.Endings.{IsDone};
 ghost use Rattle.odht_tool_core.specs.ReadyShapes.{shape_format};
@@ -10,50 +10,66 @@ ghost use Rattle.odht_tool_core.specs.Texts.{checked_text};
 use crate::shapes::for_shape;
 use odht::config::{Coded, Config};
 use odht::error::Error;
-use odht::memory_layout::check_all;
-use odht_tool_core::failure::Failure;
+use odht::memory_layout::{check_all, check_all_within};
+use odht_tool_core::failure::{Failure, advice_of};
 use odht_tool_core::found::hinted_hash;
 use odht_tool_core::info::name_of;
 use odht_tool_core::shapes::{Hash, Shape, shape_of};
 use odht_tool_core::status::Status;
 use std::io::{self, Write};
 
-/// `odht check` of the bytes of a file: writes `valid`, or the first rule that they break.
+/// `odht check` of the bytes of a file: writes that they are valid, and with a bound that no search reads more groups;
+/// or the first rule that they break. With a bound it takes time in proportion to the bytes and the bound.
 pub fn check_file<O: Write>(
     bytes: &[u8],
     hash: Option<Hash>,
+    bound: Option<usize>,
     output: &mut O,
 ) -> Result<Status, Failure>
-    ensures { IsDone (check_outcome bytes.now hash)
+    ensures { IsDone (check_outcome bytes.now hash bound)
         (O.contents output.old) (O.contents output.new) result }
 {
     let shape = shape_of(bytes, hash)?;
-    let checked = check_shape(shape, bytes);
-    write_checked(&checked, output).map_err(Failure::Output)?;
+    let checked = check_shape(shape, bytes, bound);
+    write_checked(&checked, bound, output).map_err(Failure::Output)?;
     Ok(Status::of(checked.is_ok()))
 }
 
-/// The first rule that the bytes break, as a table of this shape.
-pub fn check_shape(shape: Shape, bytes: &[u8]) -> Result<(), Error>
-    ensures { result ≡ checked (check_refusal (shape_format shape) bytes.now) }
+/// The first rule that the bytes break, as a table of this shape, the bound of searches among them where there is one.
+pub fn check_shape(shape: Shape, bytes: &[u8], bound: Option<usize>) -> Result<(), Error>
+    ensures { result ≡ checked (check_refusal_by (shape_format shape) bound bytes.now) }
 {
-    for_shape!(shape, check_bytes[](bytes))
+    for_shape!(shape, check_bytes[](bytes, bound))
 }
 
-fn check_bytes<C: Config>(bytes: &[u8]) -> Result<(), Error>
-    ensures { result ≡ checked (check_refusal ⟦<C as Coded>⟧.coding.format bytes.now) }
+fn check_bytes<C: Config>(bytes: &[u8], bound: Option<usize>) -> Result<(), Error>
+    ensures { let F = ⟦<C as Coded>⟧.coding.format
+        in result ≡ checked (check_refusal_by F bound bytes.now) }
 {
-    check_all::<C>(bytes)
+    match bound {
+        Some(groups) => check_all_within::<C>(bytes, groups),
+        None => check_all::<C>(bytes),
+    }
 }
 
-// Writes a line with `valid`, or with the error.
-fn write_checked<O: Write>(checked: &Result<(), Error>, output: &mut O) -> io::Result<()>
+// Writes a line with what the check found.
+fn write_checked<O: Write>(
+    checked: &Result<(), Error>,
+    bound: Option<usize>,
+    output: &mut O,
+) -> io::Result<()>
     ensures { OnOk result
-        (Appends (O.contents output.old) (O.contents output.new) (checked_text checked.now)) }
+        (Appends (O.contents output.old) (O.contents output.new) (checked_text bound checked.now)) }
 {
-    match checked {
-        Ok(()) => writeln!(output, "valid"),
-        Err(refused) => writeln!(output, "{refused}"),
+    match (checked, bound) {
+        (Ok(()), None) => writeln!(output, "valid"),
+        (Ok(()), Some(bound)) => {
+            writeln!(output, "valid, and no search reads more than {bound} groups")
+        }
+        (Err(refused), _) => {
+            let advice = advice_of(refused);
+            writeln!(output, "{refused}{advice}")
+        }
     }
 }
 

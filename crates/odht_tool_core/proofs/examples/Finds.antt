@@ -3,7 +3,7 @@ use Rattle.std.proofs.Common.{◌≡◌, true, false, refl, [], ◌∷◌, ◌++
 use Rattle.odht_base.specs.Bytes.{overwritten_at}
 use Rattle.odht_header.specs.declared.error.Error.TheVariants.{TooShort, WrongLength}
 use Rattle.odht_header.proofs.examples.Opened.{opened}
-use Rattle.odht_tool_core.specs.Finds.{is_table, is_false, row_text}
+use Rattle.odht_tool_core.specs.Finds.{is_table, is_false, false_slots, row_text}
 use Rattle.odht_tool_core.specs.Fronts.{stated_len, front_refusal, table_front, offset_failure}
 use Rattle.odht_tool_core.specs.declared.failure.Failure.TheVariants.{PastEnd}
 use Rattle.odht_tool_core.proofs.examples.Shapes.{one_bytes}
@@ -31,3 +31,8 @@ pub tables : (is_table (one_bytes ++ (7 ∷ [])) ≡ true)
     × (is_false (overwritten_at one_bytes 30 (1 ∷ [])) ≡ false)
 unfolding opened is_table is_false
 tables = (refl, refl, refl, refl, refl, refl)
+
+-- the false header at the second byte states 16 slots; those inside of a table do not count
+pub false_headers : (false_slots (7 ∷ overwritten_at one_bytes 8 (0 ∷ [])) 0 [] ≡ 16) × (false_slots one_bytes 0 (0 ∷ []) ≡ 0)
+unfolding opened is_false
+false_headers = (refl, refl)

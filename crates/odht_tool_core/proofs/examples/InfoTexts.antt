@@ -6,7 +6,7 @@ use Rattle.odht_header.specs.declared.error.Error.TheVariants.{TooShort}
 use Rattle.odht_header.proofs.examples.Apart.{unequal_lists}
 use Rattle.odht_header.proofs.examples.Opened.{opened}
 use Rattle.odht_tool_core.specs.InfoNumbers.{tallies, largest, IsHistogram}
-use Rattle.odht_tool_core.specs.InfoTexts.{number_line, aligned, bar, longer_mark, tallies_text, groups_text, info_text, IsInfoDone}
+use Rattle.odht_tool_core.specs.InfoTexts.{number_line, aligned, bar, longer_mark, tallies_text, groups_line, groups_text, info_text, IsInfoDone}
 use Rattle.odht_tool_core.specs.declared.failure.Failure.TheVariants.{Refused, Memory}
 use Rattle.odht_tool_core.specs.declared.histogram.Histogram.{Histogram}
 use Rattle.odht_tool_core.specs.declared.shapes.Hash.TheVariants.{Fx, Unhash}
@@ -38,10 +38,17 @@ unfolding tallies largest digits aligned bar
 histogram = refl
 
 -- no hash function, and one with no item
-pub hashes : (groups_text None (tallies []) 0 ≡ codes "hash          neither fx nor unhash\n")
-    × (groups_text (Some Fx) (tallies []) 0 ≡ codes "hash          fx\n  groups         items\nlongest       0 groups\n")
+pub hashes : (groups_text None None (tallies []) 0 ≡ codes "hash          neither fx nor unhash\n")
+    × (groups_text (Some Fx) None (tallies []) 0 ≡ codes "hash          fx\n  groups         items\nlongest hit   0 groups\n")
 unfolding digits
 hashes = (refl, refl)
+
+-- what is above the bound is told as that
+pub bounds : (groups_line (codes "longest miss  ") (Some 128) 128 ≡ codes "longest miss  128 groups\n")
+    × (groups_line (codes "longest miss  ") (Some 128) 129 ≡ codes "longest miss  more than 128 groups\n")
+    × (groups_line (codes "longest miss  ") None 129 ≡ codes "longest miss  129 groups\n")
+unfolding digits
+bounds = (refl, refl, refl)
 
 -- all lines of a table
 pub whole : (h : Histogram) → IsHistogram (1 ∷ []) h → info_text (record {
@@ -54,32 +61,34 @@ pub whole : (h : Histogram) → IsHistogram (1 ∷ []) h → info_text (record {
   load = 6;
   max_load = 7;
   hash = Some Unhash;
+  bound = Some 128;
   histogram = h;
-}) ≡ codes "key bytes     4\nvalue bytes   4\nheader bytes  32\nall bytes     192\nitems         1\nslots         16\nmaximum       1\nload          6 percent\nmaximum load  7 percent\nhash          unhash\n  groups         items\n       1             1  ########################################\nlongest       1 groups\n"
+  longest_miss = 1;
+}) ≡ codes "key bytes     4\nvalue bytes   4\nheader bytes  32\nall bytes     192\nitems         1\nslots         16\nmaximum       1\nload          6 percent\nmaximum load  7 percent\nhash          unhash\n  groups         items\n       1             1  ########################################\nlongest hit   1 groups\nlongest miss  1 groups\n"
 unfolding tallies largest digits aligned bar
-whole h is = ap₂ (λ cs l. codes "key bytes     4\nvalue bytes   4\nheader bytes  32\nall bytes     192\nitems         1\nslots         16\nmaximum       1\nload          6 percent\nmaximum load  7 percent\n" ++ groups_text (Some Unhash) cs l) is.counts is.longest
+whole h is = ap₂ (λ cs l. codes "key bytes     4\nvalue bytes   4\nheader bytes  32\nall bytes     192\nitems         1\nslots         16\nmaximum       1\nload          6 percent\nmaximum load  7 percent\n" ++ groups_text (Some Unhash) (Some 128) cs l ++ codes "longest miss  1 groups\n") is.counts is.longest
 
 -- ---- what a call did
 -- bytes that do not open: their error, and nothing is written
-pub refused : IsInfoDone (79 ∷ 68 ∷ []) (Some (codes "a")) (Some (codes "a")) (Err (Refused (TooShort 2)))
+pub refused : IsInfoDone (79 ∷ 68 ∷ []) None (Some (codes "a")) (Some (codes "a")) (Err (Refused (TooShort 2)))
 unfolding opened
 refused = (refl, refl)
 
-pub refused_late : IsInfoDone (79 ∷ 68 ∷ []) (Some (codes "a")) (Some (codes "ab")) (Err (Refused (TooShort 2))) → ⊥
+pub refused_late : IsInfoDone (79 ∷ 68 ∷ []) None (Some (codes "a")) (Some (codes "ab")) (Err (Refused (TooShort 2))) → ⊥
 refused_late h = unequal_lists (codes "ab") (codes "a") refl h.1
 
-pub not_refused : IsInfoDone (79 ∷ 68 ∷ []) (Some (codes "a")) (Some (codes "ab")) (Ok Done) → ⊥
+pub not_refused : IsInfoDone (79 ∷ 68 ∷ []) None (Some (codes "a")) (Some (codes "ab")) (Ok Done) → ⊥
 unfolding opened
 not_refused h = cc (h.1.1.opens)
 
 -- out of memory: nothing is written
-pub no_memory : IsInfoDone one_bytes (Some (codes "a")) (Some (codes "a")) (Err Memory)
+pub no_memory : IsInfoDone one_bytes None (Some (codes "a")) (Some (codes "a")) (Err Memory)
 unfolding opened
 no_memory = (refl, refl)
 
 -- a text is written, and the status is `Done`
-pub silent : IsInfoDone one_bytes (Some []) (Some []) (Ok Done) → ⊥
+pub silent : IsInfoDone one_bytes None (Some []) (Some []) (Ok Done) → ⊥
 silent h = cc (h.1.2)
 
-pub other_status : IsInfoDone one_bytes None None (Ok NotDone) → ⊥
+pub other_status : IsInfoDone one_bytes None None None (Ok NotDone) → ⊥
 other_status h = cc

@@ -10,8 +10,8 @@ use Rattle.odht_base.specs.Table.{empty}
 use Rattle.odht_header.specs.declared.error.Error.TheVariants.{TooShort, WrongSizeOf, SlotCountTooSmall, WrongLength}
 use Rattle.odht_header.specs.declared.error.Part.TheVariants.{Header}
 use Rattle.odht_header.proofs.examples.Opened.{opened}
-use Rattle.odht_tool_core.specs.GroupNumbers.{groups_to}
-use Rattle.odht_tool_core.specs.InfoNumbers.{SizedParts, sized_parts, info_refusal, rest_refusal, agrees, found_hash, occupied, group_numbers, found_groups, tallies, largest, nearest_percent, IsHistogram, AreNumbers, IsInfoFailure}
+use Rattle.odht_tool_core.specs.GroupNumbers.{groups_to, groups_to_free}
+use Rattle.odht_tool_core.specs.InfoNumbers.{SizedParts, sized_parts, info_refusal, rest_refusal, agrees, found_hash, occupied, group_numbers, found_groups, longest_miss, tallies, largest, nearest_percent, IsHistogram, AreNumbers, IsInfoFailure}
 use Rattle.odht_tool_core.specs.declared.failure.Failure.TheVariants.{Refused, Memory, NoShape}
 use Rattle.odht_tool_core.specs.declared.histogram.Histogram.{Histogram}
 use Rattle.odht_tool_core.specs.declared.numbers.Numbers.{Numbers}
@@ -60,9 +60,16 @@ pub slots : (occupied one_parts 16 ≡ 5 ∷ []) × (occupied one_parts 5 ≡ []
 unfolding opened
 slots = (refl, refl, refl)
 
-pub groups : (group_numbers one_parts Unhash 16 ≡ 1 ∷ []) × (found_groups one_parts ≡ 1 ∷ []) × (found_groups (record one_parts { control = set one_parts.control 5 1 }) ≡ [])
+pub groups : (group_numbers one_parts Unhash None 16 ≡ 1 ∷ [])
+    × (found_groups one_parts (Some 128) ≡ 1 ∷ [])
+    × (found_groups (record one_parts { control = set one_parts.control 5 1 }) None ≡ [])
 unfolding opened groups_to
 groups = (refl, refl, refl)
+
+-- the one group has a free byte for each home; with no free byte a search reads all groups, of which there is one
+pub misses : (longest_miss one_parts (Some 128) ≡ 1) × (longest_miss (record one_parts { control = replicate 32 0 }) None ≡ 1)
+unfolding opened largest groups_to_free
+misses = (refl, refl)
 
 -- two keys by one group, none by two, one by three, and two by 64 or more
 pub counts : (tallies (1 ∷ 3 ∷ 80 ∷ 1 ∷ 64 ∷ []) ≡ set (set (set (replicate 64 0) 0 2) 2 1) 63 2)
@@ -79,7 +86,7 @@ percentages = (refl, refl, refl)
 
 -- ---- all numbers
 -- those of the table: 192 bytes, one item in sixteen slots, at most one of them occupied
-pub of_table : (h : Histogram) → IsHistogram (1 ∷ []) h → AreNumbers one_bytes (record {
+pub of_table : (h : Histogram) → IsHistogram (1 ∷ []) h → AreNumbers one_bytes (Some 128) (record {
   key_size = 4;
   value_size = 4;
   len = 192;
@@ -89,9 +96,11 @@ pub of_table : (h : Histogram) → IsHistogram (1 ∷ []) h → AreNumbers one_b
   load = 6;
   max_load = 7;
   hash = Some Unhash;
+  bound = Some 128;
   histogram = h;
+  longest_miss = 1;
 })
-unfolding opened groups_to
+unfolding opened largest groups_to groups_to_free
 of_table h is = record {
   opens = refl;
   key_size = refl;
@@ -103,17 +112,19 @@ of_table h is = record {
   load = refl;
   max_load = refl;
   hash = refl;
+  bound = refl;
   histogram = is;
+  miss = refl;
 }
 
 -- and no others
-pub of_table_alone : (n : Numbers) → AreNumbers one_bytes n → (n.key_size ≡ 4) × (n.value_size ≡ 4) × (n.len ≡ 192) × (n.item_count ≡ 1) × (n.slot_count ≡ 16)
-    × (n.max_item_count ≡ 1) × (n.load ≡ 6) × (n.max_load ≡ 7) × (n.hash ≡ Some Unhash) × IsHistogram (1 ∷ []) n.histogram
-unfolding opened groups_to
-of_table_alone n is = (is.key_size, is.value_size, is.len, is.items, is.slots, is.maximum, is.load, is.max_load, is.hash, is.histogram)
+pub of_table_alone : (n : Numbers) → AreNumbers one_bytes (Some 128) n → (n.key_size ≡ 4) × (n.value_size ≡ 4) × (n.len ≡ 192) × (n.item_count ≡ 1) × (n.slot_count ≡ 16)
+    × (n.max_item_count ≡ 1) × (n.load ≡ 6) × (n.max_load ≡ 7) × (n.hash ≡ Some Unhash) × IsHistogram (1 ∷ []) n.histogram × (n.longest_miss ≡ 1)
+unfolding opened largest groups_to groups_to_free
+of_table_alone n is = (is.key_size, is.value_size, is.len, is.items, is.slots, is.maximum, is.load, is.max_load, is.hash, is.histogram, is.miss)
 
 -- bytes that do not open have none
-pub of_two_bytes : (n : Numbers) → AreNumbers (79 ∷ 68 ∷ []) n → ⊥
+pub of_two_bytes : (n : Numbers) → AreNumbers (79 ∷ 68 ∷ []) None n → ⊥
 unfolding opened
 of_two_bytes n is = cc (is.opens)
 

@@ -4,4 +4,4 @@ use Rattle.odht_tool_core.proofs.Tallies.{length-tallies}
 use Rattle.odht_tool_core.proofs.info.info_file.Goals as goal
 
 pub write_all-requires : goal.write_all-requires
-write_all-requires g c = ap length c.in_ok-numbers.ensures.ok.histogram.counts ∙ length-tallies (found_groups (sized_parts c.args.bytes.now))
+write_all-requires g c = ap length c.in_ok-numbers.ensures.ok.histogram.counts ∙ length-tallies (found_groups (sized_parts c.args.bytes.now) c.args.bound)

@@ -1,9 +1,11 @@
-use Rattle.std.proofs.Common.{◌≡◌, ◌∙◌, ◌+◌, ◌-◌, ◌*◌, ◌/◌, ◌%◌, ◌<◌, ◌≤◌, sym, ap, arith}
+use Rattle.std.proofs.Common.{◌≡◌, ◌∙◌, ◌+◌, ◌-◌, ◌*◌, ◌/◌, ◌%◌, ◌<◌, ◌≤◌, inl, min, sym, ap, arith}
 use Rattle.odht_base.specs.Probe.{probe_slot}
-use Rattle.odht_base.proofs.lemmas.SlotCounts.{few_slots, sixteens}
-use Rattle.odht_tool_core.proofs.GroupPlaces.{groups_at, in_group, not_before_next, not_before_all}
-use Rattle.odht_tool_core.proofs.histogram.groups_to.Goals.{After-steps_to, then-group-groups, else-group-groups}
-use Rattle.odht_tool_core.proofs.histogram.groups_to.Goals as goal
+use Rattle.odht_base.proofs.lemmas.SlotCounts.{few_slots}
+use Rattle.odht_tool_core.specs.GroupNumbers.{capped, groups_to, most_groups}
+use Rattle.odht_tool_core.proofs.GroupBounds.{capped_within, capped_past, groups_past, most_within}
+use Rattle.odht_tool_core.proofs.GroupPlaces.{groups_at, in_group, not_before_next}
+use Rattle.odht_tool_core.proofs.groups.groups_to.Goals.{After-steps_to, then-group-groups, else-group-groups}
+use Rattle.odht_tool_core.proofs.groups.groups_to.Goals as goal
 
 pub steps_to-requires-clause-few : goal.steps_to-requires-clause-few
 steps_to-requires-clause-few c = few_slots c.args.slot_count c.requires.slots
@@ -15,10 +17,11 @@ at_group c =
     let h = c.args.hash % s in
     let v = c.loop-group.invariant in
     let pos : s - 1 + 1 ≡ s = (let l = c.requires.within in omega arith) in
+    let seen : c.loop-group.group < s / 16 = omega (arith, c.loop-group-test.true, c.most_groups-most.ensures, most_within c.args.bound (s / 16)) in
     let start : c.index.result ≡ probe_slot h s (16 * c.loop-group.group) =
     c.index.ensures.slot ∙ ap (λ b. probe_slot b (c.loop-group.probe.mask + 1) c.loop-group.probe.position) v.home
     ∙ ap (λ m. probe_slot h (m + 1) c.loop-group.probe.position) v.mask ∙ ap (λ n. probe_slot h n c.loop-group.probe.position) pos
-    ∙ ap (probe_slot h s) (v.position c.loop-group-test.true) in
+    ∙ ap (probe_slot h s) (v.position seen) in
     ap (λ x. (x + c.steps_to.result) % s) (sym start) ∙ c.steps_to.ensures.slot
 
 pub returns-then-steps_to-lt16-clause-groups : goal.returns-then-steps_to-lt16-clause-groups
@@ -28,14 +31,18 @@ returns-then-steps_to-lt16-clause-groups c =
     let group = c.loop-group.group in
     let n = c.steps_to.result in
     let few : n < 16 = c.if-steps_to-lt16.true in
-    let low : 16 * group + n < s = omega (arith, c.loop-group-test.true, few) in
+    let o = c.args.bound in
+    let seen : group < most_groups o (s / 16) = omega (arith, c.loop-group-test.true, c.most_groups-most.ensures) in
+    let low : 16 * group + n < s = omega (arith, seen, most_within o (s / 16), few) in
     let whole : (16 * group + n) / 16 + 1 ≡ group + 1 = omega (arith, few) in
-    sym (groups_at h s c.args.slot (16 * group + n) c.requires.slots low (in_group (h % s) s group n c.args.slot few (at_group (goal.at.returns-then-steps_to-lt16-clause-groups c).After-steps_to)) ∙ whole)
+    let is : groups_to h s c.args.slot ≡ group + 1 =
+    groups_at h s c.args.slot (16 * group + n) c.requires.slots low (in_group (h % s) s group n c.args.slot few (at_group (goal.at.returns-then-steps_to-lt16-clause-groups c).After-steps_to)) ∙ whole in
+    sym (ap (capped o) is ∙ capped_within o (s / 16) (group + 1) (omega (arith, seen)))
 
 pub loop-group-preserved : goal.loop-group-preserved
 loop-group-preserved c =
     let v = c.loop-group.invariant in
-    let at = v.position c.loop-group-test.true in
+    let at = v.position (omega (arith, c.loop-group-test.true, c.most_groups-most.ensures, most_within c.args.bound (c.args.slot_count / 16))) in
     record {
       home = elim c.if-group-groups.branch [
         | then-group-groups w ↦ ap (λ q. q.home) (w.probe-is ∙ w.advance.ensures) ∙ v.home
@@ -56,6 +63,7 @@ loop-group-preserved c =
 pub returns-clause-groups : goal.returns-clause-groups
 returns-clause-groups c =
     let s = c.args.slot_count in
-    let m = sixteens s c.requires.slots in
-    let all : s ≤ 16 * c.loop-group.group = omega (arith, m.2, c.loop-group-test.false) in
-    absurd (not_before_all c.args.hash s c.args.slot c.loop-group.group c.requires.slots c.requires.within all c.loop-group.invariant.before)
+    let x = groups_to c.args.hash s c.args.slot in
+    let past = groups_past c.args.hash s c.args.slot c.loop-group.group c.requires.slots c.requires.within c.loop-group.invariant.before in
+    let more : most_groups c.args.bound (s / 16) < x = omega (arith, past.0, c.loop-group-test.false, c.most_groups-most.ensures) in
+    c.min.ensures ∙ ap (λ m. min (s / 16) (m + 1)) c.most_groups-most.ensures ∙ capped_past c.args.bound (s / 16) x past.1 (inl more)

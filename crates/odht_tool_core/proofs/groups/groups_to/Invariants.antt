@@ -1,6 +1,6 @@
 use Rattle.std.proofs.Common.{◌≡◌, ◌<◌, ◌*◌, ◌%◌}
 use Rattle.odht_tool_core.proofs.GroupPlaces.{IsNotBefore}
-use Rattle.odht_tool_core.proofs.histogram.groups_to.Given as goal
+use Rattle.odht_tool_core.proofs.groups.groups_to.Given as goal
 
 -- the probe is at the first slot of the group, and no group before has the slot
 abbrev pub invariant-loop-group : goal.invariant-loop-group

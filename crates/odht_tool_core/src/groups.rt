@@ -1,0 +1,94 @@
+//! How many groups of control bytes a search reads, up to a bound.
+ghost use Rattle.std.specs.Prelude.{◌≡◌, ◌≤◌, ◌<◌, ◌+◌, ◌%◌, ◌^◌, is_some, length};
+ghost use Rattle.odht_base.specs.Bytes.{bytes_at};
+ghost use Rattle.odht_base.specs.Groups.{first_free};
+ghost use Rattle.odht_base.specs.Load.{IsSlotCount};
+ghost use Rattle.odht_tool_core.specs.GroupNumbers.{capped, groups_to, groups_to_free, most_groups};
+
+use odht_base::swisstable_group_query::lanes::GroupQuery;
+use odht_base::swisstable_group_query::{Group, REFERENCE_GROUP_SIZE};
+use odht_raw::raw_table::ProbeSeq;
+
+/// The number of the group of a key's probe order that contains a slot, from 1 on: as many groups as a search for the
+/// key in that slot reads. Where that is above the bound, one more than the bound.
+///
+/// It goes over the groups of the probe order up to that one, or to the bound.
+pub fn groups_to(hash: u32, slot: usize, slot_count: usize, bound: Option<usize>) -> usize
+    requires slots { IsSlotCount slot_count }
+    requires within { slot < slot_count }
+    ensures groups { result ≡ capped bound (groups_to hash slot_count slot) }
+    ensures positive { 1 ≤ result }
+{
+    let mask = slot_count - 1;
+    let groups = slot_count / 16;
+    let most = most_groups(groups, bound);
+    let mut probe = ProbeSeq::<16>::new(hash as usize, mask);
+    for group in 0..most {
+        if steps_to(probe.index(), slot, slot_count) < 16 {
+            return group + 1;
+        }
+        if group + 1 < groups {
+            probe.advance(mask);
+        }
+    }
+    groups.min(most + 1)
+}
+
+/// How many groups a search from this home reads at most, for any key: up to the first with a control byte that counts
+/// as free, or all. Where that is above the bound, one more than the bound. The control bytes end with their mirror.
+///
+/// It reads these groups, up to the bound.
+pub fn groups_to_free(control: &[u8], home: usize, slot_count: usize, bound: Option<usize>) -> usize
+    requires slots { IsSlotCount slot_count }
+    requires mirrored { length control.now ≡ slot_count + 16 }
+    requires home { home < slot_count }
+    ensures { result ≡ capped bound (groups_to_free control.now home) }
+{
+    let mask = slot_count - 1;
+    let groups = slot_count / 16;
+    let most = most_groups(groups, bound);
+    let mut probe = ProbeSeq::<16>::new(home, mask);
+    for group in 0..most {
+        if has_free(control, probe.index()) {
+            return group + 1;
+        }
+        if group + 1 < groups {
+            probe.advance(mask);
+        }
+    }
+    groups.min(most + 1)
+}
+
+// How many of so many groups are looked at, by the bound.
+fn most_groups(groups: usize, bound: Option<usize>) -> usize
+    ensures { result ≡ most_groups bound groups }
+{
+    match bound {
+        None => groups,
+        Some(bound) => bound.min(groups),
+    }
+}
+
+// Whether one of the sixteen control bytes from `start` on counts as free.
+fn has_free(control: &[u8], start: usize) -> bool
+    requires { start + 16 ≤ length control.now }
+    ensures { result ≡ is_some (first_free (bytes_at control.now start 16)) }
+{
+    let group = &control[start..start + REFERENCE_GROUP_SIZE];
+    GroupQuery::of(group, 0).first_empty().is_some()
+}
+
+// How many slots a slot is behind another one, around the end.
+fn steps_to(start: usize, slot: usize, slot_count: usize) -> usize
+    requires start { start < slot_count }
+    requires slot { slot < slot_count }
+    requires few { slot_count ≤ 2 ^ 63 }
+    ensures below { result < slot_count }
+    ensures slot { (start + result) % slot_count ≡ slot }
+{
+    if start <= slot {
+        slot - start
+    } else {
+        slot + slot_count - start
+    }
+}
