@@ -6,5 +6,7 @@ pub mod AnswerLists
 pub mod LinesTaken
 -- what a command does, from the shape of the bytes on
 pub mod Shaped
+-- how `find` ends
+pub mod FindEnds
 -- worked examples of the definitions
 pub mod examples

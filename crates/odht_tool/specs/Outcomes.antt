@@ -6,13 +6,13 @@
 --     hint_text file h         the line of that
 --     check_word o B r         what `find` says of the check, by the bound o, of the table B, which is of the shape r, if
 --                              there is one
---     IsCopyFailure F o B f    f is the first error of the check, by the bound o, of the bytes B of the format F; or out of
---                              memory where there is none
+--     copy_failure F o B       the first error of the check, by the bound o, of the bytes B of the format F; where there is
+--                              none, out of memory
 --     pairs_outcome c f g B    of `dump` for bytes of the coding c: the pairs that the slots hold, in slot order, where f
 --                              and g are the texts of keys and of values
 --     dump_outcome B h is_slots    of `dump`, with `--slots` or without
-use Rattle.std.specs.Prelude.{◌≡◌, ℕ, Bool, List, ◌++◌, codes, Option, Some, None, Result, Ok, Err, is_ok, is_none, if◌then◌else◌}
-use Rattle.std.specs.Option.{option_and_then}
+use Rattle.std.specs.Prelude.{ℕ, Bool, List, ◌++◌, codes, Option, Some, None, Result, Ok, Err, is_ok, is_none, if◌then◌else◌}
+use Rattle.std.specs.Option.{option_and_then, option_map_or}
 use Rattle.std.specs.Result.{result_ok}
 use Rattle.odht_base.specs.Decoded.{decoded_pairs}
 use Rattle.odht_base.specs.Format.{Format}
@@ -66,10 +66,8 @@ check_word o B (Ok s) = refusal_word (check_refusal_by (shape_format s) o B)
 check_word o B (Err failure) = codes "-"
 
 -- ---- put
-abbrev pub IsCopyFailure : Format → Option ℕ → List ℕ → Failure → Type 0
-IsCopyFailure F o B (Refused error) = check_refusal_by F o B ≡ Some error
-IsCopyFailure F o B Memory = check_refusal_by F o B ≡ None
-IsCopyFailure F o B _ = ⊥
+abbrev pub copy_failure : Format → Option ℕ → List ℕ → Failure
+copy_failure F o B = option_map_or Refused (check_refusal_by F o B) Memory
 
 -- ---- dump
 abbrev pub pairs_outcome : {K V : Type 0} → Coding K V → (K → List ℕ) → (V → List ℕ) → List ℕ → Outcome

@@ -1,8 +1,7 @@
 -- The search for tables inside some bytes.
-use Rattle.std.proofs.Common.{◌≡◌, ◌∙◌, ◌⊎◌, inl, inr, ℕ, zero, suc, ◌+◌, ◌-◌, ◌<◌, ◌≤◌, Bool, true, false, true≢false, not, ◌&&◌, is_none, List, [], ◌∷◌, ◌++◌, Option, Some, None, length, length-drop, take, drop, map, sum, get_or, append_assoc, append-nil, sym, ap, ap₂, subst, refl, arith, if◌then◌else◌}
+use Rattle.std.proofs.Common.{◌≡◌, ◌∙◌, inl, inr, ℕ, zero, suc, ◌+◌, ◌-◌, ◌<◌, ◌≤◌, true, false, true≢false, not, ◌&&◌, is_none, List, [], ◌∷◌, ◌++◌, Option, Some, None, length, length-drop, take, drop, map, sum, get_or, append_assoc, append-nil, sym, ap, ap₂, subst, refl, arith, if◌then◌else◌}
 use Rattle.std.specs.List.{range_with_len}
-use Rattle.std.proofs.Math.Nat.{eq-or-lt_of_le}
-use Rattle.std.proofs.lemmas.Bool.{cases_lt}
+use Rattle.std.proofs.lemmas.Bool.{and_parts, cases_lt}
 use Rattle.std.proofs.lemmas.List.{get_or-take, get_or-drop, get_or_past, map-append}
 use Rattle.std.proofs.lemmas.List.Sums.{fold-append}
 use Rattle.odht_base.specs.Bytes.{bytes_at}
@@ -12,7 +11,8 @@ use Rattle.odht_header.specs.declared.error.Error.{Error}
 use Rattle.odht_header.specs.declared.error.Error.TheVariants.{WrongTag}
 use Rattle.odht_header.proofs.lemmas.FirstErrors.{option_or-None, gives-None, lists_differ-false}
 use Rattle.odht_tool_core.specs.Finds.{has_fields, has_front, has_controls, is_table, is_false, AreNone, AreTables, false_slots_at, false_between, false_slots}
-use Rattle.odht_tool_core.specs.Fronts.{stated_len, front_refusal}
+use Rattle.odht_tool_core.specs.InfoNumbers.{info_refusal}
+use Rattle.odht_tool_core.specs.Fronts.{stated_len, front_refusal, table_front}
 use Rattle.odht_tool_core.specs.ReadyShapes.{early_refusal}
 use Rattle.odht_tool_core.proofs.Counting.{range_more}
 
@@ -106,7 +106,7 @@ pub same_searched : (B : List ℕ) (at next slots n s : ℕ) (found f : List ℕ
 same_searched B at next slots n s found f p q r h = rw p (rw q (rw r h))
 
 -- behind the last byte no table begins
-none_past : (B : List ℕ) (t : ℕ) → length B ≤ t → is_table (drop t B) ≡ false
+pub none_past : (B : List ℕ) (t : ℕ) → length B ≤ t → is_table (drop t B) ≡ false
 none_past B t l = (other_first B t (λ e. absurd (let past : get_or B t 0 ≡ 0 = get_or_past B t 0 l in omega (arith, past, e)))).0
 
 module _ (B : List ℕ) (at next slots : ℕ) (found : List ℕ) (h : IsSearched B at next slots found) where
@@ -213,3 +213,30 @@ module _ (B : List ℕ) (at next slots : ℕ) (found : List ℕ) (h : IsSearched
 -- a table that begins inside of some bytes ends inside of them
 pub inside : (B : List ℕ) (at n : ℕ) → at < length B → n ≤ length (drop at B) → at + n ≤ length B
 inside B at n l m = omega (arith, l, m, length-drop at B)
+
+-- ---- the tables that are found
+-- each begins before the last byte
+pub within_bytes : (B : List ℕ) (at : ℕ) → is_table (drop at B) ≡ true → at < length B
+within_bytes B at e = elim (cases_lt at (length B)) [ inl low ↦ low | inr past ↦ absurd (true≢false (sym e ∙ none_past B at past)) ]
+
+-- and opens
+pub table_opens : (B : List ℕ) → is_table B ≡ true → info_refusal (table_front B) ≡ None
+unfolding is_table
+table_opens B e =
+    let parts = and_parts (has_front B) (has_controls (take (stated_len B) B)) e in
+    let front = and_parts (is_none (front_refusal B)) (has_fields B) parts.0 in
+    let T = take (stated_len B) B in
+    let rest = and_parts _ _ parts.1 in
+    let more = and_parts _ _ rest.0 in
+    let opens = and_parts (is_none (info_refusal T)) _ more.0 in
+    ap (λ b. info_refusal (if b then T else B)) front.0 ∙ none (info_refusal T) opens.0
+  where
+    none : (o : Option Error) → is_none o ≡ true → o ≡ None
+    none None e = refl
+    none (Some x) e = cc
+
+-- one that is in the list is a table
+pub each_table : (B : List ℕ) (p : ℕ) (ts : List ℕ) (i : ℕ) → AreTables B p ts → i < length ts → is_table (drop (get_or ts i 0) B) ≡ true
+each_table B p [] i h low = absurd (omega (arith, low))
+each_table B p (t ∷ ts) zero h low = h.2
+each_table B p (t ∷ ts) (suc i) h low = each_table B (t + stated_len (drop t B)) ts i h.3 (omega (arith, low))

@@ -1,22 +1,21 @@
 -- The table that begins with some bytes opens with their errors.
-use Rattle.std.proofs.Common.{◌≡◌, ◌∙◌, ◌⊎◌, inl, inr, ℕ, ◌+◌, ◌-◌, ◌*◌, ◌<◌, ◌≤◌, Bool, not, List, [], ◌∷◌, Option, Some, None, length, length-drop, take, drop, slice_index, nat_lt, ◌==◌, sym, ap, arith, ne_eqb, refl}
+use Rattle.std.proofs.Common.{◌≡◌, ◌∙◌, inl, inr, ℕ, ◌+◌, ◌-◌, ◌*◌, ◌<◌, ◌≤◌, Bool, not, List, [], ◌∷◌, Option, Some, None, length, length-drop, take, drop, slice_index, nat_lt, sym, ap, arith, ne_eqb, refl}
 use Rattle.std.specs.Option.{option_or}
 use Rattle.std.proofs.Math.Seq.{take-length}
 use Rattle.std.proofs.lemmas.Bool.{cases_lt, lt-ltb, le-ltb, ltb-false}
 use Rattle.std.proofs.lemmas.List.{get_or-take, length-take-le}
-use Rattle.odht_base.specs.Bytes.{bytes_at}
 use Rattle.odht_base.specs.Decoded.{header_slots}
 use Rattle.odht_base.specs.Load.{is_power_of_two}
 use Rattle.odht_base.specs.Numbers.{num}
 use Rattle.odht_base.proofs.lemmas.ByteRanges.{bytes_at-take_front}
 use Rattle.odht_header.specs.Refusals.{◌gives◌, differs, lists_differ, tag_refusal, version_refusal, wrong_size, power_refusal, few_slots_refusal, length_refusal}
 use Rattle.odht_header.specs.declared.error.Error.{Error}
-use Rattle.odht_header.specs.declared.error.Error.TheVariants.{TooShort, WrongTag, WrongVersion, WrongSizeOf, SlotCountNotPowerOfTwo, SlotCountTooSmall, WrongLength}
+use Rattle.odht_header.specs.declared.error.Error.TheVariants.{WrongTag, WrongVersion, WrongSizeOf, SlotCountNotPowerOfTwo, SlotCountTooSmall, WrongLength}
 use Rattle.odht_header.specs.declared.error.Part.{Part}
 use Rattle.odht_header.specs.declared.error.Part.TheVariants.{EntryMetadata, Header}
 use Rattle.odht_header.proofs.lemmas.FirstErrors.{option_or-None, None-option_or, option_or-second, two-first, None-gives, gives-None, false-differs}
 use Rattle.odht_tool_core.specs.Fronts.{stated_len, short_refusal, front_refusal}
-use Rattle.odht_tool_core.specs.InfoNumbers.{format_by, info_refusal, rest_refusal}
+use Rattle.odht_tool_core.specs.InfoNumbers.{format_by, info_refusal}
 use Rattle.odht_tool_core.specs.ReadyShapes.{early_refusal}
 use Rattle.odht_tool_core.specs.declared.shapes.Hash.TheVariants.{Fx}
 use Rattle.odht_tool_core.proofs.Refusals.{two_stages}

@@ -9,7 +9,6 @@ use Rattle.std.specs.Option.{option_map_or}
 use Rattle.odht_base.specs.Bounds.{group_of}
 use Rattle.odht_base.specs.Groups.{first_free}
 use Rattle.odht_base.specs.Load.{IsSlotCount}
-use Rattle.odht_base.specs.Probe.{probe_slot}
 use Rattle.odht_base.proofs.lemmas.FirstMatch.{position_is}
 use Rattle.odht_base.proofs.lemmas.Orders.{probe_slot-onto}
 use Rattle.odht_base.proofs.lemmas.SlotCounts.{sixteens}

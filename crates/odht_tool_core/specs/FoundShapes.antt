@@ -10,7 +10,7 @@
 --     other_hash h         the hash function that is not h
 --     hinted_hash B s      the hash function that is not that of the shape s, where there are items and all control bytes
 --                          agree with it
-use Rattle.std.specs.Prelude.{ℕ, List, Bool, not, ◌&&◌, ◌==◌, find, is_none, is_ok, slice_index, Option, Some, None, Result, if◌then◌else◌}
+use Rattle.std.specs.Prelude.{ℕ, List, Bool, not, ◌&&◌, ◌==◌, find, is_none, is_ok, slice_index, Option, None, Result, if◌then◌else◌}
 use Rattle.std.specs.Bool.{then_some}
 use Rattle.std.specs.Option.{ok_or}
 use Rattle.odht_base.specs.Decoded.{header_count}

@@ -2,39 +2,55 @@
 use Rattle.std.proofs.Common.{◌≡◌, true, false, refl, [], ◌∷◌, Some, None, Ok, Err}
 use Rattle.std.specs.Prelude.{codes}
 use Rattle.std.specs.Fmt.{digits}
+use Rattle.odht_base.specs.Bounds.{first_longer}
 use Rattle.odht_base.specs.Bytes.{overwritten_at}
 use Rattle.odht_header.specs.declared.error.Error.TheVariants.{TooShort}
 use Rattle.odht_header.proofs.examples.Apart.{unequal_lists}
 use Rattle.odht_header.proofs.examples.Opened.{opened}
 use Rattle.odht_tool_core.specs.GroupNumbers.{groups_to}
-use Rattle.odht_tool.specs.Outcomes.{check_outcome, dump_outcome, hint_of, hint_text}
+use Rattle.odht_tool.specs.Outcomes.{check_outcome, check_word, dump_outcome, hint_of, hint_text}
 use Rattle.odht_tool_core.specs.Endings.{IsDone}
 use Rattle.odht_tool_core.specs.Endings.Outcome.{writes, fails}
 use Rattle.odht_tool_core.specs.declared.failure.Failure.TheVariants.{Refused, NoShape, NoHash, Memory}
 use Rattle.odht_tool_core.specs.declared.shapes.Hash.TheVariants.{Fx, Unhash}
+use Rattle.odht_tool_core.specs.declared.shapes.ready.Shape.TheVariants.{DirectU32ToU32}
 use Rattle.odht_tool_core.specs.declared.status.Status.TheVariants.{Done, NotDone}
 use Rattle.odht_tool_core.proofs.examples.Shapes.{one_bytes}
 
 -- ---- check
--- a valid table
-pub valid : check_outcome one_bytes (Some Unhash) ≡ writes (codes "valid\n") Done
-unfolding opened
-valid = refl
+-- a valid table, also with a bound of searches that it keeps
+pub valid : (check_outcome one_bytes (Some Unhash) None ≡ writes (codes "valid\n") Done)
+    × (check_outcome one_bytes (Some Unhash) (Some 128) ≡ writes (codes "valid, and no search reads more than 128 groups\n") Done)
+unfolding opened first_longer digits
+valid = (refl, refl)
+
+-- and with one that no table keeps
+pub too_long : check_outcome one_bytes (Some Unhash) (Some 0) ≡ writes (codes "Searches from slot 0 may read more than 0 groups; --whole checks without a bound\n") NotDone
+unfolding opened first_longer digits
+too_long = refl
 
 -- two bytes
-pub too_short : check_outcome (79 ∷ 68 ∷ []) None ≡ writes (codes "Provided data has 2 bytes but the header needs 32\n") NotDone
+pub too_short : check_outcome (79 ∷ 68 ∷ []) None None ≡ writes (codes "Provided data has 2 bytes but the header needs 32\n") NotDone
 unfolding opened digits
 too_short = refl
 
--- a count of one item more
-pub miscounted : check_outcome (overwritten_at one_bytes 8 (2 ∷ [])) (Some Unhash) ≡ writes (codes "Header states 2 items but 1 were found\n") NotDone
+-- a count of one item more, which is an earlier error than that of a bound
+pub miscounted : check_outcome (overwritten_at one_bytes 8 (2 ∷ [])) (Some Unhash) (Some 0) ≡ writes (codes "Header states 2 items but 1 were found\n") NotDone
 unfolding opened digits
 miscounted = refl
 
 -- keys of nine bytes
-pub no_shape : check_outcome (overwritten_at one_bytes 5 (9 ∷ [])) None ≡ fails (NoShape 9 4)
+pub no_shape : check_outcome (overwritten_at one_bytes 5 (9 ∷ [])) None (Some 128) ≡ fails (NoShape 9 4)
 unfolding opened
 no_shape = refl
+
+-- what `find` says of a table, by the bound, and of one without a ready shape
+pub words : (check_word (Some 128) one_bytes (Ok DirectU32ToU32) ≡ codes "valid")
+    × (check_word (Some 0) one_bytes (Ok DirectU32ToU32) ≡ codes "long")
+    × (check_word (Some 0) (overwritten_at one_bytes 8 (2 ∷ [])) (Ok DirectU32ToU32) ≡ codes "rejected")
+    × (check_word None one_bytes (Err (NoShape 9 4)) ≡ codes "-")
+unfolding opened first_longer
+words = (refl, refl, refl, refl)
 
 -- ---- dump
 pub pairs : dump_outcome one_bytes (Some Unhash) false ≡ writes (codes "5\t7\n") Done

@@ -2,12 +2,13 @@
 ghost use Rattle.std.specs.Prelude.{◌≡◌, None, OnOk, IfErr, IfOk, length};
 ghost use Rattle.odht_base.specs.Table.{Table};
 ghost use Rattle.odht_header.specs.Refusals.{check_refusal_by};
-ghost use Rattle.odht_tool.specs.Outcomes.{IsCopyFailure};
+ghost use Rattle.odht_tool.specs.Outcomes.{copy_failure};
 ghost use Rattle.odht_base.specs.Insert.{insert_owned};
 ghost use Rattle.odht_base.specs.Valid.{IsImage};
 ghost use Rattle.odht.specs.Inserts.{IsFresh};
 ghost use Rattle.odht.specs.Lists.{encoded_all, IsAfterInserts};
 
+use crate::commands::check::check_bytes;
 use crate::shapes::for_shape;
 use odht::HashTableOwned;
 use odht::config::{Coded, Config};
@@ -112,14 +113,12 @@ fn copy_table<C: Config>(
     ensures ok { IfOk result (λ table. table ≡ bytes.items) }
     ensures valid { IfOk result (λ _. let F = ⟦<C as Coded>⟧.coding.format
         in check_refusal_by F bound bytes.items ≡ None) }
-    ensures err { IfErr result (IsCopyFailure ⟦<C as Coded>⟧.coding.format bound bytes.items) }
+    ensures err { IfErr result (λ failure. let F = ⟦<C as Coded>⟧.coding.format
+        in failure ≡ copy_failure F bound bytes.items) }
 {
     let bytes = bytes.as_slice();
-    match bound {
-        Some(groups) => HashTableOwned::from_raw_bytes_within(alloc, bytes, groups),
-        None => HashTableOwned::from_raw_bytes(alloc, bytes),
-    }
-    .map_err(Failure::of_table)
+    check_bytes::<C>(bytes, bound).map_err(Failure::Refused)?;
+    HashTableOwned::from_raw_bytes_unchecked(alloc, bytes).map_err(Failure::of_table)
 }
 
 // Adds the lines to the table, and stores it as the file.

@@ -1,6 +1,7 @@
 //! `odht check`: whether a file is a valid table.
 ghost use Rattle.std.specs.Prelude.{◌≡◌, OnOk};
 ghost use Rattle.std.specs.Io.KnownBytes.{Appends};
+ghost use Rattle.odht_base.specs.Valid.{IsValidBytes};
 ghost use Rattle.odht_header.specs.Refusals.{checked, check_refusal_by};
 ghost use Rattle.odht_tool.specs.Outcomes.{check_outcome, hint_of, hint_text};
 ghost use Rattle.odht_tool_core.specs.Endings.{IsDone};
@@ -42,9 +43,11 @@ pub fn check_shape(shape: Shape, bytes: &[u8], bound: Option<usize>) -> Result<(
     for_shape!(shape, check_bytes[](bytes, bound))
 }
 
-fn check_bytes<C: Config>(bytes: &[u8], bound: Option<usize>) -> Result<(), Error>
-    ensures { let F = ⟦<C as Coded>⟧.coding.format
+/// The same of a configuration. Bytes without an error are valid.
+pub fn check_bytes<C: Config>(bytes: &[u8], bound: Option<usize>) -> Result<(), Error>
+    ensures first { let F = ⟦<C as Coded>⟧.coding.format
         in result ≡ checked (check_refusal_by F bound bytes.now) }
+    ensures valid { OnOk result (IsValidBytes ⟦<C as Coded>⟧.coding.format bytes.now) }
 {
     match bound {
         Some(groups) => check_all_within::<C>(bytes, groups),
@@ -64,7 +67,10 @@ fn write_checked<O: Write>(
     match (checked, bound) {
         (Ok(()), None) => writeln!(output, "valid"),
         (Ok(()), Some(bound)) => {
-            writeln!(output, "valid, and no search reads more than {bound} groups")
+            writeln!(
+                output,
+                "valid, and no search reads more than {bound} groups"
+            )
         }
         (Err(refused), _) => {
             let advice = advice_of(refused);

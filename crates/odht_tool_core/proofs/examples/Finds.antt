@@ -1,9 +1,9 @@
 -- Worked examples: the table that begins with some bytes, and what bytes are a table.
-use Rattle.std.proofs.Common.{◌≡◌, true, false, refl, [], ◌∷◌, ◌++◌, Some, None, take, codes}
+use Rattle.std.proofs.Common.{◌≡◌, true, false, refl, [], ◌∷◌, ◌++◌, Some, None, take}
 use Rattle.odht_base.specs.Bytes.{overwritten_at}
 use Rattle.odht_header.specs.declared.error.Error.TheVariants.{TooShort, WrongLength}
 use Rattle.odht_header.proofs.examples.Opened.{opened}
-use Rattle.odht_tool_core.specs.Finds.{is_table, is_false, false_slots, row_text}
+use Rattle.odht_tool_core.specs.Finds.{is_table, is_false, false_slots}
 use Rattle.odht_tool_core.specs.Fronts.{stated_len, front_refusal, table_front, offset_failure}
 use Rattle.odht_tool_core.specs.declared.failure.Failure.TheVariants.{PastEnd}
 use Rattle.odht_tool_core.proofs.examples.Shapes.{one_bytes}

@@ -1,4 +1,4 @@
-use Rattle.std.proofs.Common.{◌≡◌, ◌∙◌, ◌+◌, ◌<◌, ◌≤◌, length, sym, ap, refl, arith}
+use Rattle.std.proofs.Common.{◌≡◌, ◌∙◌, ◌+◌, ◌<◌, ◌≤◌, length, ap, arith}
 use Rattle.odht_tool_core.proofs.Finds.{same_searched, inside_searched, nothing_searched, false_searched, table_searched, all_searched, all_counted, too_many, inside}
 use Rattle.odht_tool_core.proofs.find.find_tables.Goals.{in-Table+in_ok-add-in-Table, in-False+else-bytes-false_slots, in-Nothing}
 use Rattle.odht_tool_core.proofs.find.find_tables.Goals as goal

@@ -1,4 +1,4 @@
-use Rattle.std.proofs.Common.{◌≡◌, ◌∙◌, ◌++◌, ◌*◌, ◌/◌, max, length, slice_index, ap, subst}
+use Rattle.std.proofs.Common.{◌∙◌, ◌++◌, ◌*◌, ◌/◌, max, length, slice_index, ap, subst}
 use Rattle.std.specs.Io.KnownBytes.{Appends}
 use Rattle.std.specs.Prelude.{OnOk}
 use Rattle.std.proofs.KnownBytes.{Appends-trans}

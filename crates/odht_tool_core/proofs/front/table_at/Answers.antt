@@ -1,4 +1,4 @@
-use Rattle.std.proofs.Common.{◌≡◌, ◌∙◌, ◌-◌, length, take, drop, sym, ap}
+use Rattle.std.proofs.Common.{◌∙◌, ◌-◌, length, take, drop, sym, ap}
 use Rattle.odht_tool_core.specs.Fronts.{front_refusal}
 use Rattle.odht_tool_core.specs.InfoNumbers.{info_refusal}
 use Rattle.odht_tool_core.proofs.Fronts.{same_error, front_opens, rest_is}

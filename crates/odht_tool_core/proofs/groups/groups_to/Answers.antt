@@ -1,4 +1,4 @@
-use Rattle.std.proofs.Common.{◌≡◌, ◌∙◌, ◌+◌, ◌-◌, ◌*◌, ◌/◌, ◌%◌, ◌<◌, ◌≤◌, inl, min, sym, ap, arith}
+use Rattle.std.proofs.Common.{◌≡◌, ◌∙◌, ◌+◌, ◌-◌, ◌*◌, ◌/◌, ◌%◌, ◌<◌, inl, min, sym, ap, arith}
 use Rattle.odht_base.specs.Probe.{probe_slot}
 use Rattle.odht_base.proofs.lemmas.SlotCounts.{few_slots}
 use Rattle.odht_tool_core.specs.GroupNumbers.{capped, groups_to, most_groups}

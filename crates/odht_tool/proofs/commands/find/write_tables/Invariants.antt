@@ -5,4 +5,4 @@ use Rattle.odht_tool.proofs.commands.find.write_tables.Given as goal
 
 -- the lines of the tables so far are written
 abbrev pub invariant-loop-at : goal.invariant-loop-at
-invariant-loop-at g l = Appends (g.O.Write.contents l.initial.output) (g.O.Write.contents l.output) (tables_text l.bytes (take l.at-index l.tables))
+invariant-loop-at g l = Appends (g.O.Write.contents l.initial.output) (g.O.Write.contents l.output) (tables_text l.bytes l.bound (take l.at-index l.tables))

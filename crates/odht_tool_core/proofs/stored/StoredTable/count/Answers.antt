@@ -1,7 +1,6 @@
-use Rattle.std.proofs.Common.{◌≡◌, ◌∙◌, ◌+◌, ◌≤◌, true, false, length, get_or, sym, ap, subst, arith}
+use Rattle.std.proofs.Common.{◌≡◌, ◌∙◌, ◌+◌, true, false, get_or, sym, ap, arith}
 use Rattle.odht_base.specs.Decoded.{counts_as_free}
 use Rattle.odht_header.proofs.lemmas.FirstErrors.{not-false, not-true}
-use Rattle.odht_tool_core.specs.InfoNumbers.{occupied}
 use Rattle.odht_tool_core.proofs.SizedSlots.{count_free, count_more}
 use Rattle.odht_tool_core.proofs.stored.StoredTable.count.Goals.{then-is_occupied, else-is_occupied}
 use Rattle.odht_tool_core.proofs.stored.StoredTable.count.Goals as goal
