@@ -6,5 +6,7 @@ pub(crate) mod index;
 mod lanes;
 mod memory;
 
+#[cfg(test)]
+pub use lanes::loads;
 pub use lanes::u8x16;
 pub use memory::{collect, to_vec, with_capacity, zeroed_bytes, AllocError, Global};
