@@ -52,8 +52,8 @@ impl<'a, S: Shape> TableMut<'a, S> {
         TableMut::open(bytes)
     }
 
-    /// [`TableMut::checked`] with a bound of searches, in groups, as [`Table::checked_within`] does. Inserts may lengthen
-    /// searches: [`Table::check_within`] tells whether the bound still holds.
+    /// [`TableMut::checked`] with a bound of searches, in groups, as [`Table::checked_within`] does. Inserts may
+    /// lengthen searches: [`Table::check_within`] tells whether the bound still holds.
     ///
     /// # Errors
     ///
