@@ -1,5 +1,5 @@
-//! How long searches are in tables of random keys: the longest of a table, by homes, in groups of sixteen control bytes.
-//! It prints the most of several tables of each size and load factor, as docs/FORMAT.md has it.
+//! How long searches are in tables of random keys: the longest of a table, by homes, in groups of sixteen control
+//! bytes. It prints the most of several tables of each size and load factor, as docs/FORMAT.md has it.
 
 #[path = "../rust/tests/common/random.rs"]
 #[allow(dead_code)]

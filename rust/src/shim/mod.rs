@@ -3,10 +3,8 @@
 
 #[macro_use]
 pub(crate) mod index;
-mod lanes;
+pub(crate) mod lanes;
 mod memory;
 
-#[cfg(test)]
-pub use lanes::loads;
 pub use lanes::u8x16;
 pub use memory::{collect, to_vec, with_capacity, zeroed_bytes, AllocError, Global};

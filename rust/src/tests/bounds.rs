@@ -3,7 +3,7 @@
 
 use super::forged::{few_free_slots, one_hash, one_home, up_to, Forged};
 use crate::proved::base::bytes;
-use crate::shim::loads;
+use crate::shim::lanes::loads;
 use crate::{check_all, check_all_within, ByteArray, Config, Error, HashTable, UnHashFn};
 use std::cell::Cell;
 
