@@ -6,7 +6,7 @@
 mod random;
 
 use odht::configs::U64ToU32;
-use odht::{HashTable, HashTableOwned};
+use odht::{HashTable, HashTableOwned, DEFAULT_GROUPS};
 use random::Random;
 
 /// Powers of two that are the slots, and how many tables there are of each load factor.
@@ -39,12 +39,13 @@ fn longest(control: &[u8]) -> usize {
     (0..slots).map(groups_from).max().expect("there are slots")
 }
 
-/// The longest search of a table; the library says the same.
+/// The longest search of a table; the library says the same, and it is within the default bound.
 fn measured(table: &HashTableOwned<U64ToU32>, slots: usize) -> usize {
     let bytes = table.raw_bytes();
     let groups = longest(&bytes[32 + slots * 12..]);
     let view = HashTable::<U64ToU32, _>::from_raw_bytes(bytes).expect("the bytes of a table");
     assert!(view.searches_within(groups) && !view.searches_within(groups - 1));
+    assert!(groups <= DEFAULT_GROUPS && view.verify_within(DEFAULT_GROUPS));
     groups
 }
 
