@@ -17,6 +17,7 @@
 # an order of inserts alone, MARKDOWN=1 for Markdown; with ODHT_RUST, and without QUICK, CHECK and ORDER, bench-crate too
 # make bench-crate: the crate for Rust beside the Rust crate, whose folder is ODHT_RUST; ITEMS=100000 for no larger tables
 # make bounds: loops that tell what bounds these speeds; ODHT_RUST=folder is needed
+# make searches: how long searches are in tables of random keys, by the crate for Rust; SLOTS=1048576 for no larger tables
 SCRIPT ?= crates/odht_table/stdin
 PARTS ?=
 NAMES ?=
@@ -32,6 +33,7 @@ ORDER ?=
 MARKDOWN ?=
 ODHT_RUST ?=
 ITEMS ?=
+SLOTS ?=
 .PHONY: run test prove edits build archive lib rust exports exports_are_current install uninstall examples bench
 run:
 	@cd crates/odht_table && rt try < $(abspath $(SCRIPT))
@@ -115,6 +117,14 @@ bounds: build/libodht.a original
 	  build/bounds u64 $$items && build/bounds calls $$items || exit 1; \
 	done
 	@for items in 1000 100000 1000000; do build/bounds b16 $$items && build/bounds growing $$items || exit 1; done
+
+# the longest searches; it needs nothing proved
+.PHONY: searches
+searches:
+	@mkdir -p build/searches
+	@$(BENCH_RUST) --edition 2021 --crate-type rlib --crate-name odht rust/src/lib.rs -o build/searches/libodht.rlib
+	@$(BENCH_RUST) --edition 2021 -D warnings bench/searches.rs --extern odht=build/searches/libodht.rlib -o build/searches/searches
+	@build/searches/searches $(SLOTS)
 
 # the Rust crate, from a checkout or from a flat folder with names as src--lib.rs.txt
 .PHONY: original

@@ -3,23 +3,21 @@
 
 use std::time::Instant;
 
+use crate::bounded::{bytes_of, max_items};
+use crate::forged::one_hash;
 use crate::library::u64_u32;
 use crate::measure::{best, times, Job};
+use crate::order::pair_in;
 use crate::ours;
 use crate::table::{Column, Table};
 use crate::work::{Work, PERCENT};
 
 pub const HEADER: usize = 32;
 pub const ENTRY: usize = 12;
-const GROUP: usize = 16;
-
-/// How many items so many slots take at 87 percent.
-fn max_items(slots: usize) -> usize {
-    slots * 57_015 / 65_536
-}
+const MIRROR: usize = 16;
 
 fn table_len(slots: usize) -> usize {
-    HEADER + slots * ENTRY + slots + GROUP
+    HEADER + slots * ENTRY + slots + MIRROR
 }
 
 /// One row: a table of random keys that is as full as it may be.
@@ -29,54 +27,51 @@ fn run_full(slots: usize, rounds: usize, table: &Table) {
     work.spare = vec![0; work.table.len()];
     ours::insert_all(work);
     work.ask_for_keys();
-    let jobs: [Job<u64>; 4] = [ours::check, ours::get_all, ours::walk, ours::rebuild];
+    let jobs: [Job<u64>; 5] = [
+        ours::check,
+        ours::check_within,
+        ours::get_all,
+        ours::walk,
+        ours::rebuild,
+    ];
     let best: Vec<f64> = times(&jobs, rounds, 0, work)
         .iter()
         .map(|times| best(times))
         .collect();
-    let each = |column: usize| best[column] / slots as f64;
-    let (speed, ratio) = (work.table.len() as f64 / best[0], best[0] / best[1]);
-    let numbers = [each(0), speed, each(1), ratio, each(2), each(3)];
+    let [check, within, lookups, walk, rebuild] = [0, 1, 2, 3, 4].map(|job| best[job]);
+    let each = |time: f64| time / slots as f64;
+    let numbers = [
+        each(check),
+        each(within),
+        within / check,
+        work.table.len() as f64 / check,
+        each(lookups),
+        check / lookups,
+        each(walk),
+        each(rebuild),
+    ];
     let mut row = vec![slots.to_string()];
     row.extend(numbers.map(|number| format!("{number:.2}")));
     table.print(&row);
 }
 
 /// A valid table that costs the check most, of those at 87 percent: it is full, and all its keys
-/// have one home and one tag. The lower half of a product depends on the lower halves of its
-/// factors alone, so all multiples of 2^32 have the hash 0.
+/// have one home and one tag.
 fn forged_table(slots: usize) -> Vec<u8> {
-    let items = max_items(slots);
-    let mut bytes = vec![0; table_len(slots)];
-    u64_u32::init(&mut bytes, items, PERCENT).expect("the length is right");
-    bytes[8..16].copy_from_slice(&(items as u64).to_le_bytes());
-    let control = HEADER + slots * ENTRY;
-    for place in 0..items {
-        let group = place / GROUP;
-        let slot = (8 * group * (group + 1) + place % GROUP) % slots;
-        let (key, value) = forged_pair(place);
-        let entry = HEADER + slot * ENTRY;
-        bytes[entry..entry + 8].copy_from_slice(&key.to_le_bytes());
-        bytes[entry + 8..entry + ENTRY].copy_from_slice(&value.to_le_bytes());
-        bytes[control + slot] = 0;
-        if slot < GROUP {
-            bytes[control + slots + slot] = 0;
-        }
-    }
-    bytes
+    bytes_of(&one_hash(slots))
 }
 
-fn forged_pair(place: usize) -> (u64, u32) {
-    ((place as u64 + 1) << 32, place as u32)
-}
-
-/// Inserts in the order of the places make the very bytes.
+/// Inserts make the very bytes.
 fn compare_with_inserts(slots: usize) {
-    let (keys, values): (Vec<u64>, Vec<u32>) = (0..max_items(slots)).map(forged_pair).unzip();
+    let table = forged_table(slots);
+    let mut order = vec![0; max_items(slots)];
+    assert_eq!(u64_u32::insert_order(&table, &mut order), Ok(true));
+    let pairs = order.iter().map(|slot| pair_in(&table, *slot));
+    let (keys, values): (Vec<u64>, Vec<u32>) = pairs.unzip();
     let mut bytes = vec![0; table_len(slots)];
     u64_u32::init(&mut bytes, keys.len(), PERCENT).expect("the length is right");
     u64_u32::insert_all(&mut bytes, &keys, &values);
-    assert!(bytes == forged_table(slots));
+    assert!(bytes == table);
 }
 
 fn run_forged(slots: usize, table: &Table) {
@@ -107,10 +102,11 @@ pub fn print_full_tables(quick: bool, markdown: bool) {
     let rows: &[(usize, usize)] = if quick { &QUICK_FULL } else { &FULL };
     println!("\nthe whole check of tables that are full at 87 percent: nanoseconds for each slot,");
     println!(
-        "the best of several rounds; GB/s: of table bytes; ratio: check to lookups of each key"
+        "the best of several rounds; within: with the default bound of searches, and its time"
     );
+    println!("over that of the check; GB/s: of table bytes; ratio: check to lookups of each key");
     let heads = [
-        "slots", "check", "GB/s", "lookups", "ratio", "walk", "rebuild",
+        "slots", "check", "within", "to check", "GB/s", "lookups", "ratio", "walk", "rebuild",
     ];
     let columns = heads.map(|head| Column::Number(head, 9));
     let table = Table::begin(columns.into(), markdown);

@@ -13,6 +13,7 @@ impl Status {
     pub const OK: Status = Status(0);
     pub const ABSENT: Status = Status(32);
     pub const REPLACED: Status = Status(33);
+    pub const SEARCH_TOO_LONG: Status = Status(21);
     pub const UNMADE: Status = Status(37);
 
     /// `answer` where the status is `OK`, else the status.
@@ -55,6 +56,11 @@ macro_rules! safe_calls {
             /// Whether the bytes are valid, to the last one.
             pub fn check(bytes: &[u8]) -> Result<(), Status> {
                 Status(unsafe { calls::check(bytes.as_ptr(), bytes.len()) }).with(())
+            }
+
+            /// The same, and whether no search reads more than so many groups.
+            pub fn check_within(bytes: &[u8], groups: usize) -> Result<(), Status> {
+                Status(unsafe { calls::check_within(bytes.as_ptr(), bytes.len(), groups) }).with(())
             }
 
             /// Inserts a pair; the answer is the former value where the key was there.

@@ -1,8 +1,11 @@
 //! Measures this library beside the original Rust crate, where it is built with `--cfg original`,
-//! and beside `HashMap`. It prints a table for each kind of key, and two of the whole check; or the
-//! line of an order of inserts alone. README.md says how it measures.
+//! and beside `HashMap`. It prints a table for each kind of key, and three of the whole check; or
+//! the line of an order of inserts alone. README.md says how it measures.
 
+mod bounded;
 mod check;
+#[path = "../rust/src/tests/forged.rs"]
+mod forged;
 mod keys;
 #[allow(dead_code)]
 mod library;
@@ -82,4 +85,5 @@ fn main() {
     }
     check::print_full_tables(quick, markdown);
     check::print_forged_tables(quick, is_asked("worst"), markdown);
+    bounded::print_forged_tables(quick, markdown);
 }

@@ -26,7 +26,8 @@ fn check(work: &Work<u64>) {
     assert!(again == work.table);
 }
 
-fn pair_in(table: &[u8], slot: usize) -> (u64, u32) {
+/// The pair in a slot.
+pub fn pair_in(table: &[u8], slot: usize) -> (u64, u32) {
     let entry = &table[HEADER + slot * ENTRY..][..ENTRY];
     let (key, value) = entry.split_at(8);
     let key = key.try_into().expect("a key has eight bytes");

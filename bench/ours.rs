@@ -163,6 +163,13 @@ pub fn check(work: &mut Work<u64>) {
     assert!(black_box(u64_u32::check(&work.table)).is_ok());
 }
 
+/// The bound of `odht.h` for tables of keys whose hashes vary.
+pub const DEFAULT_GROUPS: usize = 128;
+
+pub fn check_within(work: &mut Work<u64>) {
+    assert!(black_box(u64_u32::check_within(&work.table, DEFAULT_GROUPS)).is_ok());
+}
+
 /// Makes a table of the pairs in the order in which they stand in another.
 pub fn rebuild(work: &mut Work<u64>) {
     walk(work);

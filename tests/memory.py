@@ -12,8 +12,9 @@ import sys
 import tempfile
 
 HERE = os.path.dirname(os.path.realpath(__file__))
-CALLS = """allocate below_the_maximum clone default from_iterator from_raw_bytes from_raw_bytes_unchecked index insert
-    insert_all insert_order numbers probe_order refused_bytes view with_capacity""".split()
+CALLS = """allocate below_the_maximum clone default from_iterator from_raw_bytes from_raw_bytes_unchecked
+    from_raw_bytes_within index insert insert_all insert_order numbers probe_order refused_bytes view
+    with_capacity""".split()
 # more requests than any of these makes
 MOST = 20
 

@@ -94,6 +94,16 @@ static void make_again(const uint8_t *table, size_t len, size_t count)
     free(again);
 }
 
+/* Whether the bytes are a valid table. Its searches have to be within the bound that tables of such hashes keep. */
+static int is_valid(const uint8_t *bytes, size_t len)
+{
+    uint32_t status = odht_b8_u32_check_within(bytes, len, ODHT_DEFAULT_GROUPS);
+
+    if (status == ODHT_SEARCH_TOO_LONG)
+        stop("a search is longer than the default bound");
+    return status == ODHT_OK;
+}
+
 /* Whether there is a table of definitions at the front, of how many bytes, and that all that is promised of it holds. */
 static size_t read_table(const uint8_t *front, size_t rest, size_t offset)
 {
@@ -103,7 +113,7 @@ static size_t read_table(const uint8_t *front, size_t rest, size_t offset)
 
     if (odht_b8_u32_table_len(front, rest, &len) != ODHT_OK)
         return 0;
-    if (odht_b8_u32_check(front, len) != ODHT_OK)
+    if (!is_valid(front, len))
         return 0;
     must_be(odht_b8_u32_len(front, len, &count), ODHT_OK, "len");
     must_be(odht_b8_u32_sizes(front, len, &slots, NULL, NULL), ODHT_OK, "sizes");

@@ -3,7 +3,7 @@
 //! each a line: where it begins, its length, its items and its slots.
 
 use odht::configs::Bytes8ToU32;
-use odht::{HashTable, HashTableOwned};
+use odht::{HashTable, HashTableOwned, DEFAULT_GROUPS};
 
 /// The bytes of the header, and those of a key and a value.
 const HEADER: usize = 32;
@@ -30,6 +30,7 @@ fn read_table(front: &[u8], offset: usize) -> Option<usize> {
     if !table.verify() {
         return None;
     }
+    assert!(table.searches_within(DEFAULT_GROUPS), "a search is longer than the default bound");
     for (key, value) in table.iter() {
         assert_eq!(table.get(&key), Some(value));
     }

@@ -120,8 +120,13 @@ fn changed_tables<const K: usize, const V: usize, H: Named>(count: usize, kinds:
         let mut bytes = some_table::<K, V, H>(&mut random);
         change(&mut bytes, K + V, &mut random);
         let error = calls_stay_in_frame::<K, V, H>(&bytes, &mut random);
-        let is_opened = Reading::new(format::<K, V, H>(), &bytes).open_error().is_none();
+        let reading = Reading::new(format::<K, V, H>(), &bytes);
+        let is_opened = reading.open_error().is_none();
         *kinds.entry(format!("opened {is_opened}")).or_default() += 1;
+        for groups in [1, 2] {
+            let is_longer = reading.error_within(&error, groups) != error;
+            *kinds.entry(format!("longer than {groups}: {is_longer}")).or_default() += 1;
+        }
         let first_words = error.map(|it| it.split(' ').take(2).collect::<Vec<_>>().join(" "));
         *kinds.entry(first_words.unwrap_or_default()).or_default() += 1;
     }
@@ -161,6 +166,8 @@ fn changed_tables_do_no_harm() {
     BEGINS.iter().for_each(|kind| at_least(kind, 5));
     at_least("opened true", 1000);
     at_least("opened false", 1000);
+    at_least("longer than 1: true", 50);
+    at_least("longer than 2: true", 10);
 }
 
 // One pair is moved to another slot, or stored there once more, and nothing else is wrong: the whole check alone tells

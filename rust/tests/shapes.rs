@@ -7,7 +7,7 @@ use common::frame::{format, Named};
 use common::random::Random;
 use common::reading::{Format, Reading};
 use common::writing::Writing;
-use odht::{check_all, Config, HashTable, HashTableOwned};
+use odht::{check_all, check_all_within, Config, HashTable, HashTableOwned};
 use std::collections::HashMap;
 use std::fmt::Debug;
 use std::hash::Hash;
@@ -86,7 +86,12 @@ where
 {
     let reading = Reading::new(format, bytes);
     let text = |result: Result<(), odht::Error>| result.err().map(|error| error.to_string());
-    assert_eq!(text(check_all::<C>(bytes)), reading.check_error());
+    let whole = reading.check_error();
+    assert_eq!(text(check_all::<C>(bytes)), whole);
+    for groups in [0, 1] {
+        let within = check_all_within::<C>(bytes, groups);
+        assert_eq!(text(within), reading.error_within(&whole, groups));
+    }
     let view = HashTable::<C, _>::try_from_raw_bytes(bytes);
     assert_eq!(text(view.as_ref().map(|_| ()).map_err(|error| *error)), reading.open_error());
     let Ok(view) = view else { return };

@@ -2,7 +2,8 @@
 //! path to the definition's index, with the original crate. Each is opened, checked, searched, and made again byte
 //! for byte.
 
-use odht::{check_all, Config, HashTable, HashTableOwned, UnHashFn};
+use odht::{check_all, check_all_within, DEFAULT_GROUPS};
+use odht::{Config, HashTable, HashTableOwned, UnHashFn};
 use std::io::BufRead;
 use std::path::{Path, PathBuf};
 use std::process::Command;
@@ -74,7 +75,9 @@ fn tables(bytes: &[u8]) -> Vec<&[u8]> {
 
 fn is_read(bytes: &[u8]) {
     assert_eq!(check_all::<Definitions>(bytes), Ok(()));
+    assert_eq!(check_all_within::<Definitions>(bytes, DEFAULT_GROUPS), Ok(()));
     let table = HashTable::<Definitions, _>::from_raw_bytes(bytes).unwrap();
+    assert!(table.verify_within(DEFAULT_GROUPS) && table.searches_within(DEFAULT_GROUPS));
     let (keys, indices): (Vec<u64>, Vec<u32>) = table.iter().unzip();
     assert_eq!(keys.len(), table.len());
     let mut values = vec![None; keys.len()];

@@ -14,6 +14,20 @@
 
 enum { LEN = 256 };
 
+/* So many groups are a bound; how many tables there are whose searches are longer than one. */
+enum { BOUNDS = 2 };
+static size_t longer[BOUNDS + 1];
+
+/* Asserts that the whole check with a bound returns the error of the second reading, where it is this without one. */
+static void check_within(const struct calls *calls, const struct reading *table, uint32_t whole,
+                         size_t groups)
+{
+    uint32_t expected = within_error(table, whole, groups);
+
+    STATUS(calls->check_within(table->bytes, table->len, groups), expected);
+    longer[groups] += expected == ODHT_SEARCH_TOO_LONG;
+}
+
 /* Asserts that header, opening and whole check return the errors of the second reading, and counts the last. */
 static void check_errors(const struct calls *calls, const uint8_t *bytes, size_t len,
                          struct counts *counts)
@@ -23,8 +37,8 @@ static void check_errors(const struct calls *calls, const uint8_t *bytes, size_t
     size_t count = 0;
 
     STATUS(calls->check(bytes, len), expected);
-    for (size_t groups = 1; groups <= 2; groups++)
-        STATUS(calls->check_within(bytes, len, groups), within_error(&table, expected, groups));
+    for (size_t groups = 1; groups <= BOUNDS; groups++)
+        check_within(calls, &table, expected, groups);
     STATUS(calls->open(bytes, len), opening_error(&table));
     STATUS(calls->len(bytes, len, &count), header_error(&table));
     count_status(counts, expected);
@@ -161,6 +175,7 @@ static void check_changed(const struct calls *calls, size_t tables, const size_t
     struct counts counts = { { 0 } };
     struct random random = { 1 };
 
+    memset(longer, 0, sizeof longer);
     for (size_t table = 0; table < tables; table++) {
         size_t kept = buffer_count();
         struct changed changed = made(calls, &random);
@@ -172,6 +187,8 @@ static void check_changed(const struct calls *calls, size_t tables, const size_t
     }
     if (expected[ODHT_OK] != 0)
         check_counts(&counts, expected);
+    for (size_t groups = 1; groups <= BOUNDS; groups++)
+        HOLDS(longer[groups] > 0);
 }
 
 /* Rows of some shapes. From 32-bit numbers, and from 16 bytes to 32-bit numbers, there are 7,500 tables. */

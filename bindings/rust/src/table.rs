@@ -125,6 +125,27 @@ impl<'a, S: Shape> Table<'a, S> {
         Ok(len)
     }
 
+    /// Opens the table at the front of longer bytes, such as the rest of a file, as [`Table::open`] does: also returns
+    /// the bytes behind it, which are not looked at. The cost is the same for every table.
+    ///
+    /// ```
+    /// # use odht_ffi::{Builder, Table, U64U32};
+    /// let mut file = [(1, 2)].into_iter().collect::<Builder<U64U32>>().build()?;
+    /// file.extend(b"and more");
+    /// let (table, rest) = Table::<U64U32>::open_prefix(&file)?;
+    /// assert_eq!((table.get(&1), rest), (Some(2), &b"and more"[..]));
+    /// # Ok::<(), odht_ffi::Error>(())
+    /// ```
+    ///
+    /// # Errors
+    ///
+    /// As of [`Table::open`], but [`Error::WrongLength`] only where there are fewer bytes than the table has.
+    #[inline]
+    pub fn open_prefix(bytes: &'a [u8]) -> Result<(Self, &'a [u8]), Error> {
+        let (table, rest) = bytes.split_at(Table::<S>::table_len(bytes)?);
+        Ok((Table::open(table)?, rest))
+    }
+
     /// # Safety
     ///
     /// `open` or `init` of this shape has returned `OK` for the bytes, and nothing but inserts of this shape has
@@ -141,6 +162,15 @@ impl<'a, S: Shape> Table<'a, S> {
     /// As of [`Table::checked`].
     pub fn check(&self) -> Result<(), Error> {
         Error::unless_ok(S::Calls::check(self.bytes), ())
+    }
+
+    /// Makes the whole check of the opened bytes with a bound of searches, in groups.
+    ///
+    /// # Errors
+    ///
+    /// As of [`Table::checked_within`].
+    pub fn check_within(&self, groups: usize) -> Result<(), Error> {
+        Error::unless_ok(S::Calls::check_within(self.bytes, groups), ())
     }
 
     /// The bytes of the table.

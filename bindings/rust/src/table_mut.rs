@@ -52,6 +52,17 @@ impl<'a, S: Shape> TableMut<'a, S> {
         TableMut::open(bytes)
     }
 
+    /// [`TableMut::checked`] with a bound of searches, in groups, as [`Table::checked_within`] does. Inserts may
+    /// lengthen searches: [`Table::check_within`] tells whether the bound still holds.
+    ///
+    /// # Errors
+    ///
+    /// As of [`Table::checked_within`].
+    pub fn checked_within(bytes: &'a mut [u8], groups: usize) -> Result<Self, Error> {
+        Error::unless_ok(S::Calls::check_within(bytes, groups), ())?;
+        TableMut::open(bytes)
+    }
+
     /// Gives a key this value, and returns the value that it had, or `None` where it is new.
     ///
     /// # Errors

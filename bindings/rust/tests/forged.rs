@@ -54,15 +54,41 @@ fn a_table_is_found_in_longer_bytes() {
         let len = Table::<U64U32>::table_len(&file[before..]).unwrap();
         assert_eq!(len, 256);
         assert_eq!(Table::<U64U32>::open(&file[before..][..len]).unwrap().get(&3), Some(4));
+        let (opened, rest) = Table::<U64U32>::open_prefix(&file[before..]).unwrap();
+        assert_eq!((opened.get(&3), opened.get(&4), opened.len()), (Some(4), None, 3));
+        assert_eq!(opened.bytes().as_ptr_range(), file[before..][..256].as_ptr_range());
+        assert_eq!(rest.as_ptr_range(), file[before + 256..].as_ptr_range());
     }
     for length in 0..table.len() {
         let expected = if length < 32 { Error::TooShort } else { Error::WrongLength };
-        assert_eq!(Table::<U64U32>::table_len(&table[..length]), Err(expected));
+        no_front::<U64U32>(&table[..length], expected);
     }
-    assert_eq!(Table::<B32>::table_len(&table), Err(Error::WrongSize));
+    no_front::<B32>(&table, Error::WrongSize);
     let mut forged = table;
     forged[16..24].copy_from_slice(&(1_u64 << 63).to_le_bytes());
-    assert_eq!(Table::<U64U32>::table_len(&forged), Err(Error::WrongLength));
+    no_front::<U64U32>(&forged, Error::WrongLength);
+}
+
+fn no_front<S: Shape>(bytes: &[u8], error: Error) {
+    assert_eq!(Table::<S>::table_len(bytes), Err(error));
+    assert_eq!(Table::<S>::open_prefix(bytes).map(|_| ()), Err(error));
+}
+
+/// Errors of slots come where the length is right, and those behind the table never.
+#[test]
+fn a_front_is_opened_as_a_table_is() {
+    let file = [worked_example(), worked_example()].concat();
+    let opened = |at: usize, byte| {
+        let mut file = file.clone();
+        file[at] = byte;
+        Table::<U64U32>::open_prefix(&file).map(|(table, rest)| (table.len(), rest.len()))
+    };
+    assert_eq!(opened(32, 0), Ok((3, 256)));
+    assert_eq!(opened(32, 7), Err(Error::NonZeroEmpty));
+    assert_eq!(opened(92, 3), Err(Error::ControlMismatch));
+    for at in 256..file.len() {
+        assert_eq!(opened(at, 85), Ok((3, 256)));
+    }
 }
 
 #[test]
@@ -117,6 +143,8 @@ fn read_changed<S: Shape>(bytes: &[u8], key: &S::Key) {
     assert!(least <= pairs.len() && pairs.len() <= most.unwrap());
     assert_eq!(table.get_all(&[*key]), [table.get(key)]);
     let valid = table.check();
+    // A bound that no table exceeds.
+    assert_eq!(table.check_within(slots / 16), valid);
     assert_eq!(table.insert_order().map(|_| ()), valid);
     if valid == Ok(()) {
         assert_eq!(pairs.len(), table.len());

@@ -38,6 +38,7 @@ fn run(alloc: Global, call: &str, report: &mut Report) -> bool {
         "insert_all" => owned::insert_all(alloc, report),
         "clone" => owned::clone(alloc, report),
         "from_raw_bytes" => owned::from_raw_bytes(alloc, report),
+        "from_raw_bytes_within" => owned::from_raw_bytes_within(alloc, report),
         "from_raw_bytes_unchecked" => owned::from_raw_bytes_unchecked(alloc, report),
         "refused_bytes" => owned::refused_bytes(alloc, report),
         "index" => index::build(alloc, report),

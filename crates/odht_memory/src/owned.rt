@@ -114,6 +114,17 @@ pub fn from_raw_bytes(alloc: Global, report: &mut Report) {
     }
 }
 
+/// Makes a table of the bytes of a full one, where no search reads more than one group; and with the bound of no group,
+/// by which they are rejected before memory is requested.
+pub fn from_raw_bytes_within(alloc: Global, report: &mut Report) {
+    if let Some(table) = full_table(alloc, report) {
+        let refused = Table::from_raw_bytes_within(alloc, table.raw_bytes(), 0);
+        report.result("within no group", &refused);
+        let copy = Table::from_raw_bytes_within(alloc, table.raw_bytes(), 1);
+        tell_copy(report, "from_raw_bytes_within", copy, &table);
+    }
+}
+
 /// Makes a table of the bytes of a full one, without a check.
 pub fn from_raw_bytes_unchecked(alloc: Global, report: &mut Report) {
     if let Some(table) = full_table(alloc, report) {
@@ -124,5 +135,10 @@ pub fn from_raw_bytes_unchecked(alloc: Global, report: &mut Report) {
 
 /// Opens bytes of no table: they are rejected before memory is requested.
 pub fn refused_bytes(alloc: Global, report: &mut Report) {
-    report.result("from_raw_bytes", &Table::from_raw_bytes(alloc, &[7; 192]));
+    let bytes = [7; 192];
+    report.result("from_raw_bytes", &Table::from_raw_bytes(alloc, &bytes));
+    report.result(
+        "from_raw_bytes_within",
+        &Table::from_raw_bytes_within(alloc, &bytes, 1),
+    );
 }

@@ -7,7 +7,7 @@ use odht::configs::DirectU32ToU32;
 use odht::error::Error;
 use odht::hash::{FxHashFn, HashFn, UnHashFn};
 use odht::load::{Factor, max_item_count_for, slots_needed};
-use odht::memory_layout::{self, check_all};
+use odht::memory_layout::{self, DEFAULT_GROUPS, check_all, check_all_within};
 use odht::swisstable_group_query::{Group, lanes, no_simd};
 use odht::{HashTable, bytes_needed};
 use std::alloc::Global;
@@ -111,11 +111,16 @@ fn tell_view<D: ByteStore>(view: &HashTable<DirectU32ToU32, D>, report: &mut Rep
     let found = view.as_raw().find(&[5, 0, 0, 0]);
     report.value("the raw value of 5", found.map(u32::from_le_bytes));
     report.holds("verify", view.verify());
+    report.holds("verify_within", view.verify_within(1));
+    report.holds("searches_within", view.searches_within(1));
+    report.holds("within no group", view.searches_within(0));
     tell_checked(view.raw_bytes(), report);
 }
 
 fn tell_checked(bytes: &[u8], report: &mut Report) {
     report.result("check_all", &check_all::<DirectU32ToU32>(bytes));
+    let within = check_all_within::<DirectU32ToU32>(bytes, DEFAULT_GROUPS);
+    report.result("check_all_within", &within);
 }
 
 /// Sizes, hash values, arrays of bytes, and both group searches.

@@ -15,6 +15,7 @@ pub trait Calls: Config {
     fn init(bytes: &mut [u8], items: usize, percent: u8) -> u32;
     fn open(bytes: &[u8]) -> u32;
     fn check(bytes: &[u8]) -> u32;
+    fn check_within(bytes: &[u8], groups: usize) -> u32;
     fn get(bytes: &[u8], key: &Self::Key, value: &mut Self::Value) -> u32;
     fn insert(
         bytes: &mut [u8],
@@ -79,6 +80,8 @@ macro_rules! declare {
                 pub fn open(bytes: *const u8, len: usize) -> u32;
                 #[link_name = concat!("odht_", stringify!($module), "_check")]
                 pub fn check(bytes: *const u8, len: usize) -> u32;
+                #[link_name = concat!("odht_", stringify!($module), "_check_within")]
+                pub fn check_within(bytes: *const u8, len: usize, groups: usize) -> u32;
                 #[link_name = concat!("odht_", stringify!($module), "_get")]
                 pub fn get(
                     bytes: *const u8, len: usize, key: passed!($key_kind $key), value: *mut $value,
@@ -131,6 +134,9 @@ macro_rules! declare {
             }
             fn check(bytes: &[u8]) -> u32 {
                 unsafe { $module::check(bytes.as_ptr(), bytes.len()) }
+            }
+            fn check_within(bytes: &[u8], groups: usize) -> u32 {
+                unsafe { $module::check_within(bytes.as_ptr(), bytes.len(), groups) }
             }
             fn get(bytes: &[u8], key: &$key, value: &mut $value) -> u32 {
                 unsafe { $module::get(bytes.as_ptr(), bytes.len(), by!($key_kind key), value) }

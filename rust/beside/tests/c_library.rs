@@ -12,7 +12,7 @@ mod with_the_library {
     use beside::c_library::{status, Calls, ABSENT, OK, REPLACED, TOO_SMALL, UNMADE};
     use beside::operations;
     use beside::random::Random;
-    use odht::{check_all, try_bytes_needed, HashTable, HashTableOwned};
+    use odht::{check_all, check_all_within, try_bytes_needed, HashTable, HashTableOwned};
     use std::fmt::Debug;
 
     trait Chance: Copy + PartialEq + Debug {
@@ -134,11 +134,19 @@ mod with_the_library {
             }
         }
 
-        // The whole check, and the order of inserts of what is valid.
-        fn check(&mut self) {
+        // The whole check, without and with a bound of searches.
+        fn check_bytes(&mut self) -> bool {
             let result = check_all::<C>(&self.ours);
-            assert_eq!(C::check(&self.theirs), status(&result));
-            if result.is_err() {
+            assert_eq!(C::check(&self.ours), status(&result));
+            let groups = 1 + self.random.below(3);
+            let within = check_all_within::<C>(&self.ours, groups);
+            assert_eq!(C::check_within(&self.ours, groups), status(&within));
+            result.is_ok()
+        }
+
+        // The check, and the order of inserts of what is valid.
+        fn check(&mut self) {
+            if !self.check_bytes() {
                 return;
             }
             let table = HashTableOwned::<C>::from_raw_bytes(&self.ours).unwrap();
@@ -178,8 +186,8 @@ mod with_the_library {
             }
             let result = HashTable::<C, _>::try_from_raw_bytes(&self.ours[..]);
             assert_eq!(C::open(&self.ours), status(&result));
-            assert_eq!(C::check(&self.ours), status(&check_all::<C>(&self.ours)));
             let is_opened = result.is_ok();
+            self.check_bytes();
             if !is_opened {
                 self.ours = before;
             }

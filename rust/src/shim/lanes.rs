@@ -19,6 +19,16 @@ pub use sse2::u8x16;
 )))]
 pub use words::u8x16;
 
+/// How often sixteen bytes were taken into lanes, in a thread: the tests of this crate count that.
+#[cfg(test)]
+pub mod loads {
+    use std::cell::Cell;
+
+    thread_local! {
+        pub static COUNT: Cell<usize> = const { Cell::new(0) };
+    }
+}
+
 #[cfg(test)]
 mod tests {
     // Each pair of bytes in each lane, with its neighbours at the extremes, against the comparisons of bytes.

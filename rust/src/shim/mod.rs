@@ -3,7 +3,7 @@
 
 #[macro_use]
 pub(crate) mod index;
-mod lanes;
+pub(crate) mod lanes;
 mod memory;
 
 pub use lanes::u8x16;

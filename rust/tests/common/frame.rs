@@ -4,7 +4,7 @@
 use super::configs::Plain;
 use super::random::Random;
 use super::reading::{Format, Hash, Reading};
-use odht::{check_all, table_len, Error, FxHashFn};
+use odht::{check_all, check_all_within, table_len, Error, FxHashFn};
 use odht::{HashFn, HashTable, HashTableOwned, UnHashFn};
 
 /// The format's name of a hash function.
@@ -49,6 +49,7 @@ pub fn calls_stay_in_frame<const K: usize, const V: usize, H: Named>(
     if let Ok(owned) = owned {
         assert_eq!(owned.raw_bytes(), bytes);
     }
+    bound_is_kept(&reading, &whole, view.as_ref().ok(), 1 + random.below(3));
     if let Ok(view) = view {
         assert_eq!(text(view.check_all()), whole);
         assert_eq!(view.verify(), whole.is_none());
@@ -57,6 +58,25 @@ pub fn calls_stay_in_frame<const K: usize, const V: usize, H: Named>(
         grows(&view, &reading);
     }
     whole
+}
+
+// Compares what the calls with a bound of searches say of the bytes, and of the view, if there is one, with the second
+// reading.
+fn bound_is_kept<const K: usize, const V: usize, H: Named>(
+    reading: &Reading<'_>,
+    whole: &Option<String>,
+    view: Option<&View<'_, K, V, H>>,
+    groups: usize,
+) {
+    let expected = reading.error_within(whole, groups);
+    assert_eq!(text(check_all_within::<Plain<K, V, H>>(reading.bytes, groups)), expected);
+    let owned = HashTableOwned::<Plain<K, V, H>>::from_raw_bytes_within(reading.bytes, groups);
+    assert_eq!(text(owned.as_ref()), expected);
+    assert!(owned.map_or(true, |owned| owned.raw_bytes() == reading.bytes));
+    if let Some(view) = view {
+        assert_eq!(view.verify_within(groups), expected.is_none());
+        assert_eq!(view.searches_within(groups), reading.first_longer(groups).is_none());
+    }
 }
 
 /// Compares what the calls say of a table at the front of the bytes with the second reading. Returns its length, where

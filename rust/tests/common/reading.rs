@@ -233,6 +233,14 @@ impl<'b> Reading<'b> {
             .or_else(|| self.unreachable_error())
     }
 
+    /// The first error of the whole check with a bound of searches, in groups, where that without it has this error.
+    pub fn error_within(&self, whole: &Option<String>, groups: usize) -> Option<String> {
+        match whole {
+            Some(text) if !text.starts_with("Key in slot") => whole.clone(),
+            _ => self.too_long_error(groups).or_else(|| whole.clone()),
+        }
+    }
+
     fn late_header_error(&self) -> Option<String> {
         let (factor, padding) = (self.factor(), &self.bytes[30..32]);
         if factor < 655 {
@@ -255,6 +263,22 @@ impl<'b> Reading<'b> {
         let max = self.maximum();
         (stated > max)
             .then(|| format!("Header states {stated} items but at most {max} are allowed"))
+    }
+
+    /// The least home of which none of so many groups has a control byte of 128 or more. A group is of sixteen control
+    /// bytes, of which those behind the last slot's are the mirror's.
+    pub fn first_longer(&self, groups: usize) -> Option<usize> {
+        let slots = self.slots();
+        let has_free = |start: usize| (start..start + 16).any(|at| self.control(at) >= 128);
+        let start = |home: usize, group: usize| (home + 8 * group * (group + 1)) % slots;
+        let is_within =
+            |home| (0..groups.min(slots / 16)).any(|group| has_free(start(home, group)));
+        (0..slots).find(|home| !is_within(*home))
+    }
+
+    fn too_long_error(&self, groups: usize) -> Option<String> {
+        let home = self.first_longer(groups)?;
+        Some(format!("Searches from slot {home} may read more than {groups} groups"))
     }
 
     fn unreachable_error(&self) -> Option<String> {

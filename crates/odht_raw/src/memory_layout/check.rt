@@ -12,7 +12,7 @@ use crate::config::{Coded, Config};
 use crate::error::Error;
 use crate::raw_table::RawTable;
 
-/// A bound of searches, in groups, that tables of hashes that vary keep: nearly twice the longest search that was seen
+/// A bound of searches, in groups, that tables of hashes that vary keep: about twice the longest search that was seen
 /// in random tables of up to 2^24 slots at 95 percent (docs/FORMAT.md, "How long searches are"). Fuller or larger ones
 /// may exceed it.
 pub const DEFAULT_GROUPS: usize = 128;

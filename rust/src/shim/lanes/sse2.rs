@@ -30,6 +30,8 @@ impl u8x16 {
     /// The bytes of an array.
     #[inline(always)]
     pub fn from_array(bytes: [u8; 16]) -> Self {
+        #[cfg(test)]
+        super::loads::COUNT.set(super::loads::COUNT.get() + 1);
         let number = u128::from_le_bytes(bytes);
         u8x16(sse2!(_mm_set_epi64x((number >> 64) as i64, number as i64)))
     }

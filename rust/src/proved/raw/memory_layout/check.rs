@@ -7,7 +7,7 @@ use crate::proved::raw::config::Config;
 use crate::proved::raw::error::Error;
 use crate::proved::raw::raw_table::RawTable;
 
-/// A bound of searches, in groups, that tables of hashes that vary keep: nearly twice the longest search that was seen
+/// A bound of searches, in groups, that tables of hashes that vary keep: about twice the longest search that was seen
 /// in random tables of up to 2^24 slots at 95 percent (docs/FORMAT.md, "How long searches are"). Fuller or larger ones
 /// may exceed it.
 pub const DEFAULT_GROUPS: usize = 128;
