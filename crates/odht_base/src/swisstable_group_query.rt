@@ -7,11 +7,13 @@ ghost use Rattle.std.specs.Prelude.{◌≡◌, ℕ, ◌%◌, ◌<◌, List, Opti
 ghost use Rattle.std.specs.Prelude.{is_some};
 ghost use Rattle.odht_base.specs.Groups.{IsReport, first_free};
 
+mod free;
 pub mod lanes;
 mod mask;
 pub mod no_simd;
 mod occupied;
 
+pub use free::late_free;
 pub use lanes::{GROUP_SIZE, GroupQuery};
 pub use occupied::OccupiedQuery;
 

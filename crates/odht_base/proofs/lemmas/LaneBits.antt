@@ -1,8 +1,8 @@
 -- The masks of a group of sixteen lanes.
-use Rattle.std.proofs.Common.{◌≡◌, ℕ, zero, suc, ◌+◌, ◌-◌, ◌*◌, ◌/◌, ◌%◌, ◌^◌, ◌<◌, ◌≤◌, Bool, true, false, cond, List, [], ◌∷◌, length, map, take, replicate, refl, sym, ap, ap₂, ◌∙◌, arith, nat_eq, nat_le, nat_lt, w8, bit_and, pow-suc, pow_mono, length-take}
+use Rattle.std.proofs.Common.{◌≡◌, ℕ, zero, suc, ◌+◌, ◌-◌, ◌*◌, ◌/◌, ◌%◌, ◌^◌, ◌<◌, ◌≤◌, Bool, true, false, cond, List, [], ◌∷◌, length, map, take, drop, length-drop, replicate, refl, sym, ap, ap₂, ◌∙◌, arith, nat_eq, nat_le, nat_lt, w8, bit_and, pow-suc, pow_mono, length-take}
 use Rattle.std.proofs.Math.Arith.{mod-mul}
 use Rattle.std.proofs.Math.Nat.{zero-mod}
-use Rattle.std.proofs.lemmas.List.{length-map, take-map}
+use Rattle.std.proofs.lemmas.List.{length-map, take-map, drop-map}
 use Rattle.std.proofs.lemmas.Nat.{and_mask}
 use Rattle.std.specs.Prelude.{slice_get}
 use Rattle.std.proofs.lemmas.Simd.{bitmask_splat, mask_l-mod}
@@ -73,3 +73,36 @@ occupied_lanes g n l m =
     ∙ bits_mask 64 0 (take n (map (λ x. nat_lt x 128) g)) (omega (arith, length-take n (map (λ x. nat_lt x 128) g), length-map g (λ x. nat_lt x 128)))
     ∙ ap (positions_of 0) (take-map (λ x. nat_lt x 128) n g)
     ∙ sym (occupied-positions (take n g))
+
+-- the mask without its first eight answers
+next_half : (b : Bool) (bs : List Bool) → mask_l (b ∷ bs) / 2 ≡ mask_l bs
+next_half true bs = omega arith
+next_half false bs = omega arith
+
+mask_l-drop : (bs : List Bool) → 8 ≤ length bs → mask_l bs / 256 ≡ mask_l (drop 8 bs)
+mask_l-drop (a ∷ b ∷ c ∷ d ∷ e ∷ f ∷ g ∷ h ∷ bs) l =
+    omega (
+      arith,
+      next_half a (b ∷ c ∷ d ∷ e ∷ f ∷ g ∷ h ∷ bs),
+      next_half b (c ∷ d ∷ e ∷ f ∷ g ∷ h ∷ bs),
+      next_half c (d ∷ e ∷ f ∷ g ∷ h ∷ bs),
+      next_half d (e ∷ f ∷ g ∷ h ∷ bs),
+      next_half e (f ∷ g ∷ h ∷ bs),
+      next_half f (g ∷ h ∷ bs),
+      next_half g (h ∷ bs),
+      next_half h bs,
+    )
+mask_l-drop bs l = absurd (omega (arith, l))
+
+-- the first from the eighth on of the lanes of 128 or more
+pub late_lanes : (g : List ℕ) → length g ≡ 16 → slice_get (set_bits (mask_l (map (top 7) (zip2 (λ a b. cond (nat_le a b) 255 0) (replicate 16 128) g)) % 2 ^ 64 / 2 ^ 8)) 0 ≡ first_free (drop 8 g)
+late_lanes g l =
+    let tests = map (λ x. nat_le 128 x) g in
+    let size : length tests ≤ 64 = omega (arith, length-map g (λ x. nat_le 128 x)) in
+    let many : 8 ≤ length tests = omega (arith, l, length-map g (λ x. nat_le 128 x)) in
+    ap (λ m. slice_get (set_bits (mask_l m % 2 ^ 64 / 2 ^ 8)) 0) (tests_left (λ a b. nat_le a b) 128 16 g l)
+    ∙ ap (λ m. slice_get (set_bits (m / 2 ^ 8)) 0) (mask_l-mod tests 64 size)
+    ∙ ap (λ m. slice_get (set_bits m) 0) (mask_l-drop tests many)
+    ∙ ap (λ xs. slice_get xs 0) (bits_mask 64 0 (drop 8 tests) (omega (arith, length-drop 8 tests, size)))
+    ∙ ap (λ ts. slice_get (positions_of 0 ts) 0) (drop-map (λ x. nat_le 128 x) 8 g)
+    ∙ first_is_position (λ x. nat_le 128 x) (drop 8 g)

@@ -1,20 +1,19 @@
 //! How many groups a search may read, told from control bytes alone.
-ghost use Rattle.std.specs.Prelude.{◌≡◌, ◌<◌, ◌≤◌, ◌↔◌, ℕ, List, IsTrue, is_some, None};
+ghost use Rattle.std.specs.Prelude.{◌≡◌, ◌<◌, ◌≤◌, ◌↔◌, ℕ, List, IsTrue, IfSome, None, false};
 ghost use Rattle.odht_base.specs.Format.{format_of};
 ghost use Rattle.odht_base.specs.Search.{groups_read};
 ghost use Rattle.odht_base.specs.Table.{Table};
 ghost use Rattle.odht_base.specs.Valid.{IsPartsOf};
 ghost use Rattle.odht_base.specs.Bytes.{bytes_at};
-ghost use Rattle.odht_base.specs.Groups.{first_free};
+ghost use Rattle.odht_base.specs.Groups.{late_free};
 ghost use Rattle.odht_header.specs.Refusals.{longer_refusal};
-ghost use Rattle.odht_base.specs.Bounds.{ends_within, first_longer};
+ghost use Rattle.odht_base.specs.Bounds.{ends_within, first_longer, AreWithin};
 
 use super::{ProbeSeq, RawTable};
 use crate::bytes::ByteArray;
 use crate::error::Error;
 use crate::hash::HashFn;
-use crate::swisstable_group_query::lanes::GroupQuery;
-use crate::swisstable_group_query::{Group, REFERENCE_GROUP_SIZE};
+use crate::swisstable_group_query::{REFERENCE_GROUP_SIZE, late_free};
 
 impl<'a, K: ByteArray, V: ByteArray, H: HashFn> RawTable<'a, K, V, H> {
     /// `SearchTooLong` of the least home from which a search may read more groups than the bound; None without a bound.
@@ -44,47 +43,56 @@ impl<'a, K: ByteArray, V: ByteArray, H: HashFn> RawTable<'a, K, V, H> {
     }
 
     /// The least home from which a search may read more than `groups` groups: none of the control bytes in these counts
-    /// as free. None where no search reads more. At most `groups` reads of sixteen bytes a slot.
+    /// as free. None where no search reads more. At most `groups` reads of sixteen bytes a slot, and few where most
+    /// groups have a free byte.
     #[inline(never)]
     pub(crate) fn first_longer(&self, groups: usize) -> Option<usize>
         ensures { result ≡ first_longer self.now.control groups }
     {
-        for home in 0..self.entries.len() {
-            if !self.ends_within(home, groups) {
-                return Some(home);
+        let mut home = 0;
+        'homes: while home < self.entries.len() {
+            match self.homes_within(home, groups) {
+                Some(count) => home += count,
+                None => return Some(home),
             }
         }
         None
     }
 
-    // Whether one of the first `groups` groups that a search from this home reads has a byte that counts as free.
+    // From this home and those after it, so many in all, no search reads more than `groups` groups. None where one from
+    // this home may.
+    //
+    // The groups that these searches read begin one slot after the other. So where one has a free byte, those that begin
+    // up to it have it too; but not behind the last slot, where the mirror may differ from what it mirrors.
     #[inline]
-    fn ends_within(&self, home: usize, groups: usize) -> bool
+    fn homes_within(&self, home: usize, groups: usize) -> Option<usize>
         requires { home < self.now.entries.slots }
-        ensures { result ≡ ends_within self.now.control groups home }
+        ensures within { IfSome result (AreWithin self.now.control groups home) }
+        ensures longer { result ≡ None → ends_within self.now.control groups home ≡ false }
     {
         let mask = self.entries.len() - 1;
         let mut probe = ProbeSeq::<REFERENCE_GROUP_SIZE>::new(home, mask);
         let mut left = groups;
         'groups: while left > 0 {
-            if self.has_free(probe.index()) {
-                return true;
+            let start = probe.index();
+            if let Some(index) = self.late_free(start) {
+                return Some(index.min(mask - start) + 1);
             }
             if probe.is_last() {
-                return false;
+                return None;
             }
             probe.advance(mask);
             left -= 1;
         }
-        false
+        None
     }
-    // Whether one of the sixteen control bytes from `start` on counts as free.
+
+    // The index of a free one of the sixteen control bytes from `start` on, a late one where there is one.
     #[inline]
-    fn has_free(&self, start: usize) -> bool
+    fn late_free(&self, start: usize) -> Option<usize>
         requires { start < self.now.entries.slots }
-        ensures { result ≡ is_some (first_free (bytes_at self.now.control start 16)) }
+        ensures { result ≡ late_free (bytes_at self.now.control start 16) }
     {
-        let control = &self.control[start..start + REFERENCE_GROUP_SIZE];
-        GroupQuery::of(control, 0).first_empty().is_some()
+        late_free(&self.control[start..start + REFERENCE_GROUP_SIZE])
     }
 }

@@ -5,11 +5,13 @@
 //! needs of it. There are two forms, [`no_simd::GroupQuery`] and [`lanes::GroupQuery`]. Tables use the one that is
 //! named below; what they promise does not depend on the choice.
 
+mod free;
 pub mod lanes;
 mod mask;
 pub mod no_simd;
 mod occupied;
 
+pub use free::late_free;
 pub use lanes::{GroupQuery, GROUP_SIZE};
 pub use occupied::OccupiedQuery;
 

@@ -1,6 +1,6 @@
 use Rattle.std.proofs.Common.{◌≡◌, ◌<◌, ◌≤◌, ◌+◌, ◌*◌, ◌%◌, ℕ, false}
 use Rattle.odht_raw.proofs.lemmas.Bounds.{has_free}
-use Rattle.odht_raw.proofs.raw_table.RawTable.ends_within.Given as goal
+use Rattle.odht_raw.proofs.raw_table.RawTable.homes_within.Given as goal
 
 -- the probe is at the first position of a group, and the groups before it have no free byte
 abbrev pub invariant-groups : goal.invariant-groups
