@@ -2,6 +2,8 @@
 //! and beside `HashMap`. It prints a table for each kind of key, and two of the whole check; or the
 //! line of an order of inserts alone. README.md says how it measures.
 
+#[cfg(original)]
+mod called;
 mod check;
 mod keys;
 #[allow(dead_code)]
@@ -16,6 +18,7 @@ mod order;
 #[cfg(original)]
 mod original;
 mod ours;
+mod pages;
 mod run;
 mod runs;
 #[allow(dead_code)]
@@ -45,6 +48,8 @@ fn print_words() {
         "nanoseconds for each item; odht and original: the best of all rounds, and the median;"
     );
     println!("HashMap: the best; ratio: odht to original, the median of five runs, and its range;");
+    println!("view kept, unchecked, checked: the original called as a function of C would be, with a table");
+    println!("that was opened once, and with bytes that each call opens without a check, or with one;");
     println!("below 1 odht is faster; moved: the same program with all its code elsewhere");
 }
 
