@@ -1,6 +1,6 @@
-//! The original as a library for C would have it: each call is one of a function that the compiler cannot inline, with a
-//! status and an out-parameter. Its caller keeps an opened table, or hands over bytes that each call opens: without a
-//! check, or with that of the header, the length and ten slots.
+//! The original as a library for C would have it: each call is one of a function that the compiler cannot inline,
+//! with a status and an out-parameter. Its caller keeps an opened table, or hands over bytes that each call opens:
+//! without a check, or with that of the header, the length and ten slots.
 
 use std::hint::black_box;
 use std::slice;
@@ -28,11 +28,7 @@ const ABSENT: u32 = 32;
 const REPLACED: u32 = 33;
 
 #[inline(always)]
-fn look_up<K: Configured, const JOB: usize>(
-    table: &View<K, JOB>,
-    key: &K,
-    value: &mut u32,
-) -> u32 {
+fn look_up<K: Configured, const JOB: usize>(table: &View<K, JOB>, key: &K, value: &mut u32) -> u32 {
     match table.get(key) {
         Some(found) => {
             *value = found;

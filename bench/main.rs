@@ -49,7 +49,9 @@ fn print_words() {
     );
     println!("HashMap: the best; ratio: odht to original, the median of five runs, and its range;");
     println!("view kept, unchecked, checked: the original called as a function of C would be, with a table");
-    println!("that was opened once, and with bytes that each call opens without a check, or with one;");
+    println!(
+        "that was opened once, and with bytes that each call opens without a check, or with one;"
+    );
     println!("below 1 odht is faster; moved: the same program with all its code elsewhere");
 }
 

@@ -66,7 +66,10 @@ impl<K: Key> Measure<K> {
         let ways = self.ways.iter().map(|(_, job)| *job);
         let maps = self.maps.into_iter().flatten();
         let called = self.called.into_iter().flatten();
-        ways.chain(self.original).chain(called).chain(maps).collect()
+        ways.chain(self.original)
+            .chain(called)
+            .chain(maps)
+            .collect()
     }
 
     /// Times all jobs; `begins` is as that of `times`.
@@ -96,7 +99,8 @@ pub struct Taken {
 /// Runs every job once and looks at what it writes: that of all ways and of the original must be
 /// equal.
 pub fn check_answers<K: Key>(measure: &Measure<K>, work: &mut Work<K>) {
-    let tables = measure.ways.len() + measure.original.iter().len() + 3 * measure.called.iter().len();
+    let tables =
+        measure.ways.len() + measure.original.iter().len() + 3 * measure.called.iter().len();
     let mut first = None;
     for (place, job) in measure.jobs().into_iter().enumerate() {
         work.scrub(measure.written);

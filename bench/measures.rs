@@ -3,12 +3,12 @@
 use crate::maps::{self, AsTable, Own};
 use crate::measure::{Job, Measure};
 use crate::order;
-#[cfg(original)]
-use crate::{called, original};
 use crate::ours::{self, Calls};
 use crate::pages;
 use crate::run::Run;
 use crate::work::{Work, Written};
+#[cfg(original)]
+use crate::{called, original};
 
 /// Keys that every contender has tables for.
 #[cfg(original)]
@@ -54,7 +54,11 @@ fn presized<K: Contest>() -> Measure<K> {
         .way("presized, insert_all", ours::insert_all)
         .way("presized, insert from C", ours::insert)
         .beside(original_job!(insert_presized), map_jobs!(insert_presized))
-        .beside_calls(original_calls!(insert_kept, insert_unchecked, insert_checked))
+        .beside_calls(original_calls!(
+            insert_kept,
+            insert_unchecked,
+            insert_checked
+        ))
 }
 
 /// A further call that looks keys up is one more job of `ours`, and one more line here and below.

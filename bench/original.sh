@@ -1,6 +1,6 @@
 #!/bin/sh
-# original.sh FOLDER TO: copies the sources of the Rust crate to TO/src. FOLDER is a checkout, or a flat folder in which a
-# file is named as its path, with `--` for `/` and `.txt` behind it: src--lib.rs.txt or, from one folder above,
+# original.sh FOLDER TO: copies the sources of the Rust crate to TO/src. FOLDER is a checkout, or a flat folder in
+# which a file is named as its path, with `--` for `/` and `.txt` behind it: src--lib.rs.txt or, from one folder above,
 # src--src--lib.rs.txt.
 set -e
 if [ -z "$1" ]; then

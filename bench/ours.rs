@@ -135,7 +135,8 @@ pub fn get<K: Calls>(work: &mut Work<K>) {
 /// One call for each key of a table that was opened once.
 pub fn view_get<K: Calls>(work: &mut Work<K>) {
     let view = K::open_view(&work.table).expect("the table is valid");
-    work.answers.write_each(&work.queries, |key| K::view_get(&view, key));
+    work.answers
+        .write_each(&work.queries, |key| K::view_get(&view, key));
 }
 
 pub fn walk<K: Calls>(work: &mut Work<K>) {

@@ -2,18 +2,18 @@
 //! and the standard library's map. It prints a table, and draws two pictures of it. README.md, "Peers", says how.
 #![allow(dead_code)]
 
+#[path = "peers/contenders.rs"]
+mod contenders;
 mod keys;
 mod library;
 mod maps;
 mod measure;
 mod ours;
 mod pages;
-#[path = "peers/contenders.rs"]
-mod contenders;
-#[path = "peers/picture.rs"]
-mod picture;
 #[path = "peers/pairs.rs"]
 mod pairs;
+#[path = "peers/picture.rs"]
+mod picture;
 #[path = "../bindings/rust/src/sys.rs"]
 mod sys;
 mod table;
@@ -47,7 +47,9 @@ fn columns() -> Vec<Column> {
 }
 
 fn row(power: u32, told: &Told) -> Vec<String> {
-    let opened = told.open.map_or("-".to_string(), |time| format!("{:.1}", time / 1000.0));
+    let opened = told
+        .open
+        .map_or("-".to_string(), |time| format!("{:.1}", time / 1000.0));
     vec![
         format!("10^{power}"),
         told.name.to_string(),
@@ -84,7 +86,10 @@ fn draw(all: &[(u32, Vec<Told>)], folder: &Path, markdown: bool) {
         println!("\n![All peers at 10^{power} items](peers.svg)");
         println!("\n![A lookup of a present key, by the number of items](peers_by_size.svg)");
     } else {
-        println!("\ndrawn: {0}/peers.svg, {0}/peers_by_size.svg", folder.display());
+        println!(
+            "\ndrawn: {0}/peers.svg, {0}/peers_by_size.svg",
+            folder.display()
+        );
     }
 }
 
@@ -94,7 +99,11 @@ fn main() {
     let (folder, pictures) = (Path::new(&words[0]), Path::new(&words[1]));
     let is_asked = |word: &str| words[2..].iter().any(|given| given == word);
     let markdown = is_asked("markdown");
-    let sizes = if is_asked("quick") { &QUICK[..] } else { &SIZES[..] };
+    let sizes = if is_asked("quick") {
+        &QUICK[..]
+    } else {
+        &SIZES[..]
+    };
     print_heading("Peers", markdown);
     println!("\nnanoseconds for each item or lookup, microseconds to open; the best of the rounds");
     for name in left_out() {

@@ -1,6 +1,7 @@
 #!/bin/sh
-# peers.sh WORD..: builds build/peers with those of the other libraries that are installed, and runs it with these words.
-# It needs build/libodht.a. The compiler for Rust and its flags are in BENCH_RUST, that for C is in CC.
+# peers.sh PICTURES WORD..: builds build/peers with those of the other libraries that are installed, and runs it with
+# these words. It draws into the folder PICTURES, and needs build/libodht.a. The compiler for Rust and its flags are in
+# BENCH_RUST, that for C is in CC.
 set -e
 here=$(dirname "$0")
 to=build/peers_room

@@ -75,15 +75,7 @@ impl<K: Contest> Run<K> {
         let taken = measure.take(self.plan.rounds, self.plan.number, &mut self.work);
         let ([kept, unchecked, checked], [own, table]) = (&taken.called, &taken.maps);
         for ((name, _), way) in measure.ways.iter().zip(&taken.ways) {
-            let times = [
-                way,
-                &taken.original,
-                kept,
-                unchecked,
-                checked,
-                own,
-                table,
-            ];
+            let times = [way, &taken.original, kept, unchecked, checked, own, table];
             println!("{name};{}", times.map(|times| self.told(times)).join(";"));
         }
     }

@@ -74,7 +74,9 @@ fn take_map<S: BuildHasher + Default>(pairs: &Pairs, _: &Path) -> Told {
     let bytes = ALLOCATED.load(Relaxed) - before;
     let round = |keys: &[u64], count: usize, sum: u64| {
         let found = keys.iter().filter_map(|key| map.get(key));
-        let found = found.fold((0, 0), |(count, sum), value| (count + 1, sum + u64::from(*value)));
+        let found = found.fold((0, 0), |(count, sum), value| {
+            (count + 1, sum + u64::from(*value))
+        });
         assert_eq!(black_box(found), (count, sum));
     };
     let sum = pairs.sum();
@@ -161,7 +163,12 @@ fn c_name(path: &Path) -> CString {
 macro_rules! in_file {
     ($name:literal, $build:ident, $open:ident, $get:ident, $close:ident) => {{
         extern "C" {
-            fn $build(path: *const c_char, keys: *const u64, values: *const u32, count: usize) -> c_int;
+            fn $build(
+                path: *const c_char,
+                keys: *const u64,
+                values: *const u32,
+                count: usize,
+            ) -> c_int;
             fn $open(path: *const c_char) -> *mut c_void;
             fn $get(opened: *mut c_void, keys: *const u64, count: usize, sum: *mut u64) -> usize;
             fn $close(opened: *mut c_void);
@@ -182,8 +189,20 @@ macro_rules! in_file {
 /// Those that are built in.
 pub fn contenders() -> Vec<Contender> {
     vec![
-        in_file!("odht, get_all", odht_all_build, odht_all_open, odht_all_get, odht_all_close),
-        in_file!("odht, a call a key", odht_each_build, odht_each_open, odht_each_get, odht_each_close),
+        in_file!(
+            "odht, get_all",
+            odht_all_build,
+            odht_all_open,
+            odht_all_get,
+            odht_all_close
+        ),
+        in_file!(
+            "odht, a call a key",
+            odht_each_build,
+            odht_each_open,
+            odht_each_get,
+            odht_each_close
+        ),
         Contender {
             name: "HashMap, Fx",
             take: take_map::<FxBuild>,
@@ -193,10 +212,22 @@ pub fn contenders() -> Vec<Contender> {
             take: take_map::<RandomState>,
         },
         #[cfg(cdb)]
-        in_file!("TinyCDB", tinycdb_build, tinycdb_open, tinycdb_get, tinycdb_close),
+        in_file!(
+            "TinyCDB",
+            tinycdb_build,
+            tinycdb_open,
+            tinycdb_get,
+            tinycdb_close
+        ),
         #[cfg(lmdb)]
         in_file!("LMDB", lmdb_build, lmdb_open, lmdb_get, lmdb_close),
         #[cfg(sqlite)]
-        in_file!("SQLite", sqlite_build, sqlite_open, sqlite_get, sqlite_close),
+        in_file!(
+            "SQLite",
+            sqlite_build,
+            sqlite_open,
+            sqlite_get,
+            sqlite_close
+        ),
     ]
 }

@@ -31,7 +31,10 @@ impl Pairs {
 
     /// What the values of the present keys add up to.
     pub fn sum(&self) -> u64 {
-        self.present.iter().map(|key| u64::from(value_of(key))).sum()
+        self.present
+            .iter()
+            .map(|key| u64::from(value_of(key)))
+            .sum()
     }
 
     /// Small tables are built and opened more often, since a single time says little.

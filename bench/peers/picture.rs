@@ -1,5 +1,5 @@
-//! Two pictures of the peers as SVG: bars of all that was measured of the largest tables, and the time of a lookup by the
-//! number of items. Each has a background of its own, light or dark as the reader asks for.
+//! Two pictures of the peers as SVG: bars of all that was measured of the largest tables, and the time of a lookup by
+//! the number of items. Each has a background of its own, light or dark as the reader asks for.
 
 use std::fmt::Write;
 
@@ -15,7 +15,9 @@ const STYLE: &str = "<style>
 </style>";
 
 /// One for each peer, told apart in light and in dark.
-const COLOURS: [&str; 7] = ["#0072b2", "#56b4e9", "#009e73", "#cc79a7", "#e69f00", "#d55e00", "#999999"];
+const COLOURS: [&str; 7] = [
+    "#0072b2", "#56b4e9", "#009e73", "#cc79a7", "#e69f00", "#d55e00", "#999999",
+];
 
 fn begin(width: usize, height: usize) -> String {
     format!(
@@ -42,15 +44,22 @@ const PANELS: [Panel; 5] = [
     ("lookup of an absent key, ns", |told| Some(told.absent)),
     ("build, ns an item", |told| Some(told.build)),
     ("bytes an item", |told| Some(told.bytes)),
-    ("open, microseconds", |told| told.open.map(|time| time / 1000.0)),
+    ("open, microseconds", |told| {
+        told.open.map(|time| time / 1000.0)
+    }),
 ];
 
 /// All panels, two beside one another. Shorter is better in each.
 pub fn bars(power: u32, told: &[Told]) -> String {
     let height = BAR * (told.len() + 2);
     let mut svg = begin(2 * PANEL, 40 + height * PANELS.len().div_ceil(2));
-    let items = format!("10^{power} items from numbers of 64 bits to numbers of 32 bits; shorter is better");
-    put(&mut svg, format_args!("<text class=\"head\" x=\"16\" y=\"26\">{items}</text>"));
+    let items = format!(
+        "10^{power} items from numbers of 64 bits to numbers of 32 bits; shorter is better"
+    );
+    put(
+        &mut svg,
+        format_args!("<text class=\"head\" x=\"16\" y=\"26\">{items}</text>"),
+    );
     for (place, panel) in PANELS.iter().enumerate() {
         let (x, y) = (16 + place % 2 * PANEL, 60 + place / 2 * height);
         put_panel(&mut svg, panel, told, (x, y));
@@ -59,20 +68,33 @@ pub fn bars(power: u32, told: &[Told]) -> String {
 }
 
 fn put_panel(svg: &mut String, (head, of): &Panel, told: &[Told], (x, y): (usize, usize)) {
-    put(svg, format_args!("<text class=\"head\" x=\"{x}\" y=\"{y}\">{head}</text>"));
+    put(
+        svg,
+        format_args!("<text class=\"head\" x=\"{x}\" y=\"{y}\">{head}</text>"),
+    );
     let most = told.iter().filter_map(of).fold(0.0, f64::max);
     for (place, peer) in told.iter().enumerate() {
         let base = y + BAR * (place + 1);
-        put(svg, format_args!("<text x=\"{x}\" y=\"{base}\">{}</text>", peer.name));
+        put(
+            svg,
+            format_args!("<text x=\"{x}\" y=\"{base}\">{}</text>", peer.name),
+        );
         let (start, text) = (x + NAME, base - 11);
         let Some(number) = of(peer) else {
-            put(svg, format_args!("<text x=\"{start}\" y=\"{base}\">-</text>"));
+            put(
+                svg,
+                format_args!("<text x=\"{start}\" y=\"{base}\">-</text>"),
+            );
             continue;
         };
         let (long, kind) = (LONGEST * number / most, kind_of(peer));
-        put(svg, format_args!("<rect class=\"{kind}\" x=\"{start}\" y=\"{text}\" width=\"{long:.1}\" height=\"13\"/>"));
+        let place = format!("x=\"{start}\" y=\"{text}\" width=\"{long:.1}\" height=\"13\"");
+        put(svg, format_args!("<rect class=\"{kind}\" {place}/>"));
         let end = start as f64 + long + 6.0;
-        put(svg, format_args!("<text x=\"{end:.1}\" y=\"{base}\">{}</text>", shown(number)));
+        put(
+            svg,
+            format_args!("<text x=\"{end:.1}\" y=\"{base}\">{}</text>", shown(number)),
+        );
     }
 }
 
@@ -105,7 +127,11 @@ struct Scale {
 
 impl Scale {
     fn of(all: &[(u32, Vec<Told>)]) -> Scale {
-        let times = || all.iter().flat_map(|(_, told)| told).map(|peer| peer.present.log10());
+        let times = || {
+            all.iter()
+                .flat_map(|(_, told)| told)
+                .map(|peer| peer.present.log10())
+        };
         Scale {
             low: times().fold(f64::INFINITY, f64::min).floor(),
             high: times().fold(f64::NEG_INFINITY, f64::max).ceil(),
@@ -125,15 +151,32 @@ fn x(all: &[(u32, Vec<Told>)], place: usize) -> f64 {
 pub fn by_size(all: &[(u32, Vec<Told>)]) -> String {
     let scale = Scale::of(all);
     let mut svg = begin(760, 420);
-    put(&mut svg, format_args!("<text class=\"head\" x=\"16\" y=\"26\">lookup of a present key, ns, by the number of items</text>"));
+    let head = "lookup of a present key, ns, by the number of items";
+    put(
+        &mut svg,
+        format_args!("<text class=\"head\" x=\"16\" y=\"26\">{head}</text>"),
+    );
     put_axes(&mut svg, all, &scale);
     let mut labels = labels(all, &scale);
     spread(&mut labels);
     for (peer, colour) in COLOURS.iter().enumerate().take(labels.len()) {
         put_line(&mut svg, all, peer, colour, &scale);
         let (at, name) = (LEFT + WIDE + 28.0, labels[peer].1);
-        put(&mut svg, format_args!("<circle cx=\"{:.1}\" cy=\"{:.1}\" r=\"5\" fill=\"{colour}\"/>", at - 10.0, labels[peer].0));
-        put(&mut svg, format_args!("<text x=\"{at:.1}\" y=\"{:.1}\">{name}</text>", labels[peer].0 + 4.0));
+        put(
+            &mut svg,
+            format_args!(
+                "<circle cx=\"{:.1}\" cy=\"{:.1}\" r=\"5\" fill=\"{colour}\"/>",
+                at - 10.0,
+                labels[peer].0
+            ),
+        );
+        put(
+            &mut svg,
+            format_args!(
+                "<text x=\"{at:.1}\" y=\"{:.1}\">{name}</text>",
+                labels[peer].0 + 4.0
+            ),
+        );
     }
     svg + "</svg>\n"
 }
@@ -142,30 +185,59 @@ fn put_axes(svg: &mut String, all: &[(u32, Vec<Told>)], scale: &Scale) {
     let (right, mut power) = (LEFT + WIDE, scale.low);
     while power <= scale.high {
         let (time, y) = (10_f64.powf(power), scale.y(10_f64.powf(power)));
-        put(svg, format_args!("<path class=\"line\" stroke-width=\"0.5\" d=\"M{LEFT} {y:.1}H{right}\"/>"));
-        put(svg, format_args!("<text class=\"number\" x=\"{:.1}\" y=\"{:.1}\">{time}</text>", LEFT - 8.0, y + 4.0));
+        put(
+            svg,
+            format_args!(
+                "<path class=\"line\" stroke-width=\"0.5\" d=\"M{LEFT} {y:.1}H{right}\"/>"
+            ),
+        );
+        put(
+            svg,
+            format_args!(
+                "<text class=\"number\" x=\"{:.1}\" y=\"{:.1}\">{time}</text>",
+                LEFT - 8.0,
+                y + 4.0
+            ),
+        );
         power += 1.0;
     }
     for (place, (power, _)) in all.iter().enumerate() {
         let (x, y) = (x(all, place), TOP + HIGH + 24.0);
-        put(svg, format_args!("<text x=\"{:.1}\" y=\"{y:.1}\">10^{power}</text>", x - 16.0));
+        put(
+            svg,
+            format_args!("<text x=\"{:.1}\" y=\"{y:.1}\">10^{power}</text>", x - 16.0),
+        );
     }
 }
 
 fn put_line(svg: &mut String, all: &[(u32, Vec<Told>)], peer: usize, colour: &str, scale: &Scale) {
-    let points = all.iter().enumerate().map(|(place, (_, told))| (x(all, place), scale.y(told[peer].present)));
+    let points = all
+        .iter()
+        .enumerate()
+        .map(|(place, (_, told))| (x(all, place), scale.y(told[peer].present)));
     let points: Vec<String> = points.map(|(x, y)| format!("{x:.1},{y:.1}")).collect();
-    put(svg, format_args!("<polyline fill=\"none\" stroke=\"{colour}\" stroke-width=\"2\" points=\"{}\"/>", points.join(" ")));
+    put(
+        svg,
+        format_args!(
+            "<polyline fill=\"none\" stroke=\"{colour}\" stroke-width=\"2\" points=\"{}\"/>",
+            points.join(" ")
+        ),
+    );
     for point in points {
         let (x, y) = point.split_once(',').expect("a point has two numbers");
-        put(svg, format_args!("<circle cx=\"{x}\" cy=\"{y}\" r=\"3.5\" fill=\"{colour}\"/>"));
+        put(
+            svg,
+            format_args!("<circle cx=\"{x}\" cy=\"{y}\" r=\"3.5\" fill=\"{colour}\"/>"),
+        );
     }
 }
 
 /// Where each line ends, with its name.
 fn labels(all: &[(u32, Vec<Told>)], scale: &Scale) -> Vec<(f64, &'static str)> {
     let (_, last) = all.last().expect("there are sizes");
-    last.iter().map(|peer| (scale.y(peer.present), peer.name)).collect()
+    last.iter()
+        .map(|peer| (scale.y(peer.present), peer.name))
+        .collect()
 }
 
 /// Moves names down that would be upon another, from the top one on.
