@@ -6,6 +6,7 @@ set -e
 here=$(dirname "$0")
 to=build/peers_room
 rm -rf "$to" && mkdir -p "$to"
+trap 'rm -rf "$to"' EXIT
 flags="-O3 -march=x86-64-v2 -Wall -Wextra -Werror -I include -I $here/peers"
 CC=${CC:-cc}
 
@@ -31,4 +32,3 @@ ar rcs "$to/libpeers.a" $objects
 $BENCH_RUST --edition 2021 -D warnings --check-cfg 'cfg(cdb, lmdb, sqlite)' "$here/peers.rs" \
   -L "native=$to" -l static=peers $words -L native=build -l static=odht -o build/peers
 build/peers "$to" "$@"
-rm -rf "$to"
