@@ -14,7 +14,8 @@
 # of the calls for C once more
 # make bench: the tables of speeds; QUICK=1 for a short run, ODHT_RUST=folder for the Rust crate beside it, CHECK=1 for
 # the tables of the whole check alone, WORST=1 for the largest forged table too, about an hour, ORDER=1 for the line of
-# an order of inserts alone, MARKDOWN=1 for Markdown; with ODHT_RUST, and without QUICK, CHECK and ORDER, bench-crate too
+# an order of inserts alone, PEERS=1 for other libraries alone, MARKDOWN=1 for Markdown; with ODHT_RUST, and without
+# QUICK, CHECK, ORDER and PEERS, bench-crate too
 # make bench-crate: the crate for Rust beside the Rust crate, whose folder is ODHT_RUST; ITEMS=100000 for no larger tables
 # make bounds: loops that tell what bounds these speeds; ODHT_RUST=folder is needed
 # make searches: how long searches are in tables of random keys, by the crate for Rust; SLOTS=1048576 for no larger tables
@@ -30,6 +31,7 @@ QUICK ?=
 CHECK ?=
 WORST ?=
 ORDER ?=
+PEERS ?=
 MARKDOWN ?=
 ODHT_RUST ?=
 ITEMS ?=
@@ -89,7 +91,10 @@ LINK_ORIGINAL = $(if $(ODHT_RUST),--cfg original -L dependency=build/original --
 BENCH = $(BENCH_RUST) --edition 2021 -D warnings --check-cfg 'cfg(original, moved)' \
   $(LINK_ORIGINAL) bench/main.rs $(LINK_RUST)
 
-bench: build/libodht.a $(if $(ODHT_RUST),original)
+bench: $(if $(PEERS),bench-peers,bench-tables)
+
+.PHONY: bench-tables bench-peers
+bench-tables: build/libodht.a $(if $(ODHT_RUST),original)
 	@mkdir -p build
 	@$(BENCH) -o build/bench
 	@$(BENCH) --cfg moved -o build/bench_moved
@@ -97,6 +102,11 @@ bench: build/libodht.a $(if $(ODHT_RUST),original)
 	@build/bench $(if $(QUICK),quick) $(if $(CHECK),check) $(if $(WORST),worst) $(if $(ORDER),order) \
 	  $(if $(MARKDOWN),markdown)
 	@$(if $(ODHT_RUST),$(if $(QUICK)$(CHECK)$(ORDER),,$(MAKE) --no-print-directory bench-crate))
+
+# this library beside others that are installed; the pictures go beside RESULTS.md where Markdown is asked for
+bench-peers: build/libodht.a
+	@BENCH_RUST='$(BENCH_RUST)' CC='$(CC)' sh bench/peers.sh $(if $(MARKDOWN),bench,build) $(if $(QUICK),quick) \
+	  $(if $(MARKDOWN),markdown)
 
 # the crate for Rust, as it is and with the feature `fast`, beside the original; it needs ODHT_RUST and nothing proved
 .PHONY: bench-crate
@@ -126,14 +136,10 @@ searches:
 	@$(BENCH_RUST) --edition 2021 -D warnings bench/searches.rs --extern odht=build/searches/libodht.rlib -o build/searches/searches
 	@build/searches/searches $(SLOTS)
 
-# the Rust crate, from a checkout or from a flat folder with names as src--lib.rs.txt
+# the Rust crate, from a checkout or from a flat folder (bench/original.sh)
 .PHONY: original
 original:
 	@rm -rf build/original && mkdir -p build/original
-	@if [ -f '$(ODHT_RUST)/src/lib.rs' ]; then cp -R '$(ODHT_RUST)/src' build/original/src; \
-	else for file in '$(ODHT_RUST)'/src--*.rs.txt; do \
-	  name=$$(basename "$$file" .txt | sed 's|--|/|g'); \
-	  mkdir -p "build/original/$$(dirname "$$name")" && cp "$$file" "build/original/$$name" || exit 1; \
-	done; fi
+	@sh bench/original.sh '$(ODHT_RUST)' build/original
 	@$(BENCH_RUST) --edition 2021 --crate-type rlib --crate-name cfg_if bench/cfg_if.rs -o build/original/libcfg_if.rlib
-	@$(BENCH_RUST) --edition 2018 --cap-lints allow --crate-type rlib --crate-name odht build/original/src/lib.rs --extern cfg_if=build/original/libcfg_if.rlib -o $(ORIGINAL)
+	@$(BENCH_RUST) --edition 2018 --cap-lints allow --crate-type rlib --crate-name odht build/original/src/lib.rs --extern cfg_if=build/original/libcfg_if.rlib -o build/original/libodht.rlib

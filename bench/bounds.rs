@@ -9,6 +9,7 @@ mod maps;
 mod measure;
 mod original;
 mod ours;
+mod pages;
 #[path = "../bindings/rust/src/sys.rs"]
 mod sys;
 mod work;

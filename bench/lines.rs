@@ -5,11 +5,14 @@ use crate::measure::{best, median};
 use crate::runs::{ask, Placed, Size, Told, PLACEMENTS};
 use crate::table::{Column, Table};
 
+/// How the original is called where a column does not have its code compiled into the loop.
+const CALLED: [&str; 3] = ["view kept", "unchecked", "checked"];
+
 fn columns<K: Key>() -> Vec<Column> {
     let [own, table] = K::MAPS;
     let mut columns = vec![
         Column::Word("items", 5),
-        Column::Word("measure", 23),
+        Column::Word("measure", 25),
         Column::Word("code", 9),
         Column::Number("odht", 8),
         Column::Number("median", 8),
@@ -21,6 +24,9 @@ fn columns<K: Key>() -> Vec<Column> {
             Column::Bold("ratio", 6),
             Column::Number("its range", 12),
         ]);
+        for way in CALLED {
+            columns.extend([Column::Number(way, 10), Column::Bold("ratio", 6)]);
+        }
     }
     columns.extend([Column::Number(own, 8), Column::Number(table, 15)]);
     columns
@@ -46,9 +52,13 @@ fn fields(placed: &Placed) -> Vec<String> {
     let (ours, original) = (placed.ours.concat(), placed.original.concat());
     let mut fields = vec![shown(best, &ours), shown(median, &ours)];
     if cfg!(original) {
-        let ratios = placed.ratios();
+        let ratios = placed.ratios(&placed.original);
         fields.extend([shown(best, &original), shown(median, &original)]);
         fields.extend([shown(median, &ratios), range(&ratios)]);
+        for called in &placed.called {
+            let ratios = placed.ratios(called);
+            fields.extend([shown(best, &called.concat()), shown(median, &ratios)]);
+        }
     }
     fields.extend(placed.maps.iter().map(|times| shown(best, times)));
     fields

@@ -3,6 +3,8 @@
 //! the line of an order of inserts alone. README.md says how it measures.
 
 mod bounded;
+#[cfg(original)]
+mod called;
 mod check;
 #[path = "../rust/src/tests/forged.rs"]
 mod forged;
@@ -19,6 +21,7 @@ mod order;
 #[cfg(original)]
 mod original;
 mod ours;
+mod pages;
 mod run;
 mod runs;
 #[allow(dead_code)]
@@ -48,6 +51,10 @@ fn print_words() {
         "nanoseconds for each item; odht and original: the best of all rounds, and the median;"
     );
     println!("HashMap: the best; ratio: odht to original, the median of five runs, and its range;");
+    println!("view kept, unchecked, checked: the original called as a function of C would be, with a table");
+    println!(
+        "that was opened once, and with bytes that each call opens without a check, or with one;"
+    );
     println!("below 1 odht is faster; moved: the same program with all its code elsewhere");
 }
 

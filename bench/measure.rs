@@ -18,6 +18,9 @@ pub struct Measure<K: Key> {
     /// The ways in which this library does it. Each makes a line of the table.
     pub ways: Vec<(&'static str, Job<K>)>,
     pub original: Option<Job<K>>,
+    /// By the original where it is called as this library is: with a table that was opened once, and with bytes that
+    /// each call opens without a check, and with one.
+    pub called: Option<[Job<K>; 3]>,
     /// By either map.
     pub maps: Option<[Job<K>; 2]>,
     written: Written,
@@ -30,6 +33,7 @@ impl<K: Key> Measure<K> {
         Measure {
             ways: Vec::new(),
             original: None,
+            called: None,
             maps: None,
             written,
             check: |_| (),
@@ -49,15 +53,23 @@ impl<K: Key> Measure<K> {
         }
     }
 
+    pub fn beside_calls(self, called: Option<[Job<K>; 3]>) -> Measure<K> {
+        Measure { called, ..self }
+    }
+
     pub fn checked(self, check: fn(&Work<K>)) -> Measure<K> {
         Measure { check, ..self }
     }
 
-    /// The ways, then the original, then the maps.
+    /// The ways, then the original, then its calls, then the maps.
     fn jobs(&self) -> Vec<Job<K>> {
         let ways = self.ways.iter().map(|(_, job)| *job);
         let maps = self.maps.into_iter().flatten();
-        ways.chain(self.original).chain(maps).collect()
+        let called = self.called.into_iter().flatten();
+        ways.chain(self.original)
+            .chain(called)
+            .chain(maps)
+            .collect()
     }
 
     /// Times all jobs; `begins` is as that of `times`.
@@ -65,10 +77,12 @@ impl<K: Key> Measure<K> {
         let mut times = times(&self.jobs(), rounds, begins, work).into_iter();
         let ways = times.by_ref().take(self.ways.len()).collect();
         let original = self.original.and_then(|_| times.next());
+        let called = [(); 3].map(|()| self.called.and_then(|_| times.next()));
         let maps = [times.next(), times.next()];
         Taken {
             ways,
             original: original.unwrap_or_default(),
+            called: called.map(Option::unwrap_or_default),
             maps: maps.map(Option::unwrap_or_default),
         }
     }
@@ -78,13 +92,15 @@ impl<K: Key> Measure<K> {
 pub struct Taken {
     pub ways: Vec<Vec<f64>>,
     pub original: Vec<f64>,
+    pub called: [Vec<f64>; 3],
     pub maps: [Vec<f64>; 2],
 }
 
 /// Runs every job once and looks at what it writes: that of all ways and of the original must be
 /// equal.
 pub fn check_answers<K: Key>(measure: &Measure<K>, work: &mut Work<K>) {
-    let tables = measure.ways.len() + measure.original.iter().len();
+    let tables =
+        measure.ways.len() + measure.original.iter().len() + 3 * measure.called.iter().len();
     let mut first = None;
     for (place, job) in measure.jobs().into_iter().enumerate() {
         work.scrub(measure.written);

@@ -3,11 +3,12 @@
 use crate::maps::{self, AsTable, Own};
 use crate::measure::{Job, Measure};
 use crate::order;
-#[cfg(original)]
-use crate::original;
 use crate::ours::{self, Calls};
+use crate::pages;
 use crate::run::Run;
 use crate::work::{Work, Written};
+#[cfg(original)]
+use crate::{called, original};
 
 /// Keys that every contender has tables for.
 #[cfg(original)]
@@ -29,6 +30,18 @@ macro_rules! original_job {
     }};
 }
 
+/// The original's three calls that are called so, where it is built in.
+macro_rules! original_calls {
+    ($kept:ident, $unchecked:ident, $checked:ident) => {{
+        #[cfg(original)]
+        let calls: Option<[Job<_>; 3]> =
+            Some([called::$kept, called::$unchecked, called::$checked]);
+        #[cfg(not(original))]
+        let calls: Option<[Job<_>; 3]> = None;
+        calls
+    }};
+}
+
 /// The jobs of the two maps that are called so.
 macro_rules! map_jobs {
     ($job:ident) => {
@@ -41,6 +54,11 @@ fn presized<K: Contest>() -> Measure<K> {
         .way("presized, insert_all", ours::insert_all)
         .way("presized, insert from C", ours::insert)
         .beside(original_job!(insert_presized), map_jobs!(insert_presized))
+        .beside_calls(original_calls!(
+            insert_kept,
+            insert_unchecked,
+            insert_checked
+        ))
 }
 
 /// A further call that looks keys up is one more job of `ours`, and one more line here and below.
@@ -50,6 +68,14 @@ fn hits<K: Contest>() -> Measure<K> {
         .way("hits, get from C", ours::get)
         .way("hits, view_get", ours::view_get)
         .beside(original_job!(get), map_jobs!(get))
+        .beside_calls(original_calls!(get_kept, get_unchecked, get_checked))
+        .checked(Work::check_hits)
+}
+
+fn hits_in_large_pages<K: Contest>() -> Measure<K> {
+    Measure::new(Written::Answers)
+        .way("hits, get_all, 2 MB pages", ours::get_all_in_large_pages)
+        .beside(original_job!(get_in_large_pages), None)
         .checked(Work::check_hits)
 }
 
@@ -59,6 +85,7 @@ fn misses<K: Contest>() -> Measure<K> {
         .way("misses, get from C", ours::get)
         .way("misses, view_get", ours::view_get)
         .beside(original_job!(get), map_jobs!(get))
+        .beside_calls(original_calls!(get_kept, get_unchecked, get_checked))
         .checked(Work::check_misses)
 }
 
@@ -92,6 +119,11 @@ pub fn measure_tables<K: Contest>(run: &mut Run<K>) {
     run.measure(presized());
     run.work.ask_for_keys();
     run.measure(hits());
+    if run.work.keys.len() >= pages::LEAST_ITEMS {
+        run.work.copy_to_large_pages();
+        run.measure(hits_in_large_pages());
+        run.work.large = None;
+    }
     run.work.ask_for_absent_keys();
     run.measure(misses());
     run.work.drop_queries();

@@ -116,6 +116,14 @@ pub fn get_all<K: Calls>(work: &mut Work<K>) {
     K::get_all(&work.table, &work.queries, values, found).expect("the table is valid");
 }
 
+/// Of the table that is in large pages.
+pub fn get_all_in_large_pages<K: Calls>(work: &mut Work<K>) {
+    let bytes = work.large.as_deref().expect("the table was copied");
+    let answers = &mut work.answers;
+    let (values, found) = (&mut answers.values, &mut answers.found);
+    K::get_all(bytes, &work.queries, values, found).expect("the table is valid");
+}
+
 /// One call for each key, and each looks at the header.
 pub fn get<K: Calls>(work: &mut Work<K>) {
     let table = &work.table;
@@ -127,7 +135,8 @@ pub fn get<K: Calls>(work: &mut Work<K>) {
 /// One call for each key of a table that was opened once.
 pub fn view_get<K: Calls>(work: &mut Work<K>) {
     let view = K::open_view(&work.table).expect("the table is valid");
-    work.answers.write_each(&work.queries, |key| K::view_get(&view, key));
+    work.answers
+        .write_each(&work.queries, |key| K::view_get(&view, key));
 }
 
 pub fn walk<K: Calls>(work: &mut Work<K>) {

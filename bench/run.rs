@@ -65,7 +65,7 @@ impl<K: Contest> Run<K> {
         Run { plan, work }
     }
 
-    /// Tells a line for each way: its name, and the times of the way, the original and the maps.
+    /// Tells a line for each way: its name, and the times of the way, the original, its calls and the maps.
     pub fn measure(&mut self, mut measure: Measure<K>) {
         if self.plan.is_first() {
             check_answers(&measure, &mut self.work);
@@ -73,9 +73,9 @@ impl<K: Contest> Run<K> {
             measure.maps = None;
         }
         let taken = measure.take(self.plan.rounds, self.plan.number, &mut self.work);
-        let [own, table] = &taken.maps;
+        let ([kept, unchecked, checked], [own, table]) = (&taken.called, &taken.maps);
         for ((name, _), way) in measure.ways.iter().zip(&taken.ways) {
-            let times = [way, &taken.original, own, table];
+            let times = [way, &taken.original, kept, unchecked, checked, own, table];
             println!("{name};{}", times.map(|times| self.told(times)).join(";"));
         }
     }

@@ -19,16 +19,17 @@ const MOVED: &str = "bench_moved";
 pub struct Placed {
     pub ours: Vec<Vec<f64>>,
     pub original: Vec<Vec<f64>>,
+    /// The original's calls: with a table that is kept, and with bytes that are opened without and with a check.
+    pub called: [Vec<Vec<f64>>; 3],
     pub maps: [Vec<f64>; 2],
 }
 
 impl Placed {
-    /// The ratio of the best times of each run.
-    pub fn ratios(&self) -> Vec<f64> {
-        let runs = self.ours.iter().zip(&self.original);
-        let runs = runs.filter(|(_, original)| !original.is_empty());
-        runs.map(|(ours, original)| best(ours) / best(original))
-            .collect()
+    /// The ratio of the best times of each run to those of another contender.
+    pub fn ratios(&self, others: &[Vec<f64>]) -> Vec<f64> {
+        let runs = self.ours.iter().zip(others);
+        let runs = runs.filter(|(_, other)| !other.is_empty());
+        runs.map(|(ours, other)| best(ours) / best(other)).collect()
     }
 }
 
@@ -53,12 +54,12 @@ impl Told {
         for line in lines.lines() {
             let (name, times) = line.split_once(';').expect("a line has a name");
             let times: Vec<Vec<f64>> = times.split(';').map(numbers).collect();
-            let times = times.try_into().expect("a line has four lists of times");
+            let times = times.try_into().expect("a line has seven lists of times");
             self.add_line(placement, name, times);
         }
     }
 
-    fn add_line(&mut self, placement: usize, name: &str, times: [Vec<f64>; 4]) {
+    fn add_line(&mut self, placement: usize, name: &str, times: [Vec<f64>; 7]) {
         if !self.lines.iter().any(|line| line.name == name) {
             let name = name.to_string();
             self.lines.push(Line {
@@ -68,9 +69,11 @@ impl Told {
         }
         let line = self.lines.iter_mut().find(|line| line.name == name);
         let placed = &mut line.expect("it was added").placed[placement];
-        let [ours, original, own, table] = times;
+        let [ours, original, kept, unchecked, checked, own, table] = times;
         placed.ours.push(ours);
         placed.original.push(original);
+        let called = placed.called.iter_mut().zip([kept, unchecked, checked]);
+        called.for_each(|(runs, run)| runs.push(run));
         placed.maps[0].extend(own);
         placed.maps[1].extend(table);
     }

@@ -6,6 +6,7 @@ use std::hash::RandomState;
 use crate::keys::{value_of, Key, Random};
 use crate::maps::Map;
 use crate::ours::Calls;
+use crate::pages::LargePages;
 
 pub const PERCENT: u8 = 87;
 
@@ -63,6 +64,8 @@ pub struct Work<K: Key> {
     pub queries: Vec<K>,
     /// The bytes of the table: inserts write them, lookups, walks and opens read them.
     pub table: Vec<u8>,
+    /// A copy of the table in large pages.
+    pub large: Option<LargePages>,
     /// The bytes of a second table, for jobs that make one of the first.
     pub spare: Vec<u8>,
     /// The slots in an order of inserts that makes the table.
@@ -83,6 +86,7 @@ impl<K: Calls> Work<K> {
             keys,
             queries: Vec::new(),
             table: vec![SCRUB; K::bytes_needed(count)],
+            large: None,
             spare: Vec::new(),
             order: Vec::new(),
             answers: Answers {
@@ -111,6 +115,10 @@ impl<K: Key> Work<K> {
     /// The next lookups are of as many keys that are not there.
     pub fn ask_for_absent_keys(&mut self) {
         self.queries = self.random.keys(self.keys.len());
+    }
+
+    pub fn copy_to_large_pages(&mut self) {
+        self.large = Some(LargePages::of(&self.table));
     }
 
     pub fn drop_queries(&mut self) {

@@ -123,17 +123,18 @@ try_rust() {
     sed "s|path = \"\.\..*\"|path = \"$top/bindings/rust\"|" "$top/examples/rust/Cargo.toml" > rust/Cargo.toml
     (cd rust && cargo build --quiet --offline --release) || fail "example: cargo does not compile it"
     run example target/release/example
-    well "example: well in Rust by cargo, and the tests of its crate"
+    run pages target/release/pages
+    well "example, pages: well in Rust by cargo, and the tests of its crate"
 }
 
 sh "$top/crates/odht_c/exports/statuses.sh"
 sh "$top/examples/quoted.sh"
 if has cc; then
-    for program in example null forged sets readme; do try "$program" C cc -std=c11; done
+    for program in example null forged sets readme pages; do try "$program" C cc -std=c11; done
     header cc c c99 c11 c17 c2x
 fi
 if has c++; then
-    for program in example null forged sets; do try "$program" C++ c++ -std=c++17 -x c++; done
+    for program in example null forged sets pages; do try "$program" C++ c++ -std=c++17 -x c++; done
     header c++ c++ c++11 c++14 c++17 c++20
 fi
 if has clang; then

@@ -13,7 +13,7 @@ use odht::bytes::Borrowed;
 use odht::config::{Coded, Config};
 use odht::error::Error;
 use odht::load::max_item_count_for;
-use odht::memory_layout::Header;
+use odht::memory_layout::{Header, is_accepted};
 use odht::{HashTable, memory_layout};
 
 /// Opens the bytes by their header and length. Reads no slot.
@@ -23,6 +23,18 @@ pub(crate) fn view<C: Config>(bytes: &[u8]) -> Result<HashTable<C, Borrowed<'_>>
     ensures err { result_err result ≡ opening_refusal ⟦<C as Coded>⟧.coding.format bytes.now }
 {
     HashTable::from_raw_bytes_by_header(Borrowed::new(bytes))
+}
+
+/// The number of the first error of bytes whose header or length does not fit; OK where both do. It is a function of
+/// its own, so that a call that finds the header as it is to be has no code for errors.
+#[inline(never)]
+pub(crate) fn refused<C: Config>(bytes: &[u8]) -> u32
+    ensures { result ≡ status_or_ok (opening_refusal ⟦<C as Coded>⟧.coding.format bytes.now) }
+{
+    match view::<C>(bytes) {
+        Ok(_) => OK,
+        Err(refused) => status_of(&refused),
+    }
 }
 
 /// OK where the header, the length and the first ten slots are accepted, else the number of the first error.
@@ -83,10 +95,12 @@ pub fn check_within<C: Config>(bytes: &[u8], groups: usize) -> u32
 pub fn get<C: Config>(bytes: &[u8], key: &C::Key, value: &mut C::Value) -> u32
     ensures { GetAnswers ⟦<C as Coded>⟧.coding bytes.now key.now value.old result value.new }
 {
-    let table = match view::<C>(bytes) {
-        Ok(table) => table,
-        Err(refused) => return status_of(&refused),
-    };
+    if !is_accepted::<C>(bytes) {
+        return refused::<C>(bytes);
+    }
+    let table: HashTable<C, Borrowed<'_>> = HashTable::from_raw_bytes_unchecked(Borrowed::new(
+        bytes,
+    ));
     view::get(&table, key, value)
 }
 

@@ -4,13 +4,14 @@ ghost use Rattle.odht_raw.specs.Frame.{IsAccepted};
 ghost use Rattle.odht_calls.specs.Writes.{BytesNeededAnswers, InitAnswers, InsertAnswers};
 ghost use Rattle.odht_calls.specs.Writes.{InsertAllAnswers};
 
-use crate::read::view;
+use crate::read::{refused, view};
 use crate::status::{BAD_PERCENT, CAPACITY, OK, REPLACED, status_of};
 use odht::HashTable;
 use odht::bytes::ByteStoreMut;
 use odht::config::{Coded, Config};
 use odht::items::Zipped;
 use odht::load::Percent;
+use odht::memory_layout::is_accepted;
 
 /// Writes to `len` how many bytes a new table for so many items has. BAD_PERCENT and CAPACITY leave `len` unchanged.
 pub fn bytes_needed<C: Config>(
@@ -68,8 +69,8 @@ pub fn insert<C: Config, M: ByteStoreMut>(
         in IsAccepted F (M.bytes store.old) → IsAccepted F (M.bytes store.new) }
     ensures same_store { store.new ≡ M.holding store.old (M.bytes store.new) }
 {
-    if let Err(refused) = view::<C>(store.bytes()) {
-        return status_of(&refused);
+    if !is_accepted::<C>(store.bytes()) {
+        return refused::<C>(store.bytes());
     }
     let mut table = HashTable::<C, &mut M>::from_raw_bytes_unchecked(store);
     let answer = table.insert(key, value);

@@ -7,6 +7,8 @@ pub mod FirstErrors
 pub mod PowersOfTwo
 -- which error a header gives
 pub mod HeaderChecks
+-- which headers fit, and which bytes are opened
+pub mod HeaderFits
 -- a header that is written field by field
 pub mod HeaderWrites
 -- how an error's text writes bytes

@@ -21,6 +21,10 @@ use crate::sizes::len_of_slots;
 use crate::swisstable_group_query::REFERENCE_GROUP_SIZE;
 use std::marker::Model;
 
+mod words;
+
+pub use words::is_accepted;
+
 /// How many bytes the header has.
 pub const HEADER_SIZE: usize = 32;
 /// The first four bytes of each table.

@@ -11,6 +11,6 @@ pub use crate::raw_table::{Entries, EntryMetadata};
 pub use allocation::Allocation;
 pub use check::{DEFAULT_GROUPS, check_all, check_all_within};
 pub use new_tables::{allocate, clear_entries, init_in_place, write_empty};
-pub use odht_header::header::{HEADER_SIZE, Header, LEAST_FACTOR, write_header};
+pub use odht_header::header::{HEADER_SIZE, Header, LEAST_FACTOR, is_accepted, write_header};
 pub use odht_header::sizes::{bytes_needed, entry_at, layout_for};
 pub use prefix::table_len;

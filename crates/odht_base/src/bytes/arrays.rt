@@ -102,6 +102,18 @@ fn as_bytes(slice: &[u8]) -> &[u8]
     slice
 }
 
+/// The number of the four bytes from `at` on, lowest byte first, at any alignment.
+#[inline]
+pub fn read_u32(bytes: &[u8], at: usize) -> u32
+    requires { at + 4 ≤ length bytes.now }
+    ensures { result ≡ num (bytes_at bytes.now at 4) }
+{
+    let Some(chunk) = bytes[at..at + 4].first_chunk::<4>() else {
+        unreachable!()
+    };
+    u32::from_le_bytes(*chunk)
+}
+
 /// The number of the eight bytes from `at` on, lowest byte first, at any alignment.
 #[inline]
 pub fn read_u64(bytes: &[u8], at: usize) -> u64
@@ -114,9 +126,9 @@ pub fn read_u64(bytes: &[u8], at: usize) -> u64
     u64::from_le_bytes(*chunk)
 }
 
-// Whether the eight bytes from `at` on are equal.
+/// Whether the eight bytes from `at` on are equal, at any alignment.
 #[inline]
-fn is_same_word(left: &[u8], right: &[u8], at: usize) -> bool
+pub fn is_same_word(left: &[u8], right: &[u8], at: usize) -> bool
     requires left { at + 8 ≤ length left.now }
     requires right { at + 8 ≤ length right.now }
     ensures { IsTrue result ↔ (bytes_at left.now at 8 ≡ bytes_at right.now at 8) }

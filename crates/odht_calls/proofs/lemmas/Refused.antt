@@ -18,6 +18,11 @@ known o a e first second = let both : Some a ≡ Some e = sym first ∙ second i
 pub not_none : {R : Type 0} (o : Option Error) (a : Error) → o ≡ Some a → o ≡ None → R
 not_none o a some none = absurd (let both : None ≡ Some a = sym none ∙ some in cc)
 
+-- bytes that are not accepted have an error
+pub the_error : (o : Option Error) → (o ≡ None → ⊥) → (a : Error) × (Some a ≡ o) × (status_or_ok o ≡ status_of a)
+the_error None other = absurd (other refl)
+the_error (Some a) other = (a, refl, refl)
+
 -- the call for the numbers of the header, on bytes whose opening has an error
 pub refused_sizes : (F : Format) (B : List ℕ) (a : Error) (s : ℕ) → Some a ≡ opening_refusal F B → s ≡ status_of a → (n m p : ℕ) → SizesAnswers F B n m p s n m p
 refused_sizes F B a s is status n m p = record {

@@ -1,7 +1,5 @@
 -- Bytes whose header and length fit: what the header says; writes to the count and behind the header leave them so.
---     IsHeader F n B       the header fits n bytes
---     IsOpening F B        so it does, and there are enough bytes for it
-use Rattle.std.proofs.Common.{◌≡◌, ◌<◌, ◌≤◌, ◌∙◌, ◌+◌, ◌*◌, ℕ, suc, not, sym, ap, subst, refl, List, [], ◌∷◌, ◌++◌, None, take, drop, set, cond, ltb, Bool, true, false, length, arith, length-set, get_or-take, lit<, lit≤, ltb-true, ltb-false, le-ltb, nat_lt}
+use Rattle.std.proofs.Common.{◌≡◌, ◌<◌, ◌≤◌, ◌∙◌, ◌+◌, ◌*◌, ℕ, suc, not, sym, ap, subst, refl, List, [], ◌∷◌, ◌++◌, take, drop, set, cond, ltb, Bool, true, false, length, arith, length-set, get_or-take, lit<, lit≤, ltb-true, nat_lt}
 use Rattle.std.proofs.lemmas.List.{drop-take}
 use Rattle.std.proofs.Math.Nat.{mul-le-mul_right}
 use Rattle.std.specs.Prelude.{slice_index}
@@ -24,72 +22,7 @@ use Rattle.odht_header.specs.Refusals.{opening_refusal, header_refusal, first_of
 use Rattle.odht_raw.specs.Frame.{IsAccepted}
 use Rattle.odht_header.specs.declared.error.Error.TheVariants.{WrongTag, WrongVersion, WrongSizeOf, TooShort, SlotCountNotPowerOfTwo, SlotCountTooSmall, WrongLength}
 use Rattle.odht_header.specs.declared.error.Part.TheVariants.{EntryMetadata, EncodedKey, EncodedValue, Header}
-use Rattle.odht_header.proofs.lemmas.FirstErrors.{option_or-None, None-option_or, gives-None, None-gives, not-false, differs-false, false-differs, lists_differ-false, false-lists_differ}
-
-pub record IsHeader (F : Format) (n : ℕ) (B : List ℕ) : Type 0 where
-  pub tag_is : bytes_at B 0 4 ≡ 79 ∷ 68 ∷ 72 ∷ 84 ∷ []
-  pub version_is : bytes_at B 24 4 ≡ 0 ∷ 0 ∷ 0 ∷ 2 ∷ []
-  pub metadata_is : slice_index B 4 ≡ 1
-  pub key_len_is : slice_index B 5 ≡ F.key_len
-  pub value_len_is : slice_index B 6 ≡ F.value_len
-  pub header_len_is : slice_index B 7 ≡ 32
-  pub slots : IsSlotCount (header_slots B)
-  pub length_is : n ≡ image_len F (header_slots B)
-
--- the header has no error exactly where it fits
-pub IsHeader-header_refusal : (F : Format) (n : ℕ) (B : List ℕ) → header_refusal F n B ≡ None → IsHeader F n B
-unfolding header_refusal
-IsHeader-header_refusal F n B e =
-    let a = option_or-None _ _ e in
-    let b = option_or-None _ _ a.1 in
-    let c = option_or-None _ _ b.1 in
-    let d = option_or-None _ _ c.1 in
-    let f = option_or-None _ _ d.1 in
-    let g = option_or-None _ _ f.1 in
-    let h = option_or-None _ _ g.1 in
-    let i = option_or-None _ _ h.1 in
-    let j = option_or-None _ _ i.1 in
-    record {
-      tag_is = lists_differ-false _ _ (gives-None _ _ a.0);
-      version_is = lists_differ-false _ _ (gives-None _ _ b.0);
-      metadata_is = differs-false _ _ (gives-None _ _ c.0);
-      key_len_is = differs-false _ _ (gives-None _ _ d.0);
-      value_len_is = differs-false _ _ (gives-None _ _ f.0);
-      header_len_is = differs-false _ _ (gives-None _ _ g.0);
-      slots = record { power = not-false _ (gives-None _ _ h.0); least = ltb-false (header_slots B) 16 (gives-None _ _ i.0) };
-      length_is = differs-false _ _ (gives-None _ _ j.0);
-    }
-
--- and the converse
-pub header_refusal-IsHeader : (F : Format) (n : ℕ) (B : List ℕ) → IsHeader F n B → header_refusal F n B ≡ None
-unfolding header_refusal
-header_refusal-IsHeader F n B h =
-    None-option_or _ _ (None-gives _ _ (false-lists_differ _ _ h.tag_is))
-    (None-option_or _ _ (None-gives _ _ (false-lists_differ _ _ h.version_is))
-    (None-option_or _ _ (None-gives _ _ (false-differs _ _ h.metadata_is))
-    (None-option_or _ _ (None-gives _ _ (false-differs _ _ h.key_len_is))
-    (None-option_or _ _ (None-gives _ _ (false-differs _ _ h.value_len_is))
-    (None-option_or _ _ (None-gives _ _ (false-differs _ _ h.header_len_is))
-    (None-option_or _ _ (None-gives _ _ (ap not h.slots.power))
-    (None-option_or _ _ (None-gives _ _ (le-ltb (header_slots B) 16 h.slots.least))
-    (None-option_or _ _ (None-gives _ _ (false-differs _ _ h.length_is)) refl))))))))
-
--- what the opening says
-pub record IsOpening (F : Format) (B : List ℕ) : Type 0 where
-  pub long : 32 ≤ length B
-  pub header : IsHeader F (length B) B
-
--- the opening has no error exactly where this holds
-pub IsOpening-opening_refusal : (F : Format) (B : List ℕ) → opening_refusal F B ≡ None → IsOpening F B
-unfolding opening_refusal
-IsOpening-opening_refusal F B e =
-    let a = option_or-None _ _ e in
-    record { long = ltb-false (length B) 32 (gives-None _ _ a.0); header = IsHeader-header_refusal F (length B) B a.1 }
-
--- and the converse
-pub opening_refusal-IsOpening : (F : Format) (B : List ℕ) → IsOpening F B → opening_refusal F B ≡ None
-unfolding opening_refusal
-opening_refusal-IsOpening F B h = None-option_or _ _ (None-gives _ _ (le-ltb (length B) 32 h.long)) (header_refusal-IsHeader F (length B) B h.header)
+use Rattle.odht_header.proofs.lemmas.HeaderFits.{IsOpening, IsOpening-opening_refusal, opening_refusal-IsOpening}
 
 -- bytes with the same header but for the count, and of the same length, have the same error
 pub opening_refusal-same : (F : Format) (B C : List ℕ) → length B ≡ length C → take 8 B ≡ take 8 C → take 16 (drop 16 B) ≡ take 16 (drop 16 C) → opening_refusal F B ≡ opening_refusal F C

@@ -20,7 +20,8 @@ use Rattle.odht_header.proofs.lemmas.FirstErrors.{option_or-None, None-option_or
 use Rattle.odht_header.proofs.lemmas.HeaderChecks.{header_refusal-fields, front_header_refusal-fields}
 use Rattle.odht_raw.specs.Frame.{IsAccepted}
 use Rattle.odht_raw.specs.Prefixes.{IsFront, front_refusal}
-use Rattle.odht_raw.proofs.lemmas.Accepted.{IsOpening-opening_refusal, IsAccepted-IsValidBytes}
+use Rattle.odht_header.proofs.lemmas.HeaderFits.{IsOpening-opening_refusal}
+use Rattle.odht_raw.proofs.lemmas.Accepted.{IsAccepted-IsValidBytes}
 use Rattle.odht_raw.proofs.lemmas.Openings.{opening_refusal-header, view_refusal-slots}
 use Rattle.odht_raw.proofs.lemmas.ImagesOpen.{IsOk-none, view_refusal-image}
 

@@ -10,6 +10,10 @@ use crate::proved::header::load::{max_item_count_for, Factor};
 use crate::proved::header::sizes::len_of_slots;
 use crate::proved::header::swisstable_group_query::REFERENCE_GROUP_SIZE;
 
+mod words;
+
+pub use words::is_accepted;
+
 /// How many bytes the header has.
 pub const HEADER_SIZE: usize = 32;
 /// The first four bytes of each table.

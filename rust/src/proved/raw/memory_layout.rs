@@ -8,7 +8,9 @@ mod check;
 mod new_tables;
 mod prefix;
 
-pub use crate::proved::header::header::{write_header, Header, HEADER_SIZE, LEAST_FACTOR};
+pub use crate::proved::header::header::{
+    is_accepted, write_header, Header, HEADER_SIZE, LEAST_FACTOR,
+};
 pub use crate::proved::header::sizes::{bytes_needed, entry_at, layout_for};
 pub use crate::proved::raw::raw_table::{Entries, EntryMetadata};
 pub use allocation::Allocation;

@@ -7,13 +7,23 @@ use crate::proved::tables::bytes::Borrowed;
 use crate::proved::tables::config::Config;
 use crate::proved::tables::error::Error;
 use crate::proved::tables::load::max_item_count_for;
-use crate::proved::tables::memory_layout::Header;
+use crate::proved::tables::memory_layout::{is_accepted, Header};
 use crate::proved::tables::{memory_layout, HashTable};
 
 /// Opens the bytes by their header and length. Reads no slot.
 #[inline(always)]
 pub(crate) fn view<C: Config>(bytes: &[u8]) -> Result<HashTable<C, Borrowed<'_>>, Error> {
     HashTable::from_raw_bytes_by_header(Borrowed::new(bytes))
+}
+
+/// The number of the first error of bytes whose header or length does not fit; OK where both do. It is a function of
+/// its own, so that a call that finds the header as it is to be has no code for errors.
+#[inline(never)]
+pub(crate) fn refused<C: Config>(bytes: &[u8]) -> u32 {
+    match view::<C>(bytes) {
+        Ok(_) => OK,
+        Err(refused) => status_of(&refused),
+    }
 }
 
 /// OK where the header, the length and the first ten slots are accepted, else the number of the first error.
@@ -62,10 +72,11 @@ pub fn check_within<C: Config>(bytes: &[u8], groups: usize) -> u32 {
 /// Writes the value of a key to `value`. ABSENT and errors leave `value` unchanged.
 #[inline]
 pub fn get<C: Config>(bytes: &[u8], key: &C::Key, value: &mut C::Value) -> u32 {
-    let table = match view::<C>(bytes) {
-        Ok(table) => table,
-        Err(refused) => return status_of(&refused),
-    };
+    if !is_accepted::<C>(bytes) {
+        return refused::<C>(bytes);
+    }
+    let table: HashTable<C, Borrowed<'_>> =
+        HashTable::from_raw_bytes_unchecked(Borrowed::new(bytes));
     view::get(&table, key, value)
 }
 

@@ -1,12 +1,13 @@
 // Made by `make rust` of crates/odht_calls/src/write.rt.
 //! The calls that write the bytes of a table, for every configuration.
 
-use crate::erased::calls::read::view;
+use crate::erased::calls::read::{refused, view};
 use crate::erased::calls::status::{status_of, BAD_PERCENT, CAPACITY, OK, REPLACED};
 use crate::proved::tables::bytes::ByteStoreMut;
 use crate::proved::tables::config::Config;
 use crate::proved::tables::items::Zipped;
 use crate::proved::tables::load::Percent;
+use crate::proved::tables::memory_layout::is_accepted;
 use crate::proved::tables::HashTable;
 
 /// Writes to `len` how many bytes a new table for so many items has. BAD_PERCENT and CAPACITY leave `len` unchanged.
@@ -52,8 +53,8 @@ pub fn insert<C: Config, M: ByteStoreMut>(
     value: &C::Value,
     former: &mut C::Value,
 ) -> u32 {
-    if let Err(refused) = view::<C>(store.bytes()) {
-        return status_of(&refused);
+    if !is_accepted::<C>(store.bytes()) {
+        return refused::<C>(store.bytes());
     }
     let mut table = HashTable::<C, &mut M>::from_raw_bytes_unchecked(store);
     let answer = table.insert(key, value);
