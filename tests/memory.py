@@ -1,12 +1,15 @@
 #!/usr/bin/env python3
 """Lets each request for memory of a call fail in turn, and compares all that is printed with tests/memory/expected.
 
-  tests/memory.py FOLDER      FOLDER has odht_memory and odht_table, built by tools/unproved.py, which counts requests
+  tests/memory.py FOLDER      FOLDER has odht_memory, odht_table and odht_tool, built by tools/unproved.py, which counts
+                              requests
 
-Of each call, and of each script in tests/memory/scripts, the first request fails, then the second, and so on, up to
-the first run in which none was left to fail. A call that takes no memory has one run, in which it asked for none.
+Of each call, of each script in tests/memory/scripts, and of two commands of the program for table files, the first
+request fails, then the second, and so on, up to the first run in which none was left to fail. A call that takes no
+memory has one run, in which it asked for none.
 """
 import os
+import shutil
 import subprocess
 import sys
 import tempfile
@@ -15,15 +18,18 @@ HERE = os.path.dirname(os.path.realpath(__file__))
 CALLS = """allocate below_the_maximum clone default from_iterator from_raw_bytes from_raw_bytes_unchecked
     from_raw_bytes_within index insert insert_all insert_order numbers probe_order refused_bytes view
     with_capacity""".split()
+# commands of the program for table files that only read, and their files
+COMMANDS = [("find", "inside.bin"), ("info", "one_pair.odht")]
+TABLES = f"{HERE}/../crates/odht_tool/data"
 # more requests than any of these makes
 MOST = 20
 
 
-def run_failing(program, given, request, room):
+def run_failing(words, given, request, room):
     """Runs a program with its request of this number failing. Returns what it printed, and how many it made."""
     count = f"{room}/requests"
     env = {**os.environ, "ODHT_FAIL_REQUEST": str(request), "ODHT_REQUESTS": count}
-    ran = subprocess.run([program], input=given, env=env, capture_output=True, timeout=60, cwd=room)
+    ran = subprocess.run(words, input=given, env=env, capture_output=True, timeout=60, cwd=room)
     with open(count, encoding="utf-8") as it:
         made = int(it.read())
     # a program that ends early says why on standard error
@@ -33,13 +39,16 @@ def run_failing(program, given, request, room):
 
 def sections(folder, room):
     """Yields the title of each run, and what it printed."""
-    runs = [(call, "odht_memory", call.encode()) for call in CALLS]
+    runs = [(call, ["odht_memory"], call.encode()) for call in CALLS]
     for name in sorted(os.listdir(f"{HERE}/memory/scripts")):
         with open(f"{HERE}/memory/scripts/{name}", "rb") as it:
-            runs.append((f"script {name}", "odht_table", it.read()))
-    for title, program, given in runs:
+            runs.append((f"script {name}", ["odht_table"], it.read()))
+    for command, file in COMMANDS:
+        shutil.copy(f"{TABLES}/{file}", room)
+        runs.append((f"odht {command} {file}", ["odht_tool", command, file], b""))
+    for title, words, given in runs:
         for request in range(1, MOST):
-            printed, made = run_failing(f"{folder}/{program}", given, request, room)
+            printed, made = run_failing([f"{folder}/{words[0]}", *words[1:]], given, request, room)
             yield f"== {title}, request {request} fails\n", printed
             if made < request:
                 break

@@ -141,7 +141,7 @@ PARTS = {
     "rattle": (IN_RATTLE, tests_in_rattle),
     "vectors": (["odht_vectors"], vectors),
     "word": ([f"word/{it}" for it in [*IN_RATTLE, "odht_vectors"]], with_word_search),
-    "memory": (["odht_memory", "odht_table"], memory),
+    "memory": (["odht_memory", "odht_table", "odht_tool"], memory),
     "tool": (["odht_tool"], lambda: cases("odht_tool", "tests/tool")),
     "script": (["odht_table"], lambda: cases("odht_table", "tests/script")),
     "edits": ([], edits),

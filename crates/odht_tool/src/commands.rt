@@ -40,7 +40,7 @@ pub fn run<R: Files + AllocGlobal + Clock, I: BufRead, O: Write, E: Write>(
         }
         Err(misuse) => {
             let _ = writeln!(errors, "odht: {misuse}");
-            Status::Misused
+            misuse.status()
         }
     }
 }

@@ -92,7 +92,7 @@ impl fmt::Display for Failure {
                 write!(f, "standard input, line {number}: {fault}")
             }
             Failure::Output(error) => write!(f, "standard output cannot be written: {error}"),
-            Failure::Memory => write!(f, "a request for memory was refused"),
+            Failure::Memory => write!(f, "out of memory"),
             Failure::Key(word) => write!(f, "{word:?} is not a key of the table's shape"),
         }
     }

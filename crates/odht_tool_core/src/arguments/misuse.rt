@@ -1,5 +1,6 @@
 //! Why the arguments cannot be parsed.
 use super::Topic;
+use crate::status::Status;
 use std::fmt;
 
 /// Why the words cannot be parsed.
@@ -58,9 +59,19 @@ impl fmt::Display for Misuse {
                 write!(f, "; try `odht {topic} --help`")
             }
             Misuse::NoParts => write!(f, "--key and --value are wanted; try `odht build --help`"),
-            Misuse::Memory => write!(f, "a request for memory was refused"),
+            Misuse::Memory => write!(f, "out of memory"),
         }
     }
 }
 
 impl std::error::Error for Misuse {}
+
+impl Misuse {
+    /// How the program ends: where the words cannot be parsed for want of memory alone, they may be right.
+    pub fn status(&self) -> Status {
+        match self {
+            Misuse::Memory => Status::NotDone,
+            _ => Status::Misused,
+        }
+    }
+}
