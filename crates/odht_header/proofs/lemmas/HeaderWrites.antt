@@ -1,21 +1,17 @@
 -- Laws of a header that is written field by field.
-use Rattle.std.proofs.Common.{◌≡◌, ◌≤◌, ◌∙◌, ◌+◌, ◌*◌, ◌/◌, ◌%◌, ◌^◌, ℕ, zero, suc, sym, ap, refl, List, [], ◌∷◌, ◌++◌, take, drop, length, arith, pow-suc, w16, w64}
+use Rattle.std.proofs.Common.{◌≡◌, ◌≤◌, ◌∙◌, ◌+◌, ◌*◌, ◌/◌, ◌%◌, ◌^◌, ℕ, zero, suc, sym, ap, refl, List, [], ◌∷◌, ◌++◌, take, length, arith, pow-suc, w16, w64}
 use Rattle.std.proofs.Math.Nat.{div-div-eq-div-mul}
 use Rattle.std.specs.Int.{to_le_bytes, bytes_low_first}
 use Rattle.odht_base.specs.Numbers.{le_bytes}
 use Rattle.odht_base.specs.Bytes.{overwritten_at}
 use Rattle.odht_base.specs.Format.{Format}
 use Rattle.odht_base.specs.Image.{header_bytes}
-use Rattle.odht_base.proofs.lemmas.ByteRanges.{take-overwritten_at_end, drop-overwritten_at}
+use Rattle.odht_base.proofs.lemmas.ByteRanges.{take-overwritten_at_end}
 
 -- one more field behind the first ones
 pub field-step : (A B front field : List ℕ) (at to : ℕ) → take at A ≡ front → at ≤ length A → at + length field ≡ to → B ≡ overwritten_at A at field → take to B ≡ front ++ field
 field-step A B front field at to before fits end written =
     sym (ap (λ n. take n B) end) ∙ ap (take (at + length field)) written ∙ take-overwritten_at_end A at field fits ∙ ap (λ h. h ++ field) before
-
--- a field of the first 32 bytes leaves the rest
-pub field-rest : (A B field : List ℕ) (at : ℕ) → at + length field ≤ 32 → 32 ≤ length A → B ≡ overwritten_at A at field → drop 32 B ≡ drop 32 A
-field-rest A B field at low long written = ap (drop 32) written ∙ drop-overwritten_at A at 32 field low (omega (arith, low, long))
 
 -- the bytes from byte i upward are those of the quotient
 low_first-le_bytes : (i w n : ℕ) → bytes_low_first (suc i) w n ≡ le_bytes w (n / 256 ^ suc i)

@@ -1,6 +1,6 @@
 -- What the writes of a new table leave.
-use Rattle.std.proofs.Common.{append_assoc, length-take, ◌≤◌, ◌≡◌, ◌∙◌, ◌+◌, ◌-◌, ◌*◌, ◌++◌, ℕ, sym, ap, subst, List, [], take, drop, replicate, length, arith, lit≤}
-use Rattle.std.proofs.lemmas.List.{length-replicate, replicate-append-replicate, drop_all, append-nil}
+use Rattle.std.proofs.Common.{append_assoc, length-take, ◌≤◌, ◌≡◌, ◌∙◌, ◌+◌, ◌-◌, ◌*◌, ◌++◌, ℕ, sym, ap, subst, List, take, drop, replicate, length, arith, lit≤}
+use Rattle.std.proofs.lemmas.List.{length-replicate, replicate-append-replicate}
 use Rattle.odht_base.specs.Bytes.{bytes_at, overwritten_at}
 use Rattle.odht_base.specs.Format.{Format, entry_len}
 use Rattle.odht_base.specs.Load.{IsSlotCount}
@@ -14,12 +14,6 @@ use Rattle.odht_base.proofs.lemmas.Writes.{with_count-append, with_count-header_
 use Rattle.std.specs.Prelude.{None}
 use Rattle.odht_raw.specs.Frame.{IsAccepted}
 use Rattle.odht_raw.proofs.lemmas.Accepted.{IsAccepted-image, IsAccepted-with_count}
-
--- a write up to the end
-overwritten_at-to_end : (B : List ℕ) (at : ℕ) (d : List ℕ) → at + length d ≡ length B → overwritten_at B at d ≡ take at B ++ d
-overwritten_at-to_end B at d end =
-    let nothing : drop (at + length d) B ≡ [] = drop_all (at + length d) B (omega (arith, end)) in
-    ap (λ t. take at B ++ d ++ t) nothing ∙ append-nil (take at B ++ d)
 
 -- a write of the bytes that are there changes nothing
 pub overwritten_at-same : (B : List ℕ) (at : ℕ) (d : List ℕ) → bytes_at B at (length d) ≡ d → overwritten_at B at d ≡ B
