@@ -22,8 +22,8 @@ pub const DEFAULT_GROUPS: usize = 128;
 ///
 /// The rules and their order are those of docs/FORMAT.md, "What is refused, and in which order". It allocates nothing.
 /// Where hashes vary its time is linear in the bytes. At worst, where all keys of `s` slots have one hash, it reads
-/// about `s*s/32` groups and makes `s*s/2` comparisons of keys: over an hour for 2^20 slots. So the length of untrusted
-/// bytes has to be bounded by the caller.
+/// about `s*s/32` groups and makes `s*s/2` comparisons of keys: over an hour for 2^20 slots. For bytes of strangers there
+/// is [`check_all_within`].
 pub fn check_all<C: Config>(bytes: &[u8]) -> Result<(), Error>
     ensures first { result ≡ checked (check_refusal ⟦<C as Coded>⟧.coding.format bytes.now) }
     ensures valid { IsOk result ↔ IsValidBytes ⟦<C as Coded>⟧.coding.format bytes.now }
