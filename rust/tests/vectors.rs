@@ -6,7 +6,10 @@ mod common;
 mod vector_files;
 
 use common::configs::Plain;
-use odht::{try_bytes_needed, FxHashFn, HashFn, HashTable, HashTableOwned, UnHashFn};
+use odht::{
+    check_all_within, try_bytes_needed, Error, FxHashFn, HashFn, HashTable, HashTableOwned,
+    UnHashFn,
+};
 use vector_files::{array, run_all, written, Answer, Case};
 
 // How many of the vectors are of these calls; the other 121 of all 7,952 are run inside the crate.
@@ -71,6 +74,20 @@ fn make<const K: usize, const V: usize, H: HashFn>(case: &Case<'_>) -> Option<An
     })
 }
 
+// The whole check, also with a bound that every table keeps and one that none keeps: the latter is rejected where the
+// check finds nothing, or finds what comes after the bound.
+fn check<const K: usize, const V: usize, H: HashFn>(table: &View<K, V, H>) -> Answer {
+    let found = table.check_all();
+    let within = |groups| check_all_within::<Plain<K, V, H>>(table.raw_bytes(), groups);
+    assert_eq!(within(usize::MAX), found);
+    let without_groups = match found {
+        Ok(()) | Err(Error::Unreachable { .. }) => Err(Error::SearchTooLong { home: 0, groups: 0 }),
+        Err(error) => Err(error),
+    };
+    assert_eq!(within(0), without_groups);
+    Answer::of(found)
+}
+
 // A call on a view, which is opened.
 fn look<const K: usize, const V: usize, H: HashFn>(
     case: &Case<'_>,
@@ -79,7 +96,7 @@ fn look<const K: usize, const V: usize, H: HashFn>(
     let value_or = |value: Option<[u8; V]>| value.map_or("none".to_string(), |it| written(&it));
     Some(match case.call {
         "open" => Answer::word("ok"),
-        "check" => Answer::of(table.check_all()),
+        "check" => check(table),
         "verify" => Answer::word(table.verify()),
         "len" => Answer::word(table.len()),
         "walk" => {
@@ -113,7 +130,7 @@ fn insert<const K: usize, const V: usize, H: HashFn>(
             Answer::words(pairs.iter().map(|(key, value)| match table.try_insert(key, value) {
                 Ok(Some(former)) => written(&former),
                 Ok(None) => "none".to_string(),
-                Err(odht::Error::Full) => "full".to_string(),
+                Err(Error::Full) => "full".to_string(),
                 Err(error) => error.to_string(),
             }))
         }
