@@ -4,7 +4,9 @@
 use super::forged::{few_free_slots, one_hash, one_home, up_to, Forged};
 use crate::proved::base::bytes;
 use crate::shim::lanes::loads;
-use crate::{check_all, check_all_within, ByteArray, Config, Error, HashTable, UnHashFn};
+use crate::{
+    check_all, check_all_within, ByteArray, Config, Error, HashTable, HashTableOwned, UnHashFn,
+};
 use std::cell::Cell;
 
 thread_local! {
@@ -144,14 +146,15 @@ fn half_of_the_compares_are_reached() {
     }
 }
 
-// One group is read for each home, where each first group has a free slot.
+// In an empty table each read finds its ninth byte, which serves nine homes.
 #[test]
-fn the_reads_are_reached() {
-    for slots in [16, 256, 4096] {
-        let bytes = bytes_of(&up_to(slots, 1));
-        let view = HashTable::<Keys, _>::from_raw_bytes(&bytes[..]).unwrap();
+fn a_free_byte_serves_the_homes_before_it() {
+    for (items, slots, reads) in [(13, 16, 2), (222, 256, 29), (3563, 4096, 456)] {
+        let table = HashTableOwned::<Keys>::with_capacity(items, 87);
+        assert_eq!(table.raw_bytes().len(), 32 + slots * 9 + 16);
+        let view = HashTable::<Keys, _>::from_raw_bytes(table.raw_bytes()).unwrap();
         for groups in [1, 2, slots / 16] {
-            assert_eq!(counted(|| view.searches_within(groups)), (true, slots, 0));
+            assert_eq!(counted(|| view.searches_within(groups)), (true, reads, 0));
         }
     }
 }
