@@ -160,6 +160,11 @@ for program in tool table; do
         well "odht_$program: $(tail -n 1 printed)"
     fi
 done
+if has nm && has sha256sum && [ -x "$top/crates/odht_tool/out/odht_tool" ]; then
+    sh "$top/examples/jobs/run.sh" "$top/crates/odht_tool/out/odht_tool" usr/lib/libodht.so "$top"/docs/*.md > printed ||
+        fail "the jobs of docs/TOOL.md"
+    well "jobs: $(cat printed)"
+fi
 if has cc && has rustc && [ -x "$top/crates/odht_tool/out/odht_tool" ]; then
     sh "$top/examples/toolchain/run.sh" "-I$room/usr/include $room/usr/lib/libodht.a" \
         "$top/crates/odht_tool/out/odht_tool" > printed || { cat printed; fail "the tables of the Rust toolchain"; }
