@@ -1,7 +1,7 @@
 //! How long tables are.
 ghost use Rattle.std.specs.Prelude.{◌≡◌, ◌+◌, ◌-◌, ◌*◌, ◌<◌, ◌≤◌, ◌^◌, ◌↔◌, MatchOption, IfSome};
-ghost use Rattle.std.specs.Prelude.{IsNone};
-ghost use Rattle.odht_base.specs.Format.{entry_len};
+ghost use Rattle.std.specs.Prelude.{ℕ, List, IsNone};
+ghost use Rattle.odht_base.specs.Format.{entry_len, format_of};
 ghost use Rattle.odht_base.specs.Image.{image_len};
 ghost use Rattle.odht_header.specs.Layouts.{IsLayout};
 ghost use Rattle.odht_header.specs.Refusals.{IsTooLarge};
@@ -9,6 +9,7 @@ ghost use Rattle.odht_header.specs.Refusals.{IsTooLarge};
 use crate::bytes::ByteArray;
 use crate::config::{Coded, Config};
 use crate::header::HEADER_SIZE;
+use crate::layout::Layout;
 use crate::load::{Factor, slots_needed};
 use crate::swisstable_group_query::REFERENCE_GROUP_SIZE;
 
@@ -19,7 +20,7 @@ pub fn bytes_needed<C: Config>(slot_count: usize) -> Option<usize>
         in MatchOption result (usize.MAX < len) (λ n. n ≡ len) }
     ensures fits { IfSome result (λ n. n < 2 ^ 64) }
 {
-    let len = len_of_slots::<C>(slot_count);
+    let len = len_of_slots(Layout::of::<C>(), slot_count);
     if len > usize::MAX as u128 {
         return None;
     }
@@ -54,10 +55,11 @@ pub fn entry_at<C: Config>(slot: usize) -> usize
 
 // How many bytes a table of `slot_count` slots has.
 #[inline]
-pub(crate) fn len_of_slots<C: Config>(slot_count: usize) -> u128
-    ensures { result ≡ image_len ⟦<C as Coded>⟧.coding.format slot_count }
+pub(crate) fn len_of_slots(layout: Layout, slot_count: usize) -> u128
+    ensures { (hash : List ℕ → ℕ)
+        → result ≡ image_len (format_of layout.key_len layout.value_len hash) slot_count }
 {
-    let entry = C::EncodedKey::LEN as u128 + C::EncodedValue::LEN as u128;
+    let entry = layout.entry_len() as u128;
     let slots = slot_count as u128;
     HEADER_SIZE as u128 + slots * entry + slots + REFERENCE_GROUP_SIZE as u128
 }
