@@ -2,6 +2,8 @@
 -- numbers, plain tables and their bytes are in `odht_base`.
 -- the parts of a table as code reads them
 pub mod Parts
+-- the parts of a table whose lengths of keys and values are numbers
+pub mod Sized
 -- the lengths that searches and inserts require
 pub mod PartLengths
 -- what a search answers

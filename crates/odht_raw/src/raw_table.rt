@@ -16,6 +16,7 @@ ghost use Rattle.odht_header.specs.Refusals.{checked, hashes_refusal, hashes_ref
 use crate::bytes::ByteArray;
 use crate::error::Error;
 use crate::hash::HashFn;
+use crate::layout::Layout;
 use crate::swisstable_group_query::{Group, GroupQuery};
 use std::marker::{Model, PhantomData};
 
@@ -34,6 +35,8 @@ mod probe_seq;
 mod runs;
 mod scan;
 mod search_result;
+mod sized;
+mod sized_search;
 mod table_mut;
 mod walk;
 
@@ -46,6 +49,7 @@ pub use probe_seq::{ProbeSeq, probe_order};
 pub(crate) use runs::insert_run;
 pub use scan::Scan;
 pub use search_result::Search;
+pub use sized::SizedTable;
 pub use table_mut::RawTableMut;
 pub use walk::{RawIter, RawSlots};
 
@@ -113,6 +117,19 @@ impl<'a, K: ByteArray, V: ByteArray, H: HashFn> RawTable<'a, K, V, H> {
         }
     }
 
+    /// The same parts, with the lengths of keys and values as numbers.
+    #[inline(always)]
+    pub fn sized(&self) -> SizedTable<'a, H>
+        ensures { result ≡ record { key_len = K.LEN; value_len = V.LEN; parts = self.now } }
+    {
+        let control = self.control;
+        let layout = Layout {
+            key_len: K::LEN as u8,
+            value_len: V::LEN as u8,
+        };
+        SizedTable::new(control, self.entries.bytes(), self.entries.len(), layout)
+    }
+
     /// The value stored with the key, searched for group by group along the probe order (docs/FORMAT.md, "Search").
     ///
     /// On the parts of a table whose keys are all reached it is the map's answer. On any parts it is a value that is
@@ -174,39 +191,6 @@ impl<'a, K: ByteArray, V: ByteArray, H: HashFn> RawTable<'a, K, V, H> {
             in result ≡ checked
             (hashes_refusal F self.now.entries.bytes self.now.control slots_to_check) }
     {
-        let slots = slots_to_check.min(self.entries.len());
-        for slot in 0..slots {
-            self.check_slot(slot)?;
-        }
-        Ok(())
-    }
-
-    // What opening checks of one slot. Answers the hash of the key where the slot does not count as free.
-    #[inline(always)]
-    fn check_slot(&self, slot: usize) -> Result<Option<u32>, Error>
-        requires { slot < self.now.entries.slots }
-        ensures err { let F = format_of K.LEN V.LEN H.hash
-            in result_err result
-            ≡ hashes_refusal_at F self.now.entries.bytes self.now.control slot }
-        ensures hash { IfOk result (IsSlotHash (format_of K.LEN V.LEN H.hash) self.now slot) }
-    {
-        let found = self.control[slot];
-        let entry = self.entries.get(slot);
-        if is_empty_or_deleted(found) {
-            if entry.key.is_all_zeros() && entry.value.is_all_zeros() {
-                return Ok(None);
-            }
-            return Err(Error::NonZeroEmpty { slot });
-        }
-        let hash = H::hash(entry.key.as_slice());
-        let expected = tag_of(hash);
-        if found != expected {
-            return Err(Error::ControlMismatch {
-                slot,
-                expected,
-                found,
-            });
-        }
-        Ok(Some(hash))
+        self.sized().sanity_check_hashes(slots_to_check)
     }
 }

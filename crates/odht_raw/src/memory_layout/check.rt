@@ -2,15 +2,17 @@
 ghost use Rattle.std.specs.Prelude.{◌≡◌, ◌<◌, ◌↔◌, All, IsOk, None, Some};
 ghost use Rattle.odht_base.specs.Valid.{IsValidBytes};
 ghost use Rattle.odht_base.specs.Bounds.{first_longer};
-ghost use Rattle.odht_base.specs.Decoded.{controls_of};
+ghost use Rattle.odht_base.specs.Decoded.{entries_of, controls_of};
 ghost use Rattle.odht_header.specs.Refusals.{checked, late_refusal, check_refusal};
 ghost use Rattle.odht_header.specs.Refusals.{late_refusal_by, check_refusal_by};
+ghost use Rattle.odht_raw.specs.Sized.{sized_format};
 
-use super::Allocation;
+use super::{Allocation, Header};
 use crate::bytes::{Borrowed, ByteStore};
 use crate::config::{Coded, Config};
 use crate::error::Error;
-use crate::raw_table::RawTable;
+use crate::hash::HashFn;
+use crate::raw_table::{RawTable, SizedTable};
 
 /// A bound of searches, in groups, that tables of hashes that vary keep: nearly twice the longest search that was seen
 /// in random tables of up to 2^24 slots at 95 percent (docs/FORMAT.md, "How long searches are"). Fuller or larger ones
@@ -80,29 +82,47 @@ impl<C: Config, M: ByteStore> Allocation<C, M> {
     }
 
     // `check_rest` with a bound of searches, where there is one; its contract gives the first error alone.
+    // Inlined next to an opening, it would keep the first ten control bytes in registers.
+    #[inline(never)]
     fn check_late(&self, groups: Option<usize>) -> Result<(), Error>
         ensures { let F = ⟦<C as Coded>⟧.coding.format
             in result ≡ checked (late_refusal_by F groups (M.bytes self.now)) }
     {
-        let header = self.header();
-        header.check_load_factor()?;
-        header.check_padding()?;
         let (control, entries) = self.data_slices();
         let table: RawTable<'_, C::EncodedKey, C::EncodedValue, C::H> = RawTable::new(
             control, entries,
         );
-        // From control bytes alone, before anything is searched for.
-        let longer = table.longer_refusal(groups);
-        let summary = table.check_slots(longer.is_none())?;
-        table.check_mirror()?;
-        header.check_item_count(summary.occupied)?;
-        if let Some(error) = longer {
-            return Err(error);
-        }
-        match summary.unreachable {
-            Some(slot) => Err(Error::Unreachable { slot }),
-            None => Ok(()),
-        }
+        check_late_parts(&self.header(), &table.sized(), groups)
+    }
+}
+
+/// What the whole check adds to opening a view, of a header and the parts behind it: the first error alone.
+#[inline(always)]
+pub(crate) fn check_late_parts<H: HashFn>(
+    header: &Header<'_>,
+    table: &SizedTable<'_, H>,
+    groups: Option<usize>,
+) -> Result<(), Error>
+    requires entries { let F = sized_format table.now H.hash
+        in table.now.parts.entries.bytes ≡ entries_of F header.now }
+    requires control { let F = sized_format table.now H.hash
+        in table.now.parts.control ≡ controls_of F header.now }
+    ensures { let F = sized_format table.now H.hash
+        in result ≡ checked (late_refusal_by F groups header.now) }
+{
+    header.check_load_factor()?;
+    header.check_padding()?;
+    // From control bytes alone, before anything is searched for.
+    let longer = table.longer_refusal(groups);
+    let summary = table.check_slots(longer.is_none())?;
+    table.check_mirror()?;
+    header.check_item_count(summary.occupied)?;
+    if let Some(error) = longer {
+        return Err(error);
+    }
+    match summary.unreachable {
+        Some(slot) => Err(Error::Unreachable { slot }),
+        None => Ok(()),
     }
 }
 

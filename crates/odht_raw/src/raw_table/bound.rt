@@ -8,18 +8,19 @@ ghost use Rattle.odht_base.specs.Bytes.{bytes_at};
 ghost use Rattle.odht_base.specs.Groups.{first_free};
 ghost use Rattle.odht_header.specs.Refusals.{longer_refusal};
 ghost use Rattle.odht_base.specs.Bounds.{ends_within, first_longer};
+ghost use Rattle.odht_raw.specs.Sized.{sized_format};
 
-use super::{ProbeSeq, RawTable};
+use super::{ProbeSeq, RawTable, SizedTable};
 use crate::bytes::ByteArray;
 use crate::error::Error;
 use crate::hash::HashFn;
 use crate::swisstable_group_query::lanes::GroupQuery;
 use crate::swisstable_group_query::{Group, REFERENCE_GROUP_SIZE};
 
-impl<'a, K: ByteArray, V: ByteArray, H: HashFn> RawTable<'a, K, V, H> {
+impl<'a, H: HashFn> SizedTable<'a, H> {
     /// `SearchTooLong` of the least home from which a search may read more groups than the bound; None without a bound.
     pub(crate) fn longer_refusal(&self, groups: Option<usize>) -> Option<Error>
-        ensures { result ≡ longer_refusal self.now.control groups }
+        ensures { result ≡ longer_refusal self.now.parts.control groups }
     {
         let Some(groups) = groups else {
             return None;
@@ -33,13 +34,13 @@ impl<'a, K: ByteArray, V: ByteArray, H: HashFn> RawTable<'a, K, V, H> {
     /// Whether no search, of a present or an absent key, reads more than `groups` groups: each home has a group, among
     /// the first `groups` of its probe order, with a byte that counts as free. It reads control bytes alone.
     pub fn searches_within(&self, groups: usize) -> bool
-        ensures bytes { IsTrue result ↔ (first_longer self.now.control groups ≡ None) }
-        ensures bound { let F = format_of K.LEN V.LEN H.hash
-            in (P : Table) (key : List ℕ) → IsPartsOf F P self.now.entries.bytes self.now.control
+        ensures bytes { IsTrue result ↔ (first_longer self.now.parts.control groups ≡ None) }
+        ensures bound { let F = sized_format self.now H.hash
+            in (P : Table) (key : List ℕ) → IsPartsOf F P self.now.parts.entries.bytes self.now.parts.control
             → IsTrue result → groups_read F P.cells key ≤ groups }
     {
-        // Its invariant is used: the control bytes are those of a slot count, with their mirror.
-        let _ = &self.control;
+        // Its lengths are used: the control bytes are those of a slot count, with their mirror.
+        let _ = self.len();
         self.first_longer(groups).is_none()
     }
 
@@ -47,9 +48,9 @@ impl<'a, K: ByteArray, V: ByteArray, H: HashFn> RawTable<'a, K, V, H> {
     /// as free. None where no search reads more. At most `groups` reads of sixteen bytes a slot.
     #[inline(never)]
     pub(crate) fn first_longer(&self, groups: usize) -> Option<usize>
-        ensures { result ≡ first_longer self.now.control groups }
+        ensures { result ≡ first_longer self.now.parts.control groups }
     {
-        for home in 0..self.entries.len() {
+        for home in 0..self.len() {
             if !self.ends_within(home, groups) {
                 return Some(home);
             }
@@ -60,10 +61,10 @@ impl<'a, K: ByteArray, V: ByteArray, H: HashFn> RawTable<'a, K, V, H> {
     // Whether one of the first `groups` groups that a search from this home reads has a byte that counts as free.
     #[inline]
     fn ends_within(&self, home: usize, groups: usize) -> bool
-        requires { home < self.now.entries.slots }
-        ensures { result ≡ ends_within self.now.control groups home }
+        requires { home < self.now.parts.entries.slots }
+        ensures { result ≡ ends_within self.now.parts.control groups home }
     {
-        let mask = self.entries.len() - 1;
+        let mask = self.len() - 1;
         let mut probe = ProbeSeq::<REFERENCE_GROUP_SIZE>::new(home, mask);
         let mut left = groups;
         'groups: while left > 0 {
@@ -78,13 +79,26 @@ impl<'a, K: ByteArray, V: ByteArray, H: HashFn> RawTable<'a, K, V, H> {
         }
         false
     }
+
     // Whether one of the sixteen control bytes from `start` on counts as free.
     #[inline]
     fn has_free(&self, start: usize) -> bool
-        requires { start < self.now.entries.slots }
-        ensures { result ≡ is_some (first_free (bytes_at self.now.control start 16)) }
+        requires { start < self.now.parts.entries.slots }
+        ensures { result ≡ is_some (first_free (bytes_at self.now.parts.control start 16)) }
     {
-        let control = &self.control[start..start + REFERENCE_GROUP_SIZE];
-        GroupQuery::of(control, 0).first_empty().is_some()
+        GroupQuery::of(self.group(start), 0).first_empty().is_some()
+    }
+}
+
+impl<'a, K: ByteArray, V: ByteArray, H: HashFn> RawTable<'a, K, V, H> {
+    /// Whether no search, of a present or an absent key, reads more than `groups` groups: each home has a group, among
+    /// the first `groups` of its probe order, with a byte that counts as free. It reads control bytes alone.
+    pub fn searches_within(&self, groups: usize) -> bool
+        ensures bytes { IsTrue result ↔ (first_longer self.now.control groups ≡ None) }
+        ensures bound { let F = format_of K.LEN V.LEN H.hash
+            in (P : Table) (key : List ℕ) → IsPartsOf F P self.now.entries.bytes self.now.control
+            → IsTrue result → groups_read F P.cells key ≤ groups }
+    {
+        self.sized().searches_within(groups)
     }
 }

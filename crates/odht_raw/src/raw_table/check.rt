@@ -1,16 +1,19 @@
 //! The whole check of the parts of a table: each slot, the mirror, and that the search for each key ends at its slot.
 ghost use Rattle.std.specs.Prelude.{◌≡◌, ◌<◌, ◌≤◌, ◌↔◌, slice_index, option_map, IfOk, IsTrue};
 ghost use Rattle.std.specs.Prelude.{IsFalse, None};
+ghost use Rattle.std.specs.Prelude.{◌==◌};
+ghost use Rattle.std.specs.List.{list_all};
 ghost use Rattle.std.specs.Result.{result_err};
-ghost use Rattle.odht_base.specs.Format.{format_of, tag as key_tag};
+ghost use Rattle.odht_base.specs.Format.{tag as key_tag};
 ghost use Rattle.odht_base.specs.Search.{search_end, is_at};
 ghost use Rattle.odht_base.specs.Decoded.{counts_as_free, slot_key};
-ghost use Rattle.odht_raw.specs.Checks.{cells_of, decoded_count, IsFitting, ArePassed};
+ghost use Rattle.odht_raw.specs.Checks.{cells_of, decoded_count, IsFitting, ArePassed, IsSlotHash};
 ghost use Rattle.odht_header.specs.Refusals.{checked, bad_free_control, slots_refusal};
 ghost use Rattle.odht_header.specs.Refusals.{mirror_refusal, reach_refusal};
+ghost use Rattle.odht_header.specs.Refusals.{hashes_refusal, hashes_refusal_at};
+ghost use Rattle.odht_raw.specs.Sized.{sized_format};
 
-use super::{FREE, ProbeSeq, RawTable, tag_of};
-use crate::bytes::ByteArray;
+use super::{FREE, ProbeSeq, SizedTable, is_empty_or_deleted, tag_of};
 use crate::error::Error;
 use crate::hash::HashFn;
 use crate::swisstable_group_query::lanes::GroupQuery;
@@ -25,28 +28,72 @@ pub(crate) struct SlotSummary {
     pub unreachable: Option<usize>,
 }
 
-impl<'a, K: ByteArray, V: ByteArray, H: HashFn> RawTable<'a, K, V, H> {
+impl<'a, H: HashFn> SizedTable<'a, H> {
+    /// Checks the first `slots_to_check` slots, or all where there are fewer, and answers the first error:
+    /// `NonZeroEmpty` of a slot that counts as free, `ControlMismatch` of any other.
+    ///
+    /// A mismatch can mean that the bytes were written with another hash function.
+    #[inline(always)]
+    pub fn sanity_check_hashes(&self, slots_to_check: usize) -> Result<(), Error>
+        ensures { let F = sized_format self.now H.hash
+            in result ≡ checked
+            (hashes_refusal F self.now.parts.entries.bytes self.now.parts.control slots_to_check) }
+    {
+        let slots = slots_to_check.min(self.len());
+        for slot in 0..slots {
+            self.check_slot(slot)?;
+        }
+        Ok(())
+    }
+
+    // What opening checks of one slot. Answers the hash of the key where the slot does not count as free.
+    #[inline(always)]
+    fn check_slot(&self, slot: usize) -> Result<Option<u32>, Error>
+        requires { slot < self.now.parts.entries.slots }
+        ensures err { let F = sized_format self.now H.hash
+            in result_err result
+            ≡ hashes_refusal_at F self.now.parts.entries.bytes self.now.parts.control slot }
+        ensures hash { IfOk result (IsSlotHash (sized_format self.now H.hash) self.now.parts slot) }
+    {
+        let found = self.control(slot);
+        if is_empty_or_deleted(found) {
+            if is_all_zeros(self.entry(slot)) {
+                return Ok(None);
+            }
+            return Err(Error::NonZeroEmpty { slot });
+        }
+        let hash = H::hash(self.key(slot));
+        let expected = tag_of(hash);
+        if found != expected {
+            return Err(Error::ControlMismatch {
+                slot,
+                expected,
+                found,
+            });
+        }
+        Ok(Some(hash))
+    }
+
     /// Checks each slot once, in slot order, and answers the first error: `NonZeroEmpty`, then `BadFreeControl`, of a
     /// slot that counts as free, `ControlMismatch` of any other.
     ///
     /// `unreachable` is what its comment says only where searches are made, no slot gives an error, and the mirror has no
     /// mismatch. The whole check reads it in no other case.
-    // Inlined next to an opening, it would keep the first ten control bytes in registers.
-    #[inline(never)]
+    #[inline(always)]
     pub(crate) fn check_slots(&self, searches: bool) -> Result<SlotSummary, Error>
-        ensures err { let F = format_of K.LEN V.LEN H.hash
-            in result_err result ≡ slots_refusal F self.now.entries.bytes self.now.control }
+        ensures err { let F = sized_format self.now H.hash
+            in result_err result ≡ slots_refusal F self.now.parts.entries.bytes self.now.parts.control }
         ensures occupied { IfOk result
-            (λ summary. summary.occupied ≡ decoded_count (format_of K.LEN V.LEN H.hash) self.now) }
+            (λ summary. summary.occupied ≡ decoded_count (sized_format self.now H.hash) self.now.parts) }
         ensures reached { let reach = reach_refusal
-            (format_of K.LEN V.LEN H.hash) self.now.entries.bytes self.now.control
+            (sized_format self.now H.hash) self.now.parts.entries.bytes self.now.parts.control
             in IsTrue searches
-            → mirror_refusal self.now.control ≡ None
+            → mirror_refusal self.now.parts.control ≡ None
             → IfOk result (λ summary. option_map Error.Unreachable summary.unreachable ≡ reach) }
     {
         let mut occupied = 0;
         let mut unreachable = None;
-        for slot in 0..self.entries.len() {
+        for slot in 0..self.len() {
             match self.check_slot(slot)? {
                 None => self.check_free_control(slot)?,
                 Some(hash) => {
@@ -66,11 +113,11 @@ impl<'a, K: ByteArray, V: ByteArray, H: HashFn> RawTable<'a, K, V, H> {
     // Whether the control byte of a slot that counts as free is `FREE`; else `BadFreeControl`.
     #[inline]
     fn check_free_control(&self, slot: usize) -> Result<(), Error>
-        requires slot { slot < self.now.entries.slots }
-        requires free { IsTrue (counts_as_free (slice_index self.now.control slot)) }
-        ensures { result ≡ checked (bad_free_control self.now.control slot) }
+        requires slot { slot < self.now.parts.entries.slots }
+        requires free { IsTrue (counts_as_free (slice_index self.now.parts.control slot)) }
+        ensures { result ≡ checked (bad_free_control self.now.parts.control slot) }
     {
-        let found = self.control[slot];
+        let found = self.control(slot);
         if found == FREE {
             Ok(())
         } else {
@@ -84,16 +131,16 @@ impl<'a, K: ByteArray, V: ByteArray, H: HashFn> RawTable<'a, K, V, H> {
     // This asks for more than `IsReached` does: the second copy of a key may be reached, but no search ends at it.
     #[inline]
     fn is_reached(&self, slot: usize, hash: u32) -> bool
-        requires slot { slot < self.now.entries.slots }
-        requires occupied { IsFalse (counts_as_free (slice_index self.now.control slot)) }
+        requires slot { slot < self.now.parts.entries.slots }
+        requires occupied { IsFalse (counts_as_free (slice_index self.now.parts.control slot)) }
         requires hash { hash
-            ≡ H.hash (slot_key (format_of K.LEN V.LEN H.hash) self.now.entries.bytes slot) }
-        ensures { let F = format_of K.LEN V.LEN H.hash
-            in IsFitting F self.now
+            ≡ H.hash (slot_key (sized_format self.now H.hash) self.now.parts.entries.bytes slot) }
+        ensures { let F = sized_format self.now H.hash
+            in IsFitting F self.now.parts
             → result ≡ is_at slot
-            (search_end F (cells_of F self.now) (slot_key F self.now.entries.bytes slot)) }
+            (search_end F (cells_of F self.now.parts) (slot_key F self.now.parts.entries.bytes slot)) }
     {
-        let slots = self.entries.len();
+        let slots = self.len();
         let mask = slots - 1;
         let tag = tag_of(hash);
         let mut probe = ProbeSeq::<REFERENCE_GROUP_SIZE>::new(hash as usize, mask);
@@ -114,23 +161,23 @@ impl<'a, K: ByteArray, V: ByteArray, H: HashFn> RawTable<'a, K, V, H> {
     // `slot`, whose tag is `tag`.
     #[inline]
     fn are_passed(&self, start: usize, count: usize, slot: usize, tag: u8) -> bool
-        requires start { start < self.now.entries.slots }
+        requires start { start < self.now.parts.entries.slots }
         requires count { count ≤ 16 }
-        requires slot { slot < self.now.entries.slots }
-        requires tag { let F = format_of K.LEN V.LEN H.hash
-            in tag ≡ key_tag F (slot_key F self.now.entries.bytes slot) }
+        requires slot { slot < self.now.parts.entries.slots }
+        requires tag { let F = sized_format self.now H.hash
+            in tag ≡ key_tag F (slot_key F self.now.parts.entries.bytes slot) }
         requires small { tag < 128 }
-        ensures { let F = format_of K.LEN V.LEN H.hash
-            in IsFitting F self.now
+        ensures { let F = sized_format self.now H.hash
+            in IsFitting F self.now.parts
             → IsTrue result
-            ↔ ArePassed F self.now (slot_key F self.now.entries.bytes slot) start count }
+            ↔ ArePassed F self.now.parts (slot_key F self.now.parts.entries.bytes slot) start count }
     {
-        let control = &self.control[start..start + REFERENCE_GROUP_SIZE];
+        let mask = self.len() - 1;
+        let control = self.group(start);
         let mut group = GroupQuery::of(control, tag);
         if group.first_empty().unwrap_or(REFERENCE_GROUP_SIZE) < count {
             return false;
         }
-        let mask = self.entries.len() - 1;
         'matches: while let Some(index) = group.first_match() {
             if index < count && self.have_same_key((start + index) & mask, slot) {
                 return false;
@@ -143,29 +190,34 @@ impl<'a, K: ByteArray, V: ByteArray, H: HashFn> RawTable<'a, K, V, H> {
     // Whether the entries of two slots have the same key.
     #[inline]
     fn have_same_key(&self, slot: usize, other: usize) -> bool
-        requires slot { slot < self.now.entries.slots }
-        requires other { other < self.now.entries.slots }
-        ensures { let key = slot_key (format_of K.LEN V.LEN H.hash) self.now.entries.bytes
+        requires slot { slot < self.now.parts.entries.slots }
+        requires other { other < self.now.parts.entries.slots }
+        ensures { let key = slot_key (sized_format self.now H.hash) self.now.parts.entries.bytes
             in IsTrue result ↔ (key slot ≡ key other) }
     {
-        self.entries
-            .get(slot)
-            .key
-            .equals(&self.entries.get(other).key)
+        self.key(slot) == self.key(other)
     }
 
     /// Compares the mirror with the control bytes of the first sixteen slots; `MirrorMismatch` of the first index that
     /// differs.
     #[inline]
     pub(crate) fn check_mirror(&self) -> Result<(), Error>
-        ensures { result ≡ checked (mirror_refusal self.now.control) }
+        ensures { result ≡ checked (mirror_refusal self.now.parts.control) }
     {
-        let slots = self.entries.len();
+        let slots = self.len();
         for index in 0..REFERENCE_GROUP_SIZE {
-            if self.control[slots + index] != self.control[index] {
+            if self.control(slots + index) != self.control(index) {
                 return Err(Error::MirrorMismatch { index });
             }
         }
         Ok(())
     }
+}
+
+// Whether each byte is zero.
+#[inline]
+fn is_all_zeros(bytes: &[u8]) -> bool
+    ensures { result ≡ list_all (λ byte. byte == 0) bytes.now }
+{
+    bytes.iter().all(|byte| *byte == 0)
 }

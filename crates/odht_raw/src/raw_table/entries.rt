@@ -77,6 +77,14 @@ impl<'a, K: ByteArray, V: ByteArray> Entries<'a, K, V> {
         }
     }
 
+    // The bytes that the entries are read from.
+    #[inline]
+    pub(crate) fn bytes(&self) -> &'a [u8]
+        ensures { result.now ≡ self.now.bytes }
+    {
+        self.bytes
+    }
+
     /// How many slots there are.
     #[inline]
     pub fn len(&self) -> usize

@@ -9,13 +9,99 @@ ghost use Rattle.odht_base.specs.Table.{Table, Pair, count, slot_count as slots_
 ghost use Rattle.odht_base.specs.Valid.{HoldsPair, IsPartsOf};
 ghost use Rattle.odht_raw.specs.Waiting.{waiting, placed_of, IsWaiting, AreRising, IsPending};
 ghost use Rattle.odht_raw.specs.Waiting.{AreWholeParts, IsPass};
+ghost use Rattle.odht_raw.specs.Sized.{sized_format};
 
-use super::{EntryMetadata, ProbeSeq, RawTable, is_empty_or_deleted};
+use super::{EntryMetadata, ProbeSeq, RawTable, SizedTable, is_empty_or_deleted};
 use crate::bytes::ByteArray;
 use crate::hash::HashFn;
 
 // What is added to a slot that waits to be placed. It is above each slot.
 const WAITING: usize = 1 << 63;
+
+impl<'a, H: HashFn> SizedTable<'a, H> {
+    /// Whether inserts can make the table. Where they can, `out` is an order of its occupied slots in which they do:
+    /// their pairs, inserted in this order into an empty table of as many slots, make exactly this table. Otherwise the
+    /// numbers in `out` have no meaning. The parts are those of a valid table, and `out` has as many items as the table
+    /// has pairs.
+    ///
+    /// A pass goes through the waiting slots in slot order, and places each whose earlier slots in the probe order of
+    /// its key are all placed. Passes are made until no slot waits, or a pass places none: at most one pass more than
+    /// there are slots that wait for a slot of a higher index. Each earlier slot of a probe order is looked up by
+    /// binary search in the list of the pass, and after each pass this list is sorted. It allocates nothing.
+    pub fn insert_order(&self, out: &mut [usize]) -> bool
+        requires whole { let F = sized_format self.now H.hash
+            in (P : Table) × AreWholeParts F P self.now.parts (length out.old) }
+        ensures order { let F = sized_format self.now H.hash
+            in (P : Table)
+            → AreWholeParts F P self.now.parts (length out.old)
+            → IsTrue result
+            → IsInsertOrder F P out.new }
+        ensures made { let F = sized_format self.now H.hash
+            in (P : Table)
+            → AreWholeParts F P self.now.parts (length out.old)
+            → (IsTrue result ↔ IsMade F P) }
+    {
+        list_occupied(self.controls(), self.len(), out);
+        let mut placed = 0;
+        while placed < out.len() {
+            let ready = self.place_ready(&mut out[placed..]);
+            if ready == 0 {
+                return false;
+            }
+            placed += ready;
+        }
+        true
+    }
+
+    // Goes once through the slots that wait, and places each that is ready by then. At the end the placed slots come
+    // first, in slot order, and after them the others. Answers how many were placed.
+    fn place_ready(&self, slots: &mut [usize]) -> usize
+        requires waiting { All (IsWaiting self.now.parts.entries.slots) slots.old }
+        requires pending { let F = sized_format self.now H.hash
+            in (P : Table) × (done : List ℕ)
+            × IsPartsOf F P self.now.parts.entries.bytes self.now.parts.control
+            × IsPending F P done slots.old }
+        ensures few { result ≤ length slots.new }
+        ensures waiting { All (IsWaiting self.now.parts.entries.slots) (drop result slots.new) }
+        ensures pass { let F = sized_format self.now H.hash
+            in (P : Table) (done : List ℕ)
+            → IsPartsOf F P self.now.parts.entries.bytes self.now.parts.control
+            → IsPending F P done slots.old
+            → IsPass F P done slots.new result }
+    {
+        let mut placed = 0;
+        for at in 0..slots.len() {
+            let slot = slots[at] - WAITING;
+            if self.is_ready(slot, slots) {
+                slots[at] = slot;
+                placed += 1;
+            }
+        }
+        slots.sort_unstable();
+        placed
+    }
+
+    // Whether no slot before this one in the probe order of its key waits.
+    fn is_ready(&self, slot: usize, slots: &[usize]) -> bool
+        requires { slot < self.now.parts.entries.slots }
+        ensures { let F = sized_format self.now H.hash
+            in (P : Table) (done : List ℕ) (p : Pair)
+            → IsPartsOf F P self.now.parts.entries.bytes self.now.parts.control
+            → IsPending F P done slots.now
+            → HoldsPair P slot p
+            → (IsTrue result ↔ IsReady F P (done ++ placed_of slots.now) slot) }
+    {
+        let mask = self.len() - 1;
+        let mut probe = ProbeSeq::<1>::new(H::hash(self.key(slot)) as usize, mask);
+        while probe.index() != slot {
+            if is_waiting(probe.index(), slots) || probe.is_last() {
+                return false;
+            }
+            probe.advance(mask);
+        }
+        true
+    }
+}
 
 impl<'a, K: ByteArray, V: ByteArray, H: HashFn> RawTable<'a, K, V, H> {
     /// Whether inserts can make the table. Where they can, `out` is an order of its occupied slots in which they do:
@@ -40,66 +126,7 @@ impl<'a, K: ByteArray, V: ByteArray, H: HashFn> RawTable<'a, K, V, H> {
             → AreWholeParts F P self.now (length out.old)
             → (IsTrue result ↔ IsMade F P) }
     {
-        list_occupied(self.control, self.entries.len(), out);
-        let mut placed = 0;
-        while placed < out.len() {
-            let ready = self.place_ready(&mut out[placed..]);
-            if ready == 0 {
-                return false;
-            }
-            placed += ready;
-        }
-        true
-    }
-
-    // Goes once through the slots that wait, and places each that is ready by then. At the end the placed slots come
-    // first, in slot order, and after them the others. Answers how many were placed.
-    fn place_ready(&self, slots: &mut [usize]) -> usize
-        requires waiting { All (IsWaiting self.now.entries.slots) slots.old }
-        requires pending { let F = format_of K.LEN V.LEN H.hash
-            in (P : Table) × (done : List ℕ)
-            × IsPartsOf F P self.now.entries.bytes self.now.control
-            × IsPending F P done slots.old }
-        ensures few { result ≤ length slots.new }
-        ensures waiting { All (IsWaiting self.now.entries.slots) (drop result slots.new) }
-        ensures pass { let F = format_of K.LEN V.LEN H.hash
-            in (P : Table) (done : List ℕ)
-            → IsPartsOf F P self.now.entries.bytes self.now.control
-            → IsPending F P done slots.old
-            → IsPass F P done slots.new result }
-    {
-        let mut placed = 0;
-        for at in 0..slots.len() {
-            let slot = slots[at] - WAITING;
-            if self.is_ready(slot, slots) {
-                slots[at] = slot;
-                placed += 1;
-            }
-        }
-        slots.sort_unstable();
-        placed
-    }
-
-    // Whether no slot before this one in the probe order of its key waits.
-    fn is_ready(&self, slot: usize, slots: &[usize]) -> bool
-        requires { slot < self.now.entries.slots }
-        ensures { let F = format_of K.LEN V.LEN H.hash
-            in (P : Table) (done : List ℕ) (p : Pair)
-            → IsPartsOf F P self.now.entries.bytes self.now.control
-            → IsPending F P done slots.now
-            → HoldsPair P slot p
-            → (IsTrue result ↔ IsReady F P (done ++ placed_of slots.now) slot) }
-    {
-        let key = self.entries.get(slot).key;
-        let mask = self.entries.len() - 1;
-        let mut probe = ProbeSeq::<1>::new(H::hash(key.as_slice()) as usize, mask);
-        while probe.index() != slot {
-            if is_waiting(probe.index(), slots) || probe.is_last() {
-                return false;
-            }
-            probe.advance(mask);
-        }
-        true
+        self.sized().insert_order(out)
     }
 }
 

@@ -1,0 +1,152 @@
+//! The parts of a table whose lengths of keys and values are numbers, known at run time alone.
+ghost use Rattle.std.specs.Prelude.{◌≡◌, ◌+◌, ◌*◌, ◌^◌, ◌<◌, ◌≤◌, ◌↔◌, length, slice_index, IsTrue};
+ghost use Rattle.odht_base.specs.Bytes.{bytes_at};
+ghost use Rattle.odht_base.specs.Decoded.{slot_entry, slot_key, slot_value};
+ghost use Rattle.odht_base.specs.Load.{IsSlotCount};
+ghost use Rattle.odht_raw.specs.Parts.{entry_format};
+ghost use Rattle.odht_raw.specs.Sized.{sized_parts, IsSized};
+
+use super::EntryMetadata;
+use crate::hash::HashFn;
+use crate::layout::Layout;
+use crate::swisstable_group_query::REFERENCE_GROUP_SIZE;
+use std::marker::{Model, PhantomData};
+
+/// The parts of a table, borrowed to be read: the control bytes with their mirror, and the entries of as many slots. The
+/// lengths of keys and values are numbers.
+///
+/// In a contract it is these lengths and the parts.
+#[derive(Drop)]
+pub struct SizedTable<'a, H: HashFn> {
+    control: &'a [EntryMetadata],
+    entries: &'a [u8],
+    slots: usize,
+    layout: Layout,
+    hash: PhantomData<H>,
+}
+
+impl<'a, H: HashFn> Model for SizedTable<'a, H> {
+    ghost use Rattle.odht_raw.specs.Sized.{SizedParts, sized_parts, IsSized};
+
+    ghost Value = { SizedParts };
+
+    ghost view = { λ t.
+        sized_parts t.layout.key_len t.layout.value_len t.slots t.entries.now t.control.now };
+
+    ghost invariant = { λ t. IsSized H.MIN_LEN
+        (sized_parts t.layout.key_len t.layout.value_len t.slots t.entries.now t.control.now) };
+}
+
+impl<'a, H: HashFn> SizedTable<'a, H> {
+    /// The table of these parts. No control byte and no entry is checked.
+    #[inline]
+    pub fn new(
+        control: &'a [EntryMetadata],
+        entries: &'a [u8],
+        slots: usize,
+        layout: Layout,
+    ) -> Self
+        requires slots { IsSlotCount slots }
+        requires control { length control.now ≡ slots + 16 }
+        requires entries { length entries.now ≡ slots * (layout.key_len + layout.value_len) }
+        requires hashes { H.MIN_LEN ≤ layout.key_len }
+        ensures { result
+            ≡ sized_parts layout.key_len layout.value_len slots entries.now control.now }
+    {
+        SizedTable {
+            control,
+            entries,
+            slots,
+            layout,
+            hash: PhantomData,
+        }
+    }
+
+    /// The control bytes with their mirror.
+    #[inline]
+    pub fn controls(&self) -> &'a [EntryMetadata]
+        ensures value { result.now ≡ self.now.parts.control }
+        ensures len { length result.now ≡ self.now.parts.entries.slots + 16 }
+    {
+        self.control
+    }
+
+    /// How many slots there are.
+    #[inline]
+    pub fn len(&self) -> usize
+        ensures value { result ≡ self.now.parts.entries.slots }
+        ensures few { result ≤ 2 ^ 63 }
+        ensures sized { IsSized H.MIN_LEN self.now }
+    {
+        self.slots
+    }
+
+    /// The control byte of a slot, or for an index from the slot count on of its mirror.
+    #[inline]
+    pub fn control(&self, index: usize) -> EntryMetadata
+        requires { index < self.now.parts.entries.slots + 16 }
+        ensures { result ≡ slice_index self.now.parts.control index }
+    {
+        self.control[index]
+    }
+
+    /// The sixteen control bytes from that of slot `start` on, which run into the mirror after the last slot.
+    #[inline]
+    pub fn group(&self, start: usize) -> &'a [EntryMetadata]
+        requires { start < self.now.parts.entries.slots }
+        ensures bytes { result.now ≡ bytes_at self.now.parts.control start 16 }
+        ensures len { length result.now ≡ 16 }
+    {
+        let control = self.control;
+        &control[start..start + REFERENCE_GROUP_SIZE]
+    }
+
+    /// The entry of a slot: key, then value.
+    #[inline]
+    pub fn entry(&self, slot: usize) -> &'a [u8]
+        requires { slot < self.now.parts.entries.slots }
+        ensures value { let F = entry_format self.now.key_len self.now.value_len
+            in result.now ≡ slot_entry F self.now.parts.entries.bytes slot }
+        ensures len { length result.now ≡ self.now.key_len + self.now.value_len }
+    {
+        let entries = self.entries;
+        let entry_len = self.layout.entry_len();
+        let at = slot * entry_len;
+        &entries[at..at + entry_len]
+    }
+
+    /// The key of a slot.
+    #[inline]
+    pub fn key(&self, slot: usize) -> &'a [u8]
+        requires { slot < self.now.parts.entries.slots }
+        ensures value { let F = entry_format self.now.key_len self.now.value_len
+            in result.now ≡ slot_key F self.now.parts.entries.bytes slot }
+        ensures len { length result.now ≡ self.now.key_len }
+        ensures hashes { H.MIN_LEN ≤ length result.now }
+    {
+        let entry = self.entry(slot);
+        &entry[..self.layout.key_len as usize]
+    }
+
+    /// The value of a slot.
+    #[inline]
+    pub fn value(&self, slot: usize) -> &'a [u8]
+        requires { slot < self.now.parts.entries.slots }
+        ensures value { let F = entry_format self.now.key_len self.now.value_len
+            in result.now ≡ slot_value F self.now.parts.entries.bytes slot }
+        ensures len { length result.now ≡ self.now.value_len }
+    {
+        let entry = self.entry(slot);
+        &entry[self.layout.key_len as usize..]
+    }
+
+    /// Whether the entry of a slot has this key.
+    #[inline]
+    pub(super) fn has_key(&self, slot: usize, key: &[u8]) -> bool
+        requires { slot < self.now.parts.entries.slots }
+        ensures { let F = entry_format self.now.key_len self.now.value_len
+            in IsTrue result ↔ (slot_key F self.now.parts.entries.bytes slot ≡ key.now) }
+    {
+        self.key(slot) == key
+    }
+}

@@ -1,0 +1,125 @@
+//! The search by groups of a key that is given as bytes.
+ghost use Rattle.std.specs.Prelude.{◌≡◌, ℕ, ◌<◌, length, IfSome, IsNone};
+ghost use Rattle.std.specs.Option.{option_copied};
+ghost use Rattle.odht_base.specs.Table.{Table};
+ghost use Rattle.odht_raw.specs.Finds.{IsFind, IsCountedFind};
+ghost use Rattle.odht_raw.specs.PartLengths.{AreSearchLengths};
+ghost use Rattle.odht_raw.specs.SearchEnds.{IsEndAmong, GoesOnAmong};
+ghost use Rattle.odht_raw.specs.Searches.{IsSearch};
+ghost use Rattle.odht_raw.specs.SearchSteps.{IsGroupAt, IsLook, IsTag};
+ghost use Rattle.odht_raw.specs.Sized.{sized_format};
+
+use super::{EntryMetadata, ProbeSeq, Scan, Search, SizedTable, tag_of};
+use crate::hash::HashFn;
+use crate::swisstable_group_query::lanes::GroupQuery;
+use crate::swisstable_group_query::{Group, REFERENCE_GROUP_SIZE};
+
+impl<'a, H: HashFn> SizedTable<'a, H> {
+    /// The value stored with the key, searched for group by group along the probe order (docs/FORMAT.md, "Search").
+    ///
+    /// On the parts of a table whose keys are all reached it is the map's answer. On any parts it is a value that is
+    /// stored with an equal key. `find_counted` says how many groups that takes.
+    #[inline]
+    pub fn find(&self, key: &[u8]) -> Option<&'a [u8]>
+        requires { length key.now ≡ self.now.key_len }
+        ensures { IsFind (sized_format self.now H.hash) (λ b. b) self.now.parts key.now
+            (option_copied result) }
+    {
+        let (value, _) = self.find_counted(key);
+        value
+    }
+
+    /// `find`, and how many groups were read: on the parts of a table whose keys are all reached those up to the first
+    /// slot that is free or holds the key, and on any parts at most all groups. How they are counted: docs/FORMAT.md,
+    /// "Search".
+    #[inline]
+    pub fn find_counted(&self, key: &[u8]) -> (Option<&'a [u8]>, usize)
+        requires { length key.now ≡ self.now.key_len }
+        ensures { IsCountedFind (sized_format self.now H.hash) (λ b. b) self.now.parts key.now
+            (option_copied result.0, result.1) }
+    {
+        let mut scan = Scan::new(self.controls(), self.len());
+        let end = self.search(&mut scan, key);
+        let groups = scan.groups();
+        match end {
+            Search::Found(slot) => (Some(self.value(slot)), groups),
+            Search::Free(_) => (None, groups),
+            Search::Neither => (None, groups),
+        }
+    }
+
+    // Searches for the key among the control bytes of the scan, which are the table's, as `search` of typed keys does.
+    #[inline]
+    fn search(&self, scan: &mut Scan<'_>, key: &[u8]) -> Search
+        requires key { length key.now ≡ self.now.key_len }
+        requires lengths { AreSearchLengths H.MIN_LEN self.now.key_len self.now.value_len
+            self.now.parts.entries.slots (length scan.old.control) }
+        ensures { IsSearch (sized_format self.now H.hash) self.now.parts.entries key.now
+            scan.old scan.new result }
+    {
+        self.search_hashed(scan, key, H::hash(key))
+    }
+
+    // `search` of a key whose hash is known.
+    #[inline]
+    fn search_hashed(&self, scan: &mut Scan<'_>, key: &[u8], hash: u32) -> Search
+        requires lengths { AreSearchLengths H.MIN_LEN self.now.key_len self.now.value_len
+            self.now.parts.entries.slots (length scan.old.control) }
+        requires key { length key.now ≡ self.now.key_len }
+        requires hash { hash ≡ H.hash key.now }
+        ensures { IsSearch (sized_format self.now H.hash) self.now.parts.entries key.now
+            scan.old scan.new result }
+    {
+        let tag = tag_of(hash);
+        let mask = scan.slots() - 1;
+        let mut probe = ProbeSeq::<REFERENCE_GROUP_SIZE>::new(hash as usize, mask);
+        'groups: loop {
+            let start = probe.index();
+            let bytes = scan.group(start);
+            if let Some(end) = self.look_at_group(bytes, start, key, tag) {
+                return end;
+            }
+            if probe.is_last() {
+                return Search::Neither;
+            }
+            probe.advance(mask);
+        }
+    }
+
+    // Searches the sixteen slots from `start` on, modulo the slot count, whose control bytes are `bytes`.
+    #[inline]
+    fn look_at_group(
+        &self,
+        bytes: &[EntryMetadata],
+        start: usize,
+        key: &[u8],
+        tag: u8,
+    ) -> Option<Search>
+        requires len { length bytes.now ≡ 16 }
+        requires start { start < self.now.parts.entries.slots }
+        requires tag { IsTag (sized_format self.now H.hash) key.now tag }
+        ensures slot { let F = sized_format self.now H.hash
+            in IfSome result
+            (IsEndAmong F self.now.parts.entries bytes.now start 16 key.now) }
+        ensures none { let F = sized_format self.now H.hash
+            in IsNone result → GoesOnAmong F self.now.parts.entries bytes.now start key.now 16 }
+        ensures on_placed { (P : Table) (p : ℕ)
+            → IsGroupAt (sized_format self.now H.hash) P self.now.parts.entries key.now p start
+            bytes.now
+            → IsLook (sized_format self.now H.hash) P key.now p 16 result }
+    {
+        let mask = self.len() - 1;
+        let mut group = GroupQuery::of(bytes, tag);
+        'matches: while let Some(index) = group.first_match() {
+            let slot = (start + index) & mask;
+            if self.has_key(slot, key) {
+                return Some(Search::Found(slot));
+            }
+            group.drop_match();
+        }
+        match group.first_empty() {
+            Some(index) => Some(Search::Free((start + index) & mask)),
+            None => None,
+        }
+    }
+}
