@@ -17,3 +17,5 @@ pub mod LosslessPairs
 pub mod Rebuilding
 -- lookups of many keys
 pub mod Lookups
+-- lookups of keys that are lists of bytes
+pub mod DynLookups

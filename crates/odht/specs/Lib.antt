@@ -15,3 +15,5 @@ pub mod Growths
 pub mod Lookups
 -- what a lookup answers
 pub mod Gets
+-- tables whose lengths of keys and values are known at run time alone
+pub mod Dynamic

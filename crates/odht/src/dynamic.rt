@@ -1,0 +1,224 @@
+//! Tables whose lengths of keys and values are known at run time alone.
+//!
+//! A file says how long its keys and values are, so a reader need not be built for these lengths. What the lengths and
+//! the hash function fix is the same table, byte for byte, as that of a configuration with these lengths.
+ghost use Rattle.std.specs.Prelude.{◌≡◌, ◌≢◌, ◌≤◌, ◌↔◌, ℕ, length, IfOk, IsOk, IsTrue, None};
+ghost use Rattle.std.specs.Option.{option_copied};
+ghost use Rattle.std.specs.Result.{result_err};
+ghost use Rattle.odht_base.specs.Bounds.{first_longer};
+ghost use Rattle.odht_base.specs.Decoded.{header_count, entries_of, controls_of};
+ghost use Rattle.odht_base.specs.Format.{format_of};
+ghost use Rattle.odht_base.specs.Table.{Table, count};
+ghost use Rattle.odht_base.specs.Valid.{IsImage, IsPartsOf, IsValidBytes};
+ghost use Rattle.odht_raw.specs.Dumps.{parts_of};
+ghost use Rattle.odht_raw.specs.Frame.{IsAccepted};
+ghost use Rattle.odht.specs.Dynamic.{dyn_coding, dyn_format, dyn_refusal};
+ghost use Rattle.odht.specs.Gets.{IsGet, IsCountedGet, IsKnown};
+
+use crate::bytes::ByteStore;
+use crate::error::Error;
+use crate::hash::HashFn;
+use crate::layout::Layout;
+use crate::memory_layout::{Header, check_opening, check_sized, check_sized_within, sized_parts};
+use crate::raw_table::SizedTable;
+use std::marker::{Model, PhantomData};
+
+/// Why a table whose lengths are known at run time alone is not opened, or takes no pair.
+#[derive(Debug, PartialEq, Eq, Drop)]
+pub enum DynError {
+    /// The keys are shorter than the hash function needs.
+    KeyTooShort {
+        /// The length of a key, in bytes.
+        key_len: u8,
+        /// How many bytes the hash function needs at least.
+        least: usize,
+    },
+    /// The error of a table of a configuration with these lengths.
+    Refused(Error),
+}
+
+/// A table in the bytes of a store, of keys and values of the lengths that were given when it was opened. It cannot grow.
+///
+/// A contract speaks of it as of these lengths and the store.
+#[derive(Drop)]
+pub struct DynTable<H: HashFn, D: ByteStore> {
+    store: D,
+    layout: Layout,
+    hash: PhantomData<H>,
+}
+
+impl<H: HashFn, D: ByteStore> Model for DynTable<H, D> {
+    ghost use Rattle.odht.specs.Dynamic.{DynStore, IsOpened};
+
+    ghost Value = { DynStore D };
+
+    ghost view = { λ t. record {
+      key_len = t.layout.key_len;
+      value_len = t.layout.value_len;
+      store = t.store;
+    } };
+
+    ghost invariant = { λ t. IsOpened H.MIN_LEN H.hash D.bytes
+        (record {
+          key_len = t.layout.key_len;
+          value_len = t.layout.value_len;
+          store = t.store;
+        }) };
+}
+
+impl<H: HashFn, D: ByteStore> DynTable<H, D> {
+    /// Opens bytes as a table of these lengths, or returns the first error: `KeyTooShort` where the hash function needs
+    /// longer keys; then `Refused` with that of too few bytes, of the header, of the length, of the first ten slots, as
+    /// [`HashTable::from_raw_bytes`](crate::hash_table::HashTable::from_raw_bytes) returns it. On an error the store is
+    /// dropped.
+    ///
+    /// Nothing else is checked. A table of bytes that are accepted and not valid is safe to use, but its calls keep only
+    /// what their clauses say of any bytes.
+    pub fn open(layout: Layout, data: D) -> Result<Self, DynError>
+        ensures ok { IfOk result (λ t. t ≡ record {
+          key_len = layout.key_len;
+          value_len = layout.value_len;
+          store = «data»;
+        }) }
+        ensures err { let F = format_of layout.key_len layout.value_len H.hash
+            in result_err result ≡ dyn_refusal H.MIN_LEN F (D.bytes «data») }
+        ensures valid { let F = format_of layout.key_len layout.value_len H.hash
+            in (P : Table) → H.MIN_LEN ≤ layout.key_len → IsImage F P (D.bytes «data»)
+            → IsOk result }
+    {
+        if (layout.key_len as usize) < H::MIN_LEN {
+            return Err(DynError::KeyTooShort {
+                key_len: layout.key_len,
+                least: H::MIN_LEN,
+            });
+        }
+        match check_opening::<H>(data.bytes(), layout) {
+            Ok(()) => Ok(DynTable {
+                store: data,
+                layout,
+                hash: PhantomData,
+            }),
+            Err(refused) => Err(DynError::Refused(refused)),
+        }
+    }
+
+    /// The lengths of keys and values.
+    #[inline]
+    pub fn layout(&self) -> Layout
+        ensures key { result.key_len ≡ self.now.key_len }
+        ensures value { result.value_len ≡ self.now.value_len }
+    {
+        self.layout
+    }
+
+    /// The value of a key, or None. On valid bytes it is the value of the key's last insert; on any bytes it is one
+    /// that is stored with this very key. A key of another length has no value. [`DynTable::get_counted`] says how many
+    /// groups the search reads.
+    pub fn get(&self, key: &[u8]) -> Option<&[u8]>
+        ensures { IsGet (dyn_coding self.now H.hash) (D.bytes self.now.store) key.now
+            (option_copied result) }
+    {
+        if key.len() != self.layout.key_len as usize {
+            return None;
+        }
+        self.as_sized().find(key)
+    }
+
+    /// `get`, and how many groups of control bytes it read: on valid bytes those up to the first slot of the key's
+    /// probe order that is free or holds the key, and on any bytes at most one for sixteen slots. docs/FORMAT.md,
+    /// "Search", counts them. For a key of another length no group is read.
+    pub fn get_counted(&self, key: &[u8]) -> (Option<&[u8]>, usize)
+        ensures counted { length key.now ≡ self.now.key_len
+            → IsCountedGet (dyn_coding self.now H.hash) (D.bytes self.now.store) key.now
+            (option_copied result.0, result.1) }
+        ensures other { length key.now ≢ self.now.key_len → result ≡ (None, 0) }
+    {
+        if key.len() != self.layout.key_len as usize {
+            return (None, 0);
+        }
+        self.as_sized().find_counted(key)
+    }
+
+    /// Whether the key has a value. On any bytes it is true only where the entry of some slot holds this very key.
+    pub fn contains_key(&self, key: &[u8]) -> bool
+        ensures { IsKnown (dyn_coding self.now H.hash) (D.bytes self.now.store) key.now result }
+    {
+        self.get(key).is_some()
+    }
+
+    /// The item count of the header. On valid bytes it is the number of items.
+    #[inline]
+    pub fn len(&self) -> usize
+        ensures by_header { result ≡ header_count (D.bytes self.now.store) }
+        ensures on_valid { (P : Table)
+            → IsImage (dyn_format self.now H.hash) P (D.bytes self.now.store)
+            → result ≡ count P }
+    {
+        Header::of(self.raw_bytes()).item_count()
+    }
+
+    /// Whether the bytes are valid: those of a table that the format allows, to the last byte (docs/FORMAT.md, "Valid
+    /// bytes"). On valid bytes each lookup returns what a map would.
+    ///
+    /// All of the bytes are checked. It takes no memory, and costs what [`crate::memory_layout::check_all`] does.
+    pub fn verify(&self) -> bool
+        ensures { IsTrue result
+            ↔ IsValidBytes (dyn_format self.now H.hash) (D.bytes self.now.store) }
+    {
+        check_sized::<H>(self.store.bytes(), self.layout).is_ok()
+    }
+
+    /// Whether the bytes are valid and no search in them, of a present or an absent key, reads more than `groups`
+    /// groups of control bytes. [`DEFAULT_GROUPS`](crate::memory_layout::DEFAULT_GROUPS) is a bound that tables of
+    /// hashes that vary keep.
+    ///
+    /// It is for bytes of strangers: whatever they are it costs no more than
+    /// [`memory_layout::check_all_within`](crate::memory_layout::check_all_within).
+    pub fn verify_within(&self, groups: usize) -> bool
+        ensures { let F = dyn_format self.now H.hash
+            in IsTrue result ↔ (IsValidBytes F (D.bytes self.now.store)
+            × (first_longer (controls_of F (D.bytes self.now.store)) groups ≡ None)) }
+    {
+        check_sized_within::<H>(self.store.bytes(), self.layout, groups).is_ok()
+    }
+
+    /// All bytes. Their header and length fit.
+    #[inline]
+    pub fn raw_bytes(&self) -> &[u8]
+        ensures bytes { result.now ≡ D.bytes self.now.store }
+        ensures accepted { IsAccepted (dyn_format self.now H.hash) (D.bytes self.now.store) }
+        ensures long { 32 ≤ length result.now }
+    {
+        self.store.bytes()
+    }
+
+    /// The store, with the bytes as they are now. Their header and length fit.
+    #[inline]
+    pub fn into_data(self) -> D
+        ensures { result ≡ self.store }
+    {
+        let DynTable {
+            store,
+            layout: _,
+            hash: _,
+        } = self;
+        store
+    }
+
+    /// The parts of the table. A caller that looks up many keys calls this once.
+    #[inline]
+    pub fn as_sized(&self) -> SizedTable<'_, H>
+        ensures parts { let F = dyn_format self.now H.hash
+            in result ≡ record {
+              key_len = self.now.key_len;
+              value_len = self.now.value_len;
+              parts = parts_of F (D.bytes self.now.store);
+            } }
+        ensures on_valid { let F = dyn_format self.now H.hash
+            in let B = D.bytes self.now.store
+            in (P : Table) → IsImage F P B
+            → IsPartsOf F P (entries_of F B) (controls_of F B) }
+    {
+        sized_parts::<H>(self.store.bytes(), self.layout)
+    }
+}
