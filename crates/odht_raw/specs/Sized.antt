@@ -2,11 +2,15 @@
 --     SizedParts           these lengths, and the parts
 --     sized_format S h     the format of these lengths and of the hash h
 --     sized_parts kl vl s es ctrl  the parts of these lengths: the entries es of s slots, and the control bytes ctrl
+--     slot_pair S i        the key and the value that the entry of slot i has
+--     read_slot S x        the slot of the numbered item x, and this pair
 --     IsSized ml S         the parts are as long as these lengths say, and keys are long enough for a hash that needs ml
 --                          bytes
 use Rattle.std.specs.Prelude.{ℕ, List}
 use Rattle.odht_base.specs.Format.{Format, format_of}
-use Rattle.odht_raw.specs.Parts.{TableParts, IsTableParts}
+use Rattle.odht_base.specs.Decoded.{slot_key, slot_value}
+use Rattle.odht_base.specs.Table.{Pair}
+use Rattle.odht_raw.specs.Parts.{TableParts, IsTableParts, entry_format}
 
 pub record SizedParts : Type 0 where
   pub key_len : ℕ
@@ -25,3 +29,11 @@ sized_parts kl vl s es ctrl = record {
 
 abbrev pub IsSized : ℕ → SizedParts → Type 0
 IsSized ml S = IsTableParts ml S.key_len S.value_len S.parts
+
+abbrev pub slot_pair : SizedParts → ℕ → Pair
+slot_pair S i =
+    let F = entry_format S.key_len S.value_len in
+    record { key = slot_key F S.parts.entries.bytes i; value = slot_value F S.parts.entries.bytes i }
+
+abbrev pub read_slot : {X : Type 0} → SizedParts → ℕ × X → ℕ × Pair
+read_slot S x = (x.0, slot_pair S x.0)

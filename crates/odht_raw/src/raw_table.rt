@@ -37,6 +37,7 @@ mod scan;
 mod search_result;
 mod sized;
 mod sized_search;
+mod sized_walk;
 mod table_mut;
 mod walk;
 
@@ -50,6 +51,7 @@ pub(crate) use runs::insert_run;
 pub use scan::Scan;
 pub use search_result::Search;
 pub use sized::SizedTable;
+pub use sized_walk::{SizedIter, SizedSlots};
 pub use table_mut::RawTableMut;
 pub use walk::{RawIter, RawSlots};
 

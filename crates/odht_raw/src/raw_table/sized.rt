@@ -4,9 +4,13 @@ ghost use Rattle.odht_base.specs.Bytes.{bytes_at};
 ghost use Rattle.odht_base.specs.Decoded.{slot_entry, slot_key, slot_value};
 ghost use Rattle.odht_base.specs.Load.{IsSlotCount};
 ghost use Rattle.odht_raw.specs.Parts.{entry_format};
-ghost use Rattle.odht_raw.specs.Sized.{sized_parts, IsSized};
+ghost use Rattle.odht_raw.specs.Sized.{sized_format, sized_parts, IsSized};
+ghost use Rattle.odht_raw.specs.Checks.{cells_of};
+ghost use Rattle.odht_base.specs.SlotWalks.{numbered};
+ghost use Rattle.std.specs.List.{filter_map};
+ghost use Rattle.std.specs.Prelude.{drop};
 
-use super::EntryMetadata;
+use super::{EntryMetadata, SizedIter, SizedSlots};
 use crate::hash::HashFn;
 use crate::layout::Layout;
 use crate::swisstable_group_query::REFERENCE_GROUP_SIZE;
@@ -60,6 +64,39 @@ impl<'a, H: HashFn> SizedTable<'a, H> {
             layout,
             hash: PhantomData,
         }
+    }
+
+    // A second reader of the same parts.
+    #[inline]
+    fn copy(&self) -> Self
+        ensures { result ≡ self.now }
+    {
+        SizedTable {
+            control: self.control,
+            entries: self.entries,
+            slots: self.slots,
+            layout: self.layout,
+            hash: PhantomData,
+        }
+    }
+
+    /// The slots from slot `from` on whose own control byte does not count as free, in slot order, each with its key
+    /// and its value. Nothing where `from` is past the last slot.
+    pub fn iter_from(&self, from: usize) -> SizedSlots<'a, H>
+        ensures items { let F = sized_format self.now H.hash
+            in result ≡ numbered from (drop from (cells_of F self.now.parts)) }
+        ensures few { length result ≤ self.now.parts.entries.slots }
+    {
+        SizedSlots::new(self.copy(), from)
+    }
+
+    /// The key and the value of each slot whose own control byte does not count as free, in slot order.
+    pub fn iter(&self) -> SizedIter<'a, H>
+        ensures items { let F = sized_format self.now H.hash
+            in result ≡ filter_map (λ c. c) (cells_of F self.now.parts) }
+        ensures few { length result ≤ self.now.parts.entries.slots }
+    {
+        SizedIter::new(self.copy())
     }
 
     /// The control bytes with their mirror.

@@ -1,4 +1,4 @@
-use Rattle.std.proofs.Common.{◌≡◌, ◌∙◌, ◌≤◌, sym, ap, arith, length}
+use Rattle.std.proofs.Common.{◌∙◌, ◌≤◌, sym, ap, arith, length}
 use Rattle.odht_base.specs.Format.{Format, format_of}
 use Rattle.odht_header.specs.Refusals.{checked, header_refusal}
 use Rattle.odht_raw.proofs.lemmas.Openings.{opening_refusal-short, opening_refusal-header}
