@@ -4,12 +4,14 @@
 --     sized_parts kl vl s es ctrl  the parts of these lengths: the entries es of s slots, and the control bytes ctrl
 --     slot_pair S i        the key and the value that the entry of slot i has
 --     read_slot S x        the slot of the numbered item x, and this pair
+--     bytes_coding F       the coding of the format F that leaves lists of bytes as they are
 --     IsSized ml S         the parts are as long as these lengths say, and keys are long enough for a hash that needs ml
 --                          bytes
 use Rattle.std.specs.Prelude.{ℕ, List}
 use Rattle.odht_base.specs.Format.{Format, format_of}
 use Rattle.odht_base.specs.Decoded.{slot_key, slot_value}
 use Rattle.odht_base.specs.Table.{Pair}
+use Rattle.odht_header.specs.Coding.{Coding}
 use Rattle.odht_raw.specs.Parts.{TableParts, IsTableParts, entry_format}
 
 pub record SizedParts : Type 0 where
@@ -37,3 +39,12 @@ slot_pair S i =
 
 abbrev pub read_slot : {X : Type 0} → SizedParts → ℕ × X → ℕ × Pair
 read_slot S x = (x.0, slot_pair S x.0)
+
+abbrev pub bytes_coding : Format → Coding (List ℕ) (List ℕ)
+bytes_coding F = record {
+  format = F;
+  key_bytes = λ k. k;
+  value_bytes = λ v. v;
+  key_of = λ b. b;
+  value_of = λ b. b;
+}

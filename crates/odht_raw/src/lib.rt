@@ -8,4 +8,5 @@ pub use odht_header::{config, error, layout};
 pub mod items;
 pub mod memory_layout;
 pub mod raw_table;
+pub mod short_bytes;
 mod writes;

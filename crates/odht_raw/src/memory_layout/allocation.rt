@@ -20,6 +20,8 @@ use std::marker::{Model, PhantomData};
 mod inserts;
 mod writing;
 
+pub(super) use inserts::{room_for, write_count};
+
 // How many slots are checked when a view is opened.
 pub(super) const SLOTS_TO_CHECK: usize = 10;
 

@@ -5,7 +5,7 @@ ghost use Rattle.odht_base.specs.Table.{Table};
 ghost use Rattle.odht_raw.specs.Finds.{IsFind, IsCountedFind};
 ghost use Rattle.odht_raw.specs.PartLengths.{AreSearchLengths};
 ghost use Rattle.odht_raw.specs.SearchEnds.{IsEndAmong, GoesOnAmong};
-ghost use Rattle.odht_raw.specs.Searches.{IsSearch};
+ghost use Rattle.odht_raw.specs.Searches.{IsSearch, IsSearchEnd};
 ghost use Rattle.odht_raw.specs.SearchSteps.{IsGroupAt, IsLook, IsTag};
 ghost use Rattle.odht_raw.specs.Sized.{sized_format};
 
@@ -58,6 +58,18 @@ impl<'a, H: HashFn> SizedTable<'a, H> {
             scan.old scan.new result }
     {
         self.search_hashed(scan, key, H::hash(key))
+    }
+
+    // Where the search for a key with this hash ends, for callers that do not ask how many groups it reads.
+    #[inline]
+    pub(super) fn search_end(&self, key: &[u8], hash: u32) -> Search
+        requires key { length key.now ≡ self.now.key_len }
+        requires hash { hash ≡ H.hash key.now }
+        ensures { IsSearchEnd (sized_format self.now H.hash) self.now.parts.entries
+            self.now.parts.control key.now result }
+    {
+        let mut scan = Scan::new(self.controls(), self.len());
+        self.search_hashed(&mut scan, key, hash)
     }
 
     // `search` of a key whose hash is known.

@@ -130,7 +130,11 @@ fn run_in_bytes<C: Config, I: Items<C::Key, C::Value>>(
 
 // How many new entries there is room for: as many as the maximum item count exceeds the item count.
 #[inline(always)]
-fn room_for(slot_count: usize, max_load_factor: Factor, item_count: usize) -> usize
+pub(in crate::memory_layout) fn room_for(
+    slot_count: usize,
+    max_load_factor: Factor,
+    item_count: usize,
+) -> usize
     ensures room { result ≡ max_items slot_count max_load_factor.0 - item_count }
     ensures maximum { max_items slot_count max_load_factor.0 ≤ usize.MAX }
 {
@@ -139,7 +143,7 @@ fn room_for(slot_count: usize, max_load_factor: Factor, item_count: usize) -> us
 
 // Writes the item count of a header.
 #[inline(always)]
-fn write_count(header: &mut [u8], item_count: usize)
+pub(in crate::memory_layout) fn write_count(header: &mut [u8], item_count: usize)
     requires { length header.old ≡ 32 }
     ensures { header.new ≡ with_count header.old item_count }
 {
