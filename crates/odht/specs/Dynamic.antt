@@ -1,8 +1,7 @@
 -- Tables whose lengths of keys and values are known at run time alone. Their keys and values are lists of bytes.
 --     DynStore D           a table's lengths, and its store
 --     dyn_format t h       the format of these lengths and of the hash h
---     bytes_coding F       the coding of the format F that leaves lists of bytes as they are
---     dyn_coding t h       this coding for the lengths of t and the hash h
+--     dyn_coding t h       the coding of this format that leaves lists of bytes as they are
 --     IsOpened ml h bytes t  header and length of the table's bytes fit, and its keys are long enough for the hash h, which
 --                          needs ml bytes; `bytes` has the bytes of a store
 --     dyn_refusal ml F B   the error of opening: a key length below ml, then those of opening a view
@@ -13,6 +12,7 @@ use Rattle.odht_base.specs.Format.{Format, format_of}
 use Rattle.odht_header.specs.Coding.{Coding}
 use Rattle.odht_header.specs.Refusals.{view_refusal}
 use Rattle.odht_raw.specs.Frame.{IsAccepted}
+use Rattle.odht_raw.specs.Sized.{bytes_coding}
 use Rattle.odht.specs.declared.dynamic.DynError.{DynError}
 use Rattle.odht.specs.declared.dynamic.DynError.TheVariants.{KeyTooShort, Refused}
 
@@ -23,15 +23,6 @@ pub record DynStore (D : Type 0) : Type 0 where
 
 abbrev pub dyn_format : {D : Type 0} → DynStore D → (List ℕ → ℕ) → Format
 dyn_format t h = format_of t.key_len t.value_len h
-
-abbrev pub bytes_coding : Format → Coding (List ℕ) (List ℕ)
-bytes_coding F = record {
-  format = F;
-  key_bytes = λ k. k;
-  value_bytes = λ v. v;
-  key_of = λ b. b;
-  value_of = λ b. b;
-}
 
 abbrev pub dyn_coding : {D : Type 0} → DynStore D → (List ℕ → ℕ) → Coding (List ℕ) (List ℕ)
 dyn_coding t h = bytes_coding (dyn_format t h)

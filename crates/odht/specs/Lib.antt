@@ -17,3 +17,5 @@ pub mod Lookups
 pub mod Gets
 -- tables whose lengths of keys and values are known at run time alone
 pub mod Dynamic
+-- what an insert into such a table returns
+pub mod DynInserts

@@ -7,8 +7,11 @@ ghost use Rattle.std.specs.Option.{option_copied};
 ghost use Rattle.std.specs.Result.{result_err};
 ghost use Rattle.odht_base.specs.Bounds.{first_longer};
 ghost use Rattle.odht_base.specs.Decoded.{header_count, entries_of, controls_of};
-ghost use Rattle.odht_base.specs.Format.{format_of};
-ghost use Rattle.odht_base.specs.Table.{Table, count};
+ghost use Rattle.odht_base.specs.Decoded.{decoded_pairs, decoded_table};
+ghost use Rattle.odht_base.specs.Format.{format_of, IsFormat};
+ghost use Rattle.odht_base.specs.Made.{IsMade, IsInsertOrder};
+ghost use Rattle.odht_base.specs.SlotWalks.{slots_from};
+ghost use Rattle.odht_base.specs.Table.{Table, count, walk};
 ghost use Rattle.odht_base.specs.Valid.{IsImage, IsPartsOf, IsValidBytes};
 ghost use Rattle.odht_raw.specs.Dumps.{parts_of};
 ghost use Rattle.odht_raw.specs.Frame.{IsAccepted};
@@ -20,8 +23,10 @@ use crate::error::Error;
 use crate::hash::HashFn;
 use crate::layout::Layout;
 use crate::memory_layout::{Header, check_opening, check_sized, check_sized_within, sized_parts};
-use crate::raw_table::SizedTable;
+use crate::raw_table::{SizedIter, SizedSlots, SizedTable};
 use std::marker::{Model, PhantomData};
+
+mod inserts;
 
 /// Why a table whose lengths are known at run time alone is not opened, or takes no pair.
 #[derive(Debug, PartialEq, Eq, Drop)]
@@ -32,6 +37,20 @@ pub enum DynError {
         key_len: u8,
         /// How many bytes the hash function needs at least.
         least: usize,
+    },
+    /// The key has another length than the table's keys.
+    KeyLength {
+        /// The length of a key of the table, in bytes.
+        expected: u8,
+        /// The length of the key, in bytes.
+        found: usize,
+    },
+    /// The value has another length than the table's values.
+    ValueLength {
+        /// The length of a value of the table, in bytes.
+        expected: u8,
+        /// The length of the value, in bytes.
+        found: usize,
     },
     /// The error of a table of a configuration with these lengths.
     Refused(Error),
@@ -146,6 +165,48 @@ impl<H: HashFn, D: ByteStore> DynTable<H, D> {
         self.get(key).is_some()
     }
 
+    /// The keys and values of the slots whose own control byte is below 128, in slot order: on valid bytes each pair of
+    /// the table once.
+    pub fn iter(&self) -> SizedIter<'_, H>
+        ensures on_valid { (P : Table)
+            → IsImage (dyn_format self.now H.hash) P (D.bytes self.now.store)
+            → result ≡ walk P }
+        ensures on_any { result
+            ≡ decoded_pairs (dyn_format self.now H.hash) (D.bytes self.now.store) }
+    {
+        self.as_sized().iter()
+    }
+
+    /// The slots from slot `from` on whose own control byte is below 128, in slot order, each with its key and value:
+    /// on valid bytes each pair in these slots once. Nothing where `from` is past the last slot.
+    pub fn iter_from(&self, from: usize) -> SizedSlots<'_, H>
+        ensures on_valid { (P : Table)
+            → IsImage (dyn_format self.now H.hash) P (D.bytes self.now.store)
+            → result ≡ slots_from P from }
+        ensures on_any { result
+            ≡ slots_from (decoded_table (dyn_format self.now H.hash) (D.bytes self.now.store)) from }
+    {
+        self.as_sized().iter_from(from)
+    }
+
+    /// Whether inserts can make the table. Where they can, `out` is an order of its occupied slots in which they do:
+    /// their pairs, inserted in this order into an empty table of as many slots, make exactly this table. Otherwise the
+    /// numbers in `out` have no meaning. The bytes are valid, and `out` has as many items as the table has pairs. It
+    /// costs what [`RawTable::insert_order`](crate::raw_table::RawTable::insert_order) does.
+    pub fn insert_order(&self, out: &mut [usize]) -> bool
+        requires valid { IsValidBytes (dyn_format self.now H.hash) (D.bytes self.now.store) }
+        requires len { (P : Table)
+            → IsImage (dyn_format self.now H.hash) P (D.bytes self.now.store)
+            → length out.old ≡ count P }
+        ensures order { let F = dyn_format self.now H.hash
+            in (P : Table) → IsImage F P (D.bytes self.now.store) → IsTrue result
+            → IsInsertOrder F P out.new }
+        ensures made { let F = dyn_format self.now H.hash
+            in (P : Table) → IsImage F P (D.bytes self.now.store) → (IsTrue result ↔ IsMade F P) }
+    {
+        self.as_sized().insert_order(out)
+    }
+
     /// The item count of the header. On valid bytes it is the number of items.
     #[inline]
     pub fn len(&self) -> usize
@@ -218,6 +279,7 @@ impl<H: HashFn, D: ByteStore> DynTable<H, D> {
             in let B = D.bytes self.now.store
             in (P : Table) → IsImage F P B
             → IsPartsOf F P (entries_of F B) (controls_of F B) }
+        ensures format { IsFormat (dyn_format self.now H.hash) }
     {
         sized_parts::<H>(self.store.bytes(), self.layout)
     }

@@ -9,7 +9,7 @@ use Rattle.odht_base.proofs.lemmas.Pairs.{value_in-Some}
 use Rattle.odht_header.specs.Coding.{HasStored, value_for}
 use Rattle.odht_raw.specs.Dumps.{parts_of}
 use Rattle.odht_raw.specs.SearchEnds.{IsBesideKey}
-use Rattle.odht.specs.Dynamic.{bytes_coding}
+use Rattle.odht_raw.specs.Sized.{bytes_coding}
 use Rattle.odht.proofs.lemmas.Lookups.{stored_beside}
 
 -- a table has no value for a key of another length

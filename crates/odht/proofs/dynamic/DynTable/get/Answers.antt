@@ -1,5 +1,4 @@
 use Rattle.std.proofs.Common.{◌∙◌, sym, ap}
-use Rattle.std.specs.Prelude.{option_map}
 use Rattle.odht.specs.Dynamic.{dyn_format}
 use Rattle.odht.proofs.lemmas.DynLookups.{absent}
 use Rattle.odht.proofs.dynamic.DynTable.get.Goals as goal

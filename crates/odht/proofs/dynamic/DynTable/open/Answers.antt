@@ -1,4 +1,4 @@
-use Rattle.std.proofs.Common.{rules, ◌≡◌, ◌∙◌, ◌<◌, ◌≤◌, ◌^◌, Result, Err, sym, ap, subst, arith, length}
+use Rattle.std.proofs.Common.{rules, ◌∙◌, ◌<◌, ◌≤◌, ◌^◌, Result, Err, sym, ap, subst, arith, length}
 use Rattle.odht_base.specs.Format.{Format, format_of}
 use Rattle.odht_header.specs.Refusals.{checked, view_refusal}
 use Rattle.odht_header.specs.declared.error.Error.{Error}
