@@ -15,7 +15,7 @@ ghost use Rattle.odht_header.specs.Refusals.{field_refusal, header_refusal, fron
 ghost use Rattle.odht_header.specs.Refusals.{factor_refusal, padding_refusal};
 ghost use Rattle.odht_header.specs.Refusals.{count_refusal, room_refusal};
 
-use crate::bytes::{ByteArray, read_u64, write_slice};
+use crate::bytes::{read_u64, write_slice};
 use crate::config::{Coded, Config};
 use crate::error::{Error, Part};
 use crate::layout::Layout;
@@ -357,17 +357,35 @@ pub fn write_header<C: Config>(
     ensures { header.new
         ≡ header_bytes ⟦<C as Coded>⟧.coding.format slot_count item_count max_load_factor.0 }
 {
-    let sizes = [
-        METADATA_SIZE as u8,
-        C::EncodedKey::LEN as u8,
-        C::EncodedValue::LEN as u8,
-        HEADER_SIZE as u8,
-    ];
-    write_slice(header, TAG_AT, &HEADER_TAG);
-    write_slice(header, METADATA_SIZE_AT, &sizes);
-    write_slice(header, ITEM_COUNT_AT, &(item_count as u64).to_le_bytes());
-    write_slice(header, SLOT_COUNT_AT, &(slot_count as u64).to_le_bytes());
-    write_slice(header, VERSION_AT, &CURRENT_FILE_FORMAT_VERSION);
-    write_slice(header, LOAD_FACTOR_AT, &max_load_factor.0.to_le_bytes());
-    write_slice(header, PADDING_AT, &[0, 0]);
+    Layout::of::<C>().write_header(header, slot_count, item_count, max_load_factor);
+}
+
+impl Layout {
+    /// [`write_header`] of a table of these lengths.
+    pub fn write_header(
+        self,
+        header: &mut [u8],
+        slot_count: usize,
+        item_count: usize,
+        max_load_factor: Factor,
+    )
+        requires { length header.old ≡ 32 }
+        ensures { (hash : List ℕ → ℕ)
+            → header.new ≡ header_bytes (format_of self.key_len self.value_len hash)
+            slot_count item_count max_load_factor.0 }
+    {
+        let sizes = [
+            METADATA_SIZE as u8,
+            self.key_len,
+            self.value_len,
+            HEADER_SIZE as u8,
+        ];
+        write_slice(header, TAG_AT, &HEADER_TAG);
+        write_slice(header, METADATA_SIZE_AT, &sizes);
+        write_slice(header, ITEM_COUNT_AT, &(item_count as u64).to_le_bytes());
+        write_slice(header, SLOT_COUNT_AT, &(slot_count as u64).to_le_bytes());
+        write_slice(header, VERSION_AT, &CURRENT_FILE_FORMAT_VERSION);
+        write_slice(header, LOAD_FACTOR_AT, &max_load_factor.0.to_le_bytes());
+        write_slice(header, PADDING_AT, &[0, 0]);
+    }
 }

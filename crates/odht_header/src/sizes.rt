@@ -20,11 +20,7 @@ pub fn bytes_needed<C: Config>(slot_count: usize) -> Option<usize>
         in MatchOption result (usize.MAX < len) (λ n. n ≡ len) }
     ensures fits { IfSome result (λ n. n < 2 ^ 64) }
 {
-    let len = len_of_slots(Layout::of::<C>(), slot_count);
-    if len > usize::MAX as u128 {
-        return None;
-    }
-    Some(len as usize)
+    Layout::of::<C>().bytes_needed(slot_count)
 }
 
 /// The slot count of a new table for `max_item_count` items, and its length in bytes. None exactly where no slot count
@@ -39,9 +35,48 @@ pub fn layout_for<C: Config>(
     ensures none { IsNone result
         ↔ IsTooLarge ⟦<C as Coded>⟧.coding.format max_item_count max_load_factor.0 }
 {
-    let slot_count = slots_needed(max_item_count, max_load_factor)?;
-    let len = bytes_needed::<C>(slot_count)?;
-    Some((slot_count, len))
+    Layout::of::<C>().table_for(max_item_count, max_load_factor)
+}
+
+impl Layout {
+    /// [`bytes_needed`] of a table of these lengths.
+    #[inline]
+    pub fn bytes_needed(self, slot_count: usize) -> Option<usize>
+        ensures len { (hash : List ℕ → ℕ)
+            → (let len = image_len (format_of self.key_len self.value_len hash) slot_count
+            in MatchOption result (usize.MAX < len) (λ n. n ≡ len)) }
+        ensures fits { IfSome result (λ n. n < 2 ^ 64) }
+    {
+        let len = len_of_slots(self, slot_count);
+        if len > usize::MAX as u128 {
+            return None;
+        }
+        Some(len as usize)
+    }
+
+    /// [`layout_for`] of a table of these lengths.
+    pub fn table_for(self, max_item_count: usize, max_load_factor: Factor) -> Option<(usize, usize)>
+        requires { 1 ≤ max_load_factor.0 }
+        ensures some { (hash : List ℕ → ℕ)
+            → IfSome result (λ l. IsLayout (format_of self.key_len self.value_len hash)
+            max_item_count max_load_factor.0 l.0 l.1) }
+        ensures none { (hash : List ℕ → ℕ)
+            → (IsNone result ↔ IsTooLarge (format_of self.key_len self.value_len hash)
+            max_item_count max_load_factor.0) }
+    {
+        let slot_count = slots_needed(max_item_count, max_load_factor)?;
+        let len = self.bytes_needed(slot_count)?;
+        Some((slot_count, len))
+    }
+
+    /// Where the entry of a slot begins in the bytes of a table; for the number of slots, where the control bytes begin.
+    #[inline(always)]
+    pub fn entry_at(self, slot: usize) -> usize
+        requires { 32 + slot * (self.key_len + self.value_len) ≤ usize.MAX }
+        ensures { result ≡ 32 + slot * (self.key_len + self.value_len) }
+    {
+        HEADER_SIZE + slot * self.entry_len()
+    }
 }
 
 /// Where the entry of a slot begins in the bytes of a table; for the number of slots, where the control bytes begin.
