@@ -8,12 +8,13 @@ ghost use Rattle.odht_base.specs.Image.{image, image_len};
 ghost use Rattle.odht_base.specs.Writes.{with_count};
 ghost use Rattle.odht_raw.specs.Parts.{IsZeros};
 
-use super::{Allocation, HEADER_SIZE, bytes_needed, entry_at, write_header};
+use super::sized_new::{clear_sized, init_sized, write_sized_empty};
+use super::{Allocation, bytes_needed};
 use crate::bytes::{ByteStoreMut, OwnedBytes};
 use crate::config::{Coded, Config};
 use crate::error::Error;
+use crate::layout::Layout;
 use crate::load::Factor;
-use crate::raw_table::FREE;
 use std::alloc::Global;
 
 /// Makes a table of `slot_count` free slots in `data`, whatever its bytes were. The header's item count is
@@ -46,8 +47,13 @@ fn init_bytes<C: Config>(
     ensures { let F = ⟦<C as Coded>⟧.coding.format
         in bytes.new ≡ with_count (image F (empty slot_count max_load_factor.0)) item_count }
 {
-    clear_entries::<C>(bytes, slot_count);
-    write_empty::<C>(bytes, slot_count, item_count, max_load_factor);
+    init_sized(
+        bytes,
+        Layout::of::<C>(),
+        slot_count,
+        item_count,
+        max_load_factor,
+    );
 }
 
 /// Writes zeros over the entries of the bytes of a table of `slot_count` slots. No other byte changes.
@@ -56,7 +62,7 @@ pub fn clear_entries<C: Config>(bytes: &mut [u8], slot_count: usize)
     ensures { let F = ⟦<C as Coded>⟧.coding.format
         in bytes.new ≡ overwritten_at bytes.old 32 (replicate (slot_count * entry_len F) 0) }
 {
-    bytes[HEADER_SIZE..entry_at::<C>(slot_count)].fill(0);
+    clear_sized(bytes, Layout::of::<C>(), slot_count);
 }
 
 /// Writes a table of `slot_count` free slots into bytes whose entries are zeros: the header, and the control bytes with
@@ -74,10 +80,13 @@ pub fn write_empty<C: Config>(
     ensures { let F = ⟦<C as Coded>⟧.coding.format
         in bytes.new ≡ with_count (image F (empty slot_count max_load_factor.0)) item_count }
 {
-    let (table, control) = bytes.split_at_mut(entry_at::<C>(slot_count));
-    let (header, _entries) = table.split_at_mut(HEADER_SIZE);
-    write_header::<C>(header, slot_count, item_count, max_load_factor);
-    control.fill(FREE);
+    write_sized_empty(
+        bytes,
+        Layout::of::<C>(),
+        slot_count,
+        item_count,
+        max_load_factor,
+    );
 }
 
 /// Makes a table of `slot_count` free slots in newly allocated memory. The header's item count is `item_count`. The

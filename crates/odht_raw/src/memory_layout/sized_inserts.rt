@@ -1,5 +1,5 @@
 //! Inserts into the bytes of a table whose lengths are numbers: the parts are written, and last the item count.
-ghost use Rattle.std.specs.Prelude.{◌≡◌, ◌+◌, ◌*◌, ◌≤◌, length, IfOk};
+ghost use Rattle.std.specs.Prelude.{◌≡◌, ◌≤◌, length, IfOk};
 ghost use Rattle.odht_base.specs.Format.{format_of};
 ghost use Rattle.odht_base.specs.Table.{Table};
 ghost use Rattle.odht_base.specs.Valid.{IsImage};
@@ -15,15 +15,6 @@ use crate::hash::HashFn;
 use crate::layout::Layout;
 use crate::raw_table::{sized_insert_at, sized_step_end};
 use crate::short_bytes::ShortBytes;
-
-/// Where the entry of a slot begins in the bytes of a table; for the number of slots, where the control bytes begin.
-#[inline]
-fn sized_entry_at(layout: Layout, slot: usize) -> usize
-    requires { 32 + slot * (layout.key_len + layout.value_len) ≤ usize.MAX }
-    ensures { result ≡ 32 + slot * (layout.key_len + layout.value_len) }
-{
-    HEADER_SIZE + slot * layout.entry_len()
-}
 
 /// Gives the key this value in the bytes of a table, and returns its former one. `Full`, with nothing changed, where the
 /// search does not find the key and the header's item count is its maximum or more, or where it finds neither the key
@@ -51,7 +42,7 @@ pub fn insert_sized<H: HashFn>(
     hold_bytes(key);
     hold_bytes(value);
     let slots = Header::of(bytes).slot_count();
-    let (table, control) = bytes.split_at_mut(sized_entry_at(layout, slots));
+    let (table, control) = bytes.split_at_mut(layout.entry_at(slots));
     let (front, entries) = table.split_at_mut(HEADER_SIZE);
     let end = sized_step_end::<H>(control, entries, layout, key);
     let header = Header::of(front);

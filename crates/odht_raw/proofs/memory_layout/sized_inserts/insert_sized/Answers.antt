@@ -23,21 +23,21 @@ use Rattle.odht_raw.proofs.memory_layout.sized_inserts.insert_sized.Goals.{After
 pub of-requires : goal.of-requires
 of-requires g c = (accepted_opening (format_of c.args.layout.key_len c.args.layout.value_len g.H.HashFn.hash) c.args.bytes.now c.requires.accepted).long
 
-pub sized_entry_at-requires : goal.sized_entry_at-requires
-sized_entry_at-requires g c =
+pub entry_at-requires : goal.entry_at-requires
+entry_at-requires g c =
     let slots : c.slot_count-slots.result ≡ header_slots c.args.bytes.now = c.slot_count-slots.ensures ∙ ap header_slots c.of.ensures in
     rw slots (omega (arith, accepted_len (format_of c.args.layout.key_len c.args.layout.value_len g.H.HashFn.hash) c.args.bytes.now c.requires.accepted))
 
 pub split_at_mut-table-requires : goal.split_at_mut-table-requires
 split_at_mut-table-requires g c =
     let slots : c.slot_count-slots.result ≡ header_slots c.args.bytes.now = c.slot_count-slots.ensures ∙ ap header_slots c.of.ensures in
-    rw (c.sized_entry_at.ensures, slots) (omega (arith, accepted_len (format_of c.args.layout.key_len c.args.layout.value_len g.H.HashFn.hash) c.args.bytes.now c.requires.accepted))
+    rw (c.entry_at.ensures, slots) (omega (arith, accepted_len (format_of c.args.layout.key_len c.args.layout.value_len g.H.HashFn.hash) c.args.bytes.now c.requires.accepted))
 
 -- header, entries and control bytes are those of the bytes
 cut : (g : Over) (c : After-split_at_mut-front g) → IsCut (format_of c.args.layout.key_len c.args.layout.value_len g.H.HashFn.hash) c.args.bytes.now c.split_at_mut-front.result.0.now c.split_at_mut-front.result.1.now c.split_at_mut-table.result.1.now
 cut g c =
     let slots : c.slot_count-slots.result ≡ header_slots c.args.bytes.now = c.slot_count-slots.ensures ∙ ap header_slots c.of.ensures in
-    cut_accepted (format_of c.args.layout.key_len c.args.layout.value_len g.H.HashFn.hash) c.args.bytes.now c.requires.accepted c.sized_entry_at.result (c.sized_entry_at.ensures ∙ ap (λ s. 32 + s * entry_len (format_of c.args.layout.key_len c.args.layout.value_len g.H.HashFn.hash)) slots) _ _ _ _
+    cut_accepted (format_of c.args.layout.key_len c.args.layout.value_len g.H.HashFn.hash) c.args.bytes.now c.requires.accepted c.entry_at.result (c.entry_at.ensures ∙ ap (λ s. 32 + s * entry_len (format_of c.args.layout.key_len c.args.layout.value_len g.H.HashFn.hash)) slots) _ _ _ _
     c.split_at_mut-table.ensures.front c.split_at_mut-table.ensures.back c.split_at_mut-front.ensures.front c.split_at_mut-front.ensures.back
 
 pub of-header-requires : goal.of-header-requires
