@@ -5,12 +5,14 @@
 --     IsOpened ml h bytes t  header and length of the table's bytes fit, and its keys are long enough for the hash h, which
 --                          needs ml bytes; `bytes` has the bytes of a store
 --     dyn_refusal ml F B   the error of opening: a key length below ml, then those of opening a view
+--     dyn_new_refusal ml F n f len  the error of a new table for n items at the load factor f in len bytes: a key length
+--                          below ml, then those of a new table
 use Rattle.std.specs.Prelude.{ℕ, ◌<◌, ◌≤◌, ◌^◌, nat_lt, List, length, Option, option_map}
 use Rattle.std.specs.Bool.{then_some}
 use Rattle.std.specs.Option.{option_or}
 use Rattle.odht_base.specs.Format.{Format, format_of}
 use Rattle.odht_header.specs.Coding.{Coding}
-use Rattle.odht_header.specs.Refusals.{view_refusal}
+use Rattle.odht_header.specs.Refusals.{new_refusal, view_refusal}
 use Rattle.odht_raw.specs.Frame.{IsAccepted}
 use Rattle.odht_raw.specs.Sized.{bytes_coding}
 use Rattle.odht.specs.declared.dynamic.DynError.{DynError}
@@ -36,3 +38,6 @@ pub record IsOpened {D : Type 0} (ml : ℕ) (h : List ℕ → ℕ) (bytes : D �
 
 abbrev pub dyn_refusal : ℕ → Format → List ℕ → Option DynError
 dyn_refusal ml F B = option_or (then_some (nat_lt F.key_len ml) (KeyTooShort F.key_len ml)) (option_map Refused (view_refusal F B))
+
+abbrev pub dyn_new_refusal : ℕ → Format → ℕ → ℕ → ℕ → Option DynError
+dyn_new_refusal ml F n f len = option_or (then_some (nat_lt F.key_len ml) (KeyTooShort F.key_len ml)) (option_map Refused (new_refusal F n f len))

@@ -27,6 +27,7 @@ use crate::raw_table::{SizedIter, SizedSlots, SizedTable};
 use std::marker::{Model, PhantomData};
 
 mod inserts;
+mod new_tables;
 
 /// Why a table whose lengths are known at run time alone is not opened, or takes no pair.
 #[derive(Debug, PartialEq, Eq, Drop)]
@@ -137,7 +138,7 @@ impl<H: HashFn, D: ByteStore> DynTable<H, D> {
         ensures { IsGet (dyn_coding self.now H.hash) (D.bytes self.now.store) key.now
             (option_copied result) }
     {
-        if key.len() != self.layout.key_len as usize {
+        if !self.takes(key) {
             return None;
         }
         self.as_sized().find(key)
@@ -152,10 +153,18 @@ impl<H: HashFn, D: ByteStore> DynTable<H, D> {
             (option_copied result.0, result.1) }
         ensures other { length key.now ≢ self.now.key_len → result ≡ (None, 0) }
     {
-        if key.len() != self.layout.key_len as usize {
+        if !self.takes(key) {
             return (None, 0);
         }
         self.as_sized().find_counted(key)
+    }
+
+    // Whether the key has the length of the table's keys.
+    #[inline]
+    fn takes(&self, key: &[u8]) -> bool
+        ensures { IsTrue result ↔ (length key.now ≡ self.now.key_len) }
+    {
+        key.len() == self.layout.key_len as usize
     }
 
     /// Whether the key has a value. On any bytes it is true only where the entry of some slot holds this very key.
