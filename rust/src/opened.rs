@@ -6,6 +6,7 @@
 
 use crate::config::{Config, Proved};
 use crate::iter::Iter;
+use crate::proved::header::layout::Layout;
 use crate::proved::header::sizes::len_of_slots;
 use crate::proved::raw::memory_layout::HEADER_SIZE;
 
@@ -31,7 +32,8 @@ impl Opened {
         let opened = Opened::of(bytes);
         let is_count = opened.slots.is_power_of_two() && opened.slots >= 16;
         assert!(
-            is_count && bytes.len() as u128 == len_of_slots::<Proved<C>>(opened.slots()),
+            is_count
+                && bytes.len() as u128 == len_of_slots(Layout::of::<Proved<C>>(), opened.slots()),
             "the length of the bytes is not that of the slot count in their header"
         );
         opened

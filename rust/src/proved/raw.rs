@@ -3,9 +3,10 @@
 //! them.
 
 pub use crate::proved::base::{bytes, hash, load, swisstable_group_query};
-pub use crate::proved::header::{config, error};
+pub use crate::proved::header::{config, error, layout};
 
 pub mod items;
 pub mod memory_layout;
 pub mod raw_table;
+pub mod short_bytes;
 mod writes;

@@ -1,6 +1,7 @@
 //! Tests of what is private: group searches, probe orders, the parts of tables, load factors. What public calls can say
 //! is tested in tests/.
 
+mod dynamic;
 mod groups;
 mod load_factors;
 mod probes;

@@ -7,6 +7,9 @@ mod allocation;
 mod check;
 mod new_tables;
 mod prefix;
+mod sized;
+mod sized_inserts;
+mod sized_new;
 
 pub use crate::proved::header::header::{write_header, Header, HEADER_SIZE, LEAST_FACTOR};
 pub use crate::proved::header::sizes::{bytes_needed, entry_at, layout_for};
@@ -15,3 +18,6 @@ pub use allocation::Allocation;
 pub use check::{check_all, check_all_within, DEFAULT_GROUPS};
 pub use new_tables::{allocate, clear_entries, init_in_place, write_empty};
 pub use prefix::table_len;
+pub use sized::{check_by_header, check_opening, check_sized, check_sized_within, sized_parts};
+pub use sized_inserts::insert_sized;
+pub use sized_new::init_sized;

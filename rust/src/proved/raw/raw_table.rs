@@ -7,6 +7,7 @@
 use crate::proved::raw::bytes::ByteArray;
 use crate::proved::raw::error::Error;
 use crate::proved::raw::hash::HashFn;
+use crate::proved::raw::layout::Layout;
 use crate::proved::raw::swisstable_group_query::{Group, GroupQuery};
 use std::marker::PhantomData;
 
@@ -25,6 +26,10 @@ mod probe_seq;
 mod runs;
 mod scan;
 mod search_result;
+mod sized;
+mod sized_insert;
+mod sized_search;
+mod sized_walk;
 mod table_mut;
 mod walk;
 
@@ -37,6 +42,9 @@ pub use probe_seq::{probe_order, ProbeSeq};
 pub(crate) use runs::insert_run;
 pub use scan::Scan;
 pub use search_result::Search;
+pub use sized::SizedTable;
+pub(crate) use sized_insert::{sized_insert_at, sized_step_end};
+pub use sized_walk::{SizedIter, SizedSlots};
 pub use table_mut::RawTableMut;
 pub use walk::{RawIter, RawSlots};
 
@@ -76,6 +84,14 @@ impl<'a, K: ByteArray, V: ByteArray, H: HashFn> RawTable<'a, K, V, H> {
     #[inline]
     pub fn new(control: &'a [EntryMetadata], entries: Entries<'a, K, V>) -> Self {
         RawTable { control, entries, hash: PhantomData }
+    }
+
+    /// The same parts, with the lengths of keys and values as numbers.
+    #[inline(always)]
+    pub fn sized(&self) -> SizedTable<'a, H> {
+        let control = self.control;
+        let layout = Layout { key_len: K::LEN as u8, value_len: V::LEN as u8 };
+        SizedTable::new(control, self.entries.bytes(), self.entries.len(), layout)
     }
 
     /// The value stored with the key, searched for group by group along the probe order (docs/FORMAT.md, "Search").
@@ -122,29 +138,6 @@ impl<'a, K: ByteArray, V: ByteArray, H: HashFn> RawTable<'a, K, V, H> {
     /// A mismatch can mean that the bytes were written with another hash function.
     #[inline(always)]
     pub fn sanity_check_hashes(&self, slots_to_check: usize) -> Result<(), Error> {
-        let slots = slots_to_check.min(self.entries.len());
-        for slot in 0..slots {
-            self.check_slot(slot)?;
-        }
-        Ok(())
-    }
-
-    // What opening checks of one slot. Answers the hash of the key where the slot does not count as free.
-    #[inline(always)]
-    fn check_slot(&self, slot: usize) -> Result<Option<u32>, Error> {
-        let found = index!(self.control[slot]);
-        let entry = self.entries.get(slot);
-        if is_empty_or_deleted(found) {
-            if entry.key.is_all_zeros() && entry.value.is_all_zeros() {
-                return Ok(None);
-            }
-            return Err(Error::NonZeroEmpty { slot });
-        }
-        let hash = H::hash(entry.key.as_slice());
-        let expected = tag_of(hash);
-        if found != expected {
-            return Err(Error::ControlMismatch { slot, expected, found });
-        }
-        Ok(Some(hash))
+        self.sized().sanity_check_hashes(slots_to_check)
     }
 }

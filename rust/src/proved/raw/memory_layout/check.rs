@@ -1,11 +1,12 @@
 // Made by `make rust` of crates/odht_raw/src/memory_layout/check.rt.
 //! The whole check of the bytes of a table.
 
-use super::Allocation;
+use super::{Allocation, Header};
 use crate::proved::raw::bytes::{Borrowed, ByteStore};
 use crate::proved::raw::config::Config;
 use crate::proved::raw::error::Error;
-use crate::proved::raw::raw_table::RawTable;
+use crate::proved::raw::hash::HashFn;
+use crate::proved::raw::raw_table::{RawTable, SizedTable};
 
 /// A bound of searches, in groups, that tables of hashes that vary keep: nearly twice the longest search that was seen
 /// in random tables of up to 2^24 slots at 95 percent (docs/FORMAT.md, "How long searches are"). Fuller or larger ones
@@ -56,25 +57,36 @@ impl<C: Config, M: ByteStore> Allocation<C, M> {
     }
 
     // `check_rest` with a bound of searches, where there is one; its contract gives the first error alone.
+    // Inlined next to an opening, it would keep the first ten control bytes in registers.
+    #[inline(never)]
     fn check_late(&self, groups: Option<usize>) -> Result<(), Error> {
-        let header = self.header();
-        header.check_load_factor()?;
-        header.check_padding()?;
         let (control, entries) = self.data_slices();
         let table: RawTable<'_, C::EncodedKey, C::EncodedValue, C::H> =
             RawTable::new(control, entries);
-        // From control bytes alone, before anything is searched for.
-        let longer = table.longer_refusal(groups);
-        let summary = table.check_slots(longer.is_none())?;
-        table.check_mirror()?;
-        header.check_item_count(summary.occupied)?;
-        if let Some(error) = longer {
-            return Err(error);
-        }
-        match summary.unreachable {
-            Some(slot) => Err(Error::Unreachable { slot }),
-            None => Ok(()),
-        }
+        check_late_parts(&self.header(), &table.sized(), groups)
+    }
+}
+
+/// What the whole check adds to opening a view, of a header and the parts behind it: the first error alone.
+#[inline(always)]
+pub(crate) fn check_late_parts<H: HashFn>(
+    header: &Header<'_>,
+    table: &SizedTable<'_, H>,
+    groups: Option<usize>,
+) -> Result<(), Error> {
+    header.check_load_factor()?;
+    header.check_padding()?;
+    // From control bytes alone, before anything is searched for.
+    let longer = table.longer_refusal(groups);
+    let summary = table.check_slots(longer.is_none())?;
+    table.check_mirror()?;
+    header.check_item_count(summary.occupied)?;
+    if let Some(error) = longer {
+        return Err(error);
+    }
+    match summary.unreachable {
+        Some(slot) => Err(Error::Unreachable { slot }),
+        None => Ok(()),
     }
 }
 

@@ -1,12 +1,13 @@
 // Made by `make rust` of crates/odht_raw/src/memory_layout/new_tables.rt.
 //! New tables, in given bytes and in newly allocated memory.
 
-use super::{bytes_needed, entry_at, write_header, Allocation, HEADER_SIZE};
+use super::sized_new::{clear_sized, init_sized, write_sized_empty};
+use super::{bytes_needed, Allocation};
 use crate::proved::raw::bytes::{ByteStoreMut, OwnedBytes};
 use crate::proved::raw::config::Config;
 use crate::proved::raw::error::Error;
+use crate::proved::raw::layout::Layout;
 use crate::proved::raw::load::Factor;
-use crate::proved::raw::raw_table::FREE;
 use crate::shim::Global;
 
 /// Makes a table of `slot_count` free slots in `data`, whatever its bytes were. The header's item count is
@@ -28,13 +29,12 @@ fn init_bytes<C: Config>(
     item_count: usize,
     max_load_factor: Factor,
 ) {
-    clear_entries::<C>(bytes, slot_count);
-    write_empty::<C>(bytes, slot_count, item_count, max_load_factor);
+    init_sized(bytes, Layout::of::<C>(), slot_count, item_count, max_load_factor);
 }
 
 /// Writes zeros over the entries of the bytes of a table of `slot_count` slots. No other byte changes.
 pub fn clear_entries<C: Config>(bytes: &mut [u8], slot_count: usize) {
-    bytes[HEADER_SIZE..entry_at::<C>(slot_count)].fill(0);
+    clear_sized(bytes, Layout::of::<C>(), slot_count);
 }
 
 /// Writes a table of `slot_count` free slots into bytes whose entries are zeros: the header, and the control bytes with
@@ -45,10 +45,7 @@ pub fn write_empty<C: Config>(
     item_count: usize,
     max_load_factor: Factor,
 ) {
-    let (table, control) = bytes.split_at_mut(entry_at::<C>(slot_count));
-    let (header, _entries) = table.split_at_mut(HEADER_SIZE);
-    write_header::<C>(header, slot_count, item_count, max_load_factor);
-    control.fill(FREE);
+    write_sized_empty(bytes, Layout::of::<C>(), slot_count, item_count, max_load_factor);
 }
 
 /// Makes a table of `slot_count` free slots in newly allocated memory. The header's item count is `item_count`. The

@@ -1,8 +1,7 @@
 // Made by `make rust` of crates/odht_raw/src/raw_table/check.rt.
 //! The whole check of the parts of a table: each slot, the mirror, and that the search for each key ends at its slot.
 
-use super::{tag_of, ProbeSeq, RawTable, FREE};
-use crate::proved::raw::bytes::ByteArray;
+use super::{is_empty_or_deleted, tag_of, ProbeSeq, SizedTable, FREE};
 use crate::proved::raw::error::Error;
 use crate::proved::raw::hash::HashFn;
 use crate::proved::raw::swisstable_group_query::lanes::GroupQuery;
@@ -17,18 +16,48 @@ pub(crate) struct SlotSummary {
     pub unreachable: Option<usize>,
 }
 
-impl<'a, K: ByteArray, V: ByteArray, H: HashFn> RawTable<'a, K, V, H> {
+impl<'a, H: HashFn> SizedTable<'a, H> {
+    /// Checks the first `slots_to_check` slots, or all where there are fewer, and answers the first error:
+    /// `NonZeroEmpty` of a slot that counts as free, `ControlMismatch` of any other.
+    ///
+    /// A mismatch can mean that the bytes were written with another hash function.
+    #[inline(always)]
+    pub fn sanity_check_hashes(&self, slots_to_check: usize) -> Result<(), Error> {
+        let slots = slots_to_check.min(self.len());
+        for slot in 0..slots {
+            self.check_slot(slot)?;
+        }
+        Ok(())
+    }
+
+    // What opening checks of one slot. Answers the hash of the key where the slot does not count as free.
+    #[inline(always)]
+    fn check_slot(&self, slot: usize) -> Result<Option<u32>, Error> {
+        let found = self.control(slot);
+        if is_empty_or_deleted(found) {
+            if is_all_zeros(self.entry(slot)) {
+                return Ok(None);
+            }
+            return Err(Error::NonZeroEmpty { slot });
+        }
+        let hash = H::hash(self.key(slot));
+        let expected = tag_of(hash);
+        if found != expected {
+            return Err(Error::ControlMismatch { slot, expected, found });
+        }
+        Ok(Some(hash))
+    }
+
     /// Checks each slot once, in slot order, and answers the first error: `NonZeroEmpty`, then `BadFreeControl`, of a
     /// slot that counts as free, `ControlMismatch` of any other.
     ///
     /// `unreachable` is what its comment says only where searches are made, no slot gives an error, and the mirror has no
     /// mismatch. The whole check reads it in no other case.
-    // Inlined next to an opening, it would keep the first ten control bytes in registers.
-    #[inline(never)]
+    #[inline(always)]
     pub(crate) fn check_slots(&self, searches: bool) -> Result<SlotSummary, Error> {
         let mut occupied = 0;
         let mut unreachable = None;
-        for slot in 0..self.entries.len() {
+        for slot in 0..self.len() {
             match self.check_slot(slot)? {
                 None => self.check_free_control(slot)?,
                 Some(hash) => {
@@ -45,7 +74,7 @@ impl<'a, K: ByteArray, V: ByteArray, H: HashFn> RawTable<'a, K, V, H> {
     // Whether the control byte of a slot that counts as free is `FREE`; else `BadFreeControl`.
     #[inline]
     fn check_free_control(&self, slot: usize) -> Result<(), Error> {
-        let found = self.control[slot];
+        let found = self.control(slot);
         if found == FREE {
             Ok(())
         } else {
@@ -59,7 +88,7 @@ impl<'a, K: ByteArray, V: ByteArray, H: HashFn> RawTable<'a, K, V, H> {
     // This asks for more than `IsReached` does: the second copy of a key may be reached, but no search ends at it.
     #[inline]
     fn is_reached(&self, slot: usize, hash: u32) -> bool {
-        let slots = self.entries.len();
+        let slots = self.len();
         let mask = slots - 1;
         let tag = tag_of(hash);
         let mut probe = ProbeSeq::<REFERENCE_GROUP_SIZE>::new(hash as usize, mask);
@@ -80,12 +109,12 @@ impl<'a, K: ByteArray, V: ByteArray, H: HashFn> RawTable<'a, K, V, H> {
     // `slot`, whose tag is `tag`.
     #[inline]
     fn are_passed(&self, start: usize, count: usize, slot: usize, tag: u8) -> bool {
-        let control = &self.control[start..start + REFERENCE_GROUP_SIZE];
+        let mask = self.len() - 1;
+        let control = self.group(start);
         let mut group = GroupQuery::of(control, tag);
         if group.first_empty().unwrap_or(REFERENCE_GROUP_SIZE) < count {
             return false;
         }
-        let mask = self.entries.len() - 1;
         while let Some(index) = group.first_match() {
             if index < count && self.have_same_key((start + index) & mask, slot) {
                 return false;
@@ -98,19 +127,25 @@ impl<'a, K: ByteArray, V: ByteArray, H: HashFn> RawTable<'a, K, V, H> {
     // Whether the entries of two slots have the same key.
     #[inline]
     fn have_same_key(&self, slot: usize, other: usize) -> bool {
-        self.entries.get(slot).key.equals(&self.entries.get(other).key)
+        self.key(slot) == self.key(other)
     }
 
     /// Compares the mirror with the control bytes of the first sixteen slots; `MirrorMismatch` of the first index that
     /// differs.
     #[inline]
     pub(crate) fn check_mirror(&self) -> Result<(), Error> {
-        let slots = self.entries.len();
+        let slots = self.len();
         for index in 0..REFERENCE_GROUP_SIZE {
-            if self.control[slots + index] != self.control[index] {
+            if self.control(slots + index) != self.control(index) {
                 return Err(Error::MirrorMismatch { index });
             }
         }
         Ok(())
     }
+}
+
+// Whether each byte is zero.
+#[inline]
+fn is_all_zeros(bytes: &[u8]) -> bool {
+    bytes.iter().all(|byte| *byte == 0)
 }

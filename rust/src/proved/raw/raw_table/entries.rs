@@ -41,6 +41,12 @@ impl<'a, K: ByteArray, V: ByteArray> Entries<'a, K, V> {
         Entries { bytes: self.bytes, slots: self.slots, types: PhantomData }
     }
 
+    // The bytes that the entries are read from.
+    #[inline]
+    pub(crate) fn bytes(&self) -> &'a [u8] {
+        self.bytes
+    }
+
     /// How many slots there are.
     #[inline]
     pub fn len(&self) -> usize {

@@ -1,14 +1,14 @@
 // Made by `make rust` of crates/odht_raw/src/raw_table/insert_order.rt.
 //! An order of inserts that makes a table, found within the buffer that it is written to.
 
-use super::{is_empty_or_deleted, EntryMetadata, ProbeSeq, RawTable};
+use super::{is_empty_or_deleted, EntryMetadata, ProbeSeq, RawTable, SizedTable};
 use crate::proved::raw::bytes::ByteArray;
 use crate::proved::raw::hash::HashFn;
 
 // What is added to a slot that waits to be placed. It is above each slot.
 const WAITING: usize = 1 << 63;
 
-impl<'a, K: ByteArray, V: ByteArray, H: HashFn> RawTable<'a, K, V, H> {
+impl<'a, H: HashFn> SizedTable<'a, H> {
     /// Whether inserts can make the table. Where they can, `out` is an order of its occupied slots in which they do:
     /// their pairs, inserted in this order into an empty table of as many slots, make exactly this table. Otherwise the
     /// numbers in `out` have no meaning. The parts are those of a valid table, and `out` has as many items as the table
@@ -19,7 +19,7 @@ impl<'a, K: ByteArray, V: ByteArray, H: HashFn> RawTable<'a, K, V, H> {
     /// there are slots that wait for a slot of a higher index. Each earlier slot of a probe order is looked up by
     /// binary search in the list of the pass, and after each pass this list is sorted. It allocates nothing.
     pub fn insert_order(&self, out: &mut [usize]) -> bool {
-        list_occupied(self.control, self.entries.len(), out);
+        list_occupied(self.controls(), self.len(), out);
         let mut placed = 0;
         while placed < out.len() {
             let ready = self.place_ready(&mut out[placed..]);
@@ -48,9 +48,8 @@ impl<'a, K: ByteArray, V: ByteArray, H: HashFn> RawTable<'a, K, V, H> {
 
     // Whether no slot before this one in the probe order of its key waits.
     fn is_ready(&self, slot: usize, slots: &[usize]) -> bool {
-        let key = self.entries.get(slot).key;
-        let mask = self.entries.len() - 1;
-        let mut probe = ProbeSeq::<1>::new(H::hash(key.as_slice()) as usize, mask);
+        let mask = self.len() - 1;
+        let mut probe = ProbeSeq::<1>::new(H::hash(self.key(slot)) as usize, mask);
         while probe.index() != slot {
             if is_waiting(probe.index(), slots) || probe.is_last() {
                 return false;
@@ -58,6 +57,21 @@ impl<'a, K: ByteArray, V: ByteArray, H: HashFn> RawTable<'a, K, V, H> {
             probe.advance(mask);
         }
         true
+    }
+}
+
+impl<'a, K: ByteArray, V: ByteArray, H: HashFn> RawTable<'a, K, V, H> {
+    /// Whether inserts can make the table. Where they can, `out` is an order of its occupied slots in which they do:
+    /// their pairs, inserted in this order into an empty table of as many slots, make exactly this table. Otherwise the
+    /// numbers in `out` have no meaning. The parts are those of a valid table, and `out` has as many items as the table
+    /// has pairs.
+    ///
+    /// A pass goes through the waiting slots in slot order, and places each whose earlier slots in the probe order of
+    /// its key are all placed. Passes are made until no slot waits, or a pass places none: at most one pass more than
+    /// there are slots that wait for a slot of a higher index. Each earlier slot of a probe order is looked up by
+    /// binary search in the list of the pass, and after each pass this list is sorted. It allocates nothing.
+    pub fn insert_order(&self, out: &mut [usize]) -> bool {
+        self.sized().insert_order(out)
     }
 }
 

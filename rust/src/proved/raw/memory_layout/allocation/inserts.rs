@@ -93,12 +93,16 @@ fn run_in_bytes<C: Config, I: Items<C::Key, C::Value>>(
 
 // How many new entries there is room for: as many as the maximum item count exceeds the item count.
 #[inline(always)]
-fn room_for(slot_count: usize, max_load_factor: Factor, item_count: usize) -> usize {
+pub(in crate::proved::raw::memory_layout) fn room_for(
+    slot_count: usize,
+    max_load_factor: Factor,
+    item_count: usize,
+) -> usize {
     max_item_count_for(slot_count, max_load_factor).saturating_sub(item_count)
 }
 
 // Writes the item count of a header.
 #[inline(always)]
-fn write_count(header: &mut [u8], item_count: usize) {
+pub(in crate::proved::raw::memory_layout) fn write_count(header: &mut [u8], item_count: usize) {
     write_slice(header, ITEM_COUNT_AT, &(item_count as u64).to_le_bytes());
 }

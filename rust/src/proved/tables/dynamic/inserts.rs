@@ -1,0 +1,43 @@
+// Made by `make rust` of crates/odht/src/dynamic/inserts.rt.
+//! Inserts into a table whose lengths are known at run time alone.
+
+use super::{DynError, DynTable};
+use crate::proved::tables::bytes::ByteStoreMut;
+use crate::proved::tables::error::Error;
+use crate::proved::tables::hash::HashFn;
+use crate::proved::tables::layout::Layout;
+use crate::proved::tables::memory_layout::insert_sized;
+use crate::proved::tables::short_bytes::ShortBytes;
+
+impl<H: HashFn, D: ByteStoreMut> DynTable<H, D> {
+    /// Gives the key this value, and returns its former one: on valid bytes that of its last insert.
+    ///
+    /// `KeyLength` where the key has another length than the table's keys, then `ValueLength` where the value has; then
+    /// `Refused`, with `Full`, as [`HashTable::insert`](crate::proved::tables::hash_table::HashTable::insert) returns it. On an error
+    /// nothing changes. On any bytes no more changes than that call changes.
+    ///
+    /// The key is hashed once. [`DynTable::get_counted`] says how many groups the search reads.
+    pub fn insert(&mut self, key: &[u8], value: &[u8]) -> Result<Option<ShortBytes>, DynError> {
+        let layout = self.layout;
+        if key.len() != layout.key_len as usize {
+            return Err(DynError::KeyLength { expected: layout.key_len, found: key.len() });
+        }
+        if value.len() != layout.value_len as usize {
+            return Err(DynError::ValueLength { expected: layout.value_len, found: value.len() });
+        }
+        match insert_store::<H, D>(&mut self.store, layout, key, value) {
+            Ok(old) => Ok(old),
+            Err(refused) => Err(DynError::Refused(refused)),
+        }
+    }
+}
+
+// `insert` on the store itself, of a key and a value of the table's lengths.
+fn insert_store<H: HashFn, D: ByteStoreMut>(
+    store: &mut D,
+    layout: Layout,
+    key: &[u8],
+    value: &[u8],
+) -> Result<Option<ShortBytes>, Error> {
+    insert_sized::<H>(store.bytes_mut(), layout, key, value)
+}
