@@ -182,6 +182,7 @@ impl<H: HashFn, D: ByteStore> DynTable<H, D> {
             → result ≡ walk P }
         ensures on_any { result
             ≡ decoded_pairs (dyn_format self.now H.hash) (D.bytes self.now.store) }
+        ensures few { length result ≤ usize.MAX }
     {
         self.as_sized().iter()
     }
@@ -194,6 +195,7 @@ impl<H: HashFn, D: ByteStore> DynTable<H, D> {
             → result ≡ slots_from P from }
         ensures on_any { result
             ≡ slots_from (decoded_table (dyn_format self.now H.hash) (D.bytes self.now.store)) from }
+        ensures few { length result ≤ usize.MAX }
     {
         self.as_sized().iter_from(from)
     }
@@ -289,6 +291,7 @@ impl<H: HashFn, D: ByteStore> DynTable<H, D> {
             in (P : Table) → IsImage F P B
             → IsPartsOf F P (entries_of F B) (controls_of F B) }
         ensures format { IsFormat (dyn_format self.now H.hash) }
+        ensures few { result.parts.entries.slots ≤ usize.MAX }
     {
         sized_parts::<H>(self.store.bytes(), self.layout)
     }
