@@ -12,6 +12,7 @@ mod sized_new;
 
 pub use crate::raw_table::{Entries, EntryMetadata};
 pub use allocation::Allocation;
+pub(crate) use check::hold_bytes;
 pub use check::{DEFAULT_GROUPS, check_all, check_all_within};
 pub use new_tables::{allocate, clear_entries, init_in_place, write_empty};
 pub use odht_header::header::{HEADER_SIZE, Header, LEAST_FACTOR, write_header};

@@ -4,11 +4,11 @@ ghost use Rattle.odht_base.specs.Bytes.{bytes_at};
 ghost use Rattle.odht_base.specs.Decoded.{slot_entry, slot_key, slot_value};
 ghost use Rattle.odht_base.specs.Load.{IsSlotCount};
 ghost use Rattle.odht_raw.specs.Parts.{entry_format};
-ghost use Rattle.odht_raw.specs.Sized.{sized_format, sized_parts, IsSized};
+ghost use Rattle.odht_raw.specs.Sized.{HasLengthsOf, sized_format, sized_parts, IsSized};
 ghost use Rattle.odht_raw.specs.Checks.{cells_of};
 ghost use Rattle.odht_base.specs.SlotWalks.{numbered};
 ghost use Rattle.std.specs.List.{filter_map};
-ghost use Rattle.std.specs.Prelude.{drop};
+ghost use Rattle.std.specs.Prelude.{All, drop};
 
 use super::{EntryMetadata, SizedIter, SizedSlots};
 use crate::hash::HashFn;
@@ -94,6 +94,7 @@ impl<'a, H: HashFn> SizedTable<'a, H> {
     pub fn iter(&self) -> SizedIter<'a, H>
         ensures items { let F = sized_format self.now H.hash
             in result ≡ filter_map (λ c. c) (cells_of F self.now.parts) }
+        ensures lengths { All (HasLengthsOf self.now.key_len self.now.value_len) result }
         ensures few { length result ≤ self.now.parts.entries.slots }
     {
         SizedIter::new(self.copy())

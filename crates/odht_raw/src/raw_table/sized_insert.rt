@@ -10,17 +10,21 @@ ghost use Rattle.odht_base.specs.Writes.{tagged};
 ghost use Rattle.odht_raw.specs.Parts.{stored_in};
 ghost use Rattle.odht_raw.specs.PartLengths.{ArePartLengths};
 ghost use Rattle.odht_raw.specs.PartsInserts.{AnswersFormer};
+ghost use Rattle.odht_raw.specs.PartsPlacings.{IsNewTo, IsNewPlacing, IsAddition};
 ghost use Rattle.odht_raw.specs.Searches.{IsSearchEnd};
 ghost use Rattle.odht_raw.specs.SearchResults.{answer};
 ghost use Rattle.odht_raw.specs.Steps.{IsStepChange, IsTaggedEnd};
 
+use super::free_search::first_free;
 use super::{EntryMetadata, Search, SizedTable, tag_of};
 use crate::bytes::write_slice;
 use crate::error::Error;
 use crate::hash::HashFn;
 use crate::layout::Layout;
+use crate::memory_layout::hold_bytes;
 use crate::short_bytes::ShortBytes;
 use crate::swisstable_group_query::REFERENCE_GROUP_SIZE;
+use crate::swisstable_group_query::lanes::GroupQuery;
 use crate::writes::write_tag;
 
 /// Where the search for a key that is inserted ends, and the key's tag.
@@ -89,6 +93,42 @@ pub(crate) fn sized_insert_at<H: HashFn>(
         }
         Search::Neither => Err(Error::Full),
     }
+}
+
+/// Writes the pair into the first free slot of its key's probe order. No key is compared, so it is for a key that the
+/// table does not have, as [`RawTableMut::place`](super::RawTableMut::place) is.
+///
+/// On the parts of a table whose keys are all reached, and none of which is this key, it leaves the parts of the table
+/// with the pair placed, and answers `Full`, with nothing changed, exactly where each slot is occupied. On any parts the
+/// entry is written with its tag into the first slot of the order that counted as free, and no other byte changes;
+/// `Full` is answered only where each slot counts as occupied.
+pub fn place_sized<H: HashFn>(
+    control: &mut [EntryMetadata],
+    entries: &mut [u8],
+    layout: Layout,
+    key: &[u8],
+    value: &[u8],
+) -> Result<(), Error>
+    requires lengths { ArePartLengths H.MIN_LEN layout.key_len layout.value_len
+        (length entries.old) (length control.old) }
+    requires key { length key.now ≡ layout.key_len }
+    requires value { length value.now ≡ layout.value_len }
+    ensures placed { let F = format_of layout.key_len layout.value_len H.hash
+        in let p : Pair = record { key = key.now; value = value.now }
+        in (P : Table) → IsPartsOf F P entries.old control.old → IsNewTo P p
+        → IsNewPlacing F P p result entries.new control.new }
+    ensures any { let F = format_of layout.key_len layout.value_len H.hash
+        in let p : Pair = record { key = key.now; value = value.now }
+        in IsAddition F entries.old control.old p result entries.new control.new }
+{
+    hold_bytes(key);
+    hold_bytes(value);
+    let hash = H::hash(key);
+    let Some(slot) = first_free::<GroupQuery>(control, hash) else {
+        return Err(Error::Full);
+    };
+    fill_sized_slot(control, entries, layout, key, value, tag_of(hash), slot);
+    Ok(())
 }
 
 // Writes the pair into a slot, its tag into the slot's control byte, and for a slot below 16 the tag into the mirror.

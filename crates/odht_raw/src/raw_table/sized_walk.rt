@@ -1,10 +1,10 @@
 //! Walks over the occupied slots of a table whose lengths are numbers.
-ghost use Rattle.std.specs.Prelude.{◌≡◌, ◌≤◌, length, drop};
+ghost use Rattle.std.specs.Prelude.{◌≡◌, ◌≤◌, All, length, drop};
 ghost use Rattle.std.specs.Iterator.{item_count, YieldsFirstBy};
 ghost use Rattle.std.specs.List.{filter_map};
 ghost use Rattle.odht_base.specs.SlotWalks.{numbered};
 ghost use Rattle.odht_raw.specs.Checks.{cells_of};
-ghost use Rattle.odht_raw.specs.Sized.{sized_format};
+ghost use Rattle.odht_raw.specs.Sized.{HasLengthsOf, sized_format};
 
 use super::{Entries, RawSlots, SizedTable};
 use crate::hash::HashFn;
@@ -88,8 +88,11 @@ impl<'a, H: HashFn> SizedIter<'a, H> {
     pub fn new(table: SizedTable<'a, H>) -> Self
         ensures items { let F = sized_format table.entry H.hash
             in result ≡ filter_map (λ c. c) (cells_of F table.entry.parts) }
+        ensures lengths { All (HasLengthsOf table.entry.key_len table.entry.value_len) result }
         ensures few { length result ≤ table.entry.parts.entries.slots }
     {
+        // Its lengths are used: those of the entries are those of the slots.
+        let _ = table.len();
         SizedIter {
             slots: SizedSlots::new(table, 0),
         }
