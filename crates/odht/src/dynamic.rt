@@ -15,6 +15,8 @@ ghost use Rattle.odht_base.specs.Table.{Table, count, walk};
 ghost use Rattle.odht_base.specs.Valid.{IsImage, IsPartsOf, IsValidBytes};
 ghost use Rattle.odht_raw.specs.Dumps.{parts_of};
 ghost use Rattle.odht_raw.specs.Frame.{IsAccepted};
+ghost use Rattle.odht_raw.specs.Sized.{HasLengthsOf};
+ghost use Rattle.std.specs.Prelude.{All};
 ghost use Rattle.odht.specs.Dynamic.{dyn_coding, dyn_format, dyn_refusal};
 ghost use Rattle.odht.specs.Gets.{IsGet, IsCountedGet, IsKnown};
 
@@ -26,6 +28,7 @@ use crate::memory_layout::{Header, check_opening, check_sized, check_sized_withi
 use crate::raw_table::{SizedIter, SizedSlots, SizedTable};
 use std::marker::{Model, PhantomData};
 
+mod growth;
 mod inserts;
 mod new_tables;
 
@@ -127,6 +130,7 @@ impl<H: HashFn, D: ByteStore> DynTable<H, D> {
     pub fn layout(&self) -> Layout
         ensures key { result.key_len ≡ self.now.key_len }
         ensures value { result.value_len ≡ self.now.value_len }
+        ensures hashes { H.MIN_LEN ≤ result.key_len }
     {
         self.layout
     }
@@ -182,6 +186,7 @@ impl<H: HashFn, D: ByteStore> DynTable<H, D> {
             → result ≡ walk P }
         ensures on_any { result
             ≡ decoded_pairs (dyn_format self.now H.hash) (D.bytes self.now.store) }
+        ensures lengths { All (HasLengthsOf self.now.key_len self.now.value_len) result }
         ensures few { length result ≤ usize.MAX }
     {
         self.as_sized().iter()
