@@ -123,6 +123,38 @@ fn twins_of_configurations() {
     twins::<255, 255>();
 }
 
+// A table that grows has the bytes into which the table of a configuration grows, which are valid.
+fn grown_twins<const K: usize, const V: usize>() {
+    let layout = Layout { key_len: K as u8, value_len: V as u8 };
+    let mut owned = HashTableOwned::<Arrays<K, V>>::with_capacity(15, 95);
+    let mut bytes = new_bytes(layout);
+    for number in 0..300 {
+        let key: [u8; K] = some_bytes(number, K).try_into().unwrap();
+        let value: [u8; V] = some_bytes(number + 7, V).try_into().unwrap();
+        owned.insert(&key, &value);
+        let mut table: Table<'_> = DynTable::open(layout, BorrowedMut::new(&mut bytes)).unwrap();
+        if let Err(DynError::Refused(Error::Full)) = table.insert(&key, &value) {
+            let mut out = vec![0x5a; table.grown_len().unwrap()];
+            table.grow_into(&mut out);
+            bytes = out;
+            let mut grown: Table<'_> =
+                DynTable::open(layout, BorrowedMut::new(&mut bytes)).unwrap();
+            assert!(grown.insert(&key, &value).unwrap().is_none());
+        }
+    }
+    assert!(bytes.len() > 32 + 16 * (K + V + 1) + 16);
+    assert_eq!(bytes, owned.raw_bytes(), "{layout:?}");
+}
+
+#[test]
+fn growths() {
+    grown_twins::<2, 0>();
+    grown_twins::<3, 5>();
+    grown_twins::<8, 4>();
+    grown_twins::<20, 32>();
+    grown_twins::<255, 255>();
+}
+
 #[test]
 fn a_full_table() {
     let layout = Layout { key_len: 2, value_len: 2 };

@@ -15,6 +15,7 @@ pub use crate::proved::header::header::{write_header, Header, HEADER_SIZE, LEAST
 pub use crate::proved::header::sizes::{bytes_needed, entry_at, layout_for};
 pub use crate::proved::raw::raw_table::{Entries, EntryMetadata};
 pub use allocation::Allocation;
+pub(crate) use check::hold_bytes;
 pub use check::{check_all, check_all_within, DEFAULT_GROUPS};
 pub use new_tables::{allocate, clear_entries, init_in_place, write_empty};
 pub use prefix::table_len;

@@ -43,6 +43,7 @@ pub(crate) use runs::insert_run;
 pub use scan::Scan;
 pub use search_result::Search;
 pub use sized::SizedTable;
+pub use sized_insert::place_sized;
 pub(crate) use sized_insert::{sized_insert_at, sized_step_end};
 pub use sized_walk::{SizedIter, SizedSlots};
 pub use table_mut::RawTableMut;

@@ -14,6 +14,7 @@ use crate::proved::tables::memory_layout::{
 use crate::proved::tables::raw_table::{SizedIter, SizedSlots, SizedTable};
 use std::marker::PhantomData;
 
+mod growth;
 mod inserts;
 mod new_tables;
 

@@ -1,12 +1,15 @@
 // Made by `make rust` of crates/odht_raw/src/raw_table/sized_insert.rt.
 //! The insert of a pair that is given as bytes into the parts of a table: one search, and the write where it ends.
 
+use super::free_search::first_free;
 use super::{tag_of, EntryMetadata, Search, SizedTable};
 use crate::proved::raw::bytes::write_slice;
 use crate::proved::raw::error::Error;
 use crate::proved::raw::hash::HashFn;
 use crate::proved::raw::layout::Layout;
+use crate::proved::raw::memory_layout::hold_bytes;
 use crate::proved::raw::short_bytes::ShortBytes;
+use crate::proved::raw::swisstable_group_query::lanes::GroupQuery;
 use crate::proved::raw::swisstable_group_query::REFERENCE_GROUP_SIZE;
 use crate::proved::raw::writes::write_tag;
 
@@ -54,6 +57,30 @@ pub(crate) fn sized_insert_at<H: HashFn>(
         }
         Search::Neither => Err(Error::Full),
     }
+}
+
+/// Writes the pair into the first free slot of its key's probe order. No key is compared, so it is for a key that the
+/// table does not have, as [`RawTableMut::place`](super::RawTableMut::place) is.
+///
+/// On the parts of a table whose keys are all reached, and none of which is this key, it leaves the parts of the table
+/// with the pair placed, and answers `Full`, with nothing changed, exactly where each slot is occupied. On any parts the
+/// entry is written with its tag into the first slot of the order that counted as free, and no other byte changes;
+/// `Full` is answered only where each slot counts as occupied.
+pub fn place_sized<H: HashFn>(
+    control: &mut [EntryMetadata],
+    entries: &mut [u8],
+    layout: Layout,
+    key: &[u8],
+    value: &[u8],
+) -> Result<(), Error> {
+    hold_bytes(key);
+    hold_bytes(value);
+    let hash = H::hash(key);
+    let Some(slot) = first_free::<GroupQuery>(control, hash) else {
+        return Err(Error::Full);
+    };
+    fill_sized_slot(control, entries, layout, key, value, tag_of(hash), slot);
+    Ok(())
 }
 
 // Writes the pair into a slot, its tag into the slot's control byte, and for a slot below 16 the tag into the mirror.

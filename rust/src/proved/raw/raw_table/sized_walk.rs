@@ -48,6 +48,8 @@ pub struct SizedIter<'a, H: HashFn> {
 impl<'a, H: HashFn> SizedIter<'a, H> {
     /// The walk over all slots.
     pub fn new(table: SizedTable<'a, H>) -> Self {
+        // Its lengths are used: those of the entries are those of the slots.
+        let _ = table.len();
         SizedIter { slots: SizedSlots::new(table, 0) }
     }
 }
