@@ -1,16 +1,13 @@
 -- Lookups of keys that are lists of bytes.
-use Rattle.std.proofs.Common.{◌≡◌, ◌∙◌, ℕ, List, Option, Some, None, IfSome, sym, ap, refl, length}
+use Rattle.std.proofs.Common.{◌≡◌, ◌∙◌, ℕ, List, Option, Some, None, sym, ap, refl, length}
 use Rattle.std.specs.Prelude.{option_map}
 use Rattle.odht_base.specs.Format.{Format}
 use Rattle.odht_base.specs.Map.{map_of}
 use Rattle.odht_base.specs.Table.{Table}
 use Rattle.odht_base.specs.Valid.{IsPlaced}
 use Rattle.odht_base.proofs.lemmas.Pairs.{value_in-Some}
-use Rattle.odht_header.specs.Coding.{HasStored, value_for}
-use Rattle.odht_raw.specs.Dumps.{parts_of}
-use Rattle.odht_raw.specs.SearchEnds.{IsBesideKey}
+use Rattle.odht_header.specs.Coding.{value_for}
 use Rattle.odht_raw.specs.Sized.{bytes_coding}
-use Rattle.odht.proofs.lemmas.Lookups.{stored_beside}
 
 -- a table has no value for a key of another length
 pub other_length : (F : Format) (P : Table) (k : List ℕ) → IsPlaced F P → (length k ≡ F.key_len → ⊥) → map_of P k ≡ None
@@ -19,11 +16,6 @@ other_length F P k ok other = go (map_of P k) refl
     go : (o : Option (List ℕ)) → map_of P k ≡ o → o ≡ None
     go None e = refl
     go (Some v) e = let h = value_in-Some P.cells k v e in absurd (other (ap length h.3 ∙ (ok.pairs h.0 h.1 h.2).key.len))
-
--- a value that is beside a key in the parts of bytes is stored in them
-pub beside_stored : (F : Format) (B k : List ℕ) (o : Option (List ℕ)) → IfSome o (IsBesideKey F (λ b. b) (parts_of F B).entries k) → IfSome o (λ v. HasStored (bytes_coding F) B k v)
-beside_stored F B k None h = h
-beside_stored F B k (Some v) h = stored_beside F (λ b. b) B k (parts_of F B).entries v refl refl h
 
 -- so a lookup of such a key has no value
 pub absent : (F : Format) (P : Table) (k : List ℕ) → IsPlaced F P → (length k ≡ F.key_len → ⊥) → None ≡ value_for (bytes_coding F) P k

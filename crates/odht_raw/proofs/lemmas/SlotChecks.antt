@@ -48,39 +48,6 @@ module _ (F : Format) (es ctrl : List ℕ) (i : ℕ) where
       let zeros : list_all is_zero (slot_entry F es i) ≡ true = ap (list_all is_zero) e ∙ list_all-zeros n in
       refusal_is ∙ rw (h, zeros) refl
 
-  -- an entry is zero where both its ends are
-  zero_ends : list_all is_zero (slot_entry F es i) ≡ (list_all is_zero (slot_key F es i) && list_all is_zero (slot_value F es i))
-  zero_ends = ap (list_all is_zero) (sym (take-append-drop F.key_len (slot_entry F es i))) ∙ list_all-append is_zero (slot_key F es i) (slot_value F es i)
-
-  -- so it has none where key and value are zeros
-  pub zeros_pass : (m n : ℕ) → counts_as_free (slice_index ctrl i) ≡ true → slot_key F es i ≡ replicate m 0 → slot_value F es i ≡ replicate n 0 → hashes_refusal_at F es ctrl i ≡ None
-  zeros_pass m n h k v =
-      let key : list_all is_zero (slot_key F es i) ≡ true = ap (list_all is_zero) k ∙ list_all-zeros m in
-      let value : list_all is_zero (slot_value F es i) ≡ true = ap (list_all is_zero) v ∙ list_all-zeros n in
-      refusal_is ∙ rw (h, zero_ends, key, value) refl
-
-  module _ (s : ℕ) (long : length es ≡ s * entry_len F) (within : i < s) where
-    entry_long : length (slot_entry F es i) ≡ entry_len F
-    entry_long = length-slot_entry F es s i long within
-
-    -- otherwise it has one, by its key
-    pub key_refusal : counts_as_free (slice_index ctrl i) ≡ true → (slot_key F es i ≡ replicate F.key_len 0 → ⊥) → hashes_refusal_at F es ctrl i ≡ Some (NonZeroEmpty i)
-    key_refusal h other =
-        let n : length (slot_key F es i) ≡ F.key_len = length-take F.key_len (slot_entry F es i) ∙ omega (arith, entry_long) in
-        let key : list_all is_zero (slot_key F es i) ≡ false = false_from_ne_true _ (λ t. other (zeros-list_all _ t ∙ ap (λ m. replicate m 0) n)) in
-        refusal_is ∙ rw (h, zero_ends, key) refl
-
-    -- or by its value
-    pub value_refusal : counts_as_free (slice_index ctrl i) ≡ true → (slot_value F es i ≡ replicate F.value_len 0 → ⊥) → hashes_refusal_at F es ctrl i ≡ Some (NonZeroEmpty i)
-    value_refusal h other =
-        let n : length (slot_value F es i) ≡ F.value_len = length-drop F.key_len (slot_entry F es i) ∙ omega (arith, entry_long) in
-        let value : list_all is_zero (slot_value F es i) ≡ false = false_from_ne_true _ (λ t. other (zeros-list_all _ t ∙ ap (λ m. replicate m 0) n)) in
-        refusal_is ∙ rw (h, zero_ends ∙ ap (λ b. list_all is_zero (slot_key F es i) && b) value) (go (list_all is_zero (slot_key F es i)))
-      where
-        go : (b : Bool) → (not (b && false) gives NonZeroEmpty i) ≡ Some (NonZeroEmpty i)
-        go true = refl
-        go false = refl
-
 module _ (F : Format) (es ctrl : List ℕ) (n s : ℕ) (slots : min n (length ctrl - 16) ≡ s) where
   -- there is no error where no slot has one
   pub hashes_refusal-None : ((i : ℕ) → i < s → hashes_refusal_at F es ctrl i ≡ None) → hashes_refusal F es ctrl n ≡ None
