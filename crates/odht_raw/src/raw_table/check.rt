@@ -111,7 +111,7 @@ impl<'a, H: HashFn> SizedTable<'a, H> {
     }
 
     // Whether the control byte of a slot that counts as free is `FREE`; else `BadFreeControl`.
-    #[inline]
+    #[inline(always)]
     fn check_free_control(&self, slot: usize) -> Result<(), Error>
         requires slot { slot < self.now.parts.entries.slots }
         requires free { IsTrue (counts_as_free (slice_index self.now.parts.control slot)) }
@@ -129,7 +129,7 @@ impl<'a, H: HashFn> SizedTable<'a, H> {
     // key is compared only with keys at earlier positions that have its tag.
     //
     // This asks for more than `IsReached` does: the second copy of a key may be reached, but no search ends at it.
-    #[inline]
+    #[inline(always)]
     fn is_reached(&self, slot: usize, hash: u32) -> bool
         requires slot { slot < self.now.parts.entries.slots }
         requires occupied { IsFalse (counts_as_free (slice_index self.now.parts.control slot)) }
@@ -159,7 +159,7 @@ impl<'a, H: HashFn> SizedTable<'a, H> {
 
     // Whether each of the `count` slots from `start` on, modulo the slot count, is occupied by another key than that of
     // `slot`, whose tag is `tag`.
-    #[inline]
+    #[inline(always)]
     fn are_passed(&self, start: usize, count: usize, slot: usize, tag: u8) -> bool
         requires start { start < self.now.parts.entries.slots }
         requires count { count ≤ 16 }
@@ -188,7 +188,7 @@ impl<'a, H: HashFn> SizedTable<'a, H> {
     }
 
     // Whether the entries of two slots have the same key.
-    #[inline]
+    #[inline(always)]
     fn have_same_key(&self, slot: usize, other: usize) -> bool
         requires slot { slot < self.now.parts.entries.slots }
         requires other { other < self.now.parts.entries.slots }
@@ -200,7 +200,7 @@ impl<'a, H: HashFn> SizedTable<'a, H> {
 
     /// Compares the mirror with the control bytes of the first sixteen slots; `MirrorMismatch` of the first index that
     /// differs.
-    #[inline]
+    #[inline(always)]
     pub(crate) fn check_mirror(&self) -> Result<(), Error>
         ensures { result ≡ checked (mirror_refusal self.now.parts.control) }
     {
@@ -215,7 +215,7 @@ impl<'a, H: HashFn> SizedTable<'a, H> {
 }
 
 // Whether each byte is zero.
-#[inline]
+#[inline(always)]
 fn is_all_zeros(bytes: &[u8]) -> bool
     ensures { result ≡ list_all (λ byte. byte == 0) bytes.now }
 {

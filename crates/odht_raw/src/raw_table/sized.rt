@@ -43,7 +43,7 @@ impl<'a, H: HashFn> Model for SizedTable<'a, H> {
 
 impl<'a, H: HashFn> SizedTable<'a, H> {
     /// The table of these parts. No control byte and no entry is checked.
-    #[inline]
+    #[inline(always)]
     pub fn new(
         control: &'a [EntryMetadata],
         entries: &'a [u8],
@@ -67,7 +67,7 @@ impl<'a, H: HashFn> SizedTable<'a, H> {
     }
 
     // A second reader of the same parts.
-    #[inline]
+    #[inline(always)]
     fn copy(&self) -> Self
         ensures { result ≡ self.now }
     {
@@ -101,7 +101,7 @@ impl<'a, H: HashFn> SizedTable<'a, H> {
     }
 
     /// The control bytes with their mirror.
-    #[inline]
+    #[inline(always)]
     pub fn controls(&self) -> &'a [EntryMetadata]
         ensures value { result.now ≡ self.now.parts.control }
         ensures len { length result.now ≡ self.now.parts.entries.slots + 16 }
@@ -110,7 +110,7 @@ impl<'a, H: HashFn> SizedTable<'a, H> {
     }
 
     /// How many slots there are.
-    #[inline]
+    #[inline(always)]
     pub fn len(&self) -> usize
         ensures value { result ≡ self.now.parts.entries.slots }
         ensures few { result ≤ 2 ^ 63 }
@@ -120,7 +120,7 @@ impl<'a, H: HashFn> SizedTable<'a, H> {
     }
 
     /// The control byte of a slot, or for an index from the slot count on of its mirror.
-    #[inline]
+    #[inline(always)]
     pub fn control(&self, index: usize) -> EntryMetadata
         requires { index < self.now.parts.entries.slots + 16 }
         ensures { result ≡ slice_index self.now.parts.control index }
@@ -129,7 +129,7 @@ impl<'a, H: HashFn> SizedTable<'a, H> {
     }
 
     /// The sixteen control bytes from that of slot `start` on, which run into the mirror after the last slot.
-    #[inline]
+    #[inline(always)]
     pub fn group(&self, start: usize) -> &'a [EntryMetadata]
         requires { start < self.now.parts.entries.slots }
         ensures bytes { result.now ≡ bytes_at self.now.parts.control start 16 }
@@ -140,7 +140,7 @@ impl<'a, H: HashFn> SizedTable<'a, H> {
     }
 
     /// The entry of a slot: key, then value.
-    #[inline]
+    #[inline(always)]
     pub fn entry(&self, slot: usize) -> &'a [u8]
         requires { slot < self.now.parts.entries.slots }
         ensures value { let F = entry_format self.now.key_len self.now.value_len
@@ -154,7 +154,7 @@ impl<'a, H: HashFn> SizedTable<'a, H> {
     }
 
     /// The key of a slot.
-    #[inline]
+    #[inline(always)]
     pub fn key(&self, slot: usize) -> &'a [u8]
         requires { slot < self.now.parts.entries.slots }
         ensures value { let F = entry_format self.now.key_len self.now.value_len
@@ -167,7 +167,7 @@ impl<'a, H: HashFn> SizedTable<'a, H> {
     }
 
     /// The value of a slot.
-    #[inline]
+    #[inline(always)]
     pub fn value(&self, slot: usize) -> &'a [u8]
         requires { slot < self.now.parts.entries.slots }
         ensures value { let F = entry_format self.now.key_len self.now.value_len
@@ -179,7 +179,7 @@ impl<'a, H: HashFn> SizedTable<'a, H> {
     }
 
     /// Whether the entry of a slot has this key.
-    #[inline]
+    #[inline(always)]
     pub(super) fn has_key(&self, slot: usize, key: &[u8]) -> bool
         requires { slot < self.now.parts.entries.slots }
         ensures { let F = entry_format self.now.key_len self.now.value_len

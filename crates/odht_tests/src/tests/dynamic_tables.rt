@@ -126,7 +126,12 @@ fn same_bytes_as_a_ready_shape(rt: HostRuntime) {
         key_len: 4,
         value_len: 4,
     };
-    let pairs: [(u32, u32); 4] = [(1, 2), (3, 4), (u32::MAX, 0), (1, 5)];
+    let pairs: [(u32, u32); 4] = [
+        (1, 0x1234_5678),
+        (0x9abc_def0, 3),
+        (u32::MAX, 0xfedc_ba98),
+        (1, u32::MAX),
+    ];
     let mut bytes = new_bytes(&rt, rt.alloc(), layout);
     let mut table: Table<'_> = DynTable::open(
         layout,

@@ -72,7 +72,7 @@ impl<'a, H: HashFn> SizedTable<'a, H> {
     }
 
     // Whether the control byte of a slot that counts as free is `FREE`; else `BadFreeControl`.
-    #[inline]
+    #[inline(always)]
     fn check_free_control(&self, slot: usize) -> Result<(), Error> {
         let found = self.control(slot);
         if found == FREE {
@@ -86,7 +86,7 @@ impl<'a, H: HashFn> SizedTable<'a, H> {
     // key is compared only with keys at earlier positions that have its tag.
     //
     // This asks for more than `IsReached` does: the second copy of a key may be reached, but no search ends at it.
-    #[inline]
+    #[inline(always)]
     fn is_reached(&self, slot: usize, hash: u32) -> bool {
         let slots = self.len();
         let mask = slots - 1;
@@ -107,7 +107,7 @@ impl<'a, H: HashFn> SizedTable<'a, H> {
 
     // Whether each of the `count` slots from `start` on, modulo the slot count, is occupied by another key than that of
     // `slot`, whose tag is `tag`.
-    #[inline]
+    #[inline(always)]
     fn are_passed(&self, start: usize, count: usize, slot: usize, tag: u8) -> bool {
         let mask = self.len() - 1;
         let control = self.group(start);
@@ -125,14 +125,14 @@ impl<'a, H: HashFn> SizedTable<'a, H> {
     }
 
     // Whether the entries of two slots have the same key.
-    #[inline]
+    #[inline(always)]
     fn have_same_key(&self, slot: usize, other: usize) -> bool {
         self.key(slot) == self.key(other)
     }
 
     /// Compares the mirror with the control bytes of the first sixteen slots; `MirrorMismatch` of the first index that
     /// differs.
-    #[inline]
+    #[inline(always)]
     pub(crate) fn check_mirror(&self) -> Result<(), Error> {
         let slots = self.len();
         for index in 0..REFERENCE_GROUP_SIZE {
@@ -145,7 +145,7 @@ impl<'a, H: HashFn> SizedTable<'a, H> {
 }
 
 // Whether each byte is zero.
-#[inline]
+#[inline(always)]
 fn is_all_zeros(bytes: &[u8]) -> bool {
     bytes.iter().all(|byte| *byte == 0)
 }

@@ -21,7 +21,7 @@ pub struct SizedTable<'a, H: HashFn> {
 
 impl<'a, H: HashFn> SizedTable<'a, H> {
     /// The table of these parts. No control byte and no entry is checked.
-    #[inline]
+    #[inline(always)]
     pub fn new(
         control: &'a [EntryMetadata],
         entries: &'a [u8],
@@ -32,7 +32,7 @@ impl<'a, H: HashFn> SizedTable<'a, H> {
     }
 
     // A second reader of the same parts.
-    #[inline]
+    #[inline(always)]
     fn copy(&self) -> Self {
         SizedTable {
             control: self.control,
@@ -55,32 +55,32 @@ impl<'a, H: HashFn> SizedTable<'a, H> {
     }
 
     /// The control bytes with their mirror.
-    #[inline]
+    #[inline(always)]
     pub fn controls(&self) -> &'a [EntryMetadata] {
         self.control
     }
 
     /// How many slots there are.
-    #[inline]
+    #[inline(always)]
     pub fn len(&self) -> usize {
         self.slots
     }
 
     /// The control byte of a slot, or for an index from the slot count on of its mirror.
-    #[inline]
+    #[inline(always)]
     pub fn control(&self, index: usize) -> EntryMetadata {
         self.control[index]
     }
 
     /// The sixteen control bytes from that of slot `start` on, which run into the mirror after the last slot.
-    #[inline]
+    #[inline(always)]
     pub fn group(&self, start: usize) -> &'a [EntryMetadata] {
         let control = self.control;
         &control[start..start + REFERENCE_GROUP_SIZE]
     }
 
     /// The entry of a slot: key, then value.
-    #[inline]
+    #[inline(always)]
     pub fn entry(&self, slot: usize) -> &'a [u8] {
         let entries = self.entries;
         let entry_len = self.layout.entry_len();
@@ -89,21 +89,21 @@ impl<'a, H: HashFn> SizedTable<'a, H> {
     }
 
     /// The key of a slot.
-    #[inline]
+    #[inline(always)]
     pub fn key(&self, slot: usize) -> &'a [u8] {
         let entry = self.entry(slot);
         &entry[..self.layout.key_len as usize]
     }
 
     /// The value of a slot.
-    #[inline]
+    #[inline(always)]
     pub fn value(&self, slot: usize) -> &'a [u8] {
         let entry = self.entry(slot);
         &entry[self.layout.key_len as usize..]
     }
 
     /// Whether the entry of a slot has this key.
-    #[inline]
+    #[inline(always)]
     pub(super) fn has_key(&self, slot: usize, key: &[u8]) -> bool {
         self.key(slot) == key
     }
