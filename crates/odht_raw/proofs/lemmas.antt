@@ -63,6 +63,8 @@ pub mod WaitingSlots
 pub mod LateStages
 -- when a slot is ready, by the slots that wait
 pub mod ReadyPositions
+-- a list whose placed slots are moved to its front
+pub mod PartedSlots
 -- one pass through the slots that wait, in the search for an order
 pub mod PlacedFirst
 -- that search from its start to its end

@@ -63,7 +63,7 @@ module _ (P : Table) (small : slot_count P ≤ 2 ^ 63) where
 -- ---- a pass over the end of a list
 module _ (xs ys : List ℕ) (a : ℕ) (low : a ≤ length xs) where
   -- the list with ys for its end from a on
-  ended : put_mid a (length xs - a) xs ys ≡ take a xs ++ ys
+  pub ended : put_mid a (length xs - a) xs ys ≡ take a xs ++ ys
   ended =
       let none : drop (length xs - a) (drop a xs) ≡ [] = drop_all (length xs - a) (drop a xs) (omega (arith, length-drop a xs)) in
       ap (λ zs. take a xs ++ (ys ++ zs)) none ∙ ap (λ zs. take a xs ++ zs) (append-nil ys)

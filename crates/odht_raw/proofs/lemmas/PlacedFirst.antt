@@ -1,6 +1,5 @@
 -- The occupied slots of a table while one pass goes through those that wait, and the list that is sorted after it.
-use Rattle.std.proofs.Common.{◌≡◌, ◌<◌, ◌≤◌, ◌+◌, ◌-◌, ◌*◌, ◌^◌, ◌∙◌, inl, inr, ℕ, zero, suc, Bool, true, false, not, cond, nat_lt, sym, ap, subst, refl, List, [], ◌∷◌, ◌++◌, length, get_or, take, drop, set, map, filter, arith, All, AllPairs, Contains, IsPermutation, IsSorted, below_more, ltb-true, ltb-false, lt-ltb, le-ltb}
-use Rattle.std.specs.Ordering.{nat_cmp}
+use Rattle.std.proofs.Common.{◌≡◌, ◌<◌, ◌≤◌, ◌+◌, ◌-◌, ◌*◌, ◌^◌, ◌∙◌, inl, inr, ℕ, zero, suc, Bool, true, false, not, cond, nat_lt, sym, ap, subst, refl, List, [], ◌∷◌, ◌++◌, length, get_or, take, drop, set, map, filter, arith, All, AllPairs, Contains, IsPermutation, below_more, ltb-true, ltb-false, lt-ltb, le-ltb}
 use Rattle.std.proofs.lemmas.Bool.{cases_order, not-true}
 use Rattle.std.proofs.lemmas.List.{append-nil, append_assoc, drop_at, drop_more, drop-drop, drop-set-lt, get_or-drop, get_or-map, get_or_append_left, get_or-append-add, get_or_default, length-append, length-map, length_push, map-append, map-set, nil_from_length, set-get_or, take_at}
 use Rattle.std.proofs.lemmas.List.Elements.{All-drop, All-filter, All-from_get_or, All-head, All-set, All-tail, Contains-append_cases, Contains-append_right, filter_passes}
@@ -18,7 +17,7 @@ use Rattle.odht_base.proofs.lemmas.SoFar.{so_far_push}
 use Rattle.odht_raw.specs.Waiting.{slot_of, placed_of, IsWaiting, AreRising, IsPending}
 use Rattle.odht_raw.proofs.lemmas.ReadyPositions.{placed_listed, pending_apart}
 use Rattle.odht_raw.proofs.lemmas.WaitingSlots.{SlotsRise, slots_rise}
-use Rattle.odht_raw.proofs.lemmas.RisingLists.{rising_append, sorted_is}
+use Rattle.odht_raw.proofs.lemmas.RisingLists.{rising_append, rising_same}
 
 -- ---- listed slots
 -- the slots of the list that wait, as they are listed
@@ -71,7 +70,7 @@ are_rising ns rise i j d lt l =
     omega (arith, rise i j 0 lt m, get_or-map slot_of ns i 0 d (omega (arith, lt, m)), get_or-map slot_of ns j 0 d m)
 
 -- each item of a list is placed or waits
-placed_and_waiting : (ns : List ℕ) → IsPermutation ns (placed_of ns ++ waiting_of ns)
+pub placed_and_waiting : (ns : List ℕ) → IsPermutation ns (placed_of ns ++ waiting_of ns)
 placed_and_waiting ns = IsPermutation-filter_both (λ n. nat_lt n (2 ^ 63)) (λ n. not (nat_lt n (2 ^ 63))) (λ n. refl) ns
 
 module _ (ns : List ℕ) (rise : AreRising ns) (fit : All (λ n. n < 2 ^ 64) ns) where
@@ -94,12 +93,13 @@ module _ (ns : List ℕ) (rise : AreRising ns) (fit : All (λ n. n < 2 ^ 64) ns)
       let second = slot_of_placed (get_or (placed_of ns) j d) (placed_low ns j d l) in
       omega (arith, up, first, second)
 
-  -- sorted, the list is those that are placed, and behind them those that wait
-  pub placed_first : (ss : List ℕ) → IsPermutation ns ss → IsSorted nat_cmp ss → ss ≡ placed_of ns ++ waiting_of ns
-  placed_first ss moved sorted =
-      sorted_is ss (placed_of ns ++ waiting_of ns)
-      (IsPermutation-trans _ _ _ (IsPermutation-sym _ _ (placed_and_waiting ns)) moved) sorted
+  -- in the order of its items, the list is those that are placed, and behind them those that wait
+  pub placed_first : (ss : List ℕ) → IsPermutation ns ss → AllPairs (λ a b. a < b) ss → ss ≡ placed_of ns ++ waiting_of ns
+  placed_first ss moved up =
+      let same = IsPermutation-trans _ _ _ (IsPermutation-sym _ _ (placed_and_waiting ns)) moved in
+      rising_same ss (placed_of ns ++ waiting_of ns) up
       (rising_append (placed_of ns) (waiting_of ns) (2 ^ 63) placed_rise waiting_rise (placed_low ns) (waiting_high ns))
+      (λ z. Contains-permutation _ _ z (IsPermutation-sym _ _ same)) (λ z. Contains-permutation _ _ z same)
 
 -- of those that wait each is below the slot count, where that is so for the list
 pub waiting_below : (s : ℕ) (ns : List ℕ) → All (λ n. 2 ^ 63 ≤ n → n - 2 ^ 63 < s) ns → All (IsWaiting s) (waiting_of ns)
@@ -293,18 +293,18 @@ module _ {s : ℕ} {old ns : List ℕ} {at placed : ℕ} (gone : IsGone s old ns
     }
 
 -- ---- the list that is sorted after the pass
-module _ {s : ℕ} {old ns : List ℕ} {at placed : ℕ} (gone : IsGone s old ns at placed) (rise : AreRising ns) {ss : List ℕ} (moved : IsPermutation ns ss) (sorted : IsSorted nat_cmp ss) where
+module _ {s : ℕ} {old ns : List ℕ} {at placed : ℕ} (gone : IsGone s old ns at placed) (rise : AreRising ns) {ss : List ℕ} (moved : IsPermutation ns ss) (up : AllPairs (λ a b. a < b) ss) where
   -- its first are those that are placed
   front : take placed ss ≡ placed_of ns
-  front = ap (take placed) (placed_first ns rise gone.fit ss moved sorted) ∙ take_at (placed_of ns) (waiting_of ns) placed (sym gone.counted)
+  front = ap (take placed) (placed_first ns rise gone.fit ss moved up) ∙ take_at (placed_of ns) (waiting_of ns) placed (sym gone.counted)
 
   -- and the others those that wait
   back : drop placed ss ≡ waiting_of ns
-  back = ap (drop placed) (placed_first ns rise gone.fit ss moved sorted) ∙ drop_at (placed_of ns) (waiting_of ns) placed (sym gone.counted)
+  back = ap (drop placed) (placed_first ns rise gone.fit ss moved up) ∙ drop_at (placed_of ns) (waiting_of ns) placed (sym gone.counted)
 
   -- no more are placed than there are
   pub sorted_few : placed ≤ length ss
-  sorted_few = omega (arith, gone.counted, ap (λ ys. length ys) (placed_first ns rise gone.fit ss moved sorted), length-append (placed_of ns) (waiting_of ns))
+  sorted_few = omega (arith, gone.counted, ap (λ ys. length ys) (placed_first ns rise gone.fit ss moved up), length-append (placed_of ns) (waiting_of ns))
 
   -- the others wait
   pub sorted_waiting : All (IsWaiting s) (drop placed ss)

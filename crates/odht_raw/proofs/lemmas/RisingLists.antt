@@ -5,7 +5,7 @@ use Rattle.std.proofs.lemmas.Bool.{cases_lt}
 use Rattle.std.proofs.lemmas.List.{get_or_default, get_or_append_left, get_or-append_right, length-append}
 use Rattle.std.proofs.lemmas.List.Edits.{get_or-remove_below}
 use Rattle.std.proofs.lemmas.List.Elements.{Contains-get_or}
-use Rattle.std.proofs.lemmas.List.Sorted.{IsNonDecreasingBy-from_sort, IsPermutation-remove, IsPermutation-sym, Contains-permutation, length_permutation}
+use Rattle.std.proofs.lemmas.List.Sorted.{IsNonDecreasingBy-from_sort, IsPermutation-remove, Contains-permutation, length_permutation}
 use Rattle.odht_base.proofs.lemmas.Pigeons.{IsApart, contains_cases, pigeons_fit}
 
 -- a list whose items are those of a list of different ones, in another order, is of different ones too
@@ -64,12 +64,6 @@ rising_same (x ∷ xs) (y ∷ ys) r s f g =
     let same : x ≡ y = omega (arith, low, high) in
     let rest = rising_same xs ys (rising_rest x xs r) (rising_rest y ys s) (contains_rest x y xs ys same r f) (contains_rest y x ys xs (sym same) s g) in
     ap (λ a. a ∷ xs) same ∙ ap (λ zs. y ∷ zs) rest
-
--- a list in order, of the items of a list that rises, is that list
-pub sorted_is : (xs ys : List ℕ) → IsPermutation ys xs → IsSorted nat_cmp xs → AllPairs (λ a b. a < b) ys → xs ≡ ys
-sorted_is xs ys moved sorted rise =
-    rising_same xs ys (rising_if_sorted xs (apart_moved ys xs moved (rising_apart ys rise)) sorted) rise
-    (λ z. Contains-permutation xs ys z (IsPermutation-sym ys xs moved)) (λ z. Contains-permutation ys xs z moved)
 
 -- a list that rises, followed by a higher one that does
 pub rising_append : (xs ys : List ℕ) (n : ℕ) → AllPairs (λ a b. a < b) xs → AllPairs (λ a b. a < b) ys → All (λ x. x < n) xs → All (λ y. n ≤ y) ys → AllPairs (λ a b. a < b) (xs ++ ys)

@@ -1,6 +1,6 @@
 //! An order of inserts that makes a table, found within the buffer that it is written to.
 ghost use Rattle.std.specs.Prelude.{◌≡◌, ◌≤◌, ◌<◌, ◌+◌, ◌^◌, ◌↔◌, ℕ, List, ◌++◌, slice_index};
-ghost use Rattle.std.specs.Prelude.{length, map, drop, IsTrue, All, Contains};
+ghost use Rattle.std.specs.Prelude.{length, map, drop, IsTrue, All, AllPairs, Contains, IsPermutation};
 ghost use Rattle.odht_base.specs.Format.{format_of};
 ghost use Rattle.odht_base.specs.Made.{occupied, IsMade, IsInsertOrder};
 ghost use Rattle.odht_base.specs.Ready.{IsReady};
@@ -26,7 +26,8 @@ impl<'a, K: ByteArray, V: ByteArray, H: HashFn> RawTable<'a, K, V, H> {
     /// A pass goes through the waiting slots in slot order, and places each whose earlier slots in the probe order of
     /// its key are all placed. Passes are made until no slot waits, or a pass places none: at most one pass more than
     /// there are slots that wait for a slot of a higher index. Each earlier slot of a probe order is looked up by
-    /// binary search in the list of the pass, and after each pass this list is sorted. It allocates nothing.
+    /// binary search in the list of the pass, and after each pass the slots that still wait are sorted. It allocates
+    /// nothing.
     pub fn insert_order(&self, out: &mut [usize]) -> bool
         requires whole { let F = format_of K.LEN V.LEN H.hash
             in (P : Table) × AreWholeParts F P self.now (length out.old) }
@@ -76,7 +77,7 @@ impl<'a, K: ByteArray, V: ByteArray, H: HashFn> RawTable<'a, K, V, H> {
                 placed += 1;
             }
         }
-        slots.sort_unstable();
+        sort_placed_first(slots, placed);
         placed
     }
 
@@ -110,6 +111,29 @@ fn is_waiting(slot: usize, slots: &[usize]) -> bool
 {
     let index = slots.partition_point(|listed| *listed % WAITING < slot);
     slots.get(index) == Some(&(WAITING + slot))
+}
+
+// Sorts the list, whose slots are in slot order, and of which so many are placed: these come first, and behind them
+// those that wait. The placed ones keep their order as they are moved, so only the others are sorted, of which there
+// are few in most tables, and in many none.
+fn sort_placed_first(slots: &mut [usize], placed: usize)
+    requires placed { placed ≡ length (placed_of slots.old) }
+    ensures permutation { IsPermutation slots.old slots.new }
+    ensures rising { AreRising slots.old → AllPairs ◌<◌ slots.new }
+{
+    if placed == slots.len() {
+        return;
+    }
+    let mut front = 0;
+    for at in 0..slots.len() {
+        let moved = slots[at];
+        if moved < WAITING {
+            slots[at] = slots[front];
+            slots[front] = moved;
+            front += 1;
+        }
+    }
+    slots[front..].sort_unstable();
 }
 
 // Lists the occupied slots, as many as `out` has room for, each as one that waits.

@@ -50,18 +50,18 @@ pub returns-clause-few : goal.returns-clause-few
 returns-clause-few g c =
     let known = c.requires.pending in
     let passed = c.loop-at.invariant.1 known.0 known.1 known.2 known.3 in
-    sorted_few c.loop-at.invariant.0 passed.pending.rising c.sort_unstable.ensures.permutation c.sort_unstable.ensures.sorted
+    sorted_few c.loop-at.invariant.0 passed.pending.rising c.sort_placed_first.ensures.permutation (c.sort_placed_first.ensures.rising passed.pending.rising)
 
 pub returns-clause-waiting : goal.returns-clause-waiting
 returns-clause-waiting g c =
     let known = c.requires.pending in
     let passed = c.loop-at.invariant.1 known.0 known.1 known.2 known.3 in
-    sorted_waiting c.loop-at.invariant.0 passed.pending.rising c.sort_unstable.ensures.permutation c.sort_unstable.ensures.sorted
+    sorted_waiting c.loop-at.invariant.0 passed.pending.rising c.sort_placed_first.ensures.permutation (c.sort_placed_first.ensures.rising passed.pending.rising)
 
 pub returns-clause-pass : goal.returns-clause-pass
 returns-clause-pass g c P done parts pending =
     let passed = c.loop-at.invariant.1 P done parts pending in
     record {
-      pending = sorted_pending c.loop-at.invariant.0 passed.pending.rising c.sort_unstable.ensures.permutation c.sort_unstable.ensures.sorted passed.pending;
+      pending = sorted_pending c.loop-at.invariant.0 passed.pending.rising c.sort_placed_first.ensures.permutation (c.sort_placed_first.ensures.rising passed.pending.rising) passed.pending;
       stuck = λ none. passed_stuck pending passed c.loop-at-test.false none;
     }
