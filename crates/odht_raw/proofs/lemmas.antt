@@ -67,6 +67,12 @@ pub mod ReadyPositions
 pub mod PartedSlots
 -- one pass through the slots that wait, in the search for an order
 pub mod PlacedFirst
+-- whether one of some adjacent slots waits
+pub mod WaitingRanges
+-- the slots before one that waits, a group at a time
+pub mod Frontiers
+-- the last slot that a pass has left to wait
+pub mod LeftSlots
 -- that search from its start to its end
 pub mod PendingSlots
 -- one insert with room for so many new entries

@@ -6,14 +6,22 @@
 --     placed_of ns         the slots of the list ns that do not wait, but are placed
 --     IsWaiting s n        n is a slot below s that waits, as it is listed
 --     AreRising ns         the slots of ns rise
+--     WaitsWithin ns a b   one of the slots from a to before b waits
+--     WaitsBehind ns s b n   one of the n slots from b on waits, around the end of s slots
+--     IsLeft ns i m        of the slots below i, the last that waits is the one before m; where m is 0 none waits
+--     IsFrontier ns s h b p  the slot b is at position p of the probe order of the home h among s slots, where a group
+--                          begins, and none of the slots at earlier positions waits
+--     IsUnblocked ns h s i   slot i is at a position of the probe order of the home h among s slots, and none of the slots
+--                          at earlier positions waits
 --     IsPending F P done ns  done and the slots of ns are the occupied slots of P, each once; the slots of ns rise; and
 --                          done, with the slots of ns that are placed, are the slots so far in the search for an order
 --     IsPass F P done ns n  after a pass that placed n slots, which are the first of ns; where n is 0, no slot is ready
 --                          after done but those of done
 --     AreWholeParts F P T n  T is the parts of the table P, which is valid and has n pairs
-use Rattle.std.specs.Prelude.{◌≡◌, ℕ, ◌+◌, ◌-◌, ◌^◌, ◌%◌, ◌<◌, ◌≤◌, nat_lt, List, ◌++◌, map, filter, take, drop, AllPairs, IsPermutation}
+use Rattle.std.specs.Prelude.{◌≡◌, ℕ, ◌+◌, ◌-◌, ◌^◌, ◌%◌, ◌<◌, ◌≤◌, nat_lt, List, ◌++◌, map, filter, take, drop, AllPairs, Contains, IsPermutation}
 use Rattle.odht_base.specs.Format.{Format}
 use Rattle.odht_base.specs.Made.{occupied}
+use Rattle.odht_base.specs.Probe.{probe_slot}
 use Rattle.odht_base.specs.Ready.{IsSoFar, IsStuck}
 use Rattle.odht_base.specs.Table.{Table, count}
 use Rattle.odht_base.specs.Valid.{IsPartsOf, IsValid}
@@ -33,6 +41,30 @@ IsWaiting s n = (2 ^ 63 ≤ n) × (n - 2 ^ 63 < s)
 
 abbrev pub AreRising : List ℕ → Type 0
 AreRising ns = AllPairs ◌<◌ (map slot_of ns)
+
+abbrev pub WaitsWithin : List ℕ → ℕ → ℕ → Type 0
+WaitsWithin ns a b = (j : ℕ) × (a ≤ j) × (j < b) × Contains ns (waiting j)
+
+abbrev pub WaitsBehind : List ℕ → ℕ → ℕ → ℕ → Type 0
+WaitsBehind ns s b n = (j : ℕ) × (j < n) × Contains ns (waiting ((b + j) % s))
+
+pub record IsLeft (ns : List ℕ) (i m : ℕ) : Type 0 where
+  pub low : m ≤ i
+  pub last : 0 < m → Contains ns (waiting (m - 1))
+  pub none : (j : ℕ) → m ≤ j → j < i → Contains ns (waiting j) → ⊥
+
+pub record IsFrontier (ns : List ℕ) (s h b p : ℕ) : Type 0 where
+  pub home_within : h < s
+  pub aligned : p % 16 ≡ 0
+  pub within : p + 16 ≤ s
+  pub base_is : b ≡ probe_slot h s p
+  pub free : (q : ℕ) → q < p → Contains ns (waiting (probe_slot h s q)) → ⊥
+
+pub record IsUnblocked (ns : List ℕ) (h s i : ℕ) : Type 0 where
+  pub position : ℕ
+  pub in_order : position < s
+  pub slot_is : probe_slot h s position ≡ i
+  pub free : (q : ℕ) → q < position → Contains ns (waiting (probe_slot h s q)) → ⊥
 
 pub record IsPending (F : Format) (P : Table) (done ns : List ℕ) : Type 0 where
   pub listed : IsPermutation (occupied P) (done ++ map slot_of ns)

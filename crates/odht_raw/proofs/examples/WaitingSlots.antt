@@ -1,5 +1,6 @@
 -- Worked examples: slots that wait in the search for an insert order, in the table with 15 in slot 15 and 31 in slot 0.
-use Rattle.std.proofs.Common.{◌≡◌, ◌<◌, ℕ, refl, subst, arith, [], ◌∷◌, get_or, AllPairs, lit<, lit≤}
+use Rattle.std.proofs.Common.{◌≡◌, ◌<◌, ◌≤◌, ◌+◌, ◌%◌, inl, inr, ℕ, List, refl, ap, subst, arith, [], ◌∷◌, get_or, AllPairs, Contains, lit<, lit≤}
+use Rattle.std.proofs.lemmas.Bool.{cases_lt}
 use Rattle.std.proofs.lemmas.List.Sorted.{IsPermutation-refl, IsPermutation-append_comm, length_permutation}
 use Rattle.odht_base.specs.Image.{entries, controls}
 use Rattle.odht_base.specs.Ready.{IsSoFar}
@@ -9,7 +10,7 @@ use Rattle.odht_base.proofs.examples.InsertOrders.{fifteen_first, fifteen_slots,
 use Rattle.odht_base.proofs.lemmas.Placed.{IsPlaced-tests}
 use Rattle.odht_base.proofs.lemmas.SoFar.{so_far_none}
 use Rattle.odht_raw.specs.Parts.{TableParts}
-use Rattle.odht_raw.specs.Waiting.{waiting, slot_of, placed_of, IsWaiting, AreRising, IsPending, AreWholeParts}
+use Rattle.odht_raw.specs.Waiting.{waiting, slot_of, placed_of, IsWaiting, AreRising, WaitsWithin, WaitsBehind, IsLeft, IsPending, AreWholeParts}
 use Rattle.odht_header.proofs.examples.Opened.{opened}
 
 -- ---- lists of slots
@@ -39,6 +40,35 @@ rises = two_rise 3 5 (lit< tt)
 -- they do not where a later one is below, or the same
 pub falls_refused : (AreRising (5 ∷ waiting 3 ∷ []) → ⊥) × (AreRising (5 ∷ waiting 5 ∷ []) → ⊥)
 falls_refused = (λ h. omega (arith, h 0 1 0 (lit< tt) (lit< tt)), λ h. omega (arith, h 0 1 0 (lit< tt) (lit< tt)))
+
+-- ---- which of some slots wait
+-- of slots 3 and 5 the second waits
+abbrev some : List ℕ
+some = 3 ∷ waiting 5 ∷ []
+
+-- so one of those from 4 to before 6 waits
+pub within : WaitsWithin some 4 6
+within = (5, lit≤ tt, lit< tt, (1, lit< tt, refl))
+
+-- and one of the four from slot 14 on, around the end of sixteen, where slot 0 does; but not of the two
+pub behind : WaitsBehind (waiting 0 ∷ []) 16 14 4 × (WaitsBehind (waiting 0 ∷ []) 16 14 2 → ⊥)
+behind = ((2, lit< tt, (0, lit< tt, refl)), λ h. two h.0 h.1 h.2)
+  where
+    two : (j : ℕ) → j < 2 → Contains (waiting 0 ∷ []) (waiting ((14 + j) % 16)) → ⊥
+    two j low w =
+        let first : 0 ≡ w.0 = omega (arith, w.1) in
+        let is : (14 + j) % 16 ≡ 14 + j = omega (arith, low) in
+        omega (arith, w.2, is, ap (λ k. get_or (waiting 0 ∷ []) k (waiting ((14 + j) % 16))) first)
+
+-- below slot 9 the last that waits is the one before 6; it is not the one before 5
+pub left : IsLeft some 9 6 × (IsLeft some 9 5 → ⊥)
+left = (record { low = lit≤ tt; last = λ l. (1, lit< tt, refl); none = λ j from below w. later j from w }, λ h. h.none 5 (lit≤ tt) (lit< tt) (1, lit< tt, refl))
+  where
+    later : (j : ℕ) → 6 ≤ j → Contains some (waiting j) → ⊥
+    later j from w = elim (cases_lt w.0 1) [
+      | inl first ↦ let is : 0 ≡ w.0 = omega (arith, first) in omega (arith, w.2, ap (λ k. get_or some k (waiting j)) is)
+      | inr second ↦ let is : 1 ≡ w.0 = omega (arith, second, w.1) in omega (arith, w.2, from, ap (λ k. get_or some k (waiting j)) is)
+    ]
 
 -- ---- a search
 -- at its start both slots wait

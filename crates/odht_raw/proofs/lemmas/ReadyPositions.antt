@@ -13,10 +13,10 @@ use Rattle.odht_base.specs.Decoded.{slot_key}
 use Rattle.odht_base.specs.Valid.{HoldsPair, IsPlaced, IsPartsOf}
 use Rattle.odht_base.proofs.lemmas.OccupiedSlots.{contains_filter, occupied-Contains, occupied-apart}
 use Rattle.odht_base.proofs.lemmas.Pigeons.{IsApart}
-use Rattle.odht_base.proofs.lemmas.ReadySlots.{not_ready, never_ready}
+use Rattle.odht_base.proofs.lemmas.Orders.{probe_slot-lt}
 use Rattle.odht_raw.proofs.lemmas.PartCells.{slots_are, key_is}
 use Rattle.odht_raw.proofs.lemmas.RisingLists.{apart_moved}
-use Rattle.odht_raw.specs.Waiting.{waiting, slot_of, placed_of, AreRising, IsPending}
+use Rattle.odht_raw.specs.Waiting.{waiting, slot_of, placed_of, AreRising, IsPending, IsUnblocked}
 
 -- ---- items of lists
 -- no number is in both halves of such a list
@@ -124,15 +124,6 @@ module _ (F : Format) (P : Table) (done ns : List ℕ) (h : IsPending F P done n
       earlier_taken = λ q l. let d = passed_occupied n walked q l in placed_if_not_waiting fit (slot q) d.0 d.1 (walked q l).1;
     }
 
-    -- where it meets one that waits, slot i is not
-    pub not_ready_if_waiting : (n : ℕ) → Walked n → (slot n ≡ i → ⊥) → slot n < 2 ^ 63 → Contains ns (waiting (slot n)) → IsReady F P (done ++ placed_of ns) i → ⊥
-    not_ready_if_waiting n walked other low waits =
-        not_ready F P (done ++ placed_of ns) i p holds n (λ q l. (walked q l).0) other (not_placed_if_waiting (slot n) low waits)
-
-    -- nor where it meets nothing more
-    pub not_ready_if_nowhere : (n : ℕ) → slot_count P ≤ n → Walked n → IsReady F P (done ++ placed_of ns) i → ⊥
-    not_ready_if_nowhere n past walked = never_ready F P (done ++ placed_of ns) i p holds (λ q l. (walked q (omega arith)).0)
-
 -- the same walk, as code sees it in the parts of s slots
 module _ (F : Format) (f : IsFormat F) (P : Table) (es ctrl : List ℕ) (parts : IsPartsOf F P es ctrl) (s : ℕ) (long : length ctrl ≡ s + 16)
     (done ns : List ℕ) (h : IsPending F P done ns) (fit : All (λ n. n < 2 ^ 64) ns) (i : ℕ) (p : Pair) (holds : HoldsPair P i p) where
@@ -146,22 +137,25 @@ module _ (F : Format) (f : IsFormat F) (P : Table) (es ctrl : List ℕ) (parts :
       ap (λ k. probe_slot (F.hash k % s) s q) (key_is F f P es ctrl parts i p holds)
       ∙ ap (λ n. probe_slot (F.hash p.key % n) n q) (slots_are F f P es ctrl parts s long)
 
-  module _ (n : ℕ) (others : (q : ℕ) → q < n → probed_slot q ≡ i → ⊥) (passed : AreRising ns → (q : ℕ) → q < n → Contains ns (waiting (probed_slot q)) → ⊥) where
-    -- it walks as the one above
-    walked : Walked F P done ns h parts.placed i p holds n
-    walked q l = (λ e. others q l (probed_is q ∙ e), λ w. passed h.rising q l (subst (λ j. Contains ns (waiting j)) (sym (probed_is q)) w))
+  -- where none of the slots before it waits, it is ready
+  pub ready_unblocked : Contains ns (waiting i) → IsUnblocked ns (F.hash (slot_key F es i) % s) s i → IsReady F P (done ++ placed_of ns) i
+  ready_unblocked waits u =
+      ready_if_met F P done ns h parts.placed i p holds fit u.position (omega (arith, u.in_order, slots_are F f P es ctrl parts s long))
+      (λ q l. (
+        λ e. u.free q l (subst (λ j. Contains ns (waiting j)) (sym (probed_is q ∙ e)) waits),
+        λ w. u.free q l (subst (λ j. Contains ns (waiting j)) (sym (probed_is q)) w),
+      ))
+      (sym (probed_is u.position) ∙ u.slot_is)
 
-    -- it ends at slot i: that is ready
-    pub ready_probed : n < s → probed_slot n ≡ i → IsReady F P (done ++ placed_of ns) i
-    ready_probed low met =
-        ready_if_met F P done ns h parts.placed i p holds fit n (omega (arith, low, slots_are F f P es ctrl parts s long)) walked (sym (probed_is n) ∙ met)
-
-    -- it ends at one that waits
-    pub waiting_probed : (probed_slot n ≡ i → ⊥) → (AreRising ns → Contains ns (waiting (probed_slot n))) → probed_slot n < 2 ^ 63 → IsReady F P (done ++ placed_of ns) i → ⊥
-    waiting_probed other waits low =
-        not_ready_if_waiting F P done ns h parts.placed i p holds n walked (λ e. other (probed_is n ∙ e)) (omega (arith, low, sym (probed_is n)))
-        (subst (λ j. Contains ns (waiting j)) (probed_is n) (waits h.rising))
-
-    -- it ends at the last position, and slot i is not there either
-    pub nowhere_probed : s ≤ n → IsReady F P (done ++ placed_of ns) i → ⊥
-    nowhere_probed past = not_ready_if_nowhere F P done ns h parts.placed i p holds n (omega (arith, past, slots_are F f P es ctrl parts s long)) walked
+-- and where it is ready, none of them waits
+pub unblocked_if_ready : (F : Format) → IsFormat F → (P : Table) (es ctrl : List ℕ) → IsPartsOf F P es ctrl → (s : ℕ) → length ctrl ≡ s + 16 → s ≤ 2 ^ 63 → 0 < s
+    → (done ns : List ℕ) → IsPending F P done ns → All (λ n. n < 2 ^ 64) ns → (i : ℕ) → IsReady F P (done ++ placed_of ns) i → IsUnblocked ns (F.hash (slot_key F es i) % s) s i
+unblocked_if_ready F f P es ctrl parts s long small some done ns h fit i r =
+    let is = probed_is F f P es ctrl parts s long done ns h fit i r.pair r.holds in
+    record {
+      position = r.position;
+      in_order = omega (arith, r.in_order, slots_are F f P es ctrl parts s long);
+      slot_is = is r.position ∙ r.slot_is;
+      free = λ q l w. not_placed_if_waiting F P done ns h (probe_slot (F.hash (slot_key F es i) % s) s q) (omega (arith, small, probe_slot-lt (F.hash (slot_key F es i) % s) s q some)) w
+          (subst (Contains (done ++ placed_of ns)) (sym (is q)) (r.earlier_taken q l));
+    }

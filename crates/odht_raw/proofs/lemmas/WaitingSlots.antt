@@ -1,14 +1,11 @@
--- Slots that wait to be placed, as they are listed: the list of all occupied slots as it is made, and the index of one
--- slot in a list that rises.
-use Rattle.std.proofs.Common.{◌≡◌, ◌<◌, ◌≤◌, ◌+◌, ◌^◌, ◌∙◌, ◌⊎◌, inl, inr, ℕ, zero, suc, Bool, true, false, true≢false, not, cond, sym, ap, ap₂, subst, refl, List, [], ◌∷◌, ◌++◌, Option, Some, None, map, filter, length, take, AllPairs, slice_index, ltb, arith, Contains, ◌==◌, Bor}
+-- Slots that wait to be placed, as they are listed: the list of all occupied slots as it is made, and a list of slots
+-- that rises.
+use Rattle.std.proofs.Common.{◌≡◌, ◌<◌, ◌≤◌, ◌+◌, ◌^◌, ◌∙◌, inl, inr, ℕ, zero, suc, Bool, true, false, not, cond, sym, ap, ap₂, refl, List, [], ◌∷◌, ◌++◌, Option, Some, None, map, filter, length, take, AllPairs, slice_index, ltb, arith}
 use Rattle.std.specs.Prelude.{is_some, is_none}
-use Rattle.std.specs.Bool.{Decides}
 use Rattle.std.specs.List.{range_with_len}
-use Rattle.std.specs.List.Sorted.{IsPartitionPoint, IsPartitionedBy}
-use Rattle.std.specs.Option.{option_eq}
-use Rattle.std.specs.Slice.{IsItemAt}
-use Rattle.std.proofs.lemmas.Bool.{cases_lt, ltb-true, ltb-false, eqb-true, eq-eqb}
-use Rattle.std.proofs.lemmas.List.{take_all, take-append-le, take_more_set, length-take-le, length-take, length-map, length-set, length-append, map-append, map-id, get_or-map, get_or_default, append-nil}
+use Rattle.std.specs.List.Sorted.{IsPartitionedBy}
+use Rattle.std.proofs.lemmas.Bool.{cases_lt}
+use Rattle.std.proofs.lemmas.List.{take_all, take-append-le, take_more_set, length-take-le, length-take, length-map, length-set, length-append, map-append, map-id, get_or-map, append-nil}
 use Rattle.std.proofs.lemmas.List.Sorted.{IsPartitionedBy-ltb, IsNonDecreasingBy-from_default}
 use Rattle.std.proofs.lemmas.List.FromFn.{filter_of_map_range_with_len_more}
 use Rattle.std.proofs.Math.ListN.{set}
@@ -164,27 +161,3 @@ parted_where_rising ns slot up = IsPartitionedBy-ltb slot_of ns slot (IsNonDecre
   | inl before ↦ omega (arith, slots_rise ns up i j 0 before within)
   | inr same ↦ let e : i ≡ j = omega arith in omega (arith, ap (λ k. slot_of (slice_index ns k)) e)
 ]))
-
--- a slot that waits is listed at the first index whose slot is not below it
-pub waits_at_point : (ns : List ℕ) (slot i : ℕ) → slot < 2 ^ 63 → AreRising ns
-    → IsPartitionPoint (λ n. ltb (slot_of n) slot ≡ true) (λ n. ltb (slot_of n) slot ≡ false) ns i
-    → Contains ns (waiting slot) → (i < length ns) × (slice_index ns i ≡ waiting slot)
-waits_at_point ns slot i small up point h = go (cases_lt h.0 i) (cases_lt i h.0)
-  where
-    here : slice_index ns h.0 ≡ waiting slot
-    here = get_or_default ns h.0 0 (waiting slot) h.1 ∙ h.2
-
-    its : slot_of (slice_index ns h.0) ≡ slot
-    its = ap slot_of here ∙ slot_of-waiting slot small
-
-    go : (h.0 < i) ⊎ (i ≤ h.0) → (i < h.0) ⊎ (h.0 ≤ i) → (i < length ns) × (slice_index ns i ≡ waiting slot)
-    go (inl low) other = absurd (omega (arith, its, ltb-true _ _ (point.0 h.0 0 (omega arith) low)))
-    go (inr past) (inl before) = absurd (omega (arith, its, slots_rise ns up i h.0 0 before h.1, ltb-false _ _ (point.1 i 0 (omega arith) (omega (arith, h.1)))))
-    go (inr past) (inr after) = let same : h.0 ≡ i = omega arith in (omega (arith, h.1), subst (λ k. slice_index ns k ≡ waiting slot) same here)
-
--- what `get` finds at i is the number y exactly where the list has y at i
-pub found_at : (ns : List ℕ) (i : ℕ) (y : Bor ℕ) (o : Option (Bor ℕ)) → IsItemAt ns i o → Decides (option_eq (λ a b. a.now == b.now) o (Some y)) ((i < length ns) × (slice_index ns i ≡ y.now))
-found_at ns i y None h = (λ e. absurd (true≢false (sym e)), λ w. absurd (omega (arith, h.3, w.0)))
-found_at ns i y (Some x) h =
-    let same : slice_index ns i ≡ x.now = get_or_default ns i 0 x.now h.3.0 ∙ sym h.1 in
-    (λ e. (h.3.0, same ∙ eqb-true _ _ e), λ w. eq-eqb _ _ (sym same ∙ w.1))

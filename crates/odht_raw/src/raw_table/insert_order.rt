@@ -2,20 +2,32 @@
 ghost use Rattle.std.specs.Prelude.{◌≡◌, ◌≤◌, ◌<◌, ◌+◌, ◌^◌, ◌↔◌, ℕ, List, ◌++◌, slice_index};
 ghost use Rattle.std.specs.Prelude.{length, map, drop, IsTrue, All, AllPairs, Contains, IsPermutation};
 ghost use Rattle.odht_base.specs.Format.{format_of};
+ghost use Rattle.odht_base.specs.Load.{IsSlotCount};
 ghost use Rattle.odht_base.specs.Made.{occupied, IsMade, IsInsertOrder};
 ghost use Rattle.odht_base.specs.Ready.{IsReady};
 ghost use Rattle.odht_base.specs.Decoded.{counts_as_free};
 ghost use Rattle.odht_base.specs.Table.{Table, Pair, count, slot_count as slots_of, is_free};
 ghost use Rattle.odht_base.specs.Valid.{HoldsPair, IsPartsOf};
 ghost use Rattle.odht_raw.specs.Waiting.{waiting, placed_of, IsWaiting, AreRising, IsPending};
-ghost use Rattle.odht_raw.specs.Waiting.{AreWholeParts, IsPass};
+ghost use Rattle.odht_raw.specs.Waiting.{AreWholeParts, IsPass, IsLeft, IsFrontier, IsUnblocked};
+ghost use Rattle.odht_raw.specs.Waiting.{WaitsWithin, WaitsBehind};
 
-use super::{EntryMetadata, ProbeSeq, RawTable, is_empty_or_deleted};
+use super::{EntryMetadata, RawTable, is_empty_or_deleted};
 use crate::bytes::ByteArray;
 use crate::hash::HashFn;
+use crate::swisstable_group_query::REFERENCE_GROUP_SIZE;
 
 // What is added to a slot that waits to be placed. It is above each slot.
 const WAITING: usize = 1 << 63;
+
+// How far the slots in the probe order of a home are placed: those before a group. It keeps the first slot of the group
+// and the position of that slot.
+#[derive(Clone, Copy)]
+struct Frontier {
+    home: usize,
+    base: usize,
+    position: usize,
+}
 
 impl<'a, K: ByteArray, V: ByteArray, H: HashFn> RawTable<'a, K, V, H> {
     /// Whether inserts can make the table. Where they can, `out` is an order of its occupied slots in which they do:
@@ -25,9 +37,9 @@ impl<'a, K: ByteArray, V: ByteArray, H: HashFn> RawTable<'a, K, V, H> {
     ///
     /// A pass goes through the waiting slots in slot order, and places each whose earlier slots in the probe order of
     /// its key are all placed. Passes are made until no slot waits, or a pass places none: at most one pass more than
-    /// there are slots that wait for a slot of a higher index. Each earlier slot of a probe order is looked up by
-    /// binary search in the list of the pass, and after each pass the slots that still wait are sorted. It allocates
-    /// nothing.
+    /// there are slots that wait for a slot of a higher index. In a pass an item takes one step where its slot is in the
+    /// first group of its probe order, and else at most one or two binary searches for each group up to its own. After
+    /// each pass the slots that still wait are sorted. It allocates nothing.
     pub fn insert_order(&self, out: &mut [usize]) -> bool
         requires whole { let F = format_of K.LEN V.LEN H.hash
             in (P : Table) × AreWholeParts F P self.now (length out.old) }
@@ -70,20 +82,29 @@ impl<'a, K: ByteArray, V: ByteArray, H: HashFn> RawTable<'a, K, V, H> {
             → IsPass F P done slots.new result }
     {
         let mut placed = 0;
+        // One more than the last slot that was left to wait, or 0.
+        let mut left = 0;
         for at in 0..slots.len() {
             let slot = slots[at] - WAITING;
-            if self.is_ready(slot, slots) {
+            if self.is_ready(slot, left, slots) {
                 slots[at] = slot;
                 placed += 1;
+            } else {
+                left = slot + 1;
             }
         }
         sort_placed_first(slots, placed);
         placed
     }
 
-    // Whether no slot before this one in the probe order of its key waits.
-    fn is_ready(&self, slot: usize, slots: &[usize]) -> bool
-        requires { slot < self.now.entries.slots }
+    // Whether no slot before this one in the probe order of its key waits. In most cases the slots before it begin at
+    // its home and end next to it, so that all of them were looked at before in the pass.
+    #[inline]
+    fn is_ready(&self, slot: usize, left: usize, slots: &[usize]) -> bool
+        requires slot { slot < self.now.entries.slots }
+        requires rising { AreRising slots.now }
+        requires waits { Contains slots.now (waiting slot) }
+        requires left { IsLeft slots.now slot left }
         ensures { let F = format_of K.LEN V.LEN H.hash
             in (P : Table) (done : List ℕ) (p : Pair)
             → IsPartsOf F P self.now.entries.bytes self.now.control
@@ -93,24 +114,113 @@ impl<'a, K: ByteArray, V: ByteArray, H: HashFn> RawTable<'a, K, V, H> {
     {
         let key = self.entries.get(slot).key;
         let mask = self.entries.len() - 1;
-        let mut probe = ProbeSeq::<1>::new(H::hash(key.as_slice()) as usize, mask);
-        while probe.index() != slot {
-            if is_waiting(probe.index(), slots) || probe.is_last() {
-                return false;
-            }
-            probe.advance(mask);
+        let home = H::hash(key.as_slice()) as usize & mask;
+        if home <= slot && slot - home < REFERENCE_GROUP_SIZE {
+            left <= home
+        } else {
+            is_unblocked(&mut Frontier::at(home), slot, mask, left, slots)
         }
-        true
     }
 }
 
-// Whether the slot is one that waits. The slots of the list are in slot order.
-fn is_waiting(slot: usize, slots: &[usize]) -> bool
-    requires { slot < 2 ^ 63 }
-    ensures { AreRising slots.now → (IsTrue result ↔ Contains slots.now (waiting slot)) }
+impl Frontier {
+    // That of a home before any slot is passed.
+    #[inline]
+    fn at(home: usize) -> Frontier
+        ensures { result ≡ record { home = home; base = home; position = 0 } }
+    {
+        Frontier {
+            home,
+            base: home,
+            position: 0,
+        }
+    }
+}
+
+// Whether no slot before this one, which waits, in the probe order of the home waits. The frontier goes on to the last
+// group that this looks at.
+fn is_unblocked(
+    frontier: &mut Frontier,
+    slot: usize,
+    mask: usize,
+    left: usize,
+    slots: &[usize],
+) -> bool
+    requires slots { IsSlotCount (mask + 1) }
+    requires slot { slot < mask + 1 }
+    requires rising { AreRising slots.now }
+    requires waits { Contains slots.now (waiting slot) }
+    requires left { IsLeft slots.now slot left }
+    requires frontier { let f = frontier.old
+        in IsFrontier slots.now (mask + 1) f.home f.base f.position }
+    ensures frontier { let f = frontier.new
+        in IsFrontier slots.now (mask + 1) f.home f.base f.position }
+    ensures home { frontier.new.home ≡ frontier.old.home }
+    ensures unblocked { IsTrue result
+        ↔ IsUnblocked slots.now frontier.old.home (mask + 1) slot }
 {
-    let index = slots.partition_point(|listed| *listed % WAITING < slot);
-    slots.get(index) == Some(&(WAITING + slot))
+    'groups: loop {
+        let before = (slot + (mask + 1) - frontier.base) & mask;
+        let count = before.min(REFERENCE_GROUP_SIZE);
+        if is_any_waiting(frontier.base, count, mask, slot, left, slots) {
+            return false;
+        }
+        if before < REFERENCE_GROUP_SIZE {
+            return true;
+        }
+        frontier.position += REFERENCE_GROUP_SIZE;
+        frontier.base = (frontier.base + frontier.position) & mask;
+    }
+}
+
+// Whether one of the `count` slots from `base` on waits, around the end. Those below `slot` wait no more from `left` on.
+fn is_any_waiting(
+    base: usize,
+    count: usize,
+    mask: usize,
+    slot: usize,
+    left: usize,
+    slots: &[usize],
+) -> bool
+    requires slots { IsSlotCount (mask + 1) }
+    requires base { base < mask + 1 }
+    requires few { count ≤ 16 }
+    requires slot { slot < mask + 1 }
+    requires rising { AreRising slots.now }
+    requires left { IsLeft slots.now slot left }
+    ensures { IsTrue result ↔ WaitsBehind slots.now (mask + 1) base count }
+{
+    let end = base + count;
+    if left <= base && end <= slot {
+        return false;
+    }
+    let slot_count = mask + 1;
+    if end <= slot_count {
+        return is_range_waiting(base, end, slots);
+    }
+    if is_range_waiting(base, slot_count, slots) {
+        return true;
+    }
+    is_range_waiting(0, end - slot_count, slots)
+}
+
+// Whether a slot from `start` to before `end` waits. The slots of the list are in slot order.
+fn is_range_waiting(start: usize, end: usize, slots: &[usize]) -> bool
+    requires end { end ≤ 2 ^ 63 }
+    requires rising { AreRising slots.now }
+    ensures { IsTrue result ↔ WaitsWithin slots.now start end }
+{
+    let first = slots.partition_point(|listed| *listed % WAITING < start);
+    for at in first..slots.len() {
+        let listed = slots[at];
+        if listed % WAITING >= end {
+            return false;
+        }
+        if listed >= WAITING {
+            return true;
+        }
+    }
+    false
 }
 
 // Sorts the list, whose slots are in slot order, and of which so many are placed: these come first, and behind them

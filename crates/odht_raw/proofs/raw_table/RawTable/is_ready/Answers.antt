@@ -1,24 +1,28 @@
-use Rattle.std.proofs.Common.{◌≡◌, ◌∙◌, ◌+◌, ◌%◌, ◌<◌, ◌^◌, ℕ, true≢false, length, sym, ap, subst, arith, refl, inl, inr, Contains, All}
-use Rattle.std.proofs.lemmas.Bool.{cases_lt}
+use Rattle.std.proofs.Common.{◌≡◌, ◌∙◌, ◌+◌, ◌-◌, ◌%◌, ◌<◌, ◌^◌, ℕ, List, ◌++◌, length, bit_and, sym, ap, subst, arith, inl, inr, All}
+use Rattle.std.proofs.lemmas.Bool.{cases_lt, leb-true, le-leb}
 use Rattle.std.proofs.lemmas.List.{get_or_default}
 use Rattle.odht_base.specs.Format.{Format, IsFormat, format_of}
 use Rattle.odht_base.specs.Load.{IsSlotCount}
-use Rattle.odht_base.specs.Probe.{probe_slot}
+use Rattle.odht_base.specs.Ready.{IsReady}
+use Rattle.odht_base.specs.Table.{Pair, Table}
+use Rattle.odht_base.specs.Valid.{HoldsPair, IsPartsOf}
 use Rattle.odht_base.specs.Decoded.{slot_key}
-use Rattle.odht_base.proofs.lemmas.SlotCounts.{few_slots}
+use Rattle.odht_base.proofs.lemmas.SlotCounts.{bit_and-slots, few_slots}
 use Rattle.odht_raw.specs.Parts.{TableParts}
-use Rattle.odht_raw.specs.Waiting.{waiting}
+use Rattle.odht_raw.specs.Waiting.{placed_of, IsFrontier, IsPending, IsUnblocked}
+use Rattle.odht_raw.specs.declared.raw_table.insert_order.Frontier.{Frontier}
 use Rattle.odht_header.proofs.lemmas.Formats.{IsFormat-format_of}
-use Rattle.odht_raw.proofs.lemmas.ReadyPositions.{ready_probed, waiting_probed, nowhere_probed}
+use Rattle.odht_raw.proofs.lemmas.Frontiers.{frontier_home, unblocked_near, blocked_near}
+use Rattle.odht_raw.proofs.lemmas.ReadyPositions.{ready_unblocked, unblocked_if_ready}
 use Rattle.odht_raw.proofs.raw_table.RawTable.is_ready.Given.{Over}
-use Rattle.odht_raw.proofs.raw_table.RawTable.is_ready.Goals.{After-index, then-is_waiting-via-then-is_waiting, then-is_waiting-via-else-is_waiting+then-is_last}
+use Rattle.odht_raw.proofs.raw_table.RawTable.is_ready.Goals.{After-hash}
 use Rattle.odht_raw.proofs.raw_table.RawTable.is_ready.Goals as goal
 
 abbrev format : Over → Format
 format g = format_of g.K.ByteArray.LEN g.V.ByteArray.LEN g.H.HashFn.hash
 
--- what holds at each position
-module _ (g : Over) (c : After-index g) where
+-- what the table and the key say
+module _ (g : Over) (c : After-hash g) where
   abbrev s : ℕ
   s = c.args.self.now.entries.slots
 
@@ -37,81 +41,88 @@ module _ (g : Over) (c : After-index g) where
   small : All (λ n. n < 2 ^ 64) c.args.slots.now
   small k d l = omega (arith, c.type_inv.slots k, get_or_default c.args.slots.now k d 0 l)
 
-  -- the slot at a position of the order of the key
-  abbrev probed : ℕ → ℕ
-  probed q = probe_slot ((format g).hash (slot_key (format g) c.args.self.now.entries.bytes c.args.slot) % s) s q
+  slots : c.len-mask.result ≡ s
+  slots = c.len-mask.ensures ∙ ap (λ (t : TableParts). t.entries.slots) c.self.view_is
 
-  -- the probe's slot is that of its position
-  slot_is : c.index.result ≡ probed c.loop-probe.probe.position
-  slot_is = c.index.ensures.slot ∙ (λ i. probe_slot (c.loop-probe.invariant.home i) (c.loop-probe.invariant.mask i) c.loop-probe.probe.position)
+  -- the mask is one less
+  mask : c.len-mask.result - 1 + 1 ≡ s
+  mask = omega (arith, slots, count.least)
 
-pub returns-then-is_waiting : goal.returns-then-is_waiting
-returns-then-is_waiting g c P done p parts h holds =
-    let at = (goal.at.returns-then-is_waiting g c).After-index in
-    let v = c.loop-probe.invariant in
-    let F = format g in
-    let n = c.loop-probe.probe.position in
-    let es = c.args.self.now.entries.bytes in
-    let ctrl = c.args.self.now.control in
+  -- the home of the key
+  home_is : bit_and c.hash.result (c.len-mask.result - 1) ≡ (format g).hash (slot_key (format g) c.args.self.now.entries.bytes c.args.slot) % s
+  home_is =
+      let key : c.as_slice.result.now ≡ slot_key (format g) c.args.self.now.entries.bytes c.args.slot =
+      c.as_slice.ensures.value ∙ c.get.ensures.key_bytes ∙ ap (λ (t : TableParts). slot_key (format g) t.entries.bytes c.args.slot) c.self.view_is in
+      ap (λ n. bit_and c.hash.result (n - 1)) slots ∙ bit_and-slots c.hash.result s count ∙ ap (λ x. x % s) (c.hash.ensures ∙ ap g.H.HashFn.hash key)
+
+  module _ (P : Table) (done : List ℕ) (p : Pair) (parts : IsPartsOf (format g) P c.args.self.now.entries.bytes c.args.self.now.control)
+      (h : IsPending (format g) P done c.args.slots.now) (holds : HoldsPair P c.args.slot p) where
+    abbrev ready : Type 0
+    ready = IsReady (format g) P (done ++ placed_of c.args.slots.now) c.args.slot
+
+    abbrev free : Type 0
+    free = IsUnblocked c.args.slots.now (bit_and c.hash.result (c.len-mask.result - 1)) (c.len-mask.result - 1 + 1) c.args.slot
+
+    -- the slot is ready where none before it waits
+    ready_if_free : free → ready
+    ready_if_free u =
+        ready_unblocked (format g) fits P c.args.self.now.entries.bytes c.args.self.now.control parts s mirrored done c.args.slots.now h small c.args.slot p holds c.requires.waits
+        (subst (λ n. IsUnblocked c.args.slots.now n s c.args.slot) home_is (subst (λ n. IsUnblocked c.args.slots.now (bit_and c.hash.result (c.len-mask.result - 1)) n c.args.slot) mask u))
+
+    free_if_ready : ready → free
+    free_if_ready r =
+        subst (λ n. IsUnblocked c.args.slots.now (bit_and c.hash.result (c.len-mask.result - 1)) n c.args.slot) (sym mask)
+        (subst (λ n. IsUnblocked c.args.slots.now n s c.args.slot) (sym home_is)
+        (unblocked_if_ready (format g) fits P c.args.self.now.entries.bytes c.args.self.now.control parts s mirrored (few_slots s count) (let n = count.least in omega arith) done c.args.slots.now h small c.args.slot r))
+
+  -- the mask is that of a slot count
+  counted : IsSlotCount (c.len-mask.result - 1 + 1)
+  counted = subst IsSlotCount (sym mask) count
+
+  home_low : bit_and c.hash.result (c.len-mask.result - 1) < c.len-mask.result - 1 + 1
+  home_low = omega (arith, home_is, mask, count.least)
+
+  within : c.args.slot < c.len-mask.result - 1 + 1
+  within = omega (arith, mask, c.requires.slot)
+
+pub is_unblocked-requires : goal.is_unblocked-requires
+is_unblocked-requires g c = record {
+  slots = counted g (goal.at.is_unblocked-requires g c).After-hash;
+  slot = within g (goal.at.is_unblocked-requires g c).After-hash;
+  rising = c.requires.rising;
+  waits = c.requires.waits;
+  left = c.requires.left;
+  frontier =
+      let m = c.len-mask.result - 1 in
+      let ns = c.args.slots.now in
+      let at = (goal.at.is_unblocked-requires g c).After-hash in
+      subst (λ (f : Frontier). IsFrontier ns (m + 1) f.home f.base f.position) (sym c.at.ensures)
+      (frontier_home ns m (bit_and c.hash.result m) (counted g at) (home_low g at));
+}
+
+pub returns-then-slot-home-lt-REFERENCE_GROUP_SIZE : goal.returns-then-slot-home-lt-REFERENCE_GROUP_SIZE
+returns-then-slot-home-lt-REFERENCE_GROUP_SIZE g c P done p parts h holds =
+    let at = (goal.at.returns-then-slot-home-lt-REFERENCE_GROUP_SIZE g c).After-hash in
+    let m = c.len-mask.result - 1 in
     let ns = c.args.slots.now in
-    let here = c.index-in-loop-probe.ensures.slot ∙ (λ i. probe_slot (v.home i) (v.mask i) n) in (
-      λ t. absurd (true≢false (sym t)),
-      λ r. absurd (elim c.then-is_waiting.branch [
-        | then-is_waiting-via-then-is_waiting w ↦
-            waiting_probed F (fits g at) P es ctrl parts (s g at) (mirrored g at) done ns h (small g at) c.args.slot p holds
-            n v.others v.passed (λ e. c.loop-probe-test.true (slot_is g at ∙ e))
-            (λ rising. subst (λ j. Contains ns (waiting j)) here ((c.is_waiting.ensures rising).0 w.if-is_waiting.true))
-            (omega (arith, here, c.index-in-loop-probe.ensures.below, v.mask, few_slots (s g at) (count g at))) r
-        | then-is_waiting-via-else-is_waiting+then-is_last w ↦
-            let last = w.is_last.ensures.0 w.if-is_last.true in
-            nowhere_probed F (fits g at) P es ctrl parts (s g at) (mirrored g at) done ns h (small g at) c.args.slot p holds
-            (n + 1)
-            (λ q l e. elim (cases_lt q n) [
-              | inl before ↦ v.others q before e
-              | inr now ↦ let same : n ≡ q = omega (arith, now, l) in c.loop-probe-test.true (slot_is g at ∙ ap (probed g at) same ∙ e)
-            ])
-            (λ rising q l x. elim (cases_lt q n) [
-              | inl before ↦ v.passed rising q before x
-              | inr now ↦
-                  let same : q ≡ n = omega (arith, now, l) in
-                  true≢false (sym ((c.is_waiting.ensures rising).1 (subst (λ j. Contains ns (waiting j)) (ap (probed g at) same ∙ sym here) x)) ∙ w.if-is_waiting.false)
-            ])
-            (omega (arith, last, v.mask)) r
+    let b = bit_and c.hash.result m in
+    let after = c.if-home-slot.true in
+    let near = c.if-slot-home-lt-REFERENCE_GROUP_SIZE.true in (
+      λ t. ready_if_free g at P done p parts h holds
+          (unblocked_near ns m b c.args.slot c.args.left (counted g at) c.requires.left (within g at) after near c.requires.waits (leb-true c.args.left b t)),
+      λ r. le-leb c.args.left b (elim (cases_lt b c.args.left) [
+        | inl past ↦ absurd (blocked_near ns m b c.args.slot c.args.left (counted g at) c.requires.left (within g at) after near c.requires.waits past (free_if_ready g at P done p parts h holds r))
+        | inr low ↦ low
       ]),
     )
 
-pub loop-probe-preserved : goal.loop-probe-preserved
-loop-probe-preserved g c =
-    let at = (goal.at.loop-probe-preserved g c).After-index in
-    let v = c.loop-probe.invariant in
-    let place : c.advance.new.self.position ≡ c.loop-probe.probe.position + 1 = ap (λ q. q.position) c.advance.ensures in
-    let here = c.index-in-loop-probe.ensures.slot ∙ (λ i. probe_slot (v.home i) (v.mask i) c.loop-probe.probe.position) in
-    record {
-      home = ap (λ q. q.home) c.advance.ensures ∙ v.home;
-      mask = ap (λ q. q.mask + 1) c.advance.ensures ∙ v.mask;
-      within = elim (cases_lt (c.loop-probe.probe.position + 1) (s g at)) [
-        | inl low ↦ omega (arith, place, low)
-        | inr past ↦ absurd (true≢false (sym (c.is_last.ensures.1 (omega (arith, past, v.mask))) ∙ c.if-is_last.false))
-      ];
-      others = λ q l e. elim (cases_lt q c.loop-probe.probe.position) [
-        | inl before ↦ v.others q before e
-        | inr now ↦
-            let same : c.loop-probe.probe.position ≡ q = omega (arith, now, l, place) in
-            c.loop-probe-test.true (slot_is g at ∙ ap (probed g at) same ∙ e)
-      ];
-      passed = λ rising q l w. elim (cases_lt q c.loop-probe.probe.position) [
-        | inl before ↦ v.passed rising q before w
-        | inr now ↦
-            let same : q ≡ c.loop-probe.probe.position = omega (arith, now, l, place) in
-            true≢false (sym ((c.is_waiting.ensures rising).1 (subst (λ j. Contains c.args.slots.now (waiting j)) (ap (probed g at) same ∙ sym here) w)) ∙ c.if-is_waiting.false)
-      ];
-    }
-
-pub returns : goal.returns
-returns g c P done p parts h holds =
-    let at = (goal.at.returns g c).After-index in
-    let v = c.loop-probe.invariant in (
-      λ t. ready_probed (format g) (fits g at) P c.args.self.now.entries.bytes c.args.self.now.control parts (s g at) (mirrored g at) done c.args.slots.now h (small g at) c.args.slot p holds
-          c.loop-probe.probe.position v.others v.passed v.within (sym (slot_is g at) ∙ c.loop-probe-test.false),
-      λ r. refl,
+pub returns-else-home-slot : goal.returns-else-home-slot
+returns-else-home-slot g c P done p parts h holds =
+    let at = (goal.at.returns-else-home-slot g c).After-hash in
+    let m = c.len-mask.result - 1 in
+    let is : c.at.result.home ≡ bit_and c.hash.result m = ap (λ (f : Frontier). f.home) c.at.ensures in (
+      λ t. ready_if_free g at P done p parts h holds
+          (subst (λ b. IsUnblocked c.args.slots.now b (m + 1) c.args.slot) is (c.is_unblocked.ensures.unblocked.0 t)),
+      λ r. c.is_unblocked.ensures.unblocked.1
+          (subst (λ b. IsUnblocked c.args.slots.now b (m + 1) c.args.slot) (sym is) (free_if_ready g at P done p parts h holds r)),
     )

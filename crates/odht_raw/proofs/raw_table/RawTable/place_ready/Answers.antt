@@ -1,11 +1,15 @@
-use Rattle.std.proofs.Common.{◌∙◌, ◌<◌, length, sym, true≢false, rules, arith}
+use Rattle.std.proofs.Common.{◌∙◌, ◌<◌, ◌≤◌, ◌^◌, ℕ, length, get_or, sym, true≢false, rules, arith}
 use Rattle.odht_raw.proofs.lemmas.PlacedFirst.{gone_none, gone_left, gone_placed, next_waits, next_holds, passed_none, passed_left, passed_placed, passed_stuck, sorted_few, sorted_pending, sorted_waiting}
-use Rattle.odht_raw.proofs.raw_table.RawTable.place_ready.Goals.{then-is_ready, else-is_ready}
+use Rattle.odht_raw.specs.Waiting.{AreRising}
+use Rattle.odht_raw.proofs.lemmas.LeftSlots.{left_none, left_placed, left_below, left_next, next_listed}
+use Rattle.odht_raw.proofs.raw_table.RawTable.place_ready.Given.{Over}
+use Rattle.odht_raw.proofs.raw_table.RawTable.place_ready.Goals.{In-loop-at, then-is_ready, else-is_ready}
 use Rattle.odht_raw.proofs.raw_table.RawTable.place_ready.Goals as goal
 
 pub loop-at-init : goal.loop-at-init
 loop-at-init g c = (
   gone_none _ _ c.requires.waiting (λ k. let fits = c.type_inv.slots k in search rules),
+  left_none _,
   λ P done parts pending. passed_none _ P done _ pending,
 )
 
@@ -14,10 +18,37 @@ overflow_sub-slot g c =
     let l : c.loop-at.at < length c.loop-at.slots = omega (arith, c.loop-at-test.true, c.loop-at.auto.slots) in
     (next_waits c.loop-at.invariant.0 l).0
 
-pub is_ready-requires-after_bounds : goal.is_ready-requires-after_bounds
-is_ready-requires-after_bounds g c κs within =
-    let l : c.loop-at.at < length c.loop-at.slots = omega (arith, c.loop-at-test.true, c.loop-at.auto.slots) in
-    (next_waits c.loop-at.invariant.0 l).1
+-- what is known of the next slot
+module _ (g : Over) (c : In-loop-at g) where
+  inside : c.loop-at.at < length c.loop-at.slots
+  inside = omega (arith, c.loop-at-test.true, c.loop-at.auto.slots)
+
+  rising : AreRising c.loop-at.slots
+  rising =
+      let known = c.requires.pending in
+      (c.loop-at.invariant.2 known.0 known.1 known.2 known.3).pending.rising
+
+  fit : (k : ℕ) → k < length c.loop-at.slots → get_or c.loop-at.slots k 0 < 2 ^ 64
+  fit k l = c.loop-at.invariant.0.fit k 0 l
+
+  high : 2 ^ 63 ≤ get_or c.loop-at.slots c.loop-at.at 0
+  high = (next_waits c.loop-at.invariant.0 inside).0
+
+pub is_ready-requires-clause-slot : goal.is_ready-requires-clause-slot
+is_ready-requires-clause-slot g c κs within =
+    let at = (goal.at.is_ready-requires-clause-slot g c).In-loop-at in (next_waits c.loop-at.invariant.0 (inside g at)).1
+
+pub is_ready-requires-clause-rising : goal.is_ready-requires-clause-rising
+is_ready-requires-clause-rising g c κs within =
+    let at = (goal.at.is_ready-requires-clause-rising g c).In-loop-at in rising g at
+
+pub is_ready-requires-clause-waits : goal.is_ready-requires-clause-waits
+is_ready-requires-clause-waits g c κs within =
+    let at = (goal.at.is_ready-requires-clause-waits g c).In-loop-at in next_listed _ (rising g at) _ _ c.loop-at.invariant.1 (fit g at) (inside g at) (high g at)
+
+pub is_ready-requires-clause-left : goal.is_ready-requires-clause-left
+is_ready-requires-clause-left g c κs within =
+    let at = (goal.at.is_ready-requires-clause-left g c).In-loop-at in left_below _ (rising g at) _ _ c.loop-at.invariant.1 (fit g at) (inside g at) (high g at)
 
 pub overflow_add-placed : goal.overflow_add-placed
 overflow_add-placed g c =
@@ -28,19 +59,22 @@ overflow_add-placed g c =
 pub loop-at-preserved : goal.loop-at-preserved
 loop-at-preserved g c =
     let gone = c.loop-at.invariant.0 in
+    let at = (goal.at.loop-at-preserved g c).In-loop-at in
     let l : c.loop-at.at < length c.loop-at.slots = omega (arith, c.loop-at-test.true, c.loop-at.auto.slots) in
     elim c.if-is_ready.branch [
-      | then-is_ready w ↦ rw (w.slots-is, w.placed-is) (
+      | then-is_ready w ↦ rw (w.slots-is, w.placed-is, w.left-is) (
         gone_placed gone l,
+        left_placed _ _ _ _ c.loop-at.invariant.1 l (omega (arith, gone.fit c.loop-at.at 0 l)),
         λ P done parts pending.
-            let passed = c.loop-at.invariant.1 P done parts pending in
+            let passed = c.loop-at.invariant.2 P done parts pending in
             let held = next_holds gone l passed.pending in
             passed_placed gone l passed ((c.is_ready.ensures P done held.0 parts passed.pending held.1).0 w.if-is_ready.true),
       )
-      | else-is_ready w ↦ rw (w.slots-is, w.placed-is) (
+      | else-is_ready w ↦ rw (w.slots-is, w.placed-is, w.left-is) (
         gone_left gone,
+        left_next _ (rising g at) _ _ c.loop-at.invariant.1 (fit g at) l (high g at),
         λ P done parts pending.
-            let passed = c.loop-at.invariant.1 P done parts pending in
+            let passed = c.loop-at.invariant.2 P done parts pending in
             let held = next_holds gone l passed.pending in
             passed_left gone l passed (λ r. true≢false (sym ((c.is_ready.ensures P done held.0 parts passed.pending held.1).1 r) ∙ w.if-is_ready.false)),
       )
@@ -49,18 +83,18 @@ loop-at-preserved g c =
 pub returns-clause-few : goal.returns-clause-few
 returns-clause-few g c =
     let known = c.requires.pending in
-    let passed = c.loop-at.invariant.1 known.0 known.1 known.2 known.3 in
+    let passed = c.loop-at.invariant.2 known.0 known.1 known.2 known.3 in
     sorted_few c.loop-at.invariant.0 passed.pending.rising c.sort_placed_first.ensures.permutation (c.sort_placed_first.ensures.rising passed.pending.rising)
 
 pub returns-clause-waiting : goal.returns-clause-waiting
 returns-clause-waiting g c =
     let known = c.requires.pending in
-    let passed = c.loop-at.invariant.1 known.0 known.1 known.2 known.3 in
+    let passed = c.loop-at.invariant.2 known.0 known.1 known.2 known.3 in
     sorted_waiting c.loop-at.invariant.0 passed.pending.rising c.sort_placed_first.ensures.permutation (c.sort_placed_first.ensures.rising passed.pending.rising)
 
 pub returns-clause-pass : goal.returns-clause-pass
 returns-clause-pass g c P done parts pending =
-    let passed = c.loop-at.invariant.1 P done parts pending in
+    let passed = c.loop-at.invariant.2 P done parts pending in
     record {
       pending = sorted_pending c.loop-at.invariant.0 passed.pending.rising c.sort_placed_first.ensures.permutation (c.sort_placed_first.ensures.rising passed.pending.rising) passed.pending;
       stuck = λ none. passed_stuck pending passed c.loop-at-test.false none;
