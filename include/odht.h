@@ -376,9 +376,11 @@ typedef struct odht_view {
  *     bytes are valid, and slots_len is not the number of items.
  *     It makes the whole check first, as odht_S_check does. Then it goes over the items
  *     in passes: at most one more than there are items whose insert has to wait for
- *     that of an item in a later slot. In a pass each waiting item looks for the slots
- *     before its own in its probe order, by a binary search among the waiting items;
- *     after the pass those that still wait are sorted. It allocates nothing.
+ *     that of an item in a later slot. In a pass an item takes one step where its slot
+ *     is in the first group of its probe order. Else it takes one or two binary searches
+ *     among the waiting items for each group up to its own, but for those that were
+ *     passed before from the same slot on, as far as that is kept, for 64 such slots.
+ *     After the pass those that still wait are sorted. It allocates nothing.
  *
  * odht_S_grow(bytes, bytes_len, out, out_len, *len)
  *     Writes the table that this one grows into to out: with slots for twice as many

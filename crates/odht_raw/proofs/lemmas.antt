@@ -73,6 +73,8 @@ pub mod WaitingRanges
 pub mod Frontiers
 -- the last slot that a pass has left to wait
 pub mod LeftSlots
+-- frontiers stay where fewer slots wait
+pub mod KeptFrontiers
 -- that search from its start to its end
 pub mod PendingSlots
 -- one insert with room for so many new entries

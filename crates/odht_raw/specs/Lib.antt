@@ -44,5 +44,7 @@ pub mod Dumps
 pub mod PartsMut
 -- the slots that wait while an order of inserts is searched for
 pub mod Waiting
+-- and how far those in the probe orders of some homes are placed
+pub mod Frontiers
 -- where a search is expected to end
 pub mod Expected

@@ -3,14 +3,17 @@ use Rattle.std.proofs.Common.{◌≡◌, ◌<◌, ◌≤◌, ◌+◌, ◌%◌, i
 use Rattle.std.proofs.lemmas.Bool.{cases_lt}
 use Rattle.std.proofs.lemmas.List.Sorted.{IsPermutation-refl, IsPermutation-append_comm, length_permutation}
 use Rattle.odht_base.specs.Image.{entries, controls}
+use Rattle.odht_base.specs.Probe.{probe_slot}
 use Rattle.odht_base.specs.Ready.{IsSoFar}
 use Rattle.odht_base.specs.Valid.{IsValid}
 use Rattle.odht_base.proofs.examples.Configs.{direct_config}
 use Rattle.odht_base.proofs.examples.InsertOrders.{fifteen_first, fifteen_slots, fifteen_so_far, zero_so_far_refused}
 use Rattle.odht_base.proofs.lemmas.Placed.{IsPlaced-tests}
 use Rattle.odht_base.proofs.lemmas.SoFar.{so_far_none}
+use Rattle.odht_raw.specs.Frontiers.{AreFrontiers}
 use Rattle.odht_raw.specs.Parts.{TableParts}
-use Rattle.odht_raw.specs.Waiting.{waiting, slot_of, placed_of, IsWaiting, AreRising, WaitsWithin, WaitsBehind, IsLeft, IsPending, AreWholeParts}
+use Rattle.odht_raw.specs.Waiting.{waiting, slot_of, placed_of, IsWaiting, AreRising, WaitsWithin, WaitsBehind, IsLeft, IsFrontier, IsUnblocked, IsPending, AreWholeParts}
+use Rattle.odht_raw.specs.declared.raw_table.insert_order.Frontier.{Frontier}
 use Rattle.odht_header.proofs.examples.Opened.{opened}
 
 -- ---- lists of slots
@@ -69,6 +72,34 @@ left = (record { low = lit≤ tt; last = λ l. (1, lit< tt, refl); none = λ j f
       | inl first ↦ let is : 0 ≡ w.0 = omega (arith, first) in omega (arith, w.2, ap (λ k. get_or some k (waiting j)) is)
       | inr second ↦ let is : 1 ≡ w.0 = omega (arith, second, w.1) in omega (arith, w.2, from, ap (λ k. get_or some k (waiting j)) is)
     ]
+
+-- ---- probe orders
+-- of home 14 among sixteen slots slot 0 is the third, and where it alone waits none before it does
+pub unblocked : IsUnblocked (waiting 0 ∷ []) 14 16 0
+unblocked = record {
+  position = 2;
+  in_order = lit< tt;
+  slot_is = refl;
+  free = λ q l w. elim (cases_lt q 1) [
+    | inl first ↦ let is : q ≡ 0 = omega (arith, first) in other 14 (lit< tt) (subst (λ k. Contains (waiting 0 ∷ []) (waiting (probe_slot 14 16 k))) is w)
+    | inr second ↦ let is : q ≡ 1 = omega (arith, second, l) in other 15 (lit< tt) (subst (λ k. Contains (waiting 0 ∷ []) (waiting (probe_slot 14 16 k))) is w)
+  ];
+}
+  where
+    other : (j : ℕ) → 0 < j → Contains (waiting 0 ∷ []) (waiting j) → ⊥
+    other j above w =
+        let first : 0 ≡ w.0 = omega (arith, w.1) in
+        omega (arith, w.2, above, ap (λ k. get_or (waiting 0 ∷ []) k (waiting j)) first)
+
+-- of home 5 among 32 slots none is passed; its second group begins at slot 21, but slot 5 waits
+pub frontier : AreFrontiers some 32 (record { home = 5; base = 5; position = 0 } ∷ []) × (IsFrontier some 32 5 21 16 → ⊥)
+frontier = (
+  λ k d l.
+      let first : 0 ≡ k = omega (arith, l) in
+      subst (λ n. let f : Frontier = get_or (record { home = 5; base = 5; position = 0 } ∷ []) n d in IsFrontier some 32 f.home f.base f.position) first
+      (record { home_within = lit< tt; aligned = refl; within = lit≤ tt; base_is = refl; free = λ q low. absurd (omega (arith, low)) }),
+  λ h. h.free 0 (lit< tt) (1, lit< tt, refl),
+)
 
 -- ---- a search
 -- at its start both slots wait

@@ -8,6 +8,7 @@ ghost use Rattle.odht_base.specs.Ready.{IsReady};
 ghost use Rattle.odht_base.specs.Decoded.{counts_as_free};
 ghost use Rattle.odht_base.specs.Table.{Table, Pair, count, slot_count as slots_of, is_free};
 ghost use Rattle.odht_base.specs.Valid.{HoldsPair, IsPartsOf};
+ghost use Rattle.odht_raw.specs.Frontiers.{AreFrontiers};
 ghost use Rattle.odht_raw.specs.Waiting.{waiting, placed_of, IsWaiting, AreRising, IsPending};
 ghost use Rattle.odht_raw.specs.Waiting.{AreWholeParts, IsPass, IsLeft, IsFrontier, IsUnblocked};
 ghost use Rattle.odht_raw.specs.Waiting.{WaitsWithin, WaitsBehind};
@@ -19,6 +20,13 @@ use crate::swisstable_group_query::REFERENCE_GROUP_SIZE;
 
 // What is added to a slot that waits to be placed. It is above each slot.
 const WAITING: usize = 1 << 63;
+
+// How many frontiers are kept from one search to the next. Few homes have long searches at a time, and one that is
+// forgotten is only found again.
+const FRONTIERS: usize = 64;
+
+// An odd number, times which homes that share their low bits differ in the highest.
+const SPREAD: usize = 0x9E37_79B9_7F4A_7C15;
 
 // How far the slots in the probe order of a home are placed: those before a group. It keeps the first slot of the group
 // and the position of that slot.
@@ -37,9 +45,10 @@ impl<'a, K: ByteArray, V: ByteArray, H: HashFn> RawTable<'a, K, V, H> {
     ///
     /// A pass goes through the waiting slots in slot order, and places each whose earlier slots in the probe order of
     /// its key are all placed. Passes are made until no slot waits, or a pass places none: at most one pass more than
-    /// there are slots that wait for a slot of a higher index. In a pass an item takes one step where its slot is in the
-    /// first group of its probe order, and else at most one or two binary searches for each group up to its own. After
-    /// each pass the slots that still wait are sorted. It allocates nothing.
+    /// there are slots that wait for a slot of a higher index. In a pass a slot in the first group of its probe order
+    /// takes one step. Any other takes one or two binary searches in the list of the pass for each group up to its own,
+    /// but for those that were passed before from the same home, as far as that is kept, for 64 homes. After each pass
+    /// the slots that still wait are sorted. It allocates nothing.
     pub fn insert_order(&self, out: &mut [usize]) -> bool
         requires whole { let F = format_of K.LEN V.LEN H.hash
             in (P : Table) × AreWholeParts F P self.now (length out.old) }
@@ -54,9 +63,10 @@ impl<'a, K: ByteArray, V: ByteArray, H: HashFn> RawTable<'a, K, V, H> {
             → (IsTrue result ↔ IsMade F P) }
     {
         list_occupied(self.control, self.entries.len(), out);
+        let mut frontiers = [Frontier::at(0); FRONTIERS];
         let mut placed = 0;
         while placed < out.len() {
-            let ready = self.place_ready(&mut out[placed..]);
+            let ready = self.place_ready(&mut out[placed..], &mut frontiers);
             if ready == 0 {
                 return false;
             }
@@ -67,7 +77,8 @@ impl<'a, K: ByteArray, V: ByteArray, H: HashFn> RawTable<'a, K, V, H> {
 
     // Goes once through the slots that wait, and places each that is ready by then. At the end the placed slots come
     // first, in slot order, and after them the others. Answers how many were placed.
-    fn place_ready(&self, slots: &mut [usize]) -> usize
+    fn place_ready(&self, slots: &mut [usize], frontiers: &mut [Frontier; FRONTIERS]) -> usize
+        requires frontiers { AreFrontiers slots.old self.now.entries.slots frontiers.old }
         requires waiting { All (IsWaiting self.now.entries.slots) slots.old }
         requires pending { let F = format_of K.LEN V.LEN H.hash
             in (P : Table) × (done : List ℕ)
@@ -80,13 +91,15 @@ impl<'a, K: ByteArray, V: ByteArray, H: HashFn> RawTable<'a, K, V, H> {
             → IsPartsOf F P self.now.entries.bytes self.now.control
             → IsPending F P done slots.old
             → IsPass F P done slots.new result }
+        ensures frontiers { AreFrontiers (drop result slots.new) self.now.entries.slots
+            frontiers.new }
     {
         let mut placed = 0;
         // One more than the last slot that was left to wait, or 0.
         let mut left = 0;
         for at in 0..slots.len() {
             let slot = slots[at] - WAITING;
-            if self.is_ready(slot, left, slots) {
+            if self.is_ready(slot, left, slots, frontiers) {
                 slots[at] = slot;
                 placed += 1;
             } else {
@@ -100,12 +113,20 @@ impl<'a, K: ByteArray, V: ByteArray, H: HashFn> RawTable<'a, K, V, H> {
     // Whether no slot before this one in the probe order of its key waits. In most cases the slots before it begin at
     // its home and end next to it, so that all of them were looked at before in the pass.
     #[inline]
-    fn is_ready(&self, slot: usize, left: usize, slots: &[usize]) -> bool
+    fn is_ready(
+        &self,
+        slot: usize,
+        left: usize,
+        slots: &[usize],
+        frontiers: &mut [Frontier; FRONTIERS],
+    ) -> bool
         requires slot { slot < self.now.entries.slots }
         requires rising { AreRising slots.now }
         requires waits { Contains slots.now (waiting slot) }
         requires left { IsLeft slots.now slot left }
-        ensures { let F = format_of K.LEN V.LEN H.hash
+        requires frontiers { AreFrontiers slots.now self.now.entries.slots frontiers.old }
+        ensures frontiers { AreFrontiers slots.now self.now.entries.slots frontiers.new }
+        ensures ready { let F = format_of K.LEN V.LEN H.hash
             in (P : Table) (done : List ℕ) (p : Pair)
             → IsPartsOf F P self.now.entries.bytes self.now.control
             → IsPending F P done slots.now
@@ -118,7 +139,7 @@ impl<'a, K: ByteArray, V: ByteArray, H: HashFn> RawTable<'a, K, V, H> {
         if home <= slot && slot - home < REFERENCE_GROUP_SIZE {
             left <= home
         } else {
-            is_unblocked(&mut Frontier::at(home), slot, mask, left, slots)
+            is_unblocked_from(home, slot, mask, left, slots, frontiers)
         }
     }
 }
@@ -135,6 +156,36 @@ impl Frontier {
             position: 0,
         }
     }
+}
+
+// Whether no slot before this one, which waits, in the probe order of the home waits. What an earlier search from this
+// home has passed is placed, so it goes on from there where that is kept.
+fn is_unblocked_from(
+    home: usize,
+    slot: usize,
+    mask: usize,
+    left: usize,
+    slots: &[usize],
+    frontiers: &mut [Frontier; FRONTIERS],
+) -> bool
+    requires slots { IsSlotCount (mask + 1) }
+    requires home { home < mask + 1 }
+    requires slot { slot < mask + 1 }
+    requires rising { AreRising slots.now }
+    requires waits { Contains slots.now (waiting slot) }
+    requires left { IsLeft slots.now slot left }
+    requires frontiers { AreFrontiers slots.now (mask + 1) frontiers.old }
+    ensures frontiers { AreFrontiers slots.now (mask + 1) frontiers.new }
+    ensures unblocked { IsTrue result ↔ IsUnblocked slots.now home (mask + 1) slot }
+{
+    let index = home.wrapping_mul(SPREAD) >> 58;
+    let mut frontier = frontiers[index];
+    if frontier.home != home {
+        frontier = Frontier::at(home);
+    }
+    let result = is_unblocked(&mut frontier, slot, mask, left, slots);
+    frontiers[index] = frontier;
+    result
 }
 
 // Whether no slot before this one, which waits, in the probe order of the home waits. The frontier goes on to the last

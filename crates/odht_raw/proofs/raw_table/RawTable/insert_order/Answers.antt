@@ -2,14 +2,17 @@ use Rattle.std.proofs.Common.{◌≡◌, ◌∙◌, ◌+◌, ◌-◌, ◌^◌, �
 use Rattle.std.proofs.lemmas.List.{take_all, length-drop}
 use borrow.Rule.Slice.PartMut.{put_mid}
 use Rattle.odht_base.specs.Format.{Format, IsFormat, format_of}
+use Rattle.odht_base.specs.Load.{IsSlotCount}
 use Rattle.odht_base.specs.Made.{occupied}
 use Rattle.odht_base.specs.Decoded.{counts_as_free}
 use Rattle.odht_base.specs.Table.{Table, slot_count, is_free}
 use Rattle.odht_base.proofs.lemmas.MadeTables.{IsMade-IsInsertOrder}
 use Rattle.odht_base.proofs.lemmas.SlotCounts.{few_slots}
 use Rattle.odht_raw.specs.Parts.{TableParts}
+use Rattle.odht_raw.specs.Frontiers.{AreFrontiers}
 use Rattle.odht_raw.specs.Waiting.{waiting, IsWaiting, IsPending, AreWholeParts}
 use Rattle.odht_header.proofs.lemmas.Formats.{IsFormat-format_of}
+use Rattle.odht_raw.proofs.lemmas.KeptFrontiers.{first_frontiers}
 use Rattle.odht_raw.proofs.lemmas.PartCells.{slots_are, byte_is}
 use Rattle.odht_raw.proofs.lemmas.PendingSlots.{all_wait, all_pending, ended-length, ended-take, ended-drop, order_found, order_missing}
 use Rattle.odht_raw.proofs.raw_table.RawTable.insert_order.Given.{Over}
@@ -28,6 +31,9 @@ module _ (g : Over) (c : After-list_occupied g) where
 
   mirrored : length c.args.self.now.control ≡ c.args.self.now.entries.slots + 16
   mirrored = subst (λ (t : TableParts). length t.control ≡ t.entries.slots + 16) c.self.view_is c.self.invariant.mirrored
+
+  counted : IsSlotCount c.args.self.now.entries.slots
+  counted = subst (λ (t : TableParts). IsSlotCount t.entries.slots) c.self.view_is c.self.invariant.slots
 
   slots : c.len.result ≡ c.args.self.now.entries.slots
   slots = c.len.ensures ∙ ap (λ (t : TableParts). t.entries.slots) c.self.view_is
@@ -54,6 +60,7 @@ loop-placed-init g c =
     record {
       within = omega arith;
       waits = subst (λ s. All (IsWaiting s) c.list_occupied.new.out) (sym (as_many g at P whole)) waits;
+      frontiers = first_frontiers (drop 0 c.list_occupied.new.out) c.args.self.now.entries.slots 64 c.at-frontiers.result (counted g at) c.at-frontiers.ensures;
       pending = λ Q is. subst (IsPending (format g) Q []) (sym (list g at Q is)) (all_pending Q (small g at Q is) (format g));
     }
 
@@ -64,6 +71,10 @@ rest xs n = take_all (length xs - n) (drop n xs) (omega (arith, length-drop n xs
 pub place_ready-ready-requires-clause-waiting : goal.place_ready-ready-requires-clause-waiting
 place_ready-ready-requires-clause-waiting g c κs within =
     subst (All (IsWaiting c.args.self.now.entries.slots)) (sym (rest c.loop-placed.out c.loop-placed.placed)) c.loop-placed.invariant.waits
+
+pub place_ready-ready-requires-clause-frontiers : goal.place_ready-ready-requires-clause-frontiers
+place_ready-ready-requires-clause-frontiers g c κs within =
+    subst (λ ns. AreFrontiers ns c.args.self.now.entries.slots c.loop-placed.frontiers) (sym (rest c.loop-placed.out c.loop-placed.placed)) c.loop-placed.invariant.frontiers
 
 pub place_ready-ready-requires-clause-pending : goal.place_ready-ready-requires-clause-pending
 place_ready-ready-requires-clause-pending g c κs within =
@@ -96,6 +107,7 @@ loop-placed-preserved g c =
     record {
       within = omega (arith, ended-length out left n v.within, e.few);
       waits = subst (All (IsWaiting c.args.self.now.entries.slots)) (sym (ended-drop out left n v.within ready e.few)) e.waiting;
+      frontiers = subst (λ ns. AreFrontiers ns c.args.self.now.entries.slots c.place_ready-ready.new.frontiers) (sym (ended-drop out left n v.within ready e.few)) e.frontiers;
       pending = λ P whole.
           subst (λ done. IsPending (format g) P done (drop (n + ready) (put_mid n (length out - n) out left))) (sym (ended-take out left n v.within ready e.few))
           (subst (IsPending (format g) P (take n out ++ take ready left)) (sym (ended-drop out left n v.within ready e.few))

@@ -9,10 +9,10 @@ use Rattle.odht_base.specs.Valid.{HoldsPair, IsPartsOf}
 use Rattle.odht_base.specs.Decoded.{slot_key}
 use Rattle.odht_base.proofs.lemmas.SlotCounts.{bit_and-slots, few_slots}
 use Rattle.odht_raw.specs.Parts.{TableParts}
-use Rattle.odht_raw.specs.Waiting.{placed_of, IsFrontier, IsPending, IsUnblocked}
-use Rattle.odht_raw.specs.declared.raw_table.insert_order.Frontier.{Frontier}
+use Rattle.odht_raw.specs.Frontiers.{AreFrontiers}
+use Rattle.odht_raw.specs.Waiting.{placed_of, IsPending, IsUnblocked}
 use Rattle.odht_header.proofs.lemmas.Formats.{IsFormat-format_of}
-use Rattle.odht_raw.proofs.lemmas.Frontiers.{frontier_home, unblocked_near, blocked_near}
+use Rattle.odht_raw.proofs.lemmas.Frontiers.{unblocked_near, blocked_near}
 use Rattle.odht_raw.proofs.lemmas.ReadyPositions.{ready_unblocked, unblocked_if_ready}
 use Rattle.odht_raw.proofs.raw_table.RawTable.is_ready.Given.{Over}
 use Rattle.odht_raw.proofs.raw_table.RawTable.is_ready.Goals.{After-hash}
@@ -85,24 +85,23 @@ module _ (g : Over) (c : After-hash g) where
   within : c.args.slot < c.len-mask.result - 1 + 1
   within = omega (arith, mask, c.requires.slot)
 
-pub is_unblocked-requires : goal.is_unblocked-requires
-is_unblocked-requires g c = record {
-  slots = counted g (goal.at.is_unblocked-requires g c).After-hash;
-  slot = within g (goal.at.is_unblocked-requires g c).After-hash;
-  rising = c.requires.rising;
-  waits = c.requires.waits;
-  left = c.requires.left;
-  frontier =
-      let m = c.len-mask.result - 1 in
-      let ns = c.args.slots.now in
-      let at = (goal.at.is_unblocked-requires g c).After-hash in
-      subst (λ (f : Frontier). IsFrontier ns (m + 1) f.home f.base f.position) (sym c.at.ensures)
-      (frontier_home ns m (bit_and c.hash.result m) (counted g at) (home_low g at));
-}
+-- for the masks of the search and for the table, the slot counts are the same
+pub is_unblocked_from-requires : goal.is_unblocked_from-requires
+is_unblocked_from-requires g c =
+    let at = (goal.at.is_unblocked_from-requires g c).After-hash in
+    record {
+      slots = counted g at;
+      home = home_low g at;
+      slot = within g at;
+      rising = c.requires.rising;
+      waits = c.requires.waits;
+      left = c.requires.left;
+      frontiers = subst (λ n. AreFrontiers c.args.slots.now n c.args.frontiers.now) (sym (mask g at)) c.requires.frontiers;
+    }
 
-pub returns-then-slot-home-lt-REFERENCE_GROUP_SIZE : goal.returns-then-slot-home-lt-REFERENCE_GROUP_SIZE
-returns-then-slot-home-lt-REFERENCE_GROUP_SIZE g c P done p parts h holds =
-    let at = (goal.at.returns-then-slot-home-lt-REFERENCE_GROUP_SIZE g c).After-hash in
+pub returns-then-slot-home-lt-REFERENCE_GROUP_SIZE-clause-ready : goal.returns-then-slot-home-lt-REFERENCE_GROUP_SIZE-clause-ready
+returns-then-slot-home-lt-REFERENCE_GROUP_SIZE-clause-ready g c P done p parts h holds =
+    let at = (goal.at.returns-then-slot-home-lt-REFERENCE_GROUP_SIZE-clause-ready g c).After-hash in
     let m = c.len-mask.result - 1 in
     let ns = c.args.slots.now in
     let b = bit_and c.hash.result m in
@@ -116,13 +115,13 @@ returns-then-slot-home-lt-REFERENCE_GROUP_SIZE g c P done p parts h holds =
       ]),
     )
 
-pub returns-else-home-slot : goal.returns-else-home-slot
-returns-else-home-slot g c P done p parts h holds =
-    let at = (goal.at.returns-else-home-slot g c).After-hash in
-    let m = c.len-mask.result - 1 in
-    let is : c.at.result.home ≡ bit_and c.hash.result m = ap (λ (f : Frontier). f.home) c.at.ensures in (
-      λ t. ready_if_free g at P done p parts h holds
-          (subst (λ b. IsUnblocked c.args.slots.now b (m + 1) c.args.slot) is (c.is_unblocked.ensures.unblocked.0 t)),
-      λ r. c.is_unblocked.ensures.unblocked.1
-          (subst (λ b. IsUnblocked c.args.slots.now b (m + 1) c.args.slot) (sym is) (free_if_ready g at P done p parts h holds r)),
-    )
+pub returns-else-home-slot-clause-frontiers : goal.returns-else-home-slot-clause-frontiers
+returns-else-home-slot-clause-frontiers g c =
+    let at = (goal.at.returns-else-home-slot-clause-frontiers g c).After-hash in
+    subst (λ n. AreFrontiers c.args.slots.now n c.is_unblocked_from.new.frontiers) (mask g at) c.is_unblocked_from.ensures.frontiers
+
+pub returns-else-home-slot-clause-ready : goal.returns-else-home-slot-clause-ready
+returns-else-home-slot-clause-ready g c P done p parts h holds =
+    let at = (goal.at.returns-else-home-slot-clause-ready g c).After-hash in
+    let free = c.is_unblocked_from.ensures.unblocked in
+    (λ t. ready_if_free g at P done p parts h holds (free.0 t), λ r. free.1 (free_if_ready g at P done p parts h holds r))

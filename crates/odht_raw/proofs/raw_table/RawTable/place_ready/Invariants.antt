@@ -2,17 +2,19 @@ use Rattle.std.proofs.Common.{ℕ, List}
 use Rattle.odht_base.specs.Format.{format_of}
 use Rattle.odht_base.specs.Table.{Table}
 use Rattle.odht_base.specs.Valid.{IsPartsOf}
+use Rattle.odht_raw.specs.Frontiers.{AreFrontiers}
 use Rattle.odht_raw.specs.Waiting.{IsPending}
 use Rattle.odht_raw.proofs.lemmas.LeftSlots.{IsLeftBefore}
 use Rattle.odht_raw.proofs.lemmas.PlacedFirst.{IsGone, IsPassed}
 use Rattle.odht_raw.proofs.raw_table.RawTable.place_ready.Given as goal
 
--- what the pass has done before `at`; the last slot that it left; and for each table that it may be of, and each list of placed slots
+-- what the pass has done before `at`; the last slot that it left; the frontiers; and for each table that it may be of, and each list of placed slots
 abbrev pub invariant-loop-at : goal.invariant-loop-at
 invariant-loop-at g l =
     let F = format_of g.K.ByteArray.LEN g.V.ByteArray.LEN g.H.HashFn.hash
     in IsGone l.self.entries.slots l.fn.slots l.slots l.at l.placed
     × IsLeftBefore l.slots l.at l.left
+    × AreFrontiers l.slots l.self.entries.slots l.frontiers
     × ((P : Table) (done : List ℕ)
     → IsPartsOf F P l.self.entries.bytes l.self.control
     → IsPending F P done l.fn.slots
