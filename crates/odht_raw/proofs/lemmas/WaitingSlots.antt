@@ -5,7 +5,7 @@ use Rattle.std.specs.Prelude.{is_some, is_none}
 use Rattle.std.specs.List.{range_with_len}
 use Rattle.std.specs.List.Sorted.{IsPartitionedBy}
 use Rattle.std.proofs.lemmas.Bool.{cases_lt}
-use Rattle.std.proofs.lemmas.List.{take_all, take-append-le, take_more_set, length-take-le, length-take, length-map, length-set, length-append, map-append, map-id, get_or-map, append-nil}
+use Rattle.std.proofs.lemmas.List.{take_all, take-set, take-append-le, take_more_set, length-take-le, length-take, length-map, length-set, length-append, map-append, map-id, get_or-map, append-nil}
 use Rattle.std.proofs.lemmas.List.Sorted.{IsPartitionedBy-ltb, IsNonDecreasingBy-from_default}
 use Rattle.std.proofs.lemmas.List.FromFn.{filter_of_map_range_with_len_more}
 use Rattle.std.proofs.Math.ListN.{set}
@@ -62,6 +62,13 @@ module _ (ctrl : List ℕ) where
     where
       same : taken_below ctrl (n + 1) ≡ taken_below ctrl n
       same = taken_next ctrl n ∙ ap (λ b. taken_below ctrl n ++ cond (not b) (n ∷ []) []) free ∙ append-nil (taken_below ctrl n)
+
+  -- what stands behind the first m is no part of it
+  pub listed_over : (n : ℕ) (out : List ℕ) (m x : ℕ) → IsListedBelow ctrl n out m → IsListedBelow ctrl n (set out m x) m
+  listed_over n out m x h = record {
+    room = omega (arith, h.room, length-set out m x);
+    listed = take-set out m x ∙ h.listed ∙ ap (λ k. take k (map waiting (taken_below ctrl n))) (sym (length-set out m x));
+  }
 
   -- where no room is left
   pub listed_full : (n : ℕ) (out : List ℕ) (m : ℕ) → length out ≤ m → IsListedBelow ctrl n out m → IsListedBelow ctrl (n + 1) out m

@@ -310,9 +310,12 @@ fn list_occupied(control: &[EntryMetadata], slot_count: usize, out: &mut [usize]
 {
     let mut occupied = 0;
     for slot in 0..slot_count {
-        if occupied < out.len() && !is_empty_or_deleted(control[slot]) {
+        if occupied < out.len() {
+            // Written over by the next, where the slot is free: which slots are free is not to be guessed.
             out[occupied] = WAITING + slot;
-            occupied += 1;
+            if !is_empty_or_deleted(control[slot]) {
+                occupied += 1;
+            }
         }
     }
 }

@@ -1,8 +1,8 @@
 use Rattle.std.proofs.Common.{◌≡◌, ◌∙◌, sym, arith, subst}
 use Rattle.odht_base.specs.Table.{slot_count as slots_of}
-use Rattle.odht_raw.proofs.lemmas.WaitingSlots.{IsListedBelow, listed_none, listed_free, listed_full, listed_taken, listed_all}
+use Rattle.odht_raw.proofs.lemmas.WaitingSlots.{IsListedBelow, listed_none, listed_free, listed_over, listed_full, listed_taken, listed_all}
+use Rattle.odht_raw.proofs.raw_table.insert_order.list_occupied.Goals.{then-occupied-out+then-not-is_empty_or_deleted, then-occupied-out+else-not-is_empty_or_deleted, else-occupied-out}
 use Rattle.odht_raw.proofs.raw_table.insert_order.list_occupied.Goals as goal
-use Rattle.odht_raw.proofs.raw_table.insert_order.list_occupied.Goals.{then-occupied-out+then-not-is_empty_or_deleted, else-occupied-out, else-occupied-out-via-then-occupied-out+else-not-is_empty_or_deleted, else-occupied-out-via-else-occupied-out}
 
 pub loop-slot-init : goal.loop-slot-init
 loop-slot-init c = listed_none c.args.control.now c.args.out.now
@@ -11,11 +11,10 @@ pub loop-slot-preserved : goal.loop-slot-preserved
 loop-slot-preserved c = elim c.if-occupied-out.branch [
   | then-occupied-out+then-not-is_empty_or_deleted w ↦
       rw (w.out-is, w.occupied-is) (listed_taken _ _ _ _ w.if-occupied-out.true (sym w.is_empty_or_deleted.ensures ∙ w.if-not-is_empty_or_deleted.true) c.loop-slot.invariant)
-  | else-occupied-out w ↦ rw (w.out-is, w.occupied-is) (elim w.else-occupied-out.branch [
-    | else-occupied-out-via-then-occupied-out+else-not-is_empty_or_deleted v ↦
-        listed_free _ _ _ _ (sym v.is_empty_or_deleted.ensures ∙ v.if-not-is_empty_or_deleted.false) c.loop-slot.invariant
-    | else-occupied-out-via-else-occupied-out v ↦ listed_full _ _ _ _ v.if-occupied-out.false c.loop-slot.invariant
-  ])
+  | then-occupied-out+else-not-is_empty_or_deleted w ↦
+      rw (w.out-is, w.occupied-is)
+      (listed_over _ _ _ _ _ (listed_free _ _ _ _ (sym w.is_empty_or_deleted.ensures ∙ w.if-not-is_empty_or_deleted.false) c.loop-slot.invariant))
+  | else-occupied-out w ↦ rw (w.out-is, w.occupied-is) (listed_full _ _ _ _ w.if-occupied-out.false c.loop-slot.invariant)
 ]
 
 pub returns : goal.returns
