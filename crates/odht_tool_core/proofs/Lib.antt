@@ -1,5 +1,7 @@
--- laws over numbers' and bytes' texts
+-- laws over bytes' texts
 pub mod Words
+-- digits that are read one after the other
+pub mod Numerals
 -- laws over lines that are written one after the other
 pub mod Answered
 -- where the first line of an input ends

@@ -1,19 +1,12 @@
--- What follows from the digits of a number, and from the digits of bytes.
+-- What follows from the digits of bytes.
 use Rattle.std.proofs.Common.{◌≡◌, ◌∙◌, ℕ, suc, ◌+◌, ◌*◌, ◌/◌, ◌%◌, ◌<◌, false, List, [], ◌∷◌, ◌++◌, length, take, get_or, sym, ap, refl, arith}
 use Rattle.std.specs.Char.{to_ascii_lowercase}
 use Rattle.std.specs.Fmt.{digit_glyph}
-use Rattle.std.specs.Str.{IsUtf8, str_to_ascii_lowercase}
-use Rattle.std.specs.Str.Parse.{IsNumeral}
-use Rattle.std.proofs.lemmas.Fmt.{IsAscii-from_digits}
+use Rattle.std.specs.Str.{str_to_ascii_lowercase}
 use Rattle.std.proofs.lemmas.Grind.{flat_map-append}
 use Rattle.std.proofs.lemmas.List.{append_assoc, map-append}
-use Rattle.std.proofs.lemmas.Str.{IsUtf8-from_ascii}
 use Rattle.std.proofs.Math.Seq.{take-suc}
 use Rattle.odht_tool_core.specs.Texts.{WritesBytes, hex_digits, hex_text}
-
--- the digits of a number are text
-pub numeral_utf8 : (word : List ℕ) → IsNumeral 10 word → IsUtf8 word
-numeral_utf8 word h = IsUtf8-from_ascii word (IsAscii-from_digits word h.1)
 
 -- no digits are those of no bytes
 pub no_bytes : WritesBytes [] []

@@ -1,7 +1,7 @@
 //! The arguments that the program is called with.
 
+use crate::digits::parse_number;
 use crate::shapes::{Hash, Part};
-use crate::text::parse_number;
 use odht_base::load::Percent;
 use odht_raw::memory_layout::DEFAULT_GROUPS;
 use std::alloc::Global;

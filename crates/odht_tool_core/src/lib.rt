@@ -4,6 +4,7 @@
 
 pub mod answers;
 pub mod arguments;
+mod digits;
 mod early;
 pub mod failure;
 pub mod files;

@@ -1,6 +1,6 @@
 //! Keys and values as text: a number in decimal digits, bytes in hexadecimal digits, and nothing at all.
 ghost use Rattle.std.specs.Prelude.{◌≡◌, ◌↔◌, ◌<◌, ◌^◌, ℕ, List, [], Some, IfSome, IsSome, IsTrue};
-ghost use Rattle.std.specs.Prelude.{OnOk, SomeIff, decimal, false};
+ghost use Rattle.std.specs.Prelude.{OnOk, decimal, false};
 ghost use Rattle.std.specs.Char.{is_ascii_hexdigit, to_ascii_lowercase};
 ghost use Rattle.std.specs.Fmt.{digit_glyph};
 ghost use Rattle.std.specs.List.{AllPass};
@@ -9,6 +9,7 @@ ghost use Rattle.std.specs.Str.Parse.{digits_value};
 ghost use Rattle.odht_tool_core.specs.Texts.{IsNumberWord, IsHexWord, WritesBytes};
 ghost use Rattle.odht_tool_core.specs.Texts.{hex_digits, hex_text};
 
+use crate::digits::parse_number;
 use std::io::{self, Write};
 
 /// A key or a value that has a text.
@@ -94,26 +95,6 @@ impl<const N: usize> Text for [u8; N] {
     fn write<W: Write>(&self, output: &mut W) -> io::Result<()> {
         write_bytes(self, output)
     }
-}
-
-/// The number with these decimal digits. A sign is not a digit; `parse` alone would accept a plus.
-#[tactic(auto, using(crate::proofs::Words::numeral_utf8))]
-pub(crate) fn parse_number(word: &[u8]) -> Option<u64>
-    ensures { SomeIff result (IsNumberWord (2 ^ 64) word.now) (digits_value 10 word.now) }
-{
-    match std::str::from_utf8(word) {
-        Ok(text) => parse_text(text),
-        Err(_) => None,
-    }
-}
-
-fn parse_text(text: &str) -> Option<u64>
-    ensures { SomeIff result (IsNumberWord (2 ^ 64) text.now) (digits_value 10 text.now) }
-{
-    if text.starts_with('+') {
-        return None;
-    }
-    text.parse().ok()
 }
 
 // The bytes with these hexadecimal digits, two for each byte, letters in either case.
