@@ -2,6 +2,10 @@
 pub mod Words
 -- digits that are read one after the other
 pub mod Numerals
+-- the digits of a number, two and four at a time
+pub mod Decimals
+-- the tables of digits
+pub mod Tables
 -- laws over lines that are written one after the other
 pub mod Answered
 -- where the first line of an input ends

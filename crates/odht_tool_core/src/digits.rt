@@ -1,10 +1,19 @@
 //! Numbers as decimal digits.
-ghost use Rattle.std.specs.Prelude.{◌≡◌, ◌+◌, ◌*◌, ◌<◌, ◌≤◌, ◌^◌, length, SomeIff};
+ghost use Rattle.std.specs.Prelude.{◌≡◌, ◌+◌, ◌-◌, ◌*◌, ◌/◌, ◌%◌, ◌<◌, ◌≤◌, ◌^◌, ◌∷◌, ◌++◌, length, drop};
+ghost use Rattle.std.specs.Prelude.{OnOk, SomeIff, decimal};
+ghost use Rattle.std.specs.Io.KnownBytes.{Appends};
 ghost use Rattle.std.specs.Str.Parse.{AllDigits, digits_value, digits_value_after};
 ghost use Rattle.odht_tool_core.specs.Texts.{IsNumberWord};
 
+use std::io::{self, Write};
+
 // The number of any so many digits fits 64 bits.
 const SAFE_DIGITS: usize = 19;
+
+// The digits of the numbers below 100, two each.
+static PAIRS: [u8; 200] = *b"\
+    0001020304050607080910111213141516171819202122232425262728293031323334353637383940414243444546474849\
+    5051525354555657585960616263646566676869707172737475767778798081828384858687888990919293949596979899";
 
 /// The number with these decimal digits. A sign is not a digit.
 pub(crate) fn parse_number(word: &[u8]) -> Option<u64>
@@ -60,4 +69,81 @@ fn push_digit(number: u64, digit: u8) -> Option<u64>
 {
     let tens = number.checked_mul(10)?;
     tens.checked_add(u64::from(digit))
+}
+
+/// Writes the decimal digits of a number, in one piece.
+pub(crate) fn write_number<W: Write>(number: u64, output: &mut W) -> io::Result<()>
+    ensures { OnOk result (Appends (W.contents output.old) (W.contents output.new)
+        (decimal number)) }
+{
+    let mut text = [0; 20];
+    let start = put_number(number, &mut text);
+    output.write_all(&text[start..])
+}
+
+// Puts the digits at the end of `text`, four for each division. Returns where they begin.
+fn put_number(number: u64, text: &mut [u8; 20]) -> usize
+    ensures start { result ≤ 20 }
+    ensures digits { drop result text.new ≡ decimal number }
+{
+    let mut rest = number;
+    let mut end = 20;
+    while rest >= 10_000 {
+        let four = rest % 10_000;
+        rest /= 10_000;
+        put_pair(four % 100, text, end);
+        put_pair(four / 100, text, end - 2);
+        end -= 4;
+    }
+    put_front(rest, text, end)
+}
+
+// Puts the digits of a number of at most four before `end`. Returns where they begin.
+#[inline(always)]
+fn put_front(number: u64, text: &mut [u8; 20], end: usize) -> usize
+    requires number { number < 10000 }
+    requires low { 1 ≤ end }
+    requires high { end ≤ 20 }
+    requires room { number < 10 ^ end }
+    ensures start { result ≤ 20 }
+    ensures digits { drop result text.new ≡ decimal number ++ drop end text.old }
+{
+    if number < 100 {
+        return put_first(number, text, end);
+    }
+    put_pair(number % 100, text, end);
+    put_first(number / 100, text, end - 2)
+}
+
+// The same of a number of at most two digits.
+#[inline(always)]
+fn put_first(number: u64, text: &mut [u8; 20], end: usize) -> usize
+    requires number { number < 100 }
+    requires low { 1 ≤ end }
+    requires high { end ≤ 20 }
+    requires room { number < 10 ^ end }
+    ensures start { result ≤ 20 }
+    ensures digits { drop result text.new ≡ decimal number ++ drop end text.old }
+{
+    if number >= 10 {
+        put_pair(number, text, end);
+        return end - 2;
+    }
+    text[end - 1] = b'0' + number as u8;
+    end - 1
+}
+
+// Puts the two digits of a number below 100 before `end`.
+#[inline(always)]
+fn put_pair(pair: u64, text: &mut [u8; 20], end: usize)
+    requires pair { pair < 100 }
+    requires low { 2 ≤ end }
+    requires high { end ≤ 20 }
+    ensures { drop (end - 2) text.new
+        ≡ (48 + pair / 10) ∷ (48 + pair % 10) ∷ drop end text.old }
+{
+    let at = 2 * pair as usize;
+    let (tens, ones) = (PAIRS[at], PAIRS[at + 1]);
+    text[end - 2] = tens;
+    text[end - 1] = ones;
 }

@@ -9,7 +9,7 @@ ghost use Rattle.std.specs.Str.Parse.{digits_value};
 ghost use Rattle.odht_tool_core.specs.Texts.{IsNumberWord, IsHexWord, WritesBytes};
 ghost use Rattle.odht_tool_core.specs.Texts.{hex_digits, hex_text};
 
-use crate::digits::parse_number;
+use crate::digits::{parse_number, write_number};
 use std::io::{self, Write};
 
 /// A key or a value that has a text.
@@ -43,8 +43,7 @@ impl Text for u32 {
     }
 
     fn write<W: Write>(&self, output: &mut W) -> io::Result<()> {
-        let number = *self;
-        write!(output, "{number}")
+        write_number(u64::from(*self), output)
     }
 }
 
@@ -60,8 +59,7 @@ impl Text for u64 {
     }
 
     fn write<W: Write>(&self, output: &mut W) -> io::Result<()> {
-        let number = *self;
-        write!(output, "{number}")
+        write_number(*self, output)
     }
 }
 
