@@ -1,13 +1,11 @@
 //! Keys and values as text: a number in decimal digits, bytes in hexadecimal digits, and nothing at all.
-ghost use Rattle.std.specs.Prelude.{◌≡◌, ◌↔◌, ◌<◌, ◌^◌, ℕ, List, [], Some, IfSome, IsSome, IsTrue};
-ghost use Rattle.std.specs.Prelude.{OnOk, decimal, false};
+ghost use Rattle.std.specs.Prelude.{◌≡◌, ◌↔◌, ◌<◌, ◌≤◌, ◌*◌, ◌^◌, ℕ, List, [], length, take, max, Some};
+ghost use Rattle.std.specs.Prelude.{IfSome, IsSome, IsTrue, OnOk, decimal, false};
 ghost use Rattle.std.specs.Char.{is_ascii_hexdigit, to_ascii_lowercase};
 ghost use Rattle.std.specs.Fmt.{digit_glyph};
-ghost use Rattle.std.specs.List.{AllPass};
 ghost use Rattle.std.specs.Io.KnownBytes.{Appends};
 ghost use Rattle.std.specs.Str.Parse.{digits_value};
-ghost use Rattle.odht_tool_core.specs.Texts.{IsNumberWord, IsHexWord, WritesBytes};
-ghost use Rattle.odht_tool_core.specs.Texts.{hex_digits, hex_text};
+ghost use Rattle.odht_tool_core.specs.Texts.{IsNumberWord, IsHexWord, WritesBytes, hex_text};
 
 use crate::digits::{parse_number, write_number};
 use std::io::{self, Write};
@@ -95,58 +93,78 @@ impl<const N: usize> Text for [u8; N] {
     }
 }
 
-// The bytes with these hexadecimal digits, two for each byte, letters in either case.
+// The bytes with these hexadecimal digits, two for each byte, letters in either case. All are read before the first
+// wrong one is noticed, so that no step branches on a digit.
 fn parse_bytes<const N: usize>(word: &[u8]) -> Option<[u8; N]>
     ensures value { IfSome result (WritesBytes word.now) }
     ensures some { IsSome result ↔ IsHexWord N word.now }
 {
-    if word.len() % 2 != 0 || word.len() / 2 != N || !are_digits(word) {
+    if word.len() % 2 != 0 || word.len() / 2 != N {
         return None;
     }
     let mut bytes = [0; N];
+    let mut largest = 0;
     for at in 0..N {
-        bytes[at] = 16 * digit_value(word[2 * at]) + digit_value(word[2 * at + 1]);
+        let high = digit_value(word[2 * at]);
+        let low = digit_value(word[2 * at + 1]);
+        bytes[at] = 16 * (high % 16) + low % 16;
+        largest = max_of(largest, max_of(high, low));
     }
-    Some(bytes)
+    if largest < 16 { Some(bytes) } else { None }
 }
 
-// Whether each byte is a hexadecimal digit, of either case.
-fn are_digits(word: &[u8]) -> bool
-    ensures { IsTrue result ↔ AllPass is_ascii_hexdigit word.now }
+fn max_of(a: u8, b: u8) -> u8
+    ensures { result ≡ max a b }
 {
-    word.iter().all(|digit| digit.is_ascii_hexdigit())
+    if a < b { b } else { a }
 }
 
-// The number of a hexadecimal digit of either case.
-fn digit_value(digit: u8) -> u8
-    requires { IsTrue (is_ascii_hexdigit digit) }
-    ensures small { result < 16 }
-    ensures digit { to_ascii_lowercase digit ≡ digit_glyph false result }
+// The number of a hexadecimal digit of either case, and 16 of any other byte.
+#[inline(always)]
+fn digit_value(byte: u8) -> u8
+    ensures bound { result ≤ 16 }
+    ensures digit { result < 16 → IsTrue (is_ascii_hexdigit byte) }
+    ensures value { result < 16 → to_ascii_lowercase byte ≡ digit_glyph false result }
+    ensures other { IsTrue (is_ascii_hexdigit byte) → result < 16 }
 {
-    match digit {
-        b'a'..=b'f' => digit - b'a' + 10,
-        b'A'..=b'F' => digit - b'A' + 10,
-        _ => digit - b'0',
+    match byte {
+        b'0'..=b'9' => byte - b'0',
+        b'a'..=b'f' => byte - b'a' + 10,
+        b'A'..=b'F' => byte - b'A' + 10,
+        _ => 16,
     }
 }
 
-// Two lower-case digits for each byte.
+// Two lower-case digits for each byte, written for so many bytes at once.
 fn write_bytes<W: Write>(bytes: &[u8], output: &mut W) -> io::Result<()>
     ensures { OnOk result (Appends (W.contents output.old) (W.contents output.new)
         (hex_text bytes.now)) }
 {
-    for byte in bytes {
-        output.write_all(&hex_digits(*byte))?;
+    let mut text = [0; 64];
+    let mut rest = bytes;
+    while !rest.is_empty() {
+        let (piece, next) = rest.split_at(rest.len().min(32));
+        put_bytes(piece, &mut text);
+        output.write_all(&text[..2 * piece.len()])?;
+        rest = next;
     }
     Ok(())
 }
 
-fn hex_digits(byte: u8) -> [u8; 2]
-    ensures { result ≡ hex_digits byte }
+// Puts the digits of the bytes at the front of `text`.
+#[inline(always)]
+fn put_bytes(bytes: &[u8], text: &mut [u8; 64])
+    requires { length bytes.now ≤ 32 }
+    ensures { take (2 * length bytes.now) text.new ≡ hex_text bytes.now }
 {
-    [hex_digit(byte / 16), hex_digit(byte % 16)]
+    for at in 0..bytes.len() {
+        let byte = bytes[at];
+        text[2 * at] = hex_digit(byte / 16);
+        text[2 * at + 1] = hex_digit(byte % 16);
+    }
 }
 
+#[inline(always)]
 fn hex_digit(value: u8) -> u8
     requires { value < 16 }
     ensures { result ≡ digit_glyph false value }
