@@ -1,15 +1,32 @@
 //! The lines in which pairs and answers are printed.
-ghost use Rattle.std.specs.Prelude.{◌≡◌, IfOk, OnOk, is_some, length};
+ghost use Rattle.std.specs.Prelude.{◌≡◌, ◌∷◌, ◌++◌, [], IfOk, OnOk, is_some, length};
 ghost use Rattle.std.specs.Io.KnownBytes.{Appends};
 ghost use Rattle.std.specs.List.{list_all};
 ghost use Rattle.odht_tool_core.specs.Texts.{answer_line, answers_text, pair_line};
 
+use crate::line::Line;
 use crate::text::Text;
 use std::alloc::{AllocError, Global};
 use std::io::{self, Write};
 
-/// Writes a line of a key, a tab and a value.
+/// Writes a line of a key, a tab and a value, in one piece unless it is long.
 pub fn write_pair<K: Text, V: Text, O: Write>(key: &K, value: &V, output: &mut O) -> io::Result<()>
+    ensures { OnOk result (Appends (O.contents output.old) (O.contents output.new)
+        (pair_line K.text V.text (key.now, value.now))) }
+{
+    let mut line = Line::new();
+    match write_pair_in_pieces(key, value, &mut line) {
+        Ok(()) => output.write_all(line.as_slice()),
+        Err(_) => write_pair_in_pieces(key, value, output),
+    }
+}
+
+/// The same, each part by itself.
+pub(crate) fn write_pair_in_pieces<K: Text, V: Text, O: Write>(
+    key: &K,
+    value: &V,
+    output: &mut O,
+) -> io::Result<()>
     ensures { OnOk result (Appends (O.contents output.old) (O.contents output.new)
         (pair_line K.text V.text (key.now, value.now))) }
 {
@@ -60,9 +77,26 @@ fn write_answer<K: Text, V: Text, O: Write>(
 {
     match value {
         Some(value) => write_pair(key, value, output),
-        None => {
-            key.write(output)?;
-            output.write_all(b"\n")
-        }
+        None => write_key(key, output),
     }
+}
+
+// Writes the line of a key alone.
+fn write_key<K: Text, O: Write>(key: &K, output: &mut O) -> io::Result<()>
+    ensures { OnOk result (Appends (O.contents output.old) (O.contents output.new)
+        (K.text key.now ++ 10 ∷ [])) }
+{
+    let mut line = Line::new();
+    match write_key_in_pieces(key, &mut line) {
+        Ok(()) => output.write_all(line.as_slice()),
+        Err(_) => write_key_in_pieces(key, output),
+    }
+}
+
+fn write_key_in_pieces<K: Text, O: Write>(key: &K, output: &mut O) -> io::Result<()>
+    ensures { OnOk result (Appends (O.contents output.old) (O.contents output.new)
+        (K.text key.now ++ 10 ∷ [])) }
+{
+    key.write(output)?;
+    output.write_all(b"\n")
 }

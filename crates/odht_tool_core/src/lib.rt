@@ -16,6 +16,7 @@ pub mod help;
 mod histogram;
 pub mod info;
 pub mod keys;
+mod line;
 pub mod lines;
 mod numbers;
 pub mod progress;
