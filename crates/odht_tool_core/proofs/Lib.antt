@@ -8,6 +8,8 @@ pub mod Decimals
 pub mod Tables
 -- laws over lines that are written one after the other
 pub mod Answered
+-- the first place of a byte
+pub mod FirstPlaces
 -- where the first line of an input ends
 pub mod LineEnds
 -- in which group of a probe order a slot is

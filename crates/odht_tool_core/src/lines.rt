@@ -1,12 +1,13 @@
 //! The lines of standard input.
-ghost use Rattle.std.specs.Prelude.{◌≡◌, IfOk, IsTrue, IsFalse};
+ghost use Rattle.std.specs.Prelude.{◌≡◌, [], Ok, IfOk, IsTrue, IsFalse};
 ghost use Rattle.std.specs.Io.BufRead.{ends_with_byte, strip_last};
-ghost use Rattle.std.specs.Io.KnownBytes.{IsAtEnd};
-ghost use Rattle.odht_tool_core.specs.InputLines.{IsNextLine, without_end};
+ghost use Rattle.std.specs.Io.KnownBytes.{IsAtEnd, Keeps};
+ghost use Rattle.odht_tool_core.specs.InputLines.{IsNextLine, IsTakenThrough, without_end};
 
 use crate::failure::{Failure, LineFault};
+use crate::places::place_of;
 use crate::text::Text;
-use std::io::{self, BufRead};
+use std::io::{self, BufRead, ErrorKind};
 
 /// Reads the next line into `line`, without its end, `\n` or `\r\n`, and replaces what `line` held. False at the end of
 /// the input. After an error do not use the line.
@@ -16,12 +17,62 @@ pub(crate) fn read_line<R: BufRead>(reader: &mut R, line: &mut Vec<u8>) -> io::R
     ensures end { IfOk result (λ more. IsFalse more → IsAtEnd (R.remaining reader.old)) }
 {
     line.clear();
-    let count = reader.read_until(b'\n', line)?;
-    if count == 0 {
+    if !read_through(reader, line)? {
         return Ok(false);
     }
     drop_end(line);
     Ok(true)
+}
+
+// Reads the next line with its end. False at the end of the input.
+#[inline(always)]
+fn read_through<R: BufRead>(reader: &mut R, line: &mut Vec<u8>) -> io::Result<bool>
+    requires { line.old.items ≡ [] }
+    ensures line { IfOk result (λ more. IsTrue more
+        → IsTakenThrough (R.remaining reader.old) (R.remaining reader.new) line.new.items) }
+    ensures end { IfOk result (λ more. IsFalse more → IsAtEnd (R.remaining reader.old)) }
+{
+    match take_buffered(reader, line)? {
+        Buffered::Line => Ok(true),
+        Buffered::Part => Ok(reader.read_until(b'\n', line)? > 0),
+        Buffered::End => Ok(false),
+    }
+}
+
+// What a reader has in its buffer: a line with its end, which is taken; a part of one at most, which is left there; or
+// nothing, at the end of the input.
+#[derive(Clone, Copy)]
+enum Buffered {
+    Line,
+    Part,
+    End,
+}
+
+// Most lines are in the buffer whole, and need one search and one copy.
+#[inline(always)]
+fn take_buffered<R: BufRead>(reader: &mut R, line: &mut Vec<u8>) -> io::Result<Buffered>
+    requires { line.old.items ≡ [] }
+    ensures line { result ≡ Ok Buffered.Line
+        → IsTakenThrough (R.remaining reader.old) (R.remaining reader.new) line.new.items }
+    ensures part { result ≡ Ok Buffered.Part
+        → Keeps (R.remaining reader.old) (R.remaining reader.new) × (line.new.items ≡ []) }
+    ensures end { result ≡ Ok Buffered.End → IsAtEnd (R.remaining reader.old) }
+{
+    let available = match reader.fill_buf() {
+        Ok(available) => available,
+        Err(error) if error.kind() == ErrorKind::Interrupted => return Ok(Buffered::Part),
+        Err(error) => return Err(error),
+    };
+    if available.is_empty() {
+        return Ok(Buffered::End);
+    }
+    let place = place_of(available, b'\n');
+    if place == available.len() {
+        return Ok(Buffered::Part);
+    }
+    line.extend_from_slice(&available[..place + 1])?;
+    reader.consume(place + 1);
+    Ok(Buffered::Line)
 }
 
 // Drops the end of a line, `\n` or `\r\n`, if it has one.
@@ -80,6 +131,9 @@ fn parse_pair<K: Text, V: Text>(line: &[u8]) -> Result<(K, V), LineFault> {
 
 // The text before the first tab of a line, and the text after it. None where there is no tab.
 fn split_at_tab(line: &[u8]) -> Option<(&[u8], &[u8])> {
-    let at = line.iter().position(|byte| *byte == b'\t')?;
+    let at = place_of(line, b'\t');
+    if at == line.len() {
+        return None;
+    }
     Some((&line[..at], &line[at + 1..]))
 }

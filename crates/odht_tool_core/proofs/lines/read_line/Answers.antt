@@ -1,9 +1,8 @@
-use Rattle.std.proofs.Common.{◌<◌, length, arith}
+use Rattle.std.proofs.Common.{refl, []}
 use Rattle.odht_tool_core.proofs.LineEnds.{next_line}
 use Rattle.odht_tool_core.proofs.lines.read_line.Goals as goal
 
 pub returns-clause-line : goal.returns-clause-line
 returns-clause-line g c =
-    let some : 0 < length c.read_until.new.buf.items = omega (arith, c.read_until.new.buf.ok.0, c.in_ok-count.ensures.ok, c.if-count-eq0.false) in
-    λ t. next_line (g.R.Read.remaining c.args.reader.now) (g.R.Read.remaining c.read_until.new.self) c.clear.new.self.items c.read_until.new.buf.items c.drop_end.new.line.items
-    c.clear.ensures.items c.in_ok-count.ensures.bytes c.in_ok-count.ensures.rest some c.drop_end.ensures
+    let taken = c.in_ok-read_through.ensures.line c.if-not-branch.false in
+    λ t. next_line (g.R.Read.remaining c.args.reader.now) (g.R.Read.remaining c.read_through.new.reader) [] c.read_through.new.line.items c.drop_end.new.line.items refl taken.0 taken.1 taken.2 c.drop_end.ensures

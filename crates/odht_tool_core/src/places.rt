@@ -1,0 +1,50 @@
+//! Where a byte first stands, found in sixteen lanes of a vector at once.
+ghost use Rattle.std.specs.Prelude.{◌≡◌, ◌≤◌, ◌==◌, length};
+ghost use Rattle.std.specs.List.{position_or_len};
+
+use std::simd::prelude::*;
+
+/// The first place of the byte, or the length where it is nowhere.
+pub(crate) fn place_of(bytes: &[u8], byte: u8) -> usize
+    ensures place { result ≡ position_or_len (λ x. x == byte) bytes.now }
+    ensures within { result ≤ length bytes.now }
+{
+    let mut at = 0;
+    while bytes.len() - at >= 16 {
+        let place = place_in_lanes(&bytes[at..at + 16], byte);
+        if place < 16 {
+            return at + place;
+        }
+        at += 16;
+    }
+    at + place_in_few(&bytes[at..], byte)
+}
+
+// The same of sixteen bytes.
+#[inline(always)]
+fn place_in_lanes(bytes: &[u8], byte: u8) -> usize
+    requires { length bytes.now ≡ 16 }
+    ensures { result ≡ position_or_len (λ x. x == byte) bytes.now }
+{
+    let bits = u8x16::from_slice(bytes)
+        .simd_eq(u8x16::splat(byte))
+        .to_bitmask();
+    if bits == 0 {
+        16
+    } else {
+        bits.trailing_zeros() as usize
+    }
+}
+
+// The same of a few bytes, one after the other.
+#[inline(always)]
+fn place_in_few(bytes: &[u8], byte: u8) -> usize
+    ensures place { result ≡ position_or_len (λ x. x == byte) bytes.now }
+    ensures within { result ≤ length bytes.now }
+{
+    let mut at = 0;
+    while at < bytes.len() && bytes[at] != byte {
+        at += 1;
+    }
+    at
+}
