@@ -2,6 +2,8 @@
 pub mod Words
 -- digits that are read one after the other
 pub mod Numerals
+-- eight digits in a word and in lanes
+pub mod Eights
 -- the digits of a number, two and four at a time
 pub mod Decimals
 -- the tables of digits

@@ -22,6 +22,7 @@ pub fn write_pair<K: Text, V: Text, O: Write>(key: &K, value: &V, output: &mut O
 }
 
 /// The same, each part by itself.
+#[inline(always)]
 pub(crate) fn write_pair_in_pieces<K: Text, V: Text, O: Write>(
     key: &K,
     value: &V,
@@ -93,6 +94,7 @@ fn write_key<K: Text, O: Write>(key: &K, output: &mut O) -> io::Result<()>
     }
 }
 
+#[inline(always)]
 fn write_key_in_pieces<K: Text, O: Write>(key: &K, output: &mut O) -> io::Result<()>
     ensures { OnOk result (Appends (O.contents output.old) (O.contents output.new)
         (K.text key.now ++ 10 ∷ [])) }

@@ -3,9 +3,11 @@ ghost use Rattle.std.specs.Prelude.{◌≡◌, ◌+◌, ◌-◌, ◌*◌, ◌/�
 ghost use Rattle.std.specs.Prelude.{OnOk, SomeIff, decimal};
 ghost use Rattle.std.specs.Io.KnownBytes.{Appends};
 ghost use Rattle.std.specs.Str.Parse.{AllDigits, digits_value, digits_value_after};
+ghost use Rattle.odht_tool_core.specs.Eights.{eight_value};
 ghost use Rattle.odht_tool_core.specs.Texts.{IsNumberWord};
 
 use std::io::{self, Write};
+use std::simd::prelude::*;
 
 // The number of any so many digits fits 64 bits.
 const SAFE_DIGITS: usize = 19;
@@ -29,12 +31,60 @@ pub(crate) fn parse_number(word: &[u8]) -> Option<u64>
     parse_rest(front, &word[SAFE_DIGITS..])
 }
 
-// The number of so few digits that each step fits.
+// The number of so few digits that each step fits, eight of them at a time.
 fn parse_short(digits: &[u8]) -> Option<u64>
     requires { length digits.now ≤ 19 }
     ensures { SomeIff result (AllDigits 10 digits.now) (digits_value 10 digits.now) }
 {
     let mut number: u64 = 0;
+    let mut rest = digits;
+    while let Some((eight, next)) = rest.split_first_chunk::<8>() {
+        let Some(value) = parse_eight(eight) else {
+            return None;
+        };
+        number = 100_000_000 * number + value;
+        rest = next;
+    }
+    parse_few(number, rest)
+}
+
+// The number of eight digits, which are looked at in the lanes of one vector.
+#[inline(always)]
+fn parse_eight(digits: &[u8; 8]) -> Option<u64>
+    ensures { SomeIff result (AllDigits 10 digits.now) (digits_value 10 digits.now) }
+{
+    let lanes = u8x8::from_array(*digits);
+    let below = lanes.simd_lt(u8x8::splat(b'0')).to_bitmask();
+    let above = lanes.simd_gt(u8x8::splat(b'9')).to_bitmask();
+    if below != 0 || above != 0 {
+        return None;
+    }
+    Some(value_of_eight(u64::from_le_bytes(*digits)))
+}
+
+// The number of the eight digits that are the bytes of a word, the first of them the lowest. Its sum with a tenth of the
+// word one byte further on has a number of two digits in each second byte.
+#[inline(always)]
+fn value_of_eight(word: u64) -> u64
+    requires low { 0x3030303030303030 ≤ word }
+    requires high { word ≤ 0x3939393939393939 }
+    ensures { result ≡ eight_value word }
+{
+    let digits = word - 0x3030_3030_3030_3030;
+    let pairs = 10 * digits + digits / 0x100;
+    1_000_000 * (pairs % 0x100)
+        + 10_000 * (pairs / 0x1_0000 % 0x100)
+        + 100 * (pairs / 0x1_0000_0000 % 0x100)
+        + pairs / 0x1_0000_0000_0000 % 0x100
+}
+
+// The number of the digits of `front` and these behind them, of which there are so few that each step fits.
+#[inline(always)]
+fn parse_few(front: u64, digits: &[u8]) -> Option<u64>
+    requires { (front + 1) * 10 ^ length digits.now ≤ 10 ^ 19 }
+    ensures { SomeIff result (AllDigits 10 digits.now) (digits_value_after 10 front digits.now) }
+{
+    let mut number = front;
     for digit in digits {
         if *digit < b'0' || *digit > b'9' {
             return None;
@@ -72,6 +122,7 @@ fn push_digit(number: u64, digit: u8) -> Option<u64>
 }
 
 /// Writes the decimal digits of a number, in one piece.
+#[inline(always)]
 pub(crate) fn write_number<W: Write>(number: u64, output: &mut W) -> io::Result<()>
     ensures { OnOk result (Appends (W.contents output.old) (W.contents output.new)
         (decimal number)) }
@@ -82,6 +133,7 @@ pub(crate) fn write_number<W: Write>(number: u64, output: &mut W) -> io::Result<
 }
 
 // Puts the digits at the end of `text`, four for each division. Returns where they begin.
+#[inline(never)]
 fn put_number(number: u64, text: &mut [u8; 20]) -> usize
     ensures start { result ≤ 20 }
     ensures digits { drop result text.new ≡ decimal number }

@@ -89,6 +89,7 @@ where
 }
 
 // Writes the line of an occupied slot, each part by itself.
+#[inline(always)]
 fn write_slot_in_pieces<K: Text, V: Text, O: Write>(
     slot: usize,
     tag: u8,
@@ -105,6 +106,7 @@ fn write_slot_in_pieces<K: Text, V: Text, O: Write>(
 }
 
 // Writes the number of a slot, its control byte and a number of groups, each with a tab after it.
+#[inline(always)]
 fn write_numbers<O: Write>(slot: usize, tag: u8, groups: usize, output: &mut O) -> io::Result<()>
     ensures { OnOk result (Appends (O.contents output.old) (O.contents output.new)
         (numbers_text slot tag groups)) }
