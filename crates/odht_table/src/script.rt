@@ -1,13 +1,13 @@
 //! Runs a script: a list of lines, each of which makes, changes or prints a table, or checks bytes.
 ghost use Rattle.std.specs.Prelude.{◌≡◌, ◌≢◌, ◌↔◌, ◌⊎◌, ◌<◌, ◌≤◌, false, IfOk, OnOk, IfSome};
-ghost use Rattle.std.specs.Prelude.{IsErrOf, Some, ℕ, List, ◌∷◌, length, position};
+ghost use Rattle.std.specs.Prelude.{IsErrOf, Some, ℕ, ◌*◌, List, ◌∷◌, ◌++◌, codes, length, position, take};
 ghost use Rattle.std.specs.Io.KnownBytes.{IsAtEnd, Appends};
-ghost use Rattle.std.specs.Fmt.{digit_glyph};
+ghost use Rattle.std.specs.Fmt.{decimal, digit_glyph};
 ghost use Rattle.odht_base.specs.Load.{factor_of, max_items, slots_for};
 ghost use Rattle.odht_base.specs.Table.{Table as Plain, fresh};
 ghost use Rattle.odht_base.specs.Valid.{IsImage};
 ghost use Rattle.odht_header.specs.Refusals.{IsTooLarge};
-ghost use Rattle.odht_table.specs.Answers.{line_of, hex_digits, hex_text, value_text, walk_text};
+ghost use Rattle.odht_table.specs.Answers.{line_of, hex_text, pair_line, value_text, walk_text};
 ghost use Rattle.odht_table.specs.Answers.{IsPutAnswered, IsAnswered, IsRenewed, MayChange};
 ghost use Rattle.odht_table.specs.Scripts.{ends_line, script_lines, IsHeld, IsLineAnswered};
 ghost use Rattle.odht_table.specs.Scripts.{IsAnsweredBy};
@@ -22,6 +22,7 @@ use odht::configs::U64ToU32;
 use odht::error::Error;
 use odht::load::{Factor, max_item_count_for, slots_needed};
 use odht::{HashTableOwned, Iter};
+use odht_tool_core::text::Text;
 use std::alloc::Global;
 use std::fmt;
 use std::io::{self, ErrorKind, Read, Write};
@@ -170,7 +171,7 @@ fn serve<W: Write>(table: &mut Table, request: Request, output: &mut W) -> io::R
     match request {
         Request::Put { key, value } => put(table, key, value, output),
         Request::Get { key } => write_value(table.get(&key), output),
-        Request::Len => writeln!(output, "{}", table.len()),
+        Request::Len => write_number(table.len() as u64, output),
         Request::Walk => write_walk(table.iter(), output),
         Request::Hex => write_hex(table.raw_bytes(), output),
         Request::Dump => write!(output, "{table:?}"),
@@ -273,10 +274,18 @@ fn put<W: Write>(table: &mut Table, key: u64, value: u32, output: &mut W) -> io:
         × OnOk result (Appends (W.contents output.old) (W.contents output.new) text) }
 {
     match table.insert(&key, &value) {
-        Ok(None) => writeln!(output, "none"),
-        Ok(Some(former)) => writeln!(output, "was {former}"),
-        Err(_) => writeln!(output, "memory"),
+        Ok(None) => output.write_all(b"none\n"),
+        Ok(Some(former)) => write_former(former, output),
+        Err(_) => output.write_all(b"memory\n"),
     }
+}
+
+fn write_former<W: Write>(former: u32, output: &mut W) -> io::Result<()>
+    ensures { OnOk result (Appends (W.contents output.old) (W.contents output.new)
+        (line_of (codes "was " ++ decimal former))) }
+{
+    output.write_all(b"was ")?;
+    write_number(u64::from(former), output)
 }
 
 fn write_value<W: Write>(value: Option<u32>, output: &mut W) -> io::Result<()>
@@ -284,9 +293,18 @@ fn write_value<W: Write>(value: Option<u32>, output: &mut W) -> io::Result<()>
         (line_of (value_text value))) }
 {
     match value {
-        None => writeln!(output, "none"),
-        Some(value) => writeln!(output, "{value}"),
+        None => output.write_all(b"none\n"),
+        Some(value) => write_number(u64::from(value), output),
     }
+}
+
+// The number on a line.
+fn write_number<W: Write>(number: u64, output: &mut W) -> io::Result<()>
+    ensures { OnOk result (Appends (W.contents output.old) (W.contents output.new)
+        (line_of (decimal number))) }
+{
+    number.write(output)?;
+    output.write_all(b"\n")
 }
 
 // Each pair on a line, and then the line `end`.
@@ -295,28 +313,50 @@ fn write_walk<W: Write>(walk: Iter<'_, U64ToU32>, output: &mut W) -> io::Result<
         (walk_text walk.entry)) }
 {
     for (key, value) in walk {
-        writeln!(output, "{key} {value}")?;
+        write_pair(key, value, output)?;
     }
-    writeln!(output, "end")
+    output.write_all(b"end\n")
 }
 
-// Two lower-case digits for each byte, on one line.
+fn write_pair<W: Write>(key: u64, value: u32, output: &mut W) -> io::Result<()>
+    ensures { OnOk result (Appends (W.contents output.old) (W.contents output.new)
+        (pair_line (key, value))) }
+{
+    key.write(output)?;
+    output.write_all(b" ")?;
+    write_number(u64::from(value), output)
+}
+
+// Two lower-case digits for each byte, on one line, written for so many bytes at once.
 fn write_hex<W: Write>(bytes: &[u8], output: &mut W) -> io::Result<()>
     ensures { OnOk result (Appends (W.contents output.old) (W.contents output.new)
         (line_of (hex_text bytes.now))) }
 {
-    for byte in bytes {
-        output.write_all(&hex_digits(*byte))?;
+    let mut text = [0; 512];
+    let mut rest = bytes;
+    while !rest.is_empty() {
+        let (piece, next) = rest.split_at(rest.len().min(256));
+        put_hex(piece, &mut text);
+        output.write_all(&text[..2 * piece.len()])?;
+        rest = next;
     }
     output.write_all(b"\n")
 }
 
-fn hex_digits(byte: u8) -> [u8; 2]
-    ensures { result ≡ hex_digits byte }
+// Puts the digits of the bytes at the front of `text`.
+#[inline(always)]
+fn put_hex(bytes: &[u8], text: &mut [u8; 512])
+    requires { length bytes.now ≤ 256 }
+    ensures { take (2 * length bytes.now) text.new ≡ hex_text bytes.now }
 {
-    [hex_digit(byte / 16), hex_digit(byte % 16)]
+    for at in 0..bytes.len() {
+        let byte = bytes[at];
+        text[2 * at] = hex_digit(byte / 16);
+        text[2 * at + 1] = hex_digit(byte % 16);
+    }
 }
 
+#[inline(always)]
 fn hex_digit(value: u8) -> u8
     requires { value < 16 }
     ensures { result ≡ digit_glyph false value }

@@ -3,6 +3,8 @@ ghost use Rattle.std.specs.Prelude.{◌≡◌, ℕ, ◌<◌, ◌^◌, SomeIff, I
 ghost use Rattle.std.specs.Str.Parse.{IsNumeral, digits_value};
 ghost use Rattle.odht_table.specs.Commands.{IsCommandText, IsPairText, IsWordText};
 
+use odht_tool_core::text::Text;
+
 /// What one line of a script asks for.
 #[derive(Clone, Copy, Debug, PartialEq, Eq)]
 pub enum Command {
@@ -89,13 +91,10 @@ fn parse_pair(words: &str) -> Option<(u64, u64)>
     Some((first, second))
 }
 
-// The number that a word of digits writes. A sign is no digit, and `parse` alone would take a plus.
+// The number that a word of digits writes. A sign is no digit.
 fn parse_number(word: &str) -> Option<u64>
     ensures { SomeIff result (IsNumeral 10 word.now × (digits_value 10 word.now < 2 ^ 64))
         (digits_value 10 word.now) }
 {
-    if word.starts_with('+') {
-        return None;
-    }
-    word.parse().ok()
+    u64::parse(word.as_bytes())
 }
