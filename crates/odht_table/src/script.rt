@@ -22,6 +22,7 @@ use odht::configs::U64ToU32;
 use odht::error::Error;
 use odht::load::{Factor, max_item_count_for, slots_needed};
 use odht::{HashTableOwned, Iter};
+use odht_tool_core::places::place_of;
 use odht_tool_core::text::Text;
 use std::alloc::Global;
 use std::fmt;
@@ -131,7 +132,12 @@ fn cut_line(script: &[u8]) -> (&[u8], &[u8])
 fn line_end(script: &[u8]) -> Option<usize>
     ensures { result ≡ position ends_line script.now }
 {
-    script.iter().position(|byte| *byte == b'\n')
+    let place = place_of(script, b'\n');
+    if place < script.len() {
+        Some(place)
+    } else {
+        None
+    }
 }
 
 fn answer<W: Write>(

@@ -19,7 +19,7 @@ pub mod keys;
 mod line;
 pub mod lines;
 mod numbers;
-mod places;
+pub mod places;
 pub mod progress;
 pub mod shapes;
 pub mod slots;

@@ -1,8 +1,10 @@
 //! The lines of a script, and what they ask for.
-ghost use Rattle.std.specs.Prelude.{◌≡◌, ℕ, ◌<◌, ◌^◌, SomeIff, IfSome};
+ghost use Rattle.std.specs.Prelude.{◌≡◌, ℕ, ◌<◌, ◌^◌, SomeIff, IfSome, MatchOption};
 ghost use Rattle.std.specs.Str.Parse.{IsNumeral, digits_value};
 ghost use Rattle.odht_table.specs.Commands.{IsCommandText, IsPairText, IsWordText};
+ghost use Rattle.odht_table.specs.Cuts.{HasNoSpace, IsCutAtSpace, IsVerbText};
 
+use odht_tool_core::places::place_of;
 use odht_tool_core::text::Text;
 
 /// What one line of a script asks for.
@@ -39,62 +41,92 @@ pub fn parse(line: &[u8]) -> Option<Command>
     ensures misses_none { (command : Command) → IsCommandText line.now command
         → result ≡ Some command }
 {
-    let line = std::str::from_utf8(line).ok()?;
-    let Some((name, numbers)) = line.split_once(' ') else {
+    let Some((name, numbers)) = cut_at_space(line) else {
         let request = parse_word(line)?;
         return Some(Command::OnTable(request));
     };
-    match name {
-        "new" => {
+    match parse_verb(name)? {
+        Verb::Make => {
             let (max_item_count, percent) = parse_pair(numbers)?;
             Some(Command::New {
                 max_item_count: max_item_count as usize,
                 percent,
             })
         }
-        "put" => {
+        Verb::Insert => {
             let (key, value) = parse_pair(numbers)?;
             let value = u32::try_from(value).ok()?;
             Some(Command::OnTable(Request::Put { key, value }))
         }
-        "get" => {
+        Verb::Find => {
             let key = parse_number(numbers)?;
             Some(Command::OnTable(Request::Get { key }))
         }
+    }
+}
+
+// The first word of a command with numbers.
+#[derive(Clone, Copy)]
+enum Verb {
+    Make,
+    Insert,
+    Find,
+}
+
+fn parse_verb(word: &[u8]) -> Option<Verb>
+    ensures reads { IfSome result (λ verb. IsVerbText word.now verb) }
+    ensures misses_none { (verb : Verb) → IsVerbText word.now verb → result ≡ Some verb }
+{
+    match word {
+        b"new" => Some(Verb::Make),
+        b"put" => Some(Verb::Insert),
+        b"get" => Some(Verb::Find),
         _ => None,
     }
 }
 
 // The request of one word alone.
-fn parse_word(word: &str) -> Option<Request>
+fn parse_word(word: &[u8]) -> Option<Request>
     ensures reads { IfSome result (λ request. IsWordText word.now request) }
     ensures misses_none { (request : Request) → IsWordText word.now request
         → result ≡ Some request }
 {
     match word {
-        "len" => Some(Request::Len),
-        "walk" => Some(Request::Walk),
-        "hex" => Some(Request::Hex),
-        "dump" => Some(Request::Dump),
+        b"len" => Some(Request::Len),
+        b"walk" => Some(Request::Walk),
+        b"hex" => Some(Request::Hex),
+        b"dump" => Some(Request::Dump),
         _ => None,
     }
 }
 
 // The two numbers of two words.
-fn parse_pair(words: &str) -> Option<(u64, u64)>
+fn parse_pair(words: &[u8]) -> Option<(u64, u64)>
     ensures reads { IfSome result (λ pair. IsPairText words.now pair.0 pair.1) }
     ensures misses_none { (m n : ℕ) → IsPairText words.now m n → result ≡ Some (m, n) }
 {
-    let (first, second) = words.split_once(' ')?;
+    let (first, second) = cut_at_space(words)?;
     let first = parse_number(first)?;
     let second = parse_number(second)?;
     Some((first, second))
 }
 
 // The number that a word of digits writes. A sign is no digit.
-fn parse_number(word: &str) -> Option<u64>
+fn parse_number(word: &[u8]) -> Option<u64>
     ensures { SomeIff result (IsNumeral 10 word.now × (digits_value 10 word.now < 2 ^ 64))
         (digits_value 10 word.now) }
 {
-    u64::parse(word.as_bytes())
+    u64::parse(word)
+}
+
+// The words on either side of the first space. None where there is no space.
+fn cut_at_space(words: &[u8]) -> Option<(&[u8], &[u8])>
+    ensures { MatchOption result (HasNoSpace words.now)
+        (λ parts. IsCutAtSpace words.now parts.0.now parts.1.now) }
+{
+    let at = place_of(words, b' ');
+    if at == words.len() {
+        return None;
+    }
+    Some((&words[..at], &words[at + 1..]))
 }
