@@ -1,6 +1,8 @@
 -- The digits of a number, two and four at a time.
-use Rattle.std.proofs.Common.{◌≡◌, ◌∙◌, ℕ, zero, suc, ◌+◌, ◌-◌, ◌/◌, ◌%◌, ◌^◌, ◌<◌, ◌≤◌, List, ◌∷◌, ◌++◌, sym, ap, refl, arith}
+use Rattle.std.proofs.Common.{inl, inr, drop, ◌≡◌, ◌∙◌, ℕ, zero, suc, ◌+◌, ◌-◌, ◌/◌, ◌%◌, ◌^◌, ◌<◌, ◌≤◌, List, ◌∷◌, ◌++◌, sym, ap, refl, arith}
 use Rattle.std.specs.Fmt.{decimal}
+use Rattle.std.proofs.lemmas.Bool.{cases_lt}
+use Rattle.odht_tool_core.specs.Digits.{four_digits}
 use Rattle.std.proofs.lemmas.Fmt.{decimal_digit, decimal_step}
 use Rattle.std.proofs.lemmas.List.{append_assoc}
 
@@ -28,6 +30,32 @@ last_four n rest low l =
     let high : m % 100 ≡ n % 10000 / 100 = omega arith in
     let last : n % 100 ≡ n % 10000 % 100 = omega arith in
     rw (← front, ← high, ← last) (last_two m _ (omega arith) (omega arith) ∙ last_two n rest (omega arith) l)
+
+-- without a zero in front they are all, of one digit or two
+pub one_or_two : (n k : ℕ) (rest : List ℕ) → n < 100 → (10 ≤ n → k ≡ 1) → (n < 10 → k ≡ 0) → drop (1 - k) ((48 + n / 10) ∷ (48 + n % 10) ∷ rest) ≡ decimal n ++ rest
+one_or_two n k rest l two one =
+    elim (cases_lt n 10) [
+      | inl few ↦
+          let left : 1 - k ≡ 1 = omega (arith, one few) in
+          let last : n % 10 ≡ n = omega arith in
+          rw (left, last) (one_digit n rest few)
+      | inr more ↦
+          let left : 1 - k ≡ 0 = omega (arith, two more) in
+          rw left (two_digits n rest more l)
+    ]
+
+-- or of three or four
+pub three_or_four : (n k : ℕ) (rest : List ℕ) → 100 ≤ n → n < 10000 → (1000 ≤ n → k ≡ 1) → (n < 1000 → k ≡ 0) → drop (1 - k) (four_digits n ++ rest) ≡ decimal n ++ rest
+three_or_four n k rest m l four three =
+    elim (cases_lt n 1000) [
+      | inl few ↦
+          let left : 1 - k ≡ 1 = omega (arith, three few) in
+          let first : n / 100 % 10 ≡ n / 100 = omega arith in
+          rw (left, first) (one_digit (n / 100) _ (omega arith) ∙ last_two n rest m (omega arith))
+      | inr more ↦
+          let left : 1 - k ≡ 0 = omega (arith, four more) in
+          rw left (two_digits (n / 100) _ (omega arith) (omega arith) ∙ last_two n rest m (omega arith))
+    ]
 
 -- a quotient by a hundred has two digits fewer, and by ten thousand four
 pub two_fewer : (n end : ℕ) → 100 ≤ n → n < 10 ^ end → (3 ≤ end) × (n / 100 < 10 ^ (end - 2))

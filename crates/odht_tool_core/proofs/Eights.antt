@@ -8,7 +8,7 @@ use Rattle.std.proofs.lemmas.Simd.{bitmask_splat, mask_l-mod}
 use Rattle.std.proofs.lemmas.List.{length-map}
 use Rattle.std.proofs.lemmas.Str.{digit_value_digit}
 use Rattle.std.proofs.lemmas.Str.Parse.{digit_from_value}
-use Rattle.odht_tool_core.specs.Eights.{pairs_of, eight_value}
+use Rattle.odht_tool_core.specs.Digits.{pairs_of, eight_value}
 use lib.Lanes.{mask_l, zip2, top}
 
 -- ---- in a word

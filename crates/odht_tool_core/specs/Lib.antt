@@ -1,8 +1,8 @@
 -- Definitions for the contracts of what the program is made of.
 -- the texts of keys, of values and of answers
 pub mod Texts
--- eight digits in a word
-pub mod Eights
+-- digits of numbers, some at a time
+pub mod Digits
 -- the list of ready shapes
 pub mod ShapeList
 -- what follows of it, and the shape that bytes are read as

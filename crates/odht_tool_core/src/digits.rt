@@ -3,7 +3,7 @@ ghost use Rattle.std.specs.Prelude.{◌≡◌, ◌+◌, ◌-◌, ◌*◌, ◌/�
 ghost use Rattle.std.specs.Prelude.{OnOk, SomeIff, decimal};
 ghost use Rattle.std.specs.Io.KnownBytes.{Appends};
 ghost use Rattle.std.specs.Str.Parse.{AllDigits, digits_value, digits_value_after};
-ghost use Rattle.odht_tool_core.specs.Eights.{eight_value};
+ghost use Rattle.odht_tool_core.specs.Digits.{eight_value, four_digits};
 ghost use Rattle.odht_tool_core.specs.Texts.{IsNumberWord};
 
 use std::io::{self, Write};
@@ -127,70 +127,72 @@ pub(crate) fn write_number<W: Write>(number: u64, output: &mut W) -> io::Result<
     ensures { OnOk result (Appends (W.contents output.old) (W.contents output.new)
         (decimal number)) }
 {
-    let mut text = [0; 20];
+    let mut text = [0; 24];
     let start = put_number(number, &mut text);
     output.write_all(&text[start..])
 }
 
 // Puts the digits at the end of `text`, four for each division. Returns where they begin.
 #[inline(never)]
-fn put_number(number: u64, text: &mut [u8; 20]) -> usize
-    ensures start { result ≤ 20 }
+fn put_number(number: u64, text: &mut [u8; 24]) -> usize
+    ensures start { result ≤ 24 }
     ensures digits { drop result text.new ≡ decimal number }
 {
     let mut rest = number;
-    let mut end = 20;
+    let mut end = 24;
     while rest >= 10_000 {
-        let four = rest % 10_000;
+        put_four(rest % 10_000, text, end);
         rest /= 10_000;
-        put_pair(four % 100, text, end);
-        put_pair(four / 100, text, end - 2);
         end -= 4;
     }
     put_front(rest, text, end)
 }
 
-// Puts the digits of a number of at most four before `end`. Returns where they begin.
+// Puts the digits of a number of at most four before `end`. Returns where they begin. Whether there are one or two, or
+// three or four, is no branch: that would be guessed wrong as often as not.
 #[inline(always)]
-fn put_front(number: u64, text: &mut [u8; 20], end: usize) -> usize
+fn put_front(number: u64, text: &mut [u8; 24], end: usize) -> usize
     requires number { number < 10000 }
-    requires low { 1 ≤ end }
-    requires high { end ≤ 20 }
-    requires room { number < 10 ^ end }
-    ensures start { result ≤ 20 }
+    requires low { 4 ≤ end }
+    requires high { end ≤ 24 }
+    ensures start { result ≤ 24 }
     ensures digits { drop result text.new ≡ decimal number ++ drop end text.old }
 {
     if number < 100 {
-        return put_first(number, text, end);
+        put_pair(number, text, end);
+        return end - 1 - one_from(number, 10);
     }
-    put_pair(number % 100, text, end);
-    put_first(number / 100, text, end - 2)
+    put_four(number, text, end);
+    end - 3 - one_from(number, 1000)
 }
 
-// The same of a number of at most two digits.
 #[inline(always)]
-fn put_first(number: u64, text: &mut [u8; 20], end: usize) -> usize
-    requires number { number < 100 }
-    requires low { 1 ≤ end }
-    requires high { end ≤ 20 }
-    requires room { number < 10 ^ end }
-    ensures start { result ≤ 20 }
-    ensures digits { drop result text.new ≡ decimal number ++ drop end text.old }
+fn one_from(number: u64, least: u64) -> usize
+    ensures most { result ≤ 1 }
+    ensures from { least ≤ number → result ≡ 1 }
+    ensures below { number < least → result ≡ 0 }
 {
-    if number >= 10 {
-        put_pair(number, text, end);
-        return end - 2;
-    }
-    text[end - 1] = b'0' + number as u8;
-    end - 1
+    if number >= least { 1 } else { 0 }
+}
+
+// Puts the four digits of a number below 10,000 before `end`.
+#[inline(always)]
+fn put_four(four: u64, text: &mut [u8; 24], end: usize)
+    requires four { four < 10000 }
+    requires low { 4 ≤ end }
+    requires high { end ≤ 24 }
+    ensures { drop (end - 4) text.new ≡ four_digits four ++ drop end text.old }
+{
+    put_pair(four % 100, text, end);
+    put_pair(four / 100, text, end - 2);
 }
 
 // Puts the two digits of a number below 100 before `end`.
 #[inline(always)]
-fn put_pair(pair: u64, text: &mut [u8; 20], end: usize)
+fn put_pair(pair: u64, text: &mut [u8; 24], end: usize)
     requires pair { pair < 100 }
     requires low { 2 ≤ end }
-    requires high { end ≤ 20 }
+    requires high { end ≤ 24 }
     ensures { drop (end - 2) text.new
         ≡ (48 + pair / 10) ∷ (48 + pair % 10) ∷ drop end text.old }
 {

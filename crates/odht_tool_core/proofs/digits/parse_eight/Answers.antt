@@ -1,5 +1,5 @@
 use Rattle.std.proofs.Common.{◌∙◌, ap, arith}
-use Rattle.odht_tool_core.specs.Eights.{eight_value}
+use Rattle.odht_tool_core.specs.Digits.{eight_value}
 use Rattle.odht_tool_core.proofs.Eights.{eight_read, digits_in_lanes, none_below, none_above}
 use Rattle.odht_tool_core.proofs.digits.parse_eight.Goals as goal
 use Rattle.odht_tool_core.proofs.digits.parse_eight.Goals.{then-below-ne0-via-then-below-ne0, then-below-ne0-via-else-below-ne0+then-above-ne0}
