@@ -1,10 +1,12 @@
 //! Keys and values as text: a number in decimal digits, bytes in hexadecimal digits, and nothing at all.
-ghost use Rattle.std.specs.Prelude.{◌≡◌, ◌↔◌, ◌<◌, ◌≤◌, ◌*◌, ◌^◌, ℕ, List, [], length, take, max, Some};
+ghost use Rattle.std.specs.Prelude.{◌≡◌, ◌↔◌, ◌<◌, ◌≤◌, ◌*◌, ◌^◌, ℕ, List, [], length, take, max, slice_index, Some};
 ghost use Rattle.std.specs.Prelude.{IfSome, IsSome, IsTrue, OnOk, decimal, false};
 ghost use Rattle.std.specs.Char.{is_ascii_hexdigit, to_ascii_lowercase};
 ghost use Rattle.std.specs.Fmt.{digit_glyph};
+ghost use Rattle.std.specs.List.{AllPass};
 ghost use Rattle.std.specs.Io.KnownBytes.{Appends};
 ghost use Rattle.std.specs.Str.Parse.{digits_value};
+ghost use Rattle.odht_tool_core.specs.Digits.{IsValueOf};
 ghost use Rattle.odht_tool_core.specs.Texts.{IsNumberWord, IsHexWord, WritesBytes, hex_text};
 
 use crate::digits::{parse_number, write_number};
@@ -102,6 +104,57 @@ fn parse_bytes<const N: usize>(word: &[u8]) -> Option<[u8; N]>
     if word.len() % 2 != 0 || word.len() / 2 != N {
         return None;
     }
+    if N <= 32 {
+        parse_short(word)
+    } else {
+        parse_long(word)
+    }
+}
+
+// The same of at most 32 bytes: first the value of each digit, then the byte of each two, so that the compiler makes
+// vectors of both loops.
+#[inline(always)]
+fn parse_short<const N: usize>(word: &[u8]) -> Option<[u8; N]>
+    requires few { N ≤ 32 }
+    requires digits { length word.now ≡ 2 * N }
+    ensures value { IfSome result (WritesBytes word.now) }
+    ensures some { IsSome result ↔ IsHexWord N word.now }
+{
+    let mut values = [0; 64];
+    if put_values(word, &mut values) >= 16 {
+        return None;
+    }
+    let mut bytes = [0; N];
+    for at in 0..N {
+        let pair = u16::from_le_bytes([values[2 * at], values[2 * at + 1]]);
+        bytes[at] = (16 * (pair % 16) + pair / 256) as u8;
+    }
+    Some(bytes)
+}
+
+// Puts the value of each digit at its place. Returns the largest, which is 16 where a byte is no digit.
+#[inline(always)]
+fn put_values(digits: &[u8], values: &mut [u8; 64]) -> u8
+    requires { length digits.now ≤ 64 }
+    ensures values { result < 16 → (k : ℕ) → k < length digits.now
+        → IsValueOf (slice_index digits.now k) (slice_index values.new k) }
+    ensures other { AllPass is_ascii_hexdigit digits.now → result < 16 }
+{
+    let mut largest = 0;
+    for at in 0..digits.len() {
+        let value = digit_value(digits[at]);
+        values[at] = value;
+        largest = max_of(largest, value);
+    }
+    largest
+}
+
+// The same of any number of bytes.
+fn parse_long<const N: usize>(word: &[u8]) -> Option<[u8; N]>
+    requires { length word.now ≡ 2 * N }
+    ensures value { IfSome result (WritesBytes word.now) }
+    ensures some { IsSome result ↔ IsHexWord N word.now }
+{
     let mut bytes = [0; N];
     let mut largest = 0;
     for at in 0..N {

@@ -3,7 +3,7 @@ use Rattle.std.specs.Char.{is_ascii_hexdigit}
 use Rattle.std.proofs.lemmas.List.{take_more_set, length-set, get_or_default}
 use Rattle.odht_tool_core.specs.Texts.{WritesBytes}
 use Rattle.odht_tool_core.proofs.Words.{one_more}
-use Rattle.odht_tool_core.proofs.text.parse_bytes.Goals as goal
+use Rattle.odht_tool_core.proofs.text.parse_long.Goals as goal
 
 pub loop-at-preserved : goal.loop-at-preserved
 loop-at-preserved g c =
@@ -16,7 +16,7 @@ loop-at-preserved g c =
     let largest = c.max_of-largest.result in
     let is_largest : largest ≡ max l.largest (max high low) = c.max_of-largest.ensures ∙ ap (max l.largest) c.max_of.ensures in
     let room : at < length l.bytes = omega (arith, c.loop-at-test.true, l.invariant.long) in
-    let inside : 2 * at + 1 < length word = omega (arith, c.loop-at-test.true, c.if-word-ne0.false, c.if-word.false) in
+    let inside : 2 * at + 1 < length word = omega (arith, c.loop-at-test.true, c.requires) in
     let next : 2 * (at + 1) ≡ 2 * at + 1 + 1 = omega arith in
     let all_small = λ (small : largest < 16). let sized : (l.largest < 16) × (high < 16) × (low < 16) = (omega (arith, is_largest), omega (arith, is_largest), omega (arith, is_largest)) in sized in
     record {
@@ -43,7 +43,7 @@ pub returns-then-largest-lt16-clause-value : goal.returns-then-largest-lt16-clau
 returns-then-largest-lt16-clause-value g c =
     let word = c.args.word.now in
     let l = c.loop-at in
-    let digits : take (2 * l.at) word ≡ word = take_all (2 * l.at) word (omega (arith, c.loop-at-test.false, c.if-word-ne0.false, c.if-word.false)) in
+    let digits : take (2 * l.at) word ≡ word = take_all (2 * l.at) word (omega (arith, c.loop-at-test.false, c.requires)) in
     let bytes : take l.at l.bytes ≡ l.bytes = take_all l.at l.bytes (omega (arith, c.loop-at-test.false, l.invariant.long)) in
     subst (WritesBytes word) bytes (subst (λ ds. WritesBytes ds (take l.at l.bytes)) digits (l.invariant.value c.if-largest-lt16.true))
 
@@ -52,9 +52,9 @@ returns-then-largest-lt16-clause-some g c =
     let word = c.args.word.now in
     let l = c.loop-at in (
       λ _. (
-        omega (arith, c.if-word-ne0.false, c.if-word.false),
+        omega (arith, c.requires),
         λ k d inside.
-            rw (get_or_default word k d 0 inside) (l.invariant.digits c.if-largest-lt16.true k (omega (arith, c.loop-at-test.false, c.if-word-ne0.false, c.if-word.false))),
+            rw (get_or_default word k d 0 inside) (l.invariant.digits c.if-largest-lt16.true k (omega (arith, c.loop-at-test.false, c.requires))),
       ),
       λ _. refl,
     )

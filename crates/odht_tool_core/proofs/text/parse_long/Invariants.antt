@@ -2,7 +2,7 @@ use Rattle.std.proofs.Common.{◌≡◌, ℕ, true, ◌<◌, take, get_or, lengt
 use Rattle.std.specs.Char.{is_ascii_hexdigit}
 use Rattle.std.specs.List.{AllPass}
 use Rattle.odht_tool_core.specs.Texts.{WritesBytes}
-use Rattle.odht_tool_core.proofs.text.parse_bytes.Given as goal
+use Rattle.odht_tool_core.proofs.text.parse_long.Given as goal
 
 -- where all bytes so far are digits, the bytes so far are those of twice as many
 abbrev pub invariant-loop-at : goal.invariant-loop-at
