@@ -1,6 +1,7 @@
 //! Runs a script: a list of lines, each of which makes, changes or prints a table, or checks bytes.
 ghost use Rattle.std.specs.Prelude.{◌≡◌, ◌≢◌, ◌↔◌, ◌⊎◌, ◌<◌, ◌≤◌, false, IfOk, OnOk, IfSome};
-ghost use Rattle.std.specs.Prelude.{IsErrOf, Some, ℕ, ◌*◌, List, ◌∷◌, ◌++◌, codes, length, position, take};
+ghost use Rattle.std.specs.Prelude.{IsErrOf, Some, ℕ, ◌*◌, List, ◌∷◌, ◌++◌, codes, length, position};
+ghost use Rattle.std.specs.Prelude.{take};
 ghost use Rattle.std.specs.Io.KnownBytes.{IsAtEnd, Appends};
 ghost use Rattle.std.specs.Fmt.{decimal, digit_glyph};
 ghost use Rattle.odht_base.specs.Load.{factor_of, max_items, slots_for};

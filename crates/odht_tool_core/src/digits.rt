@@ -1,5 +1,6 @@
 //! Numbers as decimal digits.
-ghost use Rattle.std.specs.Prelude.{◌≡◌, ◌+◌, ◌-◌, ◌*◌, ◌/◌, ◌%◌, ◌<◌, ◌≤◌, ◌^◌, ◌∷◌, ◌++◌, length, drop};
+ghost use Rattle.std.specs.Prelude.{◌≡◌, ◌+◌, ◌-◌, ◌*◌, ◌/◌, ◌%◌};
+ghost use Rattle.std.specs.Prelude.{◌<◌, ◌≤◌, ◌^◌, ◌∷◌, ◌++◌, length, drop};
 ghost use Rattle.std.specs.Prelude.{OnOk, SomeIff, decimal};
 ghost use Rattle.std.specs.Io.KnownBytes.{Appends};
 ghost use Rattle.std.specs.Str.Parse.{AllDigits, digits_value, digits_value_after};
@@ -14,8 +15,9 @@ const SAFE_DIGITS: usize = 19;
 
 // The digits of the numbers below 100, two each.
 static PAIRS: [u8; 200] = *b"\
-    0001020304050607080910111213141516171819202122232425262728293031323334353637383940414243444546474849\
-    5051525354555657585960616263646566676869707172737475767778798081828384858687888990919293949596979899";
+    00010203040506070809101112131415161718192021222324252627282930313233343536373839\
+    40414243444546474849505152535455565758596061626364656667686970717273747576777879\
+    8081828384858687888990919293949596979899";
 
 /// The number with these decimal digits. A sign is not a digit.
 pub(crate) fn parse_number(word: &[u8]) -> Option<u64>
@@ -62,8 +64,8 @@ fn parse_eight(digits: &[u8; 8]) -> Option<u64>
     Some(value_of_eight(u64::from_le_bytes(*digits)))
 }
 
-// The number of the eight digits that are the bytes of a word, the first of them the lowest. Its sum with a tenth of the
-// word one byte further on has a number of two digits in each second byte.
+// The number of the eight digits that are the bytes of a word, the first of them the lowest. Ten times the digits and
+// the digits one byte further on make a number of two digits in each second byte.
 #[inline(always)]
 fn value_of_eight(word: u64) -> u64
     requires low { 0x3030303030303030 ≤ word }
@@ -97,8 +99,8 @@ fn parse_few(front: u64, digits: &[u8]) -> Option<u64>
 // The number of the digits of `front` and these behind them. None as soon as it no longer fits.
 #[cold]
 fn parse_rest(front: u64, digits: &[u8]) -> Option<u64>
-    ensures { SomeIff result (AllDigits 10 digits.now × (digits_value_after 10 front digits.now < 2 ^ 64))
-        (digits_value_after 10 front digits.now) }
+    ensures { let value = digits_value_after 10 front digits.now
+        in SomeIff result (AllDigits 10 digits.now × (value < 2 ^ 64)) value }
 {
     let mut number = front;
     for digit in digits {
