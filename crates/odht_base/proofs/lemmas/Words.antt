@@ -1,10 +1,10 @@
 -- Numbers as the machine reads and writes them, and lists of bytes that are compared by words.
-use Rattle.std.proofs.Common.{◌≡◌, ◌↔◌, ◌<◌, ◌≤◌, ◌∙◌, ◌+◌, ◌-◌, ◌*◌, ◌^◌, ℕ, zero, suc, refl, sym, ap, ap₂, arith, pow-suc, List, [], ◌∷◌, ◌++◌, length, take, get_or, length-take, All, IsTrue, nat_eq, Bool, eqb-true, eq-eqb, mul_assoc}
+use Rattle.std.proofs.Common.{◌≡◌, ◌↔◌, ◌<◌, ◌≤◌, ◌∙◌, ◌+◌, ◌-◌, ◌*◌, ◌^◌, ℕ, zero, suc, refl, sym, ap, ap₂, arith, pow-suc, List, [], ◌∷◌, ◌++◌, length, take, drop, get_or, length-take, All, IsTrue, nat_eq, Bool, eqb-true, eq-eqb, mul_assoc, subst}
 use Rattle.std.specs.Int.{Width, byte_len, byte_worth, sum_through, from_le_bytes}
 use Rattle.std.proofs.Math.Seq.{take-suc, take-length}
 use Rattle.odht_base.specs.Bytes.{bytes_at}
 use Rattle.odht_base.specs.Numbers.{num, le_bytes}
-use Rattle.odht_base.proofs.lemmas.ByteRanges.{length-bytes_at, bytes_at-whole, bytes_at-add, bytes_at-bytes_at, All-bytes_at}
+use Rattle.odht_base.proofs.lemmas.ByteRanges.{length-bytes_at, bytes_at-take, bytes_at-whole, bytes_at-add, bytes_at-bytes_at, All-bytes_at}
 use Rattle.odht_base.proofs.lemmas.Numbers.{le_bytes-num}
 
 -- ---- what `from_le_bytes` reads
@@ -40,11 +40,11 @@ from_le_bytes-num w b n pos =
 num-injective : (b c : List ℕ) → length b ≡ length c → All (λ x. x < 256) b → All (λ x. x < 256) c → num b ≡ num c → b ≡ c
 num-injective b c n f h e = sym (le_bytes-num b f) ∙ ap (le_bytes (length b)) e ∙ ap (λ m. le_bytes m (num c)) n ∙ le_bytes-num c h
 
--- comparing two words compares their bytes
-pub word_decides : (xs ys : List ℕ) (at a b : ℕ) → at + 8 ≤ length xs → at + 8 ≤ length ys → All (λ x. x < 256) xs → All (λ x. x < 256) ys → a ≡ num (bytes_at xs at 8) → b ≡ num (bytes_at ys at 8)
-    → IsTrue (nat_eq a b) ↔ (bytes_at xs at 8 ≡ bytes_at ys at 8)
-word_decides xs ys at a b l m f h ea eb = (
-  λ t. num-injective (bytes_at xs at 8) (bytes_at ys at 8) (length-bytes_at xs at 8 l ∙ sym (length-bytes_at ys at 8 m)) (All-bytes_at xs at 8 f) (All-bytes_at ys at 8 h) (sym ea ∙ eqb-true a b t ∙ eb),
+-- comparing the numbers of w bytes compares these bytes
+pub number_decides : (xs ys : List ℕ) (at w a b : ℕ) → at + w ≤ length xs → at + w ≤ length ys → All (λ x. x < 256) xs → All (λ x. x < 256) ys → a ≡ num (bytes_at xs at w) → b ≡ num (bytes_at ys at w)
+    → IsTrue (nat_eq a b) ↔ (bytes_at xs at w ≡ bytes_at ys at w)
+number_decides xs ys at w a b l m f h ea eb = (
+  λ t. num-injective (bytes_at xs at w) (bytes_at ys at w) (length-bytes_at xs at w l ∙ sym (length-bytes_at ys at w m)) (All-bytes_at xs at w f) (All-bytes_at ys at w h) (sym ea ∙ eqb-true a b t ∙ eb),
   λ e. eq-eqb a b (ea ∙ ap num e ∙ sym eb),
 )
 
@@ -62,3 +62,23 @@ pair_decides xs ys at n m r e w = (
 -- comparing all bytes compares the lists
 pub whole_decides : (xs ys : List ℕ) (n : ℕ) (r : Bool) → length xs ≡ n → length ys ≡ n → (IsTrue r ↔ (bytes_at xs 0 n ≡ bytes_at ys 0 n)) → IsTrue r ↔ (xs ≡ ys)
 whole_decides xs ys n r l m w = (λ t. sym (bytes_at-whole xs n l) ∙ w.0 t ∙ bytes_at-whole ys n m, λ e. w.1 (ap (λ b. bytes_at b 0 n) e))
+
+-- comparing the m bytes behind n equal first ones compares the first n + m
+pub next_decides : (xs ys : List ℕ) (n m : ℕ) (r : Bool) → bytes_at xs 0 n ≡ bytes_at ys 0 n → (IsTrue r ↔ (bytes_at xs n m ≡ bytes_at ys n m)) → IsTrue r ↔ (bytes_at xs 0 (n + m) ≡ bytes_at ys 0 (n + m))
+next_decides xs ys n m r e w =
+    let zero_n : 0 + n ≡ n = omega arith in
+    pair_decides xs ys 0 n m r e (subst (λ k. IsTrue r ↔ (bytes_at xs k m ≡ bytes_at ys k m)) (sym zero_n) w)
+
+-- and comparing all behind them compares the lists
+pub rest_decides : (xs ys : List ℕ) (n : ℕ) (r : Bool) → length xs ≡ length ys → n ≤ length ys → bytes_at xs 0 n ≡ bytes_at ys 0 n
+    → (IsTrue r ↔ (take (length xs - n) (drop n xs) ≡ take (length ys - n) (drop n ys))) → IsTrue r ↔ (xs ≡ ys)
+rest_decides xs ys n r e l same w =
+    let m : ℕ = length ys - n in
+    let whole : n + m ≡ length ys = omega arith in
+    let left = behind xs e in
+    let right = behind ys refl in
+    whole_decides xs ys (length ys) r e refl
+    (subst (λ k. IsTrue r ↔ (bytes_at xs 0 k ≡ bytes_at ys 0 k)) whole (next_decides xs ys n m r same (λ t. sym left ∙ w.0 t ∙ right, λ s. w.1 (left ∙ s ∙ sym right))))
+  where
+    behind : (b : List ℕ) → length b ≡ length ys → take (length b - n) (drop n b) ≡ bytes_at b n (length ys - n)
+    behind b k = ap (λ j. take (j - n) (drop n b)) k ∙ sym (bytes_at-take b n (length ys - n))

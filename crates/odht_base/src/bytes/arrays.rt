@@ -79,7 +79,7 @@ impl<const LEN: usize> ByteArray for [u8; LEN] {
         as_bytes(self)
     }
 
-    // Arrays of one to four words are compared a word at a time.
+    // Arrays of one to four words are compared a word at a time, with no loop.
     #[inline]
     fn equals(&self, other: &Self) -> bool {
         let (left, right): (&[u8], &[u8]) = (self, other);
@@ -88,7 +88,7 @@ impl<const LEN: usize> ByteArray for [u8; LEN] {
             16 => is_same_pair(left, right, 0),
             24 => is_same_pair(left, right, 0) && is_same_word(left, right, 16),
             32 => is_same_pair(left, right, 0) && is_same_pair(left, right, 16),
-            _ => *self == *other,
+            _ => is_same_bytes(left, right),
         }
     }
 }
@@ -134,6 +134,50 @@ pub fn is_same_word(left: &[u8], right: &[u8], at: usize) -> bool
     ensures { IsTrue result ↔ (bytes_at left.now at 8 ≡ bytes_at right.now at 8) }
 {
     read_u64(left, at) == read_u64(right, at)
+}
+
+/// Whether two slices of the same length have the same bytes. They are compared where they are.
+///
+/// Up to 64 bytes are compared in pieces of eight, then one of four, then the rest: a copy of a short key is written in
+/// such pieces too, and read back fastest in the same.
+#[inline(always)]
+pub fn is_same_bytes(left: &[u8], right: &[u8]) -> bool
+    requires { length left.now ≡ length right.now }
+    ensures { IsTrue result ↔ (left.now ≡ right.now) }
+{
+    let len = right.len();
+    if len > 64 {
+        return is_same_list(left, right);
+    }
+    let mut at = 0;
+    'words: while len - at >= 8 {
+        if !is_same_word(left, right, at) {
+            return false;
+        }
+        at += 8;
+    }
+    if len - at < 4 {
+        return is_same_list(&left[at..], &right[at..]);
+    }
+    is_same_half(left, right, at) && is_same_list(&left[at + 4..], &right[at + 4..])
+}
+
+// Whether two slices are equal.
+#[inline(always)]
+fn is_same_list(left: &[u8], right: &[u8]) -> bool
+    ensures { IsTrue result ↔ (left.now ≡ right.now) }
+{
+    left == right
+}
+
+// Whether the four bytes from `at` on are equal.
+#[inline]
+fn is_same_half(left: &[u8], right: &[u8], at: usize) -> bool
+    requires left { at + 4 ≤ length left.now }
+    requires right { at + 4 ≤ length right.now }
+    ensures { IsTrue result ↔ (bytes_at left.now at 4 ≡ bytes_at right.now at 4) }
+{
+    read_u32(left, at) == read_u32(right, at)
 }
 
 // Whether the sixteen bytes from `at` on are equal.
