@@ -1,9 +1,9 @@
 //! The entries of a table, read from their bytes.
-ghost use Rattle.std.specs.Prelude.{◌≡◌, ◌+◌, ◌*◌, ◌<◌, ◌≤◌, length};
+ghost use Rattle.std.specs.Prelude.{◌≡◌, ◌↔◌, ◌+◌, ◌*◌, ◌<◌, ◌≤◌, length, IsTrue};
 ghost use Rattle.odht_base.specs.Decoded.{slot_key, slot_value};
 ghost use Rattle.odht_raw.specs.Parts.{entry_format};
 
-use crate::bytes::ByteArray;
+use crate::bytes::{ByteArray, is_same_bytes};
 use std::marker::{Model, PhantomData};
 
 /// An entry: an encoded key and its encoded value, as a slot holds them.
@@ -105,5 +105,17 @@ impl<'a, K: ByteArray, V: ByteArray> Entries<'a, K, V> {
             key: K::from_slice(&entry[..K::LEN]),
             value: V::from_slice(&entry[K::LEN..]),
         }
+    }
+
+    /// Whether the key of a slot is `key`. Its bytes are compared where they are, and the value is not read.
+    #[inline(always)]
+    pub(crate) fn has_key(&self, slot: usize, key: &K) -> bool
+        requires { slot < self.now.slots }
+        ensures { IsTrue result
+            ↔ (slot_key (entry_format K.LEN V.LEN) self.now.bytes slot ≡ K.bytes key.now) }
+    {
+        let bytes = self.bytes;
+        let at = slot * (K::LEN + V::LEN);
+        is_same_bytes(&bytes[at..at + K::LEN], key.as_slice())
     }
 }

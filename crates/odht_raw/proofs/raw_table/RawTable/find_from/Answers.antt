@@ -72,26 +72,26 @@ module _ (g : Over) (c : After-first_match g) where
   next : (i : ℕ) → Some i ≡ slice_get c.matches.group.matches 0 → Contains (matches (format g) T k count mirrored small) i
   next i e = subst (λ xs. Contains xs i) listed (taken-first _ _ _ i c.matches.invariant.taken e)
 
-pub overflow_add-home : goal.overflow_add-home
-overflow_add-home g c =
-    let at = (goal.at.overflow_add-home g c).After-first_match in
+pub overflow_add-slot : goal.overflow_add-slot
+overflow_add-slot g c =
+    let at = (goal.at.overflow_add-slot g c).After-first_match in
     let few = few_slots c.args.self.now.entries.slots (count g at) in
     let low = home-lt (format g) (T g at) (k g at) (count g at) (mirrored g at) (small g at) in
     let index = match-lt (format g) (T g at) (k g at) (count g at) (mirrored g at) (small g at) c.in-Some.index (next g at c.in-Some.index (sym c.in-Some.is ∙ c.first_match.ensures)) in
     omega (arith, at_home g at, few, low, index)
 
-pub returns-then-equals : goal.returns-then-equals
-returns-then-equals g c =
-    let at = (goal.at.returns-then-equals g c).After-first_match in
+pub returns-then-has_key : goal.returns-then-has_key
+returns-then-has_key g c =
+    let at = (goal.at.returns-then-has_key g c).After-first_match in
     let F = format g in
     let T = c.args.self.now in
     let f = g.V.ByteArray.of_bytes in
     let i : ℕ = c.in-Some.index in
     let slot : ℕ = bit_and (bit_and c.look.inside.hash (c.len-mask.result - 1) + i) (c.len-mask.result - 1) in
     let here : ℕ = (home F (k g at) T.entries.slots + i) % T.entries.slots in
-    let stored = c.get-entry.ensures.key_bytes ∙ ap (λ (t : TableParts). slot_key F t.entries.bytes slot) c.self.view_is ∙ ap (slot_key F T.entries.bytes) (masked g at i) in
-    let key = sym stored ∙ c.equals.ensures.0 c.if-equals.true in
-    let value = c.get-entry.ensures.value ∙ ap (λ (t : TableParts). f (slot_value F t.entries.bytes slot)) c.self.view_is ∙ ap (λ n. f (slot_value F T.entries.bytes n)) (masked g at i) in
+    let read = ap (λ (t : TableParts). slot_key F t.entries.bytes slot) c.self.view_is ∙ ap (slot_key F T.entries.bytes) (masked g at i) in
+    let key = sym read ∙ c.has_key.ensures.0 c.if-has_key.true in
+    let value = c.get.ensures.value ∙ ap (λ (t : TableParts). f (slot_value F t.entries.bytes slot)) c.self.view_is ∙ ap (λ n. f (slot_value F T.entries.bytes n)) (masked g at i) in
     record {
       on_placed = λ P h.
           let found = first_look-found F (T) (k g at) (count g at) (mirrored g at) (small g at) P (fits g at) h i (next g at i (sym c.in-Some.is ∙ c.first_match.ensures)) key in
@@ -106,11 +106,11 @@ matches-preserved g c =
     let F = format g in
     let i : ℕ = c.in-Some.index in
     let slot : ℕ = bit_and (bit_and c.look.inside.hash (c.len-mask.result - 1) + i) (c.len-mask.result - 1) in
-    let key = c.get-entry.ensures.key_bytes ∙ ap (λ (t : TableParts). slot_key F t.entries.bytes slot) c.self.view_is ∙ ap (slot_key F c.args.self.now.entries.bytes) (masked g at i) in
+    let read = ap (λ (t : TableParts). slot_key F t.entries.bytes slot) c.self.view_is ∙ ap (slot_key F c.args.self.now.entries.bytes) (masked g at i) in
     record {
       same = c.drop_match.ensures.free ∙ c.matches.invariant.same;
       taken = taken-next _ _ _ _ i c.matches.invariant.taken (sym c.in-Some.is ∙ c.first_match.ensures) c.drop_match.ensures.rest
-          (λ e. true≢false (sym (c.equals.ensures.1 (key ∙ e)) ∙ c.if-equals.false));
+          (λ e. true≢false (sym (c.has_key.ensures.1 (read ∙ e)) ∙ c.if-has_key.false));
     }
 
 pub returns-then-any_empty : goal.returns-then-any_empty
@@ -134,11 +134,11 @@ returns-in-Found g c =
     let f = g.V.ByteArray.of_bytes in
     let k : List ℕ = g.K.ByteArray.bytes c.args.key.now in
     let there = c.in-Found.ensures.slot in
-    subst (λ (t : TableParts). IsFind F f t k (Some c.get.result.value)) c.self.view_is (record {
+    subst (λ (t : TableParts). IsFind F f t k (Some c.get-in-Found.result.value)) c.self.view_is (record {
       on_placed = λ P h.
           let at = answer-Found F P k h.placed c.in-Found.slot (c.in-Found.ensures.on_placed P h) in
-          ap Some (c.get.ensures.value ∙ ap f (found_value F P _ _ h k c.in-Found.slot at)) ∙ sym (ap (option_map f) at.value);
-      on_any = (c.in-Found.slot, there.0, there.1, c.get.ensures.value);
+          ap Some (c.get-in-Found.ensures.value ∙ ap f (found_value F P _ _ h k c.in-Found.slot at)) ∙ sym (ap (option_map f) at.value);
+      on_any = (c.in-Found.slot, there.0, there.1, c.get-in-Found.ensures.value);
     })
 
 -- no value in the parts

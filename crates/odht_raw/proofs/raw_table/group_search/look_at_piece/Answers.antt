@@ -23,20 +23,20 @@ overflow_add-slot g c =
     let l = c.requires.start in
     search rules
 
-pub returns-then-equals-clause-on_placed : goal.returns-then-equals-clause-on_placed
-returns-then-equals-clause-on_placed g c P p at =
+pub returns-then-has_key-clause-on_placed : goal.returns-then-has_key-clause-on_placed
+returns-then-has_key-clause-on_placed g c P p at =
     let F : Format = format_of g.K.ByteArray.LEN g.V.ByteArray.LEN g.H.HashFn.hash in
     let k : List ℕ = g.K.ByteArray.bytes c.args.key.now in
     let f = IsFormat-format_of _ _ _ _ c.requires.lengths.key c.requires.lengths.value c.requires.lengths.hashes g.met.H.HashFn.fits in
     let report = subst (λ h. IsReport c.args.bytes.now h (g.Q.Group.matches c.of-group.result)) c.requires.tag.is c.of-group.ensures.matches in
     let match = taken-first _ _ _ c.in-Some.index c.matches.invariant.taken c.in-Some.ensures in
     let masked = ap (λ n. bit_and (c.args.start + c.in-Some.index) (n - 1)) c.len-mask.ensures ∙ bit_and-slots (c.args.start + c.in-Some.index) c.args.entries.now.slots c.requires.slots in
-    let same = ap (slot_key F c.args.entries.now.bytes) (sym masked) ∙ sym c.get.ensures.key_bytes ∙ c.equals.ensures.0 c.if-equals.true in
+    let same = ap (slot_key F c.args.entries.now.bytes) (sym masked) ∙ c.has_key.ensures.0 c.if-has_key.true in
     let found = look_found F P c.args.entries.now k p c.args.start c.args.bytes.now f at _ report c.in-Some.index match same in
     (ap Found masked ∙ found.0, subst (EndsWithin F P k p) c.requires.len found.1)
 
-pub returns-then-equals-clause-slot : goal.returns-then-equals-clause-slot
-returns-then-equals-clause-slot g c =
+pub returns-then-has_key-clause-slot : goal.returns-then-has_key-clause-slot
+returns-then-has_key-clause-slot g c =
     let F : Format = format_of g.K.ByteArray.LEN g.V.ByteArray.LEN g.H.HashFn.hash in
     let k : List ℕ = g.K.ByteArray.bytes c.args.key.now in
     let report = subst (λ h. IsReport c.args.bytes.now h (g.Q.Group.matches c.of-group.result)) c.requires.tag.is c.of-group.ensures.matches in
@@ -45,7 +45,7 @@ returns-then-equals-clause-slot g c =
       c.in-Some.index,
       omega (arith, (report.occupied c.in-Some.index match).0, c.requires.len),
       masked,
-      sym c.get.ensures.key_bytes ∙ c.equals.ensures.0 c.if-equals.true,
+      c.has_key.ensures.0 c.if-has_key.true,
       other-before F c.args.entries.now c.args.bytes.now c.args.start k _ _ c.in-Some.index report c.matches.invariant.taken c.matches.invariant.rising c.in-Some.ensures,
     )
 
@@ -64,7 +64,7 @@ matches-preserved g c =
       rising = subst IsStrictlyIncreasing (sym c.drop_match.ensures.rest) (rising-drop _ c.matches.invariant.rising);
       same = c.drop_match.ensures.free ∙ c.matches.invariant.same;
       taken = taken-next _ _ _ _ c.in-Some.index c.matches.invariant.taken c.in-Some.ensures c.drop_match.ensures.rest
-          (λ e. true≢false (sym (c.equals.ensures.1 (c.get.ensures.key_bytes ∙ ap (slot_key F c.args.entries.now.bytes) masked ∙ e)) ∙ c.if-equals.false));
+          (λ e. true≢false (sym (c.has_key.ensures.1 (ap (slot_key F c.args.entries.now.bytes) masked ∙ e)) ∙ c.if-has_key.false));
     }
 
 pub overflow_add-result : goal.overflow_add-result
