@@ -47,6 +47,8 @@ pub mod FirstLooks
 pub mod MirrorChecks
 -- the slots before a key's own, in its probe order
 pub mod KeyPasses
+-- which a look at a group tells
+pub mod PartLooks
 -- how many groups a search may read
 pub mod Bounds
 -- and that none reads more in a placed table

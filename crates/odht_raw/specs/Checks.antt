@@ -4,8 +4,10 @@
 --     IsFitting F T        neither a slot of T nor the mirror gives an error
 --     IsSlotHash F T i o   o is the hash of the key in slot i, or none where the slot counts as free
 --     ArePassed F T k b n  none of the n slots from b on, modulo the slot count, is free or holds the key k
+--     IsLookAt g h q       q is a search of the group g for the tag h
 use Rattle.std.specs.Prelude.{◌≡◌, ℕ, ◌+◌, ◌%◌, ◌<◌, List, length, filter_map, slice_index, Option, None, MatchOption, IsTrue, IsFalse}
 use Rattle.odht_base.specs.Format.{Format}
+use Rattle.odht_base.specs.Groups.{GroupMatches, IsReport, first_free}
 use Rattle.odht_base.specs.Search.{stops_at}
 use Rattle.odht_base.specs.Decoded.{counts_as_free, slot_key, decoded_cells}
 use Rattle.odht_base.specs.Table.{Cells}
@@ -29,3 +31,7 @@ IsSlotHash F T i o =
 
 abbrev pub ArePassed : Format → TableParts → List ℕ → ℕ → ℕ → Type 0
 ArePassed F T k b n = (j : ℕ) → j < n → IsFalse (stops_at (cells_of F T) k ((b + j) % T.entries.slots))
+
+pub record IsLookAt (g : List ℕ) (h : ℕ) (q : GroupMatches) : Type 0 where
+  pub report : IsReport g h q.matches
+  pub free : q.free ≡ first_free g

@@ -69,6 +69,19 @@ pub taken-all : (all left : List ℕ) (T : ℕ → Type 0) → IsTaken all left 
 taken-all all [] T t e i c = elim (t.others i c) [ inl more ↦ absurd (omega (arith, more.1)) | inr gone ↦ gone ]
 taken-all all (y ∷ left) T t e i c = absurd (none-some y e)
 
+-- of rising matches the first is the least
+pub rising-first : (xs : List ℕ) (x i : ℕ) → IsStrictlyIncreasing xs → Some x ≡ slice_get xs 0 → Contains xs i → x ≤ i
+rising-first [] x i h e c = absurd (none-some x (sym e))
+rising-first (y ∷ xs) x i h e (zero, l, at) = omega (arith, some_same x y e, at)
+rising-first (y ∷ xs) x i h e (suc k, l, at) =
+    let less : y < get_or xs k i = AllPairs-from_increasing (y ∷ xs) h 0 (suc k) i (omega arith) l in
+    omega (arith, some_same x y e, at, less)
+
+-- and those behind it rise
+pub rising-rest : (xs ys : List ℕ) → ys ≡ drop 1 xs → IsStrictlyIncreasing xs → IsStrictlyIncreasing ys
+rising-rest [] ys e h = subst IsStrictlyIncreasing (sym e) h
+rising-rest (x ∷ xs) ys e h = subst IsStrictlyIncreasing (sym e) (λ k l. let next : suc k + 1 ≡ suc (k + 1) = omega arith in subst (λ n. get_or xs k 0 < get_or (x ∷ xs) n 0) next (h (suc k) (omega arith)))
+
 -- where no item is the first that passes, each fails
 pub position-None : (t : ℕ → Bool) (xs : List ℕ) (d : ℕ) → position t xs ≡ None → (i : ℕ) → i < length xs → t (get_or xs i d) ≡ false
 position-None t xs d e i l = elim (cases_lt (position_or_len t xs) (length xs)) [

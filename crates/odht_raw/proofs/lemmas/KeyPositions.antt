@@ -1,5 +1,5 @@
 -- The search for the key of a slot, a group at a time: the slot's position in the probe order, and what the groups say.
-use Rattle.std.proofs.Common.{◌≡◌, ℕ, ◌+◌, ◌-◌, ◌%◌, ◌<◌, ◌≤◌, ◌↔◌, inl, inr, sym, ap, ◌∙◌, subst, arith, Bool, true, false, true≢false, IsTrue, List, length, refl}
+use Rattle.std.proofs.Common.{◌≡◌, ℕ, ◌+◌, ◌-◌, ◌*◌, ◌%◌, ◌<◌, ◌≤◌, ◌↔◌, inl, inr, sym, ap, ◌∙◌, subst, arith, Bool, true, false, true≢false, IsTrue, List, length, refl}
 use Rattle.std.proofs.Math.Nat.{mod-eq_of_lt, add-mod_right}
 use Rattle.std.proofs.lemmas.Bool.{cases_lt}
 use Rattle.odht_base.specs.Format.{Format, home}
@@ -7,7 +7,7 @@ use Rattle.odht_base.specs.Load.{IsSlotCount}
 use Rattle.odht_base.specs.Probe.{probe_slot}
 use Rattle.odht_base.specs.Search.{search_end, stops_at, is_at}
 use Rattle.odht_base.specs.Table.{Cells}
-use Rattle.odht_base.proofs.lemmas.Orders.{probe_slot-lt, probe_slot-onto}
+use Rattle.odht_base.proofs.lemmas.Orders.{probe_slot-lt, probe_slot-group, probe_slot-onto}
 use Rattle.odht_raw.proofs.lemmas.KeyPasses.{ends_there, ends_elsewhere}
 use Rattle.odht_raw.proofs.lemmas.ProbeSteps.{probe_slot-step}
 
@@ -41,6 +41,12 @@ behind-only s b i j lb lj e = elim (cases_lt (b + j) s) [
       let turn : i + s - b ≡ j = omega (arith, is, sum) in
       ap (λ y. y % s) turn ∙ mod-eq_of_lt {n = j} {m = s} lj
 ]
+
+-- the order begins at its home
+pub home_position : (b s : ℕ) → b < s → probe_slot b s 0 ≡ b
+home_position b s l =
+    let sum : b + 8 * 0 * (0 + 1) + 0 ≡ b = omega arith in
+    probe_slot-group b s 0 0 (omega arith) ∙ ap (λ x. x % s) sum ∙ mod-eq_of_lt {n = b} {m = s} l
 
 -- ---- the group at position p of the order of the hash h among s slots, whose first slot is b, and the slot i
 module _ (h s b p i : ℕ) (count : IsSlotCount s) (aligned : p % 16 ≡ 0) (within : p + 16 ≤ s) (at : b ≡ probe_slot (h % s) s p) (low : i < s) where

@@ -1,15 +1,17 @@
 //! The whole check of the parts of a table: each slot, the mirror, and that the search for each key ends at its slot.
-ghost use Rattle.std.specs.Prelude.{◌≡◌, ◌<◌, ◌≤◌, ◌↔◌, slice_index, option_map, IfOk, IsTrue};
+ghost use Rattle.std.specs.Prelude.{◌≡◌, ◌%◌, ◌/◌, ◌^◌, ◌<◌, ◌≤◌, ◌↔◌, slice_index, option_map, IfOk};
+ghost use Rattle.std.specs.Prelude.{IsTrue};
 ghost use Rattle.std.specs.Prelude.{IsFalse, None};
 ghost use Rattle.std.specs.Result.{result_err};
+ghost use Rattle.odht_base.specs.Bytes.{bytes_at};
 ghost use Rattle.odht_base.specs.Format.{format_of, tag as key_tag};
 ghost use Rattle.odht_base.specs.Search.{search_end, is_at};
 ghost use Rattle.odht_base.specs.Decoded.{counts_as_free, slot_key};
-ghost use Rattle.odht_raw.specs.Checks.{cells_of, decoded_count, IsFitting, ArePassed};
+ghost use Rattle.odht_raw.specs.Checks.{cells_of, decoded_count, IsFitting, ArePassed, IsLookAt};
 ghost use Rattle.odht_header.specs.Refusals.{checked, bad_free_control, slots_refusal};
 ghost use Rattle.odht_header.specs.Refusals.{mirror_refusal, reach_refusal};
 
-use super::{FREE, ProbeSeq, RawTable, tag_of};
+use super::{FREE, ProbeSeq, RawTable, Scan, tag_of};
 use crate::bytes::ByteArray;
 use crate::error::Error;
 use crate::hash::HashFn;
@@ -82,10 +84,11 @@ impl<'a, K: ByteArray, V: ByteArray, H: HashFn> RawTable<'a, K, V, H> {
     // key is compared only with keys at earlier positions that have its tag.
     //
     // This asks for more than `IsReached` does: the second copy of a key may be reached, but no search ends at it.
+    //
+    // Most keys are in the group of their home, with no free byte and no match before them: then this is all.
     #[inline]
     fn is_reached(&self, slot: usize, hash: u32) -> bool
         requires slot { slot < self.now.entries.slots }
-        requires occupied { IsFalse (counts_as_free (slice_index self.now.control slot)) }
         requires hash { hash
             ≡ H.hash (slot_key (format_of K.LEN V.LEN H.hash) self.now.entries.bytes slot) }
         ensures { let F = format_of K.LEN V.LEN H.hash
@@ -95,44 +98,88 @@ impl<'a, K: ByteArray, V: ByteArray, H: HashFn> RawTable<'a, K, V, H> {
     {
         let slots = self.entries.len();
         let mask = slots - 1;
+        let home = hash as usize & mask;
+        let before = (slot + slots - home) & mask;
+        let group = self.look_at(home, tag_of(hash));
+        if before < REFERENCE_GROUP_SIZE
+            && group.first_empty().unwrap_or(REFERENCE_GROUP_SIZE) >= before
+            && group.first_match().unwrap_or(REFERENCE_GROUP_SIZE) >= before
+        {
+            return true;
+        }
+        self.is_reached_late(slot, hash, group)
+    }
+
+    // The same, group by group. The first group is at hand.
+    //
+    // Inlined, it would take registers from the look at the first group.
+    #[inline(never)]
+    fn is_reached_late(&self, slot: usize, hash: u32, first: GroupQuery) -> bool
+        requires slot { slot < self.now.entries.slots }
+        requires hash { hash
+            ≡ H.hash (slot_key (format_of K.LEN V.LEN H.hash) self.now.entries.bytes slot) }
+        requires group { IsLookAt (bytes_at self.now.control (hash % self.now.entries.slots) 16)
+            (hash / 2 ^ 25) first }
+        ensures { let F = format_of K.LEN V.LEN H.hash
+            in IsFitting F self.now
+            → result ≡ is_at slot
+            (search_end F (cells_of F self.now) (slot_key F self.now.entries.bytes slot)) }
+    {
+        let slots = self.entries.len();
+        let mask = slots - 1;
         let tag = tag_of(hash);
         let mut probe = ProbeSeq::<REFERENCE_GROUP_SIZE>::new(hash as usize, mask);
+        let mut group = first;
         'groups: loop {
             let start = probe.index();
             let before = (slot + slots - start) & mask;
             if before < REFERENCE_GROUP_SIZE {
-                return self.are_passed(start, before, slot, tag);
+                return self.are_passed(group, start, before, slot);
             }
-            if !self.are_passed(start, REFERENCE_GROUP_SIZE, slot, tag) {
+            if !self.are_passed(group, start, REFERENCE_GROUP_SIZE, slot) {
                 return false;
             }
             probe.advance(mask);
+            group = self.look_at(probe.index(), tag);
         }
     }
 
-    // Whether each of the `count` slots from `start` on, modulo the slot count, is occupied by another key than that of
-    // `slot`, whose tag is `tag`.
+    // The search for a tag in the group of sixteen control bytes from that of slot `start` on.
     #[inline]
-    fn are_passed(&self, start: usize, count: usize, slot: usize, tag: u8) -> bool
+    fn look_at(&self, start: usize, tag: u8) -> GroupQuery
+        requires start { start < self.now.entries.slots }
+        requires tag { tag < 128 }
+        ensures { IsLookAt (bytes_at self.now.control start 16) tag result }
+    {
+        let mut scan = Scan::new(self.control, self.entries.len());
+        GroupQuery::of(scan.group(start), tag)
+    }
+
+    // Whether each of the `count` slots from `start` on, modulo the slot count, is occupied by another key than that of
+    // `slot`. The group is that of these slots, searched for the tag of this key.
+    #[inline]
+    fn are_passed(&self, group: GroupQuery, start: usize, count: usize, slot: usize) -> bool
         requires start { start < self.now.entries.slots }
         requires count { count ≤ 16 }
         requires slot { slot < self.now.entries.slots }
-        requires tag { let F = format_of K.LEN V.LEN H.hash
-            in tag ≡ key_tag F (slot_key F self.now.entries.bytes slot) }
-        requires small { tag < 128 }
+        requires group { let F = format_of K.LEN V.LEN H.hash
+            in IsLookAt (bytes_at self.now.control start 16)
+            (key_tag F (slot_key F self.now.entries.bytes slot)) group }
         ensures { let F = format_of K.LEN V.LEN H.hash
             in IsFitting F self.now
             → IsTrue result
             ↔ ArePassed F self.now (slot_key F self.now.entries.bytes slot) start count }
     {
-        let control = &self.control[start..start + REFERENCE_GROUP_SIZE];
-        let mut group = GroupQuery::of(control, tag);
+        let mask = self.entries.len() - 1;
+        let mut group = group;
         if group.first_empty().unwrap_or(REFERENCE_GROUP_SIZE) < count {
             return false;
         }
-        let mask = self.entries.len() - 1;
         'matches: while let Some(index) = group.first_match() {
-            if index < count && self.have_same_key((start + index) & mask, slot) {
+            if index >= count {
+                return true;
+            }
+            if self.have_same_key((start + index) & mask, slot) {
                 return false;
             }
             group.drop_match();

@@ -1,111 +1,76 @@
-use Rattle.std.proofs.Common.{◌≡◌, ◌∙◌, ◌+◌, ◌-◌, ◌%◌, ◌<◌, ◌≤◌, ◌↔◌, ℕ, false, true≢false, IsTrue, bit_and, length, sym, ap, subst, arith, refl, inl, inr}
+use Rattle.std.proofs.Common.{◌≡◌, ◌∙◌, ℕ, ◌+◌, ◌-◌, ◌%◌, ◌/◌, ◌^◌, ◌<◌, ◌≤◌, true, bit_and, List, slice_get, sym, ap, subst, subst₂, arith, refl}
+use Rattle.std.specs.Option.{unwrap_or}
+use Rattle.odht_base.specs.Bytes.{bytes_at}
 use Rattle.odht_base.specs.Format.{Format, format_of}
-use Rattle.odht_base.specs.Load.{IsSlotCount}
-use Rattle.odht_base.specs.Probe.{probe_slot}
-use Rattle.odht_base.specs.Search.{stops_at}
 use Rattle.odht_base.specs.Decoded.{slot_key}
-use Rattle.odht_base.proofs.lemmas.SlotCounts.{bit_and-slots, sixteens}
-use Rattle.std.proofs.lemmas.Bool.{cases_lt}
-use Rattle.odht_raw.specs.Checks.{cells_of}
-use Rattle.odht_raw.specs.Parts.{TableParts}
+use Rattle.odht_base.proofs.lemmas.SlotCounts.{bit_and-slots}
+use Rattle.odht_raw.specs.Checks.{cells_of, IsLookAt}
+use Rattle.odht_raw.specs.Parts.{TableParts, IsTableParts}
 use Rattle.odht_raw.proofs.lemmas.KeyPasses.{slots_decoded, stops_key}
-use Rattle.odht_raw.proofs.lemmas.KeyPositions.{later_position, not_in_group, passes_more, ends_here, ends_earlier}
+use Rattle.odht_raw.proofs.lemmas.KeyPositions.{home_position, ends_here}
+use Rattle.odht_raw.proofs.lemmas.PartLooks.{are_clear}
 use Rattle.odht_raw.proofs.raw_table.RawTable.is_reached.Given.{Over}
-use Rattle.odht_raw.proofs.raw_table.RawTable.is_reached.Goals.{After-index-start}
+use Rattle.odht_raw.proofs.raw_table.RawTable.is_reached.Goals.{After-look_at-group}
 use Rattle.odht_raw.proofs.raw_table.RawTable.is_reached.Goals as goal
 
-abbrev format : Over → Format
-format g = format_of g.K.ByteArray.LEN g.V.ByteArray.LEN g.H.HashFn.hash
+-- what is known once the first group was looked at
+module _ (g : Over) (c : After-look_at-group g) where
+  abbrev F : Format
+  F = format_of g.K.ByteArray.LEN g.V.ByteArray.LEN g.H.HashFn.hash
 
--- what holds at each group
-module _ (g : Over) (c : After-index-start g) where
+  abbrev T : TableParts
+  T = c.args.self.now
+
   abbrev s : ℕ
-  s = c.args.self.now.entries.slots
+  s = T.entries.slots
 
-  count : IsSlotCount s
-  count = subst (λ (t : TableParts). IsSlotCount t.entries.slots) c.self.view_is c.self.invariant.slots
+  abbrev key : List ℕ
+  key = slot_key F T.entries.bytes c.args.slot
 
-  mirrored : length c.args.self.now.control ≡ s + 16
-  mirrored = subst (λ (t : TableParts). length t.control ≡ t.entries.slots + 16) c.self.view_is c.self.invariant.mirrored
+  -- the home of the key
+  abbrev home : ℕ
+  home = c.args.hash % s
+
+  parts : IsTableParts g.H.HashFn.MIN_LEN g.K.ByteArray.LEN g.V.ByteArray.LEN T
+  parts = subst (IsTableParts g.H.HashFn.MIN_LEN g.K.ByteArray.LEN g.V.ByteArray.LEN) c.self.view_is c.self.invariant
 
   slots : c.len-slots.result ≡ s
   slots = c.len-slots.ensures ∙ ap (λ (t : TableParts). t.entries.slots) c.self.view_is
 
-  -- the slot's distance behind the group's first slot
-  behind_is : bit_and (c.args.slot + c.len-slots.result - c.index-start.result) (c.len-slots.result - 1) ≡ (c.args.slot + s - c.index-start.result) % s
-  behind_is = ap (λ n. bit_and (c.args.slot + n - c.index-start.result) (n - 1)) slots ∙ bit_and-slots (c.args.slot + s - c.index-start.result) s count
+  home_low : home < s
+  home_low = let least = parts.slots.least in omega (arith, least)
 
-  -- which is that of the position in the order
-  first_is : c.index-start.result ≡ probe_slot (c.args.hash % s) s c.groups.probe.position
-  first_is = c.index-start.ensures.slot ∙ (λ i. probe_slot (c.groups.invariant.home i) (c.groups.invariant.mask i) c.groups.probe.position)
+  home_is : bit_and c.args.hash (c.len-slots.result - 1) ≡ home
+  home_is = ap (λ n. bit_and c.args.hash (n - 1)) slots ∙ bit_and-slots c.args.hash s parts.slots
 
-  cells : length (cells_of (format g) c.args.self.now) ≡ s
-  cells = slots_decoded (format g) c.args.self.now.entries.bytes c.args.self.now.control s mirrored
+  -- how far the slot is behind it
+  behind_is : bit_and (c.args.slot + c.len-slots.result - bit_and c.args.hash (c.len-slots.result - 1)) (c.len-slots.result - 1) ≡ (c.args.slot + s - home) % s
+  behind_is = (λ i. bit_and (c.args.slot + slots i - home_is i) (slots i - 1)) ∙ bit_and-slots (c.args.slot + s - home) s parts.slots
 
-  -- a slot that is not in the group is behind it
-  far : 16 ≤ bit_and (c.args.slot + c.len-slots.result - c.index-start.result) (c.len-slots.result - 1) → (c.args.slot + s - c.index-start.result) % s < 16 → ⊥
-  far h l = omega (arith, l, behind_is, h)
+  look : IsLookAt (bytes_at T.control home 16) (c.args.hash / 2 ^ 25) c.look_at-group.result
+  look = subst₂ (λ b h. IsLookAt (bytes_at T.control b 16) h c.look_at-group.result) home_is c.tag_of.ensures c.look_at-group.ensures
 
-  own_later : 16 ≤ bit_and (c.args.slot + c.len-slots.result - c.index-start.result) (c.len-slots.result - 1) → (n : ℕ) × (n < s) × (probe_slot (c.args.hash % s) s n ≡ c.args.slot) × (c.groups.probe.position + 16 ≤ n)
-  own_later h =
-      let v = c.groups.invariant in
-      later_position c.args.hash s c.index-start.result c.groups.probe.position c.args.slot count v.aligned v.within first_is c.requires.slot (far h) v.others
-
-pub returns-then-before-lt-REFERENCE_GROUP_SIZE : goal.returns-then-before-lt-REFERENCE_GROUP_SIZE
-returns-then-before-lt-REFERENCE_GROUP_SIZE g c fitting =
-    let at = (goal.at.returns-then-before-lt-REFERENCE_GROUP_SIZE g c).After-index-start in
-    let F : Format = format g in
-    let k = slot_key F c.args.self.now.entries.bytes c.args.slot in
-    let v = c.groups.invariant in
+pub returns-then-unwrap_or-before-2 : goal.returns-then-unwrap_or-before-2
+returns-then-unwrap_or-before-2 g c fitting =
+    let at = (goal.at.returns-then-unwrap_or-before-2 g c).After-look_at-group in
+    let p = parts g at in
+    let least = p.slots.least in
     let is = behind_is g at in
-    ends_here c.args.hash (s g at) c.index-start.result c.groups.probe.position c.args.slot (count g at) v.aligned v.within (first_is g at) c.requires.slot
-    F (cells_of F c.args.self.now) k (cells g at) c.requires.hash
-    (subst (λ n. n < 16) is c.if-before-lt-REFERENCE_GROUP_SIZE.true) (v.passed fitting)
-    (stops_key F c.args.self.now.entries.bytes c.args.self.now.control (s g at) (mirrored g at) k c.args.slot c.requires.slot refl)
-    c.are_passed.result
-    (subst (λ n. IsTrue c.are_passed.result ↔ ((j : ℕ) → j < n → stops_at (cells_of F c.args.self.now) k ((c.index-start.result + j) % s g at) ≡ false)) is (c.are_passed.ensures fitting))
+    let behind = (c.args.slot + s g at - home g at) % s g at in
+    let near : behind < 16 = subst (λ n. n < 16) is c.if-before-lt-REFERENCE_GROUP_SIZE.true in
+    let free : behind ≤ unwrap_or c.look_at-group.result.free 16 = subst₂ (λ n m. n ≤ m) is (c.unwrap_or.ensures ∙ ap (λ o. unwrap_or o 16) c.first_empty.ensures) c.if-unwrap_or-before.true in
+    let unmatched : behind ≤ unwrap_or (slice_get c.look_at-group.result.matches 0) 16 =
+    subst₂ (λ n m. n ≤ m) is (c.unwrap_or-then-unwrap_or-before.ensures ∙ ap (λ o. unwrap_or o 16) c.first_match.ensures) c.if-unwrap_or-before-2.true in
+    let tagged : IsLookAt (bytes_at (T g at).control (home g at) 16) ((F g at).hash (key g at) / 2 ^ 25) c.look_at-group.result =
+    subst (λ h. IsLookAt (bytes_at (T g at).control (home g at) 16) (h / 2 ^ 25) c.look_at-group.result) c.requires.hash (look g at) in
+    ends_here c.args.hash (s g at) (home g at) 0 c.args.slot p.slots (omega arith) (omega (arith, least)) (sym (home_position (home g at) (s g at) (home_low g at))) c.requires.slot
+    (F g at) (cells_of (F g at) (T g at)) (key g at) (slots_decoded (F g at) (T g at).entries.bytes (T g at).control (s g at) p.mirrored) c.requires.hash
+    near (λ q l. absurd (omega (arith, l)))
+    (stops_key (F g at) (T g at).entries.bytes (T g at).control (s g at) p.mirrored (key g at) c.args.slot c.requires.slot refl)
+    true (
+      λ t. are_clear (F g at) (T g at) p.mirrored least fitting (home g at) (home_low g at) (key g at) c.look_at-group.result tagged behind (omega (arith, near)) free unmatched,
+      λ passed. refl,
+    )
 
-pub returns-then-not-are_passed : goal.returns-then-not-are_passed
-returns-then-not-are_passed g c fitting =
-    let at = (goal.at.returns-then-not-are_passed g c).After-index-start in
-    let F : Format = format g in
-    let k = slot_key F c.args.self.now.entries.bytes c.args.slot in
-    let v = c.groups.invariant in
-    ends_earlier c.args.hash (s g at) c.index-start.result c.groups.probe.position c.args.slot (count g at) v.aligned v.within (first_is g at) c.requires.slot
-    F (cells_of F c.args.self.now) k (cells g at) c.requires.hash
-    (far g at c.if-before-lt-REFERENCE_GROUP_SIZE.false) v.others
-    (λ passed. true≢false (sym ((c.are_passed-in-groups.ensures fitting).1 passed) ∙ c.if-not-are_passed.true))
-
-pub advance-requires : goal.advance-requires
-advance-requires g c =
-    let at = (goal.at.advance-requires g c).After-index-start in
-    let n = own_later g at c.if-before-lt-REFERENCE_GROUP_SIZE.false in
-    let v = c.groups.invariant in
-    let least = (count g at).least in
-    (omega arith, (omega (arith, slots g at, v.mask), omega (arith, slots g at, n.1, n.3, least)))
-
-pub groups-preserved : goal.groups-preserved
-groups-preserved g c =
-    let at = (goal.at.groups-preserved g c).After-index-start in
-    let F : Format = format g in
-    let k = slot_key F c.args.self.now.entries.bytes c.args.slot in
-    let v = c.groups.invariant in
-    let place : c.advance.new.self.position ≡ c.groups.probe.position + 16 = ap (λ q. q.position) c.advance.ensures in
-    let n = own_later g at c.if-before-lt-REFERENCE_GROUP_SIZE.false in
-    let sixteen = sixteens (s g at) (count g at) in
-    record {
-      home = ap (λ q. q.home) c.advance.ensures ∙ v.home;
-      mask = ap (λ q. q.mask + 1) c.advance.ensures ∙ v.mask;
-      aligned = omega (arith, place, v.aligned);
-      within = omega (arith, place, v.aligned, sixteen.2, n.1, n.3);
-      others = λ q l e. elim (cases_lt q c.groups.probe.position) [
-        | inl before ↦ v.others q before e
-        | inr here ↦
-            let j : ℕ = q - c.groups.probe.position in
-            let sum : q ≡ c.groups.probe.position + j = omega (arith, here) in
-            not_in_group c.args.hash (s g at) c.index-start.result c.groups.probe.position c.args.slot (count g at) v.aligned v.within (first_is g at) c.requires.slot
-            (far g at c.if-before-lt-REFERENCE_GROUP_SIZE.false) j (omega (arith, l, place, here)) (ap (probe_slot (c.args.hash % s g at) (s g at)) (sym sum) ∙ e)
-      ];
-      passed = λ fitting q l. passes_more c.args.hash (s g at) c.index-start.result c.groups.probe.position c.args.slot (count g at) v.aligned v.within (first_is g at) c.requires.slot
-          F (cells_of F c.args.self.now) k (cells g at) c.requires.hash 16 (omega arith) (v.passed fitting) ((c.are_passed-in-groups.ensures fitting).0 c.if-not-are_passed.false) q (omega (arith, l, place));
-    }
+pub is_reached_late-requires-clause-group : goal.is_reached_late-requires-clause-group
+is_reached_late-requires-clause-group g c κs within = look g (goal.at.is_reached_late-requires-clause-group g c).After-look_at-group

@@ -1,13 +1,15 @@
-use Rattle.std.proofs.Common.{◌≡◌, ◌<◌, ◌≤◌, ◌+◌, ◌-◌, ◌%◌, ℕ}
+use Rattle.std.proofs.Common.{◌≡◌, ◌<◌, ◌≤◌, ◌+◌, ◌-◌, ◌/◌, ◌^◌, ◌%◌, ℕ}
 use Rattle.std.specs.Prelude.{IsFalse}
+use Rattle.odht_base.specs.Bytes.{bytes_at}
 use Rattle.odht_base.specs.Format.{format_of}
 use Rattle.odht_base.specs.Probe.{probe_slot}
 use Rattle.odht_base.specs.Search.{stops_at}
 use Rattle.odht_base.specs.Decoded.{slot_key}
-use Rattle.odht_raw.specs.Checks.{cells_of, IsFitting}
-use Rattle.odht_raw.proofs.raw_table.RawTable.is_reached.Given as goal
+use Rattle.odht_raw.specs.Checks.{cells_of, IsFitting, IsLookAt}
+use Rattle.odht_raw.proofs.raw_table.RawTable.is_reached_late.Given as goal
 
--- the probe is at the first position of a group, and each position before it is passed and is not the slot's own
+-- the probe is at the first position of a group, which was looked at, and each position before it is passed and is not
+-- the slot's own
 abbrev pub invariant-groups : goal.invariant-groups
 invariant-groups g l =
     let F = format_of g.K.ByteArray.LEN g.V.ByteArray.LEN g.H.HashFn.hash in
@@ -17,6 +19,7 @@ invariant-groups g l =
       mask : l.probe.mask + 1 ≡ s;
       aligned : l.probe.position % 16 ≡ 0;
       within : l.probe.position + 16 ≤ s;
+      looked : IsLookAt (bytes_at l.self.control (probe_slot (l.hash % s) s l.probe.position) 16) (l.hash / 2 ^ 25) l.group;
       others : (q : ℕ) → q < l.probe.position → probe_slot (l.hash % s) s q ≡ l.fn.slot → ⊥;
       passed : IsFitting F l.self → (q : ℕ) → q < l.probe.position
           → IsFalse (stops_at (cells_of F l.self) (slot_key F l.self.entries.bytes l.fn.slot) (probe_slot (l.hash % s) s q));
