@@ -55,8 +55,12 @@ pub mod Bounds
 pub mod BoundedSearches
 -- and the slot's own position there
 pub mod KeyPositions
+-- the masks of control bytes
+pub mod SpanMasks
 -- a look at the slots in turn
 pub mod SlotSummary
+-- a span at a time, first the free ones and then the others
+pub mod SpanLooks
 -- lists of different numbers that rise
 pub mod RisingLists
 -- slots that wait to be placed, as they are listed

@@ -16,6 +16,8 @@ pub mod FirstLooks
 pub mod ControlBytes
 -- what the whole check reads in the parts
 pub mod Checks
+-- what it knows of the slots that it has been through
+pub mod Summaries
 -- what an insert may do to bytes whose header and length fit, valid or not
 pub mod Frame
 -- a table at the front of longer bytes

@@ -34,6 +34,7 @@ mod probe_seq;
 mod runs;
 mod scan;
 mod search_result;
+mod span;
 mod table_mut;
 mod walk;
 

@@ -1,8 +1,9 @@
 -- A look at the slots in turn: what is known of those before slot n, and at the end of all.
-use Rattle.std.proofs.Common.{◌≡◌, ◌<◌, ◌≤◌, ◌∙◌, ◌+◌, ◌-◌, ◌==◌, ◌&&◌, inl, inr, ℕ, zero, suc, Bool, true, false, true≢false, not, sym, ap, subst, refl, List, [], ◌∷◌, Option, Some, None, map, length, slice_index, arith, option_map}
+use Rattle.std.proofs.Common.{◌≡◌, ◌<◌, ◌≤◌, ◌∙◌, ◌+◌, ◌-◌, ◌==◌, ◌&&◌, inl, inr, ℕ, zero, suc, Bool, true, false, true≢false, not, sym, ap, subst, refl, List, [], ◌∷◌, Option, Some, None, map, length, replicate, slice_index, arith, option_map}
 use Rattle.std.specs.List.{range_with_len, filter_map, cons_option, list_all}
 use Rattle.std.specs.Option.{option_or}
-use Rattle.std.specs.Prelude.{MatchOption, is_some}
+use Rattle.std.specs.Prelude.{is_some, Result, Ok, Err, IfOk, OnErr}
+use Rattle.std.specs.Result.{result_err}
 use Rattle.std.proofs.lemmas.Bool.{cases_lt}
 use Rattle.odht_base.specs.Format.{Format, tag}
 use Rattle.odht_base.specs.Search.{search_end, is_at}
@@ -10,11 +11,12 @@ use Rattle.odht_base.specs.Decoded.{counts_as_free, decoded_cell, decoded_cells,
 use Rattle.odht_base.specs.Table.{Pair}
 use Rattle.odht_raw.specs.Checks.{cells_of, decoded_count, IsFitting}
 use Rattle.odht_raw.specs.Parts.{TableParts}
+use Rattle.odht_raw.specs.Summaries.{IsSummary, IsFirstUnreachable, occupied_before}
 use Rattle.odht_header.specs.declared.error.Error.{Error}
 use Rattle.odht_header.specs.declared.error.Error.TheVariants.{NonZeroEmpty, BadFreeControl, ControlMismatch, Unreachable}
 use Rattle.odht_header.specs.Refusals.{◌gives◌, differs, first_of, hashes_refusal_at, bad_free_control, slot_refusal_at, slots_refusal, mirror_refusal, unreachable, reach_refusal}
 use Rattle.odht_header.proofs.lemmas.FirstErrors.{option_or-first, option_or-second, None-option_or, None-gives, gives-Some, None-first_slot, first_slot-at}
-use Rattle.odht_raw.proofs.lemmas.SlotChecks.{is_zero}
+use Rattle.odht_raw.proofs.lemmas.SlotChecks.{is_zero, zero_entry_passes}
 
 -- ---- one slot
 by_tests : (free zeros stray same : Bool) (e h f : Error)
@@ -35,6 +37,13 @@ slot_refusal_at-is F es ctrl i =
 -- an occupied slot has none
 bad_free_control-occupied : (ctrl : List ℕ) (i : ℕ) → counts_as_free (slice_index ctrl i) ≡ false → bad_free_control ctrl i ≡ None
 bad_free_control-occupied ctrl i e = None-gives _ _ (ap (λ b. b && differs (slice_index ctrl i) 255) e)
+
+-- a free slot of zeros has none either
+pub free_slot_passes : (F : Format) (es ctrl : List ℕ) (i n : ℕ) → slice_index ctrl i ≡ 255 → slot_entry F es i ≡ replicate n 0 → slot_refusal_at F es ctrl i ≡ None
+free_slot_passes F es ctrl i n byte zeros =
+    let free : counts_as_free (slice_index ctrl i) ≡ true = ap counts_as_free byte in
+    let right : bad_free_control ctrl i ≡ None = None-gives _ _ (ap (λ c. counts_as_free c && differs c 255) byte) in
+    slot_refusal_at-is F es ctrl i ∙ None-option_or _ _ (zero_entry_passes F es ctrl i free n zeros) right
 
 -- ---- how many cells hold a pair
 abbrev one : Option Pair → ℕ
@@ -69,22 +78,11 @@ module _ (F : Format) (T : TableParts) (searches : Bool) where
   abbrev ctrl : List ℕ
   ctrl = T.control
 
-  abbrev occupied_before : ℕ → ℕ
-  occupied_before n = length (filter_map (λ c. c) (map (decoded_cell F es ctrl) (range_with_len 0 n)))
+  abbrev Summary : ℕ → ℕ → Option ℕ → Type 0
+  Summary n m o = IsSummary F T searches n m o
 
-  abbrev IsFirstUnreachable : ℕ → Option ℕ → Type 0
-  IsFirstUnreachable n o =
-      MatchOption o
-      ((i : ℕ) → i < n → unreachable F es ctrl i ≡ None)
-      (λ j. (j < n) × ((i : ℕ) → i < j → unreachable F es ctrl i ≡ None) × (unreachable F es ctrl j ≡ Some (Unreachable j)))
-
-  pub record IsSummary (n m : ℕ) (o : Option ℕ) : Type 0 where
-    pub passed : (i : ℕ) → i < n → slot_refusal_at F es ctrl i ≡ None
-    pub counted : m ≡ occupied_before n
-    pub reached : searches ≡ true → IsFitting F T → IsFirstUnreachable n o
-
-  occupied_next : (n : ℕ) → occupied_before (n + 1) ≡ occupied_before n + one (decoded_cell F es ctrl (0 + n))
-  occupied_next n = let next : n + 1 ≡ suc n = omega arith in ap occupied_before next ∙ count_next (decoded_cell F es ctrl) 0 n
+  occupied_next : (n : ℕ) → occupied_before F T (n + 1) ≡ occupied_before F T n + one (decoded_cell F es ctrl (0 + n))
+  occupied_next n = let next : n + 1 ≡ suc n = omega arith in ap (occupied_before F T) next ∙ count_next (decoded_cell F es ctrl) 0 n
 
   one_more : (X : ℕ → Type 0) (n : ℕ) → ((i : ℕ) → i < n → X i) → X n → (i : ℕ) → i < n + 1 → X i
   one_more X n before here i l = elim (cases_lt i n) [
@@ -96,10 +94,10 @@ module _ (F : Format) (T : TableParts) (searches : Bool) where
   passes : (i : ℕ) → hashes_refusal_at F es ctrl i ≡ None → bad_free_control ctrl i ≡ None → slot_refusal_at F es ctrl i ≡ None
   passes i e f = slot_refusal_at-is F es ctrl i ∙ None-option_or _ _ e f
 
-  -- after a free slot
-  pub summary_free : (n m : ℕ) (o : Option ℕ) → IsSummary n m o → hashes_refusal_at F es ctrl n ≡ None → counts_as_free (slice_index ctrl n) ≡ true → bad_free_control ctrl n ≡ None → IsSummary (n + 1) m o
-  summary_free n m o summary e free right = record {
-    passed = one_more (λ i. slot_refusal_at F es ctrl i ≡ None) n summary.passed (passes n e right);
+  -- after a free slot that has no error
+  pub summary_right : (n m : ℕ) (o : Option ℕ) → Summary n m o → slot_refusal_at F es ctrl n ≡ None → counts_as_free (slice_index ctrl n) ≡ true → Summary (n + 1) m o
+  summary_right n m o summary right free = record {
+    passed = one_more (λ i. slot_refusal_at F es ctrl i ≡ None) n summary.passed right;
     counted = let more = occupied_next n in let none = ap one shows in omega (arith, summary.counted, more, none);
     reached = λ made fitting. go o (summary.reached made fitting);
   }
@@ -110,16 +108,28 @@ module _ (F : Format) (T : TableParts) (searches : Bool) where
       reaches : unreachable F es ctrl n ≡ None
       reaches = None-gives _ _ (ap (λ b. not b && not (is_at n (search_end F (decoded_cells F es ctrl) (slot_key F es n)))) free)
 
-      go : (o : Option ℕ) → IsFirstUnreachable n o → IsFirstUnreachable (n + 1) o
+      go : (o : Option ℕ) → IsFirstUnreachable F T n o → IsFirstUnreachable F T (n + 1) o
       go None all = one_more (λ i. unreachable F es ctrl i ≡ None) n all reaches
       go (Some j) first = (omega (arith, first.0), first.1, first.2)
 
+  -- the same, by its two looks
+  pub summary_free : (n m : ℕ) (o : Option ℕ) → Summary n m o → hashes_refusal_at F es ctrl n ≡ None → counts_as_free (slice_index ctrl n) ≡ true → bad_free_control ctrl n ≡ None → Summary (n + 1) m o
+  summary_free n m o summary e free right = summary_right n m o summary (passes n e right) free
+
+  -- after some of them
+  pub summary_run : (d n m : ℕ) (o : Option ℕ) → Summary n m o → ((i : ℕ) → n ≤ i → i < n + d → (slot_refusal_at F es ctrl i ≡ None) × (counts_as_free (slice_index ctrl i) ≡ true)) → Summary (n + d) m o
+  summary_run zero n m o summary right = let same : n ≡ n + 0 = omega arith in subst (λ k. Summary k m o) same summary
+  summary_run (suc d) n m o summary right =
+      let same : n + 1 + d ≡ n + suc d = omega arith in
+      let here = right n (omega arith) (omega arith) in
+      subst (λ k. Summary k m o) same (summary_run d (n + 1) m o (summary_right n m o summary here.0 here.1) (λ i low high. right i (omega (arith, low)) (omega (arith, high))))
+
   -- after an occupied one
-  module _ (n m : ℕ) (o : Option ℕ) (summary : IsSummary n m o) (e : hashes_refusal_at F es ctrl n ≡ None) (occupied : counts_as_free (slice_index ctrl n) ≡ false) where
+  module _ (n m : ℕ) (o : Option ℕ) (summary : Summary n m o) (e : hashes_refusal_at F es ctrl n ≡ None) (occupied : counts_as_free (slice_index ctrl n) ≡ false) where
     occupied_passed : (i : ℕ) → i < n + 1 → slot_refusal_at F es ctrl i ≡ None
     occupied_passed = one_more (λ i. slot_refusal_at F es ctrl i ≡ None) n summary.passed (passes n e (bad_free_control-occupied ctrl n occupied))
 
-    occupied_counted : m + 1 ≡ occupied_before (n + 1)
+    occupied_counted : m + 1 ≡ occupied_before F T (n + 1)
     occupied_counted = let more = occupied_next n in let some = ap one shows in omega (arith, summary.counted, more, some)
       where
         shows : decoded_cell F es ctrl (0 + n) ≡ Some (record { key = slot_key F es n; value = slot_value F es n })
@@ -129,10 +139,10 @@ module _ (F : Format) (T : TableParts) (searches : Bool) where
     ends = is_at n (search_end F (cells_of F T) (slot_key F es n))
 
     -- which is reached, or is behind one that is not
-    pub summary_occupied : (searches ≡ true → is_some o ≡ false → IsFitting F T → true ≡ ends) → IsSummary (n + 1) (m + 1) o
+    pub summary_occupied : (searches ≡ true → is_some o ≡ false → IsFitting F T → true ≡ ends) → Summary (n + 1) (m + 1) o
     summary_occupied known = record { passed = occupied_passed; counted = occupied_counted; reached = λ made fitting. go o (λ h. known made h fitting) (summary.reached made fitting) }
       where
-        go : (o : Option ℕ) → (is_some o ≡ false → true ≡ ends) → IsFirstUnreachable n o → IsFirstUnreachable (n + 1) o
+        go : (o : Option ℕ) → (is_some o ≡ false → true ≡ ends) → IsFirstUnreachable F T n o → IsFirstUnreachable F T (n + 1) o
         go None known all = one_more (λ i. unreachable F es ctrl i ≡ None) n all (None-gives _ _ (ap (λ b. not (counts_as_free (slice_index ctrl n)) && not b) (sym (known refl)) ∙ ends_false (not (counts_as_free (slice_index ctrl n)))))
           where
             ends_false : (b : Bool) → (b && false) ≡ false
@@ -141,10 +151,10 @@ module _ (F : Format) (T : TableParts) (searches : Bool) where
         go (Some j) known first = (omega (arith, first.0), first.1, first.2)
 
     -- or is the first that is not reached
-    pub summary_unreachable : is_some o ≡ false → (IsFitting F T → false ≡ ends) → IsSummary (n + 1) (m + 1) (Some n)
+    pub summary_unreachable : is_some o ≡ false → (IsFitting F T → false ≡ ends) → Summary (n + 1) (m + 1) (Some n)
     summary_unreachable none known = record { passed = occupied_passed; counted = occupied_counted; reached = λ made fitting. (omega arith, go o none (summary.reached made fitting), gives-Some _ _ (here fitting)) }
       where
-        go : (o : Option ℕ) → is_some o ≡ false → IsFirstUnreachable n o → (i : ℕ) → i < n → unreachable F es ctrl i ≡ None
+        go : (o : Option ℕ) → is_some o ≡ false → IsFirstUnreachable F T n o → (i : ℕ) → i < n → unreachable F es ctrl i ≡ None
         go None h all = all
         go (Some j) h first = absurd (true≢false h)
 
@@ -152,7 +162,7 @@ module _ (F : Format) (T : TableParts) (searches : Bool) where
         here fitting = rw (occupied, sym (known fitting)) refl
 
   -- ---- at the first slot with an error
-  module _ (n m : ℕ) (o : Option ℕ) (summary : IsSummary n m o) (low : n < length ctrl - 16) (x : Error) where
+  module _ (n m : ℕ) (o : Option ℕ) (summary : Summary n m o) (low : n < length ctrl - 16) (x : Error) where
     refused : slot_refusal_at F es ctrl n ≡ Some x → slots_refusal F es ctrl ≡ Some x
     unfolding slots_refusal
     refused here = first_slot-at (slot_refusal_at F es ctrl) (length ctrl - 16) n x low summary.passed here
@@ -166,7 +176,7 @@ module _ (F : Format) (T : TableParts) (searches : Bool) where
     summary_stray e f = refused (slot_refusal_at-is F es ctrl n ∙ option_or-second _ _ e ∙ f)
 
   -- ---- at the end
-  module _ (n m : ℕ) (o : Option ℕ) (summary : IsSummary n m o) (all : length ctrl - 16 ≡ n) where
+  module _ (n m : ℕ) (o : Option ℕ) (summary : Summary n m o) (all : length ctrl - 16 ≡ n) where
     -- no slot has an error
     pub all_passed : slots_refusal F es ctrl ≡ None
     unfolding slots_refusal
@@ -175,25 +185,39 @@ module _ (F : Format) (T : TableParts) (searches : Bool) where
     -- all pairs are counted
     pub all_counted : m ≡ decoded_count F T
     unfolding decoded_cells
-    all_counted = summary.counted ∙ ap occupied_before (sym all)
+    all_counted = summary.counted ∙ ap (occupied_before F T) (sym all)
 
     -- and the first unreachable slot is known
     pub all_reached : searches ≡ true → mirror_refusal ctrl ≡ None → option_map Unreachable o ≡ reach_refusal F es ctrl
     unfolding reach_refusal
     all_reached made mirror = go o (summary.reached made (record { slots = all_passed; mirror = mirror }))
       where
-        go : (o : Option ℕ) → IsFirstUnreachable n o → option_map Unreachable o ≡ reach_refusal F es ctrl
+        go : (o : Option ℕ) → IsFirstUnreachable F T n o → option_map Unreachable o ≡ reach_refusal F es ctrl
         go None none = sym (None-first_slot (unreachable F es ctrl) (length ctrl - 16) (subst (λ k. (i : ℕ) → i < k → unreachable F es ctrl i ≡ None) (sym all) none))
         go (Some j) first = sym (first_slot-at (unreachable F es ctrl) (length ctrl - 16) j (Unreachable j) (subst (λ k. j < k) (sym all) first.0) first.1 first.2)
 
   -- no more are occupied than were looked at
-  pub summary_few : (n m : ℕ) (o : Option ℕ) → IsSummary n m o → m ≤ n
+  pub summary_few : (n m : ℕ) (o : Option ℕ) → Summary n m o → m ≤ n
   summary_few n m o summary = omega (arith, summary.counted, few n)
     where
       at_most : (c : Option Pair) → one c ≤ 1
       at_most None = omega arith
       at_most (Some p) = omega arith
 
-      few : (n : ℕ) → occupied_before n ≤ n
+      few : (n : ℕ) → occupied_before F T n ≤ n
       few zero = omega arith
       few (suc n) = let h = count_next (decoded_cell F es ctrl) 0 n in let l = at_most (decoded_cell F es ctrl (0 + n)) in omega (arith, h, l, few n)
+
+  -- ---- an answer from what is known at the end
+  module _ {X : Type 0} (occupied : X → ℕ) (first : X → Option ℕ) (n : ℕ) (all : length ctrl - 16 ≡ n) where
+    pub answer_err : (r : Result X Error) → OnErr r (result_err r ≡ slots_refusal F es ctrl) → IfOk r (λ x. Summary n (occupied x) (first x)) → result_err r ≡ slots_refusal F es ctrl
+    answer_err (Ok x) err ok = sym (all_passed n (occupied x) (first x) ok all)
+    answer_err (Err e) err ok = err
+
+    pub answer_occupied : (r : Result X Error) → IfOk r (λ x. Summary n (occupied x) (first x)) → IfOk r (λ x. occupied x ≡ decoded_count F T)
+    answer_occupied (Ok x) ok = all_counted n (occupied x) (first x) ok all
+    answer_occupied (Err e) ok = tt
+
+    pub answer_reached : (r : Result X Error) → IfOk r (λ x. Summary n (occupied x) (first x)) → searches ≡ true → mirror_refusal ctrl ≡ None → IfOk r (λ x. option_map Unreachable (first x) ≡ reach_refusal F es ctrl)
+    answer_reached (Ok x) ok made mirror = all_reached n (occupied x) (first x) ok all made mirror
+    answer_reached (Err e) ok made mirror = tt

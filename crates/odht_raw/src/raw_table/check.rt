@@ -1,16 +1,19 @@
 //! The whole check of the parts of a table: each slot, the mirror, and that the search for each key ends at its slot.
 ghost use Rattle.std.specs.Prelude.{◌≡◌, ◌%◌, ◌/◌, ◌^◌, ◌<◌, ◌≤◌, ◌↔◌, slice_index, option_map, IfOk};
-ghost use Rattle.std.specs.Prelude.{IsTrue};
-ghost use Rattle.std.specs.Prelude.{IsFalse, None};
+ghost use Rattle.std.specs.Prelude.{◌+◌, ℕ, Contains, IsTrue, IsFalse, None, OnErr};
 ghost use Rattle.std.specs.Result.{result_err};
 ghost use Rattle.odht_base.specs.Bytes.{bytes_at};
 ghost use Rattle.odht_base.specs.Format.{format_of, tag as key_tag};
+ghost use Rattle.odht_base.specs.Groups.{occupied};
 ghost use Rattle.odht_base.specs.Search.{search_end, is_at};
 ghost use Rattle.odht_base.specs.Decoded.{counts_as_free, slot_key};
 ghost use Rattle.odht_raw.specs.Checks.{cells_of, decoded_count, IsFitting, ArePassed, IsLookAt};
-ghost use Rattle.odht_header.specs.Refusals.{checked, bad_free_control, slots_refusal};
+ghost use Rattle.odht_raw.specs.Summaries.{IsSummary, AreRight, free_in};
+ghost use Rattle.odht_header.specs.Refusals.{checked, bad_free_control, slots_refusal, slot_refusal_at};
+ghost use Rattle.odht_header.specs.Refusals.{hashes_refusal_at};
 ghost use Rattle.odht_header.specs.Refusals.{mirror_refusal, reach_refusal};
 
+use super::span::{Marks, SPAN, is_zeros, split};
 use super::{FREE, ProbeSeq, RawTable, Scan, tag_of};
 use crate::bytes::ByteArray;
 use crate::error::Error;
@@ -28,11 +31,15 @@ pub(crate) struct SlotSummary {
 }
 
 impl<'a, K: ByteArray, V: ByteArray, H: HashFn> RawTable<'a, K, V, H> {
-    /// Checks each slot once, in slot order, and answers the first error: `NonZeroEmpty`, then `BadFreeControl`, of a
-    /// slot that counts as free, `ControlMismatch` of any other.
+    /// Checks all slots, and answers the first error in slot order: `NonZeroEmpty`, then `BadFreeControl`, of a slot
+    /// that counts as free, `ControlMismatch` of any other.
     ///
     /// `unreachable` is what its comment says only where searches are made, no slot gives an error, and the mirror has no
     /// mismatch. The whole check reads it in no other case.
+    // The slots are gone through a span at a time, first the free ones and then the others, so that what a slot is
+    // makes no branch that cannot be predicted. Where a free one has an error, the slots of its span are gone through
+    // in their order instead.
+    //
     // Inlined next to an opening, it would keep the first ten control bytes in registers.
     #[inline(never)]
     pub(crate) fn check_slots(&self, searches: bool) -> Result<SlotSummary, Error>
@@ -46,9 +53,43 @@ impl<'a, K: ByteArray, V: ByteArray, H: HashFn> RawTable<'a, K, V, H> {
             → mirror_refusal self.now.control ≡ None
             → IfOk result (λ summary. option_map Error.Unreachable summary.unreachable ≡ reach) }
     {
-        let mut occupied = 0;
-        let mut unreachable = None;
-        for slot in 0..self.entries.len() {
+        let slots = self.entries.len();
+        let mut summary = SlotSummary {
+            occupied: 0,
+            unreachable: None,
+        };
+        let mut start = 0;
+        'spans: while start < slots {
+            let size = (slots - start).min(SPAN);
+            let (free, others) = split(&self.control[start..start + size]);
+            if !self.are_free(start, free) {
+                return self.check_from(start, searches, summary);
+            }
+            summary = self.take_others(start, size, others, searches, summary)?;
+            start += size;
+        }
+        Ok(summary)
+    }
+
+    // `check_slots` of the slots from `start` on, each in its order, from what is known of those before them.
+    #[inline(never)]
+    fn check_from(
+        &self,
+        start: usize,
+        searches: bool,
+        before: SlotSummary,
+    ) -> Result<SlotSummary, Error>
+        requires start { start ≤ self.now.entries.slots }
+        requires known { IsSummary (format_of K.LEN V.LEN H.hash) self.now searches start
+            before.occupied before.unreachable }
+        ensures err { OnErr result (result_err result ≡ slots_refusal (format_of K.LEN V.LEN H.hash)
+            self.now.entries.bytes self.now.control) }
+        ensures ok { IfOk result (λ summary. IsSummary (format_of K.LEN V.LEN H.hash) self.now searches
+            self.now.entries.slots summary.occupied summary.unreachable) }
+    {
+        let mut occupied = before.occupied;
+        let mut unreachable = before.unreachable;
+        for slot in start..self.entries.len() {
             match self.check_slot(slot)? {
                 None => self.check_free_control(slot)?,
                 Some(hash) => {
@@ -63,6 +104,100 @@ impl<'a, K: ByteArray, V: ByteArray, H: HashFn> RawTable<'a, K, V, H> {
             occupied,
             unreachable,
         })
+    }
+
+    // What is known after a span of `size` slots from `start` on, of which the free ones have no error, from what is
+    // known before it. The others are taken in their order.
+    #[inline(always)]
+    fn take_others(
+        &self,
+        start: usize,
+        size: usize,
+        others: Marks,
+        searches: bool,
+        before: SlotSummary,
+    ) -> Result<SlotSummary, Error>
+        requires size { start + size ≤ self.now.entries.slots }
+        requires others { others ≡ occupied (bytes_at self.now.control start size) }
+        requires free { AreRight (format_of K.LEN V.LEN H.hash) self.now start
+            (free_in (bytes_at self.now.control start size)) }
+        requires known { IsSummary (format_of K.LEN V.LEN H.hash) self.now searches start
+            before.occupied before.unreachable }
+        ensures err { OnErr result (result_err result ≡ slots_refusal (format_of K.LEN V.LEN H.hash)
+            self.now.entries.bytes self.now.control) }
+        ensures ok { IfOk result (λ summary. IsSummary (format_of K.LEN V.LEN H.hash) self.now searches
+            (start + size) summary.occupied summary.unreachable) }
+    {
+        // Its invariant is used: slots and control bytes are as many as fit in a `usize`.
+        let _ = &self.control;
+        let mut others = others;
+        let mut occupied = before.occupied;
+        let mut unreachable = before.unreachable;
+        let mut searching = searches && unreachable.is_none();
+        'slots: while let Some(index) = others.take() {
+            let slot = start + index;
+            let hash = self.check_key(slot)?;
+            occupied += 1;
+            if searching && !self.is_reached(slot, hash) {
+                unreachable = Some(slot);
+                searching = false;
+            }
+        }
+        Ok(SlotSummary {
+            occupied,
+            unreachable,
+        })
+    }
+
+    // The hash of the key of an occupied slot; `ControlMismatch` where its tag is not the control byte.
+    #[inline(always)]
+    fn check_key(&self, slot: usize) -> Result<u32, Error>
+        requires slot { slot < self.now.entries.slots }
+        requires occupied { IsFalse (counts_as_free (slice_index self.now.control slot)) }
+        ensures err { let F = format_of K.LEN V.LEN H.hash
+            in result_err result
+            ≡ hashes_refusal_at F self.now.entries.bytes self.now.control slot }
+        ensures hash { IfOk result (λ hash. hash
+            ≡ H.hash (slot_key (format_of K.LEN V.LEN H.hash) self.now.entries.bytes slot)) }
+    {
+        let hash = H::hash(self.entries.key_bytes_of(slot));
+        let found = self.control[slot];
+        let expected = tag_of(hash);
+        if found != expected {
+            return Err(Error::ControlMismatch {
+                slot,
+                expected,
+                found,
+            });
+        }
+        Ok(hash)
+    }
+
+    // Whether slots that count as free, of which the indices from `start` on are marked, have no error.
+    #[inline(always)]
+    fn are_free(&self, start: usize, free: Marks) -> bool
+        requires within { (i : ℕ) → Contains free i → start + i < self.now.entries.slots }
+        ensures { IsTrue result → AreRight (format_of K.LEN V.LEN H.hash) self.now start free }
+    {
+        // Its invariant is used: slots and control bytes are as many as fit in a `usize`.
+        let _ = &self.control;
+        let mut free = free;
+        'slots: while let Some(index) = free.take() {
+            if !self.is_free(start + index) {
+                return false;
+            }
+        }
+        true
+    }
+
+    // Whether a slot is free, and has no error.
+    #[inline(always)]
+    fn is_free(&self, slot: usize) -> bool
+        requires { slot < self.now.entries.slots }
+        ensures { IsTrue result → slot_refusal_at (format_of K.LEN V.LEN H.hash) self.now.entries.bytes
+            self.now.control slot ≡ None }
+    {
+        self.control[slot] == FREE && is_zeros(self.entries.bytes_of(slot))
     }
 
     // Whether the control byte of a slot that counts as free is `FREE`; else `BadFreeControl`.

@@ -1,6 +1,6 @@
 //! The entries of a table, read from their bytes.
 ghost use Rattle.std.specs.Prelude.{◌≡◌, ◌↔◌, ◌+◌, ◌*◌, ◌<◌, ◌≤◌, length, IsTrue};
-ghost use Rattle.odht_base.specs.Decoded.{slot_key, slot_value};
+ghost use Rattle.odht_base.specs.Decoded.{slot_entry, slot_key, slot_value};
 ghost use Rattle.odht_raw.specs.Parts.{entry_format};
 
 use crate::bytes::{ByteArray, is_same_bytes};
@@ -107,6 +107,29 @@ impl<'a, K: ByteArray, V: ByteArray> Entries<'a, K, V> {
         }
     }
 
+    // The bytes of the entry of a slot.
+    #[inline]
+    pub(crate) fn bytes_of(&self, slot: usize) -> &'a [u8]
+        requires { slot < self.now.slots }
+        ensures bytes { result.now ≡ slot_entry (entry_format K.LEN V.LEN) self.now.bytes slot }
+    {
+        let bytes = self.bytes;
+        let at = slot * (K::LEN + V::LEN);
+        &bytes[at..at + K::LEN + V::LEN]
+    }
+
+    // The bytes of the key of a slot.
+    #[inline]
+    pub(crate) fn key_bytes_of(&self, slot: usize) -> &'a [u8]
+        requires { slot < self.now.slots }
+        ensures bytes { result.now ≡ slot_key (entry_format K.LEN V.LEN) self.now.bytes slot }
+        ensures len { length result.now ≡ K.LEN }
+    {
+        let bytes = self.bytes;
+        let at = slot * (K::LEN + V::LEN);
+        &bytes[at..at + K::LEN]
+    }
+
     /// Whether the key of a slot is `key`. Its bytes are compared where they are, and the value is not read.
     #[inline(always)]
     pub(crate) fn has_key(&self, slot: usize, key: &K) -> bool
@@ -114,8 +137,6 @@ impl<'a, K: ByteArray, V: ByteArray> Entries<'a, K, V> {
         ensures { IsTrue result
             ↔ (slot_key (entry_format K.LEN V.LEN) self.now.bytes slot ≡ K.bytes key.now) }
     {
-        let bytes = self.bytes;
-        let at = slot * (K::LEN + V::LEN);
-        is_same_bytes(&bytes[at..at + K::LEN], key.as_slice())
+        is_same_bytes(self.key_bytes_of(slot), key.as_slice())
     }
 }

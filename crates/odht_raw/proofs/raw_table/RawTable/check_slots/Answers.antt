@@ -1,79 +1,101 @@
-use Rattle.std.proofs.Common.{rules, ◌≡◌, ◌∙◌, ◌+◌, ◌-◌, ◌<◌, length, sym, ap, subst, arith, Err, true≢false, not}
-use Rattle.std.specs.Result.{result_err}
+use Rattle.std.proofs.Common.{◌≡◌, ◌∙◌, ◌+◌, ◌-◌, ◌%◌, ◌<◌, ◌≤◌, Contains, length, min, sym, ap, subst, arith}
+use Rattle.odht_base.specs.Bytes.{bytes_at}
 use Rattle.odht_base.specs.Format.{Format, format_of}
-use Rattle.odht_raw.specs.Parts.{TableParts}
-use Rattle.odht_header.proofs.lemmas.FirstErrors.{Ok-checked, Err-checked}
-use Rattle.odht_raw.proofs.lemmas.SlotSummary.{summary_free, summary_occupied, summary_unreachable, summary_refused, summary_stray, summary_few, all_passed, all_counted, all_reached}
-use Rattle.odht_raw.proofs.raw_table.RawTable.check_slots.Goals.{in-None+in_ok-check_free_control-in-None, in-Some+then-searches+then-is_none+then-not-is_reached, in-Some+else-searches, else-searches-via-then-searches+then-is_none+else-not-is_reached, else-searches-via-then-searches+else-is_none, else-searches-via-else-searches}
+use Rattle.odht_base.proofs.lemmas.ByteRanges.{length-bytes_at}
+use Rattle.odht_base.proofs.lemmas.SlotCounts.{sixteens}
+use Rattle.odht_raw.specs.Parts.{TableParts, IsTableParts}
+use Rattle.odht_raw.specs.declared.raw_table.check.SlotSummary.{SlotSummary}
+use Rattle.odht_raw.proofs.lemmas.SlotSummary.{all_passed, all_counted, all_reached, answer_err, answer_occupied, answer_reached}
+use Rattle.odht_raw.proofs.lemmas.SpanLooks.{free_low}
 use Rattle.odht_raw.proofs.raw_table.RawTable.check_slots.Given.{Over}
-use Rattle.odht_raw.proofs.raw_table.RawTable.check_slots.Goals.{After-len-slot-end}
-use Rattle.odht_raw.specs.Checks.{IsSlotHash}
+use Rattle.odht_raw.proofs.raw_table.RawTable.check_slots.Goals.{After-len-slots, After-min-size}
 use Rattle.odht_raw.proofs.raw_table.RawTable.check_slots.Goals as goal
 
 abbrev format : Over → Format
 format g = format_of g.K.ByteArray.LEN g.V.ByteArray.LEN g.H.HashFn.hash
 
--- there are as many slots as the loop goes through
-module _ (g : Over) (c : After-len-slot-end g) where
-  slots_are : length c.args.self.now.control - 16 ≡ c.len-slot-end.result
-  slots_are =
-      let mirrored : length c.args.self.now.control ≡ c.args.self.now.entries.slots + 16 = subst (λ (t : TableParts). length t.control ≡ t.entries.slots + 16) c.self.view_is c.self.invariant.mirrored in
-      let is : c.len-slot-end.result ≡ c.args.self.now.entries.slots = c.len-slot-end.ensures ∙ ap (λ (t : TableParts). t.entries.slots) c.self.view_is in
-      omega (arith, mirrored, is)
+-- the parts, and how many slots they have
+module _ (g : Over) (c : After-len-slots g) where
+  parts : IsTableParts g.H.HashFn.MIN_LEN g.K.ByteArray.LEN g.V.ByteArray.LEN c.args.self.now
+  parts = subst (IsTableParts g.H.HashFn.MIN_LEN g.K.ByteArray.LEN g.V.ByteArray.LEN) c.self.view_is c.self.invariant
 
-pub returns-in_err-check_slot-clause-err : goal.returns-in_err-check_slot-clause-err
-returns-in_err-check_slot-clause-err g c =
-    let low : c.loop-slot.slot < length c.args.self.now.control - 16 = omega (arith, slots_are g (goal.at.returns-in_err-check_slot-clause-err g c).After-len-slot-end, c.loop-slot-test.true) in
-    let here = sym c.check_slot.ensures.err ∙ ap result_err c.in_err-check_slot.was in
-    let refusal : c.from_residual.result ≡ Err c.in_err-check_slot.field-0.0 = search rules in
-    ap result_err refusal ∙ sym (summary_refused (format g) c.args.self.now c.args.searches c.loop-slot.slot c.loop-slot.occupied c.loop-slot.unreachable c.loop-slot.invariant low _ here)
+  slots : c.len-slots.result ≡ c.args.self.now.entries.slots
+  slots = c.len-slots.ensures ∙ ap (λ (t : TableParts). t.entries.slots) c.self.view_is
 
-pub returns-in_err-check_free_control-in-None-clause-err : goal.returns-in_err-check_free_control-in-None-clause-err
-returns-in_err-check_free_control-in-None-clause-err g c =
-    let low : c.loop-slot.slot < length c.args.self.now.control - 16 = omega (arith, slots_are g (goal.at.returns-in_err-check_free_control-in-None-clause-err g c).After-len-slot-end, c.loop-slot-test.true) in
-    let none = sym c.in_ok-check_slot.ensures.err in
-    let stray = Err-checked _ _ (sym c.in_err-check_free_control-in-None.was ∙ c.check_free_control.ensures) in
-    let refusal : c.from_residual-in_err-check_free_control-in-None.result ≡ Err c.in_err-check_free_control-in-None.field-0.0 = search rules in
-    ap result_err refusal ∙ sym (summary_stray (format g) c.args.self.now c.args.searches c.loop-slot.slot c.loop-slot.occupied c.loop-slot.unreachable c.loop-slot.invariant low _ none stray)
+  all : length c.args.self.now.control - 16 ≡ c.args.self.now.entries.slots
+  all = let m = (parts).mirrored in omega (arith, m)
 
-pub overflow_add-occupied : goal.overflow_add-occupied
-overflow_add-occupied g c =
-    let few = summary_few (format g) c.args.self.now c.args.searches c.loop-slot.slot c.loop-slot.occupied c.loop-slot.unreachable c.loop-slot.invariant in
-    let low = c.loop-slot-test.true in
-    let fits = c.len-slot-end.type_inv in
-    search rules
+-- the span
+module _ (g : Over) (c : After-min-size g) where
+  abbrev counted : After-len-slots g
+  counted = (goal.at.After-min-size g c).After-len-slots
 
-pub loop-slot-preserved : goal.loop-slot-preserved
-loop-slot-preserved g c = elim c.match-branch-2.branch [
-  | in-None+in_ok-check_free_control-in-None w ↦
-      let summary = summary_free (format g) c.args.self.now c.args.searches c.loop-slot.slot c.loop-slot.occupied c.loop-slot.unreachable c.loop-slot.invariant
-      (sym c.in_ok-check_slot.ensures.err) (subst (IsSlotHash (format g) c.args.self.now c.loop-slot.slot) w.in-None.is c.in_ok-check_slot.ensures.hash) (Ok-checked _ (sym w.in_ok-check_free_control-in-None.was ∙ w.check_free_control.ensures)) in
-      rw (w.occupied-is, w.unreachable-is) summary
-  | in-Some+then-searches+then-is_none+then-not-is_reached w ↦
-      let summary = summary_unreachable (format g) c.args.self.now c.args.searches c.loop-slot.slot c.loop-slot.occupied c.loop-slot.unreachable c.loop-slot.invariant
-      (sym c.in_ok-check_slot.ensures.err) (subst (IsSlotHash (format g) c.args.self.now c.loop-slot.slot) w.in-Some.is c.in_ok-check_slot.ensures.hash).0 (w.is_none.ensures ∙ ap not w.if-is_none.true) (λ fitting. sym w.if-not-is_reached.true ∙ w.is_reached.ensures fitting) in
-      rw (w.occupied-is, w.unreachable-is) summary
-  | in-Some+else-searches w ↦
-      let summary = summary_occupied (format g) c.args.self.now c.args.searches c.loop-slot.slot c.loop-slot.occupied c.loop-slot.unreachable c.loop-slot.invariant
-      (sym c.in_ok-check_slot.ensures.err) (subst (IsSlotHash (format g) c.args.self.now c.loop-slot.slot) w.in-Some.is c.in_ok-check_slot.ensures.hash).0 (λ made none. elim w.else-searches.branch [
-        | else-searches-via-then-searches+then-is_none+else-not-is_reached v ↦ λ fitting. sym v.if-not-is_reached.false ∙ v.is_reached.ensures fitting
-        | else-searches-via-then-searches+else-is_none v ↦ absurd (true≢false (sym (v.is_none.ensures ∙ ap not v.if-is_none.false) ∙ none))
-        | else-searches-via-else-searches v ↦ absurd (true≢false (sym made ∙ v.if-searches.false))
-      ]) in
-      rw (w.occupied-is, w.unreachable-is) summary
-]
+  size_is : c.min-size.result ≡ min (c.args.self.now.entries.slots - c.spans.start) 64
+  size_is = c.min-size.ensures ∙ ap (λ n. min (n - c.spans.start) 64) (slots g counted)
+
+  before : c.spans.start < c.args.self.now.entries.slots
+  before = omega (arith, slots g counted, c.spans-test.true)
+
+  within : c.spans.start + c.min-size.result ≤ c.args.self.now.entries.slots
+  within = omega (arith, size_is, before)
+
+  words : c.min-size.result % 8 ≡ 0
+  words =
+      let m = sixteens c.args.self.now.entries.slots (parts g counted).slots in
+      omega (arith, size_is, before, c.spans.invariant.words, m.2)
+
+  long : length (bytes_at c.self.inside.control.now c.spans.start c.min-size.result) ≡ c.min-size.result
+  long =
+      let same : c.self.inside.entries.slots ≡ c.args.self.now.entries.slots = ap (λ (t : TableParts). t.entries.slots) c.self.view_is in
+      length-bytes_at c.self.inside.control.now c.spans.start c.min-size.result (omega (arith, within, same, c.self.invariant.mirrored))
+
+pub split-free-requires-clause-words : goal.split-free-requires-clause-words
+split-free-requires-clause-words g c = let at = (goal.at.split-free-requires-clause-words g c).After-min-size in ap (λ n. n % 8) (long g at) ∙ words g at
+
+pub are_free-requires-clause-within : goal.are_free-requires-clause-within
+are_free-requires-clause-within g c κs step i marked =
+    let at = (goal.at.are_free-requires-clause-within g c).After-min-size in
+    let low = free_low (bytes_at c.self.inside.control.now c.spans.start c.min-size.result) i (subst (λ xs. Contains xs i) c.split-free.ensures.free marked) in
+    omega (arith, low, long g at, within g at)
+
+pub spans-preserved : goal.spans-preserved
+spans-preserved g c =
+    let at = (goal.at.spans-preserved g c).After-min-size in
+    record {
+      within = within g at;
+      words = omega (arith, words g at, c.spans.invariant.words);
+      known = c.in_ok-summary.ensures.ok;
+    }
+
+pub returns-then-not-are_free-clause-err : goal.returns-then-not-are_free-clause-err
+returns-then-not-are_free-clause-err g c =
+    let at = (goal.at.returns-then-not-are_free-clause-err g c).After-len-slots in
+    answer_err (format g) c.args.self.now c.args.searches (λ (s : SlotSummary). s.occupied) (λ (s : SlotSummary). s.unreachable) c.args.self.now.entries.slots (all g at) c.check_from.result c.check_from.ensures.err c.check_from.ensures.ok
+
+pub returns-then-not-are_free-clause-occupied : goal.returns-then-not-are_free-clause-occupied
+returns-then-not-are_free-clause-occupied g c =
+    let at = (goal.at.returns-then-not-are_free-clause-occupied g c).After-len-slots in
+    answer_occupied (format g) c.args.self.now c.args.searches (λ (s : SlotSummary). s.occupied) (λ (s : SlotSummary). s.unreachable) c.args.self.now.entries.slots (all g at) c.check_from.result c.check_from.ensures.ok
+
+pub returns-then-not-are_free-clause-reached : goal.returns-then-not-are_free-clause-reached
+returns-then-not-are_free-clause-reached g c =
+    let at = (goal.at.returns-then-not-are_free-clause-reached g c).After-len-slots in
+    answer_reached (format g) c.args.self.now c.args.searches (λ (s : SlotSummary). s.occupied) (λ (s : SlotSummary). s.unreachable) c.args.self.now.entries.slots (all g at) c.check_from.result c.check_from.ensures.ok
 
 pub returns-clause-err : goal.returns-clause-err
 returns-clause-err g c =
-    let all : length c.args.self.now.control - 16 ≡ c.loop-slot.slot = omega (arith, slots_are g (goal.at.returns-clause-err g c).After-len-slot-end, c.loop-slot-test.false, c.loop-slot.auto.slot-end) in
-    sym (all_passed (format g) c.args.self.now c.args.searches c.loop-slot.slot c.loop-slot.occupied c.loop-slot.unreachable c.loop-slot.invariant all)
+    let at = (goal.at.returns-clause-err g c).After-len-slots in
+    let end : length c.args.self.now.control - 16 ≡ c.spans.start = omega (arith, all g at, slots g at, c.spans-test.false, c.spans.invariant.within) in
+    sym (all_passed (format g) c.args.self.now c.args.searches c.spans.start c.spans.summary.occupied c.spans.summary.unreachable c.spans.invariant.known end)
 
 pub returns-clause-occupied : goal.returns-clause-occupied
 returns-clause-occupied g c =
-    let all : length c.args.self.now.control - 16 ≡ c.loop-slot.slot = omega (arith, slots_are g (goal.at.returns-clause-occupied g c).After-len-slot-end, c.loop-slot-test.false, c.loop-slot.auto.slot-end) in
-    all_counted (format g) c.args.self.now c.args.searches c.loop-slot.slot c.loop-slot.occupied c.loop-slot.unreachable c.loop-slot.invariant all
+    let at = (goal.at.returns-clause-occupied g c).After-len-slots in
+    let end : length c.args.self.now.control - 16 ≡ c.spans.start = omega (arith, all g at, slots g at, c.spans-test.false, c.spans.invariant.within) in
+    all_counted (format g) c.args.self.now c.args.searches c.spans.start c.spans.summary.occupied c.spans.summary.unreachable c.spans.invariant.known end
 
 pub returns-clause-reached : goal.returns-clause-reached
 returns-clause-reached g c =
-    let all : length c.args.self.now.control - 16 ≡ c.loop-slot.slot = omega (arith, slots_are g (goal.at.returns-clause-reached g c).After-len-slot-end, c.loop-slot-test.false, c.loop-slot.auto.slot-end) in
-    all_reached (format g) c.args.self.now c.args.searches c.loop-slot.slot c.loop-slot.occupied c.loop-slot.unreachable c.loop-slot.invariant all
+    let at = (goal.at.returns-clause-reached g c).After-len-slots in
+    let end : length c.args.self.now.control - 16 ≡ c.spans.start = omega (arith, all g at, slots g at, c.spans-test.false, c.spans.invariant.within) in
+    all_reached (format g) c.args.self.now c.args.searches c.spans.start c.spans.summary.occupied c.spans.summary.unreachable c.spans.invariant.known end

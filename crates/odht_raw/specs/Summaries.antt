@@ -1,0 +1,37 @@
+-- What is known of the slots of the parts T before slot n.
+--     occupied_before F T n        how many of them hold a pair
+--     IsFirstUnreachable F T n o   o is the first of them at which the search for its key does not end, if there is one
+--     IsSummary F T t n m o        none of them gives an error, m of them are occupied, and where the flag t says that
+--                                  searches are made, and slots and mirror give no error, o is the first that is
+--                                  unreachable
+--     free_in g                    the indices of the control bytes of g that count as free, rising
+--     AreRight F T b is            slot b + i gives no error, for each i of is
+use Rattle.std.specs.Prelude.{◌≡◌, ℕ, ◌+◌, ◌<◌, Bool, true, List, length, map, filter, filter_map, slice_index, Contains, Option, Some, None, MatchOption}
+use Rattle.std.specs.List.{range_with_len}
+use Rattle.odht_base.specs.Format.{Format}
+use Rattle.odht_base.specs.Decoded.{counts_as_free, decoded_cell}
+use Rattle.odht_raw.specs.Checks.{IsFitting}
+use Rattle.odht_raw.specs.Parts.{TableParts}
+use Rattle.odht_header.specs.declared.error.Error.TheVariants.{Unreachable}
+use Rattle.odht_header.specs.Refusals.{slot_refusal_at, unreachable}
+
+abbrev pub occupied_before : Format → TableParts → ℕ → ℕ
+occupied_before F T n = length (filter_map (λ c. c) (map (decoded_cell F T.entries.bytes T.control) (range_with_len 0 n)))
+
+abbrev pub IsFirstUnreachable : Format → TableParts → ℕ → Option ℕ → Type 0
+IsFirstUnreachable F T n o =
+    let refusal = unreachable F T.entries.bytes T.control in
+    MatchOption o
+    ((i : ℕ) → i < n → refusal i ≡ None)
+    (λ j. (j < n) × ((i : ℕ) → i < j → refusal i ≡ None) × (refusal j ≡ Some (Unreachable j)))
+
+pub record IsSummary (F : Format) (T : TableParts) (t : Bool) (n m : ℕ) (o : Option ℕ) : Type 0 where
+  pub passed : (i : ℕ) → i < n → slot_refusal_at F T.entries.bytes T.control i ≡ None
+  pub counted : m ≡ occupied_before F T n
+  pub reached : t ≡ true → IsFitting F T → IsFirstUnreachable F T n o
+
+abbrev pub free_in : List ℕ → List ℕ
+free_in g = filter (λ i. counts_as_free (slice_index g i)) (range_with_len 0 (length g))
+
+abbrev pub AreRight : Format → TableParts → ℕ → List ℕ → Type 0
+AreRight F T b is = (i : ℕ) → Contains is i → slot_refusal_at F T.entries.bytes T.control (b + i) ≡ None
