@@ -25,6 +25,7 @@ mod probe_seq;
 mod runs;
 mod scan;
 mod search_result;
+mod span;
 mod table_mut;
 mod walk;
 

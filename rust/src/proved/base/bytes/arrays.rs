@@ -46,7 +46,7 @@ impl<const LEN: usize> ByteArray for [u8; LEN] {
         as_bytes(self)
     }
 
-    // Arrays of one to four words are compared a word at a time.
+    // Arrays of one to four words are compared a word at a time, with no loop.
     #[inline]
     fn equals(&self, other: &Self) -> bool {
         let (left, right): (&[u8], &[u8]) = (self, other);
@@ -55,7 +55,7 @@ impl<const LEN: usize> ByteArray for [u8; LEN] {
             16 => is_same_pair(left, right, 0),
             24 => is_same_pair(left, right, 0) && is_same_word(left, right, 16),
             32 => is_same_pair(left, right, 0) && is_same_pair(left, right, 16),
-            _ => *self == *other,
+            _ => is_same_bytes(left, right),
         }
     }
 }
@@ -84,6 +84,41 @@ pub fn read_u64(bytes: &[u8], at: usize) -> u64 {
 #[inline]
 pub fn is_same_word(left: &[u8], right: &[u8], at: usize) -> bool {
     read_u64(left, at) == read_u64(right, at)
+}
+
+/// Whether two slices of the same length have the same bytes. They are compared where they are.
+///
+/// Up to 64 bytes are compared in pieces of eight, then one of four, then the rest: a copy of a short key is written in
+/// such pieces too, and read back fastest in the same.
+#[inline(always)]
+pub fn is_same_bytes(left: &[u8], right: &[u8]) -> bool {
+    let len = right.len();
+    if len > 64 {
+        return is_same_list(left, right);
+    }
+    let mut at = 0;
+    while len - at >= 8 {
+        if !is_same_word(left, right, at) {
+            return false;
+        }
+        at += 8;
+    }
+    if len - at < 4 {
+        return is_same_list(&index!(left[at..]), &index!(right[at..]));
+    }
+    is_same_half(left, right, at) && is_same_list(&index!(left[at + 4..]), &index!(right[at + 4..]))
+}
+
+// Whether two slices are equal.
+#[inline(always)]
+fn is_same_list(left: &[u8], right: &[u8]) -> bool {
+    left == right
+}
+
+// Whether the four bytes from `at` on are equal.
+#[inline]
+fn is_same_half(left: &[u8], right: &[u8], at: usize) -> bool {
+    read_u32(left, at) == read_u32(right, at)
 }
 
 // Whether the sixteen bytes from `at` on are equal.

@@ -1,7 +1,8 @@
 // Made by `make rust` of crates/odht_raw/src/raw_table/check.rt.
 //! The whole check of the parts of a table: each slot, the mirror, and that the search for each key ends at its slot.
 
-use super::{tag_of, ProbeSeq, RawTable, FREE};
+use super::span::{is_zeros, split, Marks, SPAN};
+use super::{tag_of, ProbeSeq, RawTable, Scan, FREE};
 use crate::proved::raw::bytes::ByteArray;
 use crate::proved::raw::error::Error;
 use crate::proved::raw::hash::HashFn;
@@ -18,17 +19,44 @@ pub(crate) struct SlotSummary {
 }
 
 impl<'a, K: ByteArray, V: ByteArray, H: HashFn> RawTable<'a, K, V, H> {
-    /// Checks each slot once, in slot order, and answers the first error: `NonZeroEmpty`, then `BadFreeControl`, of a
-    /// slot that counts as free, `ControlMismatch` of any other.
+    /// Checks all slots, and answers the first error in slot order: `NonZeroEmpty`, then `BadFreeControl`, of a slot
+    /// that counts as free, `ControlMismatch` of any other.
     ///
     /// `unreachable` is what its comment says only where searches are made, no slot gives an error, and the mirror has no
     /// mismatch. The whole check reads it in no other case.
+    // The slots are gone through a span at a time, first the free ones and then the others, so that what a slot is
+    // makes no branch that cannot be predicted. Where a free one has an error, the slots of its span are gone through
+    // in their order instead.
+    //
     // Inlined next to an opening, it would keep the first ten control bytes in registers.
     #[inline(never)]
     pub(crate) fn check_slots(&self, searches: bool) -> Result<SlotSummary, Error> {
-        let mut occupied = 0;
-        let mut unreachable = None;
-        for slot in 0..self.entries.len() {
+        let slots = self.entries.len();
+        let mut summary = SlotSummary { occupied: 0, unreachable: None };
+        let mut start = 0;
+        while start < slots {
+            let size = (slots - start).min(SPAN);
+            let (free, others) = split(&index!(self.control[start..start + size]));
+            if !self.are_free(start, free) {
+                return self.check_from(start, searches, summary);
+            }
+            summary = self.take_others(start, size, others, searches, summary)?;
+            start += size;
+        }
+        Ok(summary)
+    }
+
+    // `check_slots` of the slots from `start` on, each in its order, from what is known of those before them.
+    #[inline(never)]
+    fn check_from(
+        &self,
+        start: usize,
+        searches: bool,
+        before: SlotSummary,
+    ) -> Result<SlotSummary, Error> {
+        let mut occupied = before.occupied;
+        let mut unreachable = before.unreachable;
+        for slot in start..self.entries.len() {
             match self.check_slot(slot)? {
                 None => self.check_free_control(slot)?,
                 Some(hash) => {
@@ -42,10 +70,71 @@ impl<'a, K: ByteArray, V: ByteArray, H: HashFn> RawTable<'a, K, V, H> {
         Ok(SlotSummary { occupied, unreachable })
     }
 
+    // What is known after a span of `size` slots from `start` on, of which the free ones have no error, from what is
+    // known before it. The others are taken in their order.
+    #[inline(always)]
+    fn take_others(
+        &self,
+        start: usize,
+        size: usize,
+        others: Marks,
+        searches: bool,
+        before: SlotSummary,
+    ) -> Result<SlotSummary, Error> {
+        // Its invariant is used: slots and control bytes are as many as fit in a `usize`.
+        let _ = &self.control;
+        let mut others = others;
+        let mut occupied = before.occupied;
+        let mut unreachable = before.unreachable;
+        let mut searching = searches && unreachable.is_none();
+        while let Some(index) = others.take() {
+            let slot = start + index;
+            let hash = self.check_key(slot)?;
+            occupied += 1;
+            if searching && !self.is_reached(slot, hash) {
+                unreachable = Some(slot);
+                searching = false;
+            }
+        }
+        Ok(SlotSummary { occupied, unreachable })
+    }
+
+    // The hash of the key of an occupied slot; `ControlMismatch` where its tag is not the control byte.
+    #[inline(always)]
+    fn check_key(&self, slot: usize) -> Result<u32, Error> {
+        let hash = H::hash(self.entries.key_bytes_of(slot));
+        let found = index!(self.control[slot]);
+        let expected = tag_of(hash);
+        if found != expected {
+            return Err(Error::ControlMismatch { slot, expected, found });
+        }
+        Ok(hash)
+    }
+
+    // Whether slots that count as free, of which the indices from `start` on are marked, have no error.
+    #[inline(always)]
+    fn are_free(&self, start: usize, free: Marks) -> bool {
+        // Its invariant is used: slots and control bytes are as many as fit in a `usize`.
+        let _ = &self.control;
+        let mut free = free;
+        while let Some(index) = free.take() {
+            if !self.is_free(start + index) {
+                return false;
+            }
+        }
+        true
+    }
+
+    // Whether a slot is free, and has no error.
+    #[inline(always)]
+    fn is_free(&self, slot: usize) -> bool {
+        index!(self.control[slot]) == FREE && is_zeros(self.entries.bytes_of(slot))
+    }
+
     // Whether the control byte of a slot that counts as free is `FREE`; else `BadFreeControl`.
     #[inline]
     fn check_free_control(&self, slot: usize) -> Result<(), Error> {
-        let found = self.control[slot];
+        let found = index!(self.control[slot]);
         if found == FREE {
             Ok(())
         } else {
@@ -57,37 +146,69 @@ impl<'a, K: ByteArray, V: ByteArray, H: HashFn> RawTable<'a, K, V, H> {
     // key is compared only with keys at earlier positions that have its tag.
     //
     // This asks for more than `IsReached` does: the second copy of a key may be reached, but no search ends at it.
+    //
+    // Most keys are in the group of their home, with no free byte and no match before them: then this is all.
     #[inline]
     fn is_reached(&self, slot: usize, hash: u32) -> bool {
         let slots = self.entries.len();
         let mask = slots - 1;
+        let home = hash as usize & mask;
+        let before = (slot + slots - home) & mask;
+        let group = self.look_at(home, tag_of(hash));
+        if before < REFERENCE_GROUP_SIZE
+            && group.first_empty().unwrap_or(REFERENCE_GROUP_SIZE) >= before
+            && group.first_match().unwrap_or(REFERENCE_GROUP_SIZE) >= before
+        {
+            return true;
+        }
+        self.is_reached_late(slot, hash, group)
+    }
+
+    // The same, group by group. The first group is at hand.
+    //
+    // Inlined, it would take registers from the look at the first group.
+    #[inline(never)]
+    fn is_reached_late(&self, slot: usize, hash: u32, first: GroupQuery) -> bool {
+        let slots = self.entries.len();
+        let mask = slots - 1;
         let tag = tag_of(hash);
         let mut probe = ProbeSeq::<REFERENCE_GROUP_SIZE>::new(hash as usize, mask);
+        let mut group = first;
         loop {
             let start = probe.index();
             let before = (slot + slots - start) & mask;
             if before < REFERENCE_GROUP_SIZE {
-                return self.are_passed(start, before, slot, tag);
+                return self.are_passed(group, start, before, slot);
             }
-            if !self.are_passed(start, REFERENCE_GROUP_SIZE, slot, tag) {
+            if !self.are_passed(group, start, REFERENCE_GROUP_SIZE, slot) {
                 return false;
             }
             probe.advance(mask);
+            group = self.look_at(probe.index(), tag);
         }
     }
 
-    // Whether each of the `count` slots from `start` on, modulo the slot count, is occupied by another key than that of
-    // `slot`, whose tag is `tag`.
+    // The search for a tag in the group of sixteen control bytes from that of slot `start` on.
     #[inline]
-    fn are_passed(&self, start: usize, count: usize, slot: usize, tag: u8) -> bool {
-        let control = &self.control[start..start + REFERENCE_GROUP_SIZE];
-        let mut group = GroupQuery::of(control, tag);
+    fn look_at(&self, start: usize, tag: u8) -> GroupQuery {
+        let mut scan = Scan::new(self.control, self.entries.len());
+        GroupQuery::of(scan.group(start), tag)
+    }
+
+    // Whether each of the `count` slots from `start` on, modulo the slot count, is occupied by another key than that of
+    // `slot`. The group is that of these slots, searched for the tag of this key.
+    #[inline]
+    fn are_passed(&self, group: GroupQuery, start: usize, count: usize, slot: usize) -> bool {
+        let mask = self.entries.len() - 1;
+        let mut group = group;
         if group.first_empty().unwrap_or(REFERENCE_GROUP_SIZE) < count {
             return false;
         }
-        let mask = self.entries.len() - 1;
         while let Some(index) = group.first_match() {
-            if index < count && self.have_same_key((start + index) & mask, slot) {
+            if index >= count {
+                return true;
+            }
+            if self.have_same_key((start + index) & mask, slot) {
                 return false;
             }
             group.drop_match();
@@ -107,7 +228,7 @@ impl<'a, K: ByteArray, V: ByteArray, H: HashFn> RawTable<'a, K, V, H> {
     pub(crate) fn check_mirror(&self) -> Result<(), Error> {
         let slots = self.entries.len();
         for index in 0..REFERENCE_GROUP_SIZE {
-            if self.control[slots + index] != self.control[index] {
+            if index!(self.control[slots + index]) != index!(self.control[index]) {
                 return Err(Error::MirrorMismatch { index });
             }
         }

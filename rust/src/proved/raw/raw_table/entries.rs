@@ -1,7 +1,7 @@
 // Made by `make rust` of crates/odht_raw/src/raw_table/entries.rt.
 //! The entries of a table, read from their bytes.
 
-use crate::proved::raw::bytes::ByteArray;
+use crate::proved::raw::bytes::{is_same_bytes, ByteArray};
 use std::marker::PhantomData;
 
 /// An entry: an encoded key and its encoded value, as a slot holds them.
@@ -57,5 +57,27 @@ impl<'a, K: ByteArray, V: ByteArray> Entries<'a, K, V> {
             key: K::from_slice(&index!(entry[..K::LEN])),
             value: V::from_slice(&index!(entry[K::LEN..])),
         }
+    }
+
+    // The bytes of the entry of a slot.
+    #[inline]
+    pub(crate) fn bytes_of(&self, slot: usize) -> &'a [u8] {
+        let bytes = self.bytes;
+        let at = slot * (K::LEN + V::LEN);
+        &index!(bytes[at..at + K::LEN + V::LEN])
+    }
+
+    // The bytes of the key of a slot.
+    #[inline]
+    pub(crate) fn key_bytes_of(&self, slot: usize) -> &'a [u8] {
+        let bytes = self.bytes;
+        let at = slot * (K::LEN + V::LEN);
+        &index!(bytes[at..at + K::LEN])
+    }
+
+    /// Whether the key of a slot is `key`. Its bytes are compared where they are, and the value is not read.
+    #[inline(always)]
+    pub(crate) fn has_key(&self, slot: usize, key: &K) -> bool {
+        is_same_bytes(self.key_bytes_of(slot), key.as_slice())
     }
 }

@@ -37,9 +37,9 @@ impl<'a, K: ByteArray, V: ByteArray, H: HashFn> RawTable<'a, K, V, H> {
         let home = look.hash as usize & mask;
         let FirstLook { hash, mut group } = look;
         while let Some(index) = group.first_match() {
-            let entry = self.entries.get((home + index) & mask);
-            if entry.key.equals(key) {
-                return Some(entry.value);
+            let slot = (home + index) & mask;
+            if self.entries.has_key(slot, key) {
+                return Some(self.entries.get(slot).value);
             }
             group.drop_match();
         }

@@ -111,7 +111,7 @@ fn look_at_piece<K: ByteArray, V: ByteArray, H: HashFn, Q: Group>(
     let mut group = Q::of(bytes, tag);
     while let Some(index) = group.first_match() {
         let slot = (start + index) & mask;
-        if entries.get(slot).key.equals(key) {
+        if entries.has_key(slot, key) {
             return Some(Search::Found(slot));
         }
         group.drop_match();

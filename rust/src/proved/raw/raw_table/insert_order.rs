@@ -1,12 +1,29 @@
 // Made by `make rust` of crates/odht_raw/src/raw_table/insert_order.rt.
 //! An order of inserts that makes a table, found within the buffer that it is written to.
 
-use super::{is_empty_or_deleted, EntryMetadata, ProbeSeq, RawTable};
+use super::{is_empty_or_deleted, EntryMetadata, RawTable};
 use crate::proved::raw::bytes::ByteArray;
 use crate::proved::raw::hash::HashFn;
+use crate::proved::raw::swisstable_group_query::REFERENCE_GROUP_SIZE;
 
 // What is added to a slot that waits to be placed. It is above each slot.
 const WAITING: usize = 1 << 63;
+
+// How many frontiers are kept from one search to the next. Few homes have long searches at a time, and one that is
+// forgotten is only found again.
+const FRONTIERS: usize = 64;
+
+// An odd number, times which homes that share their low bits differ in the highest.
+const SPREAD: usize = 0x9E37_79B9_7F4A_7C15;
+
+// How far the slots in the probe order of a home are placed: those before a group. It keeps the first slot of the group
+// and the position of that slot.
+#[derive(Clone, Copy)]
+struct Frontier {
+    home: usize,
+    base: usize,
+    position: usize,
+}
 
 impl<'a, K: ByteArray, V: ByteArray, H: HashFn> RawTable<'a, K, V, H> {
     /// Whether inserts can make the table. Where they can, `out` is an order of its occupied slots in which they do:
@@ -16,13 +33,16 @@ impl<'a, K: ByteArray, V: ByteArray, H: HashFn> RawTable<'a, K, V, H> {
     ///
     /// A pass goes through the waiting slots in slot order, and places each whose earlier slots in the probe order of
     /// its key are all placed. Passes are made until no slot waits, or a pass places none: at most one pass more than
-    /// there are slots that wait for a slot of a higher index. Each earlier slot of a probe order is looked up by
-    /// binary search in the list of the pass, and after each pass this list is sorted. It allocates nothing.
+    /// there are slots that wait for a slot of a higher index. In a pass a slot in the first group of its probe order
+    /// takes one step. Any other takes one or two binary searches in the list of the pass for each group up to its own,
+    /// but for those that were passed before from the same home, as far as that is kept, for 64 homes. After each pass
+    /// the slots that still wait are sorted. It allocates nothing.
     pub fn insert_order(&self, out: &mut [usize]) -> bool {
         list_occupied(self.control, self.entries.len(), out);
+        let mut frontiers = [Frontier::at(0); FRONTIERS];
         let mut placed = 0;
         while placed < out.len() {
-            let ready = self.place_ready(&mut out[placed..]);
+            let ready = self.place_ready(&mut out[placed..], &mut frontiers);
             if ready == 0 {
                 return false;
             }
@@ -33,47 +53,162 @@ impl<'a, K: ByteArray, V: ByteArray, H: HashFn> RawTable<'a, K, V, H> {
 
     // Goes once through the slots that wait, and places each that is ready by then. At the end the placed slots come
     // first, in slot order, and after them the others. Answers how many were placed.
-    fn place_ready(&self, slots: &mut [usize]) -> usize {
+    fn place_ready(&self, slots: &mut [usize], frontiers: &mut [Frontier; FRONTIERS]) -> usize {
         let mut placed = 0;
+        // One more than the last slot that was left to wait, or 0.
+        let mut left = 0;
         for at in 0..slots.len() {
             let slot = slots[at] - WAITING;
-            if self.is_ready(slot, slots) {
+            if self.is_ready(slot, left, slots, frontiers) {
                 slots[at] = slot;
                 placed += 1;
+            } else {
+                left = slot + 1;
             }
         }
-        slots.sort_unstable();
+        sort_placed_first(slots, placed);
         placed
     }
 
-    // Whether no slot before this one in the probe order of its key waits.
-    fn is_ready(&self, slot: usize, slots: &[usize]) -> bool {
+    // Whether no slot before this one in the probe order of its key waits. In most cases the slots before it begin at
+    // its home and end next to it, so that all of them were looked at before in the pass.
+    #[inline]
+    fn is_ready(
+        &self,
+        slot: usize,
+        left: usize,
+        slots: &[usize],
+        frontiers: &mut [Frontier; FRONTIERS],
+    ) -> bool {
         let key = self.entries.get(slot).key;
         let mask = self.entries.len() - 1;
-        let mut probe = ProbeSeq::<1>::new(H::hash(key.as_slice()) as usize, mask);
-        while probe.index() != slot {
-            if is_waiting(probe.index(), slots) || probe.is_last() {
-                return false;
-            }
-            probe.advance(mask);
+        let home = H::hash(key.as_slice()) as usize & mask;
+        if home <= slot && slot - home < REFERENCE_GROUP_SIZE {
+            left <= home
+        } else {
+            is_unblocked_from(home, slot, mask, left, slots, frontiers)
         }
-        true
     }
 }
 
-// Whether the slot is one that waits. The slots of the list are in slot order.
-fn is_waiting(slot: usize, slots: &[usize]) -> bool {
-    let index = slots.partition_point(|listed| *listed % WAITING < slot);
-    slots.get(index) == Some(&(WAITING + slot))
+impl Frontier {
+    // That of a home before any slot is passed.
+    #[inline]
+    fn at(home: usize) -> Frontier {
+        Frontier { home, base: home, position: 0 }
+    }
+}
+
+// Whether no slot before this one, which waits, in the probe order of the home waits. What an earlier search from this
+// home has passed is placed, so it goes on from there where that is kept.
+fn is_unblocked_from(
+    home: usize,
+    slot: usize,
+    mask: usize,
+    left: usize,
+    slots: &[usize],
+    frontiers: &mut [Frontier; FRONTIERS],
+) -> bool {
+    let index = home.wrapping_mul(SPREAD) >> 58;
+    let mut frontier = frontiers[index];
+    if frontier.home != home {
+        frontier = Frontier::at(home);
+    }
+    let result = is_unblocked(&mut frontier, slot, mask, left, slots);
+    frontiers[index] = frontier;
+    result
+}
+
+// Whether no slot before this one, which waits, in the probe order of the home waits. The frontier goes on to the last
+// group that this looks at.
+fn is_unblocked(
+    frontier: &mut Frontier,
+    slot: usize,
+    mask: usize,
+    left: usize,
+    slots: &[usize],
+) -> bool {
+    loop {
+        let before = (slot + (mask + 1) - frontier.base) & mask;
+        let count = before.min(REFERENCE_GROUP_SIZE);
+        if is_any_waiting(frontier.base, count, mask, slot, left, slots) {
+            return false;
+        }
+        if before < REFERENCE_GROUP_SIZE {
+            return true;
+        }
+        frontier.position += REFERENCE_GROUP_SIZE;
+        frontier.base = (frontier.base + frontier.position) & mask;
+    }
+}
+
+// Whether one of the `count` slots from `base` on waits, around the end. Those below `slot` wait no more from `left` on.
+fn is_any_waiting(
+    base: usize,
+    count: usize,
+    mask: usize,
+    slot: usize,
+    left: usize,
+    slots: &[usize],
+) -> bool {
+    let end = base + count;
+    if left <= base && end <= slot {
+        return false;
+    }
+    let slot_count = mask + 1;
+    if end <= slot_count {
+        return is_range_waiting(base, end, slots);
+    }
+    if is_range_waiting(base, slot_count, slots) {
+        return true;
+    }
+    is_range_waiting(0, end - slot_count, slots)
+}
+
+// Whether a slot from `start` to before `end` waits. The slots of the list are in slot order.
+fn is_range_waiting(start: usize, end: usize, slots: &[usize]) -> bool {
+    let first = slots.partition_point(|listed| *listed % WAITING < start);
+    for at in first..slots.len() {
+        let listed = slots[at];
+        if listed % WAITING >= end {
+            return false;
+        }
+        if listed >= WAITING {
+            return true;
+        }
+    }
+    false
+}
+
+// Sorts the list, whose slots are in slot order, and of which so many are placed: these come first, and behind them
+// those that wait. The placed ones keep their order as they are moved, so only the others are sorted, of which there
+// are few in most tables, and in many none.
+fn sort_placed_first(slots: &mut [usize], placed: usize) {
+    if placed == slots.len() {
+        return;
+    }
+    let mut front = 0;
+    for at in 0..slots.len() {
+        let moved = slots[at];
+        if moved < WAITING {
+            slots[at] = slots[front];
+            slots[front] = moved;
+            front += 1;
+        }
+    }
+    slots[front..].sort_unstable();
 }
 
 // Lists the occupied slots, as many as `out` has room for, each as one that waits.
 fn list_occupied(control: &[EntryMetadata], slot_count: usize, out: &mut [usize]) {
     let mut occupied = 0;
     for slot in 0..slot_count {
-        if occupied < out.len() && !is_empty_or_deleted(control[slot]) {
+        if occupied < out.len() {
+            // Written over by the next, where the slot is free: which slots are free is not to be guessed.
             out[occupied] = WAITING + slot;
-            occupied += 1;
+            if !is_empty_or_deleted(control[slot]) {
+                occupied += 1;
+            }
         }
     }
 }

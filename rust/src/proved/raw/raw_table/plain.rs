@@ -62,7 +62,7 @@ fn plain_search<K: ByteArray, V: ByteArray, H: HashFn>(
         if is_empty_or_deleted(control[slot]) {
             return Search::Free(slot);
         }
-        if entries.get(slot).key.equals(key) {
+        if entries.has_key(slot, key) {
             return Search::Found(slot);
         }
     }

@@ -11,9 +11,11 @@ impl<C: Config> HashTableOwned<C> {
     /// does, the numbers in `out` mean nothing. docs/PROOFS.md, "Orders of inserts", has the definitions.
     ///
     /// It takes no memory. A slot waits until all slots before it in its key's probe order are listed. There are at
-    /// most as many passes over the items as there are slots that wait for one of a higher number, and one more. A pass
-    /// looks for each earlier position of each waiting slot by a binary search among the slots that wait, and then
-    /// sorts these. bench/README.md has what an item costs in a table of 10^6.
+    /// most as many passes over the items as there are slots that wait for one of a higher number, and one more. In a
+    /// pass a slot in the first group of its probe order takes one step. Any other takes one or two binary searches
+    /// among the slots that wait for each group up to its own, but for those that were passed before from the same home,
+    /// as far as that is kept, for 64 homes. Then the slots that still wait are sorted. bench/README.md has what an item
+    /// costs in a table of 10^6.
     pub fn insert_order(&self, out: &mut [usize]) -> bool {
         self.table.as_raw().insert_order(out)
     }
