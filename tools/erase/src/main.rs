@@ -26,7 +26,6 @@ const PLAN: Plan<'static> = Plan {
         "odht_raw/memory_layout/allocation/inserts",
         "odht_raw/raw_table",
         "odht_raw/raw_table/ahead",
-        "odht_raw/raw_table/check",
         "odht_raw/raw_table/entries",
         "odht_raw/raw_table/first_look",
         "odht_raw/raw_table/free_search",

@@ -36,7 +36,7 @@ impl<'a, K: ByteArray, V: ByteArray, H: HashFn> RawTable<'a, K, V, H> {
         let mut start = 0;
         while start < slots {
             let size = (slots - start).min(SPAN);
-            let (free, others) = split(&index!(self.control[start..start + size]));
+            let (free, others) = split(&self.control[start..start + size]);
             if !self.are_free(start, free) {
                 return self.check_from(start, searches, summary);
             }
@@ -103,7 +103,7 @@ impl<'a, K: ByteArray, V: ByteArray, H: HashFn> RawTable<'a, K, V, H> {
     #[inline(always)]
     fn check_key(&self, slot: usize) -> Result<u32, Error> {
         let hash = H::hash(self.entries.key_bytes_of(slot));
-        let found = index!(self.control[slot]);
+        let found = self.control[slot];
         let expected = tag_of(hash);
         if found != expected {
             return Err(Error::ControlMismatch { slot, expected, found });
@@ -128,13 +128,13 @@ impl<'a, K: ByteArray, V: ByteArray, H: HashFn> RawTable<'a, K, V, H> {
     // Whether a slot is free, and has no error.
     #[inline(always)]
     fn is_free(&self, slot: usize) -> bool {
-        index!(self.control[slot]) == FREE && is_zeros(self.entries.bytes_of(slot))
+        self.control[slot] == FREE && is_zeros(self.entries.bytes_of(slot))
     }
 
     // Whether the control byte of a slot that counts as free is `FREE`; else `BadFreeControl`.
     #[inline]
     fn check_free_control(&self, slot: usize) -> Result<(), Error> {
-        let found = index!(self.control[slot]);
+        let found = self.control[slot];
         if found == FREE {
             Ok(())
         } else {
@@ -228,7 +228,7 @@ impl<'a, K: ByteArray, V: ByteArray, H: HashFn> RawTable<'a, K, V, H> {
     pub(crate) fn check_mirror(&self) -> Result<(), Error> {
         let slots = self.entries.len();
         for index in 0..REFERENCE_GROUP_SIZE {
-            if index!(self.control[slots + index]) != index!(self.control[index]) {
+            if self.control[slots + index] != self.control[index] {
                 return Err(Error::MirrorMismatch { index });
             }
         }
