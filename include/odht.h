@@ -285,7 +285,7 @@ typedef struct odht_view {
  *     allows. Then all comments on answers here hold for them.
  *     OK: they are valid. An error, 1 to 16: the first in the order that is described
  *     above; it does not say in which slot.
- *     It goes over the slots in their order, and for each occupied slot reads the
+ *     It goes over the slots, up to 64 at a time, and for each occupied slot reads the
  *     control bytes of its key's probe order up to it, sixteen at a time; a key is
  *     compared only where an earlier slot of that order has its tag. It allocates
  *     nothing. For a table of keys whose hashes vary this takes from a fifth to two
@@ -377,10 +377,11 @@ typedef struct odht_view {
  *     It makes the whole check first, as odht_S_check does. Then it goes over the items
  *     in passes: at most one more than there are items whose insert has to wait for
  *     that of an item in a later slot. In a pass an item takes one step where its slot
- *     is in the first group of its probe order. Else it takes one or two binary searches
- *     among the waiting items for each group up to its own, but for those that were
- *     passed before from the same slot on, as far as that is kept, for 64 such slots.
- *     After the pass those that still wait are sorted. It allocates nothing.
+ *     is in the first group of its probe order, and not before the slot where that
+ *     begins. Else it takes one or two binary searches among the waiting items for each
+ *     group up to its own, but for those that were passed before from the same slot on,
+ *     as far as that is kept, for 64 such slots. After the pass those that still wait
+ *     are sorted. It allocates nothing.
  *
  * odht_S_grow(bytes, bytes_len, out, out_len, *len)
  *     Writes the table that this one grows into to out: with slots for twice as many

@@ -1,5 +1,5 @@
 //! The lines in which pairs and answers are printed.
-ghost use Rattle.std.specs.Prelude.{◌≡◌, ◌∷◌, ◌++◌, [], IfOk, OnOk, is_some, length};
+ghost use Rattle.std.specs.Prelude.{◌≡◌, IfOk, OnOk, is_some, length};
 ghost use Rattle.std.specs.Io.KnownBytes.{Appends};
 ghost use Rattle.std.specs.List.{list_all};
 ghost use Rattle.odht_tool_core.specs.Texts.{answer_line, answers_text, pair_line};
@@ -67,7 +67,9 @@ pub fn are_found<V>(values: &[Option<V>]) -> bool
     values.iter().all(|value| value.is_some())
 }
 
-// Writes the line of a key with its value, or of the key alone.
+// Writes the line of a key with its value, or of the key alone. It is not put together first: answers go out between
+// reads of an input that may wait, and a buffer behind `output` that becomes full is passed on with as many parts of a
+// line as fit.
 fn write_answer<K: Text, V: Text, O: Write>(
     key: &K,
     value: &Option<V>,
@@ -77,28 +79,10 @@ fn write_answer<K: Text, V: Text, O: Write>(
         (answer_line K.text V.text (key.now, value.now))) }
 {
     match value {
-        Some(value) => write_pair(key, value, output),
-        None => write_key(key, output),
+        Some(value) => write_pair_in_pieces(key, value, output),
+        None => {
+            key.write(output)?;
+            output.write_all(b"\n")
+        }
     }
-}
-
-// Writes the line of a key alone.
-fn write_key<K: Text, O: Write>(key: &K, output: &mut O) -> io::Result<()>
-    ensures { OnOk result (Appends (O.contents output.old) (O.contents output.new)
-        (K.text key.now ++ 10 ∷ [])) }
-{
-    let mut line = Line::new();
-    match write_key_in_pieces(key, &mut line) {
-        Ok(()) => output.write_all(line.as_slice()),
-        Err(_) => write_key_in_pieces(key, output),
-    }
-}
-
-#[inline(always)]
-fn write_key_in_pieces<K: Text, O: Write>(key: &K, output: &mut O) -> io::Result<()>
-    ensures { OnOk result (Appends (O.contents output.old) (O.contents output.new)
-        (K.text key.now ++ 10 ∷ [])) }
-{
-    key.write(output)?;
-    output.write_all(b"\n")
 }

@@ -1,5 +1,5 @@
 //! Keys and values as text: a number in decimal digits, bytes in hexadecimal digits, and nothing at all.
-ghost use Rattle.std.specs.Prelude.{◌≡◌, ◌↔◌, ◌<◌, ◌≤◌, ◌*◌, ◌^◌, ℕ};
+ghost use Rattle.std.specs.Prelude.{◌≡◌, ◌↔◌, ◌<◌, ◌≤◌, ◌*◌, ◌%◌, ◌^◌, ℕ};
 ghost use Rattle.std.specs.Prelude.{List, [], length, take, max, slice_index, Some};
 ghost use Rattle.std.specs.Prelude.{IfSome, IsSome, IsTrue, OnOk, decimal, false};
 ghost use Rattle.std.specs.Char.{is_ascii_hexdigit, to_ascii_lowercase};
@@ -189,7 +189,7 @@ fn digit_value(byte: u8) -> u8
     }
 }
 
-// Two lower-case digits for each byte, written for so many bytes at once.
+// Two lower-case digits for each byte, put together for so many bytes at once.
 fn write_bytes<W: Write>(bytes: &[u8], output: &mut W) -> io::Result<()>
     ensures { OnOk result (Appends (W.contents output.old) (W.contents output.new)
         (hex_text bytes.now)) }
@@ -199,7 +199,22 @@ fn write_bytes<W: Write>(bytes: &[u8], output: &mut W) -> io::Result<()>
     while !rest.is_empty() {
         let (piece, next) = rest.split_at(rest.len().min(32));
         put_bytes(piece, &mut text);
-        output.write_all(&text[..2 * piece.len()])?;
+        write_in_pairs(&text[..2 * piece.len()], output)?;
+        rest = next;
+    }
+    Ok(())
+}
+
+// Writes the digits of each byte by themselves. A buffer behind `output` that becomes full is then passed on with as many
+// digits as fit, however long the text is.
+#[inline(always)]
+fn write_in_pairs<W: Write>(digits: &[u8], output: &mut W) -> io::Result<()>
+    requires { length digits.now % 2 ≡ 0 }
+    ensures { OnOk result (Appends (W.contents output.old) (W.contents output.new) digits.now) }
+{
+    let mut rest = digits;
+    while let Some((pair, next)) = rest.split_first_chunk::<2>() {
+        output.write_all(pair)?;
         rest = next;
     }
     Ok(())

@@ -19,10 +19,6 @@ apart_moved xs ys moved apart i j d lt l same =
     ] in
     omega (arith, l, shorter, pigeons_fit xs (remove ys j) apart all, length_permutation xs ys moved)
 
--- numbers that rise are different
-pub rising_apart : (xs : List ℕ) → AllPairs (λ a b. a < b) xs → IsApart xs
-rising_apart xs rise i j d lt l same = omega (arith, rise i j d lt l, same)
-
 -- different numbers in order rise
 pub rising_if_sorted : (xs : List ℕ) → IsApart xs → IsSorted nat_cmp xs → AllPairs (λ a b. a < b) xs
 rising_if_sorted xs apart sorted i j d lt l =
