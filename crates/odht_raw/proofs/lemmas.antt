@@ -39,6 +39,8 @@ pub mod ProbeSteps
 pub mod GroupLooks
 -- a search by groups
 pub mod GroupSearches
+-- on its way from group to group
+pub mod GroupTurns
 -- a search for the first free slot
 pub mod FreeSearches
 -- the first look of a search

@@ -24,6 +24,8 @@ pub mod Frame
 pub mod Prefixes
 -- where a search ends on any parts
 pub mod SearchEnds
+-- a search by groups on its way from group to group
+pub mod GroupTurns
 -- what a search by groups answers and leaves
 pub mod Searches
 -- what a find answers

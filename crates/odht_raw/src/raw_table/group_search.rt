@@ -1,14 +1,15 @@
 //! The search by groups of control bytes along the probe order.
-ghost use Rattle.std.specs.Prelude.{◌≡◌, ℕ, ◌+◌, ◌<◌, ◌≤◌, length, IfSome, IsNone};
+ghost use Rattle.std.specs.Prelude.{◌≡◌, ℕ, ◌+◌, ◌<◌, ◌≤◌, length, IfSome, IsNone, IsTrue, MatchOption};
 ghost use Rattle.odht_base.specs.Load.{IsSlotCount};
 ghost use Rattle.odht_base.specs.Format.{format_of};
 ghost use Rattle.odht_base.specs.Table.{Table};
+ghost use Rattle.odht_raw.specs.GroupTurns.{IsGroup, IsNext, IsOver, IsPlain};
 ghost use Rattle.odht_raw.specs.PartLengths.{ArePairLengths, AreSearchLengths};
 ghost use Rattle.odht_raw.specs.SearchEnds.{IsEndAmong, GoesOnAmong};
 ghost use Rattle.odht_raw.specs.SearchSteps.{IsGroupAt, IsLook, IsTag};
 ghost use Rattle.odht_raw.specs.Searches.{IsSearch, IsSearchEnd};
 
-use super::{Entries, EntryMetadata, ProbeSeq, Scan, Search, tag_of};
+use super::{Entries, EntryMetadata, Scan, Search, tag_of};
 use crate::bytes::ByteArray;
 use crate::hash::HashFn;
 use crate::swisstable_group_query::{Group, GroupQuery, REFERENCE_GROUP_SIZE};
@@ -52,17 +53,19 @@ pub fn search_hashed<K: ByteArray, V: ByteArray, H: HashFn, Q: Group>(
 {
     let tag = tag_of(hash);
     let mask = scan.slots() - 1;
-    let mut probe = ProbeSeq::<REFERENCE_GROUP_SIZE>::new(hash as usize, mask);
+    let mut start = hash as usize & mask;
+    let mut position = 0;
+    let mut bytes = scan.group(start);
     'groups: loop {
-        let start = probe.index();
-        let bytes = scan.group(start);
         if let Some(end) = look_at_group::<K, V, H, Q>(bytes, start, entries, key, tag) {
             return end;
         }
-        if probe.is_last() {
+        let Some((next, later, read)) = next_group::<Q>(scan, start, position, mask, tag) else {
             return Search::Neither;
-        }
-        probe.advance(mask);
+        };
+        start = next;
+        position = later;
+        bytes = read;
     }
 }
 
@@ -102,6 +105,58 @@ pub(super) fn whole_search<K: ByteArray, V: ByteArray, H: HashFn>(
         (K.bytes key.now) result }
 {
     search_end::<K, V, H, GroupQuery>(control, entries, key, hash)
+}
+
+// The next group that may end a search for the tag, after the group that begins at slot `start`, of this position: its
+// first slot, its position and its control bytes; None where no later group may. Each group up to it is read once,
+// and passed by one test. The position of a group is also how far its first slot is behind that of the group before,
+// around the end. The mask is the slot count less one.
+#[inline(always)]
+fn next_group<'a, Q: Group>(
+    scan: &mut Scan<'a>,
+    start: usize,
+    position: usize,
+    mask: usize,
+    tag: u8,
+) -> Option<(usize, usize, &'a [EntryMetadata])>
+    requires slots { IsSlotCount (mask + 1) }
+    requires control { length scan.old.control ≡ mask + 1 + 16 }
+    requires groups { scan.old.groups ≤ usize.MAX }
+    requires group { IsGroup (mask + 1) start position }
+    requires tag { tag < 128 }
+    ensures { MatchOption result
+        (IsOver (mask + 1) tag start position scan.old scan.new)
+        (λ n. IsNext (mask + 1) tag start position scan.old scan.new n.0 n.1 n.2.now) }
+{
+    let mut first = start;
+    let mut at = position + REFERENCE_GROUP_SIZE;
+    'groups: while at <= mask {
+        first = (first + at) & mask;
+        let bytes = scan.group(first);
+        if !is_plain::<Q>(bytes, tag) {
+            return Some((first, at, bytes));
+        }
+        at += REFERENCE_GROUP_SIZE;
+    }
+    None
+}
+
+// Whether no piece of a group has a match of the tag or a byte that counts as free. Where this is so, a look at the
+// group compares no key and finds no end.
+#[inline(always)]
+fn is_plain<Q: Group>(bytes: &[EntryMetadata], tag: u8) -> bool
+    requires len { length bytes.now ≡ 16 }
+    requires tag { tag < 128 }
+    ensures { IsTrue result → IsPlain bytes.now tag 16 }
+{
+    for piece in 0..REFERENCE_GROUP_SIZE / Q::SIZE {
+        let first = piece * Q::SIZE;
+        let group = Q::of(&bytes[first..first + Q::SIZE], tag);
+        if group.first_match().is_some() || group.any_empty() {
+            return false;
+        }
+    }
+    true
 }
 
 // Searches the sixteen slots from `start` on, whose control bytes are `bytes`, in pieces of the group search's size.

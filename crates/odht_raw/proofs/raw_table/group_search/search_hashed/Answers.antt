@@ -1,85 +1,63 @@
-use Rattle.std.proofs.Common.{arith, refl, ◌≡◌, ◌∙◌, ℕ, ◌+◌, ◌-◌, ◌%◌, ◌/◌, ◌<◌, ◌≤◌, sym, ap, subst, true≢false, List, min}
+use Rattle.std.proofs.Common.{arith, refl, ◌≡◌, ◌∙◌, ℕ, ◌+◌, ◌-◌, ◌%◌, ◌/◌, ◌^◌, ◌<◌, ◌≤◌, sym, ap, subst, bit_and, List, min}
+use Rattle.std.proofs.Math.Nat.{mod-lt}
 use Rattle.odht_base.specs.Bytes.{bytes_at}
-use Rattle.odht_base.specs.Format.{Format, format_of, IsFormat}
+use Rattle.odht_base.specs.Format.{Format, IsFormat, format_of, home, tag}
 use Rattle.odht_base.specs.Load.{IsSlotCount}
 use Rattle.odht_base.specs.Table.{Table}
 use Rattle.odht_base.specs.Valid.{IsPartsOf}
-use Rattle.odht_base.proofs.lemmas.SlotCounts.{sixteens}
-use Rattle.odht_base.specs.Probe.{probe_slot}
-use Rattle.odht_raw.specs.ControlBytes.{order_slot, GoesOnTo}
-use Rattle.odht_raw.specs.SearchEnds.{GoesOnAmong}
-use Rattle.odht_raw.specs.SearchSteps.{Passed, IsGroupAt}
+use Rattle.odht_base.proofs.lemmas.SlotCounts.{bit_and-slots}
 use Rattle.odht_header.proofs.lemmas.Formats.{IsFormat-format_of}
-use Rattle.odht_raw.proofs.lemmas.GroupSearches.{IsGroupAt-probe, reads-to, reads-all, goes_on-more, no_free-on, group-end, group-after}
+use Rattle.odht_raw.specs.ControlBytes.{GoesOnTo}
+use Rattle.odht_raw.specs.GroupTurns.{IsAt, HasRead}
+use Rattle.odht_raw.specs.SearchEnds.{GoesOnAmong}
+use Rattle.odht_raw.specs.SearchSteps.{IsGroupAt}
+use Rattle.odht_raw.proofs.lemmas.GroupSearches.{reads-to, reads-all}
+use Rattle.odht_raw.proofs.lemmas.GroupTurns.{home_first, passed-on, read-more, at-placed, at-end, at-more, no_more}
 use Rattle.odht_raw.proofs.lemmas.Lookups.{answer-IsWherePlaced}
-use Rattle.odht_raw.proofs.lemmas.PlainSearch.{no_end}
 use Rattle.odht_raw.proofs.raw_table.group_search.search_hashed.Given.{Over}
 use Rattle.odht_raw.proofs.raw_table.group_search.search_hashed.Goals as goal
 use Rattle.odht_raw.proofs.raw_table.group_search.search_hashed.Goals.{After-look_at_group}
 
-pub new-probe-requires : goal.new-probe-requires
-new-probe-requires g c =
-    let pos = c.slots-mask.ensures.count.least in
-    let same : c.slots-mask.result ≡ c.slots-mask.result - 1 + 1 = omega arith in
-    (omega arith, (subst IsSlotCount same c.slots-mask.ensures.count, refl))
-
 pub groups-init : goal.groups-init
 groups-init g c =
-    let pos = c.slots-mask.ensures.count.least in
-    let slots : c.slots-mask.result - 1 + 1 ≡ c.args.entries.now.slots = omega (arith, c.slots-mask.ensures.control, c.requires.lengths.mirrored) in
-    let place : c.new-probe.result.position ≡ 0 = ap (λ q. q.position) c.new-probe.ensures in
+    let F : Format = format_of g.K.ByteArray.LEN g.V.ByteArray.LEN g.H.HashFn.hash in
+    let slots = c.args.entries.now.slots in
+    let k : List ℕ = g.K.ByteArray.bytes c.args.key.now in
+    let few = c.slots-mask.ensures.count.least in
+    let same : c.slots-mask.result ≡ slots = omega (arith, c.slots-mask.ensures.control, c.requires.lengths.mirrored) in
+    let low : home F k slots < slots = mod-lt (F.hash k) {m = slots} (omega (arith, few, same)) in
+    let at_home = ap (λ n. bit_and c.args.hash (n - 1)) same ∙ bit_and-slots c.args.hash slots (subst IsSlotCount same c.slots-mask.ensures.count) ∙ ap (λ x. x % slots) c.requires.hash in
     record {
-      control = refl;
-      read_so_far = omega (arith, place);
-      few = omega (arith, place);
-      home = ap (λ q. q.home) c.new-probe.ensures ∙ ap (λ n. c.args.hash % n) slots;
-      mask = ap (λ q. q.mask + 1) c.new-probe.ensures ∙ slots;
-      aligned = omega (arith, place);
-      within = omega (arith, place, slots);
-      on = λ q l. absurd (omega (arith, l, place));
-      passed = λ P h q l. absurd (omega (arith, place));
+      at = record {
+        group = record { aligned = omega arith; within = omega (arith, few, same); low = omega (arith, at_home, low) };
+        first = at_home ∙ home_first (home F k slots) slots low;
+        on = λ q l. absurd (omega (arith, l));
+      };
+      read = record { control = ap (λ s. s.control) c.group-bytes.ensures.counted; groups = ap (λ s. s.groups) c.group-bytes.ensures.counted };
+      bytes = c.group-bytes.ensures.bytes;
     }
 
--- one more group is read, and it is one of the table's
-one_more : (read before first position slots : ℕ) → read ≡ min (before + 1) 18446744073709551615 → before ≤ first + position / 16 → position + 16 ≤ slots → read ≤ first + slots / 16
-one_more read before first position slots counted few within = omega arith
-
--- the next group is nearer to the end
-nearer : (next position slots : ℕ) → next ≡ position + 16 → position + 16 ≤ slots → slots - next < slots - position
-nearer next position slots place within = omega arith
-
-pub groups-smaller : goal.groups-smaller
-groups-smaller g c = nearer _ _ _ (ap (λ q. q.position) c.advance.ensures) c.groups.invariant.within
-
--- at least sixteen slots
-few_slots : (g : Over) (c : After-look_at_group g) → 16 ≤ c.args.entries.now.slots
-few_slots g c = let few = c.slots-mask.ensures.count.least in omega (arith, few, c.slots-mask.ensures.control, c.requires.lengths.mirrored)
-
--- the group that is read begins at the slot of the position
-begins : (g : Over) (c : After-look_at_group g)
-    → c.index-start.result ≡ order_slot (format_of g.K.ByteArray.LEN g.V.ByteArray.LEN g.H.HashFn.hash) c.args.entries.now (g.K.ByteArray.bytes c.args.key.now) c.groups.probe.position
-begins g c =
-    let slots = c.args.entries.now.slots in
-    c.index-start.ensures.slot ∙ (λ i. probe_slot (c.groups.invariant.home i) (c.groups.invariant.mask i) c.groups.probe.position)
-    ∙ ap (λ x. probe_slot (x % slots) slots c.groups.probe.position) c.requires.hash
-
--- and is of these control bytes
-read : (g : Over) (c : After-look_at_group g) → c.group-bytes.result.now ≡ bytes_at c.args.scan.now.control c.index-start.result 16
-read g c = c.group-bytes.ensures.bytes ∙ ap (λ ctrl. bytes_at ctrl c.index-start.result 16) c.groups.invariant.control
+-- the slots are those of the entries
+slots_are : (g : Over) (c : After-look_at_group g) → c.slots-mask.result ≡ c.args.entries.now.slots
+slots_are g c = omega (arith, c.slots-mask.ensures.control, c.requires.lengths.mirrored)
 
 -- the format is one
 formatted : (g : Over) (c : After-look_at_group g) → IsFormat (format_of g.K.ByteArray.LEN g.V.ByteArray.LEN g.H.HashFn.hash)
 formatted g c = IsFormat-format_of _ _ _ _ c.requires.lengths.pair.key c.requires.lengths.pair.value c.requires.lengths.pair.hashes g.met.H.HashFn.fits
 
--- the control bytes of the group are those from its first slot on, and the searches of its slots were passed
+-- in a table the control bytes of the group are those from its first slot on, and the searches of its slots were passed
 placed_group : (g : Over) (c : After-look_at_group g) (P : Table) → IsPartsOf (format_of g.K.ByteArray.LEN g.V.ByteArray.LEN g.H.HashFn.hash) P c.args.entries.now.bytes c.args.scan.now.control
-    → IsGroupAt (format_of g.K.ByteArray.LEN g.V.ByteArray.LEN g.H.HashFn.hash) P c.args.entries.now (g.K.ByteArray.bytes c.args.key.now) c.groups.probe.position c.index-start.result c.group-bytes.result.now
+    → IsGroupAt (format_of g.K.ByteArray.LEN g.V.ByteArray.LEN g.H.HashFn.hash) P c.args.entries.now (g.K.ByteArray.bytes c.args.key.now) c.groups.position c.groups.start c.groups.bytes.now
 placed_group g c P h =
     let F : Format = format_of g.K.ByteArray.LEN g.V.ByteArray.LEN g.H.HashFn.hash in
     let k : List ℕ = g.K.ByteArray.bytes c.args.key.now in
     let v = c.groups.invariant in
-    IsGroupAt-probe F P c.args.entries.now c.args.scan.now.control k (formatted g c) h c.requires.lengths.mirrored c.index-start.result c.args.hash c.groups.probe.home c.groups.probe.mask c.groups.probe.position c.group-bytes.result.now
-    c.groups.scan.control v.aligned v.within c.index-start.ensures.slot v.home v.mask c.requires.hash c.group-bytes.ensures.bytes v.control (v.passed P h)
+    subst (IsGroupAt F P c.args.entries.now k c.groups.position c.groups.start) (sym v.bytes)
+    (at-placed F c.args.entries.now c.args.scan.now.control k c.groups.start c.groups.position c.requires.lengths.mirrored v.at P (formatted g c) h)
+
+-- the groups that are read are some of the table's
+some_groups : (read before position slots : ℕ) → read ≡ min (before + (position / 16 + 1)) 18446744073709551615 → position + 16 ≤ slots → read ≤ before + slots / 16
+some_groups read before position slots counted within = omega arith
 
 pub returns-in-Some : goal.returns-in-Some
 returns-in-Some g c =
@@ -88,98 +66,78 @@ returns-in-Some g c =
     let ctrl = c.args.scan.now.control in
     let k : List ℕ = g.K.ByteArray.bytes c.args.key.now in
     let v = c.groups.invariant in
-    let p : ℕ = c.groups.probe.position in
+    let p : ℕ = c.groups.position in
     let at = (goal.at.returns-in-Some g c).After-look_at_group in
-    let few = few_slots g at in
-    let ends = rw (read g at) at c.in-Some.ensures.slot in
+    let len = c.requires.lengths.mirrored in
     let placed = λ (P : Table) (h : IsPartsOf F P E.bytes ctrl). c.in-Some.ensures.on_placed P p (placed_group g at P h) in
-    let counted = ap (λ s. s.groups) c.group-bytes.ensures.counted in
     record {
-      end = record {
-        on_placed = λ P h. (placed P h).0;
-        slot = group-end F E ctrl k c.index-start.result p c.requires.lengths.mirrored few v.aligned v.within (begins g at) c.in-Some.end ends;
-        earlier = group-after F E ctrl k c.index-start.result p c.requires.lengths.mirrored few v.aligned v.within (begins g at) v.on c.in-Some.end ends;
-      };
+      end = at-end F E ctrl k c.groups.start p len v.at c.in-Some.end (λ P h. (placed P h).0) (rw v.bytes at c.in-Some.ensures.slot);
       placing = λ P h. answer-IsWherePlaced F P k h.placed c.in-Some.end (placed P h).0;
-      groups = λ P h. rw (reads-to F P E ctrl k (formatted g at) h c.requires.lengths.mirrored p v.aligned (placed P h).1) (omega (arith, counted, v.read_so_far));
-      few = one_more _ _ _ _ _ counted v.few v.within;
-      control = ap (λ s. s.control) c.group-bytes.ensures.counted ∙ v.control;
+      groups = λ P h. rw (reads-to F P E ctrl k (formatted g at) h len p v.at.group.aligned (placed P h).1) v.read.groups;
+      few = some_groups _ _ _ _ v.read.groups v.at.group.within;
+      control = v.read.control;
     }
 
--- the group at the probe, from which the search goes on, after those before it
-passed_group : (g : Over) (c : After-look_at_group g)
+-- the tag is that of the key
+tagged : (g : Over) (c : After-look_at_group g) → c.tag_of-tag.result ≡ tag (format_of g.K.ByteArray.LEN g.V.ByteArray.LEN g.H.HashFn.hash) (g.K.ByteArray.bytes c.args.key.now)
+tagged g c = c.tag_of-tag.ensures ∙ ap (λ h. h / 2 ^ 25) c.requires.hash
+
+-- where the group does not end the search, it goes on after it
+more : (g : Over) (c : After-look_at_group g)
     → (let F = format_of g.K.ByteArray.LEN g.V.ByteArray.LEN g.H.HashFn.hash in
     let k = g.K.ByteArray.bytes c.args.key.now in
-    GoesOnAmong F c.args.entries.now c.group-bytes.result.now c.index-start.result k 16 → GoesOnTo F c.args.entries.now c.args.scan.now.control k (c.groups.probe.position + 16))
-passed_group g c on =
+    GoesOnAmong F c.args.entries.now c.groups.bytes.now c.groups.start k 16 → GoesOnTo F c.args.entries.now c.groups.scan.control k (c.groups.position + 16))
+more g c on =
     let F : Format = format_of g.K.ByteArray.LEN g.V.ByteArray.LEN g.H.HashFn.hash in
-    goes_on-more F c.args.entries.now c.args.scan.now.control (g.K.ByteArray.bytes c.args.key.now) c.index-start.result c.groups.probe.position c.requires.lengths.mirrored (few_slots g c)
-    c.groups.invariant.aligned c.groups.invariant.within (begins g c) 16 (omega arith) (rw (read g c) at on) c.groups.invariant.on
+    let k : List ℕ = g.K.ByteArray.bytes c.args.key.now in
+    let v = c.groups.invariant in
+    subst (λ ctrl. GoesOnTo F c.args.entries.now ctrl k (c.groups.position + 16)) (sym v.read.control)
+    (at-more F c.args.entries.now c.args.scan.now.control k c.groups.start c.groups.position c.requires.lengths.mirrored v.at (rw v.bytes at on))
 
--- after the last group the search went on from each position
-on_all : (g : Over) (c : After-look_at_group g) → c.groups.probe.mask < c.groups.probe.position + 16
-    → (let F = format_of g.K.ByteArray.LEN g.V.ByteArray.LEN g.H.HashFn.hash in
-    let k = g.K.ByteArray.bytes c.args.key.now in
-    GoesOnAmong F c.args.entries.now c.group-bytes.result.now c.index-start.result k 16 → GoesOnTo F c.args.entries.now c.args.scan.now.control k c.args.entries.now.slots)
-on_all g c last on =
-    let F : Format = format_of g.K.ByteArray.LEN g.V.ByteArray.LEN g.H.HashFn.hash in
-    let all : c.groups.probe.position + 16 ≡ c.args.entries.now.slots = omega (arith, c.groups.invariant.within, c.groups.invariant.mask, last) in
-    subst (GoesOnTo F c.args.entries.now c.args.scan.now.control (g.K.ByteArray.bytes c.args.key.now)) all (passed_group g c on)
+-- the mask is that of the slots
+masked : (slots n : ℕ) → n ≡ slots → 16 ≤ n → slots ≡ n - 1 + 1
+masked slots n e few = omega arith
 
-pub returns-then-is_last : goal.returns-then-is_last
-returns-then-is_last g c =
+pub returns-in_default-next_group : goal.returns-in_default-next_group
+returns-in_default-next_group g c =
     let F : Format = format_of g.K.ByteArray.LEN g.V.ByteArray.LEN g.H.HashFn.hash in
     let E = c.args.entries.now in
     let ctrl = c.args.scan.now.control in
     let k : List ℕ = g.K.ByteArray.bytes c.args.key.now in
     let v = c.groups.invariant in
-    let p : ℕ = c.groups.probe.position in
-    let at = (goal.at.returns-then-is_last g c).After-look_at_group in
-    let mirrored = c.requires.lengths.mirrored in
-    let slots : c.slots-mask.result ≡ E.slots = omega (arith, c.slots-mask.ensures.control, mirrored) in
-    let over = c.is_last.ensures.0 c.if-is_last.true in
-    let all : p + 16 ≡ E.slots = omega (arith, v.within, v.mask, over) in
-    let on = on_all g at over (c.in_default.ensures.none refl) in
-    let passed = λ (P : Table) (h : IsPartsOf F P E.bytes ctrl). subst (Passed F P k) all (c.in_default.ensures.on_placed P p (placed_group g at P h)) in
-    let none = λ (P : Table) (h : IsPartsOf F P E.bytes ctrl). no_end F P k E.bytes ctrl (formatted g at) h E.slots mirrored (passed P h) in
-    let counted = ap (λ s. s.groups) c.group-bytes.ensures.counted in
+    let at = (goal.at.returns-in_default-next_group g c).After-look_at_group in
+    let len = c.requires.lengths.mirrored in
+    let over = c.in_default-next_group.ensures in
+    let slots = masked E.slots c.slots-mask.result (slots_are g at) c.slots-mask.ensures.count.least in
+    let there = over.on F E k slots (tagged g at) v.at.first (more g at (c.in_default.ensures.none refl)) in
+    let on : GoesOnTo F E ctrl k E.slots = subst (λ n. GoesOnTo F E ctrl k n) (sym slots) (subst (λ b. GoesOnTo F E b k (c.slots-mask.result - 1 + 1)) v.read.control there) in
+    let end = no_more F E ctrl k (formatted g at) (subst IsSlotCount (slots_are g at) c.slots-mask.ensures.count) len on in
+    let last : ℕ = E.slots - 16 in
+    let within = v.at.group.within in
+    let until : (c.slots-mask.result - 1 + 1 - 16 - c.groups.position) / 16 ≡ (last - c.groups.position) / 16 = ap (λ n. (n - 16 - c.groups.position) / 16) (sym slots) in
+    let rest = subst (HasRead c.groups.scan c.next_group.new.scan) until over.read in
+    let all = read-more c.args.scan.now c.groups.scan c.next_group.new.scan c.groups.position last v.at.group.aligned (omega (arith, within)) v.read rest in
+    let each : last / 16 + 1 ≡ E.slots / 16 = omega (arith, within) in
     record {
-      end = record {
-        on_placed = none;
-        slot = (no_free-on F E ctrl k (subst IsSlotCount slots c.slots-mask.ensures.count) on, on);
-        earlier = on;
-      };
-      placing = λ P h. answer-IsWherePlaced F P k h.placed _ (none P h);
-      groups = λ P h. rw (reads-all F P E ctrl k (formatted g at) h mirrored (passed P h)) (omega (arith, counted, v.read_so_far, all));
-      few = one_more _ _ _ _ _ counted v.few v.within;
-      control = ap (λ s. s.control) c.group-bytes.ensures.counted ∙ v.control;
+      end = end;
+      placing = λ P h. answer-IsWherePlaced F P k h.placed _ (end.on_placed P h);
+      groups = λ P h. rw (reads-all F P E ctrl k (formatted g at) h len (passed-on F P E ctrl k (formatted g at) h len E.slots (omega arith) on)) (all.groups ∙ ap (λ n. min (c.args.scan.now.groups + n) 18446744073709551615) each);
+      few = some_groups _ _ last _ all.groups (omega (arith, within));
+      control = all.control;
     }
 
 pub groups-preserved : goal.groups-preserved
 groups-preserved g c =
-    let v = c.groups.invariant in
-    let counted : c.group-bytes.new.self.groups ≡ min (c.groups.scan.groups + 1) 18446744073709551615 = ap (λ s. s.groups) c.group-bytes.ensures.counted in
-    let place : c.advance.new.self.position ≡ c.groups.probe.position + 16 = ap (λ q. q.position) c.advance.ensures in
-    let sixteen = sixteens c.slots-mask.result c.slots-mask.ensures.count in
-    let slots : c.slots-mask.result ≡ c.args.entries.now.slots = omega (arith, c.slots-mask.ensures.control, c.requires.lengths.mirrored) in
-    let more : c.groups.probe.mask < c.groups.probe.position + 16 → ⊥ = λ l. true≢false (sym (c.is_last.ensures.1 l) ∙ c.if-is_last.false) in
-    let passed = λ (P : Table) (h : IsPartsOf (format_of g.K.ByteArray.LEN g.V.ByteArray.LEN g.H.HashFn.hash) P c.args.entries.now.bytes c.args.scan.now.control). (
     let F : Format = format_of g.K.ByteArray.LEN g.V.ByteArray.LEN g.H.HashFn.hash in
+    let E = c.args.entries.now in
     let k : List ℕ = g.K.ByteArray.bytes c.args.key.now in
-    let f = IsFormat-format_of _ _ _ _ c.requires.lengths.pair.key c.requires.lengths.pair.value c.requires.lengths.pair.hashes g.met.H.HashFn.fits in
-    let p : ℕ = c.groups.probe.position in
-    let at = IsGroupAt-probe F P c.args.entries.now c.args.scan.now.control k f h c.requires.lengths.mirrored c.index-start.result c.args.hash c.groups.probe.home c.groups.probe.mask p c.group-bytes.result.now c.groups.scan.control
-    v.aligned v.within c.index-start.ensures.slot v.home v.mask c.requires.hash c.group-bytes.ensures.bytes v.control (v.passed P h) in
-    let next : p + 16 ≡ c.advance.new.self.position = omega (arith, place) in
-    subst (Passed F P k) next (c.in_default.ensures.on_placed P p at)) in
+    let v = c.groups.invariant in
+    let at = (goal.at.groups-preserved g c).After-look_at_group in
+    let next = c.in-Some-next_group.ensures in
+    let slots = masked E.slots c.slots-mask.result (slots_are g at) c.slots-mask.ensures.count.least in
+    let there = next.at F E k slots (tagged g at) v.at.first (more g at (c.in_default.ensures.none refl)) in
     record {
-      control = ap (λ s. s.control) c.group-bytes.ensures.counted ∙ v.control;
-      read_so_far = omega (arith, counted, v.read_so_far, place);
-      few = omega (arith, counted, v.few, place);
-      home = ap (λ q. q.home) c.advance.ensures ∙ v.home;
-      mask = ap (λ q. q.mask + 1) c.advance.ensures ∙ v.mask;
-      aligned = omega (arith, place, v.aligned);
-      within = omega (arith, place, v.aligned, v.mask, sixteen.2, slots, more);
-      on = subst (GoesOnTo (format_of g.K.ByteArray.LEN g.V.ByteArray.LEN g.H.HashFn.hash) c.args.entries.now c.args.scan.now.control (g.K.ByteArray.bytes c.args.key.now)) (sym place) (passed_group g (goal.at.groups-preserved g c).After-look_at_group (c.in_default.ensures.none refl));
-      passed = passed;
+      at = subst (λ ctrl. IsAt F E ctrl k c.in-Some-next_group.next c.in-Some-next_group.later) v.read.control there;
+      read = read-more c.args.scan.now c.groups.scan c.next_group.new.scan c.groups.position c.in-Some-next_group.later v.at.group.aligned (omega (arith, next.later)) v.read next.read;
+      bytes = next.bytes ∙ ap (λ ctrl. bytes_at ctrl c.in-Some-next_group.next 16) v.read.control;
     }

@@ -1,27 +1,16 @@
-use Rattle.std.proofs.Common.{◌≡◌, ◌+◌, ◌-◌, ◌/◌, ◌%◌, ◌≤◌, min}
+use Rattle.std.proofs.Common.{◌≡◌, ◌+◌, ◌-◌, ◌/◌}
+use Rattle.odht_base.specs.Bytes.{bytes_at}
 use Rattle.odht_base.specs.Format.{format_of}
-use Rattle.odht_base.specs.Table.{Table}
-use Rattle.odht_base.specs.Valid.{IsPartsOf}
-use Rattle.odht_raw.specs.ControlBytes.{GoesOnTo}
-use Rattle.odht_raw.specs.SearchSteps.{Passed}
+use Rattle.odht_raw.specs.GroupTurns.{IsAt, HasRead}
 use Rattle.odht_raw.proofs.raw_table.group_search.search_hashed.Given as goal
 
--- the probe is at the first position of a group; each group before it is counted, has no free byte and was passed
+-- the search is at the group of this position, which is the last that was read
 abbrev pub invariant-groups : goal.invariant-groups
-invariant-groups g l =
-    let F = format_of g.K.ByteArray.LEN g.V.ByteArray.LEN g.H.HashFn.hash in
-    let k = g.K.ByteArray.bytes l.key in
-    record {
-      control : l.scan.control ≡ l.fn.scan.control;
-      read_so_far : min l.scan.groups 18446744073709551615 ≡ min (l.fn.scan.groups + l.probe.position / 16) 18446744073709551615;
-      few : l.scan.groups ≤ l.fn.scan.groups + l.probe.position / 16;
-      home : l.probe.home ≡ l.hash % l.entries.slots;
-      mask : l.probe.mask + 1 ≡ l.entries.slots;
-      aligned : l.probe.position % 16 ≡ 0;
-      within : l.probe.position + 16 ≤ l.entries.slots;
-      on : GoesOnTo F l.entries l.fn.scan.control k l.probe.position;
-      passed : (P : Table) → IsPartsOf F P l.entries.bytes l.fn.scan.control → Passed F P k l.probe.position;
-    }
+invariant-groups g l = record {
+  at : IsAt (format_of g.K.ByteArray.LEN g.V.ByteArray.LEN g.H.HashFn.hash) l.entries l.fn.scan.control (g.K.ByteArray.bytes l.key) l.start l.position;
+  read : HasRead l.fn.scan l.scan (l.position / 16 + 1);
+  bytes : l.bytes ≡ bytes_at l.fn.scan.control l.start 16;
+}
 
 abbrev pub decreases-groups : goal.decreases-groups
-decreases-groups g l = l.entries.slots - l.probe.position
+decreases-groups g l = l.entries.slots - l.position
