@@ -2,11 +2,11 @@
 //!
 //! Where a comment says "on the parts of a table whose keys are all reached", its clause says `IsPartsOf`: no key is in
 //! two slots, the search for each key ends at its slot, and control bytes, mirror and entries are those of the table.
-ghost use Rattle.std.specs.Prelude.{◌≡◌, ◌+◌, ◌/◌, ◌^◌, ◌<◌, ◌≤◌, length, IfOk};
+ghost use Rattle.std.specs.Prelude.{◌≡◌, ◌+◌, ◌/◌, ◌^◌, ◌<◌, ◌≤◌, length, slice_index, IfOk, IsFalse};
 ghost use Rattle.std.specs.Result.{result_err};
 ghost use Rattle.odht_base.specs.Format.{format_of};
 ghost use Rattle.odht_base.specs.Load.{IsSlotCount};
-ghost use Rattle.odht_base.specs.Decoded.{counts_as_free};
+ghost use Rattle.odht_base.specs.Decoded.{counts_as_free, slot_key};
 ghost use Rattle.odht_raw.specs.Parts.{entry_format};
 ghost use Rattle.odht_raw.specs.Checks.{IsSlotHash};
 ghost use Rattle.odht_raw.specs.Finds.{IsFind, IsCountedFind};
@@ -191,15 +191,29 @@ impl<'a, K: ByteArray, V: ByteArray, H: HashFn> RawTable<'a, K, V, H> {
             ≡ hashes_refusal_at F self.now.entries.bytes self.now.control slot }
         ensures hash { IfOk result (IsSlotHash (format_of K.LEN V.LEN H.hash) self.now slot) }
     {
-        let found = self.control[slot];
-        let entry = self.entries.get(slot);
-        if is_empty_or_deleted(found) {
+        if is_empty_or_deleted(self.control[slot]) {
+            let entry = self.entries.get(slot);
             if entry.key.is_all_zeros() && entry.value.is_all_zeros() {
                 return Ok(None);
             }
             return Err(Error::NonZeroEmpty { slot });
         }
-        let hash = H::hash(entry.key.as_slice());
+        Ok(Some(self.check_key(slot)?))
+    }
+
+    // The hash of the key of an occupied slot; `ControlMismatch` where its tag is not the control byte.
+    #[inline(always)]
+    fn check_key(&self, slot: usize) -> Result<u32, Error>
+        requires slot { slot < self.now.entries.slots }
+        requires occupied { IsFalse (counts_as_free (slice_index self.now.control slot)) }
+        ensures err { let F = format_of K.LEN V.LEN H.hash
+            in result_err result
+            ≡ hashes_refusal_at F self.now.entries.bytes self.now.control slot }
+        ensures hash { IfOk result (λ hash. hash
+            ≡ H.hash (slot_key (format_of K.LEN V.LEN H.hash) self.now.entries.bytes slot)) }
+    {
+        let hash = H::hash(self.entries.key_bytes_of(slot));
+        let found = self.control[slot];
         let expected = tag_of(hash);
         if found != expected {
             return Err(Error::ControlMismatch {
@@ -208,6 +222,6 @@ impl<'a, K: ByteArray, V: ByteArray, H: HashFn> RawTable<'a, K, V, H> {
                 found,
             });
         }
-        Ok(Some(hash))
+        Ok(hash)
     }
 }

@@ -1,6 +1,6 @@
 //! The whole check of the parts of a table: each slot, the mirror, and that the search for each key ends at its slot.
 ghost use Rattle.std.specs.Prelude.{◌≡◌, ◌%◌, ◌/◌, ◌^◌, ◌<◌, ◌≤◌, ◌↔◌, slice_index, option_map, IfOk};
-ghost use Rattle.std.specs.Prelude.{◌+◌, ℕ, Contains, IsTrue, IsFalse, None, OnErr};
+ghost use Rattle.std.specs.Prelude.{◌+◌, ℕ, Contains, IsTrue, None, OnErr};
 ghost use Rattle.std.specs.Result.{result_err};
 ghost use Rattle.odht_base.specs.Bytes.{bytes_at};
 ghost use Rattle.odht_base.specs.Format.{format_of, tag as key_tag};
@@ -10,7 +10,6 @@ ghost use Rattle.odht_base.specs.Decoded.{counts_as_free, slot_key};
 ghost use Rattle.odht_raw.specs.Checks.{cells_of, decoded_count, IsFitting, ArePassed, IsLookAt};
 ghost use Rattle.odht_raw.specs.Summaries.{IsSummary, AreRight, free_in};
 ghost use Rattle.odht_header.specs.Refusals.{checked, bad_free_control, slots_refusal, slot_refusal_at};
-ghost use Rattle.odht_header.specs.Refusals.{hashes_refusal_at};
 ghost use Rattle.odht_header.specs.Refusals.{mirror_refusal, reach_refusal};
 
 use super::span::{Marks, SPAN, is_zeros, split};
@@ -147,30 +146,6 @@ impl<'a, K: ByteArray, V: ByteArray, H: HashFn> RawTable<'a, K, V, H> {
             occupied,
             unreachable,
         })
-    }
-
-    // The hash of the key of an occupied slot; `ControlMismatch` where its tag is not the control byte.
-    #[inline(always)]
-    fn check_key(&self, slot: usize) -> Result<u32, Error>
-        requires slot { slot < self.now.entries.slots }
-        requires occupied { IsFalse (counts_as_free (slice_index self.now.control slot)) }
-        ensures err { let F = format_of K.LEN V.LEN H.hash
-            in result_err result
-            ≡ hashes_refusal_at F self.now.entries.bytes self.now.control slot }
-        ensures hash { IfOk result (λ hash. hash
-            ≡ H.hash (slot_key (format_of K.LEN V.LEN H.hash) self.now.entries.bytes slot)) }
-    {
-        let hash = H::hash(self.entries.key_bytes_of(slot));
-        let found = self.control[slot];
-        let expected = tag_of(hash);
-        if found != expected {
-            return Err(Error::ControlMismatch {
-                slot,
-                expected,
-                found,
-            });
-        }
-        Ok(hash)
     }
 
     // Whether slots that count as free, of which the indices from `start` on are marked, have no error.

@@ -133,19 +133,25 @@ impl<'a, K: ByteArray, V: ByteArray, H: HashFn> RawTable<'a, K, V, H> {
     // What opening checks of one slot. Answers the hash of the key where the slot does not count as free.
     #[inline(always)]
     fn check_slot(&self, slot: usize) -> Result<Option<u32>, Error> {
-        let found = index!(self.control[slot]);
-        let entry = self.entries.get(slot);
-        if is_empty_or_deleted(found) {
+        if is_empty_or_deleted(index!(self.control[slot])) {
+            let entry = self.entries.get(slot);
             if entry.key.is_all_zeros() && entry.value.is_all_zeros() {
                 return Ok(None);
             }
             return Err(Error::NonZeroEmpty { slot });
         }
-        let hash = H::hash(entry.key.as_slice());
+        Ok(Some(self.check_key(slot)?))
+    }
+
+    // The hash of the key of an occupied slot; `ControlMismatch` where its tag is not the control byte.
+    #[inline(always)]
+    fn check_key(&self, slot: usize) -> Result<u32, Error> {
+        let hash = H::hash(self.entries.key_bytes_of(slot));
+        let found = index!(self.control[slot]);
         let expected = tag_of(hash);
         if found != expected {
             return Err(Error::ControlMismatch { slot, expected, found });
         }
-        Ok(Some(hash))
+        Ok(hash)
     }
 }

@@ -99,18 +99,6 @@ impl<'a, K: ByteArray, V: ByteArray, H: HashFn> RawTable<'a, K, V, H> {
         Ok(SlotSummary { occupied, unreachable })
     }
 
-    // The hash of the key of an occupied slot; `ControlMismatch` where its tag is not the control byte.
-    #[inline(always)]
-    fn check_key(&self, slot: usize) -> Result<u32, Error> {
-        let hash = H::hash(self.entries.key_bytes_of(slot));
-        let found = self.control[slot];
-        let expected = tag_of(hash);
-        if found != expected {
-            return Err(Error::ControlMismatch { slot, expected, found });
-        }
-        Ok(hash)
-    }
-
     // Whether slots that count as free, of which the indices from `start` on are marked, have no error.
     #[inline(always)]
     fn are_free(&self, start: usize, free: Marks) -> bool {
