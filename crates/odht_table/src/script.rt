@@ -1,9 +1,8 @@
 //! Runs a script: a list of lines, each of which makes, changes or prints a table, or checks bytes.
-ghost use Rattle.std.specs.Prelude.{◌≡◌, ◌≢◌, ◌↔◌, ◌⊎◌, ◌<◌, ◌≤◌, false, IfOk, OnOk, IfSome};
-ghost use Rattle.std.specs.Prelude.{IsErrOf, Some, ℕ, ◌*◌, List, ◌∷◌, ◌++◌, codes, length, position};
-ghost use Rattle.std.specs.Prelude.{take};
+ghost use Rattle.std.specs.Prelude.{◌≡◌, ◌≢◌, ◌↔◌, ◌⊎◌, ◌<◌, ◌≤◌, IfOk, OnOk, IfSome};
+ghost use Rattle.std.specs.Prelude.{IsErrOf, Some, ℕ, List, ◌∷◌, ◌++◌, codes, length, position};
 ghost use Rattle.std.specs.Io.KnownBytes.{IsAtEnd, Appends};
-ghost use Rattle.std.specs.Fmt.{decimal, digit_glyph};
+ghost use Rattle.std.specs.Fmt.{decimal};
 ghost use Rattle.odht_base.specs.Load.{factor_of, max_items, slots_for};
 ghost use Rattle.odht_base.specs.Table.{Table as Plain, fresh};
 ghost use Rattle.odht_base.specs.Valid.{IsImage};
@@ -24,7 +23,7 @@ use odht::error::Error;
 use odht::load::{Factor, max_item_count_for, slots_needed};
 use odht::{HashTableOwned, Iter};
 use odht_tool_core::places::place_of;
-use odht_tool_core::text::Text;
+use odht_tool_core::text::{Text, put_bytes};
 use std::alloc::Global;
 use std::fmt;
 use std::io::{self, ErrorKind, Read, Write};
@@ -343,34 +342,9 @@ fn write_hex<W: Write>(bytes: &[u8], output: &mut W) -> io::Result<()>
     let mut rest = bytes;
     while !rest.is_empty() {
         let (piece, next) = rest.split_at(rest.len().min(256));
-        put_hex(piece, &mut text);
+        put_bytes(piece, &mut text);
         output.write_all(&text[..2 * piece.len()])?;
         rest = next;
     }
     output.write_all(b"\n")
-}
-
-// Puts the digits of the bytes at the front of `text`.
-#[inline(always)]
-fn put_hex(bytes: &[u8], text: &mut [u8; 512])
-    requires { length bytes.now ≤ 256 }
-    ensures { take (2 * length bytes.now) text.new ≡ hex_text bytes.now }
-{
-    for at in 0..bytes.len() {
-        let byte = bytes[at];
-        text[2 * at] = hex_digit(byte / 16);
-        text[2 * at + 1] = hex_digit(byte % 16);
-    }
-}
-
-#[inline(always)]
-fn hex_digit(value: u8) -> u8
-    requires { value < 16 }
-    ensures { result ≡ digit_glyph false value }
-{
-    if value < 10 {
-        b'0' + value
-    } else {
-        b'a' + (value - 10)
-    }
 }

@@ -220,11 +220,12 @@ fn write_in_pairs<W: Write>(digits: &[u8], output: &mut W) -> io::Result<()>
     Ok(())
 }
 
-// Puts the digits of the bytes at the front of `text`.
+/// Puts two lower-case digits for each byte at the front of `text`, which is long enough.
 #[inline(always)]
-fn put_bytes(bytes: &[u8], text: &mut [u8; 64])
-    requires { length bytes.now ≤ 32 }
-    ensures { take (2 * length bytes.now) text.new ≡ hex_text bytes.now }
+pub fn put_bytes(bytes: &[u8], text: &mut [u8])
+    requires { 2 * length bytes.now ≤ length text.old }
+    ensures digits { take (2 * length bytes.now) text.new ≡ hex_text bytes.now }
+    ensures len { length text.new ≡ length text.old }
 {
     for at in 0..bytes.len() {
         let byte = bytes[at];

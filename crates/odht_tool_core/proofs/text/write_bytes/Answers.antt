@@ -17,9 +17,9 @@ loop-rest-preserved g c =
     let parts : piece ++ next ≡ rest =
     ap (λ ds. ds ++ next) c.split_at.ensures.front ∙ ap (λ ds. take c.min.result rest ++ ds) c.split_at.ensures.back ∙ take-append-drop c.min.result rest in
     let texts : hex_text piece ++ hex_text next ≡ hex_text rest = sym (flat_map-append hex_digits piece next) ∙ ap hex_text parts in
-    let written = subst (Appends (g.W.Write.contents c.loop-rest.output) new) c.put_bytes.ensures c.in_ok-write_in_pairs.ensures in (
+    let written = subst (Appends (g.W.Write.contents c.loop-rest.output) new) c.put_bytes.ensures.digits c.in_ok-write_in_pairs.ensures in (
       h.0 ++ hex_text piece,
       Appends-trans old (g.W.Write.contents c.loop-rest.output) new h.0 (hex_text piece) h.1 written,
       append_assoc h.0 (hex_text piece) (hex_text next) ∙ ap (λ ds. h.0 ++ ds) texts ∙ h.2,
-      c.put_bytes.array_long,
+      c.put_bytes.ensures.len ∙ h.3,
     )
