@@ -9,25 +9,10 @@ use crate::text::Text;
 use std::alloc::{AllocError, Global};
 use std::io::{self, Write};
 
-/// Writes a line of a key, a tab and a value, in one piece unless it is long.
-pub fn write_pair<K: Text, V: Text, O: Write>(key: &K, value: &V, output: &mut O) -> io::Result<()>
-    ensures { OnOk result (Appends (O.contents output.old) (O.contents output.new)
-        (pair_line K.text V.text (key.now, value.now))) }
-{
-    let mut line = Line::new();
-    match write_pair_in_pieces(key, value, &mut line) {
-        Ok(()) => output.write_all(line.as_slice()),
-        Err(_) => write_pair_in_pieces(key, value, output),
-    }
-}
-
-/// The same, each part by itself.
+/// Writes a line of a key, a tab and a value, each part by itself: a buffer behind `output` that becomes full is passed
+/// on with as many parts as fit.
 #[inline(always)]
-pub(crate) fn write_pair_in_pieces<K: Text, V: Text, O: Write>(
-    key: &K,
-    value: &V,
-    output: &mut O,
-) -> io::Result<()>
+pub fn write_pair<K: Text, V: Text, O: Write>(key: &K, value: &V, output: &mut O) -> io::Result<()>
     ensures { OnOk result (Appends (O.contents output.old) (O.contents output.new)
         (pair_line K.text V.text (key.now, value.now))) }
 {
@@ -35,6 +20,23 @@ pub(crate) fn write_pair_in_pieces<K: Text, V: Text, O: Write>(
     output.write_all(b"\t")?;
     value.write(output)?;
     output.write_all(b"\n")
+}
+
+/// The same line in one piece, unless it is long: a buffer behind `output` that has no room for the whole line is
+/// passed on without it.
+pub fn write_pair_line<K: Text, V: Text, O: Write>(
+    key: &K,
+    value: &V,
+    output: &mut O,
+) -> io::Result<()>
+    ensures { OnOk result (Appends (O.contents output.old) (O.contents output.new)
+        (pair_line K.text V.text (key.now, value.now))) }
+{
+    let mut line = Line::new();
+    match write_pair(key, value, &mut line) {
+        Ok(()) => output.write_all(line.as_slice()),
+        Err(_) => write_pair(key, value, output),
+    }
 }
 
 /// Writes a line for each key: with its value, or the key alone where it has none.
@@ -67,9 +69,7 @@ pub fn are_found<V>(values: &[Option<V>]) -> bool
     values.iter().all(|value| value.is_some())
 }
 
-// Writes the line of a key with its value, or of the key alone. It is not put together first: answers go out between
-// reads of an input that may wait, and a buffer behind `output` that becomes full is passed on with as many parts of a
-// line as fit.
+// Writes the line of a key with its value, or of the key alone.
 fn write_answer<K: Text, V: Text, O: Write>(
     key: &K,
     value: &Option<V>,
@@ -79,7 +79,7 @@ fn write_answer<K: Text, V: Text, O: Write>(
         (answer_line K.text V.text (key.now, value.now))) }
 {
     match value {
-        Some(value) => write_pair_in_pieces(key, value, output),
+        Some(value) => write_pair(key, value, output),
         None => {
             key.write(output)?;
             output.write_all(b"\n")

@@ -1,5 +1,5 @@
 //! The occupied slots of a table, a line for each.
-ghost use Rattle.std.specs.Prelude.{◌≡◌, ◌+◌, ◌<◌, ◌++◌, length, OnOk};
+ghost use Rattle.std.specs.Prelude.{◌≡◌, ◌+◌, ◌<◌, length, OnOk};
 ghost use Rattle.std.specs.Io.KnownBytes.{Appends};
 ghost use Rattle.odht_base.specs.Decoded.{header_slots};
 ghost use Rattle.odht_base.specs.Load.{IsSlotCount};
@@ -7,13 +7,11 @@ ghost use Rattle.odht_raw.specs.Dumps.{parts_of};
 ghost use Rattle.odht_raw.specs.Parts.{TableParts};
 ghost use Rattle.odht_tool_core.specs.Endings.{IsDone};
 ghost use Rattle.odht_tool_core.specs.Slots.{numbers_text, slot_line, slots_text, slots_outcome};
-ghost use Rattle.odht_tool_core.specs.Texts.{pair_line};
 
-use crate::answers::write_pair_in_pieces;
+use crate::answers::write_pair;
 use crate::digits::write_number;
 use crate::failure::Failure;
 use crate::groups::groups_to;
-use crate::line::Line;
 use crate::status::{Status, of_output};
 use crate::text::Text;
 use odht_base::bytes::{Borrowed, ByteArray};
@@ -80,29 +78,9 @@ where
     }
     let entry = entries.get(slot);
     let groups = groups_to(C::H::hash(entry.key.as_slice()), slot, entries.len(), None);
-    let (key, value) = (C::decode_key(&entry.key), C::decode_value(&entry.value));
-    let mut line = Line::new();
-    match write_slot_in_pieces(slot, tag, groups, &key, &value, &mut line) {
-        Ok(()) => output.write_all(line.as_slice()),
-        Err(_) => write_slot_in_pieces(slot, tag, groups, &key, &value, output),
-    }
-}
-
-// Writes the line of an occupied slot, each part by itself.
-#[inline(always)]
-fn write_slot_in_pieces<K: Text, V: Text, O: Write>(
-    slot: usize,
-    tag: u8,
-    groups: usize,
-    key: &K,
-    value: &V,
-    output: &mut O,
-) -> io::Result<()>
-    ensures { OnOk result (Appends (O.contents output.old) (O.contents output.new)
-        (numbers_text slot tag groups ++ pair_line K.text V.text (key.now, value.now))) }
-{
     write_numbers(slot, tag, groups, output)?;
-    write_pair_in_pieces(key, value, output)
+    let (key, value) = (C::decode_key(&entry.key), C::decode_value(&entry.value));
+    write_pair(&key, &value, output)
 }
 
 // Writes the number of a slot, its control byte and a number of groups, each with a tab after it.

@@ -189,7 +189,7 @@ fn digit_value(byte: u8) -> u8
     }
 }
 
-// Two lower-case digits for each byte, put together for so many bytes at once.
+// Two lower-case digits for each byte, put together for 32 bytes at once.
 fn write_bytes<W: Write>(bytes: &[u8], output: &mut W) -> io::Result<()>
     ensures { OnOk result (Appends (W.contents output.old) (W.contents output.new)
         (hex_text bytes.now)) }
@@ -205,8 +205,8 @@ fn write_bytes<W: Write>(bytes: &[u8], output: &mut W) -> io::Result<()>
     Ok(())
 }
 
-// Writes the digits of each byte by themselves. A buffer behind `output` that becomes full is then passed on with as many
-// digits as fit, however long the text is.
+// Writes the digits of each byte by themselves. A buffer behind `output` that becomes full is then passed on with as
+// many digits as fit, however long the text is.
 #[inline(always)]
 fn write_in_pairs<W: Write>(digits: &[u8], output: &mut W) -> io::Result<()>
     requires { length digits.now % 2 ≡ 0 }
