@@ -333,7 +333,7 @@ fn write_pair<W: Write>(key: u64, value: u32, output: &mut W) -> io::Result<()>
     write_number(u64::from(value), output)
 }
 
-// Two lower-case digits for each byte, on one line, written for so many bytes at once.
+// Two lower-case digits for each byte, on one line, written for 256 bytes at once.
 fn write_hex<W: Write>(bytes: &[u8], output: &mut W) -> io::Result<()>
     ensures { OnOk result (Appends (W.contents output.old) (W.contents output.new)
         (line_of (hex_text bytes.now))) }

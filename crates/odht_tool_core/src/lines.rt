@@ -39,8 +39,8 @@ fn read_through<R: BufRead>(reader: &mut R, line: &mut Vec<u8>) -> io::Result<bo
     }
 }
 
-// What a reader has in its buffer: a line with its end, which is taken; a part of one at most, which is left there; or
-// nothing, at the end of the input.
+// What a reader has in its buffer: a line with its end, which is taken; a part of one at most, which is left there, as
+// where a read was interrupted; or nothing, at the end of the input.
 #[derive(Clone, Copy)]
 enum Buffered {
     Line,

@@ -57,8 +57,8 @@ impl<C: Config, M: ByteStore> Allocation<C, M> {
     /// end. Ok exactly for valid bytes.
     ///
     /// Slots are read in their order, up to 64 together and of these the free ones first, once where no free one is
-    /// refused; and for each occupied slot the control bytes of its key's probe order up to it, sixteen at a time. A key
-    /// is compared only with keys at earlier positions that have its tag.
+    /// refused; and for each occupied slot the control bytes of its key's probe order up to it, sixteen at a time. A
+    /// key is compared only with keys at earlier positions that have its tag.
     pub fn check_rest(&self) -> Result<(), Error>
         ensures first { result
             ≡ checked (late_refusal ⟦<C as Coded>⟧.coding.format (M.bytes self.now)) }

@@ -1,6 +1,6 @@
 //! The whole check of the parts of a table: each slot, the mirror, and that the search for each key ends at its slot.
-ghost use Rattle.std.specs.Prelude.{◌≡◌, ◌%◌, ◌/◌, ◌^◌, ◌<◌, ◌≤◌, ◌↔◌, slice_index, option_map, IfOk};
-ghost use Rattle.std.specs.Prelude.{◌+◌, ℕ, Contains, IsTrue, None, OnErr};
+ghost use Rattle.std.specs.Prelude.{◌≡◌, ◌%◌, ◌/◌, ◌^◌, ◌<◌, ◌≤◌, ◌↔◌, slice_index, IfOk};
+ghost use Rattle.std.specs.Prelude.{◌+◌, ℕ, Contains, IsTrue, None, OnErr, option_map};
 ghost use Rattle.std.specs.Result.{result_err};
 ghost use Rattle.odht_base.specs.Bytes.{bytes_at};
 ghost use Rattle.odht_base.specs.Format.{format_of, tag as key_tag};
@@ -9,7 +9,8 @@ ghost use Rattle.odht_base.specs.Search.{search_end, is_at};
 ghost use Rattle.odht_base.specs.Decoded.{counts_as_free, slot_key};
 ghost use Rattle.odht_raw.specs.Checks.{cells_of, decoded_count, IsFitting, ArePassed, IsLookAt};
 ghost use Rattle.odht_raw.specs.Summaries.{IsSummary, AreRight, free_in};
-ghost use Rattle.odht_header.specs.Refusals.{checked, bad_free_control, slots_refusal, slot_refusal_at};
+ghost use Rattle.odht_header.specs.Refusals.{checked, bad_free_control, slots_refusal};
+ghost use Rattle.odht_header.specs.Refusals.{slot_refusal_at};
 ghost use Rattle.odht_header.specs.Refusals.{mirror_refusal, reach_refusal};
 
 use super::span::{Marks, SPAN, is_zeros, split};
@@ -83,8 +84,8 @@ impl<'a, K: ByteArray, V: ByteArray, H: HashFn> RawTable<'a, K, V, H> {
             before.occupied before.unreachable }
         ensures err { OnErr result (result_err result ≡ slots_refusal (format_of K.LEN V.LEN H.hash)
             self.now.entries.bytes self.now.control) }
-        ensures ok { IfOk result (λ summary. IsSummary (format_of K.LEN V.LEN H.hash) self.now searches
-            self.now.entries.slots summary.occupied summary.unreachable) }
+        ensures ok { IfOk result (λ summary. IsSummary (format_of K.LEN V.LEN H.hash) self.now
+            searches self.now.entries.slots summary.occupied summary.unreachable) }
     {
         let mut occupied = before.occupied;
         let mut unreachable = before.unreachable;
@@ -124,8 +125,8 @@ impl<'a, K: ByteArray, V: ByteArray, H: HashFn> RawTable<'a, K, V, H> {
             before.occupied before.unreachable }
         ensures err { OnErr result (result_err result ≡ slots_refusal (format_of K.LEN V.LEN H.hash)
             self.now.entries.bytes self.now.control) }
-        ensures ok { IfOk result (λ summary. IsSummary (format_of K.LEN V.LEN H.hash) self.now searches
-            (start + size) summary.occupied summary.unreachable) }
+        ensures ok { IfOk result (λ summary. IsSummary (format_of K.LEN V.LEN H.hash) self.now
+            searches (start + size) summary.occupied summary.unreachable) }
     {
         // Its invariant is used: slots and control bytes are as many as fit in a `usize`.
         let _ = &self.control;
@@ -169,8 +170,8 @@ impl<'a, K: ByteArray, V: ByteArray, H: HashFn> RawTable<'a, K, V, H> {
     #[inline(always)]
     fn is_free(&self, slot: usize) -> bool
         requires { slot < self.now.entries.slots }
-        ensures { IsTrue result → slot_refusal_at (format_of K.LEN V.LEN H.hash) self.now.entries.bytes
-            self.now.control slot ≡ None }
+        ensures { IsTrue result → slot_refusal_at (format_of K.LEN V.LEN H.hash)
+            self.now.entries.bytes self.now.control slot ≡ None }
     {
         self.control[slot] == FREE && is_zeros(self.entries.bytes_of(slot))
     }

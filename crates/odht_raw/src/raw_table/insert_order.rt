@@ -1,6 +1,7 @@
 //! An order of inserts that makes a table, found within the buffer that it is written to.
 ghost use Rattle.std.specs.Prelude.{◌≡◌, ◌≤◌, ◌<◌, ◌+◌, ◌^◌, ◌↔◌, ℕ, List, ◌++◌, slice_index};
-ghost use Rattle.std.specs.Prelude.{length, map, drop, IsTrue, All, AllPairs, Contains, IsPermutation};
+ghost use Rattle.std.specs.Prelude.{length, map, drop, IsTrue, All, AllPairs, Contains};
+ghost use Rattle.std.specs.Prelude.{IsPermutation};
 ghost use Rattle.odht_base.specs.Format.{format_of};
 ghost use Rattle.odht_base.specs.Load.{IsSlotCount};
 ghost use Rattle.odht_base.specs.Made.{occupied, IsMade, IsInsertOrder};
@@ -224,7 +225,7 @@ fn is_unblocked(
     }
 }
 
-// Whether one of the `count` slots from `base` on waits, around the end. Those below `slot` wait no more from `left` on.
+// Whether one of the `count` slots from `base` on waits, around the end. From `left` on none below `slot` waits.
 fn is_any_waiting(
     base: usize,
     count: usize,

@@ -43,8 +43,8 @@ impl<C: Config, M: ByteStore> Allocation<C, M> {
     /// end. Ok exactly for valid bytes.
     ///
     /// Slots are read in their order, up to 64 together and of these the free ones first, once where no free one is
-    /// refused; and for each occupied slot the control bytes of its key's probe order up to it, sixteen at a time. A key
-    /// is compared only with keys at earlier positions that have its tag.
+    /// refused; and for each occupied slot the control bytes of its key's probe order up to it, sixteen at a time. A
+    /// key is compared only with keys at earlier positions that have its tag.
     pub fn check_rest(&self) -> Result<(), Error> {
         hold_bytes(self.raw_bytes());
         self.check_late(None)

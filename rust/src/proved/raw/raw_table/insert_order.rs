@@ -142,7 +142,7 @@ fn is_unblocked(
     }
 }
 
-// Whether one of the `count` slots from `base` on waits, around the end. Those below `slot` wait no more from `left` on.
+// Whether one of the `count` slots from `base` on waits, around the end. From `left` on none below `slot` waits.
 fn is_any_waiting(
     base: usize,
     count: usize,

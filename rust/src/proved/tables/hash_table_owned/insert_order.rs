@@ -13,9 +13,9 @@ impl<C: Config> HashTableOwned<C> {
     /// It takes no memory. A slot waits until all slots before it in its key's probe order are listed. There are at
     /// most as many passes over the items as there are slots that wait for one of a higher number, and one more. In a
     /// pass a slot in the first group of its probe order and not below its home takes one step. Any other takes one or
-    /// two binary searches among the slots that wait for each group up to its own, but for those that were passed before
-    /// from the same home, as far as that is kept, for 64 homes. Then the slots that still wait are sorted. docs/PERF.md
-    /// has what an item costs.
+    /// two binary searches among the slots that wait for each group up to its own, but for those that were passed
+    /// before from the same home, as far as that is kept, for 64 homes. Then the slots that still wait are sorted.
+    /// docs/PERF.md has what an item costs.
     pub fn insert_order(&self, out: &mut [usize]) -> bool {
         self.table.as_raw().insert_order(out)
     }
