@@ -288,8 +288,8 @@ typedef struct odht_view {
  *     It goes over the slots, up to 64 at a time, and for each occupied slot reads the
  *     control bytes of its key's probe order up to it, sixteen at a time; a key is
  *     compared only where an earlier slot of that order has its tag. It allocates
- *     nothing. For a table of keys whose hashes vary this takes from a fifth to two
- *     and a half times as long as looking up each key once.
+ *     nothing. For a table of keys whose hashes vary this takes at most two and a half
+ *     times as long as looking up each key once.
  *     Where many keys have one hash, by chance or since somebody has forged them, it
  *     takes far longer: up to one comparison for each pair of keys, so the time grows
  *     as the square of the number of slots. bench/README.md has times. For untrusted

@@ -3,7 +3,8 @@ ghost use Rattle.std.specs.Prelude.{◌≡◌, ◌+◌, ◌≤◌, [], ◌++◌,
 
 use std::io::{self, ErrorKind, Write};
 
-// How many bytes a line has room for: three numbers, the digits of two arrays of 32 bytes, tabs and the line's end.
+// How many bytes a line has room for. The longest pair of the ready shapes takes 130: the digits of two arrays of 32
+// bytes, a tab and the line's end.
 const ROOM: usize = 176;
 
 /// What is put together. Writing takes a piece whole, or fails where it has no room.
