@@ -11,7 +11,8 @@ use Rattle.odht_table.specs.declared.script.command.Command.{Command}
 use Rattle.odht_table.specs.declared.script.command.Command.TheVariants.{New, OnTable}
 use Rattle.odht_table.specs.declared.script.command.Request.{Request}
 use Rattle.odht_table.specs.declared.script.command.Request.TheVariants.{Put, Get, Len, Walk, Hex, Dump}
-use Rattle.odht_table.specs.Cuts.{HasNoSpace, IsCutAtSpace, IsVerbText}
+use Rattle.odht_table.specs.Verbs.{IsVerbText}
+use Rattle.odht_tool_core.specs.Cuts.{HasNone, IsCutAt}
 use Rattle.odht_table.specs.declared.script.command.Verb.{Verb}
 use Rattle.odht_table.specs.declared.script.command.Verb.TheVariants.{Make, Insert, Find}
 use Rattle.odht_table.specs.Commands.{IsNumberText, IsPairText, IsWordText, IsCommandText}
@@ -21,7 +22,7 @@ abbrev AreNoSpaces : List ℕ → Type 0
 AreNoSpaces [] = Unit {0}
 AreNoSpaces (b ∷ bs) = (b ≢ 32) × AreNoSpaces bs
 
-no_spaces : (bs : List ℕ) → AreNoSpaces bs → HasNoSpace bs
+no_spaces : (bs : List ℕ) → AreNoSpaces bs → HasNone 32 bs
 no_spaces [] h i l = absurd (omega (arith, l))
 no_spaces (b ∷ bs) h zero l = h.0
 no_spaces (b ∷ bs) h (suc i) l = no_spaces bs h.1 i (omega (arith, l))
@@ -32,7 +33,7 @@ byte_after [] b rest = refl
 byte_after (x ∷ front) b rest = byte_after front b rest
 
 -- words are cut in one way
-cut_same : (first rest front back : List ℕ) → first ++ (32 ∷ rest) ≡ front ++ (32 ∷ back) → HasNoSpace first → HasNoSpace front → (first ≡ front) × (rest ≡ back)
+cut_same : (first rest front back : List ℕ) → first ++ (32 ∷ rest) ≡ front ++ (32 ∷ back) → HasNone 32 first → HasNone 32 front → (first ≡ front) × (rest ≡ back)
 cut_same [] rest [] back e h k = (refl, cc)
 cut_same [] rest (x ∷ front) back e h k = absurd (k 0 (omega arith) cc)
 cut_same (x ∷ first) rest [] back e h k = absurd (h 0 (omega arith) cc)
@@ -44,9 +45,9 @@ cut_same (x ∷ first) rest (y ∷ front) back e h k =
 
 -- what words are cut into
 abbrev pub IsCutInto : List ℕ → Option (Bor (List ℕ) × Bor (List ℕ)) → Type 0
-IsCutInto words r = MatchOption r (HasNoSpace words) (λ x. IsCutAtSpace words x.0.now x.1.now)
+IsCutInto words r = MatchOption r (HasNone 32 words) (λ x. IsCutAt 32 words x.0.now x.1.now)
 
-cut_after : (words front back : List ℕ) (r : Option (Bor (List ℕ) × Bor (List ℕ))) → IsCutInto words r → words ≡ front ++ (32 ∷ back) → HasNoSpace front
+cut_after : (words front back : List ℕ) (r : Option (Bor (List ℕ) × Bor (List ℕ))) → IsCutInto words r → words ≡ front ++ (32 ∷ back) → HasNone 32 front
     → MatchOption r ⊥ (λ x. (x.0.now ≡ front) × (x.1.now ≡ back))
 cut_after words front back None h e k =
     h (length front) (omega (arith, ap length e, length-append front (32 ∷ back))) (ap (λ bs. get_or bs (length front) 0) e ∙ byte_after front 32 back)

@@ -12,5 +12,3 @@ pub mod ScriptTexts
 pub mod DumpTexts
 -- worked examples of the definitions
 pub mod examples
--- words that are cut at a space
-pub mod Cuts

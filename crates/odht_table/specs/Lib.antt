@@ -3,5 +3,5 @@ pub mod Answers
 pub mod Commands
 pub mod Messages
 pub mod Scripts
--- where words are cut
-pub mod Cuts
+-- how a command with numbers begins
+pub mod Verbs

@@ -23,7 +23,7 @@ use odht::error::Error;
 use odht::load::{Factor, max_item_count_for, slots_needed};
 use odht::{HashTableOwned, Iter};
 use odht_tool_core::places::place_of;
-use odht_tool_core::text::{Text, put_bytes};
+use odht_tool_core::text::{Text, write_bytes};
 use std::alloc::Global;
 use std::fmt;
 use std::io::{self, ErrorKind, Read, Write};
@@ -280,9 +280,9 @@ fn put<W: Write>(table: &mut Table, key: u64, value: u32, output: &mut W) -> io:
         × OnOk result (Appends (W.contents output.old) (W.contents output.new) text) }
 {
     match table.insert(&key, &value) {
-        Ok(None) => output.write_all(b"none\n"),
+        Ok(None) => write_line(b"none", output),
         Ok(Some(former)) => write_former(former, output),
-        Err(_) => output.write_all(b"memory\n"),
+        Err(_) => write_line(b"memory", output),
     }
 }
 
@@ -299,9 +299,18 @@ fn write_value<W: Write>(value: Option<u32>, output: &mut W) -> io::Result<()>
         (line_of (value_text value))) }
 {
     match value {
-        None => output.write_all(b"none\n"),
+        None => write_line(b"none", output),
         Some(value) => write_number(u64::from(value), output),
     }
+}
+
+// A line of this text.
+fn write_line<W: Write>(text: &[u8], output: &mut W) -> io::Result<()>
+    ensures { OnOk result (Appends (W.contents output.old) (W.contents output.new)
+        (line_of text.now)) }
+{
+    output.write_all(text)?;
+    output.write_all(b"\n")
 }
 
 // The number on a line.
@@ -321,7 +330,7 @@ fn write_walk<W: Write>(walk: Iter<'_, U64ToU32>, output: &mut W) -> io::Result<
     for (key, value) in walk {
         write_pair(key, value, output)?;
     }
-    output.write_all(b"end\n")
+    write_line(b"end", output)
 }
 
 fn write_pair<W: Write>(key: u64, value: u32, output: &mut W) -> io::Result<()>
@@ -333,18 +342,11 @@ fn write_pair<W: Write>(key: u64, value: u32, output: &mut W) -> io::Result<()>
     write_number(u64::from(value), output)
 }
 
-// Two lower-case digits for each byte, on one line, written for 256 bytes at once.
+// Two lower-case digits for each byte, on one line.
 fn write_hex<W: Write>(bytes: &[u8], output: &mut W) -> io::Result<()>
     ensures { OnOk result (Appends (W.contents output.old) (W.contents output.new)
         (line_of (hex_text bytes.now))) }
 {
-    let mut text = [0; 512];
-    let mut rest = bytes;
-    while !rest.is_empty() {
-        let (piece, next) = rest.split_at(rest.len().min(256));
-        put_bytes(piece, &mut text);
-        output.write_all(&text[..2 * piece.len()])?;
-        rest = next;
-    }
+    write_bytes(bytes, output)?;
     output.write_all(b"\n")
 }

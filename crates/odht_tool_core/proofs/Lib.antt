@@ -12,6 +12,8 @@ pub mod Tables
 pub mod Answered
 -- the first place of a byte
 pub mod FirstPlaces
+-- bytes that are cut at a byte
+pub mod Cuts
 -- where the first line of an input ends
 pub mod LineEnds
 -- in which group of a probe order a slot is

@@ -3,6 +3,8 @@
 pub mod Texts
 -- digits of numbers, some at a time
 pub mod Digits
+-- where bytes are cut
+pub mod Cuts
 -- the list of ready shapes
 pub mod ShapeList
 -- what follows of it, and the shape that bytes are read as

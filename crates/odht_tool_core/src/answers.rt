@@ -4,7 +4,6 @@ ghost use Rattle.std.specs.Io.KnownBytes.{Appends};
 ghost use Rattle.std.specs.List.{list_all};
 ghost use Rattle.odht_tool_core.specs.Texts.{answer_line, answers_text, pair_line};
 
-use crate::line::Line;
 use crate::text::Text;
 use std::alloc::{AllocError, Global};
 use std::io::{self, Write};
@@ -20,23 +19,6 @@ pub fn write_pair<K: Text, V: Text, O: Write>(key: &K, value: &V, output: &mut O
     output.write_all(b"\t")?;
     value.write(output)?;
     output.write_all(b"\n")
-}
-
-/// The same line in one piece, unless it is long: a buffer behind `output` that has no room for the whole line is
-/// passed on without it.
-pub fn write_pair_line<K: Text, V: Text, O: Write>(
-    key: &K,
-    value: &V,
-    output: &mut O,
-) -> io::Result<()>
-    ensures { OnOk result (Appends (O.contents output.old) (O.contents output.new)
-        (pair_line K.text V.text (key.now, value.now))) }
-{
-    let mut line = Line::new();
-    match write_pair(key, value, &mut line) {
-        Ok(()) => output.write_all(line.as_slice()),
-        Err(_) => write_pair(key, value, output),
-    }
 }
 
 /// Writes a line for each key: with its value, or the key alone where it has none.

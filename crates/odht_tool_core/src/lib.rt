@@ -16,7 +16,6 @@ pub mod help;
 mod histogram;
 pub mod info;
 pub mod keys;
-mod line;
 pub mod lines;
 mod numbers;
 pub mod places;

@@ -1,20 +1,22 @@
 //! The lines of standard input.
-ghost use Rattle.std.specs.Prelude.{◌≡◌, [], Ok, IfOk, IsTrue, IsFalse};
+ghost use Rattle.std.specs.Prelude.{◌≡◌, ◌≢◌, [], Ok, IfErr, IfOk, IsTrue, IsFalse};
 ghost use Rattle.std.specs.Io.BufRead.{ends_with_byte, strip_last};
 ghost use Rattle.std.specs.Io.KnownBytes.{IsAtEnd, Keeps};
+ghost use Rattle.std.specs.IoError.{error_kind};
 ghost use Rattle.odht_tool_core.specs.InputLines.{IsNextLine, IsTakenThrough, without_end};
 
 use crate::failure::{Failure, LineFault};
-use crate::places::place_of;
+use crate::places::{cut_at, place_of};
 use crate::text::Text;
 use std::io::{self, BufRead, ErrorKind};
 
 /// Reads the next line into `line`, without its end, `\n` or `\r\n`, and replaces what `line` held. False at the end of
-/// the input. After an error do not use the line.
+/// the input. A read that was interrupted is made again. After an error do not use the line.
 pub(crate) fn read_line<R: BufRead>(reader: &mut R, line: &mut Vec<u8>) -> io::Result<bool>
     ensures line { IfOk result (λ more. IsTrue more
         → IsNextLine (R.remaining reader.old) (R.remaining reader.new) line.new.items) }
     ensures end { IfOk result (λ more. IsFalse more → IsAtEnd (R.remaining reader.old)) }
+    ensures retried { IfErr result (λ e. error_kind e ≢ ErrorKind.Interrupted) }
 {
     line.clear();
     if !read_through(reader, line)? {
@@ -31,6 +33,7 @@ fn read_through<R: BufRead>(reader: &mut R, line: &mut Vec<u8>) -> io::Result<bo
     ensures line { IfOk result (λ more. IsTrue more
         → IsTakenThrough (R.remaining reader.old) (R.remaining reader.new) line.new.items) }
     ensures end { IfOk result (λ more. IsFalse more → IsAtEnd (R.remaining reader.old)) }
+    ensures retried { IfErr result (λ e. error_kind e ≢ ErrorKind.Interrupted) }
 {
     match take_buffered(reader, line)? {
         Buffered::Line => Ok(true),
@@ -57,6 +60,7 @@ fn take_buffered<R: BufRead>(reader: &mut R, line: &mut Vec<u8>) -> io::Result<B
     ensures part { result ≡ Ok Buffered.Part
         → Keeps (R.remaining reader.old) (R.remaining reader.new) × (line.new.items ≡ []) }
     ensures end { result ≡ Ok Buffered.End → IsAtEnd (R.remaining reader.old) }
+    ensures retried { IfErr result (λ e. error_kind e ≢ ErrorKind.Interrupted) }
 {
     let available = match reader.fill_buf() {
         Ok(available) => available,
@@ -115,7 +119,7 @@ pub fn read_pair<K: Text, V: Text, I: BufRead>(
 // The key and the value of a line: on either side of its first tab, or, where the text of a value is empty, of a line
 // without a tab.
 fn parse_pair<K: Text, V: Text>(line: &[u8]) -> Result<(K, V), LineFault> {
-    let (key, value) = match split_at_tab(line) {
+    let (key, value) = match cut_at(line, b'\t') {
         Some(parts) => parts,
         None => {
             if V::parse(b"").is_none() {
@@ -127,13 +131,4 @@ fn parse_pair<K: Text, V: Text>(line: &[u8]) -> Result<(K, V), LineFault> {
     let key = K::parse(key).ok_or(LineFault::Key)?;
     let value = V::parse(value).ok_or(LineFault::Value)?;
     Ok((key, value))
-}
-
-// The text before the first tab of a line, and the text after it. None where there is no tab.
-fn split_at_tab(line: &[u8]) -> Option<(&[u8], &[u8])> {
-    let at = place_of(line, b'\t');
-    if at == line.len() {
-        return None;
-    }
-    Some((&line[..at], &line[at + 1..]))
 }

@@ -1,6 +1,7 @@
 //! Where a byte first stands, found in sixteen lanes of a vector at once.
-ghost use Rattle.std.specs.Prelude.{◌≡◌, ◌≤◌, ◌==◌, length};
+ghost use Rattle.std.specs.Prelude.{◌≡◌, ◌≤◌, ◌==◌, length, MatchOption};
 ghost use Rattle.std.specs.List.{position_or_len};
+ghost use Rattle.odht_tool_core.specs.Cuts.{HasNone, IsCutAt};
 
 use std::simd::prelude::*;
 
@@ -47,4 +48,17 @@ fn place_in_few(bytes: &[u8], byte: u8) -> usize
         at += 1;
     }
     at
+}
+
+/// The bytes in front of the first place of the byte, and those behind it. None where it is nowhere.
+#[inline]
+pub fn cut_at(bytes: &[u8], byte: u8) -> Option<(&[u8], &[u8])>
+    ensures { MatchOption result (HasNone byte bytes.now)
+        (λ parts. IsCutAt byte bytes.now parts.0.now parts.1.now) }
+{
+    let at = place_of(bytes, byte);
+    if at == bytes.len() {
+        return None;
+    }
+    Some((&bytes[..at], &bytes[at + 1..]))
 }

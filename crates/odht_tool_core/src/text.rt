@@ -1,7 +1,7 @@
 //! Keys and values as text: a number in decimal digits, bytes in hexadecimal digits, and nothing at all.
 ghost use Rattle.std.specs.Prelude.{◌≡◌, ◌↔◌, ◌<◌, ◌≤◌, ◌*◌, ◌%◌, ◌^◌, ℕ};
 ghost use Rattle.std.specs.Prelude.{List, [], length, take, max, slice_index, Some};
-ghost use Rattle.std.specs.Prelude.{IfSome, IsSome, IsTrue, OnOk, decimal, false};
+ghost use Rattle.std.specs.Prelude.{IfSome, IsFalse, IsSome, IsTrue, OnOk, decimal, false};
 ghost use Rattle.std.specs.Char.{is_ascii_hexdigit, to_ascii_lowercase};
 ghost use Rattle.std.specs.Fmt.{digit_glyph};
 ghost use Rattle.std.specs.List.{AllPass};
@@ -96,8 +96,7 @@ impl<const N: usize> Text for [u8; N] {
     }
 }
 
-// The bytes with these hexadecimal digits, two for each byte, letters in either case. All are read before the first
-// wrong one is noticed, so that no step branches on a digit.
+// The bytes with these hexadecimal digits, two for each byte, letters in either case.
 fn parse_bytes<const N: usize>(word: &[u8]) -> Option<[u8; N]>
     ensures value { IfSome result (WritesBytes word.now) }
     ensures some { IsSome result ↔ IsHexWord N word.now }
@@ -113,7 +112,7 @@ fn parse_bytes<const N: usize>(word: &[u8]) -> Option<[u8; N]>
 }
 
 // The same of at most 32 bytes: first the value of each digit, then the byte of each two, so that the compiler makes
-// vectors of both loops.
+// vectors of both loops. All are read before a wrong one is noticed, so that no step branches on a digit.
 #[inline(always)]
 fn parse_short<const N: usize>(word: &[u8]) -> Option<[u8; N]>
     requires few { N ≤ 32 }
@@ -150,21 +149,29 @@ fn put_values(digits: &[u8], values: &mut [u8; 64]) -> u8
     largest
 }
 
-// The same of any number of bytes.
+// The same of any number of bytes. The first byte that is no digit ends it.
 fn parse_long<const N: usize>(word: &[u8]) -> Option<[u8; N]>
     requires { length word.now ≡ 2 * N }
     ensures value { IfSome result (WritesBytes word.now) }
     ensures some { IsSome result ↔ IsHexWord N word.now }
 {
+    if !are_digits(word) {
+        return None;
+    }
     let mut bytes = [0; N];
-    let mut largest = 0;
     for at in 0..N {
         let high = digit_value(word[2 * at]);
         let low = digit_value(word[2 * at + 1]);
         bytes[at] = 16 * (high % 16) + low % 16;
-        largest = max_of(largest, max_of(high, low));
     }
-    if largest < 16 { Some(bytes) } else { None }
+    Some(bytes)
+}
+
+// Whether each byte is a hexadecimal digit, of either case.
+fn are_digits(word: &[u8]) -> bool
+    ensures { IsTrue result ↔ AllPass is_ascii_hexdigit word.now }
+{
+    word.iter().all(|digit| digit.is_ascii_hexdigit())
 }
 
 fn max_of(a: u8, b: u8) -> u8
@@ -189,8 +196,9 @@ fn digit_value(byte: u8) -> u8
     }
 }
 
-// Two lower-case digits for each byte, put together for 32 bytes at once.
-fn write_bytes<W: Write>(bytes: &[u8], output: &mut W) -> io::Result<()>
+/// Writes two lower-case digits for each byte, those of each byte by themselves. They are put together for 32 bytes at
+/// once.
+pub fn write_bytes<W: Write>(bytes: &[u8], output: &mut W) -> io::Result<()>
     ensures { OnOk result (Appends (W.contents output.old) (W.contents output.new)
         (hex_text bytes.now)) }
 {
@@ -212,17 +220,43 @@ fn write_in_pairs<W: Write>(digits: &[u8], output: &mut W) -> io::Result<()>
     requires { length digits.now % 2 ≡ 0 }
     ensures { OnOk result (Appends (W.contents output.old) (W.contents output.new) digits.now) }
 {
+    let mut fault = None;
     let mut rest = digits;
     while let Some((pair, next)) = rest.split_first_chunk::<2>() {
-        output.write_all(pair)?;
+        if !is_written(pair, output, &mut fault) {
+            break;
+        }
         rest = next;
     }
-    Ok(())
+    match fault {
+        None => Ok(()),
+        Some(error) => Err(error),
+    }
 }
 
-/// Puts two lower-case digits for each byte at the front of `text`, which is long enough.
+// Writes two digits. Where that fails, `fault` becomes the error.
+//
+// The error is put where it stays. As a part of the answer it would be copied for each two digits, and zeros in its
+// place where there is none.
 #[inline(always)]
-pub fn put_bytes(bytes: &[u8], text: &mut [u8])
+fn is_written<W: Write>(pair: &[u8; 2], output: &mut W, fault: &mut Option<io::Error>) -> bool
+    ensures written { IsTrue result
+        → Appends (W.contents output.old) (W.contents output.new) pair.now }
+    ensures kept { IsTrue result → fault.new ≡ fault.old }
+    ensures fault { IsFalse result → IsSome fault.new }
+{
+    match output.write_all(pair) {
+        Ok(()) => true,
+        Err(error) => {
+            *fault = Some(error);
+            false
+        }
+    }
+}
+
+// Puts two lower-case digits for each byte at the front of `text`, which is long enough.
+#[inline(always)]
+fn put_bytes(bytes: &[u8], text: &mut [u8])
     requires { 2 * length bytes.now ≤ length text.old }
     ensures digits { take (2 * length bytes.now) text.new ≡ hex_text bytes.now }
     ensures len { length text.new ≡ length text.old }

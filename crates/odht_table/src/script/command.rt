@@ -1,10 +1,10 @@
 //! The lines of a script, and what they ask for.
-ghost use Rattle.std.specs.Prelude.{◌≡◌, ℕ, ◌<◌, ◌^◌, SomeIff, IfSome, MatchOption};
+ghost use Rattle.std.specs.Prelude.{◌≡◌, ℕ, ◌<◌, ◌^◌, SomeIff, IfSome};
 ghost use Rattle.std.specs.Str.Parse.{IsNumeral, digits_value};
 ghost use Rattle.odht_table.specs.Commands.{IsCommandText, IsPairText, IsWordText};
-ghost use Rattle.odht_table.specs.Cuts.{HasNoSpace, IsCutAtSpace, IsVerbText};
+ghost use Rattle.odht_table.specs.Verbs.{IsVerbText};
 
-use odht_tool_core::places::place_of;
+use odht_tool_core::places::cut_at;
 use odht_tool_core::text::Text;
 
 /// What one line of a script asks for.
@@ -41,7 +41,7 @@ pub fn parse(line: &[u8]) -> Option<Command>
     ensures misses_none { (command : Command) → IsCommandText line.now command
         → result ≡ Some command }
 {
-    let Some((name, numbers)) = cut_at_space(line) else {
+    let Some((name, numbers)) = cut_at(line, b' ') else {
         let request = parse_word(line)?;
         return Some(Command::OnTable(request));
     };
@@ -105,7 +105,7 @@ fn parse_pair(words: &[u8]) -> Option<(u64, u64)>
     ensures reads { IfSome result (λ pair. IsPairText words.now pair.0 pair.1) }
     ensures misses_none { (m n : ℕ) → IsPairText words.now m n → result ≡ Some (m, n) }
 {
-    let (first, second) = cut_at_space(words)?;
+    let (first, second) = cut_at(words, b' ')?;
     let first = parse_number(first)?;
     let second = parse_number(second)?;
     Some((first, second))
@@ -117,16 +117,4 @@ fn parse_number(word: &[u8]) -> Option<u64>
         (digits_value 10 word.now) }
 {
     u64::parse(word)
-}
-
-// The words on either side of the first space. None where there is no space.
-fn cut_at_space(words: &[u8]) -> Option<(&[u8], &[u8])>
-    ensures { MatchOption result (HasNoSpace words.now)
-        (λ parts. IsCutAtSpace words.now parts.0.now parts.1.now) }
-{
-    let at = place_of(words, b' ');
-    if at == words.len() {
-        return None;
-    }
-    Some((&words[..at], &words[at + 1..]))
 }

@@ -13,7 +13,7 @@ use crate::shapes::for_shape;
 use odht::bytes::Borrowed;
 use odht::config::{Coded, Config};
 use odht::{HashTable, Iter};
-use odht_tool_core::answers::write_pair_line;
+use odht_tool_core::answers::write_pair;
 use odht_tool_core::failure::Failure;
 use odht_tool_core::found::found_shape;
 use odht_tool_core::shapes::{Hash, Shape};
@@ -97,7 +97,7 @@ where
         (pairs_text C.Key.text C.Value.text pairs.entry)) }
 {
     for (key, value) in pairs {
-        write_pair_line(&key, &value, output)?;
+        write_pair(&key, &value, output)?;
     }
     Ok(())
 }

@@ -11,11 +11,12 @@ loop-pair-preserved g c =
     let next = c.in-Some.next.now in
     let cut = c.in-Some.ensures.cases in
     let old = g.W.Write.contents c.args.output.now in
-    let new = g.W.Write.contents c.write_all.new.self in
+    let new = g.W.Write.contents c.is_written.new.output in
     let parts : pair ++ next ≡ rest = ap (λ ds. ds ++ next) cut.0 ∙ ap (λ ds. take 2 rest ++ ds) cut.1 ∙ take-append-drop 2 rest in
     let long : length next ≡ length rest - 2 = ap length cut.1 ∙ length-drop 2 rest in (
       h.0 ++ pair,
-      Appends-trans old (g.W.Write.contents c.loop-pair.output) new h.0 pair h.1 c.in_ok-write_all.ensures.bytes,
+      Appends-trans old (g.W.Write.contents c.loop-pair.output) new h.0 pair h.1 (c.is_written.ensures.written c.if-not-is_written.false),
       append_assoc h.0 pair next ∙ ap (λ ds. h.0 ++ ds) parts ∙ h.2,
       omega (arith, long, cut.2, h.3),
+      c.is_written.ensures.kept c.if-not-is_written.false ∙ h.4,
     )

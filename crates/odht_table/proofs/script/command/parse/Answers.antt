@@ -2,7 +2,7 @@ use Rattle.std.proofs.Common.{◌∙◌, sym, ap, subst, ◌<◌, ◌^◌, Some,
 use Rattle.std.proofs.lemmas.Option.{none-some, same_Some}
 use Rattle.odht_table.specs.declared.script.command.Command.TheVariants.{New, OnTable}
 use Rattle.odht_table.specs.declared.script.command.Request.TheVariants.{Put}
-use Rattle.odht_table.specs.Cuts.{IsVerbText}
+use Rattle.odht_table.specs.Verbs.{IsVerbText}
 use Rattle.odht_table.proofs.CommandTexts.{command_cut, uncut_command, narrow_kept, at_new, at_put, no_verb}
 use Rattle.odht_table.proofs.script.command.parse.Goals as goal
 
