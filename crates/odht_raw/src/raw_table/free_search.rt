@@ -47,7 +47,7 @@ fn first_free_by_groups<Q: Group>(
         if let Some(index) = first_free_of_group::<Q>(bytes, tag) {
             return Some((start + index) & mask);
         }
-        if probe.is_last() {
+        if probe.is_last_of(mask) {
             return None;
         }
         probe.advance(mask);

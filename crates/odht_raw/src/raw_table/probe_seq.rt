@@ -1,5 +1,6 @@
 //! The probe order of the slots of a table, a group at a time.
-ghost use Rattle.std.specs.Prelude.{◌≡◌, ◌+◌, ◌%◌, ◌<◌, ◌↔◌, IfOk, OnErr, IsPermutation, IsTrue};
+ghost use Rattle.std.specs.Prelude.{◌≡◌, ◌+◌, ◌%◌, ◌<◌, ◌≤◌, ◌↔◌, IfOk, OnErr, IsPermutation};
+ghost use Rattle.std.specs.Prelude.{IsTrue};
 ghost use Rattle.std.specs.List.{range_with_len};
 ghost use Rattle.odht_base.specs.Load.{IsSlotCount};
 ghost use Rattle.odht_base.specs.Probe.{probe_slot, order};
@@ -96,6 +97,16 @@ impl<const GROUP_SIZE: usize> ProbeSeq<GROUP_SIZE> {
         ensures { IsTrue result ↔ (self.now.mask < self.now.position + GROUP_SIZE) }
     {
         self.mask - self.position < GROUP_SIZE
+    }
+
+    // `is_last` where the next position fits, which `advance` computes anyway. The mask is that of `new`.
+    #[inline]
+    pub(crate) fn is_last_of(&self, mask: usize) -> bool
+        requires mask { mask ≡ self.now.mask }
+        requires next { self.now.position + GROUP_SIZE ≤ usize.MAX }
+        ensures { IsTrue result ↔ (self.now.mask < self.now.position + GROUP_SIZE) }
+    {
+        mask < self.position + GROUP_SIZE
     }
 }
 

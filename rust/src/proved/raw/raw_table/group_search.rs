@@ -42,7 +42,7 @@ pub fn search_hashed<K: ByteArray, V: ByteArray, H: HashFn, Q: Group>(
         if let Some(end) = look_at_group::<K, V, H, Q>(bytes, start, entries, key, tag) {
             return end;
         }
-        if probe.is_last() {
+        if probe.is_last_of(mask) {
             return Search::Neither;
         }
         probe.advance(mask);

@@ -64,6 +64,12 @@ impl<const GROUP_SIZE: usize> ProbeSeq<GROUP_SIZE> {
     pub fn is_last(&self) -> bool {
         self.mask - self.position < GROUP_SIZE
     }
+
+    // `is_last` where the next position fits, which `advance` computes anyway. The mask is that of `new`.
+    #[inline]
+    pub(crate) fn is_last_of(&self, mask: usize) -> bool {
+        mask < self.position + GROUP_SIZE
+    }
 }
 
 /// The slots of a table in the probe order of the home slot `start`, each exactly once (docs/FORMAT.md, "Probe order").

@@ -28,11 +28,11 @@ returns-in-Some g c =
     (first_in_group c.args.control.now _ c.args.hash (c.args.mask + 1) c.index-start.result c.groups.probe.position c.in-Some.index c.requires.control c.requires.slots.least v.aligned v.within
     (start g (goal.at.returns-in-Some g c).After-first_free_of_group) refl v.occupied c.in-Some.ensures)
 
-pub returns-then-is_last : goal.returns-then-is_last
-returns-then-is_last g c =
+pub returns-then-is_last_of : goal.returns-then-is_last_of
+returns-then-is_last_of g c =
     let v = c.groups.invariant in
-    let all : c.groups.probe.position + 16 ≡ c.args.mask + 1 = omega (arith, v.within, v.mask, c.is_last.ensures.0 c.if-is_last.true) in
-    let before = passed_group g (goal.at.returns-then-is_last g c).After-first_free_of_group c.in_default.ensures in
+    let all : c.groups.probe.position + 16 ≡ c.args.mask + 1 = omega (arith, v.within, v.mask, c.is_last_of.ensures.0 c.if-is_last_of.true) in
+    let before = passed_group g (goal.at.returns-then-is_last_of g c).After-first_free_of_group c.in_default.ensures in
     occupied-all c.args.control.now _ (c.args.mask + 1) c.requires.slots (subst (OccupiedBefore _ _ _) all before)
 
 pub groups-preserved : goal.groups-preserved
@@ -40,7 +40,7 @@ groups-preserved g c =
     let v = c.groups.invariant in
     let place : c.advance.new.self.position ≡ c.groups.probe.position + 16 = ap (λ q. q.position) c.advance.ensures in
     let sixteen = sixteens (c.args.mask + 1) c.requires.slots in
-    let more : c.groups.probe.mask < c.groups.probe.position + 16 → ⊥ = λ l. true≢false (sym (c.is_last.ensures.1 l) ∙ c.if-is_last.false) in
+    let more : c.groups.probe.mask < c.groups.probe.position + 16 → ⊥ = λ l. true≢false (sym (c.is_last_of.ensures.1 l) ∙ c.if-is_last_of.false) in
     record {
       home = ap (λ q. q.home) c.advance.ensures ∙ v.home;
       mask = ap (λ q. q.mask) c.advance.ensures ∙ v.mask;

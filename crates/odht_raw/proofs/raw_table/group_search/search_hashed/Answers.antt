@@ -126,18 +126,18 @@ on_all g c last on =
     let all : c.groups.probe.position + 16 ≡ c.args.entries.now.slots = omega (arith, c.groups.invariant.within, c.groups.invariant.mask, last) in
     subst (GoesOnTo F c.args.entries.now c.args.scan.now.control (g.K.ByteArray.bytes c.args.key.now)) all (passed_group g c on)
 
-pub returns-then-is_last : goal.returns-then-is_last
-returns-then-is_last g c =
+pub returns-then-is_last_of : goal.returns-then-is_last_of
+returns-then-is_last_of g c =
     let F : Format = format_of g.K.ByteArray.LEN g.V.ByteArray.LEN g.H.HashFn.hash in
     let E = c.args.entries.now in
     let ctrl = c.args.scan.now.control in
     let k : List ℕ = g.K.ByteArray.bytes c.args.key.now in
     let v = c.groups.invariant in
     let p : ℕ = c.groups.probe.position in
-    let at = (goal.at.returns-then-is_last g c).After-look_at_group in
+    let at = (goal.at.returns-then-is_last_of g c).After-look_at_group in
     let mirrored = c.requires.lengths.mirrored in
     let slots : c.slots-mask.result ≡ E.slots = omega (arith, c.slots-mask.ensures.control, mirrored) in
-    let over = c.is_last.ensures.0 c.if-is_last.true in
+    let over = c.is_last_of.ensures.0 c.if-is_last_of.true in
     let all : p + 16 ≡ E.slots = omega (arith, v.within, v.mask, over) in
     let on = on_all g at over (c.in_default.ensures.none refl) in
     let passed = λ (P : Table) (h : IsPartsOf F P E.bytes ctrl). subst (Passed F P k) all (c.in_default.ensures.on_placed P p (placed_group g at P h)) in
@@ -162,7 +162,7 @@ groups-preserved g c =
     let place : c.advance.new.self.position ≡ c.groups.probe.position + 16 = ap (λ q. q.position) c.advance.ensures in
     let sixteen = sixteens c.slots-mask.result c.slots-mask.ensures.count in
     let slots : c.slots-mask.result ≡ c.args.entries.now.slots = omega (arith, c.slots-mask.ensures.control, c.requires.lengths.mirrored) in
-    let more : c.groups.probe.mask < c.groups.probe.position + 16 → ⊥ = λ l. true≢false (sym (c.is_last.ensures.1 l) ∙ c.if-is_last.false) in
+    let more : c.groups.probe.mask < c.groups.probe.position + 16 → ⊥ = λ l. true≢false (sym (c.is_last_of.ensures.1 l) ∙ c.if-is_last_of.false) in
     let passed = λ (P : Table) (h : IsPartsOf (format_of g.K.ByteArray.LEN g.V.ByteArray.LEN g.H.HashFn.hash) P c.args.entries.now.bytes c.args.scan.now.control). (
     let F : Format = format_of g.K.ByteArray.LEN g.V.ByteArray.LEN g.H.HashFn.hash in
     let k : List ℕ = g.K.ByteArray.bytes c.args.key.now in
