@@ -13,6 +13,7 @@ mod list_properties;
 mod lookups;
 mod lossless;
 mod owned_tables;
+mod parts;
 mod prefixes;
 mod probe_sequences;
 mod random;
