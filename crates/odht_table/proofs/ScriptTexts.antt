@@ -1,12 +1,11 @@
 -- The lines of a script, one after the other, and what their answers make together.
-use Rattle.std.proofs.Common.{◌≡◌, ◌∙◌, ℕ, ◌+◌, ◌-◌, ◌<◌, ◌≤◌, false, List, [], ◌∷◌, ◌++◌, length, take, drop, if◌then◌else◌, Option, Some, None, sym, ap, subst, refl, arith, ne_eqb, append-nil, append_assoc}
-use Rattle.std.specs.List.{All, slice_split, position, position_or_len}
-use Rattle.std.proofs.lemmas.Grind.{common_steps}
-use Rattle.std.proofs.lemmas.List.Quantifiers.{position-Some}
-use Rattle.std.proofs.lemmas.List.Splits.{slice_split_none, slice_split_first, length-slice_split}
-use Rattle.std.proofs.lemmas.List.Sums.{fails_before_first}
+use Rattle.std.proofs.Common.{get_or, ◌≡◌, ◌∙◌, ℕ, ◌<◌, false, List, [], ◌∷◌, ◌++◌, length, if◌then◌else◌, Option, None, sym, ap, subst, refl, arith, ne_eqb, append-nil, append_assoc}
+use Rattle.std.specs.List.{All, slice_split}
+use Rattle.std.proofs.lemmas.List.{get_or_default}
+use Rattle.std.proofs.lemmas.List.Splits.{slice_split_none, slice_split_at, length-slice_split}
 use Rattle.std.specs.Io.KnownBytes.{Appends, Keeps}
 use Rattle.std.proofs.KnownBytes.{Appends-nil, Appends-trans, Appends-kept}
+use Rattle.odht_tool_core.specs.Cuts.{HasNone, IsCutAt}
 use Rattle.odht_table.specs.Answers.{IsRenewed}
 use Rattle.odht_table.specs.Answers.IsRenewed.{bad_percent, capacity, memory, made}
 use Rattle.odht_header.specs.Coding.{Coding}
@@ -19,26 +18,20 @@ first_part : (part : List ℕ) (parts : List (List ℕ)) → 0 < length parts �
 first_part part [] l = absurd (omega (arith, l))
 first_part part (next ∷ more) l = refl
 
+-- bytes without a line feed have no end of a line
+no_ends : (bytes : List ℕ) → HasNone 10 bytes → All (λ b. ends_line b ≡ false) bytes
+no_ends bytes h = λ k d low. rw (get_or_default bytes k d 0 low) (ne_eqb (get_or bytes k 0) 10 (h k low))
+
 -- a line ends at the first end, and the others follow it
-pub first_line : (script : List ℕ) (i : ℕ) → position ends_line script ≡ Some i
-    → script_lines script ≡ take i script ∷ script_lines (take (length script - (i + 1)) (drop (i + 1) script))
-first_line script i e =
-    let first = position-Some ends_line script i 0 e in
-    let at : position_or_len ends_line script ≡ i = grind (arith, common_steps) in
-    let parts = slice_split_first ends_line script 0 (omega (arith, at, first.0)) in
-    let rest = drop (i + 1) script in
-    let whole : take (length script - (i + 1)) rest ≡ rest = grind (arith, common_steps) in
-    ap without_empty_last parts
-    ∙ ap (λ k. without_empty_last (take k script ∷ slice_split ends_line (drop (k + 1) script))) at
-    ∙ first_part (take i script) (slice_split ends_line rest) (omega (arith, length-slice_split ends_line rest))
-    ∙ ap (λ ys. take i script ∷ script_lines ys) (sym whole)
+pub first_line : (script front back : List ℕ) → IsCutAt 10 script front back → script_lines script ≡ front ∷ script_lines back
+first_line script front back cut =
+    ap script_lines cut.0 ∙ ap without_empty_last (slice_split_at ends_line front 10 back (no_ends front cut.1) refl)
+    ∙ first_part front (slice_split ends_line back) (omega (arith, length-slice_split ends_line back))
 
 -- a last line needs no end
-pub last_line : (script : List ℕ) → position ends_line script ≡ None → 0 < length script → script_lines script ≡ script ∷ []
-last_line script e l =
-    let end : length script ≤ position_or_len ends_line script = grind (arith, common_steps) in
-    let no_end : All (λ b. ends_line b ≡ false) script = λ k d low. fails_before_first ends_line script k d (omega (arith, low, end)) in
-    ap without_empty_last (slice_split_none ends_line script no_end) ∙ ap (λ b. if b then [] else script ∷ []) (ne_eqb (length script) 0 (omega (arith, l)))
+pub last_line : (script : List ℕ) → HasNone 10 script → 0 < length script → script_lines script ≡ script ∷ []
+last_line script none l =
+    ap without_empty_last (slice_split_none ends_line script (no_ends script none)) ∙ ap (λ b. if b then [] else script ∷ []) (ne_eqb (length script) 0 (omega (arith, l)))
 
 -- a line leaves a valid table where there was one, or none
 held_after : (c : Coding ℕ ℕ) (line : List ℕ) (old new : Option (List ℕ)) (text : List ℕ) → IsHeld c.format old → IsLineAnswered c line old text new → IsHeld c.format new

@@ -1,6 +1,6 @@
 //! Runs a script: a list of lines, each of which makes, changes or prints a table, or checks bytes.
 ghost use Rattle.std.specs.Prelude.{◌≡◌, ◌≢◌, ◌↔◌, ◌⊎◌, ◌<◌, ◌≤◌, IfOk, OnOk, IfSome};
-ghost use Rattle.std.specs.Prelude.{IsErrOf, Some, ℕ, List, ◌∷◌, ◌++◌, codes, length, position};
+ghost use Rattle.std.specs.Prelude.{IsErrOf, Some, ℕ, List, ◌∷◌, ◌++◌, codes, length};
 ghost use Rattle.std.specs.Io.KnownBytes.{IsAtEnd, Appends};
 ghost use Rattle.std.specs.Fmt.{decimal};
 ghost use Rattle.odht_base.specs.Load.{factor_of, max_items, slots_for};
@@ -9,7 +9,7 @@ ghost use Rattle.odht_base.specs.Valid.{IsImage};
 ghost use Rattle.odht_header.specs.Refusals.{IsTooLarge};
 ghost use Rattle.odht_table.specs.Answers.{line_of, hex_text, pair_line, value_text, walk_text};
 ghost use Rattle.odht_table.specs.Answers.{IsPutAnswered, IsAnswered, IsRenewed, MayChange};
-ghost use Rattle.odht_table.specs.Scripts.{ends_line, script_lines, IsHeld, IsLineAnswered};
+ghost use Rattle.odht_table.specs.Scripts.{script_lines, IsHeld, IsLineAnswered};
 ghost use Rattle.odht_table.specs.Scripts.{IsAnsweredBy};
 
 mod check;
@@ -22,7 +22,7 @@ use odht::configs::U64ToU32;
 use odht::error::Error;
 use odht::load::{Factor, max_item_count_for, slots_needed};
 use odht::{HashTableOwned, Iter};
-use odht_tool_core::places::place_of;
+use odht_tool_core::places::cut_at;
 use odht_tool_core::text::{Text, write_bytes};
 use std::alloc::Global;
 use std::fmt;
@@ -123,20 +123,9 @@ fn cut_line(script: &[u8]) -> (&[u8], &[u8])
     ensures line { script_lines script.now ≡ result.0.now ∷ script_lines result.1.now }
     ensures shorter { length result.1.now < length script.now }
 {
-    match line_end(script) {
-        Some(end) => (&script[..end], &script[end + 1..]),
+    match cut_at(script, b'\n') {
+        Some(parts) => parts,
         None => (script, &[]),
-    }
-}
-
-fn line_end(script: &[u8]) -> Option<usize>
-    ensures { result ≡ position ends_line script.now }
-{
-    let place = place_of(script, b'\n');
-    if place < script.len() {
-        Some(place)
-    } else {
-        None
     }
 }
 

@@ -6,7 +6,7 @@ ghost use Rattle.odht_tool_core.specs.Cuts.{HasNone, IsCutAt};
 use std::simd::prelude::*;
 
 /// The first place of the byte, or the length where it is nowhere.
-pub fn place_of(bytes: &[u8], byte: u8) -> usize
+pub(crate) fn place_of(bytes: &[u8], byte: u8) -> usize
     ensures place { result ≡ position_or_len (λ x. x == byte) bytes.now }
     ensures within { result ≤ length bytes.now }
 {
