@@ -3,7 +3,9 @@ use Rattle.std.proofs.Common.{◌≡◌, ◌≢◌, ◌∙◌, ℕ, zero, suc, �
 use lib.ListN.{get_or}
 use lib.ListN.{length-append}
 use lib.Chars.{codes}
-use Rattle.std.specs.Prelude.{Result, Ok, Err, option_map}
+use Rattle.std.specs.Prelude.{All, Result, Ok, Err, option_map}
+use Rattle.std.proofs.Math.Seq.{get_or-append_seam}
+use Rattle.std.proofs.lemmas.List.{get_or_default}
 use Rattle.std.specs.Result.{OkIff, result_ok}
 use Rattle.std.specs.Str.Parse.{IsNumeral, digits_value}
 use Rattle.std.proofs.lemmas.Str.Parse.{digit_at}
@@ -12,7 +14,7 @@ use Rattle.odht_table.specs.declared.script.command.Command.TheVariants.{New, On
 use Rattle.odht_table.specs.declared.script.command.Request.{Request}
 use Rattle.odht_table.specs.declared.script.command.Request.TheVariants.{Put, Get, Len, Walk, Hex, Dump}
 use Rattle.odht_table.specs.Verbs.{IsVerbText}
-use Rattle.odht_tool_core.specs.Cuts.{HasNone, IsCutAt}
+use Rattle.odht_tool_core.specs.Cuts.{IsCutAt}
 use Rattle.odht_table.specs.declared.script.command.Verb.{Verb}
 use Rattle.odht_table.specs.declared.script.command.Verb.TheVariants.{Make, Insert, Find}
 use Rattle.odht_table.specs.Commands.{IsNumberText, IsPairText, IsWordText, IsCommandText}
@@ -22,40 +24,35 @@ abbrev AreNoSpaces : List ℕ → Type 0
 AreNoSpaces [] = Unit {0}
 AreNoSpaces (b ∷ bs) = (b ≢ 32) × AreNoSpaces bs
 
-no_spaces : (bs : List ℕ) → AreNoSpaces bs → HasNone 32 bs
-no_spaces [] h i l = absurd (omega (arith, l))
-no_spaces (b ∷ bs) h zero l = h.0
-no_spaces (b ∷ bs) h (suc i) l = no_spaces bs h.1 i (omega (arith, l))
-
--- the byte after a front
-byte_after : (front : List ℕ) (b : ℕ) (rest : List ℕ) → get_or (front ++ (b ∷ rest)) (length front) 0 ≡ b
-byte_after [] b rest = refl
-byte_after (x ∷ front) b rest = byte_after front b rest
+no_spaces : (bs : List ℕ) → AreNoSpaces bs → All (λ x. x ≢ 32) bs
+no_spaces [] h i d l = absurd (omega (arith, l))
+no_spaces (b ∷ bs) h zero d l = h.0
+no_spaces (b ∷ bs) h (suc i) d l = no_spaces bs h.1 i d (omega (arith, l))
 
 -- words are cut in one way
-cut_same : (first rest front back : List ℕ) → first ++ (32 ∷ rest) ≡ front ++ (32 ∷ back) → HasNone 32 first → HasNone 32 front → (first ≡ front) × (rest ≡ back)
+cut_same : (first rest front back : List ℕ) → first ++ (32 ∷ rest) ≡ front ++ (32 ∷ back) → All (λ x. x ≢ 32) first → All (λ x. x ≢ 32) front → (first ≡ front) × (rest ≡ back)
 cut_same [] rest [] back e h k = (refl, cc)
-cut_same [] rest (x ∷ front) back e h k = absurd (k 0 (omega arith) cc)
-cut_same (x ∷ first) rest [] back e h k = absurd (h 0 (omega arith) cc)
+cut_same [] rest (x ∷ front) back e h k = absurd (k 0 0 (omega arith) cc)
+cut_same (x ∷ first) rest [] back e h k = absurd (h 0 0 (omega arith) cc)
 cut_same (x ∷ first) rest (y ∷ front) back e h k =
     let heads : x ≡ y = cc in
     let tails : first ++ (32 ∷ rest) ≡ front ++ (32 ∷ back) = cc in
-    let same = cut_same first rest front back tails (λ i l. h (suc i) (omega (arith, l))) (λ i l. k (suc i) (omega (arith, l))) in
+    let same = cut_same first rest front back tails (λ i d l. h (suc i) d (omega (arith, l))) (λ i d l. k (suc i) d (omega (arith, l))) in
     (ap₂ (λ b bs. b ∷ bs) heads same.0, same.1)
 
 -- what words are cut into
 abbrev pub IsCutInto : List ℕ → Option (Bor (List ℕ) × Bor (List ℕ)) → Type 0
-IsCutInto words r = MatchOption r (HasNone 32 words) (λ x. IsCutAt 32 words x.0.now x.1.now)
+IsCutInto words r = MatchOption r (All (λ x. x ≢ 32) words) (λ x. IsCutAt 32 words x.0.now x.1.now)
 
-cut_after : (words front back : List ℕ) (r : Option (Bor (List ℕ) × Bor (List ℕ))) → IsCutInto words r → words ≡ front ++ (32 ∷ back) → HasNone 32 front
+cut_after : (words front back : List ℕ) (r : Option (Bor (List ℕ) × Bor (List ℕ))) → IsCutInto words r → words ≡ front ++ (32 ∷ back) → All (λ x. x ≢ 32) front
     → MatchOption r ⊥ (λ x. (x.0.now ≡ front) × (x.1.now ≡ back))
 cut_after words front back None h e k =
-    h (length front) (omega (arith, ap length e, length-append front (32 ∷ back))) (ap (λ bs. get_or bs (length front) 0) e ∙ byte_after front 32 back)
+    h (length front) 0 (omega (arith, ap length e, length-append front (32 ∷ back))) (ap (λ bs. get_or bs (length front) 0) e ∙ get_or-append_seam front 32 back 0)
 cut_after words front back (Some x) h e k = cut_same x.0.now x.1.now front back (sym h.0 ∙ e) h.1 k
 
 -- no digit of a number is a space
-no_space : (word : List ℕ) (n : ℕ) → IsNumberText word n → (i : ℕ) → i < length word → get_or word i 0 ≢ 32
-no_space word n h i l e = let d = digit_at word i h.numeral.1 l in omega (arith, d, e)
+no_space : (word : List ℕ) (n : ℕ) → IsNumberText word n → All (λ x. x ≢ 32) word
+no_space word n h i d l e = let digit = digit_at word i h.numeral.1 l in omega (arith, digit, sym (get_or_default word i d 0 l) ∙ e)
 
 -- a number is read from its text
 pub number_found : (word : List ℕ) (n : ℕ) (r : Option ℕ) → SomeIff r (IsNumeral 10 word × (digits_value 10 word < 2 ^ 64)) (digits_value 10 word) → IsNumberText word n → r ≡ Some n
@@ -91,9 +88,9 @@ word_not_cut : (line : List ℕ) (name numbers : Bor (List ℕ)) → IsCutInto l
 word_not_cut line name numbers cut word e none =
     let whole = cut.0 in
     let parts : word ≡ name.now ++ (32 ∷ numbers.now) = sym e ∙ whole in
-    no_spaces word none (length name.now)
+    no_spaces word none (length name.now) 0
     (omega (arith, ap length parts, length-append name.now (32 ∷ numbers.now)))
-    (ap (λ bs. get_or bs (length name.now) 0) parts ∙ byte_after name.now 32 numbers.now)
+    (ap (λ bs. get_or bs (length name.now) 0) parts ∙ get_or-append_seam name.now 32 numbers.now 0)
 
 -- what a command's line is cut into
 pub command_cut : (line : List ℕ) (name numbers : Bor (List ℕ)) (command : Command) → IsCutInto line (Some (name, numbers)) → IsCommandText line command → IsCut name.now numbers.now command

@@ -1,11 +1,10 @@
 -- The lines of a script, one after the other, and what their answers make together.
-use Rattle.std.proofs.Common.{get_or, ◌≡◌, ◌∙◌, ℕ, ◌<◌, false, List, [], ◌∷◌, ◌++◌, length, if◌then◌else◌, Option, None, sym, ap, subst, refl, arith, ne_eqb, append-nil, append_assoc}
+use Rattle.std.proofs.Common.{◌≢◌, get_or, ◌≡◌, ◌∙◌, ℕ, ◌<◌, false, List, [], ◌∷◌, ◌++◌, length, if◌then◌else◌, Option, None, sym, ap, subst, refl, arith, ne_eqb, append-nil, append_assoc}
 use Rattle.std.specs.List.{All, slice_split}
-use Rattle.std.proofs.lemmas.List.{get_or_default}
 use Rattle.std.proofs.lemmas.List.Splits.{slice_split_none, slice_split_at, length-slice_split}
 use Rattle.std.specs.Io.KnownBytes.{Appends, Keeps}
 use Rattle.std.proofs.KnownBytes.{Appends-nil, Appends-trans, Appends-kept}
-use Rattle.odht_tool_core.specs.Cuts.{HasNone, IsCutAt}
+use Rattle.odht_tool_core.specs.Cuts.{IsCutAt}
 use Rattle.odht_table.specs.Answers.{IsRenewed}
 use Rattle.odht_table.specs.Answers.IsRenewed.{bad_percent, capacity, memory, made}
 use Rattle.odht_header.specs.Coding.{Coding}
@@ -19,8 +18,8 @@ first_part part [] l = absurd (omega (arith, l))
 first_part part (next ∷ more) l = refl
 
 -- bytes without a line feed have no end of a line
-no_ends : (bytes : List ℕ) → HasNone 10 bytes → All (λ b. ends_line b ≡ false) bytes
-no_ends bytes h = λ k d low. rw (get_or_default bytes k d 0 low) (ne_eqb (get_or bytes k 0) 10 (h k low))
+no_ends : (bytes : List ℕ) → All (λ x. x ≢ 10) bytes → All (λ b. ends_line b ≡ false) bytes
+no_ends bytes h = λ k d low. ne_eqb (get_or bytes k d) 10 (h k d low)
 
 -- a line ends at the first end, and the others follow it
 pub first_line : (script front back : List ℕ) → IsCutAt 10 script front back → script_lines script ≡ front ∷ script_lines back
@@ -29,7 +28,7 @@ first_line script front back cut =
     ∙ first_part front (slice_split ends_line back) (omega (arith, length-slice_split ends_line back))
 
 -- a last line needs no end
-pub last_line : (script : List ℕ) → HasNone 10 script → 0 < length script → script_lines script ≡ script ∷ []
+pub last_line : (script : List ℕ) → All (λ x. x ≢ 10) script → 0 < length script → script_lines script ≡ script ∷ []
 last_line script none l =
     ap without_empty_last (slice_split_none ends_line script (no_ends script none)) ∙ ap (λ b. if b then [] else script ∷ []) (ne_eqb (length script) 0 (omega (arith, l)))
 

@@ -1,19 +1,19 @@
 -- Bytes that are cut at the first place of a byte.
 use Rattle.std.proofs.Common.{◌≡◌, ◌≢◌, ◌∙◌, ℕ, ◌+◌, ◌-◌, ◌<◌, ◌==◌, not, List, ◌∷◌, ◌++◌, length, take, drop, get_or, sym, ap, arith, take-append-drop, eq-eqb, length-take-le, get_or-take}
-use Rattle.std.specs.List.{position_or_len}
+use Rattle.std.specs.List.{All, position_or_len}
 use Rattle.std.proofs.lemmas.Bool.{both_ways, not-true, not-false, eqb-true}
 use Rattle.std.proofs.lemmas.List.{drop_more, take_rest}
 use Rattle.std.proofs.lemmas.List.Sums.{prefix_len_passes, prefix_len_stops}
-use Rattle.odht_tool_core.specs.Cuts.{HasNone, IsCutAt}
+use Rattle.odht_tool_core.specs.Cuts.{IsCutAt}
 
 module _ (b : ℕ) (bytes : List ℕ) (at : ℕ) (is : at ≡ position_or_len (λ x. x == b) bytes) where
-  before : (k : ℕ) → k < at → get_or bytes k 0 ≢ b
-  before k l e =
-      let passes = prefix_len_passes (λ x. not (x == b)) bytes k 0 (omega (arith, is, l)) in
-      both_ways (get_or bytes k 0 == b) (not-true _ passes) (eq-eqb _ b e)
+  before : (k d : ℕ) → k < at → get_or bytes k d ≢ b
+  before k d l e =
+      let passes = prefix_len_passes (λ x. not (x == b)) bytes k d (omega (arith, is, l)) in
+      both_ways (get_or bytes k d == b) (not-true _ passes) (eq-eqb _ b e)
 
-  pub no_place : at ≡ length bytes → HasNone b bytes
-  no_place all = λ k l. before k (omega (arith, all, l))
+  pub no_place : at ≡ length bytes → All (λ x. x ≢ b) bytes
+  no_place all = λ k d l. before k d (omega (arith, all, l))
 
   pub cut_at_place : at < length bytes → IsCutAt b bytes (take at bytes) (take (length bytes - (at + 1)) (drop (at + 1) bytes))
   cut_at_place l =
@@ -23,5 +23,5 @@ module _ (b : ℕ) (bytes : List ℕ) (at : ℕ) (is : at ≡ position_or_len (�
       drop_more bytes at 0 l ∙ ap (λ x. x ∷ drop (at + 1) bytes) here ∙ ap (λ xs. b ∷ xs) (sym (take_rest bytes (at + 1))) in
       let long : length (take at bytes) ≡ at = length-take-le at bytes (omega arith) in (
         sym (take-append-drop at bytes) ∙ ap (λ xs. take at bytes ++ xs) back,
-        λ k inside e. let early : k < at = omega (arith, inside, long) in before k early (sym (get_or-take at bytes k 0 early) ∙ e),
+        λ k d inside e. let early : k < at = omega (arith, inside, long) in before k d early (sym (get_or-take at bytes k d early) ∙ e),
       )

@@ -1,7 +1,7 @@
 //! Where a byte first stands, found in sixteen lanes of a vector at once.
-ghost use Rattle.std.specs.Prelude.{◌≡◌, ◌≤◌, ◌==◌, length, MatchOption};
+ghost use Rattle.std.specs.Prelude.{◌≡◌, ◌≢◌, ◌≤◌, ◌==◌, length, All, MatchOption};
 ghost use Rattle.std.specs.List.{position_or_len};
-ghost use Rattle.odht_tool_core.specs.Cuts.{HasNone, IsCutAt};
+ghost use Rattle.odht_tool_core.specs.Cuts.{IsCutAt};
 
 use std::simd::prelude::*;
 
@@ -53,7 +53,7 @@ fn place_in_few(bytes: &[u8], byte: u8) -> usize
 /// The bytes in front of the first place of the byte, and those behind it. None where it is nowhere.
 #[inline]
 pub fn cut_at(bytes: &[u8], byte: u8) -> Option<(&[u8], &[u8])>
-    ensures { MatchOption result (HasNone byte bytes.now)
+    ensures { MatchOption result (All (λ x. x ≢ byte) bytes.now)
         (λ parts. IsCutAt byte bytes.now parts.0.now parts.1.now) }
 {
     let at = place_of(bytes, byte);
