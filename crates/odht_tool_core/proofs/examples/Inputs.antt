@@ -1,8 +1,9 @@
 -- Worked examples: lines of an input.
-use Rattle.std.proofs.Common.{◌≡◌, ℕ, refl, List, [], ◌∷◌, Some, None}
+use Rattle.std.proofs.Common.{◌≡◌, ℕ, zero, suc, refl, ◌<◌, get_or, List, [], ◌∷◌, Some, None, arith}
 use Rattle.std.specs.Prelude.{codes}
 use Rattle.std.specs.Str.Lines.{lines}
 use Rattle.odht_header.proofs.examples.Apart.{unequal_lists}
+use Rattle.odht_tool_core.specs.Cuts.{IsCutAt}
 use Rattle.odht_tool_core.specs.InputLines.{without_end, IsNextLine}
 
 -- an end is a line feed, with a carriage return before it or without; a last line needs none
@@ -26,3 +27,19 @@ with_end h = unequal_lists (codes "a") (codes "a\n") refl (first h.2)
   where
     first : {l : List (List ℕ)} → lines (codes "a\nb") ≡ codes "a\n" ∷ l → codes "a" ≡ codes "a\n"
     first e = cc
+
+-- a line is cut at its first tab
+pub cut : IsCutAt 9 (codes "a\tb\tc") (codes "a") (codes "b\tc")
+cut = (refl, one)
+  where
+    one : (k d : ℕ) → k < 1 → get_or (codes "a") k d ≡ 9 → ⊥
+    one zero d l e = absurd (omega (arith, e))
+    one (suc k) d l e = absurd (omega (arith, l))
+
+-- and not at a later one
+pub cut_later : IsCutAt 9 (codes "a\tb\tc") (codes "a\tb") (codes "c") → ⊥
+cut_later h = h.1 1 0 (omega arith) refl
+
+-- nor is a part left out
+pub cut_short : IsCutAt 9 (codes "a\tb") (codes "a") [] → ⊥
+cut_short h = unequal_lists (codes "a\tb") (codes "a\t") refl h.0
