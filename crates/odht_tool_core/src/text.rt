@@ -196,8 +196,9 @@ fn digit_value(byte: u8) -> u8
     }
 }
 
-/// Writes two lower-case digits for each byte, those of each byte by themselves. They are put together for 32 bytes at
-/// once.
+/// Writes two lower-case digits for each byte, those of each byte by themselves. The error is that of the writer, and
+/// nothing is written after it.
+// They are put together for 32 bytes at once.
 pub fn write_bytes<W: Write>(bytes: &[u8], output: &mut W) -> io::Result<()>
     ensures { OnOk result (Appends (W.contents output.old) (W.contents output.new)
         (hex_text bytes.now)) }
