@@ -1,5 +1,5 @@
 //! What has gone out of a full buffer when a call returns: as many parts as fit it, and of the digits of bytes as many
-//! pairs. A call that put a line or a key together first would have passed on less.
+//! pairs. Of a call that put a line or a key together first another number would have gone out.
 use crate::tests::checks::same_len;
 use odht::HashTableOwned;
 use odht::configs::Bytes16ToU32;
@@ -15,14 +15,14 @@ type Output = BufWriter<Vec<u8>>;
 // Sixteen bytes, with 32 digits.
 const KEY: [u8; 16] = [0xab; 16];
 
-// A buffer for forty bytes, of which eleven are taken.
+// A buffer for forty bytes, of which thirteen are taken.
 fn output(rt: &impl Abort, alloc: Global) -> Output {
     let mut output = BufWriter::with_capacity(alloc, 40, Vec::new(alloc)).expect(rt, "memory");
-    output.write_all(b"0123456789a").expect(rt, "memory");
+    output.write_all(b"0123456789abc").expect(rt, "memory");
     output
 }
 
-// Asserts that 39 bytes have gone out: the eleven, and all that came until two digits more had no room.
+// Asserts that 39 bytes have gone out: the thirteen, and all that came until two digits more had no room.
 fn check_full(rt: &impl Abort, what: &str, output: &Output) {
     same_len(rt, what, output.get_ref().len(), 39);
 }
