@@ -13,6 +13,8 @@ import tempfile
 import time
 from collections import Counter
 
+import kit
+
 TOP = os.path.dirname(os.path.dirname(os.path.realpath(__file__)))
 
 
@@ -110,6 +112,7 @@ def pass_on(stream):
 
 
 def run(names):
+    kit.need()
     unknown = [it for it in names if it not in crates()]
     if unknown:
         sys.exit(f"crates.txt names no {unknown[0]}")
