@@ -65,7 +65,7 @@ with tempfile.TemporaryDirectory() as room:
 
 
 def heed_signals():
-    """Lets signals end this program where what began it ignores them, as nohup and a shell's job in the background do."""
+    """Lets signals end this program even where what began it ignores them, as nohup does."""
     for it in SIGNALS:
         signal.signal(it, signal.SIG_DFL)
 
