@@ -16,9 +16,12 @@
 # the tables of the whole check alone, WORST=1 for the largest forged table too, about an hour, ORDER=1 for the line of
 # an order of inserts alone, PEERS=1 for other libraries alone, MARKDOWN=1 for Markdown; with ODHT_RUST, and without
 # QUICK, CHECK, ORDER and PEERS, bench-crate too
-# make bench-crate: the crate for Rust beside the Rust crate, whose folder is ODHT_RUST; ITEMS=100000 for no larger tables
+# make bench-crate: the crate for Rust beside the Rust crate, whose folder is ODHT_RUST; ITEMS=100000 for no larger tables,
+# ALIGNED=1 for branches that are kept within 32 bytes in all of them
 # make bounds: loops that tell what bounds these speeds; ODHT_RUST=folder is needed
 # make searches: how long searches are in tables of random keys, by the crate for Rust; SLOTS=1048576 for no larger tables
+# `rt` is the command of the kit of Rattle. Without it go: test with PARTS='rust edits generated runner watch bench', rust,
+# exports, bench-crate, searches and uninstall; and, where build/ has the library already, lib and install
 SCRIPT ?= crates/odht_table/stdin
 PARTS ?=
 NAMES ?=
@@ -35,29 +38,40 @@ PEERS ?=
 MARKDOWN ?=
 ODHT_RUST ?=
 ITEMS ?=
+ALIGNED ?=
 SLOTS ?=
+# the first line of each recipe that needs `rt`: where there is none, it ends make with one line
+NEEDS_KIT = $(if $(shell command -v rt),,$(error $@ needs rt, the command of the kit of Rattle (its compiler and \
+  prover), and there is none here; without it go: $(WITHOUT_KIT)))
+WITHOUT_KIT = make test PARTS='rust edits generated runner watch bench', make rust, exports, bench-crate, searches
 .PHONY: run test prove edits build archive lib rust exports exports_are_current install uninstall examples bench
 run:
+	@$(NEEDS_KIT)
 	@cd crates/odht_table && rt try < $(abspath $(SCRIPT))
 
 build:
+	@$(NEEDS_KIT)
 	@for crate in $(LIBRARIES); do (cd crates/$$crate && rt lib >&2) || exit 1; done
 	@cd crates/odht_table && rt run < stdin >&2
 	@echo crates/odht_table/out/odht_table
 
 test:
+	@$(if $(PARTS),,$(NEEDS_KIT))
 	@python3 tests/run.py $(PARTS)
 
 prove:
+	@$(NEEDS_KIT)
 	@python3 tools/prove.py $(if $(WORD),--word) rt ci
 
 edits:
+	@$(NEEDS_KIT)
 	@python3 tools/edits.py run $(NAMES)
 
 # `rt lib` takes a quarter of a minute also where nothing changed, so it is asked only where something is newer
 SOURCES = crates.txt $(shell find $(foreach crate,$(FOR_C),crates/$(crate)) -path '*/out' -prune -o \
   '(' -name '*.rt' -o -name '*.antt' ')' -print)
 crates/odht_c/out/libodht_c.a: $(SOURCES)
+	@$(NEEDS_KIT)
 	@mkdir -p build
 	@test -f $@ || echo 'proving the library first, ten to twenty minutes; build/lib.log tells how far it is' >&2
 	@for crate in $(FOR_C); do \
@@ -66,6 +80,7 @@ crates/odht_c/out/libodht_c.a: $(SOURCES)
 	@touch $@
 
 archive:
+	@$(NEEDS_KIT)
 	@mkdir -p build crates/odht_c/out
 	@python3 tools/archive.py > build/archive.log 2>&1 || { cat build/archive.log >&2; exit 1; }
 
@@ -109,13 +124,16 @@ bench-peers: build/libodht.a
 	  $(if $(MARKDOWN),markdown)
 
 # the crate for Rust, as it is and with the feature `fast`, beside the original; it needs ODHT_RUST and nothing proved
+# where a branch that crosses a border of 32 bytes is slow, ALIGNED=1 has none in any of the three, nor in their loops
 .PHONY: bench-crate
+bench-crate: BENCH_RUST += $(if $(ALIGNED),-C llvm-args=-x86-branches-within-32B-boundaries)
 bench-crate: original
 	@$(BENCH_RUST) --edition 2021 --crate-type rlib --crate-name odht_default rust/src/lib.rs -o build/original/libodht_default.rlib
 	@$(BENCH_RUST) --edition 2021 --crate-type rlib --crate-name odht_fast --cfg 'feature="fast"' rust/src/lib.rs \
 	  -o build/original/libodht_fast.rlib
 	@$(BENCH_RUST) --edition 2021 -D warnings bench/crate.rs -L dependency=build/original --extern odht=build/original/libodht.rlib \
 	  --extern odht_default=build/original/libodht_default.rlib --extern odht_fast=build/original/libodht_fast.rlib -o build/bench_crate
+	@$(if $(ALIGNED),echo 'all crates and the loops over them are built with branches kept within 32 bytes')
 	@build/bench_crate $(ITEMS)
 
 # what bounds the lines of the tables: loops that do only what a job cannot do without; it needs ODHT_RUST

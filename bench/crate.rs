@@ -1,8 +1,12 @@
 //! Measures the crate for Rust beside the original Rust crate, in one process: as it is, and with the feature `fast`. It
 //! prints a line for each job, kind of key and size. README.md, "The crate for Rust", says how.
 
+mod kinds;
+
 use std::hint::black_box;
 use std::time::Instant;
+
+use kinds::{Array, Kind, Multiples, Numbers};
 
 const PERCENT: u8 = 87;
 
@@ -10,29 +14,9 @@ const PERCENT: u8 = 87;
 const SIZES: [(usize, usize); 5] =
     [(1_000, 2000), (10_000, 200), (100_000, 30), (1_000_000, 7), (10_000_000, 3)];
 
-/// A kind of key.
-trait Key: Copy {
-    const NAME: &'static str;
-
-    fn of(number: u64) -> Self;
-}
-
-impl Key for u64 {
-    const NAME: &'static str = "u64";
-
-    fn of(number: u64) -> u64 {
-        number
-    }
-}
-
-impl Key for [u8; 16] {
-    const NAME: &'static str = "16 bytes";
-
-    fn of(number: u64) -> [u8; 16] {
-        let other = number.rotate_left(32).wrapping_mul(0x9e37_79b9_7f4a_7c15);
-        (u128::from(number) | u128::from(other) << 64).to_le_bytes()
-    }
-}
+/// The sizes of the kinds of keys that have lookups alone, and these lines.
+const FEWER_SIZES: [usize; 2] = [1_000, 100_000];
+const LOOKUPS: &[&str] = &["get, present", "get, absent"];
 
 /// What the jobs work on.
 struct Work<K> {
@@ -73,10 +57,11 @@ macro_rules! contender {
             use super::*;
             use $odht::{bytes_needed, Config, FxHashFn, HashTable, HashTableOwned, UnHashFn};
 
-            configured!(Numbers, u64, 8, FxHashFn, |k: &u64| k.to_le_bytes(), |k: &[u8; 8]| {
+            configured!(U64, u64, 8, FxHashFn, |k: &u64| k.to_le_bytes(), |k: &[u8; 8]| {
                 u64::from_le_bytes(*k)
             });
-            configured!(Bytes, [u8; 16], 16, UnHashFn, |k: &[u8; 16]| *k, |k: &[u8; 16]| *k);
+            arrays!(B12: 12, FxHashFn; B16: 16, UnHashFn; B20: 20, UnHashFn; B32: 32, UnHashFn);
+            arrays!(B64: 64, FxHashFn; B255: 255, FxHashFn);
 
             $insert_all
             $get_all
@@ -174,6 +159,13 @@ macro_rules! configured {
     };
 }
 
+/// Configurations of arrays of bytes, of these lengths and hash functions.
+macro_rules! arrays {
+    ($($name:ident: $len:literal, $hash:ty);*) => {
+        $(configured!($name, [u8; $len], $len, $hash, |k: &[u8; $len]| *k, |k: &[u8; $len]| *k);)*
+    };
+}
+
 macro_rules! ours {
     ($name:ident, $odht:ident) => {
         contender!(
@@ -225,9 +217,10 @@ fn random(state: &mut u64) -> u64 {
     mixed ^ (mixed >> 31)
 }
 
-fn work<K: Key>(count: usize, table_len: usize) -> Work<K> {
+fn work<K: Kind>(count: usize, table_len: usize) -> Work<K::Key> {
     let mut state = 7;
-    let mut keys = |count: usize| -> Vec<K> { (0..count).map(|_| K::of(random(&mut state))).collect() };
+    let mut keys =
+        |count: usize| -> Vec<K::Key> { (0..count).map(|_| K::of(random(&mut state))).collect() };
     let (stored, absent) = (keys(count), keys(count));
     let mut present = stored.clone();
     for last in (1..count).rev() {
@@ -286,13 +279,19 @@ fn check<K: Copy>(line: &Line<K>, work: &mut Work<K>) {
     }
 }
 
-fn measure<K: Key>(count: usize, rounds: usize, table_len: usize, jobs: [Jobs<K>; 3]) {
+/// Prints the lines of a kind of key at a size, or, where any are named, these.
+fn measure<K: Kind>(
+    (count, rounds): (usize, usize),
+    table_len: usize,
+    jobs: [Jobs<K::Key>; 3],
+    named: &[&str],
+) {
     let mut work = work::<K>(count, table_len);
     (jobs[0].insert)(&mut work);
     work.table.copy_from_slice(&work.out);
-    for line in lines(jobs) {
-        check(&line, &mut work);
-        let [original, checked, fast] = best(&line, rounds, &mut work);
+    for line in lines(jobs).iter().filter(|line| named.is_empty() || named.contains(&line.name)) {
+        check(line, &mut work);
+        let [original, checked, fast] = best(line, rounds, &mut work);
         let items = if line.name == "open" { 1000.0 } else { count as f64 };
         println!(
             "| {} | {} | {count} | {:.1} | {:.1} | {:.1} | {:.2} | {:.2} |",
@@ -307,18 +306,32 @@ fn measure<K: Key>(count: usize, rounds: usize, table_len: usize, jobs: [Jobs<K>
     }
 }
 
+/// `measure` of a kind of key by the three configurations of a name.
+macro_rules! measured {
+    ($kind:ty, $config:ident, $size:expr, $named:expr) => {{
+        let len = odht::bytes_needed::<original::$config>($size.0, PERCENT);
+        let original = original::jobs::<original::$config>();
+        let checked = checked::jobs::<checked::$config>();
+        let fast = fast::jobs::<fast::$config>();
+        measure::<$kind>($size, len, [original, checked, fast], $named);
+    }};
+}
+
 fn main() {
     let most = std::env::args().nth(1).and_then(|word| word.parse().ok()).unwrap_or(usize::MAX);
     println!("| job | keys | items | original, ns | default, ns | fast, ns | default | fast |");
     println!("|---|---|---|---|---|---|---|---|");
-    for (count, rounds) in SIZES {
-        if count <= most {
-            let len = odht::bytes_needed::<original::Numbers>(count, PERCENT);
-            let of = (original::jobs::<original::Numbers>(), checked::jobs::<checked::Numbers>());
-            measure(count, rounds, len, [of.0, of.1, fast::jobs::<fast::Numbers>()]);
-            let len = odht::bytes_needed::<original::Bytes>(count, PERCENT);
-            let of = (original::jobs::<original::Bytes>(), checked::jobs::<checked::Bytes>());
-            measure(count, rounds, len, [of.0, of.1, fast::jobs::<fast::Bytes>()]);
+    for size in SIZES.into_iter().filter(|size| size.0 <= most) {
+        measured!(Numbers, U64, size, &[]);
+        measured!(Array<16>, B16, size, &[]);
+        if FEWER_SIZES.contains(&size.0) {
+            measured!(Multiples<16>, U64, size, LOOKUPS);
+            measured!(Multiples<4096>, U64, size, LOOKUPS);
+            measured!(Array<12>, B12, size, LOOKUPS);
+            measured!(Array<20>, B20, size, LOOKUPS);
+            measured!(Array<32>, B32, size, LOOKUPS);
+            measured!(Array<64>, B64, size, LOOKUPS);
+            measured!(Array<255>, B255, size, LOOKUPS);
         }
     }
 }

@@ -15,6 +15,7 @@ KIT = $(dir $(shell rt doc))
 lib: exports_are_current build/libodht.a build/$(SHARED)
 
 build/libodht.a: $(LIBRARY) packaging/merge.sh
+	@$(NEEDS_KIT)
 	@mkdir -p build
 	@sh packaging/merge.sh $@ $(LIBRARY) $(KIT)c/liblibc_c.a
 

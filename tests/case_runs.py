@@ -1,13 +1,19 @@
 """Runs a program on a case, and compares what it did with what it must do."""
 import contextlib
 import difflib
+import math
 import os
 import resource
 import signal
 import socket
 import subprocess
+import sys
 import tempfile
 
+sys.path.insert(0, os.path.join(os.path.dirname(os.path.abspath(__file__)), os.pardir, "tools"))
+import watched  # noqa: E402
+
+# how much processor time a run may use, and how long it may use none: so a busy machine ends none
 SECONDS = float(os.environ.get("CASE_SECONDS", "20"))
 NOBODY = 65534
 DIFF_LINES = 12
@@ -61,8 +67,10 @@ def open_output(case, stack):
 
 
 def limits(case):
-    """What the child does before the program begins: it limits files, and drops its rights."""
+    """What the child does before the program begins: it limits its processor time and files, and drops its rights."""
     def set_limits():
+        seconds = math.ceil(SECONDS)
+        resource.setrlimit(resource.RLIMIT_CPU, (seconds, seconds + 1))
         if case.room is not None:
             signal.signal(signal.SIGXFSZ, signal.SIG_IGN)
             resource.setrlimit(resource.RLIMIT_FSIZE, (case.room, case.room))
@@ -71,6 +79,21 @@ def limits(case):
             os.setgid(NOBODY)
             os.setuid(NOBODY)
     return set_limits
+
+
+def communicate(process, written):
+    """What a program writes. It is killed where it uses no processor time for so long."""
+    used = None
+    while True:
+        try:
+            return process.communicate(written, SECONDS)
+        except subprocess.TimeoutExpired:
+            now = watched.begun_by(process.pid)
+            if now == used:
+                process.kill()
+                process.communicate()
+                return None
+            used, written = now, None
 
 
 def run(program, case, folder):
@@ -82,12 +105,10 @@ def run(program, case, folder):
             stderr = stack.enter_context(open("/dev/full", "wb"))
         process = subprocess.Popen([program] + case.args, cwd=folder, env={}, stdin=stdin,
                                    stdout=stdout, stderr=stderr, preexec_fn=limits(case))
-        try:
-            output, errors = process.communicate(written, SECONDS)
-        except subprocess.TimeoutExpired:
-            process.kill()
-            process.communicate()
+        texts = communicate(process, written)
+        if texts is None or process.returncode == -signal.SIGXCPU:
             return None
+        output, errors = texts
         if case.room is not None:
             stdout.seek(0)
             output = stdout.read()
@@ -157,7 +178,7 @@ def faults_of(program, case):
         ended = run(program, case, folder)
         os.chmod(folder, 0o755)
         if ended is None:
-            return [f"it did not end in {SECONDS} seconds"]
+            return [f"it did not end in {SECONDS:g} seconds of processor time, or used none for as long"]
         faults = []
         if ended.status != case.status:
             faults.append(f"status {ended.status}, not {case.status}")

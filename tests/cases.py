@@ -5,7 +5,8 @@
 
 README.md beside this file describes the form of cases. A failing case has a line with its place and
 name, and below it what differs. The last line is `N passed, N failed`; the status is 0 only where
-none failed and one passed. A run has 20 seconds, or those that CASE_SECONDS gives."""
+none failed and one passed. A run has 20 seconds of processor time, or those that CASE_SECONDS gives, and may use none
+for as long."""
 import os
 import shutil
 import sys
@@ -14,7 +15,7 @@ import tempfile
 sys.dont_write_bytecode = True
 
 from case_files import CaseError, read_cases  # noqa: E402
-from case_runs import faults_of  # noqa: E402
+from case_runs import faults_of, watched  # noqa: E402
 
 
 def files_of(places):
@@ -42,6 +43,7 @@ def main(words):
     if len(words) < 2:
         print(__doc__)
         return 2
+    watched.end_on_signals()
     # A copy, since a case without rights may not reach the program where it lies.
     with tempfile.TemporaryDirectory() as folder:
         os.chmod(folder, 0o755)

@@ -6,15 +6,19 @@
 
 Of each call, of each script in tests/memory/scripts, and of two commands of the program for table files, the first
 request fails, then the second, and so on, up to the first run in which none was left to fail. A call that takes no
-memory has one run, in which it asked for none.
+memory has one run, in which it asked for none. A run has 60 seconds of processor time.
 """
 import os
+import resource
 import shutil
 import subprocess
 import sys
 import tempfile
 
 HERE = os.path.dirname(os.path.realpath(__file__))
+sys.path.insert(0, f"{HERE}/../tools")
+import watched
+
 CALLS = """allocate below_the_maximum clone default from_iterator from_raw_bytes from_raw_bytes_unchecked
     from_raw_bytes_within index insert insert_all insert_order numbers probe_order refused_bytes view
     with_capacity""".split()
@@ -23,13 +27,19 @@ COMMANDS = [("find", "inside.bin"), ("info", "one_pair.odht")]
 TABLES = f"{HERE}/../crates/odht_tool/data"
 # more requests than any of these makes
 MOST = 20
+# of processor time, for one run
+SECONDS = 60
+
+
+def limit():
+    resource.setrlimit(resource.RLIMIT_CPU, (SECONDS, SECONDS))
 
 
 def run_failing(words, given, request, room):
     """Runs a program with its request of this number failing. Returns what it printed, and how many it made."""
     count = f"{room}/requests"
     env = {**os.environ, "ODHT_FAIL_REQUEST": str(request), "ODHT_REQUESTS": count}
-    ran = subprocess.run(words, input=given, env=env, capture_output=True, timeout=60, cwd=room)
+    ran = subprocess.run(words, input=given, env=env, capture_output=True, cwd=room, preexec_fn=limit)
     with open(count, encoding="utf-8") as it:
         made = int(it.read())
     # a program that ends early says why on standard error
@@ -69,6 +79,7 @@ def expected():
 
 
 def main(folder):
+    watched.end_on_signals()
     wanted = expected()
     passed, failed = 0, 0
     with tempfile.TemporaryDirectory() as room:

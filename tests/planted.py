@@ -41,6 +41,7 @@ FAULTS = [
     ("output that is too long", "program", "word $1", "word $1 ", "standard output differs"),
     ("a program that writes nothing", "program", "cat", "exit 3; cat", "standard output differs"),
     ("a program that does not end", "program", "exit 3", "while :; do :; done", "did not end in 1"),
+    ("a program that sleeps", "program", "exit 3", "exec sleep 100", "did not end in 1"),
     ("a byte of the errors", "program", "echo told", "echo sold", "standard error differs"),
     ("more errors than are expected", "cases", "stderr: to...", "stderr: to",
      "standard error differs"),

@@ -8,15 +8,19 @@
     memory     each request for memory fails in turn          vectors    all vectors
     tool       the program for table files, by tests/tool     edits      each edit's text is where it says
     script     the program for scripts, by tests/script      generated  generated text is current
-    runner     that the runner of cases reports faults
+    runner     that the runner of cases reports faults       watch      what is done with parts that fail or hang
+    bench      the figures of bench/run
     word       all vectors and the tests in Rattle once more, with the word search compiled in
 
 What a part needs is built first, by tools/unproved.py, into build/unproved/; what is current there is kept. For `word`
 that is done of a copy of the sources, in a folder for temporary files: the gate takes no second crates.txt in here.
+
+What a part prints is in build/logs/PART.log too. A part that hangs, for 600 seconds or those that TEST_SECONDS gives
+(tools/watched.py), is ended: it counts as failed, and is told as ENDED. The parts `edits`, `runner`, `watch`, `bench`,
+`generated` and `rust` go without the kit of Rattle; `rust` then leaves out what is beside the library for C.
 """
 import os
 import re
-import subprocess
 import sys
 import tempfile
 import threading
@@ -25,8 +29,11 @@ from concurrent.futures import ThreadPoolExecutor
 
 TOP = os.path.dirname(os.path.dirname(os.path.realpath(__file__)))
 BUILT = f"{TOP}/build/unproved"
+LOGS = f"{TOP}/build/logs"
 sys.path.insert(0, f"{TOP}/tools")
+import kit
 import unproved
+import watched
 import word_search
 
 # the names of this folder are built of a copy of the sources, with the word search
@@ -34,8 +41,8 @@ WORD = f"{BUILT}/word"
 PRINTING = threading.Lock()
 # the crates of tests
 IN_RATTLE = ["odht_tests", "odht_interface"]
-# seconds, for one part
-LIMIT = 600
+# seconds for one test in Rattle, by the clock: enough on a busy machine
+TEST_IN_RATTLE = 3600
 
 
 def say(text):
@@ -43,14 +50,30 @@ def say(text):
         print(text, flush=True)
 
 
-def run(words, **how):
-    """Runs a command, and returns its status and what it printed, errors last."""
-    how = {"cwd": TOP, "stdin": subprocess.DEVNULL, "text": True, "errors": "replace", "timeout": LIMIT, **how}
-    try:
-        ran = subprocess.run(words, capture_output=True, **how)
-    except (OSError, subprocess.TimeoutExpired) as error:
-        return 1, str(error)
-    return ran.returncode, ran.stdout + ran.stderr
+def log_of(name):
+    """Returns the file that has what a part prints, or the build of what a part needs."""
+    return os.path.relpath(f"{LOGS}/{name.replace('/', '-')}.log")
+
+
+class Part:
+    """A part that runs: its commands, and its file."""
+
+    def __init__(self, name):
+        self.log = log_of(name)
+        with open(self.log, "w", encoding="utf-8"):
+            pass
+
+    def run(self, *words, **how):
+        """Runs a command, and returns its status and what it printed, errors last."""
+        return watched.run(words, log=self.log, **{"cwd": TOP, **how})
+
+    def counted(self, *words, **how):
+        """Runs a command whose last line counts, and returns how many passed and failed, and what it printed."""
+        return counted(*self.run(*words, **how))
+
+    def note(self, text):
+        with open(self.log, "a", encoding="utf-8") as it:
+            it.write(f"{text}\n")
 
 
 def counted(status, printed, pattern=r"(\d+) passed[,;] (\d+) failed"):
@@ -62,30 +85,21 @@ def counted(status, printed, pattern=r"(\d+) passed[,;] (\d+) failed"):
     return passed, failed, printed
 
 
-def each(*commands):
-    """Runs commands that each pass or fail."""
-    ran = [run(words) for words in commands]
+def generated(part):
+    ran = [
+        part.run(sys.executable, "tools/shapes", "--check"),
+        part.run("sh", "crates/odht_c/exports/statuses.sh"),
+        part.run("sh", "examples/quoted.sh"),
+    ]
     failed = [printed for status, printed in ran if status]
     return len(ran) - len(failed), len(failed), "".join(failed)
 
 
-def generated():
-    return each(
-        [sys.executable, "tools/shapes", "--check"],
-        ["sh", "crates/odht_c/exports/statuses.sh"],
-        ["sh", "examples/quoted.sh"],
-    )
-
-
-def edits():
-    return counted(*run([sys.executable, "tools/edits.py", "check"]))
-
-
-def vectors(built=BUILT):
+def vectors(part, built=BUILT):
     folder = f"{TOP}/crates/odht_vectors"
     with open(f"{folder}/args", encoding="utf-8") as it:
         words = it.read().split()
-    status, printed = run([f"{built}/odht_vectors", *words], cwd=f"{folder}/data")
+    status, printed = part.run(f"{built}/odht_vectors", *words, cwd=f"{folder}/data")
     passed, failed, _ = counted(status, printed, r"(\d+) cases held, (\d+) did not")
     with open(f"{folder}/stdout", encoding="utf-8") as it:
         if printed != it.read():
@@ -93,59 +107,51 @@ def vectors(built=BUILT):
     return passed, failed, printed
 
 
-def tests_in_rattle(built=BUILT):
-    ran = [run([f"{unproved.KIT}/bin/rattle-test", "--seconds", "60", f"{built}/{name}"]) for name in IN_RATTLE]
+def tests_in_rattle(part, built=BUILT):
+    words = [f"{unproved.KIT}/bin/rattle-test", "--seconds", str(TEST_IN_RATTLE)]
+    ran = [part.run(*words, f"{built}/{name}") for name in IN_RATTLE]
     return counted(max(status for status, _ in ran), "".join(printed for _, printed in ran))
 
 
-def with_word_search():
-    ran = [it(WORD) for it in (vectors, tests_in_rattle)]
+def with_word_search(part):
+    ran = [it(part, WORD) for it in (vectors, tests_in_rattle)]
     passed, failed = (sum(it[at] for it in ran) for at in (0, 1))
     return passed, failed, "\n".join(printed for _, failures, printed in ran if failures)
 
 
-def calls_for_c():
-    return counted(*run(["sh", "tests/c/run.sh", f"{BUILT}/libodht.a"]))
+def script(*words):
+    """Returns the call of a part that is a program in Python."""
+    return lambda part: part.counted(sys.executable, *words)
 
 
-def runner():
-    return counted(*run([sys.executable, "tests/planted.py"]))
+def crate_for_rust(part):
+    return part.counted(sys.executable, "tests/rust.py", env={**os.environ, "ODHT_LIB_DIR": BUILT})
 
 
-def cases(program, folder):
-    return counted(*run([sys.executable, "tests/cases.py", f"{BUILT}/{program}", folder]))
-
-
-def memory():
-    return counted(*run([sys.executable, "tests/memory.py", BUILT]))
-
-
-def crate_for_rust():
-    return counted(*run([sys.executable, "tests/rust.py"], env={**os.environ, "ODHT_LIB_DIR": BUILT}))
-
-
-def package_over_the_archive():
-    status, _ = run(["cargo", "--version"])
+def package_over_the_archive(part):
+    status, _ = part.run("cargo", "--version")
     if status:
         return 0, 0, "there is no cargo here"
     how = {"cwd": f"{TOP}/bindings/rust"}
     how["env"] = {**os.environ, "ODHT_LIB_DIR": BUILT, "CARGO_TARGET_DIR": f"{TOP}/build/cargo-ffi"}
-    return counted(*run(["cargo", "test", "--quiet", "--offline"], **how))
+    return part.counted("cargo", "test", "--quiet", "--offline", **how)
 
 
 # each part, what it needs, and its call; those that take longest first
 PARTS = {
-    "calls": (["libodht.a"], calls_for_c),
-    "rust": (["libodht.a"], crate_for_rust),
+    "calls": (["libodht.a"], lambda part: part.counted("sh", "tests/c/run.sh", f"{BUILT}/libodht.a")),
+    "rust": (["libodht.a"] if unproved.KIT else [], crate_for_rust),
     "ffi": (["libodht.a"], package_over_the_archive),
     "rattle": (IN_RATTLE, tests_in_rattle),
     "vectors": (["odht_vectors"], vectors),
     "word": ([f"word/{it}" for it in [*IN_RATTLE, "odht_vectors"]], with_word_search),
-    "memory": (["odht_memory", "odht_table", "odht_tool"], memory),
-    "tool": (["odht_tool"], lambda: cases("odht_tool", "tests/tool")),
-    "script": (["odht_table"], lambda: cases("odht_table", "tests/script")),
-    "edits": ([], edits),
-    "runner": ([], runner),
+    "memory": (["odht_memory", "odht_table", "odht_tool"], script("tests/memory.py", BUILT)),
+    "tool": (["odht_tool"], script("tests/cases.py", f"{BUILT}/odht_tool", "tests/tool")),
+    "script": (["odht_table"], script("tests/cases.py", f"{BUILT}/odht_table", "tests/script")),
+    "edits": ([], script("tools/edits.py", "check")),
+    "runner": ([], script("tests/planted.py")),
+    "watch": ([], script("tests/hangs.py")),
+    "bench": ([], script("tests/figures.py")),
     "generated": ([], generated),
 }
 
@@ -159,9 +165,7 @@ def build(name):
     before = os.stat(to).st_mtime_ns if os.path.exists(to) else 0
     with tempfile.TemporaryDirectory(prefix="odht-word-") as copy:
         word_search.copy_sources(copy, [crate, *unproved.crates()[crate]])
-        status, printed = run([sys.executable, f"{copy}/tools/unproved.py", WORD, crate])
-    if status:
-        raise unproved.BuildError(printed)
+        unproved.call(sys.executable, f"{copy}/tools/unproved.py", WORD, crate)
     return before != os.stat(to).st_mtime_ns
 
 
@@ -172,41 +176,64 @@ def built(name):
     try:
         is_new = build(name)
     except unproved.BuildError as error:
+        Part(f"build-{name}").note(error)
         say(f"build {name}: FAILED\n{error}")
         return False
     say(f"build {name}: {time.monotonic() - began:.0f} s{'' if is_new else ', it is current'}")
     return True
 
 
-def ended(part, needs, call):
-    """Runs a part, and returns how many passed and failed."""
-    if not all(it.result() for it in needs):
-        say(f"{part}: FAILED: it could not be built")
-        return 0, 1
-    say(f"{part}: begins")
-    began = time.monotonic()
-    passed, failed, printed = call()
+def told_as_ended(part, name, hung):
+    """Says that a part hung. Returns that none passed and one failed, and what is said of it at the end."""
+    part.note(hung)
+    say(f"{hung.printed.rstrip()}\n{name}: {hung}")
+    return 0, 1, f"{name}: {hung}; {part.log}"
+
+
+def ended(name, needs, call):
+    """Runs a part. Returns how many passed and failed, and, where one failed, what is said of it at the end."""
+    lost = [it for it, is_there in needs.items() if not is_there.result()]
+    if lost:
+        told = f"{name}: FAILED: it could not be built"
+        say(told)
+        return 0, 1, f"{told}; {', '.join(log_of(f'build-{it}') for it in lost)}"
+    say(f"{name}: begins")
+    part, began = Part(name), time.monotonic()
+    try:
+        passed, failed, printed = call(part)
+    except watched.Hung as hung:
+        return told_as_ended(part, name, hung)
     if failed:
         say(printed.rstrip())
-    say(f"{part}: {passed} passed, {failed} failed; {time.monotonic() - began:.0f} s")
-    return passed, failed
+    say(f"{name}: {passed} passed, {failed} failed; {time.monotonic() - began:.0f} s")
+    return passed, failed, f"{name}: {failed} FAILED; {part.log}" if failed else ""
+
+
+def run_parts(parts):
+    """Builds what the parts need, and runs each as soon as that is there. Returns what `ended` does, of each."""
+    needed = dict.fromkeys(name for needs, _ in parts.values() for name in needs)
+    lanes = len(os.sched_getaffinity(0))
+    with ThreadPoolExecutor(lanes) as builders, ThreadPoolExecutor(len(parts)) as runners:
+        ready = {it: builders.submit(built, it) for it in needed}
+        running = [
+            runners.submit(ended, part, {it: ready[it] for it in needs}, call) for part, (needs, call) in parts.items()
+        ]
+        return [it.result() for it in running]
 
 
 def main(*names):
     unknown = [it for it in names if it not in PARTS]
     if unknown:
         sys.exit(f"no part is named {unknown[0]!r}; there are {', '.join(PARTS)}")
-    os.makedirs(BUILT, exist_ok=True)
     parts = {it: PARTS[it] for it in PARTS if not names or it in names}
-    needed = dict.fromkeys(name for needs, _ in parts.values() for name in needs)
-    lanes = len(os.sched_getaffinity(0))
-    with ThreadPoolExecutor(lanes) as builders, ThreadPoolExecutor(len(parts)) as runners:
-        ready = {it: builders.submit(built, it) for it in needed}
-        running = [
-            runners.submit(ended, part, [ready[it] for it in needs], call) for part, (needs, call) in parts.items()
-        ]
-        counts = [it.result() for it in running]
-    passed, failed = (sum(it[at] for it in counts) for at in (0, 1))
+    if any(needs for needs, _ in parts.values()):
+        kit.need()
+    watched.end_on_signals()
+    os.makedirs(BUILT, exist_ok=True)
+    os.makedirs(LOGS, exist_ok=True)
+    ran = run_parts(parts)
+    print("".join(f"{told}\n" for _, _, told in ran if told), end="")
+    passed, failed = (sum(it[at] for it in ran) for at in (0, 1))
     print(f"{passed} passed, {failed} failed")
     return 1 if failed else 0
 

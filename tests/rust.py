@@ -14,7 +14,8 @@
     package    `cargo package` verifies the crate
     c          libodht of the erased exports has the calls of include/odht.h, and the examples in C go over it
 
-What the machine does not have is left out, with a word. The last line counts.
+What the machine does not have is left out, with a word. The last line counts. There is no limit of time: where one
+cargo builds, others wait for it. What hangs is for tests/run.py.
 """
 import os
 import re
@@ -27,7 +28,9 @@ from concurrent.futures import ThreadPoolExecutor
 
 TOP = os.path.dirname(os.path.dirname(os.path.realpath(__file__)))
 CARGO_FILES = f"{TOP}/build/cargo"
-LIMIT = 600
+sys.path.insert(0, f"{TOP}/tools")
+import watched
+
 # what a failed test prints needs no lines of the standard library, and what is built is not built again in parts
 CARGO = {"CARGO_TERM_COLOR": "never", "CARGO_PROFILE_DEV_DEBUG": "0", "CARGO_INCREMENTAL": "0"}
 
@@ -39,14 +42,10 @@ class Failed(Exception):
 def run(words, folder=TOP, **variables):
     """Runs a command that must succeed, and returns what it printed."""
     env = {**os.environ, "CARGO_TARGET_DIR": CARGO_FILES, **CARGO, **variables}
-    how = {"cwd": folder, "env": env, "stdin": subprocess.DEVNULL, "text": True, "errors": "replace", "timeout": LIMIT}
-    try:
-        ran = subprocess.run(words, capture_output=True, **how)
-    except (OSError, subprocess.TimeoutExpired) as error:
-        raise Failed(str(error)) from error
-    if ran.returncode:
-        raise Failed(f"{' '.join(words)}\n{ran.stdout}{ran.stderr}")
-    return ran.stdout + ran.stderr
+    status, printed = watched.run(words, limit=None, cwd=folder, env=env)
+    if status:
+        raise Failed(f"{' '.join(words)}\n{printed}")
+    return printed
 
 
 def has(*words):
@@ -203,6 +202,7 @@ TESTS = {
 
 def ended(name):
     """Runs a test, and returns how many passed and failed."""
+    print(f"{name}: begins", flush=True)
     began = time.monotonic()
     try:
         passed = TESTS[name]()
@@ -217,6 +217,7 @@ def main(*names):
     unknown = [it for it in names if it not in TESTS]
     if unknown:
         sys.exit(f"no test is named {unknown[0]!r}; there are {', '.join(TESTS)}")
+    watched.end_on_signals()
     if not has("cargo", "--version") or not has("rustfmt", "--version"):
         print("there is no cargo here\n0 passed, 0 failed")
         return 0

@@ -11,12 +11,14 @@ import os
 import subprocess
 import sys
 
+import kit
 import unproved
 
 TOP, KIT, EXPORTS = unproved.TOP, unproved.KIT, unproved.EXPORTS
 
 
 def main():
+    kit.need()
     below = unproved.crates()[EXPORTS]
     rlibs = {name: f"{TOP}/crates/{name}/out/rlib" for name in below}
     for name, folder in rlibs.items():

@@ -18,6 +18,8 @@ import time
 from collections import Counter
 from concurrent.futures import ThreadPoolExecutor
 
+import kit
+
 TOP = os.path.dirname(os.path.dirname(os.path.realpath(__file__)))
 # the most edits of a part: its first one costs a check of the whole crate
 PART = 30
@@ -170,6 +172,7 @@ def tried(room, number, crate, edits):
 
 
 def run(names):
+    kit.need()
     unknown = [it for it in names if it not in crates()]
     if unknown:
         sys.exit(f"crates.txt names no {unknown[0]}")

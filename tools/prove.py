@@ -14,6 +14,7 @@ import threading
 import time
 from collections import Counter
 
+import kit
 import word_search
 
 TOP = os.path.dirname(os.path.dirname(os.path.realpath(__file__)))
@@ -105,6 +106,8 @@ def table(minutes, names):
 
 def main(*words):
     by_word, words = words[:1] == ("--word",), [it for it in words if it != "--word"]
+    if words[:1] in ([], ["rt"]):
+        kit.need()
     known = crates()
     edits = sum(known.values())
     lanes = len(os.sched_getaffinity(0))

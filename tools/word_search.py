@@ -31,7 +31,7 @@ def copy_sources(folder, crates):
     for crate in crates:
         shutil.copytree(f"{TOP}/crates/{crate}/src", f"{folder}/crates/{crate}/src")
     os.makedirs(f"{folder}/tools")
-    for file in ("crates.txt", "tools/unproved.py", "tools/requests.c"):
+    for file in ("crates.txt", *(f"tools/{it}" for it in ("unproved.py", "kit.py", "watched.py", "requests.c"))):
         shutil.copy(f"{TOP}/{file}", f"{folder}/{file}")
     name_word_search(folder)
 

@@ -6,6 +6,7 @@ top=$(cd "$(dirname "$0")/../.." && pwd)
 libraries=$(cd "$1" && pwd)
 room=$(mktemp -d)
 trap 'rm -rf "$room"' EXIT
+trap 'exit 1' HUP INT TERM
 cd "$room"
 flags="-std=c11 -O1 -Wall -Wextra -Wpedantic -Werror -I$top/include"
 

@@ -12,6 +12,7 @@ shift
 cd "$(dirname "$0")"
 room=$(mktemp -d)
 trap 'rm -rf "$room"' EXIT
+trap 'exit 1' HUP INT TERM
 flags='-std=c11 -D_DEFAULT_SOURCE -O2 -Wall -Wextra -Wpedantic -Werror'
 sanitizers='-g -fsanitize=address,undefined -fno-sanitize-recover=all'
 # the archive's requests for memory go through requests.c

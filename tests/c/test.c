@@ -6,7 +6,7 @@
 #include <signal.h>
 #include <stdio.h>
 #include <string.h>
-#include <unistd.h>
+#include <sys/time.h>
 
 #include "buffers.h"
 #include "odht.h"
@@ -106,7 +106,7 @@ static void catch_signal(int number, siginfo_t *info, void *context)
 
 static void catch_signals(void)
 {
-    static const int signals[] = { SIGSEGV, SIGBUS, SIGFPE, SIGILL, SIGTRAP, SIGABRT, SIGALRM };
+    static const int signals[] = { SIGSEGV, SIGBUS, SIGFPE, SIGILL, SIGTRAP, SIGABRT, SIGPROF };
     struct sigaction action;
 
     memset(&action, 0, sizeof action);
@@ -124,9 +124,17 @@ static void describe_signal(void)
 
     if (caught == SIGSEGV || caught == SIGBUS)
         describe_address(fault_address, where, sizeof where);
-    if (caught == SIGALRM)
-        snprintf(where, sizeof where, "more than %d seconds", SECONDS);
+    if (caught == SIGPROF)
+        snprintf(where, sizeof where, "more than %d seconds of processor time", SECONDS);
     snprintf(failure, sizeof failure, "%s: %s%s", strsignal(caught), where, current_case);
+}
+
+/* Ends the test after so many seconds of processor time, so that a busy machine fails none; or lifts that, for 0. */
+static void limit_time(int seconds)
+{
+    struct itimerval limit = { .it_value = { .tv_sec = seconds } };
+
+    setitimer(ITIMER_PROF, &limit, NULL);
 }
 
 /* Whether the test passes with its buffers in this placement. */
@@ -139,11 +147,11 @@ static bool passes(const struct test *test, enum placement wanted)
     count_requests(NO_REQUEST);
     ended = sigsetjmp(end_of_test, 1);
     if (ended == 0) {
-        alarm(SECONDS);
+        limit_time(SECONDS);
         test->run();
         check_margins();
     }
-    alarm(0);
+    limit_time(0);
     if (ended == 2)
         describe_signal();
     drop_buffers();

@@ -4,6 +4,7 @@ set -eu
 top=$(cd "$(dirname "$0")/../../.." && pwd)
 room=$(mktemp -d)
 trap 'rm -rf "$room"' EXIT
+trap 'exit 1' HUP INT TERM
 
 # lines "number NAME Error", and with the texts "number NAME Error text"
 sed -n 's|^ *\(ODHT_[A-Z_]*\) = \([0-9]*\),\{0,1\} *\(/\* Error::\([A-Za-z]*\)\)\{0,1\}.*|\2 \1 \4|p' \

@@ -1,0 +1,140 @@
+"""Runs commands under a watch. One that hangs is ended with all that it began, and so is each where this program is
+ended by a signal.
+
+A command hangs where for so many seconds nothing was printed and none of its processes used processor time. So one that
+works, or prints now and then, is never ended, however busy the machine is. Nor is a loop without end.
+"""
+import os
+import signal
+import subprocess
+import sys
+import tempfile
+import threading
+import time
+
+LIMIT = float(os.environ.get("TEST_SECONDS", "600"))
+SIGNALS = (signal.SIGTERM, signal.SIGINT, signal.SIGHUP)
+# seconds between two questions whether a command has ended, and until one that was asked to end is killed
+SLICE, GRACE = 0.2, 5
+# set where this program is being ended
+leaving = threading.Event()
+
+
+class Hung(Exception):
+    """A command that hung and was ended, with what it had printed."""
+
+    def __init__(self, seconds, printed):
+        super().__init__(f"ENDED: no output and no processor time for {seconds:g} seconds")
+        self.printed = printed
+
+
+class Left(Exception):
+    """A command that was ended, or not begun, since this program is being ended."""
+
+
+def leave(number, _):
+    for it in SIGNALS:
+        signal.signal(it, signal.SIG_IGN)
+    leaving.set()
+    sys.exit(128 + number)
+
+
+def end_on_signals():
+    """From now on signals end this program as `sys.exit` does, so that commands are ended and folders removed."""
+    for it in SIGNALS:
+        if signal.getsignal(it) != signal.SIG_IGN:
+            signal.signal(it, leave)
+
+
+def processes():
+    """Returns the parent, the session and the processor time, in ticks, of each process that has not ended. The time is
+    that of its ended children too."""
+    found = {}
+    for pid in filter(str.isdigit, os.listdir("/proc")):
+        try:
+            with open(f"/proc/{pid}/stat", encoding="utf-8", errors="replace") as it:
+                fields = it.read().rpartition(") ")[2].split()
+        except OSError:
+            continue
+        if fields[0] not in "ZX":
+            found[int(pid)] = int(fields[1]), int(fields[3]), sum(map(int, fields[11:15]))
+    return found
+
+
+def begun_by(leader):
+    """Returns the processes of a session, and those that they began, each with its processor time."""
+    there = processes()
+    found = {pid for pid, (_, session, _) in there.items() if leader in (pid, session)}
+    more = found
+    while more:
+        more = {pid for pid, (parent, _, _) in there.items() if parent in found} - found
+        found |= more
+    return {pid: there[pid][2] for pid in found}
+
+
+def end(process):
+    """Ends a command and all that it began: they are asked to, and killed where they are still there seconds later."""
+    began = time.monotonic()
+    while process.poll() is None or begun_by(process.pid):
+        seconds = time.monotonic() - began
+        if seconds > 2 * GRACE:
+            return
+        for pid in begun_by(process.pid):
+            try:
+                os.kill(pid, signal.SIGTERM if seconds < GRACE else signal.SIGKILL)
+            except (ProcessLookupError, PermissionError):
+                pass
+        time.sleep(SLICE / 2)
+
+
+def has_ended(process):
+    """Waits for a moment. Returns whether a command has ended."""
+    try:
+        process.wait(SLICE)
+    except subprocess.TimeoutExpired:
+        return False
+    return True
+
+
+def hangs(process, files, limit):
+    """Waits until a command has ended or hangs. Returns whether it hangs; where the limit is None, it never does."""
+    seen, since, looked = None, time.monotonic(), time.monotonic()
+    while not has_ended(process):
+        if leaving.is_set():
+            raise Left
+        now = time.monotonic()
+        if limit is None or now - looked < min(limit / 5, 5):
+            continue
+        looked = now
+        signs = begun_by(process.pid), [os.fstat(it.fileno()).st_size for it in files]
+        if signs != seen:
+            seen, since = signs, now
+        elif now - since >= limit:
+            return True
+    return False
+
+
+def run(words, limit=LIMIT, log=None, **how):
+    """Runs a command in a session of its own. Returns its status and what it printed, errors last, which are written
+    behind what is in the file `log` too. Raises Hung."""
+    if leaving.is_set():
+        raise Left
+    with open(log, "a+b") if log else tempfile.TemporaryFile("a+b") as output, tempfile.TemporaryFile("a+b") as errors:
+        start = output.seek(0, os.SEEK_END)
+        try:
+            process = subprocess.Popen(
+                words, stdin=subprocess.DEVNULL, stdout=output, stderr=errors, start_new_session=True, **how)
+        except OSError as error:
+            output.write(f"{error}\n".encode())
+            return 1, str(error)
+        try:
+            is_hung = hangs(process, (output, errors), limit)
+        finally:
+            end(process)
+        errors.seek(0)
+        output.write(errors.read())
+        output.seek(start)
+        printed = output.read().decode(errors="replace")
+    if is_hung:
+        raise Hung(limit, printed)
+    return process.returncode, printed
