@@ -4,8 +4,8 @@
   tools/edits.py check       that each `old:` text stands once in its file; in a second
   tools/edits.py run [NAME..]   has the prover try each edit, of all crates or of these, on copies
 
-The edits of a crate are tried one after the other, each over what the checks before it proved, so of a crate with many
-some parts are tried side by side: as many as there are processors.
+What earlier checks of the repository proved is kept, as `rt check` keeps it: an edit costs what the prover does anew
+for it. As many are tried at once as there are processors. build/logs/edits.log says of each by which line it is refused.
 """
 import os
 import re
@@ -13,7 +13,6 @@ import shutil
 import subprocess
 import sys
 import tempfile
-import threading
 import time
 from collections import Counter
 from concurrent.futures import ThreadPoolExecutor
@@ -21,9 +20,11 @@ from concurrent.futures import ThreadPoolExecutor
 import kit
 
 TOP = os.path.dirname(os.path.dirname(os.path.realpath(__file__)))
-# the most edits of a part: its first one costs a check of the whole crate
-PART = 30
-PRINTING = threading.Lock()
+# the most edits that are tried in one copy
+PART = 12
+LOG = f"{TOP}/build/logs/edits.log"
+# an edit that does not read shows nothing of a contract
+UNREAD = re.compile(r"is not in scope|has no field|is no name|operand is missing|expected the end|cannot continue")
 
 
 def folders_of(crate):
@@ -47,8 +48,9 @@ def crates():
     return [*lines_of_crates()]
 
 
-def fault_of(edit, crate):
-    """Returns why an edit cannot be applied, or None. A second pair applies to what the first one made."""
+def texts_of(edit, folder):
+    """Returns the texts of the files that an edit of the crate in this folder changes, and why it cannot be applied, or
+    None. A second pair applies to what the first one made."""
     path, old, texts = "", None, {}
     with open(edit, encoding="utf-8") as lines:
         for line in lines.read().split("\n"):
@@ -59,13 +61,13 @@ def fault_of(edit, crate):
                 old = text
             elif word in ("new", "new:"):
                 if path not in texts:
-                    with open(f"{TOP}/crates/{crate}/{path}", encoding="utf-8") as it:
+                    with open(f"{folder}/{path}", encoding="utf-8") as it:
                         texts[path] = it.read()
                 found = texts[path].count(old)
                 if found != 1:
-                    return f"its text is in {path} {found} times, and not once"
+                    return texts, f"its text is in {path} {found} times, and not once"
                 texts[path] = texts[path].replace(old, text)
-    return None if texts else "it has no 'old:' and 'new:' pair"
+    return texts, None if texts else "it has no 'old:' and 'new:' pair"
 
 
 def check():
@@ -77,7 +79,7 @@ def check():
         failed += [f"{crate}/{it}: stands twice" for it in sorted({*names}) if names.count(it) > 1]
         for edit in edits_of(crate):
             try:
-                why = fault_of(edit, crate)
+                _, why = texts_of(edit, f"{TOP}/crates/{crate}")
             except OSError as error:
                 why = str(error)
             passed += not why
@@ -107,25 +109,32 @@ def copied(tree, needed):
             shutil.copy(f"{TOP}/{file}", f"{tree}/{file}")
 
 
-def copy_libraries(names, tree, to):
-    """Copies the proved libraries that are in a tree, which `rt` uses again where nothing has changed."""
-    for name in names:
-        library = f"crates/{name}/out/rlib"
-        if os.path.isdir(f"{tree}/{library}"):
-            shutil.copytree(f"{tree}/{library}", f"{to}/{library}")
+def copy_kept(what, name, tree, to):
+    """Copies what is kept of the proofs of a crate, where it is there: `rt` uses it again where nothing has changed."""
+    if os.path.isdir(f"{tree}/crates/{name}/{what}"):
+        shutil.copytree(f"{tree}/crates/{name}/{what}", f"{to}/crates/{name}/{what}")
 
 
-def prove_below(chosen, tree):
-    """Proves the libraries that these crates use, each once, on a copy. Those that are proved already are kept."""
-    used = {it for crate in chosen for it in below(crate)}
-    names = [it for it in crates() if it in used]
-    copied(tree, names)
-    copy_libraries(names, TOP, tree)
-    for name in names:
-        ran = subprocess.run(["rt", "lib"], cwd=f"{tree}/crates/{name}", capture_output=True, text=True, errors="replace")
-        if ran.returncode:
-            sys.exit(f"{ran.stdout}{ran.stderr}{name} is not proved")
-        print(f"{name}: its library is there", flush=True)
+def rt(words, tree, name):
+    """Runs `rt` in a crate of a tree. Returns its status and its lines."""
+    ran = subprocess.run(
+        ["rt", *words], cwd=f"{tree}/crates/{name}", stdin=subprocess.DEVNULL, stdout=subprocess.PIPE,
+        stderr=subprocess.STDOUT, text=True, errors="replace")
+    return ran.returncode, ran.stdout.rstrip("\n").split("\n")
+
+
+def prove(chosen, tree):
+    """Proves these crates and the libraries below them on a copy, over what is kept in the repository."""
+    libraries = {it for crate in chosen for it in below(crate)}
+    needed = [it for it in crates() if it in libraries or it in chosen]
+    copied(tree, needed)
+    for name in needed:
+        copy_kept("out", name, TOP, tree)
+        for word in ["check"] * (name in chosen) + ["lib"] * (name in libraries):
+            status, lines = rt([word], tree, name)
+            if status:
+                sys.exit("\n".join([*lines, f"{name} is not proved"]))
+        print(f"{name}: proved", flush=True)
 
 
 def parts_of(crate):
@@ -135,40 +144,51 @@ def parts_of(crate):
     return [(crate, edits[at::count]) for at in range(count)]
 
 
-def size_of(crate):
-    """Returns how long the sources of a crate are. The longer ones are begun first."""
-    found = [f"{at}/{it}" for at, folders, files in os.walk(f"{TOP}/crates/{crate}") for it in files if "/out" not in at]
-    return sum(os.path.getsize(it) for it in found if it.endswith((".rt", ".antt")))
-
-
-def pass_on(stream):
-    """Prints what is said of edits, and returns how many were refused."""
-    refused = 0
-    for line in stream:
-        tried = re.match(r"(?:rt: )?must-fail (\w+)/\S+: (refused)?", line)
-        refused += bool(tried and tried[2])
-        if tried and not tried[2] or line.startswith("rt: "):
-            with PRINTING:
-                print(line, end="", flush=True)
-    return refused
+def verdict(status, lines):
+    """Returns whether the prover refused an edited crate, and by which line it says so."""
+    errors = [it for it in lines if re.match(r"\S+:\d+:\d+: error", it)]
+    unread = [it for it in errors if it.removeprefix("./").startswith(("src/", "specs/")) and UNREAD.search(it)]
+    if unread:
+        return False, f"the prover cannot read it: {unread[0]}"
+    if status == 1 and any(it.startswith("logic=not-proved") for it in lines):
+        return True, errors[0] if errors else "not proved"
+    return False, "it is still proved" if status == 0 else "\n".join(["it did not reach the prover", *lines[-6:]])
 
 
 def tried(room, number, crate, edits):
-    """Has the prover try a part of a crate's edits. Returns the crate, and how many were refused."""
-    tree = f"{room}/{number}"
+    """Has the prover try a part of a crate's edits, one after the other. Returns the crate, and the verdict on each."""
+    tree, verdicts = f"{room}/{number}", []
     copied(tree, [*below(crate), crate])
-    copy_libraries(below(crate), f"{room}/libraries", tree)
-    os.makedirs(f"{tree}/crates/{crate}/must-fail")
+    copy_kept("out", crate, f"{room}/proved", tree)
+    for library in below(crate):
+        copy_kept("out/rlib", library, f"{room}/proved", tree)
+    folder = f"{tree}/crates/{crate}"
     for edit in edits:
-        shutil.copy(edit, f"{tree}/crates/{crate}/must-fail")
-    began = time.monotonic()
-    how = {"cwd": tree, "stdout": subprocess.PIPE, "stderr": subprocess.STDOUT, "text": True, "errors": "replace"}
-    with subprocess.Popen(["rt", "must-fail", crate], **how) as trying:
-        refused = pass_on(trying.stdout)
+        texts, why = texts_of(edit, folder)
+        former = {path: open(f"{folder}/{path}", encoding="utf-8").read() for path in texts}
+        write(folder, texts)
+        is_refused, line = (False, why) if why else verdict(*rt(["check", "--jobs", "1"], tree, crate))
+        write(folder, former)
+        verdicts.append((os.path.basename(edit), is_refused, line[:300]))
     shutil.rmtree(tree)
-    with PRINTING:
-        print(f"{crate}: {refused} of {len(edits)} edits refused, {(time.monotonic() - began) / 60:.1f} minutes", flush=True)
-    return crate, refused
+    return crate, verdicts
+
+
+def write(folder, texts):
+    for path, text in texts.items():
+        with open(f"{folder}/{path}", "w", encoding="utf-8") as it:
+            it.write(text)
+
+
+def told(crate, verdicts, log):
+    """Logs the verdicts on a part, and prints those on edits that were not refused. Returns how many were."""
+    for name, is_refused, line in verdicts:
+        text = f"{crate}/{name}: {'refused' if is_refused else 'NOT REFUSED'}: {line}"
+        log.write(f"{text}\n")
+        if not is_refused:
+            print(text, flush=True)
+    log.flush()
+    return sum(is_refused for _, is_refused, _ in verdicts)
 
 
 def run(names):
@@ -178,12 +198,14 @@ def run(names):
         sys.exit(f"crates.txt names no {unknown[0]}")
     chosen = [it for it in crates() if edits_of(it) and (not names or it in names)]
     began = time.monotonic()
-    parts = [part for crate in sorted(chosen, key=size_of, reverse=True) for part in parts_of(crate)]
+    parts = [part for crate in reversed(chosen) for part in parts_of(crate)]
     refused = Counter()
-    with tempfile.TemporaryDirectory(prefix="odht-edits-") as room, ThreadPoolExecutor(os.cpu_count()) as lanes:
-        prove_below(chosen, f"{room}/libraries")
-        for crate, count in lanes.map(lambda at: tried(room, at, *parts[at]), range(len(parts))):
-            refused[crate] += count
+    os.makedirs(os.path.dirname(LOG), exist_ok=True)
+    with tempfile.TemporaryDirectory(prefix="odht-edits-") as room, open(LOG, "w", encoding="utf-8") as log:
+        prove(chosen, f"{room}/proved")
+        with ThreadPoolExecutor(os.cpu_count()) as lanes:
+            for crate, verdicts in lanes.map(lambda at: tried(room, at, *parts[at]), range(len(parts))):
+                refused[crate] += told(crate, verdicts, log)
     lost = {crate: len(edits_of(crate)) - refused[crate] for crate in chosen}
     for crate in chosen:
         print(f"{crate}: {refused[crate]} edits refused, {lost[crate]} not")
