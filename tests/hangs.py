@@ -1,6 +1,7 @@
 #!/usr/bin/env python3
 """Checks what tests/run.py does with parts that are planted: with some that hang, with some that only take long, with
 some that fail, and with one that runs when a signal comes. The limit for what hangs is two seconds here."""
+import glob
 import os
 import re
 import signal
@@ -56,10 +57,14 @@ import subprocess, sys, tempfile, time
 sys.path.insert(0, {TOP + '/tools'!r})
 import watched
 watched.end_on_signals()
-stays = "import signal, time; signal.signal(signal.SIGTERM, signal.SIG_IGN); time.sleep({ASLEEP})"
+stays = '''
+import signal, sys, time
+signal.signal(signal.SIGTERM, signal.SIG_IGN)
+open(sys.argv[1], 'w').close()
+time.sleep({ASLEEP})
+'''
 with tempfile.TemporaryDirectory() as room:
-    subprocess.Popen([sys.executable, '-c', stays])
-    print('before', flush=True)
+    subprocess.Popen([sys.executable, '-c', stays, room + '/begun'])
     time.sleep({ASLEEP})
 """
 
@@ -115,8 +120,7 @@ def is_ended_by(number):
     """Whether a signal ends the tests with all that they began, and their folders are removed."""
     with tempfile.TemporaryDirectory() as folder:
         driver = begin(folder, KEEPS)
-        log = f"{folder}/planted.log"
-        while driver.poll() is None and not (os.path.isfile(log) and os.path.getsize(log)):
+        while driver.poll() is None and not glob.glob(f"{folder}/temporary/*/begun"):
             time.sleep(0.05)
         driver.send_signal(number)
         driver.communicate()
