@@ -13,7 +13,9 @@ from concurrent.futures import ThreadPoolExecutor
 
 HERE = os.path.dirname(os.path.abspath(__file__))
 TOP = os.path.dirname(HERE)
-SIGNALS = (signal.SIGTERM, signal.SIGINT, signal.SIGHUP)
+sys.path.insert(0, f"{TOP}/tools")
+import watched
+
 # the limit; how long parts work or print that only take long; and how long those would sleep that hang
 LIMIT, SECONDS, ASLEEP = 2, 5, 300
 
@@ -71,7 +73,7 @@ with tempfile.TemporaryDirectory() as room:
 
 def heed_signals():
     """Lets signals end this program even where what began it ignores them, as nohup does."""
-    for it in SIGNALS:
+    for it in watched.SIGNALS:
         signal.signal(it, signal.SIG_DFL)
 
 
@@ -90,7 +92,7 @@ def left_of(folder):
     for pid in filter(str.isdigit, os.listdir("/proc")):
         try:
             with open(f"/proc/{pid}/environ", "rb") as it:
-                if f"TMPDIR={folder}/temporary".encode() in it.read().split(b"\0"):
+                if f"TMPDIR={folder}/temporary".encode() in it.read():
                     found.append(f"process {pid}")
         except OSError:
             pass
@@ -120,7 +122,7 @@ def is_ended_by(number):
     """Whether a signal ends the tests with all that they began, and their folders are removed."""
     with tempfile.TemporaryDirectory() as folder:
         driver = begin(folder, KEEPS)
-        while driver.poll() is None and not glob.glob(f"{folder}/temporary/*/begun"):
+        while driver.poll() is None and not glob.glob(f"{folder}/temporary/*/*/begun"):
             time.sleep(0.05)
         driver.send_signal(number)
         driver.communicate()
@@ -129,8 +131,9 @@ def is_ended_by(number):
 
 
 def main():
-    with ThreadPoolExecutor(len(PARTS) + len(SIGNALS)) as lanes:
-        handled, ended = lanes.map(is_handled, PARTS), lanes.map(is_ended_by, SIGNALS)
+    watched.end_on_signals()
+    with ThreadPoolExecutor(len(PARTS) + len(watched.SIGNALS)) as lanes:
+        handled, ended = lanes.map(is_handled, PARTS), lanes.map(is_ended_by, watched.SIGNALS)
         results = [*handled, *ended]
     print(f"{sum(results)} passed, {len(results) - sum(results)} failed")
     return 0 if all(results) else 1

@@ -233,10 +233,14 @@ def main(*names):
     parts = {it: PARTS[it] for it in PARTS if not names or it in names}
     if any(needs for needs, _ in parts.values()):
         kit.need()
-    watched.end_on_signals()
     os.makedirs(BUILT, exist_ok=True)
     os.makedirs(LOGS, exist_ok=True)
-    ran = run_parts(parts)
+    # all temporary files of the parts too, which are killed where they do not end
+    with tempfile.TemporaryDirectory(prefix="odht-test-") as room:
+        watched.end_on_signals()
+        os.chmod(room, 0o755)
+        os.environ["TMPDIR"] = tempfile.tempdir = room
+        ran = run_parts(parts)
     print("".join(f"{told}\n" for _, _, told in ran if told), end="")
     passed, failed = (sum(it[at] for it in ran) for at in (0, 1))
     print(f"{passed} passed, {failed} failed")
