@@ -1,5 +1,6 @@
 # make run: the program on its first script, or on SCRIPT=file, in a build without proofs
-# make test: the tests, in a build without proofs; PARTS='vectors edits' for some of them
+# make test: the tests, in a build without proofs; PARTS='vectors edits' for some of them; what each printed is in
+# build/logs
 # make prove: the gate: every proof from nothing, and the edits that must be rejected (rt ci); WORD=1 for the gate on a
 # copy that has the word search compiled in
 # make edits: each edit of the gate and of edits/, which must be rejected; NAMES='odht_raw odht' for those of some crates

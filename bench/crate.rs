@@ -15,7 +15,7 @@ const SIZES: [(usize, usize); 5] =
     [(1_000, 2000), (10_000, 200), (100_000, 30), (1_000_000, 7), (10_000_000, 3)];
 
 /// The sizes of the kinds of keys that have lookups alone, and these lines.
-const FEWER_SIZES: [usize; 2] = [1_000, 100_000];
+const FEWER_SIZES: [usize; 2] = [1_000, 10_000];
 const LOOKUPS: &[&str] = &["get, present", "get, absent"];
 
 /// What the jobs work on.

@@ -6,9 +6,11 @@ import sys
 import tempfile
 
 sys.dont_write_bytecode = True
-BENCH = os.path.join(os.path.dirname(os.path.dirname(os.path.abspath(__file__))), "bench")
-sys.path.insert(0, BENCH)
+TOP = os.path.dirname(os.path.dirname(os.path.abspath(__file__)))
+BENCH = os.path.join(TOP, "bench")
+sys.path[:0] = [BENCH, os.path.join(TOP, "tools")]
 import pairs  # noqa: E402
+import watched  # noqa: E402
 
 # What is found, and what it must be.
 FIGURES = [
@@ -92,6 +94,7 @@ def is_right(number, found, wanted):
 
 
 def main():
+    watched.end_on_signals()
     rows = [*((find(), wanted) for find, wanted in FIGURES), *runs()]
     results = [is_right(number, *row) for number, row in enumerate(rows)]
     print(f"{sum(results)} passed, {len(results) - sum(results)} failed")

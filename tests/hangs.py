@@ -1,6 +1,7 @@
 #!/usr/bin/env python3
 """Checks what tests/run.py does with parts that are planted: with some that hang, with some that only take long, with
 some that fail, and with one that runs when a signal comes. The limit for what hangs is two seconds here."""
+import glob
 import os
 import re
 import signal
@@ -12,7 +13,9 @@ from concurrent.futures import ThreadPoolExecutor
 
 HERE = os.path.dirname(os.path.abspath(__file__))
 TOP = os.path.dirname(HERE)
-SIGNALS = (signal.SIGTERM, signal.SIGINT, signal.SIGHUP)
+sys.path.insert(0, f"{TOP}/tools")
+import watched
+
 # the limit; how long parts work or print that only take long; and how long those would sleep that hang
 LIMIT, SECONDS, ASLEEP = 2, 5, 300
 
@@ -56,17 +59,21 @@ import subprocess, sys, tempfile, time
 sys.path.insert(0, {TOP + '/tools'!r})
 import watched
 watched.end_on_signals()
-stays = "import signal, time; signal.signal(signal.SIGTERM, signal.SIG_IGN); time.sleep({ASLEEP})"
+stays = '''
+import signal, sys, time
+signal.signal(signal.SIGTERM, signal.SIG_IGN)
+open(sys.argv[1], 'w').close()
+time.sleep({ASLEEP})
+'''
 with tempfile.TemporaryDirectory() as room:
-    subprocess.Popen([sys.executable, '-c', stays])
-    print('before', flush=True)
+    subprocess.Popen([sys.executable, '-c', stays, room + '/begun'])
     time.sleep({ASLEEP})
 """
 
 
 def heed_signals():
     """Lets signals end this program even where what began it ignores them, as nohup does."""
-    for it in SIGNALS:
+    for it in watched.SIGNALS:
         signal.signal(it, signal.SIG_DFL)
 
 
@@ -85,7 +92,7 @@ def left_of(folder):
     for pid in filter(str.isdigit, os.listdir("/proc")):
         try:
             with open(f"/proc/{pid}/environ", "rb") as it:
-                if f"TMPDIR={folder}/temporary".encode() in it.read().split(b"\0"):
+                if f"TMPDIR={folder}/temporary".encode() in it.read():
                     found.append(f"process {pid}")
         except OSError:
             pass
@@ -115,8 +122,7 @@ def is_ended_by(number):
     """Whether a signal ends the tests with all that they began, and their folders are removed."""
     with tempfile.TemporaryDirectory() as folder:
         driver = begin(folder, KEEPS)
-        log = f"{folder}/planted.log"
-        while driver.poll() is None and not (os.path.isfile(log) and os.path.getsize(log)):
+        while driver.poll() is None and not glob.glob(f"{folder}/temporary/*/*/begun"):
             time.sleep(0.05)
         driver.send_signal(number)
         driver.communicate()
@@ -125,8 +131,9 @@ def is_ended_by(number):
 
 
 def main():
-    with ThreadPoolExecutor(len(PARTS) + len(SIGNALS)) as lanes:
-        handled, ended = lanes.map(is_handled, PARTS), lanes.map(is_ended_by, SIGNALS)
+    watched.end_on_signals()
+    with ThreadPoolExecutor(len(PARTS) + len(watched.SIGNALS)) as lanes:
+        handled, ended = lanes.map(is_handled, PARTS), lanes.map(is_ended_by, watched.SIGNALS)
         results = [*handled, *ended]
     print(f"{sum(results)} passed, {len(results) - sum(results)} failed")
     return 0 if all(results) else 1

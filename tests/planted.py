@@ -7,6 +7,8 @@ import sys
 import tempfile
 
 HERE = os.path.dirname(os.path.abspath(__file__))
+sys.path.insert(0, os.path.join(HERE, os.pardir, "tools"))
+import watched  # noqa: E402
 
 # Writes its input and its first word, keeps a file, makes another, and returns 3.
 PROGRAM = """#!/bin/sh
@@ -96,6 +98,7 @@ def is_told(folder, fault):
 
 
 def main():
+    watched.end_on_signals()
     with tempfile.TemporaryDirectory() as folder:
         results = [said(folder, PROGRAM, CASES) == ("2 passed, 0 failed\n", 0)]
         results += [is_told(folder, fault) for fault in FAULTS]

@@ -65,7 +65,13 @@ class Part:
 
     def run(self, *words, **how):
         """Runs a command, and returns its status and what it printed, errors last."""
-        return watched.run(words, log=self.log, **{"cwd": TOP, **how})
+        try:
+            status, printed = watched.run(words, **{"cwd": TOP, **how})
+        except watched.Hung as hung:
+            self.note(f"{hung.printed}{hung}\n")
+            raise
+        self.note(printed)
+        return status, printed
 
     def counted(self, *words, **how):
         """Runs a command whose last line counts, and returns how many passed and failed, and what it printed."""
@@ -73,7 +79,7 @@ class Part:
 
     def note(self, text):
         with open(self.log, "a", encoding="utf-8") as it:
-            it.write(f"{text}\n")
+            it.write(text)
 
 
 def counted(status, printed, pattern=r"(\d+) passed[,;] (\d+) failed"):
@@ -176,7 +182,7 @@ def built(name):
     try:
         is_new = build(name)
     except unproved.BuildError as error:
-        Part(f"build-{name}").note(error)
+        Part(f"build-{name}").note(f"{error}\n")
         say(f"build {name}: FAILED\n{error}")
         return False
     say(f"build {name}: {time.monotonic() - began:.0f} s{'' if is_new else ', it is current'}")
@@ -185,7 +191,6 @@ def built(name):
 
 def told_as_ended(part, name, hung):
     """Says that a part hung. Returns that none passed and one failed, and what is said of it at the end."""
-    part.note(hung)
     say(f"{hung.printed.rstrip()}\n{name}: {hung}")
     return 0, 1, f"{name}: {hung}; {part.log}"
 
@@ -228,10 +233,14 @@ def main(*names):
     parts = {it: PARTS[it] for it in PARTS if not names or it in names}
     if any(needs for needs, _ in parts.values()):
         kit.need()
-    watched.end_on_signals()
     os.makedirs(BUILT, exist_ok=True)
     os.makedirs(LOGS, exist_ok=True)
-    ran = run_parts(parts)
+    # all temporary files of the parts too, which are killed where they do not end
+    with tempfile.TemporaryDirectory(prefix="odht-test-") as room:
+        watched.end_on_signals()
+        os.chmod(room, 0o755)
+        os.environ["TMPDIR"] = tempfile.tempdir = room
+        ran = run_parts(parts)
     print("".join(f"{told}\n" for _, _, told in ran if told), end="")
     passed, failed = (sum(it[at] for it in ran) for at in (0, 1))
     print(f"{passed} passed, {failed} failed")

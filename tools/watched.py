@@ -114,27 +114,28 @@ def hangs(process, files, limit):
     return False
 
 
-def run(words, limit=LIMIT, log=None, **how):
-    """Runs a command in a session of its own. Returns its status and what it printed, errors last, which are written
-    behind what is in the file `log` too. Raises Hung."""
+def text_of(*files):
+    """Returns what is in files, in their order."""
+    for it in files:
+        it.seek(0)
+    return b"".join(it.read() for it in files).decode(errors="replace")
+
+
+def run(words, limit=LIMIT, **how):
+    """Runs a command in a session of its own. Returns its status and what it printed, errors last. Raises Hung."""
     if leaving.is_set():
         raise Left
-    with open(log, "a+b") if log else tempfile.TemporaryFile("a+b") as output, tempfile.TemporaryFile("a+b") as errors:
-        start = output.seek(0, os.SEEK_END)
+    with tempfile.TemporaryFile() as output, tempfile.TemporaryFile() as errors:
+        how = {"stdin": subprocess.DEVNULL, "stdout": output, "stderr": errors, "start_new_session": True, **how}
         try:
-            process = subprocess.Popen(
-                words, stdin=subprocess.DEVNULL, stdout=output, stderr=errors, start_new_session=True, **how)
+            process = subprocess.Popen(words, **how)
         except OSError as error:
-            output.write(f"{error}\n".encode())
             return 1, str(error)
         try:
             is_hung = hangs(process, (output, errors), limit)
         finally:
             end(process)
-        errors.seek(0)
-        output.write(errors.read())
-        output.seek(start)
-        printed = output.read().decode(errors="replace")
+        printed = text_of(output, errors)
     if is_hung:
         raise Hung(limit, printed)
     return process.returncode, printed
