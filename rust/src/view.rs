@@ -31,10 +31,10 @@ mod writing;
 /// table.insert(&1, &2);
 /// let stored = table.raw_bytes().to_vec();
 ///
-/// let view = HashTable::<U64ToU32, _>::from_raw_bytes(&stored[..])?;
+/// let view = HashTable::<U64ToU32, _>::try_from_raw_bytes(&stored[..])?;
 /// assert_eq!(view.get(&1), Some(2));
 /// assert_eq!(view.get(&3), None);
-/// # Ok::<(), Box<dyn std::error::Error>>(())
+/// # Ok::<(), odht::Error>(())
 /// ```
 ///
 /// # Panics
@@ -48,12 +48,9 @@ pub struct HashTable<C: Config, D: Borrow<[u8]>> {
 }
 
 impl<C: Config, D: Borrow<[u8]>> HashTable<C, D> {
-    /// Opens bytes as a table: the header, the length and the first ten slots are checked, in constant time. The error
-    /// is an [`Error`], which `downcast_ref` gives back; [`try_from_raw_bytes`](HashTable::try_from_raw_bytes) returns
-    /// it as it is.
-    ///
-    /// A view of bytes that are accepted and are not those of a table does no harm: each call returns, reads nothing
-    /// else, and gives only pairs that are stored. [`check_all`](HashTable::check_all) tells whether all of them are.
+    /// [`try_from_raw_bytes`](HashTable::try_from_raw_bytes), with the [`Error`] in a box, as the original returns it:
+    /// code that is written for that compiles. `?` does not turn this box into one of an error that goes to other
+    /// threads, so new code takes the other call. `downcast_ref` gives the [`Error`] back.
     ///
     /// ```
     /// use odht::{configs::U64ToU32, HashTable};
@@ -69,7 +66,10 @@ impl<C: Config, D: Borrow<[u8]>> HashTable<C, D> {
         Ok(Self::try_from_raw_bytes(data)?)
     }
 
-    /// [`from_raw_bytes`](HashTable::from_raw_bytes), with the error as it is.
+    /// Opens bytes as a table: the header, the length and the first ten slots are checked, in constant time.
+    ///
+    /// A view of bytes that are accepted and are not those of a table does no harm: each call returns, reads nothing
+    /// else, and gives only pairs that are stored. [`check_all`](HashTable::check_all) tells whether all of them are.
     ///
     /// ```
     /// use odht::{configs::U64ToU32, Error, HashTable};
@@ -91,8 +91,8 @@ impl<C: Config, D: Borrow<[u8]>> HashTable<C, D> {
         Ok(HashTable { data, opened, config: PhantomData })
     }
 
-    /// Opens bytes as [`from_raw_bytes`](HashTable::from_raw_bytes) does, which takes constant time too, but looks at
-    /// their length and slot count alone.
+    /// Opens bytes as [`try_from_raw_bytes`](HashTable::try_from_raw_bytes) does, in constant time too, but looks at their
+    /// length and slot count alone.
     ///
     /// ```
     /// # use odht::{configs::U64ToU32, HashTable, HashTableOwned};
@@ -141,9 +141,9 @@ impl<C: Config, D: Borrow<[u8]>> HashTable<C, D> {
     /// # use odht::{configs::U64ToU32, HashTable, HashTableOwned};
     /// # let mut table = HashTableOwned::<U64ToU32>::default();
     /// # table.insert(&1, &2);
-    /// let view = HashTable::<U64ToU32, _>::from_raw_bytes(table.raw_bytes())?;
+    /// let view = HashTable::<U64ToU32, _>::try_from_raw_bytes(table.raw_bytes())?;
     /// assert_eq!(view.get(&1), Some(2));
-    /// # Ok::<(), Box<dyn std::error::Error>>(())
+    /// # Ok::<(), odht::Error>(())
     /// ```
     #[inline]
     pub fn get(&self, key: &C::Key) -> Option<C::Value> {
@@ -157,11 +157,11 @@ impl<C: Config, D: Borrow<[u8]>> HashTable<C, D> {
     /// # use odht::{configs::U64ToU32, HashTable, HashTableOwned};
     /// # let mut table = HashTableOwned::<U64ToU32>::default();
     /// # table.insert(&1, &2);
-    /// # let view = HashTable::<U64ToU32, _>::from_raw_bytes(table.raw_bytes())?;
+    /// # let view = HashTable::<U64ToU32, _>::try_from_raw_bytes(table.raw_bytes())?;
     /// let mut values = [None; 2];
     /// view.get_all(&[1, 3], &mut values);
     /// assert_eq!(values, [Some(2), None]);
-    /// # Ok::<(), Box<dyn std::error::Error>>(())
+    /// # Ok::<(), odht::Error>(())
     /// ```
     ///
     /// # Panics
@@ -180,9 +180,9 @@ impl<C: Config, D: Borrow<[u8]>> HashTable<C, D> {
     /// # use odht::{configs::U64ToU32, HashTable, HashTableOwned};
     /// # let mut table = HashTableOwned::<U64ToU32>::default();
     /// # table.insert(&1, &2);
-    /// # let view = HashTable::<U64ToU32, _>::from_raw_bytes(table.raw_bytes())?;
+    /// # let view = HashTable::<U64ToU32, _>::try_from_raw_bytes(table.raw_bytes())?;
     /// assert_eq!(view.get_counted(&1), (Some(2), 1));
-    /// # Ok::<(), Box<dyn std::error::Error>>(())
+    /// # Ok::<(), odht::Error>(())
     /// ```
     #[inline]
     pub fn get_counted(&self, key: &C::Key) -> (Option<C::Value>, usize) {
@@ -195,9 +195,9 @@ impl<C: Config, D: Borrow<[u8]>> HashTable<C, D> {
     /// # use odht::{configs::U64ToU32, HashTable, HashTableOwned};
     /// # let mut table = HashTableOwned::<U64ToU32>::default();
     /// # table.insert(&1, &2);
-    /// # let view = HashTable::<U64ToU32, _>::from_raw_bytes(table.raw_bytes())?;
+    /// # let view = HashTable::<U64ToU32, _>::try_from_raw_bytes(table.raw_bytes())?;
     /// assert!(view.contains_key(&1) && !view.contains_key(&3));
-    /// # Ok::<(), Box<dyn std::error::Error>>(())
+    /// # Ok::<(), odht::Error>(())
     /// ```
     #[inline]
     pub fn contains_key(&self, key: &C::Key) -> bool {
@@ -210,9 +210,9 @@ impl<C: Config, D: Borrow<[u8]>> HashTable<C, D> {
     /// # use odht::{configs::U64ToU32, HashTable, HashTableOwned};
     /// # let mut table = HashTableOwned::<U64ToU32>::default();
     /// # table.insert(&1, &2);
-    /// # let view = HashTable::<U64ToU32, _>::from_raw_bytes(table.raw_bytes())?;
+    /// # let view = HashTable::<U64ToU32, _>::try_from_raw_bytes(table.raw_bytes())?;
     /// assert_eq!(view.iter().collect::<Vec<_>>(), [(1, 2)]);
-    /// # Ok::<(), Box<dyn std::error::Error>>(())
+    /// # Ok::<(), odht::Error>(())
     /// ```
     #[inline]
     pub fn iter(&self) -> Iter<'_, C> {
@@ -225,7 +225,7 @@ impl<C: Config, D: Borrow<[u8]>> HashTable<C, D> {
     /// ```
     /// # use odht::{configs::U64ToU32, HashTable, HashTableOwned};
     /// # let table = HashTableOwned::<U64ToU32>::from_iterator((0..3).map(|n| (n, 0)), 95);
-    /// # let view = HashTable::<U64ToU32, _>::from_raw_bytes(table.raw_bytes())?;
+    /// # let view = HashTable::<U64ToU32, _>::try_from_raw_bytes(table.raw_bytes())?;
     /// // one pair at a time
     /// let (mut slot, mut keys) = (0, vec![]);
     /// while let Some((found, (key, _))) = view.iter_from(slot).next() {
@@ -233,7 +233,7 @@ impl<C: Config, D: Borrow<[u8]>> HashTable<C, D> {
     ///     slot = found + 1;
     /// }
     /// assert_eq!(keys.len(), 3);
-    /// # Ok::<(), Box<dyn std::error::Error>>(())
+    /// # Ok::<(), odht::Error>(())
     /// ```
     #[inline]
     pub fn iter_from(&self, from: usize) -> Slots<'_, C> {
@@ -246,9 +246,9 @@ impl<C: Config, D: Borrow<[u8]>> HashTable<C, D> {
     /// # use odht::{configs::U64ToU32, HashTable, HashTableOwned};
     /// # let mut table = HashTableOwned::<U64ToU32>::default();
     /// # table.insert(&1, &2);
-    /// # let view = HashTable::<U64ToU32, _>::from_raw_bytes(table.raw_bytes())?;
+    /// # let view = HashTable::<U64ToU32, _>::try_from_raw_bytes(table.raw_bytes())?;
     /// assert_eq!(view.len(), 1);
-    /// # Ok::<(), Box<dyn std::error::Error>>(())
+    /// # Ok::<(), odht::Error>(())
     /// ```
     #[inline]
     pub fn len(&self) -> usize {
@@ -261,9 +261,9 @@ impl<C: Config, D: Borrow<[u8]>> HashTable<C, D> {
     /// # use odht::{configs::U64ToU32, HashTable, HashTableOwned};
     /// # let mut table = HashTableOwned::<U64ToU32>::default();
     /// # table.insert(&1, &2);
-    /// # let view = HashTable::<U64ToU32, _>::from_raw_bytes(table.raw_bytes())?;
+    /// # let view = HashTable::<U64ToU32, _>::try_from_raw_bytes(table.raw_bytes())?;
     /// assert!(!view.is_empty());
-    /// # Ok::<(), Box<dyn std::error::Error>>(())
+    /// # Ok::<(), odht::Error>(())
     /// ```
     #[inline]
     pub fn is_empty(&self) -> bool {
@@ -276,9 +276,9 @@ impl<C: Config, D: Borrow<[u8]>> HashTable<C, D> {
     /// # use odht::{configs::U64ToU32, HashTable, HashTableOwned};
     /// # let mut table = HashTableOwned::<U64ToU32>::default();
     /// # table.insert(&1, &2);
-    /// # let view = HashTable::<U64ToU32, _>::from_raw_bytes(table.raw_bytes())?;
+    /// # let view = HashTable::<U64ToU32, _>::try_from_raw_bytes(table.raw_bytes())?;
     /// assert_eq!(view.check_all(), Ok(()));
-    /// # Ok::<(), Box<dyn std::error::Error>>(())
+    /// # Ok::<(), odht::Error>(())
     /// ```
     ///
     /// # Errors
@@ -294,9 +294,9 @@ impl<C: Config, D: Borrow<[u8]>> HashTable<C, D> {
     /// # use odht::{configs::U64ToU32, HashTable, HashTableOwned};
     /// # let mut table = HashTableOwned::<U64ToU32>::default();
     /// # table.insert(&1, &2);
-    /// # let view = HashTable::<U64ToU32, _>::from_raw_bytes(table.raw_bytes())?;
+    /// # let view = HashTable::<U64ToU32, _>::try_from_raw_bytes(table.raw_bytes())?;
     /// assert!(view.verify());
-    /// # Ok::<(), Box<dyn std::error::Error>>(())
+    /// # Ok::<(), odht::Error>(())
     /// ```
     pub fn verify(&self) -> bool {
         self.view().verify()
@@ -309,9 +309,9 @@ impl<C: Config, D: Borrow<[u8]>> HashTable<C, D> {
     /// # use odht::{configs::U64ToU32, HashTable, HashTableOwned, DEFAULT_GROUPS};
     /// # let mut table = HashTableOwned::<U64ToU32>::default();
     /// # table.insert(&1, &2);
-    /// # let view = HashTable::<U64ToU32, _>::from_raw_bytes(table.raw_bytes())?;
+    /// # let view = HashTable::<U64ToU32, _>::try_from_raw_bytes(table.raw_bytes())?;
     /// assert!(view.verify_within(DEFAULT_GROUPS));
-    /// # Ok::<(), Box<dyn std::error::Error>>(())
+    /// # Ok::<(), odht::Error>(())
     /// ```
     pub fn verify_within(&self, groups: usize) -> bool {
         self.view().verify_within(groups)
@@ -323,9 +323,9 @@ impl<C: Config, D: Borrow<[u8]>> HashTable<C, D> {
     /// # use odht::{configs::U64ToU32, HashTable, HashTableOwned};
     /// # let mut table = HashTableOwned::<U64ToU32>::default();
     /// # table.insert(&1, &2);
-    /// # let view = HashTable::<U64ToU32, _>::from_raw_bytes(table.raw_bytes())?;
+    /// # let view = HashTable::<U64ToU32, _>::try_from_raw_bytes(table.raw_bytes())?;
     /// assert!(view.searches_within(1));
-    /// # Ok::<(), Box<dyn std::error::Error>>(())
+    /// # Ok::<(), odht::Error>(())
     /// ```
     pub fn searches_within(&self, groups: usize) -> bool {
         self.view().searches_within(groups)
@@ -337,9 +337,9 @@ impl<C: Config, D: Borrow<[u8]>> HashTable<C, D> {
     /// # use odht::{configs::U64ToU32, HashTable, HashTableOwned};
     /// # let mut table = HashTableOwned::<U64ToU32>::default();
     /// # table.insert(&1, &2);
-    /// # let view = HashTable::<U64ToU32, _>::from_raw_bytes(table.raw_bytes())?;
+    /// # let view = HashTable::<U64ToU32, _>::try_from_raw_bytes(table.raw_bytes())?;
     /// assert_eq!(view.raw_bytes(), table.raw_bytes());
-    /// # Ok::<(), Box<dyn std::error::Error>>(())
+    /// # Ok::<(), odht::Error>(())
     /// ```
     #[inline]
     pub fn raw_bytes(&self) -> &[u8] {
@@ -352,10 +352,10 @@ impl<C: Config, D: Borrow<[u8]>> HashTable<C, D> {
     /// # use odht::{configs::U64ToU32, HashTable, HashTableOwned};
     /// # let mut table = HashTableOwned::<U64ToU32>::default();
     /// # table.insert(&1, &2);
-    /// # let view = HashTable::<U64ToU32, _>::from_raw_bytes(table.raw_bytes())?;
+    /// # let view = HashTable::<U64ToU32, _>::try_from_raw_bytes(table.raw_bytes())?;
     /// let bytes: &[u8] = view.into_data();
     /// assert_eq!(bytes, table.raw_bytes());
-    /// # Ok::<(), Box<dyn std::error::Error>>(())
+    /// # Ok::<(), odht::Error>(())
     /// ```
     #[inline]
     pub fn into_data(self) -> D {

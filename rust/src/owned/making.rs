@@ -105,8 +105,9 @@ impl<C: Config> HashTableOwned<C> {
             .map(HashTableOwned)
     }
 
-    /// A copy of the bytes, after all of them were checked: what [`check_all`](crate::check_all) rejects is not copied.
-    /// The check costs what that call does. The error is an [`Error`].
+    /// [`try_from_raw_bytes`](HashTableOwned::try_from_raw_bytes), with the [`Error`] in a box, as the original returns
+    /// it: code that is written for that compiles. `?` does not turn this box into one of an error that goes to other
+    /// threads, so new code takes the other call.
     ///
     /// ```
     /// use odht::{configs::U64ToU32, HashTableOwned};
@@ -120,12 +121,13 @@ impl<C: Config> HashTableOwned<C> {
     ///
     /// # Errors
     ///
-    /// The first that [`check_all`](crate::check_all) finds, else [`Error::Memory`] where memory is refused.
+    /// As [`try_from_raw_bytes`](HashTableOwned::try_from_raw_bytes).
     pub fn from_raw_bytes(data: &[u8]) -> Result<Self, Box<dyn AnyError>> {
         Ok(Self::try_from_raw_bytes(data)?)
     }
 
-    /// [`from_raw_bytes`](HashTableOwned::from_raw_bytes), with the error as it is.
+    /// A copy of the bytes, after all of them were checked: what [`check_all`](crate::check_all) rejects is not copied.
+    /// The check costs what that call does.
     ///
     /// ```
     /// use odht::{configs::U64ToU32, Error, HashTableOwned};
@@ -142,8 +144,8 @@ impl<C: Config> HashTableOwned<C> {
         tables::HashTableOwned::from_raw_bytes(Global, data).map(HashTableOwned)
     }
 
-    /// [`try_from_raw_bytes`](HashTableOwned::try_from_raw_bytes) for bytes of strangers: rejected are also bytes in which
-    /// a search may read more than `groups` groups of sixteen control bytes, as by
+    /// [`try_from_raw_bytes`](HashTableOwned::try_from_raw_bytes) for bytes of strangers: rejected are also bytes in
+    /// which a search may read more than `groups` groups of sixteen control bytes, as by
     /// [`check_all_within`](crate::check_all_within).
     ///
     /// ```
