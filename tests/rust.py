@@ -103,6 +103,7 @@ FAULTS = [
     ("src/proved/raw/raw_table/insert.rs", "room == 0", "room == 1"),
     ("src/proved/tables/growth.rs", "'_", "'static"),
     ("src/proved/header/error.rs", "Table is full", "The table is full"),
+    ("src/proved/header/error.rs", "pub enum Part", "#[non_exhaustive] pub enum Part"),
     ("c/src/erased/calls/walk.rs", "*cursor = slot;", ""),
     ("c/src/erased/exports/version.rs", "400", "401"),
     ("c/src/erased/exports/shapes/u64_u32.rs", "lists::list(keys, keys_len)", "lists::list(keys, values_len)"),

@@ -37,7 +37,7 @@ mod proved {
 }
 
 pub use config::{ByteArray, Config, HashFn};
-pub use iter::{Iter, Slots};
+pub use iter::{IntoIter, Iter, Keys, Slots, Values};
 pub use owned::HashTableOwned;
 pub use proved::base::hash::{FxHashFn, UnHashFn};
 pub use proved::header::error::{Error, Part};

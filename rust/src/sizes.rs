@@ -21,8 +21,12 @@ use std::alloc::{handle_alloc_error, Layout};
 ///
 /// [`HashTable::try_init_in_place`]: crate::HashTable::try_init_in_place
 #[track_caller]
+#[must_use]
 pub fn bytes_needed<C: Config>(max_item_count: usize, max_load_factor_percent: u8) -> usize {
-    try_bytes_needed::<C>(max_item_count, max_load_factor_percent).unwrap_or_else(|e| refused(e, 0))
+    match try_bytes_needed::<C>(max_item_count, max_load_factor_percent) {
+        Ok(len) => len,
+        Err(e) => refused(e, 0),
+    }
 }
 
 /// [`bytes_needed`], with an error in place of the second panic.

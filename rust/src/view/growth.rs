@@ -16,6 +16,7 @@ impl<C: Config, D: Borrow<[u8]>> HashTable<C, D> {
     /// assert_eq!(view.grown_len(), Some(256)); // sixteen slots are enough for two items
     /// # Ok::<(), odht::Error>(())
     /// ```
+    #[must_use]
     pub fn grown_len(&self) -> Option<usize> {
         self.view().grown_len()
     }

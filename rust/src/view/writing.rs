@@ -109,7 +109,10 @@ impl<C: Config, D: Borrow<[u8]> + BorrowMut<[u8]>> HashTable<C, D> {
     #[inline]
     #[track_caller]
     pub fn insert(&mut self, key: &C::Key, value: &C::Value) -> Option<C::Value> {
-        self.try_insert(key, value).unwrap_or_else(|e| refused(e, 0))
+        match self.try_insert(key, value) {
+            Ok(former) => former,
+            Err(e) => refused(e, 0),
+        }
     }
 
     /// [`insert`](HashTable::insert), with an error in place of the panic.
@@ -159,7 +162,9 @@ impl<C: Config, D: Borrow<[u8]> + BorrowMut<[u8]>> HashTable<C, D> {
     /// Where the table is at its maximum and the next key is new. The items before it are inserted then.
     #[track_caller]
     pub fn insert_all(&mut self, items: &[(C::Key, C::Value)]) {
-        self.try_insert_all(items).1.unwrap_or_else(|e| refused(e, 0));
+        if let (_, Err(e)) = self.try_insert_all(items) {
+            refused(e, 0)
+        }
     }
 
     /// [`insert_all`](HashTable::insert_all), which stops at the first item whose insert fails, and returns how many
