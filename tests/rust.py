@@ -8,10 +8,11 @@
     erase      the tests of tools/erase
     crate      those of the crate; `examples`: those of its documentation
     fast       the same with the feature `fast`, which asserts each index there; `no_simd`: some of them with that feature
+    programs   the programs in rust/examples print what they have to, and that of rust/benches runs
     compat     code that is written for odht 0.3.1
     beside     the crate beside the library for C (in ODHT_LIB_DIR) and the Rust crate (in ODHT_RUST), where these are
     lints      no warning of clippy and rustdoc, and the layout of rustfmt
-    package    `cargo package` verifies the crate
+    package    `cargo package` verifies the crate, without a warning; the documents in it are current
     c          libodht of the erased exports has the calls of include/odht.h, and the examples in C go over it
 
 What the machine does not have is left out, with a word. The last line counts.
@@ -148,22 +149,64 @@ def user(folder, *words):
 
 def lints():
     done = 0
-    for folder in ("tools/erase", "rust", "rust/c", "rust/compat", "rust/beside"):
+    embedded = "rust/examples/embedded"
+    for folder in ("tools/erase", "rust", "rust/c", "rust/compat", "rust/beside", embedded):
         run(["cargo", "fmt", "--check"], f"{TOP}/{folder}")
         done += 1
     if not has("cargo", "clippy", "--version"):
         return done
     fast = ["--features", "fast"]
-    for folder, *words in (["tools/erase"], ["rust"], ["rust", *fast], ["rust/c"], ["rust/compat"], ["rust/beside"]):
+    users = ["rust/c"], ["rust/compat"], ["rust/beside"], [embedded]
+    for folder, *words in (["tools/erase"], ["rust"], ["rust", *fast], *users):
         cargo(folder, "clippy", "--all-targets", *words, "--", "-D", "warnings")
         done += 1
     cargo("rust", "doc", "--no-deps", RUSTDOCFLAGS="-D warnings")
     return done + 1
 
 
+# what the programs in rust/examples print, worked out by hand
+PROGRAMS = {
+    "file": "the square of 12 is Some(144), of 101 None\nthe square of 101 is Some(10201)\n",
+    # 2 * (0 + .. + 99999)
+    "threads": "the values add up to 9999900000\nanother thread found Some(42), and this one Some(8)\n",
+    "names": """main is at 0x2000
+alloc::vec::Vec<T,A>::push is at 0x1040
+alloc::vec::Vec<T,A>::pop is not there
+alloc::vec::Vec<T,A>::push, core::iter::traits::iterator::Iterator::next, main
+""",
+    # a table of sixteen slots for keys of 8 bytes and values of 4 has 256
+    "appended": """25 of 289 bytes are others
+main is at Some(5), exit at None
+2 items, and 8 bytes behind the table
+without a table: true
+""",
+    "embedded": "is: Some(354)\nus: Some(1)\nxx: None\n",
+}
+
+
+def programs():
+    names = {it.removesuffix(".rs") for it in os.listdir(f"{TOP}/rust/examples")} - {"README.md"}
+    if names != PROGRAMS.keys():
+        raise Failed(f"in rust/examples: {sorted(names)}, and here {sorted(PROGRAMS)}")
+    for name, wanted in PROGRAMS.items():
+        words, folder = (["--example", name], "rust") if name != "embedded" else ([], "rust/examples/embedded")
+        files = {} if folder == "rust" else {"CARGO_TARGET_DIR": f"{CARGO_FILES}-{name}"}
+        printed = run(["cargo", "run", "--quiet", "--offline", *words], f"{TOP}/{folder}", **files)
+        if printed != wanted:
+            raise Failed(f"{name} printed\n{printed}and not\n{wanted}")
+    timed = run(["cargo", "test", "--quiet", "--offline", "--bench", "tables", "--", "50"], f"{TOP}/rust")
+    if len(re.findall(r"^\S.* +\d+\.\d\d$", timed, re.M)) != 8:
+        raise Failed(f"not the lines of eight jobs:\n{timed}")
+    return len(PROGRAMS) + 1
+
+
 def package():
-    cargo("rust", "package", "--allow-dirty")
-    return 1
+    run([sys.executable, "tools/documents.py", "--check"])
+    # no host is known yet that has the repository, which is what this option leaves out
+    printed = run(["cargo", "package", "--offline", "--allow-dirty", "--no-metadata"], f"{TOP}/rust")
+    if "warning" in printed:
+        raise Failed(printed)
+    return 2
 
 
 def declared():
@@ -194,6 +237,7 @@ TESTS = {
     "examples": lambda: cargo("rust", "test", "--doc"),
     "fast": lambda: cargo("rust", "test", "--lib", "--tests", "--features", "fast"),
     "no_simd": lambda: cargo("rust", "test", "--features", "no_simd", *NO_SIMD),
+    "programs": programs,
     "compat": lambda: user("rust/compat"),
     "beside": lambda: user("rust/beside") + user("rust/beside", "--features", "fast"),
     "lints": lints,

@@ -93,8 +93,8 @@ impl<C: Config, D: Borrow<[u8]>> HashTable<C, D> {
         Ok(HashTable::of(data, opened))
     }
 
-    /// Opens bytes as [`try_from_raw_bytes`](HashTable::try_from_raw_bytes) does, in constant time too, but looks at their
-    /// length and slot count alone.
+    /// Opens bytes as [`try_from_raw_bytes`](HashTable::try_from_raw_bytes) does, in constant time too, but looks at
+    /// their length and slot count alone.
     ///
     /// ```
     /// # use odht::{configs::U64ToU32, HashTable, HashTableOwned};

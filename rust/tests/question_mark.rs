@@ -1,5 +1,5 @@
-//! What `?` makes of an error: in functions whose errors go to other threads, or are of a type of their own, as those of
-//! crates for errors are.
+//! What `?` makes of an error: in functions whose errors go to other threads, or are of a type of their own, as those
+//! of crates for errors are.
 
 mod common;
 
