@@ -13,7 +13,8 @@
     beside     the crate beside the library for C (in ODHT_LIB_DIR) and the Rust crate (in ODHT_RUST), where these are
     lints      no warning of clippy and rustdoc, and the layout of rustfmt
     package    `cargo package` verifies the crate, without a warning; the documents in it are current
-    c          libodht of the erased exports has the calls of include/odht.h, and the examples in C go over it
+    c          libodht of the erased exports has the calls of include/odht.h; the examples in C and C++ go over it, and
+               over what `make install` there puts anywhere
 
 What the machine does not have is left out, with a word. The last line counts.
 """
@@ -216,16 +217,18 @@ def declared():
 
 
 def library_for_c():
-    cargo("rust/c", "build", "--release")
     passed = cargo("rust/c", "test", "--lib")
-    libraries = f"{CARGO_FILES}/release"
-    if has("nm", "--version") and has("cc", "--version"):
+    if not has("make", "--version") or not has("cc", "--version"):
+        return passed
+    run(["make", "-s", "-C", "rust/c", "lib"])
+    libraries = f"{CARGO_FILES}/library"
+    if has("nm", "--version"):
         names = set(re.findall(r" T (odht_\w+)", run(["nm", "-D", "--defined-only", f"{libraries}/libodht.so"])))
         if names != declared():
             raise Failed(f"declared and not there, or there and not declared: {sorted(names ^ declared())}")
         passed += 1
-    if has("cc", "--version"):
-        passed += len(re.findall("well", run(["sh", "rust/c/examples.sh", libraries])))
+    for script, folder in (("examples.sh", libraries), ("installed.sh", CARGO_FILES)):
+        passed += len(re.findall("well", run(["sh", f"rust/c/{script}", folder])))
     return passed
 
 
