@@ -12,7 +12,8 @@
     compat     code that is written for odht 0.3.1
     beside     the crate beside the library for C (in ODHT_LIB_DIR) and the Rust crate (in ODHT_RUST), where these are
     lints      no warning of clippy and rustdoc, and the layout of rustfmt
-    package    `cargo package` verifies the crate, without a warning; the documents in it are current
+    package    `cargo package` verifies the crate, without a warning; the documents in it are current, and those of
+               rustdoc are made of what it packed
     c          libodht of the erased exports has the calls of include/odht.h; the examples in C and C++ go over it, and
                over what `make install` there puts anywhere
 
@@ -207,7 +208,14 @@ def package():
     printed = run(["cargo", "package", "--offline", "--allow-dirty", "--no-metadata"], f"{TOP}/rust")
     if "warning" in printed:
         raise Failed(printed)
-    return 2
+    # what was packed has all that its documentation includes
+    version = re.search(r"Verifying odht v(\S+)", printed)
+    if not version:
+        raise Failed(f"nothing was verified\n{printed}")
+    files = {"CARGO_TARGET_DIR": f"{CARGO_FILES}-packed", "RUSTDOCFLAGS": "-D warnings"}
+    folder = f"{CARGO_FILES}/package/odht-{version[1]}"
+    run(["cargo", "doc", "--quiet", "--offline", "--no-deps"], folder, **files)
+    return 3
 
 
 def declared():
