@@ -60,7 +60,11 @@ fn places<C: Config>(bytes: &[u8]) -> (usize, usize) {
 fn occupied_from<C: Config>(bytes: &[u8], from: usize) -> usize {
     let (slots, control) = places::<C>(bytes);
     let own = &bytes[control + from..control + slots];
-    own.iter().filter(|control| !is_empty_or_deleted(**control)).count()
+    // a piece has no more than a byte counts, so that many are added at once
+    let in_piece = |piece: &[u8]| -> u8 {
+        piece.iter().map(|control| u8::from(!is_empty_or_deleted(*control))).sum()
+    };
+    own.chunks(255).map(|piece| usize::from(in_piece(piece))).sum()
 }
 
 /// How many slots of the table of these bytes are occupied. Their header and length fit.
