@@ -10,7 +10,8 @@
 # before it
 # make archive: what `make lib` needs, over the libraries that `make prove` has just proved: `rt lib` would prove them again
 # make exports: include/odht.h and the exports of each shape of tables, of what is written once for all shapes
-# make rust: what is generated of the crate for Rust, rust/src/proved and rust/c/src/erased, of the proved crates
+# make rust: what is generated of the crate for Rust, rust/src/proved and rust/c/src/erased, of the proved crates, and its
+# copies of documents
 # make examples: all examples, compiled against an installed copy and compared with what they must print, and the tests
 # of the calls for C once more
 # make bench: the tables of speeds; QUICK=1 for a short run, ODHT_RUST=folder for the Rust crate beside it, CHECK=1 for
@@ -94,6 +95,7 @@ rust:
 	@find build/erased -name '*.rs' -exec rustfmt --edition 2021 --config-path rust/rustfmt.toml {} +
 	@rm -rf rust/src/proved rust/c/src/erased
 	@cp -R build/erased/. rust/ && rm -rf build/erased
+	@python3 tools/documents.py
 
 LINK_RUST = -L native=build -l static=odht
 

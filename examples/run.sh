@@ -44,6 +44,7 @@ link_flags() {
 sources() {
     case $1 in
     example) echo "c/main.c c/orders.c c/views.c" ;;
+    view) echo "c/view.cpp" ;;
     *) echo "c/$1.c" ;;
     esac
 }
@@ -134,7 +135,7 @@ if has cc; then
     header cc c c99 c11 c17 c2x
 fi
 if has c++; then
-    for program in example null forged sets pages; do try "$program" C++ c++ -std=c++17 -x c++; done
+    for program in example null forged sets pages view; do try "$program" C++ c++ -std=c++17 -x c++; done
     header c++ c++ c++11 c++14 c++17 c++20
 fi
 if has clang; then
@@ -142,7 +143,7 @@ if has clang; then
     header clang c c99 c11 c17 c2x
 fi
 if has clang++; then
-    try null C++ clang++ -std=c++17 -x c++
+    for program in null view; do try "$program" C++ clang++ -std=c++17 -x c++; done
     header clang++ c++ c++11 c++14 c++17 c++20
 fi
 if has cc && has cmake; then try_cmake; fi

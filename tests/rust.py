@@ -8,11 +8,14 @@
     erase      the tests of tools/erase
     crate      those of the crate; `examples`: those of its documentation
     fast       the same with the feature `fast`, which asserts each index there; `no_simd`: some of them with that feature
+    programs   the programs in rust/examples print what they have to, and that of rust/benches runs
     compat     code that is written for odht 0.3.1
     beside     the crate beside the library for C (in ODHT_LIB_DIR) and the Rust crate (in ODHT_RUST), where these are
     lints      no warning of clippy and rustdoc, and the layout of rustfmt
-    package    `cargo package` verifies the crate
-    c          libodht of the erased exports has the calls of include/odht.h, and the examples in C go over it
+    package    `cargo package` verifies the crate, without a warning; the documents in it are current, and those of
+               rustdoc are made of what it packed
+    c          libodht of the erased exports has the calls of include/odht.h; the examples in C and C++ go over it, and
+               over what `make install` there puts anywhere
 
 What the machine does not have is left out, with a word. The last line counts. There is no limit of time: where one
 cargo builds, others wait for it. What hangs is for tests/run.py.
@@ -102,6 +105,7 @@ FAULTS = [
     ("src/proved/raw/raw_table/insert.rs", "room == 0", "room == 1"),
     ("src/proved/tables/growth.rs", "'_", "'static"),
     ("src/proved/header/error.rs", "Table is full", "The table is full"),
+    ("src/proved/header/error.rs", "pub enum Part", "#[non_exhaustive] pub enum Part"),
     ("c/src/erased/calls/walk.rs", "*cursor = slot;", ""),
     ("c/src/erased/exports/version.rs", "400", "401"),
     ("c/src/erased/exports/shapes/u64_u32.rs", "lists::list(keys, keys_len)", "lists::list(keys, values_len)"),
@@ -146,22 +150,71 @@ def user(folder, *words):
 
 def lints():
     done = 0
-    for folder in ("tools/erase", "rust", "rust/c", "rust/compat", "rust/beside"):
+    embedded = "rust/examples/embedded"
+    for folder in ("tools/erase", "rust", "rust/c", "rust/compat", "rust/beside", embedded):
         run(["cargo", "fmt", "--check"], f"{TOP}/{folder}")
         done += 1
     if not has("cargo", "clippy", "--version"):
         return done
     fast = ["--features", "fast"]
-    for folder, *words in (["tools/erase"], ["rust"], ["rust", *fast], ["rust/c"], ["rust/compat"], ["rust/beside"]):
+    users = ["rust/c"], ["rust/compat"], ["rust/beside"], [embedded]
+    for folder, *words in (["tools/erase"], ["rust"], ["rust", *fast], *users):
         cargo(folder, "clippy", "--all-targets", *words, "--", "-D", "warnings")
         done += 1
     cargo("rust", "doc", "--no-deps", RUSTDOCFLAGS="-D warnings")
     return done + 1
 
 
+# what the programs in rust/examples print, worked out by hand
+PROGRAMS = {
+    "file": "the square of 12 is Some(144), of 101 None\nthe square of 101 is Some(10201)\n",
+    # 2 * (0 + .. + 99999)
+    "threads": "the values add up to 9999900000\nanother thread found Some(42), and this one Some(8)\n",
+    "names": """main is at 0x2000
+alloc::vec::Vec<T,A>::push is at 0x1040
+alloc::vec::Vec<T,A>::pop is not there
+alloc::vec::Vec<T,A>::push, core::iter::traits::iterator::Iterator::next, main
+""",
+    # a table of sixteen slots for keys of 8 bytes and values of 4 has 256
+    "appended": """25 of 289 bytes are others
+main is at Some(5), exit at None
+2 items, and 8 bytes behind the table
+without a table: true
+""",
+    "embedded": "is: Some(354)\nus: Some(1)\nxx: None\n",
+}
+
+
+def programs():
+    names = {it.removesuffix(".rs") for it in os.listdir(f"{TOP}/rust/examples")} - {"README.md"}
+    if names != PROGRAMS.keys():
+        raise Failed(f"in rust/examples: {sorted(names)}, and here {sorted(PROGRAMS)}")
+    for name, wanted in PROGRAMS.items():
+        words, folder = (["--example", name], "rust") if name != "embedded" else ([], "rust/examples/embedded")
+        files = {} if folder == "rust" else {"CARGO_TARGET_DIR": f"{CARGO_FILES}-{name}"}
+        printed = run(["cargo", "run", "--quiet", "--offline", *words], f"{TOP}/{folder}", **files)
+        if printed != wanted:
+            raise Failed(f"{name} printed\n{printed}and not\n{wanted}")
+    timed = run(["cargo", "test", "--quiet", "--offline", "--bench", "tables", "--", "50"], f"{TOP}/rust")
+    if len(re.findall(r"^\S.* +\d+\.\d\d$", timed, re.M)) != 8:
+        raise Failed(f"not the lines of eight jobs:\n{timed}")
+    return len(PROGRAMS) + 1
+
+
 def package():
-    cargo("rust", "package", "--allow-dirty")
-    return 1
+    run([sys.executable, "tools/documents.py", "--check"])
+    # no host is known yet that has the repository, which is what this option leaves out
+    printed = run(["cargo", "package", "--offline", "--allow-dirty", "--no-metadata"], f"{TOP}/rust")
+    if "warning" in printed:
+        raise Failed(printed)
+    # what was packed has all that its documentation includes
+    version = re.search(r"Verifying odht v(\S+)", printed)
+    if not version:
+        raise Failed(f"nothing was verified\n{printed}")
+    files = {"CARGO_TARGET_DIR": f"{CARGO_FILES}-packed", "RUSTDOCFLAGS": "-D warnings"}
+    folder = f"{CARGO_FILES}/package/odht-{version[1]}"
+    run(["cargo", "doc", "--quiet", "--offline", "--no-deps"], folder, **files)
+    return 3
 
 
 def declared():
@@ -171,16 +224,18 @@ def declared():
 
 
 def library_for_c():
-    cargo("rust/c", "build", "--release")
     passed = cargo("rust/c", "test", "--lib")
-    libraries = f"{CARGO_FILES}/release"
-    if has("nm", "--version") and has("cc", "--version"):
+    if not has("make", "--version") or not has("cc", "--version"):
+        return passed
+    run(["make", "-s", "-C", "rust/c", "lib"])
+    libraries = f"{CARGO_FILES}/library"
+    if has("nm", "--version"):
         names = set(re.findall(r" T (odht_\w+)", run(["nm", "-D", "--defined-only", f"{libraries}/libodht.so"])))
         if names != declared():
             raise Failed(f"declared and not there, or there and not declared: {sorted(names ^ declared())}")
         passed += 1
-    if has("cc", "--version"):
-        passed += len(re.findall("well", run(["sh", "rust/c/examples.sh", libraries])))
+    for script, folder in (("examples.sh", libraries), ("installed.sh", CARGO_FILES)):
+        passed += len(re.findall("well", run(["sh", f"rust/c/{script}", folder])))
     return passed
 
 
@@ -192,6 +247,7 @@ TESTS = {
     "examples": lambda: cargo("rust", "test", "--doc"),
     "fast": lambda: cargo("rust", "test", "--lib", "--tests", "--features", "fast"),
     "no_simd": lambda: cargo("rust", "test", "--features", "no_simd", *NO_SIMD),
+    "programs": programs,
     "compat": lambda: user("rust/compat"),
     "beside": lambda: user("rust/beside") + user("rust/beside", "--features", "fast"),
     "lints": lints,

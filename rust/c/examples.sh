@@ -1,6 +1,6 @@
 #!/bin/sh
-# examples.sh FOLDER: compiles the examples in C over the libodht.a and the libodht.so of a folder, runs them and compares
-# what they print. One line a program.
+# examples.sh FOLDER: compiles the examples in C over the libodht.a and the libodht.so of a folder, runs them and
+# compares what they print; and that of odht.hpp with each compiler for C++ that is here. One line a program.
 set -eu
 top=$(cd "$(dirname "$0")/../.." && pwd)
 libraries=$(cd "$1" && pwd)
@@ -31,4 +31,16 @@ try example "$top/examples/c/main.c" "$top/examples/c/orders.c" "$top/examples/c
 diff "$top/examples/expected" printed.static
 for program in null forged sets readme; do
     try "$program" "$top/examples/c/$program.c"
+done
+
+# odht.hpp in each version, without exceptions, and where the calls are the symbols themselves
+for compiler in g++ clang++; do
+    command -v "$compiler" > /dev/null 2>&1 || continue
+    for way in -std=c++17 -std=c++20 '-std=c++17 -fno-exceptions' '-std=c++20 -DODHT_PLAIN'; do
+        # shellcheck disable=SC2086
+        "$compiler" $way -O1 -Wall -Wextra -Wpedantic -Werror "-I$top/include" "$top/examples/c/view.cpp" \
+            "$libraries/libodht.a" -o view
+        test "$(./view)" = 'odht.hpp: well' || { ./view >&2; exit 1; }
+    done
+    echo "view by $compiler: well"
 done

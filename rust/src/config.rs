@@ -125,6 +125,7 @@ impl HashFn for hash::UnHashFn {
     ///
     /// Where there are fewer than four.
     #[inline]
+    #[track_caller]
     fn hash(bytes: &[u8]) -> u32 {
         assert!(bytes.len() >= Self::MIN_LEN, "UnHashFn needs four bytes");
         <Self as hash::HashFn>::hash(bytes)
@@ -141,8 +142,16 @@ impl<H: HashFn> hash::HashFn for Hash<H> {
     // What a dump writes is `hash_name`.
     const NAME: &'static str = "";
 
+    // The path of a type as its users write it: both hash functions of the crate are declared in a private module.
     fn hash_name() -> &'static str {
-        std::any::type_name::<H>()
+        let name = std::any::type_name::<H>();
+        if name == std::any::type_name::<hash::FxHashFn>() {
+            return "odht::FxHashFn";
+        }
+        if name == std::any::type_name::<hash::UnHashFn>() {
+            return "odht::UnHashFn";
+        }
+        name
     }
 
     #[inline(always)]

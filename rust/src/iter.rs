@@ -2,84 +2,196 @@
 
 use crate::config::{Config, Proved};
 use crate::proved::raw::memory_layout::{entry_at, Entries, Header, HEADER_SIZE};
-use crate::proved::raw::raw_table::{RawIter, RawSlots};
-use crate::proved::tables;
+use crate::proved::raw::raw_table::{is_empty_or_deleted, Entry, RawSlots};
+use crate::view::HashTable;
+use std::borrow::Borrow;
 use std::fmt;
 use std::iter::FusedIterator;
 
-/// The keys and values of a table, in slot order. Made by `iter` of both tables.
-///
-/// A whole walk reads each control byte once, sixteen at a time.
-pub struct Iter<'a, C: Config>(pub(crate) tables::Iter<'a, Proved<C>>);
+// What a walk has left: the occupied slots from one on.
+struct Walk<'a, C: Config> {
+    left: RawSlots<'a, C::EncodedKey, C::EncodedValue>,
+    bytes: &'a [u8],
+    // the slot behind the last one that was taken
+    from: usize,
+}
 
-/// The slots of a table that hold a pair, from a slot on: the number of each, with its key and value. Made by
-/// `iter_from` of both tables.
-///
-/// Whoever stops at a pair may go on later from the number that came with it.
-pub struct Slots<'a, C: Config>(pub(crate) tables::Slots<'a, Proved<C>>);
+type Stored<C> = Entry<<C as Config>::EncodedKey, <C as Config>::EncodedValue>;
 
-impl<'a, C: Config> Iter<'a, C> {
-    /// The pairs of the table of these bytes, whose header and length fit.
+impl<'a, C: Config> Walk<'a, C> {
+    // The slots from `from` on, of the table of these bytes, whose header and length fit.
     #[inline]
-    pub(crate) fn of(bytes: &'a [u8]) -> Self {
-        let (control, entries) = parts::<C>(bytes);
-        Iter(tables::Iter { raw: RawIter::new(control, entries) })
+    fn of(bytes: &'a [u8], from: usize) -> Self {
+        let (slots, control) = places::<C>(bytes);
+        let entries = Entries::new(&bytes[HEADER_SIZE..control], slots);
+        Walk { left: RawSlots::new(&bytes[control..], entries, from), bytes, from: from.min(slots) }
     }
 
-    /// How many slots of the table of these bytes are occupied. No key and no value is decoded.
-    pub(crate) fn occupied(bytes: &'a [u8]) -> usize {
-        let (control, entries) = parts::<C>(bytes);
-        RawIter::new(control, entries).count()
+    // How many are left.
+    #[inline(always)]
+    fn len(&self) -> usize {
+        occupied_from::<C>(self.bytes, self.from)
+    }
+
+    #[inline(always)]
+    fn next(&mut self) -> Option<(usize, Stored<C>)> {
+        let (slot, (_, entry)) = self.left.next()?;
+        self.from = slot + 1;
+        Some((slot, entry))
     }
 }
 
-impl<'a, C: Config> Slots<'a, C> {
-    /// The pairs in the slots from `from` on, of the table of these bytes, whose header and length fit.
-    #[inline]
-    pub(crate) fn of(bytes: &'a [u8], from: usize) -> Self {
-        let (control, entries) = parts::<C>(bytes);
-        Slots(tables::Slots { raw: RawSlots::new(control, entries, from) })
+impl<C: Config> Clone for Walk<'_, C> {
+    fn clone(&self) -> Self {
+        Walk::of(self.bytes, self.from)
     }
 }
 
-// The control bytes with their mirror, and the entries. The proved library has this of a view that is kept.
+// How many slots there are, and where the control bytes begin.
 #[inline]
-fn parts<C: Config>(bytes: &[u8]) -> (&[u8], Entries<'_, C::EncodedKey, C::EncodedValue>) {
+fn places<C: Config>(bytes: &[u8]) -> (usize, usize) {
     let slots = Header::of(bytes).slot_count();
-    let control = entry_at::<Proved<C>>(slots);
-    (&bytes[control..], Entries::new(&bytes[HEADER_SIZE..control], slots))
+    (slots, entry_at::<Proved<C>>(slots))
 }
 
-impl<C: Config> Iterator for Iter<'_, C> {
+// How many slots from `from` on are occupied. Their own control bytes tell, whatever the header counts. It is given
+// values and no walk, which may then stay in registers.
+#[inline(never)]
+fn occupied_from<C: Config>(bytes: &[u8], from: usize) -> usize {
+    let (slots, control) = places::<C>(bytes);
+    let own = &bytes[control + from..control + slots];
+    // a piece has no more than a byte counts, so that many are added at once
+    let in_piece = |piece: &[u8]| -> u8 {
+        piece.iter().map(|control| u8::from(!is_empty_or_deleted(*control))).sum()
+    };
+    own.chunks(255).map(|piece| usize::from(in_piece(piece))).sum()
+}
+
+/// How many slots of the table of these bytes are occupied. Their header and length fit.
+pub fn occupied<C: Config>(bytes: &[u8]) -> usize {
+    occupied_from::<C>(bytes, 0)
+}
+
+macro_rules! walks {
+    ($( $(#[$doc:meta])* $name:ident, $item:ty, |$slot:pat_param, $entry:pat_param| $made:expr; )*) => { $(
+        $(#[$doc])*
+        ///
+        /// A whole walk reads each control byte once, sixteen at a time. Its length is exact for any bytes, since
+        /// `len` and `size_hint` count the control bytes of the slots that are left; they believe no header.
+        #[must_use = "a walk does nothing until something is taken"]
+        pub struct $name<'a, C: Config>(Walk<'a, C>);
+
+        impl<'a, C: Config> $name<'a, C> {
+            // The walk from a slot on, in the bytes of a table whose header and length fit.
+            #[inline]
+            pub(crate) fn of(bytes: &'a [u8], from: usize) -> Self {
+                $name(Walk::of(bytes, from))
+            }
+        }
+
+        impl<C: Config> Iterator for $name<'_, C> {
+            type Item = $item;
+
+            #[inline(always)]
+            fn next(&mut self) -> Option<Self::Item> {
+                let ($slot, $entry) = self.0.next()?;
+                Some($made)
+            }
+
+            #[inline]
+            fn size_hint(&self) -> (usize, Option<usize>) {
+                let left = self.0.len();
+                (left, Some(left))
+            }
+
+            fn count(self) -> usize {
+                self.0.len()
+            }
+        }
+
+        impl<C: Config> ExactSizeIterator for $name<'_, C> {}
+
+        impl<C: Config> FusedIterator for $name<'_, C> {}
+
+        impl<C: Config> Clone for $name<'_, C> {
+            fn clone(&self) -> Self {
+                $name(self.0.clone())
+            }
+        }
+
+        impl<C: Config> fmt::Debug for $name<'_, C> {
+            fn fmt(&self, f: &mut fmt::Formatter<'_>) -> fmt::Result {
+                f.debug_struct(stringify!($name)).finish_non_exhaustive()
+            }
+        }
+    )* };
+}
+
+walks! {
+    /// The keys and values of a table, in slot order. Made by `iter` of both tables.
+    Iter, (C::Key, C::Value), |_, entry| (C::decode_key(&entry.key), C::decode_value(&entry.value));
+
+    /// The slots of a table that hold a pair, from a slot on: the number of each, with its key and value. Made by
+    /// `iter_from` of both tables.
+    ///
+    /// Whoever stops at a pair may go on later from the number that came with it.
+    Slots, (usize, (C::Key, C::Value)), |slot, entry| {
+        (slot, (C::decode_key(&entry.key), C::decode_value(&entry.value)))
+    };
+
+    /// The keys of a table, in slot order. Made by `keys` of both tables. No value is decoded.
+    Keys, C::Key, |_, entry| C::decode_key(&entry.key);
+
+    /// The values of a table, in slot order. Made by `values` of both tables. No key is decoded.
+    Values, C::Value, |_, entry| C::decode_value(&entry.value);
+}
+
+/// The keys and values of a table that was given up for them, in slot order. Made by `into_iter` of both tables.
+///
+/// Each step looks at the header and at a group of control bytes, so `iter` is faster. Its length is exact, and counted
+/// when it is asked for, as that of [`Iter`].
+#[must_use = "a walk does nothing until something is taken"]
+pub struct IntoIter<C: Config, D: Borrow<[u8]>> {
+    table: HashTable<C, D>,
+    // the slot behind the last one that was taken
+    from: usize,
+}
+
+impl<C: Config, D: Borrow<[u8]>> IntoIter<C, D> {
+    pub(crate) fn of(table: HashTable<C, D>) -> Self {
+        IntoIter { table, from: 0 }
+    }
+}
+
+impl<C: Config, D: Borrow<[u8]>> Iterator for IntoIter<C, D> {
     type Item = (C::Key, C::Value);
 
-    #[inline(always)]
     fn next(&mut self) -> Option<(C::Key, C::Value)> {
-        self.0.next()
+        let Some((slot, pair)) = self.table.iter_from(self.from).next() else {
+            self.from = usize::MAX;
+            return None;
+        };
+        self.from = slot + 1;
+        Some(pair)
+    }
+
+    fn size_hint(&self) -> (usize, Option<usize>) {
+        self.table.iter_from(self.from).size_hint()
     }
 }
 
-impl<C: Config> Iterator for Slots<'_, C> {
-    type Item = (usize, (C::Key, C::Value));
+impl<C: Config, D: Borrow<[u8]>> ExactSizeIterator for IntoIter<C, D> {}
 
-    #[inline(always)]
-    fn next(&mut self) -> Option<(usize, (C::Key, C::Value))> {
-        self.0.next()
+impl<C: Config, D: Borrow<[u8]>> FusedIterator for IntoIter<C, D> {}
+
+impl<C: Config, D: Borrow<[u8]> + Clone> Clone for IntoIter<C, D> {
+    fn clone(&self) -> Self {
+        IntoIter { table: self.table.clone(), from: self.from }
     }
 }
 
-impl<C: Config> FusedIterator for Iter<'_, C> {}
-
-impl<C: Config> FusedIterator for Slots<'_, C> {}
-
-impl<C: Config> fmt::Debug for Iter<'_, C> {
+impl<C: Config, D: Borrow<[u8]>> fmt::Debug for IntoIter<C, D> {
     fn fmt(&self, f: &mut fmt::Formatter<'_>) -> fmt::Result {
-        f.debug_struct("Iter").finish_non_exhaustive()
-    }
-}
-
-impl<C: Config> fmt::Debug for Slots<'_, C> {
-    fn fmt(&self, f: &mut fmt::Formatter<'_>) -> fmt::Result {
-        f.debug_struct("Slots").finish_non_exhaustive()
+        f.debug_struct("IntoIter").finish_non_exhaustive()
     }
 }

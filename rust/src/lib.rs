@@ -1,3 +1,7 @@
+//! [docs/FORMAT.md]: documents::format
+//! [docs/DIFFERENCES.md]: documents::differences
+//! [CHANGELOG.md]: documents::changes
+//! [examples]: documents::examples
 #![doc = include_str!("../README.md")]
 #![deny(unsafe_code, missing_docs)]
 
@@ -6,6 +10,7 @@ mod shim;
 
 mod config;
 pub mod configs;
+mod fixed;
 mod iter;
 mod opened;
 mod owned;
@@ -37,13 +42,31 @@ mod proved {
 }
 
 pub use config::{ByteArray, Config, HashFn};
-pub use iter::{Iter, Slots};
+pub use fixed::Fixed;
+pub use iter::{IntoIter, Iter, Keys, Slots, Values};
 pub use owned::HashTableOwned;
 pub use proved::base::hash::{FxHashFn, UnHashFn};
 pub use proved::header::error::{Error, Part};
 pub use proved::raw::memory_layout::DEFAULT_GROUPS;
 pub use sizes::{bytes_needed, check_all, check_all_within, table_len, try_bytes_needed};
 pub use view::HashTable;
+
+/// The documents of the package, to be read. They have no code.
+#[cfg(all(doc, not(doctest)))]
+#[allow(rustdoc::all)]
+pub mod documents {
+    #[doc = include_str!("../docs/FORMAT.md")]
+    pub mod format {}
+
+    #[doc = include_str!("../docs/DIFFERENCES.md")]
+    pub mod differences {}
+
+    #[doc = include_str!("../CHANGELOG.md")]
+    pub mod changes {}
+
+    #[doc = include_str!("../examples/README.md")]
+    pub mod examples {}
+}
 
 // The proofs are of counts of 64 bits.
 const _: () = assert!(usize::BITS == 64, "odht is for targets whose `usize` has 64 bits");

@@ -5,7 +5,7 @@
 //! kept, and compared at each call.
 
 use crate::config::{Config, Proved};
-use crate::iter::Iter;
+use crate::iter::occupied;
 use crate::proved::header::sizes::len_of_slots;
 use crate::proved::raw::memory_layout::HEADER_SIZE;
 
@@ -27,6 +27,7 @@ impl Opened {
 
     /// Of bytes that nobody has looked at. Panics where their length is not that of the slot count in their header: the
     /// proved library takes no more than this for granted where it looks at memory.
+    #[track_caller]
     pub fn unchecked<C: Config>(bytes: &[u8]) -> Opened {
         let opened = Opened::of(bytes);
         let is_count = opened.slots.is_power_of_two() && opened.slots >= 16;
@@ -68,6 +69,6 @@ fn slots_in(header: &[u8; HEADER_SIZE]) -> u64 {
 
 /// Writes the number of the occupied slots to the header. The header and the length of the bytes fit.
 pub fn count_again<C: Config>(bytes: &mut [u8]) {
-    let count = Iter::<C>::occupied(bytes) as u64;
+    let count = occupied::<C>(bytes) as u64;
     bytes[8..16].copy_from_slice(&count.to_le_bytes());
 }

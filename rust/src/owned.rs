@@ -4,16 +4,18 @@
 //! load factor is a percentage (`percent_of`), and slices are as long as they have to be.
 
 use crate::config::{Config, Proved};
-use crate::iter::{Iter, Slots};
+use crate::iter::{occupied, Iter, Keys, Slots, Values};
+use crate::proved::base::load::max_item_count_for;
 use crate::proved::header::error::Error;
+use crate::proved::raw::memory_layout::Header;
 use crate::proved::tables;
 use crate::shim::Global;
 use crate::sizes::{percent_of, refused};
 use std::error::Error as AnyError;
-use std::fmt;
 
 mod inserts;
 mod making;
+mod traits;
 
 /// A table that owns its bytes, and grows where a new key is inserted at the maximum.
 ///
@@ -40,6 +42,7 @@ impl<C: Config> HashTableOwned<C> {
     /// assert_eq!((table.get(&1), table.get(&3)), (Some(2), None));
     /// ```
     #[inline]
+    #[must_use]
     pub fn get(&self, key: &C::Key) -> Option<C::Value> {
         self.0.get(key)
     }
@@ -60,6 +63,7 @@ impl<C: Config> HashTableOwned<C> {
     ///
     /// Where there are more or fewer values than keys.
     #[inline]
+    #[track_caller]
     pub fn get_all(&self, keys: &[C::Key], values: &mut [Option<C::Value>]) {
         assert_eq!(keys.len(), values.len(), "there is a value for each key");
         self.0.get_all(keys, values);
@@ -75,6 +79,7 @@ impl<C: Config> HashTableOwned<C> {
     /// assert_eq!(table.get_counted(&1), (Some(2), 1));
     /// ```
     #[inline]
+    #[must_use]
     pub fn get_counted(&self, key: &C::Key) -> (Option<C::Value>, usize) {
         self.0.get_counted(key)
     }
@@ -88,6 +93,7 @@ impl<C: Config> HashTableOwned<C> {
     /// assert!(table.contains_key(&1) && !table.contains_key(&3));
     /// ```
     #[inline]
+    #[must_use]
     pub fn contains_key(&self, key: &C::Key) -> bool {
         self.0.contains_key(key)
     }
@@ -102,7 +108,31 @@ impl<C: Config> HashTableOwned<C> {
     /// ```
     #[inline]
     pub fn iter(&self) -> Iter<'_, C> {
-        Iter(self.0.iter())
+        Iter::of(self.raw_bytes(), 0)
+    }
+
+    /// The keys, in slot order. No value is decoded.
+    ///
+    /// ```
+    /// # use odht::{configs::U64ToU32, HashTableOwned};
+    /// let table: HashTableOwned<U64ToU32> = [(1, 2), (3, 4)].into();
+    /// assert_eq!(table.keys().sum::<u64>(), 4);
+    /// ```
+    #[inline]
+    pub fn keys(&self) -> Keys<'_, C> {
+        Keys::of(self.raw_bytes(), 0)
+    }
+
+    /// The values, in slot order. No key is decoded.
+    ///
+    /// ```
+    /// # use odht::{configs::U64ToU32, HashTableOwned};
+    /// let table: HashTableOwned<U64ToU32> = [(1, 2), (3, 4)].into();
+    /// assert_eq!(table.values().max(), Some(4));
+    /// ```
+    #[inline]
+    pub fn values(&self) -> Values<'_, C> {
+        Values::of(self.raw_bytes(), 0)
     }
 
     /// The keys and values in the slots from `from` on, in slot order, each with its slot. There is none where `from`
@@ -130,6 +160,7 @@ impl<C: Config> HashTableOwned<C> {
     /// assert_eq!(table.len(), 1);
     /// ```
     #[inline]
+    #[must_use]
     pub fn len(&self) -> usize {
         self.0.len()
     }
@@ -141,8 +172,23 @@ impl<C: Config> HashTableOwned<C> {
     /// assert!(HashTableOwned::<U64ToU32>::default().is_empty());
     /// ```
     #[inline]
+    #[must_use]
     pub fn is_empty(&self) -> bool {
         self.len() == 0
+    }
+
+    /// How many items the table has at the most before it grows: those that its slots take at its load factor.
+    ///
+    /// ```
+    /// # use odht::{configs::U64ToU32, HashTableOwned};
+    /// // of 16 slots 87 percent are 13
+    /// assert_eq!(HashTableOwned::<U64ToU32>::new().capacity(), 13);
+    /// ```
+    #[inline]
+    #[must_use]
+    pub fn capacity(&self) -> usize {
+        let header = Header::of(self.raw_bytes());
+        max_item_count_for(header.slot_count(), header.max_load_factor())
     }
 
     /// The bytes of the table, which can be stored as they are.
@@ -153,8 +199,24 @@ impl<C: Config> HashTableOwned<C> {
     /// assert_eq!(&table.raw_bytes()[..4], b"ODHT");
     /// ```
     #[inline]
+    #[must_use]
     pub fn raw_bytes(&self) -> &[u8] {
         self.0.raw_bytes()
+    }
+
+    /// The bytes of the table, which is given up for them. They are not copied.
+    ///
+    /// ```
+    /// # use odht::{configs::U64ToU32, HashTable, HashTableOwned};
+    /// let bytes: Vec<u8> = HashTableOwned::<U64ToU32>::from([(1, 2)]).into_raw_bytes();
+    /// let view = HashTable::<U64ToU32, _>::try_from_raw_bytes(bytes)?;
+    /// assert_eq!(view.get(&1), Some(2));
+    /// # Ok::<(), odht::Error>(())
+    /// ```
+    #[inline]
+    #[must_use]
+    pub fn into_raw_bytes(self) -> Vec<u8> {
+        self.0.into_raw_bytes()
     }
 
     /// Whether some list of inserts, growths included, makes this table from an empty one of its load factor. Where one
@@ -184,40 +246,12 @@ impl<C: Config> HashTableOwned<C> {
     ///
     /// Where `out` does not have as many numbers as the table has items; and where the item count is not that of the
     /// occupied slots, which only bytes that were opened unchecked can have.
+    #[track_caller]
+    #[must_use]
     pub fn insert_order(&self, out: &mut [usize]) -> bool {
         assert_eq!(out.len(), self.len(), "`out` has a number for each item");
-        let occupied = Iter::<C>::occupied(self.raw_bytes());
-        assert_eq!(occupied, self.len(), "the item count is that of the occupied slots");
+        let there = occupied::<C>(self.raw_bytes());
+        assert_eq!(there, self.len(), "the item count is that of the occupied slots");
         self.0.insert_order(out)
-    }
-}
-
-impl<C: Config> Default for HashTableOwned<C> {
-    /// An empty table made for twelve items at a load factor of 87 percent, which has sixteen slots.
-    fn default() -> Self {
-        Self::with_capacity(12, 87)
-    }
-}
-
-impl<C: Config> Clone for HashTableOwned<C> {
-    fn clone(&self) -> Self {
-        self.try_clone().unwrap_or_else(|e| refused(e, self.raw_bytes().len()))
-    }
-}
-
-impl<C: Config> fmt::Debug for HashTableOwned<C> {
-    /// The numbers of the header on a line, then each slot on one.
-    fn fmt(&self, f: &mut fmt::Formatter<'_>) -> fmt::Result {
-        self.0.fmt(f)
-    }
-}
-
-impl<'a, C: Config> IntoIterator for &'a HashTableOwned<C> {
-    type Item = (C::Key, C::Value);
-    type IntoIter = Iter<'a, C>;
-
-    #[inline]
-    fn into_iter(self) -> Iter<'a, C> {
-        self.iter()
     }
 }

@@ -5,8 +5,8 @@ use crate::proved::header::error::Error;
 use crate::proved::{raw, tables};
 use std::alloc::{handle_alloc_error, Layout};
 
-/// The length in bytes of a new table for so many items, to be given to [`HashTable::init_in_place`]. The load factor
-/// is in percent of the slots.
+/// The length in bytes of a new table for so many items, to be given to [`HashTable::try_init_in_place`]. The load
+/// factor is in percent of the slots.
 ///
 /// ```
 /// use odht::{bytes_needed, configs::U64ToU32};
@@ -19,10 +19,14 @@ use std::alloc::{handle_alloc_error, Layout};
 ///
 /// Where the percentage is not from 1 to 100, and where no table is large enough.
 ///
-/// [`HashTable::init_in_place`]: crate::HashTable::init_in_place
+/// [`HashTable::try_init_in_place`]: crate::HashTable::try_init_in_place
 #[track_caller]
+#[must_use]
 pub fn bytes_needed<C: Config>(max_item_count: usize, max_load_factor_percent: u8) -> usize {
-    try_bytes_needed::<C>(max_item_count, max_load_factor_percent).unwrap_or_else(|e| refused(e, 0))
+    match try_bytes_needed::<C>(max_item_count, max_load_factor_percent) {
+        Ok(len) => len,
+        Err(e) => refused(e, 0),
+    }
 }
 
 /// [`bytes_needed`], with an error in place of the second panic.

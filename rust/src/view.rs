@@ -4,18 +4,20 @@
 //! opened (`Opened::check`), a load factor is a percentage (`percent_of`), and slices are as long as one another.
 
 use crate::config::{Config, Proved};
-use crate::iter::{Iter, Slots};
 use crate::opened::Opened;
 use crate::proved::base::bytes::Borrowed;
+use crate::proved::base::load::max_item_count_for;
 use crate::proved::header::error::Error;
+use crate::proved::raw::memory_layout::Header;
 use crate::proved::tables;
 use std::borrow::Borrow;
 use std::error::Error as AnyError;
-use std::fmt;
 use std::marker::PhantomData;
 
 mod growth;
 mod prefix;
+mod traits;
+mod walks;
 mod writing;
 
 /// A table in bytes of any kind: a view. It cannot grow; [`grow_into`](HashTable::grow_into) writes the grown table
@@ -31,10 +33,10 @@ mod writing;
 /// table.insert(&1, &2);
 /// let stored = table.raw_bytes().to_vec();
 ///
-/// let view = HashTable::<U64ToU32, _>::from_raw_bytes(&stored[..])?;
+/// let view = HashTable::<U64ToU32, _>::try_from_raw_bytes(&stored[..])?;
 /// assert_eq!(view.get(&1), Some(2));
 /// assert_eq!(view.get(&3), None);
-/// # Ok::<(), Box<dyn std::error::Error>>(())
+/// # Ok::<(), odht::Error>(())
 /// ```
 ///
 /// # Panics
@@ -48,12 +50,9 @@ pub struct HashTable<C: Config, D: Borrow<[u8]>> {
 }
 
 impl<C: Config, D: Borrow<[u8]>> HashTable<C, D> {
-    /// Opens bytes as a table: the header, the length and the first ten slots are checked, in constant time. The error
-    /// is an [`Error`], which `downcast_ref` gives back; [`try_from_raw_bytes`](HashTable::try_from_raw_bytes) returns
-    /// it as it is.
-    ///
-    /// A view of bytes that are accepted and are not those of a table does no harm: each call returns, reads nothing
-    /// else, and gives only pairs that are stored. [`check_all`](HashTable::check_all) tells whether all of them are.
+    /// [`try_from_raw_bytes`](HashTable::try_from_raw_bytes), with the [`Error`] in a box, as the original returns it:
+    /// code that is written for that compiles. `?` does not turn this box into one of an error that goes to other
+    /// threads, so new code takes the other call. `downcast_ref` gives the [`Error`] back.
     ///
     /// ```
     /// use odht::{configs::U64ToU32, HashTable};
@@ -69,7 +68,10 @@ impl<C: Config, D: Borrow<[u8]>> HashTable<C, D> {
         Ok(Self::try_from_raw_bytes(data)?)
     }
 
-    /// [`from_raw_bytes`](HashTable::from_raw_bytes), with the error as it is.
+    /// Opens bytes as a table: the header, the length and the first ten slots are checked, in constant time.
+    ///
+    /// A view of bytes that are accepted and are not those of a table does no harm: each call returns, reads nothing
+    /// else, and gives only pairs that are stored. [`check_all`](HashTable::check_all) tells whether all of them are.
     ///
     /// ```
     /// use odht::{configs::U64ToU32, Error, HashTable};
@@ -88,10 +90,10 @@ impl<C: Config, D: Borrow<[u8]>> HashTable<C, D> {
         let bytes = data.borrow();
         tables::HashTable::<Proved<C>, _>::from_raw_bytes(Borrowed::new(bytes))?;
         let opened = Opened::of(bytes);
-        Ok(HashTable { data, opened, config: PhantomData })
+        Ok(HashTable::of(data, opened))
     }
 
-    /// Opens bytes as [`from_raw_bytes`](HashTable::from_raw_bytes) does, which takes constant time too, but looks at
+    /// Opens bytes as [`try_from_raw_bytes`](HashTable::try_from_raw_bytes) does, in constant time too, but looks at
     /// their length and slot count alone.
     ///
     /// ```
@@ -113,9 +115,16 @@ impl<C: Config, D: Borrow<[u8]>> HashTable<C, D> {
     /// Where the length of the bytes is not that of the slot count in their header.
     #[inline]
     #[allow(unsafe_code)]
+    #[track_caller]
+    #[must_use]
     pub unsafe fn from_raw_bytes_unchecked(data: D) -> Self {
         let () = Proved::<C>::FITS;
         let opened = Opened::unchecked::<C>(data.borrow());
+        HashTable::of(data, opened)
+    }
+
+    /// A view of data that was opened.
+    pub(crate) fn of(data: D, opened: Opened) -> Self {
         HashTable { data, opened, config: PhantomData }
     }
 
@@ -141,11 +150,12 @@ impl<C: Config, D: Borrow<[u8]>> HashTable<C, D> {
     /// # use odht::{configs::U64ToU32, HashTable, HashTableOwned};
     /// # let mut table = HashTableOwned::<U64ToU32>::default();
     /// # table.insert(&1, &2);
-    /// let view = HashTable::<U64ToU32, _>::from_raw_bytes(table.raw_bytes())?;
+    /// let view = HashTable::<U64ToU32, _>::try_from_raw_bytes(table.raw_bytes())?;
     /// assert_eq!(view.get(&1), Some(2));
-    /// # Ok::<(), Box<dyn std::error::Error>>(())
+    /// # Ok::<(), odht::Error>(())
     /// ```
     #[inline]
+    #[must_use]
     pub fn get(&self, key: &C::Key) -> Option<C::Value> {
         self.view().get(key)
     }
@@ -157,17 +167,18 @@ impl<C: Config, D: Borrow<[u8]>> HashTable<C, D> {
     /// # use odht::{configs::U64ToU32, HashTable, HashTableOwned};
     /// # let mut table = HashTableOwned::<U64ToU32>::default();
     /// # table.insert(&1, &2);
-    /// # let view = HashTable::<U64ToU32, _>::from_raw_bytes(table.raw_bytes())?;
+    /// # let view = HashTable::<U64ToU32, _>::try_from_raw_bytes(table.raw_bytes())?;
     /// let mut values = [None; 2];
     /// view.get_all(&[1, 3], &mut values);
     /// assert_eq!(values, [Some(2), None]);
-    /// # Ok::<(), Box<dyn std::error::Error>>(())
+    /// # Ok::<(), odht::Error>(())
     /// ```
     ///
     /// # Panics
     ///
     /// Where there are more or fewer values than keys.
     #[inline]
+    #[track_caller]
     pub fn get_all(&self, keys: &[C::Key], values: &mut [Option<C::Value>]) {
         assert_eq!(keys.len(), values.len(), "there is a value for each key");
         self.view().get_all(keys, values);
@@ -180,11 +191,12 @@ impl<C: Config, D: Borrow<[u8]>> HashTable<C, D> {
     /// # use odht::{configs::U64ToU32, HashTable, HashTableOwned};
     /// # let mut table = HashTableOwned::<U64ToU32>::default();
     /// # table.insert(&1, &2);
-    /// # let view = HashTable::<U64ToU32, _>::from_raw_bytes(table.raw_bytes())?;
+    /// # let view = HashTable::<U64ToU32, _>::try_from_raw_bytes(table.raw_bytes())?;
     /// assert_eq!(view.get_counted(&1), (Some(2), 1));
-    /// # Ok::<(), Box<dyn std::error::Error>>(())
+    /// # Ok::<(), odht::Error>(())
     /// ```
     #[inline]
+    #[must_use]
     pub fn get_counted(&self, key: &C::Key) -> (Option<C::Value>, usize) {
         self.view().get_counted(key)
     }
@@ -195,49 +207,14 @@ impl<C: Config, D: Borrow<[u8]>> HashTable<C, D> {
     /// # use odht::{configs::U64ToU32, HashTable, HashTableOwned};
     /// # let mut table = HashTableOwned::<U64ToU32>::default();
     /// # table.insert(&1, &2);
-    /// # let view = HashTable::<U64ToU32, _>::from_raw_bytes(table.raw_bytes())?;
+    /// # let view = HashTable::<U64ToU32, _>::try_from_raw_bytes(table.raw_bytes())?;
     /// assert!(view.contains_key(&1) && !view.contains_key(&3));
-    /// # Ok::<(), Box<dyn std::error::Error>>(())
+    /// # Ok::<(), odht::Error>(())
     /// ```
     #[inline]
+    #[must_use]
     pub fn contains_key(&self, key: &C::Key) -> bool {
         self.view().contains_key(key)
-    }
-
-    /// The keys and values, in slot order.
-    ///
-    /// ```
-    /// # use odht::{configs::U64ToU32, HashTable, HashTableOwned};
-    /// # let mut table = HashTableOwned::<U64ToU32>::default();
-    /// # table.insert(&1, &2);
-    /// # let view = HashTable::<U64ToU32, _>::from_raw_bytes(table.raw_bytes())?;
-    /// assert_eq!(view.iter().collect::<Vec<_>>(), [(1, 2)]);
-    /// # Ok::<(), Box<dyn std::error::Error>>(())
-    /// ```
-    #[inline]
-    pub fn iter(&self) -> Iter<'_, C> {
-        Iter::of(self.bytes())
-    }
-
-    /// The keys and values in the slots from `from` on, in slot order, each with its slot. There is none where `from`
-    /// is past the last slot.
-    ///
-    /// ```
-    /// # use odht::{configs::U64ToU32, HashTable, HashTableOwned};
-    /// # let table = HashTableOwned::<U64ToU32>::from_iterator((0..3).map(|n| (n, 0)), 95);
-    /// # let view = HashTable::<U64ToU32, _>::from_raw_bytes(table.raw_bytes())?;
-    /// // one pair at a time
-    /// let (mut slot, mut keys) = (0, vec![]);
-    /// while let Some((found, (key, _))) = view.iter_from(slot).next() {
-    ///     keys.push(key);
-    ///     slot = found + 1;
-    /// }
-    /// assert_eq!(keys.len(), 3);
-    /// # Ok::<(), Box<dyn std::error::Error>>(())
-    /// ```
-    #[inline]
-    pub fn iter_from(&self, from: usize) -> Slots<'_, C> {
-        Slots::of(self.bytes(), from)
     }
 
     /// How many items there are, by the header.
@@ -246,11 +223,12 @@ impl<C: Config, D: Borrow<[u8]>> HashTable<C, D> {
     /// # use odht::{configs::U64ToU32, HashTable, HashTableOwned};
     /// # let mut table = HashTableOwned::<U64ToU32>::default();
     /// # table.insert(&1, &2);
-    /// # let view = HashTable::<U64ToU32, _>::from_raw_bytes(table.raw_bytes())?;
+    /// # let view = HashTable::<U64ToU32, _>::try_from_raw_bytes(table.raw_bytes())?;
     /// assert_eq!(view.len(), 1);
-    /// # Ok::<(), Box<dyn std::error::Error>>(())
+    /// # Ok::<(), odht::Error>(())
     /// ```
     #[inline]
+    #[must_use]
     pub fn len(&self) -> usize {
         self.view().len()
     }
@@ -261,13 +239,30 @@ impl<C: Config, D: Borrow<[u8]>> HashTable<C, D> {
     /// # use odht::{configs::U64ToU32, HashTable, HashTableOwned};
     /// # let mut table = HashTableOwned::<U64ToU32>::default();
     /// # table.insert(&1, &2);
-    /// # let view = HashTable::<U64ToU32, _>::from_raw_bytes(table.raw_bytes())?;
+    /// # let view = HashTable::<U64ToU32, _>::try_from_raw_bytes(table.raw_bytes())?;
     /// assert!(!view.is_empty());
-    /// # Ok::<(), Box<dyn std::error::Error>>(())
+    /// # Ok::<(), odht::Error>(())
     /// ```
     #[inline]
+    #[must_use]
     pub fn is_empty(&self) -> bool {
         self.len() == 0
+    }
+
+    /// How many items the table takes at the most: those that its slots take at its load factor, by the header.
+    ///
+    /// ```
+    /// # use odht::{configs::U64ToU32, HashTable, HashTableOwned};
+    /// # let table = HashTableOwned::<U64ToU32>::default();
+    /// # let view = HashTable::<U64ToU32, _>::try_from_raw_bytes(table.raw_bytes())?;
+    /// assert_eq!(view.capacity(), 13); // of 16 slots 87 percent
+    /// # Ok::<(), odht::Error>(())
+    /// ```
+    #[inline]
+    #[must_use]
+    pub fn capacity(&self) -> usize {
+        let header = Header::of(self.bytes());
+        max_item_count_for(header.slot_count(), header.max_load_factor())
     }
 
     /// Checks all of the bytes, as [`check_all`](crate::check_all) does, and costs what that costs.
@@ -276,9 +271,9 @@ impl<C: Config, D: Borrow<[u8]>> HashTable<C, D> {
     /// # use odht::{configs::U64ToU32, HashTable, HashTableOwned};
     /// # let mut table = HashTableOwned::<U64ToU32>::default();
     /// # table.insert(&1, &2);
-    /// # let view = HashTable::<U64ToU32, _>::from_raw_bytes(table.raw_bytes())?;
+    /// # let view = HashTable::<U64ToU32, _>::try_from_raw_bytes(table.raw_bytes())?;
     /// assert_eq!(view.check_all(), Ok(()));
-    /// # Ok::<(), Box<dyn std::error::Error>>(())
+    /// # Ok::<(), odht::Error>(())
     /// ```
     ///
     /// # Errors
@@ -294,10 +289,11 @@ impl<C: Config, D: Borrow<[u8]>> HashTable<C, D> {
     /// # use odht::{configs::U64ToU32, HashTable, HashTableOwned};
     /// # let mut table = HashTableOwned::<U64ToU32>::default();
     /// # table.insert(&1, &2);
-    /// # let view = HashTable::<U64ToU32, _>::from_raw_bytes(table.raw_bytes())?;
+    /// # let view = HashTable::<U64ToU32, _>::try_from_raw_bytes(table.raw_bytes())?;
     /// assert!(view.verify());
-    /// # Ok::<(), Box<dyn std::error::Error>>(())
+    /// # Ok::<(), odht::Error>(())
     /// ```
+    #[must_use]
     pub fn verify(&self) -> bool {
         self.view().verify()
     }
@@ -309,10 +305,11 @@ impl<C: Config, D: Borrow<[u8]>> HashTable<C, D> {
     /// # use odht::{configs::U64ToU32, HashTable, HashTableOwned, DEFAULT_GROUPS};
     /// # let mut table = HashTableOwned::<U64ToU32>::default();
     /// # table.insert(&1, &2);
-    /// # let view = HashTable::<U64ToU32, _>::from_raw_bytes(table.raw_bytes())?;
+    /// # let view = HashTable::<U64ToU32, _>::try_from_raw_bytes(table.raw_bytes())?;
     /// assert!(view.verify_within(DEFAULT_GROUPS));
-    /// # Ok::<(), Box<dyn std::error::Error>>(())
+    /// # Ok::<(), odht::Error>(())
     /// ```
+    #[must_use]
     pub fn verify_within(&self, groups: usize) -> bool {
         self.view().verify_within(groups)
     }
@@ -323,10 +320,11 @@ impl<C: Config, D: Borrow<[u8]>> HashTable<C, D> {
     /// # use odht::{configs::U64ToU32, HashTable, HashTableOwned};
     /// # let mut table = HashTableOwned::<U64ToU32>::default();
     /// # table.insert(&1, &2);
-    /// # let view = HashTable::<U64ToU32, _>::from_raw_bytes(table.raw_bytes())?;
+    /// # let view = HashTable::<U64ToU32, _>::try_from_raw_bytes(table.raw_bytes())?;
     /// assert!(view.searches_within(1));
-    /// # Ok::<(), Box<dyn std::error::Error>>(())
+    /// # Ok::<(), odht::Error>(())
     /// ```
+    #[must_use]
     pub fn searches_within(&self, groups: usize) -> bool {
         self.view().searches_within(groups)
     }
@@ -337,11 +335,12 @@ impl<C: Config, D: Borrow<[u8]>> HashTable<C, D> {
     /// # use odht::{configs::U64ToU32, HashTable, HashTableOwned};
     /// # let mut table = HashTableOwned::<U64ToU32>::default();
     /// # table.insert(&1, &2);
-    /// # let view = HashTable::<U64ToU32, _>::from_raw_bytes(table.raw_bytes())?;
+    /// # let view = HashTable::<U64ToU32, _>::try_from_raw_bytes(table.raw_bytes())?;
     /// assert_eq!(view.raw_bytes(), table.raw_bytes());
-    /// # Ok::<(), Box<dyn std::error::Error>>(())
+    /// # Ok::<(), odht::Error>(())
     /// ```
     #[inline]
+    #[must_use]
     pub fn raw_bytes(&self) -> &[u8] {
         self.data.borrow()
     }
@@ -352,40 +351,14 @@ impl<C: Config, D: Borrow<[u8]>> HashTable<C, D> {
     /// # use odht::{configs::U64ToU32, HashTable, HashTableOwned};
     /// # let mut table = HashTableOwned::<U64ToU32>::default();
     /// # table.insert(&1, &2);
-    /// # let view = HashTable::<U64ToU32, _>::from_raw_bytes(table.raw_bytes())?;
+    /// # let view = HashTable::<U64ToU32, _>::try_from_raw_bytes(table.raw_bytes())?;
     /// let bytes: &[u8] = view.into_data();
     /// assert_eq!(bytes, table.raw_bytes());
-    /// # Ok::<(), Box<dyn std::error::Error>>(())
+    /// # Ok::<(), odht::Error>(())
     /// ```
     #[inline]
+    #[must_use]
     pub fn into_data(self) -> D {
         self.data
-    }
-}
-
-impl<C: Config, D: Borrow<[u8]> + Clone> Clone for HashTable<C, D> {
-    fn clone(&self) -> Self {
-        HashTable { data: self.data.clone(), opened: self.opened, config: PhantomData }
-    }
-}
-
-impl<C: Config, D: Borrow<[u8]> + Copy> Copy for HashTable<C, D> {}
-
-impl<C: Config, D: Borrow<[u8]>> fmt::Debug for HashTable<C, D> {
-    fn fmt(&self, f: &mut fmt::Formatter<'_>) -> fmt::Result {
-        f.debug_struct("HashTable")
-            .field("items", &self.len())
-            .field("slots", &self.opened.slots())
-            .finish_non_exhaustive()
-    }
-}
-
-impl<'a, C: Config, D: Borrow<[u8]>> IntoIterator for &'a HashTable<C, D> {
-    type Item = (C::Key, C::Value);
-    type IntoIter = Iter<'a, C>;
-
-    #[inline]
-    fn into_iter(self) -> Iter<'a, C> {
-        self.iter()
     }
 }

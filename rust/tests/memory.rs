@@ -153,17 +153,25 @@ fn a_list_is_inserted_up_to_the_growth_that_fails() {
 #[test]
 fn the_other_calls_take_no_memory() {
     let (table, mut order, mut values) = (full(), [0; 13], [None; 3]);
+    let last = table.iter().last().unwrap().1;
+    let (given_up, counted) = (full(), full());
     let mut place = vec![0; bytes_needed::<U64ToU32>(20, 87)];
     let (_, made) = granting(0, || {
         assert!(table.insert_order(&mut order) && table.contains_key(&3));
         assert_eq!((table.get(&3), table.get_counted(&99).0), (Some(21), None));
         table.get_all(&[1, 2, 99], &mut values);
         assert_eq!((table.iter().count(), table.iter_from(0).count(), table.len()), (13, 13, 13));
+        assert_eq!(
+            (table.iter().len(), table.keys().len(), table.values().last()),
+            (13, 13, Some(last))
+        );
+        assert_eq!((table.iter().clone().len(), table.capacity()), (13, 13));
         let view = HashTable::<U64ToU32, _>::try_from_raw_bytes(table.raw_bytes()).unwrap();
         assert!(view.verify() && view.check_all().is_ok() && view.contains_key(&3));
         assert_eq!((view.get(&3), view.get_counted(&99).0), (Some(21), None));
         view.get_all(&[1, 2, 99], &mut values);
         assert_eq!((view.iter().count(), view.iter_from(0).count(), view.len()), (13, 13, 13));
+        assert_eq!((view.into_iter().count(), view.keys().count(), view.capacity()), (13, 13, 13));
         assert_eq!(view.grown_len(), Some(place.len()));
         view.grow_into(&mut place);
         assert_eq!(check_all::<U64ToU32>(&place), Ok(()));
@@ -172,14 +180,19 @@ fn the_other_calls_take_no_memory() {
         let mut view = made.unwrap();
         assert_eq!(view.try_insert(&1, &2), Ok(None));
         assert_eq!(view.try_insert_all(&[(1, 3), (2, 4)]), (2, Ok(())));
+        assert_eq!(counted.into_iter().count(), 13);
+        assert_eq!(given_up.into_raw_bytes().len(), 256);
     });
     assert_eq!((made, values), (0, [Some(7), Some(14), None]));
 }
 
 // The plain calls, each in a process of its own, and the bytes of the request that is refused.
-const PLAIN: [(&str, usize, fn()); 6] = [
+const PLAIN: [(&str, usize, fn()); 9] = [
     ("with_capacity", 1712, || drop(granting(0, || Owned::with_capacity(100, 87)))),
     ("default", 256, || drop(granting(0, Owned::default))),
+    ("new", 256, || drop(granting(0, Owned::new))),
+    ("collect", 880, || drop(granting(1, || pairs_of(30).collect::<Owned>()))),
+    ("from", 256, || drop(granting(0, || Owned::from([(1, 2), (3, 4)])))),
     ("from_iterator", 880, || drop(granting(1, || Owned::from_iterator(pairs_of(30), 87)))),
     ("clone", 256, || {
         let table = full();

@@ -1,7 +1,7 @@
-"""What C has of each shape: its exports, the list of their modules, and include/odht.h.
+"""What C and C++ have of each shape: its exports, the list of their modules, include/odht.h, and include/odht.hpp.
 
 The parts are in crates/odht_c/exports: shape.rt.in is the exports of one shape, header_*.h are the header in this order
-of PARTS. A mark @NAME@ in a part is replaced by its text."""
+of PARTS, header.hpp.in is that for C++. A mark @NAME@ in a part is replaced by its text."""
 import shape_list
 
 FOLDERS = ["crates/odht_c/src/shapes"]
@@ -109,6 +109,19 @@ def header(shapes):
     return f"{filled(parts, marks)}\n/* Each shape. */\n{lines}{(EXPORTS / 'header_tail.h').read_text()}"
 
 
+def typed(type_name):
+    """A key or value as C++ names it."""
+    count = shape_list.byte_count(type_name)
+    return f"bytes<{count}>" if is_bytes(type_name) else f"std::uint{8 * count}_t"
+
+
+def header_for_cpp(shapes):
+    """include/odht.hpp."""
+    maps = (f"ODHT_HPP_MAP({it.calls}, {typed(it.key)}, {typed(it.value)})\n" for it in shapes if not it.is_set)
+    sets = (f"ODHT_HPP_SET({it.calls}, {typed(it.key)})\n" for it in shapes if it.is_set)
+    return filled((EXPORTS / "header.hpp.in").read_text(), {"MAPS": "".join(maps), "SETS": "".join(sets)})
+
+
 def files(shapes):
     """The texts of these files by path."""
     with_calls = [shape for shape in shapes if shape.calls]
@@ -116,4 +129,5 @@ def files(shapes):
     texts = {f"{FOLDERS[0]}/{shape.calls}.rt": exports(shape, template) for shape in with_calls}
     texts[f"{FOLDERS[0]}.rt"] = modules(with_calls)
     texts["include/odht.h"] = header(with_calls)
+    texts["include/odht.hpp"] = header_for_cpp(with_calls)
     return texts

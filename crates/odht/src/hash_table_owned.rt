@@ -179,6 +179,16 @@ impl<C: Config> HashTableOwned<C> {
         self.table.raw_bytes()
     }
 
+    /// The bytes themselves, which the table no longer has. They are valid.
+    #[inline]
+    pub fn into_raw_bytes(self) -> Vec<u8>
+        ensures bytes { result.items ≡ self }
+        ensures valid { IsValidBytes ⟦<C as Coded>⟧.coding.format self }
+    {
+        let HashTableOwned { table, alloc: _ } = self;
+        table.into_data().into_vec()
+    }
+
     /// A copy of the bytes, after all of them were checked. The error that [`memory_layout::check_all`] returns comes
     /// before memory is requested; valid bytes are never rejected. The check costs what that call does.
     ///

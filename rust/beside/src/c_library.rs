@@ -221,6 +221,7 @@ pub fn status<T>(result: &Result<T, Error>) -> u32 {
             Error::Memory => 19,
             Error::Capacity => 20,
             Error::SearchTooLong { .. } => 21,
+            other => panic!("{other:?} has no number for C here"),
         },
     }
 }

@@ -24,7 +24,10 @@ impl<C: Config> HashTableOwned<C> {
     #[inline]
     #[track_caller]
     pub fn insert(&mut self, key: &C::Key, value: &C::Value) -> Option<C::Value> {
-        self.try_insert(key, value).unwrap_or_else(|e| self.cannot_grow(e))
+        match self.try_insert(key, value) {
+            Ok(former) => former,
+            Err(e) => self.cannot_grow(e),
+        }
     }
 
     /// [`insert`](HashTableOwned::insert), with an error where memory is refused.
@@ -64,7 +67,9 @@ impl<C: Config> HashTableOwned<C> {
     /// As [`insert`](HashTableOwned::insert).
     #[track_caller]
     pub fn insert_all(&mut self, items: &[(C::Key, C::Value)]) {
-        self.try_insert_all(items).1.unwrap_or_else(|e| self.cannot_grow(e));
+        if let (_, Err(e)) = self.try_insert_all(items) {
+            self.cannot_grow(e)
+        }
     }
 
     /// [`insert_all`](HashTableOwned::insert_all), which stops at the first item whose insert fails, and returns how
@@ -90,7 +95,7 @@ impl<C: Config> HashTableOwned<C> {
     // Ends an insert whose growth failed.
     #[cold]
     #[track_caller]
-    fn cannot_grow<T>(&self, error: Error) -> T {
+    fn cannot_grow(&self, error: Error) -> ! {
         let bytes = Borrowed::new(self.raw_bytes());
         let table = tables::HashTable::<Proved<C>, _>::from_raw_bytes_unchecked(bytes);
         refused(error, table.grown_len().unwrap_or(0))

@@ -5,6 +5,18 @@ use crate::opened::Opened;
 use crate::try_bytes_needed;
 
 impl<C: Config> HashTableOwned<C> {
+    /// An empty table made for twelve items at a load factor of 87 percent, which has sixteen slots.
+    ///
+    /// ```
+    /// use odht::{configs::U64ToU32, HashTableOwned};
+    ///
+    /// assert!(HashTableOwned::<U64ToU32>::new().is_empty());
+    /// ```
+    #[must_use]
+    pub fn new() -> Self {
+        Self::default()
+    }
+
     /// An empty table that takes at least so many items before it grows. The load factor is in percent of the slots.
     ///
     /// ```
@@ -19,11 +31,15 @@ impl<C: Config> HashTableOwned<C> {
     /// Where the percentage is not from 1 to 100, and where no table is large enough. Where memory is refused it ends
     /// as Rust's collections do.
     #[track_caller]
+    #[must_use]
     pub fn with_capacity(max_item_count: usize, max_load_factor_percent: u8) -> Self {
-        Self::try_with_capacity(max_item_count, max_load_factor_percent).unwrap_or_else(|e| {
-            let len = try_bytes_needed::<C>(max_item_count, max_load_factor_percent);
-            refused(e, len.unwrap_or(0))
-        })
+        match Self::try_with_capacity(max_item_count, max_load_factor_percent) {
+            Ok(table) => table,
+            Err(e) => {
+                let len = try_bytes_needed::<C>(max_item_count, max_load_factor_percent);
+                refused(e, len.unwrap_or(0))
+            }
+        }
     }
 
     /// [`with_capacity`](HashTableOwned::with_capacity), with an error where no table is large enough or memory is
@@ -67,6 +83,7 @@ impl<C: Config> HashTableOwned<C> {
     ///
     /// As [`with_capacity`](HashTableOwned::with_capacity).
     #[track_caller]
+    #[must_use]
     pub fn from_iterator<I: IntoIterator<Item = (C::Key, C::Value)>>(
         items: I,
         max_load_factor_percent: u8,
@@ -105,8 +122,9 @@ impl<C: Config> HashTableOwned<C> {
             .map(HashTableOwned)
     }
 
-    /// A copy of the bytes, after all of them were checked: what [`check_all`](crate::check_all) rejects is not copied.
-    /// The check costs what that call does. The error is an [`Error`].
+    /// [`try_from_raw_bytes`](HashTableOwned::try_from_raw_bytes), with the [`Error`] in a box, as the original returns
+    /// it: code that is written for that compiles. `?` does not turn this box into one of an error that goes to other
+    /// threads, so new code takes the other call.
     ///
     /// ```
     /// use odht::{configs::U64ToU32, HashTableOwned};
@@ -120,12 +138,13 @@ impl<C: Config> HashTableOwned<C> {
     ///
     /// # Errors
     ///
-    /// The first that [`check_all`](crate::check_all) finds, else [`Error::Memory`] where memory is refused.
+    /// As [`try_from_raw_bytes`](HashTableOwned::try_from_raw_bytes).
     pub fn from_raw_bytes(data: &[u8]) -> Result<Self, Box<dyn AnyError>> {
         Ok(Self::try_from_raw_bytes(data)?)
     }
 
-    /// [`from_raw_bytes`](HashTableOwned::from_raw_bytes), with the error as it is.
+    /// A copy of the bytes, after all of them were checked: what [`check_all`](crate::check_all) rejects is not copied.
+    /// The check costs what that call does.
     ///
     /// ```
     /// use odht::{configs::U64ToU32, Error, HashTableOwned};
@@ -142,8 +161,8 @@ impl<C: Config> HashTableOwned<C> {
         tables::HashTableOwned::from_raw_bytes(Global, data).map(HashTableOwned)
     }
 
-    /// [`try_from_raw_bytes`](HashTableOwned::try_from_raw_bytes) for bytes of strangers: rejected are also bytes in which
-    /// a search may read more than `groups` groups of sixteen control bytes, as by
+    /// [`try_from_raw_bytes`](HashTableOwned::try_from_raw_bytes) for bytes of strangers: rejected are also bytes in
+    /// which a search may read more than `groups` groups of sixteen control bytes, as by
     /// [`check_all_within`](crate::check_all_within).
     ///
     /// ```
@@ -186,11 +205,15 @@ impl<C: Config> HashTableOwned<C> {
     ///
     /// Where the length of the bytes is not that of the slot count in their header.
     #[allow(unsafe_code)]
+    #[track_caller]
+    #[must_use]
     pub unsafe fn from_raw_bytes_unchecked(data: &[u8]) -> Self {
         let () = Proved::<C>::FITS;
         Opened::unchecked::<C>(data);
-        tables::HashTableOwned::from_raw_bytes_unchecked(Global, data)
-            .map_or_else(|e| refused(e, data.len()), HashTableOwned)
+        match tables::HashTableOwned::from_raw_bytes_unchecked(Global, data) {
+            Ok(table) => HashTableOwned(table),
+            Err(e) => refused(e, data.len()),
+        }
     }
 
     /// A table of the same bytes.

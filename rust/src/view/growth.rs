@@ -12,10 +12,11 @@ impl<C: Config, D: Borrow<[u8]>> HashTable<C, D> {
     /// # use odht::{configs::U64ToU32, HashTable, HashTableOwned};
     /// # let mut table = HashTableOwned::<U64ToU32>::default();
     /// # table.insert(&1, &2);
-    /// # let view = HashTable::<U64ToU32, _>::from_raw_bytes(table.raw_bytes())?;
+    /// # let view = HashTable::<U64ToU32, _>::try_from_raw_bytes(table.raw_bytes())?;
     /// assert_eq!(view.grown_len(), Some(256)); // sixteen slots are enough for two items
-    /// # Ok::<(), Box<dyn std::error::Error>>(())
+    /// # Ok::<(), odht::Error>(())
     /// ```
+    #[must_use]
     pub fn grown_len(&self) -> Option<usize> {
         self.view().grown_len()
     }
@@ -28,14 +29,14 @@ impl<C: Config, D: Borrow<[u8]>> HashTable<C, D> {
     /// ```
     /// # use odht::{configs::U64ToU32, HashTable, HashTableOwned};
     /// # let mut table = HashTableOwned::<U64ToU32>::from_iterator((0..13).map(|n| (n, 0)), 87);
-    /// let view = HashTable::<U64ToU32, _>::from_raw_bytes(table.raw_bytes())?;
-    /// let mut grown = vec![0; view.grown_len().ok_or("too large")?];
+    /// let view = HashTable::<U64ToU32, _>::try_from_raw_bytes(table.raw_bytes())?;
+    /// let mut grown = vec![0; view.grown_len().ok_or(odht::Error::Capacity)?];
     /// view.grow_into(&mut grown);
     ///
-    /// let mut grown = HashTable::<U64ToU32, _>::from_raw_bytes(&mut grown[..])?;
+    /// let mut grown = HashTable::<U64ToU32, _>::try_from_raw_bytes(&mut grown[..])?;
     /// grown.insert(&100, &7);
     /// assert_eq!((grown.len(), grown.get(&12)), (14, Some(0)));
-    /// # Ok::<(), Box<dyn std::error::Error>>(())
+    /// # Ok::<(), odht::Error>(())
     /// ```
     ///
     /// # Panics

@@ -12,9 +12,9 @@ use std::error::Error as AnyError;
 use std::marker::PhantomData;
 
 impl<C: Config, D: Borrow<[u8]> + BorrowMut<[u8]>> HashTable<C, D> {
-    /// Makes an empty table for so many items in `data`, whatever its bytes were. Its length is
-    /// [`bytes_needed`](crate::bytes_needed), and the load factor is in percent of the slots. The error is an
-    /// [`Error`].
+    /// [`try_init_in_place`](HashTable::try_init_in_place), with the [`Error`] in a box, as the original returns it:
+    /// code that is written for that compiles. `?` does not turn this box into one of an error that goes to other
+    /// threads, so new code takes the other call.
     ///
     /// ```
     /// use odht::{bytes_needed, configs::U64ToU32, HashTable};
@@ -22,8 +22,6 @@ impl<C: Config, D: Borrow<[u8]> + BorrowMut<[u8]>> HashTable<C, D> {
     /// let bytes = vec![0; bytes_needed::<U64ToU32>(3, 95)];
     /// let mut table = HashTable::<U64ToU32, _>::init_in_place(bytes, 3, 95)?;
     /// assert_eq!(table.insert(&1, &2), None);
-    /// assert_eq!(table.insert(&1, &5), Some(2));
-    /// let stored: Vec<u8> = table.into_data();
     /// # Ok::<(), Box<dyn std::error::Error>>(())
     /// ```
     ///
@@ -43,13 +41,21 @@ impl<C: Config, D: Borrow<[u8]> + BorrowMut<[u8]>> HashTable<C, D> {
         Ok(Self::try_init_in_place(data, max_item_count, max_load_factor_percent)?)
     }
 
-    /// [`init_in_place`](HashTable::init_in_place), with the error as it is.
+    /// Makes an empty table for so many items in `data`, whatever its bytes were. Its length is
+    /// [`bytes_needed`](crate::bytes_needed), and the load factor is in percent of the slots.
     ///
     /// ```
-    /// use odht::{configs::U64ToU32, Error, HashTable};
+    /// use odht::{bytes_needed, configs::U64ToU32, Error, HashTable};
+    ///
+    /// let bytes = vec![0; bytes_needed::<U64ToU32>(3, 95)];
+    /// let mut table = HashTable::<U64ToU32, _>::try_init_in_place(bytes, 3, 95)?;
+    /// assert_eq!(table.insert(&1, &2), None);
+    /// assert_eq!(table.insert(&1, &5), Some(2));
+    /// let stored: Vec<u8> = table.into_data();
     ///
     /// let error = HashTable::<U64ToU32, _>::try_init_in_place(vec![0; 255], 3, 95).unwrap_err();
     /// assert_eq!(error, Error::InitLength { found: 255, expected: 256 });
+    /// # Ok::<(), Error>(())
     /// ```
     ///
     /// # Errors
@@ -90,10 +96,10 @@ impl<C: Config, D: Borrow<[u8]> + BorrowMut<[u8]>> HashTable<C, D> {
     /// use odht::{bytes_needed, configs::U64ToU32, HashTable};
     ///
     /// let mut bytes = vec![0; bytes_needed::<U64ToU32>(3, 95)];
-    /// let mut table = HashTable::<U64ToU32, _>::init_in_place(&mut bytes[..], 3, 95)?;
+    /// let mut table = HashTable::<U64ToU32, _>::try_init_in_place(&mut bytes[..], 3, 95)?;
     /// assert_eq!(table.insert(&1, &2), None);
     /// assert_eq!(table.insert(&1, &5), Some(2));
-    /// # Ok::<(), Box<dyn std::error::Error>>(())
+    /// # Ok::<(), odht::Error>(())
     /// ```
     ///
     /// # Panics
@@ -103,7 +109,10 @@ impl<C: Config, D: Borrow<[u8]> + BorrowMut<[u8]>> HashTable<C, D> {
     #[inline]
     #[track_caller]
     pub fn insert(&mut self, key: &C::Key, value: &C::Value) -> Option<C::Value> {
-        self.try_insert(key, value).unwrap_or_else(|e| refused(e, 0))
+        match self.try_insert(key, value) {
+            Ok(former) => former,
+            Err(e) => refused(e, 0),
+        }
     }
 
     /// [`insert`](HashTable::insert), with an error in place of the panic.
@@ -112,14 +121,14 @@ impl<C: Config, D: Borrow<[u8]> + BorrowMut<[u8]>> HashTable<C, D> {
     /// use odht::{bytes_needed, configs::U64ToU32, Error, HashTable};
     ///
     /// let bytes = vec![0; bytes_needed::<U64ToU32>(13, 87)];
-    /// let mut table = HashTable::<U64ToU32, _>::init_in_place(bytes, 13, 87)?;
+    /// let mut table = HashTable::<U64ToU32, _>::try_init_in_place(bytes, 13, 87)?;
     /// table.insert(&0, &0);
     /// for key in 1..13 {
     ///     assert_eq!(table.try_insert(&key, &0), Ok(None));
     /// }
     /// assert_eq!(table.try_insert(&13, &0), Err(Error::Full));
     /// assert_eq!(table.try_insert(&12, &5), Ok(Some(0)));
-    /// # Ok::<(), Box<dyn std::error::Error>>(())
+    /// # Ok::<(), odht::Error>(())
     /// ```
     ///
     /// # Errors
@@ -142,10 +151,10 @@ impl<C: Config, D: Borrow<[u8]> + BorrowMut<[u8]>> HashTable<C, D> {
     /// use odht::{bytes_needed, configs::U64ToU32, HashTable};
     ///
     /// let bytes = vec![0; bytes_needed::<U64ToU32>(3, 95)];
-    /// let mut table = HashTable::<U64ToU32, _>::init_in_place(bytes, 3, 95)?;
+    /// let mut table = HashTable::<U64ToU32, _>::try_init_in_place(bytes, 3, 95)?;
     /// table.insert_all(&[(1, 2), (3, 4), (5, 6)]);
     /// assert_eq!(table.len(), 3);
-    /// # Ok::<(), Box<dyn std::error::Error>>(())
+    /// # Ok::<(), odht::Error>(())
     /// ```
     ///
     /// # Panics
@@ -153,7 +162,9 @@ impl<C: Config, D: Borrow<[u8]> + BorrowMut<[u8]>> HashTable<C, D> {
     /// Where the table is at its maximum and the next key is new. The items before it are inserted then.
     #[track_caller]
     pub fn insert_all(&mut self, items: &[(C::Key, C::Value)]) {
-        self.try_insert_all(items).1.unwrap_or_else(|e| refused(e, 0));
+        if let (_, Err(e)) = self.try_insert_all(items) {
+            refused(e, 0)
+        }
     }
 
     /// [`insert_all`](HashTable::insert_all), which stops at the first item whose insert fails, and returns how many
@@ -163,10 +174,10 @@ impl<C: Config, D: Borrow<[u8]> + BorrowMut<[u8]>> HashTable<C, D> {
     /// use odht::{bytes_needed, configs::U64ToU32, Error, HashTable};
     ///
     /// let bytes = vec![0; bytes_needed::<U64ToU32>(13, 87)];
-    /// let mut table = HashTable::<U64ToU32, _>::init_in_place(bytes, 13, 87)?;
+    /// let mut table = HashTable::<U64ToU32, _>::try_init_in_place(bytes, 13, 87)?;
     /// let items: Vec<_> = (0..20).map(|n| (n, 0)).collect();
     /// assert_eq!(table.try_insert_all(&items), (13, Err(Error::Full)));
-    /// # Ok::<(), Box<dyn std::error::Error>>(())
+    /// # Ok::<(), odht::Error>(())
     /// ```
     ///
     /// # Errors

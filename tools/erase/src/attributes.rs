@@ -21,6 +21,19 @@ impl Eraser<'_> {
         Ok(Some(end))
     }
 
+    /// Before an enum of the plan that may get more variants its attribute is written.
+    pub fn open_enum(&mut self, at: usize) -> Done<Option<usize>> {
+        if !self.source.has(at, "pub enum") {
+            return Ok(None);
+        }
+        let it = (self.path, self.source.text(at + 2));
+        if !self.plan.open_enums.contains(&it) {
+            return Ok(None);
+        }
+        self.source.replace(at, at, "#[non_exhaustive]\npub");
+        Ok(Some(at))
+    }
+
     // `# [ derive ( A , B ) ]`: the bracket opens at `open` and ends at `end`.
     fn derive(&mut self, at: usize, open: usize, end: usize) -> Done<()> {
         let is_name = |i: &usize| !self.source.is(*i, ",");

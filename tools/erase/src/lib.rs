@@ -31,6 +31,8 @@ pub struct Plan<'p> {
     pub dropped_modules: &'p [&'p str],
     /// Files, as `CRATE/PATH` without the ending, in which an index is written as `index!` or `index_mut!`.
     pub indexed: &'p [&'p str],
+    /// Enums that may get more variants: the file of each, as in `indexed`, and its name.
+    pub open_enums: &'p [(&'p str, &'p str)],
 }
 
 /// A Rattle crate, and what becomes of it.
@@ -78,7 +80,7 @@ pub fn erase(
 ) -> Result<Erased, String> {
     let source = source::Source::new(source, krate.module)?;
     let is_indexed = plan.indexed.contains(&path);
-    let mut eraser = rules::Eraser { source, plan, krate, declared, is_indexed };
+    let mut eraser = rules::Eraser { source, plan, krate, path, declared, is_indexed };
     eraser.erase()?;
     eraser.check()?;
     Ok(eraser.source.erased())

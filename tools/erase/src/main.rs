@@ -35,6 +35,7 @@ const PLAN: Plan<'static> = Plan {
         "odht_raw/raw_table/walk",
         "odht_raw/writes",
     ],
+    open_enums: &[("odht_header/error", "Error")],
 };
 
 fn main() -> ExitCode {

@@ -17,6 +17,8 @@ pub struct Eraser<'e> {
     pub plan: &'e Plan<'e>,
     /// Its crate.
     pub krate: &'e Crate<'e>,
+    /// Its file, as the plan names it.
+    pub path: &'e str,
     /// The functions of all sources.
     pub declared: &'e BTreeSet<String>,
     /// Whether an index is written as a macro.
@@ -24,10 +26,11 @@ pub struct Eraser<'e> {
 }
 
 impl<'e> Eraser<'e> {
-    const RULES: [Rule<'e>; 17] = [
+    const RULES: [Rule<'e>; 18] = [
         Self::ghost,
         Self::clause,
         Self::attribute,
+        Self::open_enum,
         Self::export,
         Self::index,
         Self::cut,

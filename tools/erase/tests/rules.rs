@@ -54,6 +54,21 @@ fn drop_is_no_bound() {
 }
 
 #[test]
+fn an_enum_of_the_plan_is_open() {
+    let source = "/// Errors.\n#[derive(Clone)]\npub enum Error { A }";
+    let open = "/// Errors. #[derive(Clone)] #[non_exhaustive] pub enum Error { A }";
+    assert_eq!(text("high/error", source).as_deref(), Ok(open));
+    for (path, source) in [
+        ("high/lib", "pub enum Error { A }"),
+        ("high/error", "pub enum Part { A }"),
+        ("high/error", "enum Error { A }"),
+        ("high/error", "pub struct Error;"),
+    ] {
+        assert_eq!(text(path, source).as_deref(), Ok(source));
+    }
+}
+
+#[test]
 fn labels_that_nothing_names_are_dropped() {
     all_leave(&[
         (

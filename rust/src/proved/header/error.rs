@@ -33,6 +33,7 @@ impl fmt::Display for Part {
 /// An error. Lengths and sizes are in bytes, item counts in items, slot counts in slots; a `slot` is the index of a
 /// slot. `found` is what the bytes have, `expected` what they need to have.
 #[derive(Clone, Copy, PartialEq, Eq, Debug)]
+#[non_exhaustive]
 pub enum Error {
     /// There are fewer bytes than the 32 of a header.
     TooShort { found: usize },

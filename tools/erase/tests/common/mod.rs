@@ -9,6 +9,7 @@ pub const PLAN: Plan<'static> = Plan {
     dropped_traits: &["Model", "Coded", "Lossless"],
     dropped_modules: &["high::laws"],
     indexed: &["high/fast"],
+    open_enums: &[("high/error", "Error")],
 };
 
 /// Erases a source of the crate `high`.

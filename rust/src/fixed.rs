@@ -1,0 +1,259 @@
+//! Types of a fixed number of bytes, and configurations of them in a line.
+
+/// A type each of whose values is a fixed number of bytes, as keys and values of a configuration are. [`config!`]
+/// takes any such types.
+///
+/// Numbers are little-endian. An array and a tuple are their members one after the other, without padding. [`fields!`]
+/// makes a struct one; what else is to be a key or a value implements it by hand:
+///
+/// ```
+/// use odht::{Fixed, HashTableOwned};
+///
+/// #[derive(Clone, Copy, PartialEq, Debug)]
+/// enum Kind {
+///     Function,
+///     Data,
+/// }
+///
+/// impl Fixed for Kind {
+///     const LEN: usize = 1;
+///
+///     fn write(&self, to: &mut [u8]) {
+///         to[0] = *self as u8;
+///     }
+///     // any byte is to be read as one, since a table may come from anywhere
+///     fn read(from: &[u8]) -> Self {
+///         [Kind::Function, Kind::Data][usize::from(from[0] & 1)]
+///     }
+/// }
+///
+/// odht::config! { Kinds: u64 => Kind, by Fx }
+///
+/// let kinds = HashTableOwned::<Kinds>::from([(7, Kind::Data)]);
+/// assert_eq!(kinds.get(&7), Some(Kind::Data));
+/// ```
+///
+/// [`config!`]: crate::config!
+/// [`fields!`]: crate::fields!
+pub trait Fixed: Sized {
+    /// How many bytes a value has.
+    const LEN: usize;
+
+    /// Writes the bytes of the value to `to`, which has [`LEN`](Fixed::LEN) bytes.
+    fn write(&self, to: &mut [u8]);
+
+    /// The value of the bytes of `from`, which has [`LEN`](Fixed::LEN) bytes. Any bytes are those of a value.
+    #[must_use]
+    fn read(from: &[u8]) -> Self;
+}
+
+macro_rules! numbers {
+    ($($number:ty)*) => { $(
+        impl Fixed for $number {
+            const LEN: usize = std::mem::size_of::<$number>();
+
+            #[inline(always)]
+            fn write(&self, to: &mut [u8]) {
+                to.copy_from_slice(&self.to_le_bytes());
+            }
+
+            #[inline(always)]
+            fn read(from: &[u8]) -> Self {
+                let mut bytes = [0; Self::LEN];
+                bytes.copy_from_slice(from);
+                Self::from_le_bytes(bytes)
+            }
+        }
+    )* };
+}
+
+numbers!(u8 u16 u32 u64 u128 i8 i16 i32 i64 i128 f32 f64);
+
+impl Fixed for bool {
+    const LEN: usize = 1;
+
+    #[inline(always)]
+    fn write(&self, to: &mut [u8]) {
+        to[0] = u8::from(*self);
+    }
+
+    /// Each byte but 0 is `true`.
+    #[inline(always)]
+    fn read(from: &[u8]) -> Self {
+        from[0] != 0
+    }
+}
+
+impl<T: Fixed, const N: usize> Fixed for [T; N] {
+    const LEN: usize = N * T::LEN;
+
+    #[inline(always)]
+    fn write(&self, to: &mut [u8]) {
+        for (at, member) in self.iter().enumerate() {
+            member.write(&mut to[at * T::LEN..(at + 1) * T::LEN]);
+        }
+    }
+
+    #[inline(always)]
+    fn read(from: &[u8]) -> Self {
+        std::array::from_fn(|at| T::read(&from[at * T::LEN..(at + 1) * T::LEN]))
+    }
+}
+
+macro_rules! tuples {
+    ($(($($member:ident $at:tt),*))*) => { $(
+        impl<$($member: Fixed),*> Fixed for ($($member,)*) {
+            const LEN: usize = 0 $(+ $member::LEN)*;
+
+            #[inline(always)]
+            #[allow(unused_variables, unused_mut, unused_assignments)]
+            fn write(&self, mut to: &mut [u8]) {
+                $(
+                    let (own, rest) = to.split_at_mut($member::LEN);
+                    self.$at.write(own);
+                    to = rest;
+                )*
+            }
+
+            #[inline(always)]
+            #[allow(unused_variables, unused_mut, unused_assignments, clippy::unused_unit)]
+            fn read(mut from: &[u8]) -> Self {
+                ($({
+                    let (own, rest) = from.split_at($member::LEN);
+                    from = rest;
+                    $member::read(own)
+                },)*)
+            }
+        }
+    )* };
+}
+
+tuples! {
+    ()
+    (A 0)
+    (A 0, B 1)
+    (A 0, B 1, C 2)
+    (A 0, B 1, C 2, D 3)
+    (A 0, B 1, C 2, D 3, E 4)
+    (A 0, B 1, C 2, D 3, E 4, F 5)
+}
+
+/// Writes configurations: a name, a key, a value, and by which function keys are hashed. Keys and values are of any
+/// types that are [`Fixed`](crate::Fixed): numbers, arrays and tuples of them, and structs by
+/// [`fields!`](crate::fields!). An encoded key or value has at most 255 bytes.
+///
+/// `by Fx` hashes keys; `by UnHash` takes the last four bytes of a key as its hash, for keys that are hashes already. A
+/// [`HashFn`](crate::HashFn) of your own stands there by its path.
+///
+/// ```
+/// odht::config! { Names: [u8; 32] => u64, by Fx }
+///
+/// odht::config! {
+///     /// From a place in a file to the line and the column of its source.
+///     pub Lines: (u32, u64) => (u32, u16), by Fx;
+///
+///     /// From the hash of a name to where its text begins and ends.
+///     pub Texts: u128 => [u64; 2], by UnHash;
+/// }
+///
+/// let mut lines = odht::HashTableOwned::<Lines>::new();
+/// lines.insert(&(1, 4096), &(20, 7));
+/// assert_eq!(lines.get(&(1, 4096)), Some((20, 7)));
+/// ```
+#[macro_export]
+macro_rules! config {
+    ($(
+        $(#[$attribute:meta])*
+        $public:vis $name:ident : $key:ty => $value:ty, by $($hash:ident)::+
+    );+ $(;)?) => { $(
+        $(#[$attribute])*
+        #[derive(Clone, Copy, PartialEq, Eq, Debug)]
+        $public struct $name;
+
+        impl $crate::Config for $name {
+            type Key = $key;
+            type Value = $value;
+            type EncodedKey = [u8; <$key as $crate::Fixed>::LEN];
+            type EncodedValue = [u8; <$value as $crate::Fixed>::LEN];
+            type H = $crate::__hash_function!($($hash)::+);
+
+            #[inline(always)]
+            fn encode_key(k: &$key) -> Self::EncodedKey {
+                let mut bytes = [0; <$key as $crate::Fixed>::LEN];
+                $crate::Fixed::write(k, &mut bytes);
+                bytes
+            }
+
+            #[inline(always)]
+            fn encode_value(v: &$value) -> Self::EncodedValue {
+                let mut bytes = [0; <$value as $crate::Fixed>::LEN];
+                $crate::Fixed::write(v, &mut bytes);
+                bytes
+            }
+
+            #[inline(always)]
+            fn decode_key(k: &Self::EncodedKey) -> $key {
+                <$key as $crate::Fixed>::read(k)
+            }
+
+            #[inline(always)]
+            fn decode_value(v: &Self::EncodedValue) -> $value {
+                <$value as $crate::Fixed>::read(v)
+            }
+        }
+    )+ };
+}
+
+#[doc(hidden)]
+#[macro_export]
+macro_rules! __hash_function {
+    (Fx) => { $crate::FxHashFn };
+    (UnHash) => { $crate::UnHashFn };
+    ($($other:ident)::+) => { $($other)::+ };
+}
+
+/// Makes a struct [`Fixed`](crate::Fixed): its bytes are those of the fields that are listed, in this order.
+///
+/// ```
+/// #[derive(Clone, PartialEq, Debug)]
+/// struct Span {
+///     offset: u64,
+///     length: u16,
+/// }
+///
+/// odht::fields! { Span { offset: u64, length: u16 } }
+/// odht::config! { Parts: u64 => Span, by Fx }
+///
+/// let parts = odht::HashTableOwned::<Parts>::from([(7, Span { offset: 4096, length: 30 })]);
+/// assert_eq!(parts.get(&7), Some(Span { offset: 4096, length: 30 }));
+/// assert_eq!(parts.raw_bytes()[5..7], [8, 10]); // how many bytes a key has, and a value
+/// ```
+#[macro_export]
+macro_rules! fields {
+    ($name:ident { $($field:ident : $type:ty),+ $(,)? }) => {
+        impl $crate::Fixed for $name {
+            const LEN: usize = 0 $(+ <$type as $crate::Fixed>::LEN)+;
+
+            #[inline(always)]
+            fn write(&self, to: &mut [u8]) {
+                let rest = to;
+                $(
+                    let (own, rest) = rest.split_at_mut(<$type as $crate::Fixed>::LEN);
+                    $crate::Fixed::write(&self.$field, own);
+                )+
+                let _ = rest;
+            }
+
+            #[inline(always)]
+            fn read(from: &[u8]) -> Self {
+                let rest = from;
+                $(
+                    let (own, rest) = rest.split_at(<$type as $crate::Fixed>::LEN);
+                    let $field = <$type as $crate::Fixed>::read(own);
+                )+
+                let _ = rest;
+                $name { $($field),+ }
+            }
+        }
+    };
+}

@@ -1,0 +1,50 @@
+//! The traits of a view.
+
+use super::HashTable;
+use crate::config::Config;
+use crate::iter::{IntoIter, Iter};
+use std::borrow::Borrow;
+use std::fmt;
+
+impl<C: Config, D: Borrow<[u8]> + Clone> Clone for HashTable<C, D> {
+    fn clone(&self) -> Self {
+        HashTable::of(self.data.clone(), self.opened)
+    }
+}
+
+impl<C: Config, D: Borrow<[u8]> + Copy> Copy for HashTable<C, D> {}
+
+impl<C: Config, D: Borrow<[u8]>> fmt::Debug for HashTable<C, D> {
+    fn fmt(&self, f: &mut fmt::Formatter<'_>) -> fmt::Result {
+        f.debug_struct("HashTable")
+            .field("items", &self.len())
+            .field("slots", &self.opened.slots())
+            .finish_non_exhaustive()
+    }
+}
+
+impl<'a, C: Config, D: Borrow<[u8]>> IntoIterator for &'a HashTable<C, D> {
+    type Item = (C::Key, C::Value);
+    type IntoIter = Iter<'a, C>;
+
+    #[inline]
+    fn into_iter(self) -> Iter<'a, C> {
+        self.iter()
+    }
+}
+
+impl<C: Config, D: Borrow<[u8]>> IntoIterator for HashTable<C, D> {
+    type Item = (C::Key, C::Value);
+    type IntoIter = IntoIter<C, D>;
+
+    fn into_iter(self) -> IntoIter<C, D> {
+        IntoIter::of(self)
+    }
+}
+
+impl<C: Config, D: Borrow<[u8]>> AsRef<[u8]> for HashTable<C, D> {
+    /// The bytes of the table.
+    fn as_ref(&self) -> &[u8] {
+        self.raw_bytes()
+    }
+}

@@ -1,0 +1,74 @@
+//! Walks in a view.
+
+use super::HashTable;
+use crate::config::Config;
+use crate::iter::{Iter, Keys, Slots, Values};
+use std::borrow::Borrow;
+
+impl<C: Config, D: Borrow<[u8]>> HashTable<C, D> {
+    /// The keys and values, in slot order.
+    ///
+    /// ```
+    /// # use odht::{configs::U64ToU32, HashTable, HashTableOwned};
+    /// # let mut table = HashTableOwned::<U64ToU32>::default();
+    /// # table.insert(&1, &2);
+    /// # let view = HashTable::<U64ToU32, _>::try_from_raw_bytes(table.raw_bytes())?;
+    /// assert_eq!(view.iter().collect::<Vec<_>>(), [(1, 2)]);
+    /// # Ok::<(), odht::Error>(())
+    /// ```
+    #[inline]
+    pub fn iter(&self) -> Iter<'_, C> {
+        Iter::of(self.bytes(), 0)
+    }
+
+    /// The keys, in slot order. No value is decoded.
+    ///
+    /// ```
+    /// # use odht::{configs::U64ToU32, HashTable, HashTableOwned};
+    /// # let mut table = HashTableOwned::<U64ToU32>::default();
+    /// # table.insert(&1, &2);
+    /// # let view = HashTable::<U64ToU32, _>::try_from_raw_bytes(table.raw_bytes())?;
+    /// assert_eq!(view.keys().collect::<Vec<_>>(), [1]);
+    /// # Ok::<(), odht::Error>(())
+    /// ```
+    #[inline]
+    pub fn keys(&self) -> Keys<'_, C> {
+        Keys::of(self.bytes(), 0)
+    }
+
+    /// The values, in slot order. No key is decoded.
+    ///
+    /// ```
+    /// # use odht::{configs::U64ToU32, HashTable, HashTableOwned};
+    /// # let mut table = HashTableOwned::<U64ToU32>::default();
+    /// # table.insert(&1, &2);
+    /// # let view = HashTable::<U64ToU32, _>::try_from_raw_bytes(table.raw_bytes())?;
+    /// assert_eq!(view.values().collect::<Vec<_>>(), [2]);
+    /// # Ok::<(), odht::Error>(())
+    /// ```
+    #[inline]
+    pub fn values(&self) -> Values<'_, C> {
+        Values::of(self.bytes(), 0)
+    }
+
+    /// The keys and values in the slots from `from` on, in slot order, each with its slot. There is none where `from`
+    /// is past the last slot.
+    ///
+    /// ```
+    /// # use odht::{configs::U64ToU32, HashTable, HashTableOwned};
+    /// # let table = HashTableOwned::<U64ToU32>::from_iterator((0..3).map(|n| (n, 0)), 95);
+    /// # let view = HashTable::<U64ToU32, _>::try_from_raw_bytes(table.raw_bytes())?;
+    /// // one pair at a time
+    /// let (mut slot, mut keys) = (0, vec![]);
+    /// while let Some((found, (key, _))) = view.iter_from(slot).next() {
+    ///     keys.push(key);
+    ///     slot = found + 1;
+    /// }
+    /// assert_eq!(keys.len(), 3);
+    /// # Ok::<(), odht::Error>(())
+    /// ```
+    #[inline]
+    pub fn iter_from(&self, from: usize) -> Slots<'_, C> {
+        Slots::of(self.bytes(), from)
+    }
+}
