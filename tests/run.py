@@ -188,6 +188,8 @@ def ended(part, needs, call):
     passed, failed, printed = call()
     if failed:
         say(printed.rstrip())
+    elif "SKIPPED " in printed:
+        say("\n".join(line for line in printed.splitlines() if line.startswith("SKIPPED ")))
     say(f"{part}: {passed} passed, {failed} failed; {time.monotonic() - began:.0f} s")
     return passed, failed
 
