@@ -96,6 +96,19 @@ class Case:
             reader = readers["before" if kind == "after" else kind.replace("-after", "")]
             self.named[kind][name] = reader(lines)
         self.before, self.after = self.named["before"], self.named["after"]
+        self.check_names()
+
+    def check_names(self):
+        """Rejects what is said of a file that is nowhere else, and a kill that nothing would cause."""
+        made = {name for kind in ("before", "after", "hard", "special") for name in self.named[kind]}
+        for kind in ("mode", "owner", "mode-after", "owner-after"):
+            for name in self.named[kind]:
+                if name not in made:
+                    raise CaseError(f"{self.place}: no file is named {name!r}")
+        if self.parted and self.parted not in self.named["hard"]:
+            raise CaseError(f"{self.place}: {self.parted!r} is no second name")
+        if self.is_killed and self.room is None:
+            raise CaseError(f"{self.place}: nothing kills it without room")
 
     def expanded(self, line):
         """The line with texts in the place of names."""
