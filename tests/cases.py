@@ -4,8 +4,8 @@
     tests/cases.py PROGRAM FOLDER...     all files *.cases in the folders; or such a file itself
 
 README.md beside this file describes the form of cases. A failing case has a line with its place and
-name, and below it what differs. Those that only root can run are skipped where this is another user,
-which a line says. The last line is `N passed, N failed`; the status is 0 only where none failed and
+name, and below it what differs. Those that need the rights of root are skipped where this is another
+user, which a line says. The last line is `N passed, N failed`; the status is 0 only where none failed and
 one passed. A run has 20 seconds, or those that CASE_SECONDS gives."""
 import os
 import shutil
@@ -17,7 +17,7 @@ sys.dont_write_bytecode = True
 
 from case_files import CaseError, read_cases  # noqa: E402
 from case_runs import faults_of  # noqa: E402
-from case_trees import needs_root  # noqa: E402
+from case_trees import is_out_of_reach  # noqa: E402
 
 
 def files_of(places):
@@ -42,10 +42,10 @@ def passes(program, case):
 
 
 def told_skipped(cases):
-    """Prints which cases only root can run, where this is another user, and returns the others."""
-    skipped = [case for case in cases if needs_root(case) and os.geteuid() != 0]
+    """Prints which cases need rights that this user does not have, and returns the others."""
+    skipped = [case for case in cases if is_out_of_reach(case)]
     for (place, name), count in Counter((case.place, case.name) for case in skipped).items():
-        print(f"SKIPPED {place}: {name}: only root can run it, {count} of its rows")
+        print(f"SKIPPED {place}: {name}: {count} of its rows need the rights of root")
     return [case for case in cases if case not in skipped]
 
 

@@ -6,8 +6,12 @@ import subprocess
 import sys
 import tempfile
 
+sys.dont_write_bytecode = True
+
+from case_trees import has_all_rights  # noqa: E402
+
 HERE = os.path.dirname(os.path.abspath(__file__))
-IS_ROOT = os.geteuid() == 0
+IS_ROOT = has_all_rights()
 
 # Writes its input and its first word, keeps a file, makes another, and returns 3. Says where it may write into the
 # folder of all. Replaces a file, by one with fewer rights, where one is there, and gives a file away where one is there.
