@@ -3,16 +3,22 @@ import itertools
 import os
 import re
 
+from case_trees import NAMED_USERS
+
 TOP = os.path.dirname(os.path.dirname(os.path.abspath(__file__)))
 INDENT = "    "
-KEY = re.compile(r"(let \w+|for \w+(?: \| \w+)*|before \S+|after \S+|folder|args|stdin|stdout|"
-                 r"stderr|status|input|output|errors|room|rights):(?: (.*))?")
+KEY = re.compile(r"(let \w+|for \w+(?: \| \w+)*|"
+                 r"(?:before|after|link|hard|special|mode|owner|mode-after|owner-after) \S+|"
+                 r"folder|args|stdin|stdout|stderr|status|input|output|errors|room|rights|user|umask|"
+                 r"parted):(?: (.*))?")
 CHOICES = {
     "input": "each byte alone|fails after [0-9]+ bytes|a folder",
     "output": "full|no reader",
     "errors": "full",
     "rights": "read only",
+    "user": "root|nobody",
 }
+SPECIAL = "FIFO|socket|device"
 NAME = re.compile(r"\\\{(\w+)\}")
 ESCAPE = re.compile(rb"\\(?:x([0-9a-f]{2})|([0-9]+)\{([^{}]*)\}|(.?))", re.DOTALL)
 LETTERS = {b"t": b"\t", b"r": b"\r", b"n": b"\n", b"s": b" "}
@@ -68,16 +74,41 @@ class Case:
         self.has_stdout = "stdout" in fields
         self.stdout = self.text(fields.pop("stdout", []))
         self.stderr = self.text(fields.pop("stderr", []))
-        self.status = self.number(fields.pop("status", ["0"]))
+        self.is_killed = fields.get("status") == ["killed"]
+        self.status = None if self.is_killed else self.number(fields.get("status", ["0"]))
+        fields.pop("status", None)
+        self.umask = self.mode(fields.pop("umask")) if "umask" in fields else None
+        self.parted = self.one_line(fields.pop("parted")) if "parted" in fields else None
         self.room = self.number(fields.pop("room")) if "room" in fields else None
         self.folder = self.one_line(fields.pop("folder")) if "folder" in fields else None
         self.choices = {key: self.choice(key, fields.pop(key, None)) for key in CHOICES}
-        self.before, self.after = {}, {}
-        for key, lines in fields.items():
-            kind, name = key.split(" ")
-            (self.before if kind == "before" else self.after)[name] = self.text(lines).content
+        self.note_files(fields)
         if self.has_stdout and self.choices["output"]:
             raise CaseError(f"{self.place}: nobody can compare this output")
+
+    def note_files(self, fields):
+        """Notes what is said of files, of each kind by their names."""
+        readers = {"before": lambda lines: self.text(lines).content, "link": self.one_line,
+                   "hard": self.one_line, "special": self.special, "mode": self.mode, "owner": self.owner}
+        self.named = {kind: {} for kind in [*readers, "after", "mode-after", "owner-after"]}
+        for key, lines in fields.items():
+            kind, name = key.split(" ")
+            reader = readers["before" if kind == "after" else kind.replace("-after", "")]
+            self.named[kind][name] = reader(lines)
+        self.before, self.after = self.named["before"], self.named["after"]
+        self.check_names()
+
+    def check_names(self):
+        """Rejects what is said of a file that is nowhere else, and a kill that nothing would cause."""
+        made = {name for kind in ("before", "after", "hard", "special") for name in self.named[kind]}
+        for kind in ("mode", "owner", "mode-after", "owner-after"):
+            for name in self.named[kind]:
+                if name not in made:
+                    raise CaseError(f"{self.place}: no file is named {name!r}")
+        if self.parted and self.parted not in self.named["hard"]:
+            raise CaseError(f"{self.place}: {self.parted!r} is no second name")
+        if self.is_killed and self.room is None:
+            raise CaseError(f"{self.place}: nothing kills it without room")
 
     def expanded(self, line):
         """The line with texts in the place of names."""
@@ -126,6 +157,25 @@ class Case:
         if not value.isdigit():
             raise CaseError(f"{self.place}: {value!r} is no number")
         return int(value)
+
+    def mode(self, lines):
+        value = self.one_line(lines)
+        if not re.fullmatch("[0-7]{3,4}", value):
+            raise CaseError(f"{self.place}: {value!r} is no mode")
+        return int(value, 8)
+
+    def owner(self, lines):
+        """A user and a group."""
+        words = self.one_line(lines).split(" ")
+        if len(words) != 2 or not all(word in NAMED_USERS for word in words):
+            raise CaseError(f"{self.place}: a user and a group are wanted, each root or nobody")
+        return tuple(NAMED_USERS[word] for word in words)
+
+    def special(self, lines):
+        value = self.one_line(lines)
+        if not re.fullmatch(SPECIAL, value):
+            raise CaseError(f"{self.place}: no file is a {value!r}")
+        return value
 
     def words(self, lines):
         words = self.one_line(lines).split(" ") if lines else []

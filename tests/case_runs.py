@@ -10,12 +10,13 @@ import subprocess
 import sys
 import tempfile
 
+import case_trees
+
 sys.path.insert(0, os.path.join(os.path.dirname(os.path.abspath(__file__)), os.pardir, "tools"))
 import watched  # noqa: E402
 
 # how much processor time a run may use, and how long it may use none: so a busy machine ends none
 SECONDS = float(os.environ.get("CASE_SECONDS", "20"))
-NOBODY = 65534
 DIFF_LINES = 12
 
 
@@ -68,16 +69,21 @@ def open_output(case, stack):
 
 def limits(case):
     """What the child does before the program begins: it limits its processor time and files, and drops its rights."""
+    user, group = case_trees.user_of(case)
+
     def set_limits():
+        os.umask(case_trees.UMASK if case.umask is None else case.umask)
         seconds = math.ceil(SECONDS)
         resource.setrlimit(resource.RLIMIT_CPU, (seconds, seconds + 1))
         if case.room is not None:
-            signal.signal(signal.SIGXFSZ, signal.SIG_IGN)
+            # what is killed leaves no file of its memory
+            resource.setrlimit(resource.RLIMIT_CORE, (0, 0))
+            signal.signal(signal.SIGXFSZ, signal.SIG_DFL if case.is_killed else signal.SIG_IGN)
             resource.setrlimit(resource.RLIMIT_FSIZE, (case.room, case.room))
-        if case.choices["rights"] and os.geteuid() == 0:
+        if user != os.geteuid():
             os.setgroups([])
-            os.setgid(NOBODY)
-            os.setuid(NOBODY)
+            os.setgid(group)
+            os.setuid(user)
     return set_limits
 
 
@@ -115,16 +121,6 @@ def run(program, case, folder):
         return Ended(process.returncode, output or b"", errors or b"")
 
 
-def fill(folder, case):
-    """Makes the files that lie in the folder before the run."""
-    for name, content in case.before.items():
-        with open(os.path.join(folder, name), "wb") as file:
-            file.write(content)
-    if case.folder:
-        os.mkdir(os.path.join(folder, case.folder))
-    os.chmod(folder, 0o555 if case.choices["rights"] else 0o755)
-
-
 def shown(content):
     """The lines of a text, such that each can be printed."""
     return [repr(line)[2:-1] for line in content.splitlines(keepends=True)]
@@ -141,47 +137,21 @@ def text_faults(what, expected, found, room=None):
     return [f"{what} differs"] + [f"    {line[:200]}" for line in lines[2:DIFF_LINES]]
 
 
-def bytes_faults(name, expected, found):
-    """What is wrong with the bytes of a file."""
-    if found == expected:
-        return []
-    at = len(os.path.commonprefix([expected, found]))
-    return [f"the file {name} differs from byte {at} on",
-            f"    expected {len(expected)} bytes, there {expected[at:at + 16].hex(' ')}",
-            f"    found    {len(found)} bytes, there {found[at:at + 16].hex(' ')}"]
-
-
-def file_faults(case, folder):
-    """What is wrong with the files: all are those before the run, or those that it must make."""
-    expected = {**case.before, **case.after}
-    folders = [case.folder] if case.folder else []
-    found = sorted(os.listdir(folder))
-    faults = [f"the file {name} is missing" for name in sorted(expected) if name not in found]
-    faults += [f"there is a file {name}" for name in found if name not in [*expected, *folders]]
-    for name in found:
-        path = os.path.join(folder, name)
-        if os.path.isdir(path) != (name in folders) or (name in folders and os.listdir(path)):
-            faults.append(f"{name} is a folder, or a folder that was changed")
-        elif name in expected:
-            with open(path, "rb") as file:
-                faults += bytes_faults(name, expected[name], file.read())
-    return faults
-
-
 def faults_of(program, case):
     """All that the program does wrong in a case."""
     with tempfile.TemporaryDirectory() as top:
         os.chmod(top, 0o755)
         folder = os.path.join(top, "run")
         os.mkdir(folder)
-        fill(folder, case)
+        before = case_trees.make(folder, case)
         ended = run(program, case, folder)
         os.chmod(folder, 0o755)
         if ended is None:
             return [f"it did not end in {SECONDS:g} seconds of processor time, or used none for as long"]
         faults = []
-        if ended.status != case.status:
-            faults.append(f"status {ended.status}, not {case.status}")
+        status = -signal.SIGXFSZ if case.is_killed else case.status
+        if ended.status != status:
+            faults.append(f"status {ended.status}, not {status}")
         faults += text_faults("standard output", case.stdout, ended.output, case.room)
         faults += text_faults("standard error", case.stderr, ended.errors)
-        return faults + file_faults(case, folder)
+        return faults + case_trees.faults_between(case, before, case_trees.entries(folder))

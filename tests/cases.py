@@ -4,18 +4,21 @@
     tests/cases.py PROGRAM FOLDER...     all files *.cases in the folders; or such a file itself
 
 README.md beside this file describes the form of cases. A failing case has a line with its place and
-name, and below it what differs. The last line is `N passed, N failed`; the status is 0 only where
-none failed and one passed. A run has 20 seconds of processor time, or those that CASE_SECONDS gives, and may use none
-for as long."""
+name, and below it what differs. Those that need the rights of root are skipped where this is another
+user, which a line says. The last line is `N passed, N failed`; the status is 0 only where none failed and
+one passed. A run has 20 seconds of processor time, or those that CASE_SECONDS gives, and may use none for
+as long."""
 import os
 import shutil
 import sys
 import tempfile
+from collections import Counter
 
 sys.dont_write_bytecode = True
 
 from case_files import CaseError, read_cases  # noqa: E402
 from case_runs import faults_of, watched  # noqa: E402
+from case_trees import is_out_of_reach  # noqa: E402
 
 
 def files_of(places):
@@ -39,6 +42,14 @@ def passes(program, case):
     return not faults
 
 
+def told_skipped(cases):
+    """Prints which cases need rights that this user does not have, and returns the others."""
+    skipped = [case for case in cases if is_out_of_reach(case)]
+    for (place, name), count in Counter((case.place, case.name) for case in skipped).items():
+        print(f"SKIPPED {place}: {name}: {count} of its rows need the rights of root")
+    return [case for case in cases if case not in skipped]
+
+
 def main(words):
     if len(words) < 2:
         print(__doc__)
@@ -52,7 +63,7 @@ def main(words):
             shutil.copyfile(words[0], program)
             os.chmod(program, 0o755)
             cases = [case for path in files_of(words[1:]) for case in read_cases(path)]
-            results = [passes(program, case) for case in cases]
+            results = [passes(program, case) for case in told_skipped(cases)]
         except (CaseError, OSError) as error:
             print(f"FAILED {error}")
             results = [False]

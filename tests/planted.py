@@ -6,12 +6,23 @@ import subprocess
 import sys
 import tempfile
 
+sys.dont_write_bytecode = True
+
+from case_trees import has_all_rights  # noqa: E402
+
 HERE = os.path.dirname(os.path.abspath(__file__))
 sys.path.insert(0, os.path.join(HERE, os.pardir, "tools"))
 import watched  # noqa: E402
 
-# Writes its input and its first word, keeps a file, makes another, and returns 3.
+IS_ROOT = has_all_rights()
+
+# Writes its input and its first word, keeps a file, makes another, and returns 3. Says where it may write into the
+# folder of all. Replaces a file, by one with fewer rights, where one is there, and gives a file away where one is there.
 PROGRAM = """#!/bin/sh
+[ ! -w / ] || echo root >&2
+[ ! -e given.txt ] || chown 0 given.txt
+[ ! -e old.txt ] || { echo new > old.txt.new && chmod 600 old.txt.new && mv -f old.txt.new old.txt; }
+[ "$1" != killed ] || echo made > made.txt
 cat && echo "word $1" && echo told >&2 && echo made > made.txt && exit 3
 """
 
@@ -21,8 +32,17 @@ let end: two
 for word:
     a
     b
+user: nobody
+umask: 027
 args: \\{word}
 before kept.txt: kept
+before old.txt: old
+mode old.txt: 0640
+hard other.txt: old.txt
+hard second.txt: kept.txt
+link link.txt: kept.txt
+special pipe: FIFO
+special socket: socket
 stdin:
     one
     \\{end}
@@ -33,6 +53,30 @@ stdout:
 stderr: to...
 status: 3
 after made.txt: made
+after old.txt: new
+mode-after old.txt: 0600
+parted: other.txt
+
+== a program that is killed
+user: nobody
+args: killed
+room: 2
+status: killed
+after made.txt: ma\\
+"""
+
+# The same, where the program runs as root.
+BY_ROOT = """
+== what root does
+user: root
+before given.txt: given
+owner given.txt: nobody nobody
+special device: device
+stdout: word\\s
+stderr: ro...
+status: 3
+after made.txt: made
+owner-after given.txt: root nobody
 """
 
 # A fault, what is replaced in the program or in the cases, by what, and what the runner says of it.
@@ -60,13 +104,61 @@ FAULTS = [
      "there is a file kept.txt.new"),
     ("a folder in the place of a file", "program", "exit 3", "rm kept.txt; mkdir kept.txt; exit 3",
      "kept.txt is a folder"),
+    ("a link that becomes a file", "program", "exit 3",
+     "rm link.txt; echo kept > link.txt; exit 3", "link.txt is a file, not a link"),
+    ("a link that leads elsewhere", "program", "exit 3", "ln -sf old.txt link.txt; exit 3",
+     "the link link.txt differs"),
+    ("a link that is removed", "program", "exit 3", "rm link.txt; exit 3",
+     "the link link.txt is missing"),
+    ("another mode", "program", "exit 3", "chmod 640 kept.txt; exit 3",
+     "the mode of kept.txt is 0640, not 0644"),
+    ("a mode that is not set", "program", "chmod 600", "true", "old.txt is 0640, not 0600"),
+    ("a mode that must be another", "cases", "mode-after old.txt: 0600", "mode-after old.txt: 0640",
+     "old.txt is 0600, not 0640"),
+    ("another umask", "program", "echo told", "umask 0 && echo told", "made.txt is 0666, not 0640"),
+    ("a name that is parted", "program", "exit 3", "cp kept.txt x; mv x second.txt; exit 3",
+     "second.txt and kept.txt are two files"),
+    ("a name that is not parted", "program", "exit 3", "ln -f old.txt other.txt; exit 3",
+     "other.txt and old.txt are one file"),
+    ("a file in the place of a FIFO", "program", "exit 3", "rm pipe; echo > pipe; exit 3",
+     "pipe is a file, not a FIFO"),
+    ("a FIFO in the place of a socket", "program", "exit 3", "rm socket; mkfifo socket; exit 3",
+     "socket is a FIFO, not a socket"),
+    ("a folder that nobody asked for", "program", "exit 3", "mkdir more; exit 3",
+     "there is a folder more"),
+    ("a program that is not killed", "program", '[ "$1" != killed ]',
+     "trap '' XFSZ; [ \"$1\" != killed ]", "status 1, not -25"),
+    ("a mode that is none", "cases", "mode old.txt: 0640", "mode old.txt: 0680", "'0680' is no mode"),
+    ("a kind that is none", "cases", "FIFO", "FIFOS", "no file is a 'FIFOS'"),
+    ("a user that is none", "cases", "user: nobody", "user: somebody", "user cannot be 'somebody'"),
+    ("a mode of no file", "cases", "mode-after old.txt", "mode-after odl.txt",
+     "no file is named 'odl.txt'"),
+    ("a name that is no second one", "cases", "parted: other.txt", "parted: kept.txt",
+     "'kept.txt' is no second name"),
+    ("a kill without room", "cases", "room: 2\n", "", "nothing kills it without room"),
     ("a row that is too long", "cases", "    b\n", "    b | c\n", "a row of 2 values"),
     ("a row that changes nothing", "cases", "\\{word}", "a", "nothing names 'word'"),
     ("a key that is misspelt", "cases", "status:", "statsu:", "not understood"),
     ("a name that is misspelt", "cases", "let end", "let ned", "no text is named 'end'"),
     ("a space that nobody sees", "cases", "    one\n", "    one \n", "a space at the end"),
-    ("no case", "cases", CASES, "", "0 passed, 0 failed"),
-    ("no program", "program", PROGRAM, "", "FAILED"),
+    ("no case", "cases", None, "", "0 passed, 0 failed"),
+    ("no program", "program", None, "", "FAILED"),
+]
+
+# Those that only root can plant.
+FAULTS_BY_ROOT = [
+    ("a program that is not nobody's", "cases", "user: nobody\numask", "umask",
+     "standard error differs"),
+    ("another user", "program", "exit 3", "[ ! -w / ] || chown 65534 made.txt; exit 3",
+     "made.txt are (65534, 0), not (0, 0)"),
+    ("another group", "program", "chown 0", "chown 0:0", "given.txt are (0, 0), not (0, 65534)"),
+    ("a user that is not changed", "program", "chown 0 given.txt", "true",
+     "given.txt are (65534, 65534), not (0, 65534)"),
+    ("a user that does not stay", "cases", "owner-after given.txt: root nobody\n", "",
+     "given.txt are (0, 65534), not (65534, 65534)"),
+    ("a file in the place of a device", "program", "exit 3",
+     "[ ! -w / ] || { rm device; echo > device; }; exit 3", "device is a file, not a device"),
+    ("an owner that is none", "cases", "nobody nobody", "nobody", "a user and a group are wanted"),
 ]
 
 
@@ -85,7 +177,8 @@ def said(folder, program, cases):
 def is_told(folder, fault):
     """Whether the runner tells a fault. If not, it is printed."""
     name, what, old, new, words = fault
-    texts = {"program": PROGRAM, "cases": CASES}
+    texts = {"program": PROGRAM, "cases": CASES + (BY_ROOT if IS_ROOT else "")}
+    old = texts[what] if old is None else old
     if old not in texts[what]:
         print(f"FAILED {name}: nothing to replace")
         return False
@@ -100,8 +193,9 @@ def is_told(folder, fault):
 def main():
     watched.end_on_signals()
     with tempfile.TemporaryDirectory() as folder:
-        results = [said(folder, PROGRAM, CASES) == ("2 passed, 0 failed\n", 0)]
-        results += [is_told(folder, fault) for fault in FAULTS]
+        wanted = "4 passed, 0 failed\n" if IS_ROOT else "3 passed, 0 failed\n"
+        results = [said(folder, PROGRAM, CASES + (BY_ROOT if IS_ROOT else "")) == (wanted, 0)]
+        results += [is_told(folder, fault) for fault in FAULTS + (FAULTS_BY_ROOT if IS_ROOT else [])]
     print(f"{sum(results)} passed, {len(results) - sum(results)} failed")
     return 0 if all(results) else 1
 

@@ -210,6 +210,8 @@ def ended(name, needs, call):
         return told_as_ended(part, name, hung)
     if failed:
         say(printed.rstrip())
+    elif "SKIPPED " in printed:
+        say("\n".join(line for line in printed.splitlines() if line.startswith("SKIPPED ")))
     say(f"{name}: {passed} passed, {failed} failed; {time.monotonic() - began:.0f} s")
     return passed, failed, f"{name}: {failed} FAILED; {part.log}" if failed else ""
 

@@ -6,8 +6,10 @@ use odht_tool_core::front::table_at;
 use odht_tool_core::help::{help_end, help_text};
 use odht_tool_core::info::info_file;
 use odht_tool_core::status::{Status, of_output};
+use odht_tool_core::targets::Target;
 use std::alloc::Global;
 use std::io::{self, BufRead, ErrorKind, Write};
+use std::os::fd::AsFd;
 use std::rt::{Clock, Files};
 
 mod build;
@@ -25,7 +27,10 @@ pub fn run<R: Files + AllocGlobal + Clock, I: BufRead, O: Write, E: Write>(
     input: &mut I,
     output: &mut O,
     errors: &mut E,
-) -> Status {
+) -> Status
+where
+    R::File: AsFd,
+{
     let alloc: Global = rt.alloc();
     match parse(alloc, words) {
         Ok(Request::Help(topic)) => { finish("help", of_output(write_help(topic, output)), errors) }
@@ -58,7 +63,10 @@ fn run_command<R: Files + AllocGlobal + Clock, I: BufRead, O: Write, E: Write>(
     input: &mut I,
     output: &mut O,
     errors: &mut E,
-) -> Result<Status, Failure> {
+) -> Result<Status, Failure>
+where
+    R::File: AsFd,
+{
     match command {
         Command::Read { at, reading } => {
             let bytes = read_file(rt, file)?;
@@ -72,17 +80,13 @@ fn run_command<R: Files + AllocGlobal + Clock, I: BufRead, O: Write, E: Write>(
         Command::Put {
             hash,
             bound,
+            breaks_links,
             has_progress,
-        } => build::put(
-            rt,
-            file,
-            read_file(rt, file)?,
-            hash,
-            bound,
-            has_progress,
-            input,
-            errors,
-        ),
+        } => {
+            let target = Target::find(rt, file, breaks_links)?;
+            let bytes = read_file(rt, target.path())?;
+            build::put(rt, target, bytes, hash, bound, has_progress, input, errors)
+        }
     }
 }
 

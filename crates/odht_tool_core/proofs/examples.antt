@@ -13,3 +13,5 @@ pub mod InfoTexts
 pub mod FoundShapes
 -- the table that begins with some bytes, and what bytes are a table
 pub mod Finds
+-- which files are replaced, and what permissions the new one gets
+pub mod Replaced

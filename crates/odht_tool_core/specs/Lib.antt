@@ -29,3 +29,5 @@ pub mod Fronts
 pub mod Finds
 -- the shape whose hash function the control bytes have
 pub mod FoundShapes
+-- which files are replaced, and what permissions the new one gets
+pub mod Replaced

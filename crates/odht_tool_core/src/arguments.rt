@@ -54,6 +54,11 @@ impl Topic {
             Topic::Get | Topic::Dump | Topic::Build => false,
         }
     }
+
+    // Whether the command replaces its file.
+    fn replaces(self) -> bool {
+        self == Topic::Build || self == Topic::Put
+    }
 }
 
 impl fmt::Display for Topic {
@@ -105,6 +110,7 @@ pub struct BuildOptions {
     /// For how many items room is made at first.
     pub capacity: usize,
     pub percent: Percent,
+    pub breaks_links: bool,
     pub has_progress: bool,
 }
 
@@ -139,6 +145,7 @@ pub enum Command {
     Put {
         hash: Option<Hash>,
         bound: Option<usize>,
+        breaks_links: bool,
         has_progress: bool,
     },
 }
@@ -213,6 +220,7 @@ struct Draft {
     is_help: bool,
     is_slots: bool,
     is_whole: bool,
+    breaks_links: bool,
     has_progress: bool,
 }
 
@@ -230,6 +238,7 @@ impl Draft {
             is_help: false,
             is_slots: false,
             is_whole: false,
+            breaks_links: false,
             has_progress: false,
         }
     }
@@ -276,9 +285,8 @@ impl Draft {
             "--help" => self.is_help = true,
             "--slots" if topic == Topic::Dump => self.is_slots = true,
             "--whole" if topic.has_bound() => self.is_whole = true,
-            "--progress" if topic == Topic::Build || topic == Topic::Put => {
-                self.has_progress = true;
-            }
+            "--progress" if topic.replaces() => self.has_progress = true,
+            "--break-links" if topic.replaces() => self.breaks_links = true,
             name => {
                 return match Setting::of(topic, name) {
                     Some(setting) => Ok(Some((setting, word))),
@@ -299,6 +307,7 @@ impl Draft {
             return Ok(Request::Help(Some(topic)));
         }
         let (mut words, hash, has_progress) = (self.words, self.hash, self.has_progress);
+        let breaks_links = self.breaks_links;
         let (at, bound) = (self.at, bound_of(self.is_whole));
         if words.is_empty() || (words.len() > 1) != (topic == Topic::Get) {
             return Err(Misuse::InCommand(topic, CommandMisuse::WrongCount));
@@ -341,12 +350,14 @@ impl Draft {
                     hash,
                     capacity: self.capacity,
                     percent: self.percent,
+                    breaks_links,
                     has_progress,
                 })
             }
             Topic::Put => Command::Put {
                 hash,
                 bound,
+                breaks_links,
                 has_progress,
             },
         };

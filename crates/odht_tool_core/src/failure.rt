@@ -3,6 +3,7 @@ ghost use Rattle.std.specs.Prelude.{◌≡◌};
 ghost use Rattle.odht_tool_core.specs.Endings.{failure_of};
 ghost use Rattle.odht_tool_core.specs.Texts.{advice_text};
 
+use crate::obstacles::Obstacle;
 use odht_header::error::Error;
 use std::alloc::AllocError;
 use std::{fmt, io};
@@ -14,6 +15,10 @@ pub enum Failure {
     Read(io::Error),
     /// The new file could not be written, or not be renamed.
     Write(io::Error),
+    /// The file is not replaced, for this reason.
+    Obstacle(Obstacle),
+    /// There is a file of the name that the new one has until it is stored.
+    Beside(String),
     /// The bytes are no table, or not one of this shape.
     Refused(Error),
     /// No ready shape has keys and values of so many bytes under the hash that was named.
@@ -62,6 +67,11 @@ impl fmt::Display for Failure {
         match self {
             Failure::Read(error) => write!(f, "cannot be read: {error}"),
             Failure::Write(error) => write!(f, "cannot be written: {error}"),
+            Failure::Obstacle(obstacle) => write!(f, "cannot be written: {obstacle}"),
+            Failure::Beside(name) => write!(
+                f,
+                "{name} is there: another run is at work, or was interrupted; remove it if none is"
+            ),
             Failure::Refused(error) => {
                 let advice = advice_of(error);
                 write!(f, "{error}{advice}")
@@ -129,6 +139,14 @@ impl Failure {
         match error {
             Error::Memory => Failure::Memory,
             _ => Failure::Refused(error),
+        }
+    }
+
+    /// The failure for an error of what comes before a file is written.
+    pub fn of_writing(error: io::Error) -> Failure {
+        match error.kind() {
+            io::ErrorKind::OutOfMemory => Failure::Memory,
+            _ => Failure::Write(error),
         }
     }
 }

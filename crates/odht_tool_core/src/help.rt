@@ -90,21 +90,25 @@ odht find FILE [--whole]
 
 const BUILD: &str = "\
 odht build FILE --key SHAPE --value SHAPE [--hash fx|unhash]
-                [--percent P] [--capacity N] [--progress]
+                [--percent P] [--capacity N] [--progress] [--break-links]
     Makes a table of the lines of standard input, KEY, a tab and VALUE, and stores
     it as FILE, in the place of an older one, which stays where something fails.
-    The last line of a key wins.
-    SHAPE       u32, u64, none (a value only), or hexN: N bytes as 2 N digits
-    --percent   the load factor, 1 to 100, else 87
-    --capacity  the number of items for which room is made at first, else 12
-    --progress  a line on standard error each second
+    The last line of a key wins. Owner, group, permissions and symbolic links of an
+    older file are kept; one with hard links is not replaced without --break-links.
+    SHAPE          u32, u64, none (a value only), or hexN: N bytes as 2 N digits
+    --percent      the load factor, 1 to 100, else 87
+    --capacity     the number of items for which room is made at first, else 12
+    --progress     a line on standard error each second
+    --break-links  replaces this name of a file; its other names keep the old one
 ";
 
 const PUT: &str = "\
-odht put FILE [--whole] [--hash fx|unhash] [--progress]
+odht put FILE [--whole] [--hash fx|unhash] [--progress] [--break-links]
     Adds the lines of standard input, KEY, a tab and VALUE, to the table in FILE,
     which grows as needed, and stores it in the place of the older one, which
     stays where something fails. The last line of a key wins. The file is checked
     before, as by `odht check`; --whole is as there. The hash function is the one
-    that all control bytes fit, unless --hash names it.
+    that all control bytes fit, unless --hash names it. Owner, group, permissions
+    and symbolic links of the file are kept; one with hard links is not replaced
+    without --break-links, with which its other names keep the old file.
 ";

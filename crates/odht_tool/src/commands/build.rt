@@ -21,9 +21,11 @@ use odht_tool_core::lines::read_pair;
 use odht_tool_core::progress::Progress;
 use odht_tool_core::shapes::{Hash, Shape};
 use odht_tool_core::status::Status;
+use odht_tool_core::targets::Target;
 use odht_tool_core::text::Text;
 use std::alloc::Global;
 use std::io::{BufRead, Write};
+use std::os::fd::AsFd;
 use std::rt::{Clock, Files};
 
 /// How many pairs are inserted at once.
@@ -36,19 +38,23 @@ pub fn build<R: Files + AllocGlobal + Clock, I: BufRead, E: Write>(
     options: BuildOptions,
     input: &mut I,
     errors: &mut E,
-) -> Result<Status, Failure> {
+) -> Result<Status, Failure>
+where
+    R::File: AsFd,
+{
     let shape = Shape::of_parts(options.key, options.value, options.hash).ok_or(
         Failure::NoShape {
             key_size: options.key.size(),
             value_size: options.value.size(),
         },
     )?;
-    for_shape!(shape, build_file[R, I, E](rt, file, options, input, errors))
+    let target = Target::find(rt, file, options.breaks_links)?;
+    for_shape!(shape, build_file[R, I, E](rt, target, options, input, errors))
 }
 
 fn build_file<C: Config, R: Files + AllocGlobal + Clock, I: BufRead, E: Write>(
     rt: &R,
-    file: &str,
+    target: Target,
     options: BuildOptions,
     input: &mut I,
     errors: &mut E,
@@ -56,9 +62,10 @@ fn build_file<C: Config, R: Files + AllocGlobal + Clock, I: BufRead, E: Write>(
 where
     C::Key: Text,
     C::Value: Text,
+    R::File: AsFd,
 {
     let table = make_table::<C>(rt.alloc(), options.capacity, options.percent)?;
-    insert_into_file(rt, file, table, options.has_progress, input, errors)
+    insert_into_file(rt, target, table, options.has_progress, input, errors)
 }
 
 fn make_table<C: Config>(
@@ -71,26 +78,29 @@ fn make_table<C: Config>(
     HashTableOwned::with_capacity(alloc, capacity, percent.value()).map_err(Failure::of_table)
 }
 
-/// Adds the lines to the table of the file, which has these bytes. They are checked whole before, with the bound of
+/// Adds the lines to the table of the target, which has these bytes. They are checked whole before, with the bound of
 /// searches where there is one.
 pub fn put<R: Files + AllocGlobal + Clock, I: BufRead, E: Write>(
     rt: &R,
-    file: &str,
+    target: Target,
     bytes: Vec<u8>,
     hash: Option<Hash>,
     bound: Option<usize>,
     has_progress: bool,
     input: &mut I,
     errors: &mut E,
-) -> Result<Status, Failure> {
+) -> Result<Status, Failure>
+where
+    R::File: AsFd,
+{
     let shape = found_shape(bytes.as_slice(), hash)?;
-    for_shape!(shape, put_file[R, I, E](rt, file, bytes, bound, has_progress, input, errors))
+    for_shape!(shape, put_file[R, I, E](rt, target, bytes, bound, has_progress, input, errors))
 }
 
 // The bytes are freed once the table has a copy.
 fn put_file<C: Config, R: Files + AllocGlobal + Clock, I: BufRead, E: Write>(
     rt: &R,
-    file: &str,
+    target: Target,
     bytes: Vec<u8>,
     bound: Option<usize>,
     has_progress: bool,
@@ -100,9 +110,10 @@ fn put_file<C: Config, R: Files + AllocGlobal + Clock, I: BufRead, E: Write>(
 where
     C::Key: Text,
     C::Value: Text,
+    R::File: AsFd,
 {
     let table = copy_table::<C>(rt.alloc(), bytes, bound)?;
-    insert_into_file(rt, file, table, has_progress, input, errors)
+    insert_into_file(rt, target, table, has_progress, input, errors)
 }
 
 fn copy_table<C: Config>(
@@ -124,7 +135,7 @@ fn copy_table<C: Config>(
 // Adds the lines to the table, and stores it as the file.
 fn insert_into_file<C: Config, R: Files + AllocGlobal + Clock, I: BufRead, E: Write>(
     rt: &R,
-    file: &str,
+    target: Target,
     mut table: HashTableOwned<C>,
     has_progress: bool,
     input: &mut I,
@@ -133,10 +144,11 @@ fn insert_into_file<C: Config, R: Files + AllocGlobal + Clock, I: BufRead, E: Wr
 where
     C::Key: Text,
     C::Value: Text,
+    R::File: AsFd,
 {
     let progress = Progress::new(rt, has_progress);
     fill(rt, &mut table, progress, input, errors)?;
-    replace_file(rt, file, table.raw_bytes())?;
+    replace_file(rt, &target, table.raw_bytes())?;
     Ok(Status::Done)
 }
 
