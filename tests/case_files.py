@@ -6,7 +6,7 @@ import re
 TOP = os.path.dirname(os.path.dirname(os.path.abspath(__file__)))
 INDENT = "    "
 KEY = re.compile(r"(let \w+|for \w+(?: \| \w+)*|before \S+|after \S+|folder|args|stdin|stdout|"
-                 r"stderr|status|input|output|errors|room|rights):(?: (.*))?")
+                 r"stderr|status|input|output|writes|errors|room|rights):(?: (.*))?")
 CHOICES = {
     "input": "each byte alone|fails after [0-9]+ bytes|a folder",
     "output": "full|no reader",
@@ -70,6 +70,7 @@ class Case:
         self.stderr = self.text(fields.pop("stderr", []))
         self.status = self.number(fields.pop("status", ["0"]))
         self.room = self.number(fields.pop("room")) if "room" in fields else None
+        self.writes = self.numbers(fields.pop("writes")) if "writes" in fields else None
         self.folder = self.one_line(fields.pop("folder")) if "folder" in fields else None
         self.choices = {key: self.choice(key, fields.pop(key, None)) for key in CHOICES}
         self.before, self.after = {}, {}
@@ -78,6 +79,8 @@ class Case:
             (self.before if kind == "before" else self.after)[name] = self.text(lines).content
         if self.has_stdout and self.choices["output"]:
             raise CaseError(f"{self.place}: nobody can compare this output")
+        if self.writes is not None and (self.choices["output"] or self.room is not None):
+            raise CaseError(f"{self.place}: nobody can tell the writes of this output apart")
 
     def expanded(self, line):
         """The line with texts in the place of names."""
@@ -126,6 +129,9 @@ class Case:
         if not value.isdigit():
             raise CaseError(f"{self.place}: {value!r} is no number")
         return int(value)
+
+    def numbers(self, lines):
+        return [self.number([word]) for word in self.one_line(lines).split(" ")]
 
     def words(self, lines):
         words = self.one_line(lines).split(" ") if lines else []

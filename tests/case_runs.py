@@ -8,6 +8,8 @@ import socket
 import subprocess
 import tempfile
 
+from packets import Packets
+
 SECONDS = float(os.environ.get("CASE_SECONDS", "20"))
 NOBODY = 65534
 DIFF_LINES = 12
@@ -16,8 +18,8 @@ DIFF_LINES = 12
 class Ended:
     """How a run ended."""
 
-    def __init__(self, status, output, errors):
-        self.status, self.output, self.errors = status, output, errors
+    def __init__(self, status, output, errors, writes):
+        self.status, self.output, self.errors, self.writes = status, output, errors, writes
 
 
 def open_input(case, stack):
@@ -45,8 +47,10 @@ def open_input(case, stack):
     return theirs
 
 
-def open_output(case, stack):
+def open_output(case, stack, packets):
     """The program's standard output."""
+    if packets:
+        return packets.output
     kind = case.choices["output"]
     if kind == "full":
         return stack.enter_context(open("/dev/full", "wb"))
@@ -75,13 +79,17 @@ def limits(case):
 
 def run(program, case, folder):
     """Runs the program in the folder. None where it does not end."""
+    packets, writes = None if case.writes is None else Packets(), None
     with contextlib.ExitStack() as stack:
-        stdin, stdout, stderr = open_input(case, stack), open_output(case, stack), subprocess.PIPE
+        stdin, stdout = open_input(case, stack), open_output(case, stack, packets)
+        stderr = subprocess.PIPE
         written = case.stdin if stdin == subprocess.PIPE else None
         if case.choices["errors"]:
             stderr = stack.enter_context(open("/dev/full", "wb"))
         process = subprocess.Popen([program] + case.args, cwd=folder, env={}, stdin=stdin,
                                    stdout=stdout, stderr=stderr, preexec_fn=limits(case))
+        if packets:
+            packets.begin()
         try:
             output, errors = process.communicate(written, SECONDS)
         except subprocess.TimeoutExpired:
@@ -91,7 +99,9 @@ def run(program, case, folder):
         if case.room is not None:
             stdout.seek(0)
             output = stdout.read()
-        return Ended(process.returncode, output or b"", errors or b"")
+        if packets:
+            output, writes = packets.end(SECONDS)
+        return Ended(process.returncode, output or b"", errors or b"", writes)
 
 
 def fill(folder, case):
@@ -118,6 +128,13 @@ def text_faults(what, expected, found, room=None):
         found = found[:len(content) + 80]
     lines = list(difflib.unified_diff(shown(content), shown(found), lineterm="", n=1))
     return [f"{what} differs"] + [f"    {line[:200]}" for line in lines[2:DIFF_LINES]]
+
+
+def write_faults(expected, found):
+    """What is wrong with the sizes of the writes to standard output, where a case has them."""
+    if found == expected:
+        return []
+    return [f"it wrote {' '.join(map(str, found))} bytes, not {' '.join(map(str, expected))}"]
 
 
 def bytes_faults(name, expected, found):
@@ -162,5 +179,6 @@ def faults_of(program, case):
         if ended.status != case.status:
             faults.append(f"status {ended.status}, not {case.status}")
         faults += text_faults("standard output", case.stdout, ended.output, case.room)
+        faults += write_faults(case.writes, ended.writes)
         faults += text_faults("standard error", case.stderr, ended.errors)
         return faults + file_faults(case, folder)

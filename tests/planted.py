@@ -31,6 +31,17 @@ stdout:
 stderr: to...
 status: 3
 after made.txt: made
+== its writes
+args: a
+stdin:
+    one
+stdout:
+    one
+    word a
+writes: 4 7
+stderr: told
+status: 3
+after made.txt: made
 """
 
 # A fault, what is replaced in the program or in the cases, by what, and what the runner says of it.
@@ -41,6 +52,14 @@ FAULTS = [
     ("output that is too long", "program", "word $1", "word $1 ", "standard output differs"),
     ("a program that writes nothing", "program", "cat", "exit 3; cat", "standard output differs"),
     ("a program that does not end", "program", "exit 3", "while :; do :; done", "did not end in 1"),
+    ("a write in two pieces", "program", 'echo "word $1"', 'printf "word " && echo "$1"',
+     "it wrote 4 5 2 bytes, not 4 7"),
+    ("two writes in one piece", "program", 'cat && echo "word $1"',
+     'printf "%s\\nword %s\\n" "$(cat)" "$1"', "it wrote 11 bytes, not 4 7"),
+    ("another size of a write", "cases", "writes: 4 7", "writes: 4 8",
+     "it wrote 4 7 bytes, not 4 8"),
+    ("sizes of writes that nobody sees", "cases", "writes: 4 7", "writes: 4 7\nroom: 99",
+     "nobody can tell the writes"),
     ("a byte of the errors", "program", "echo told", "echo sold", "standard error differs"),
     ("more errors than are expected", "cases", "stderr: to...", "stderr: to",
      "standard error differs"),
@@ -96,7 +115,7 @@ def is_told(folder, fault):
 
 def main():
     with tempfile.TemporaryDirectory() as folder:
-        results = [said(folder, PROGRAM, CASES) == ("2 passed, 0 failed\n", 0)]
+        results = [said(folder, PROGRAM, CASES) == ("3 passed, 0 failed\n", 0)]
         results += [is_told(folder, fault) for fault in FAULTS]
     print(f"{sum(results)} passed, {len(results) - sum(results)} failed")
     return 0 if all(results) else 1
