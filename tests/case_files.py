@@ -9,7 +9,7 @@ TOP = os.path.dirname(os.path.dirname(os.path.abspath(__file__)))
 INDENT = "    "
 KEY = re.compile(r"(let \w+|for \w+(?: \| \w+)*|"
                  r"(?:before|after|link|hard|special|mode|owner|mode-after|owner-after) \S+|"
-                 r"folder|args|stdin|stdout|stderr|status|input|output|errors|room|rights|user|umask|"
+                 r"folder|args|stdin|stdout|stderr|status|input|output|writes|errors|room|rights|user|umask|"
                  r"parted):(?: (.*))?")
 CHOICES = {
     "input": "each byte alone|fails after [0-9]+ bytes|a folder",
@@ -80,11 +80,14 @@ class Case:
         self.umask = self.mode(fields.pop("umask")) if "umask" in fields else None
         self.parted = self.one_line(fields.pop("parted")) if "parted" in fields else None
         self.room = self.number(fields.pop("room")) if "room" in fields else None
+        self.writes = self.numbers(fields.pop("writes")) if "writes" in fields else None
         self.folder = self.one_line(fields.pop("folder")) if "folder" in fields else None
         self.choices = {key: self.choice(key, fields.pop(key, None)) for key in CHOICES}
         self.note_files(fields)
         if self.has_stdout and self.choices["output"]:
             raise CaseError(f"{self.place}: nobody can compare this output")
+        if self.writes is not None and (self.choices["output"] or self.room is not None):
+            raise CaseError(f"{self.place}: nobody can tell the writes of this output apart")
 
     def note_files(self, fields):
         """Notes what is said of files, of each kind by their names."""
@@ -157,6 +160,9 @@ class Case:
         if not value.isdigit():
             raise CaseError(f"{self.place}: {value!r} is no number")
         return int(value)
+
+    def numbers(self, lines):
+        return [self.number([word]) for word in self.one_line(lines).split(" ")]
 
     def mode(self, lines):
         value = self.one_line(lines)

@@ -11,6 +11,7 @@ import sys
 import tempfile
 
 import case_trees
+from packets import Packets
 
 sys.path.insert(0, os.path.join(os.path.dirname(os.path.abspath(__file__)), os.pardir, "tools"))
 import watched  # noqa: E402
@@ -23,8 +24,8 @@ DIFF_LINES = 12
 class Ended:
     """How a run ended."""
 
-    def __init__(self, status, output, errors):
-        self.status, self.output, self.errors = status, output, errors
+    def __init__(self, status, output, errors, writes):
+        self.status, self.output, self.errors, self.writes = status, output, errors, writes
 
 
 def open_input(case, stack):
@@ -52,8 +53,10 @@ def open_input(case, stack):
     return theirs
 
 
-def open_output(case, stack):
+def open_output(case, stack, packets):
     """The program's standard output."""
+    if packets:
+        return packets.output
     kind = case.choices["output"]
     if kind == "full":
         return stack.enter_context(open("/dev/full", "wb"))
@@ -104,13 +107,17 @@ def communicate(process, written):
 
 def run(program, case, folder):
     """Runs the program in the folder. None where it does not end."""
+    packets, writes = None if case.writes is None else Packets(), None
     with contextlib.ExitStack() as stack:
-        stdin, stdout, stderr = open_input(case, stack), open_output(case, stack), subprocess.PIPE
+        stdin, stdout = open_input(case, stack), open_output(case, stack, packets)
+        stderr = subprocess.PIPE
         written = case.stdin if stdin == subprocess.PIPE else None
         if case.choices["errors"]:
             stderr = stack.enter_context(open("/dev/full", "wb"))
         process = subprocess.Popen([program] + case.args, cwd=folder, env={}, stdin=stdin,
                                    stdout=stdout, stderr=stderr, preexec_fn=limits(case))
+        if packets:
+            packets.begin()
         texts = communicate(process, written)
         if texts is None or process.returncode == -signal.SIGXCPU:
             return None
@@ -118,7 +125,9 @@ def run(program, case, folder):
         if case.room is not None:
             stdout.seek(0)
             output = stdout.read()
-        return Ended(process.returncode, output or b"", errors or b"")
+        if packets:
+            output, writes = packets.end(SECONDS)
+        return Ended(process.returncode, output or b"", errors or b"", writes)
 
 
 def shown(content):
@@ -137,6 +146,13 @@ def text_faults(what, expected, found, room=None):
     return [f"{what} differs"] + [f"    {line[:200]}" for line in lines[2:DIFF_LINES]]
 
 
+def write_faults(expected, found):
+    """What is wrong with the sizes of the writes to standard output, where a case has them."""
+    if found == expected:
+        return []
+    return [f"it wrote {' '.join(map(str, found))} bytes, not {' '.join(map(str, expected))}"]
+
+
 def faults_of(program, case):
     """All that the program does wrong in a case."""
     with tempfile.TemporaryDirectory() as top:
@@ -153,5 +169,6 @@ def faults_of(program, case):
         if ended.status != status:
             faults.append(f"status {ended.status}, not {status}")
         faults += text_faults("standard output", case.stdout, ended.output, case.room)
+        faults += write_faults(case.writes, ended.writes)
         faults += text_faults("standard error", case.stderr, ended.errors)
         return faults + case_trees.faults_between(case, before, case_trees.entries(folder))

@@ -6,7 +6,8 @@
 
 Of each call, of each script in tests/memory/scripts, and of two commands of the program for table files, the first
 request fails, then the second, and so on, up to the first run in which none was left to fail. A call that takes no
-memory has one run, in which it asked for none. A run has 60 seconds of processor time.
+memory has one run, in which it asked for none. Of one more script, whose last answer has no room in the buffer of the
+answers, this is printed: how many bytes each write has, and the last answer. A run has 60 seconds of processor time.
 """
 import os
 import resource
@@ -14,6 +15,8 @@ import shutil
 import subprocess
 import sys
 import tempfile
+
+from packets import Packets
 
 HERE = os.path.dirname(os.path.realpath(__file__))
 sys.path.insert(0, f"{HERE}/../tools")
@@ -25,6 +28,8 @@ CALLS = """allocate below_the_maximum clone default from_iterator from_raw_bytes
 # commands of the program for table files that only read, and their files
 COMMANDS = [("find", "inside.bin"), ("info", "one_pair.odht")]
 TABLES = f"{HERE}/../crates/odht_tool/data"
+# a `put` that grows the table, behind 8186 bytes of answers: the buffer takes 8192
+FULL = b"new 0 6\nget 1\n" + 4083 * b"len\n" + b"put 1 2\n"
 # more requests than any of these makes
 MOST = 20
 # of processor time, for one run
@@ -47,9 +52,26 @@ def run_failing(words, given, request, room):
     return f"{printed}{made} requests, status {ran.returncode}\n", made
 
 
+def run_into_packets(words, given, request, room):
+    """The same of the sizes of what it writes, and of the last line of it."""
+    packets = Packets()
+    env = {**os.environ, "ODHT_FAIL_REQUEST": str(request), "ODHT_REQUESTS": f"{room}/requests"}
+    with subprocess.Popen(words, stdin=subprocess.PIPE, stdout=packets.output, stderr=subprocess.PIPE, env=env,
+                          cwd=room) as program:
+        packets.begin()
+        errors = program.communicate(given, 60)[1]
+    written, sizes = packets.end(60)
+    with open(f"{room}/requests", encoding="utf-8") as it:
+        made = int(it.read())
+    last = b"".join(written.splitlines(True)[-1:])
+    counts = "".join(f" {size}" for size in sizes)
+    return f"{errors.decode()}{last.decode()}writes:{counts}\n{made} requests, status {program.returncode}\n", made
+
+
 def sections(folder, room):
     """Yields the title of each run, and what it printed."""
     runs = [(call, ["odht_memory"], call.encode()) for call in CALLS]
+    runs.append(("full buffer", ["odht_table"], FULL))
     for name in sorted(os.listdir(f"{HERE}/memory/scripts")):
         with open(f"{HERE}/memory/scripts/{name}", "rb") as it:
             runs.append((f"script {name}", ["odht_table"], it.read()))
@@ -58,7 +80,8 @@ def sections(folder, room):
         runs.append((f"odht {command} {file}", ["odht_tool", command, file], b""))
     for title, words, given in runs:
         for request in range(1, MOST):
-            printed, made = run_failing([f"{folder}/{words[0]}", *words[1:]], given, request, room)
+            run = run_into_packets if given is FULL else run_failing
+            printed, made = run([f"{folder}/{words[0]}", *words[1:]], given, request, room)
             yield f"== {title}, request {request} fails\n", printed
             if made < request:
                 break

@@ -57,6 +57,19 @@ after old.txt: new
 mode-after old.txt: 0600
 parted: other.txt
 
+== its writes
+user: nobody
+args: a
+stdin:
+    one
+stdout:
+    one
+    word a
+writes: 4 7
+stderr: told
+status: 3
+after made.txt: made
+
 == a program that is killed
 user: nobody
 args: killed
@@ -88,6 +101,14 @@ FAULTS = [
     ("a program that writes nothing", "program", "cat", "exit 3; cat", "standard output differs"),
     ("a program that does not end", "program", "exit 3", "while :; do :; done", "did not end in 1"),
     ("a program that sleeps", "program", "exit 3", "exec sleep 100", "did not end in 1"),
+    ("a write in two pieces", "program", 'echo "word $1"', 'printf "word " && echo "$1"',
+     "it wrote 4 5 2 bytes, not 4 7"),
+    ("two writes in one piece", "program", 'cat && echo "word $1"',
+     'printf "%s\\nword %s\\n" "$(cat)" "$1"', "it wrote 11 bytes, not 4 7"),
+    ("another size of a write", "cases", "writes: 4 7", "writes: 4 8",
+     "it wrote 4 7 bytes, not 4 8"),
+    ("sizes of writes that nobody sees", "cases", "writes: 4 7", "writes: 4 7\nroom: 99",
+     "nobody can tell the writes"),
     ("a byte of the errors", "program", "echo told", "echo sold", "standard error differs"),
     ("more errors than are expected", "cases", "stderr: to...", "stderr: to",
      "standard error differs"),
@@ -193,7 +214,7 @@ def is_told(folder, fault):
 def main():
     watched.end_on_signals()
     with tempfile.TemporaryDirectory() as folder:
-        wanted = "4 passed, 0 failed\n" if IS_ROOT else "3 passed, 0 failed\n"
+        wanted = "5 passed, 0 failed\n" if IS_ROOT else "4 passed, 0 failed\n"
         results = [said(folder, PROGRAM, CASES + (BY_ROOT if IS_ROOT else "")) == (wanted, 0)]
         results += [is_told(folder, fault) for fault in FAULTS + (FAULTS_BY_ROOT if IS_ROOT else [])]
     print(f"{sum(results)} passed, {len(results) - sum(results)} failed")

@@ -269,9 +269,9 @@ fn put<W: Write>(table: &mut Table, key: u64, value: u32, output: &mut W) -> io:
         × OnOk result (Appends (W.contents output.old) (W.contents output.new) text) }
 {
     match table.insert(&key, &value) {
-        Ok(None) => write_line(b"none", output),
+        Ok(None) => output.write_all(b"none\n"),
         Ok(Some(former)) => write_former(former, output),
-        Err(_) => write_line(b"memory", output),
+        Err(_) => output.write_all(b"memory\n"),
     }
 }
 
@@ -288,18 +288,9 @@ fn write_value<W: Write>(value: Option<u32>, output: &mut W) -> io::Result<()>
         (line_of (value_text value))) }
 {
     match value {
-        None => write_line(b"none", output),
+        None => output.write_all(b"none\n"),
         Some(value) => write_number(u64::from(value), output),
     }
-}
-
-// A line of this text.
-fn write_line<W: Write>(text: &[u8], output: &mut W) -> io::Result<()>
-    ensures { OnOk result (Appends (W.contents output.old) (W.contents output.new)
-        (line_of text.now)) }
-{
-    output.write_all(text)?;
-    output.write_all(b"\n")
 }
 
 // The number on a line.
@@ -319,7 +310,7 @@ fn write_walk<W: Write>(walk: Iter<'_, U64ToU32>, output: &mut W) -> io::Result<
     for (key, value) in walk {
         write_pair(key, value, output)?;
     }
-    write_line(b"end", output)
+    output.write_all(b"end\n")
 }
 
 fn write_pair<W: Write>(key: u64, value: u32, output: &mut W) -> io::Result<()>

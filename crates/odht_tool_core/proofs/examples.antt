@@ -3,6 +3,8 @@
 pub mod Shapes
 -- lines of an input
 pub mod Inputs
+-- digits of numbers, some at a time
+pub mod Digits
 -- groups of a probe order
 pub mod Groups
 -- what `info` reports

@@ -64,8 +64,7 @@ fn take_buffered<R: BufRead>(reader: &mut R, line: &mut Vec<u8>) -> io::Result<B
 {
     let available = match reader.fill_buf() {
         Ok(available) => available,
-        Err(error) if error.kind() == ErrorKind::Interrupted => return Ok(Buffered::Part),
-        Err(error) => return Err(error),
+        Err(error) => return buffered_after(error),
     };
     if available.is_empty() {
         return Ok(Buffered::End);
@@ -77,6 +76,20 @@ fn take_buffered<R: BufRead>(reader: &mut R, line: &mut Vec<u8>) -> io::Result<B
     line.extend_from_slice(&available[..place + 1])?;
     reader.consume(place + 1);
     Ok(Buffered::Line)
+}
+
+// What is in the buffer where this error came when it was to be filled: where the read was interrupted a part of a line
+// at most, which is read again. Any other error is returned as it is.
+#[cold]
+fn buffered_after(refused: io::Error) -> io::Result<Buffered>
+    ensures again { error_kind refused ≡ ErrorKind.Interrupted → result ≡ Ok Buffered.Part }
+    ensures other { error_kind refused ≢ ErrorKind.Interrupted → result ≡ Err refused }
+{
+    if refused.kind() == ErrorKind::Interrupted {
+        Ok(Buffered::Part)
+    } else {
+        Err(refused)
+    }
 }
 
 // Drops the end of a line, `\n` or `\r\n`, if it has one.

@@ -1,7 +1,8 @@
 //! Keys and values as text: a number in decimal digits, bytes in hexadecimal digits, and nothing at all.
 ghost use Rattle.std.specs.Prelude.{◌≡◌, ◌↔◌, ◌<◌, ◌≤◌, ◌*◌, ◌%◌, ◌^◌, ℕ};
 ghost use Rattle.std.specs.Prelude.{List, [], length, take, max, slice_index, Some};
-ghost use Rattle.std.specs.Prelude.{IfSome, IsFalse, IsSome, IsTrue, OnOk, decimal, false};
+ghost use Rattle.std.specs.Prelude.{IfErr, IfSome, IsFalse, IsOk, IsSome, IsTrue, None, OnOk};
+ghost use Rattle.std.specs.Prelude.{decimal, false};
 ghost use Rattle.std.specs.Char.{is_ascii_hexdigit, to_ascii_lowercase};
 ghost use Rattle.std.specs.Fmt.{digit_glyph};
 ghost use Rattle.std.specs.List.{AllPass};
@@ -236,9 +237,6 @@ fn write_in_pairs<W: Write>(digits: &[u8], output: &mut W) -> io::Result<()>
 }
 
 // Writes two digits. Where that fails, `fault` becomes the error.
-//
-// The error is put where it stays. As a part of the answer it would be copied for each two digits, and zeros in its
-// place where there is none.
 #[inline(always)]
 fn is_written<W: Write>(pair: &[u8; 2], output: &mut W, fault: &mut Option<io::Error>) -> bool
     ensures written { IsTrue result
@@ -246,7 +244,20 @@ fn is_written<W: Write>(pair: &[u8; 2], output: &mut W, fault: &mut Option<io::E
     ensures kept { IsTrue result → fault.new ≡ fault.old }
     ensures fault { IsFalse result → IsSome fault.new }
 {
-    match output.write_all(pair) {
+    went_well(output.write_all(pair), fault)
+}
+
+// Whether this went well. Where it did not, `fault` becomes its error.
+//
+// The error is put where it stays. As a part of the answer it would be copied for each two digits, and zeros in its
+// place where there is none.
+#[inline(always)]
+fn went_well(written: io::Result<()>, fault: &mut Option<io::Error>) -> bool
+    ensures done { IsTrue result → IsOk written }
+    ensures kept { IsOk written → IsTrue result × (fault.new ≡ fault.old) }
+    ensures fault { IfErr written (λ e. fault.new ≡ Some e) }
+{
+    match written {
         Ok(()) => true,
         Err(error) => {
             *fault = Some(error);

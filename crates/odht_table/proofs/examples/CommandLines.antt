@@ -2,8 +2,10 @@
 use Rattle.std.proofs.Common.{◌≡◌, ◌==◌, ℕ, false, refl, eq-eqb, sym, ap, subst, arith, List, [], drop, slice_index, lit<}
 use Rattle.std.specs.Prelude.{codes}
 use Rattle.odht_table.specs.Commands.{IsPairText, IsNumberText, IsWordText, IsCommandText}
+use Rattle.odht_table.specs.Verbs.{IsVerbText}
 use Rattle.odht_table.specs.declared.script.command.Command.TheVariants.{New, OnTable}
 use Rattle.odht_table.specs.declared.script.command.Request.TheVariants.{Put, Get, Len, Walk, Hex, Dump}
+use Rattle.odht_table.specs.declared.script.command.Verb.TheVariants.{Make, Insert, Find}
 use Rattle.odht_header.proofs.examples.Apart.{are_distinct, unequal_lists}
 use Rattle.odht_table.proofs.examples.NumberTexts.{a_pair, a_number, another_number, another_second}
 
@@ -37,6 +39,24 @@ longer_words = (unequal_lists _ _ refl, unequal_lists _ _ refl, unequal_lists _ 
 -- no word asks for a request with numbers
 pub requests_with_numbers : (IsWordText (codes "put") (Put 1 2) → ⊥) × (IsWordText (codes "get") (Get 1) → ⊥)
 requests_with_numbers = (λ h. h, λ h. h)
+
+-- ---- first words
+-- each word that numbers follow
+pub verbs : IsVerbText (codes "new") Make × IsVerbText (codes "put") Insert × IsVerbText (codes "get") Find
+verbs = (refl, refl, refl)
+
+-- none is another's
+pub other_verbs : (IsVerbText (codes "put") Make → ⊥)
+    × (IsVerbText (codes "get") Insert → ⊥)
+    × (IsVerbText (codes "new") Find → ⊥)
+other_verbs = (unequal_lists _ _ refl, unequal_lists _ _ refl, unequal_lists _ _ refl)
+
+-- nor is a word with a further byte, in capitals, or that is a command alone, nor no word
+pub no_verbs : (IsVerbText (codes "new ") Make → ⊥)
+    × (IsVerbText (codes "PUT") Insert → ⊥)
+    × (IsVerbText (codes "len") Find → ⊥)
+    × (IsVerbText [] Find → ⊥)
+no_verbs = (unequal_lists _ _ refl, unequal_lists _ _ refl, unequal_lists _ _ refl, unequal_lists _ _ refl)
 
 -- ---- lines
 -- two numbers

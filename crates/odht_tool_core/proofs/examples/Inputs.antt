@@ -1,10 +1,10 @@
 -- Worked examples: lines of an input.
-use Rattle.std.proofs.Common.{◌≡◌, ℕ, zero, suc, refl, ◌<◌, get_or, List, [], ◌∷◌, Some, None, arith}
+use Rattle.std.proofs.Common.{◌≡◌, ℕ, zero, suc, refl, ◌<◌, get_or, List, [], ◌∷◌, Some, None, arith, lit<}
 use Rattle.std.specs.Prelude.{codes}
 use Rattle.std.specs.Str.Lines.{lines}
-use Rattle.odht_header.proofs.examples.Apart.{unequal_lists}
+use Rattle.odht_header.proofs.examples.Apart.{unequal_lists, some_unequal_lists}
 use Rattle.odht_tool_core.specs.Cuts.{IsCutAt}
-use Rattle.odht_tool_core.specs.InputLines.{without_end, IsNextLine}
+use Rattle.odht_tool_core.specs.InputLines.{without_end, IsNextLine, IsTakenThrough}
 
 -- an end is a line feed, with a carriage return before it or without; a last line needs none
 pub ends : (without_end (codes "a\r\n") ≡ codes "a") × (without_end (codes "a\n") ≡ codes "a") × (without_end (codes "a\r") ≡ codes "a\r")
@@ -27,6 +27,32 @@ with_end h = unequal_lists (codes "a") (codes "a\n") refl (first h.2)
   where
     first : {l : List (List ℕ)} → lines (codes "a\nb") ≡ codes "a\n" ∷ l → codes "a" ≡ codes "a\n"
     first e = cc
+
+-- a line is taken with its end, and a last one without
+pub taken : IsTakenThrough (Some (codes "a\r\nb\n")) (Some (codes "b\n")) (codes "a\r\n")
+    × IsTakenThrough (Some (codes "\n\n")) (Some (codes "\n")) (codes "\n")
+    × IsTakenThrough (Some (codes "ab")) (Some []) (codes "ab")
+taken = ((refl, refl, lit< tt), (refl, refl, lit< tt), (refl, refl, lit< tt))
+
+-- of bytes that are not known it is not nothing
+pub taken_unknown : IsTakenThrough None None (codes "a\n")
+taken_unknown = (tt, tt, lit< tt)
+
+-- its end is not left out
+pub taken_without_end : IsTakenThrough (Some (codes "a\nb")) (Some (codes "b")) (codes "a") → ⊥
+taken_without_end h = unequal_lists (codes "a") (codes "a\n") refl h.0
+
+-- nor left to the reader
+pub end_is_left : IsTakenThrough (Some (codes "a\nb")) (Some (codes "\nb")) (codes "a\n") → ⊥
+end_is_left h = some_unequal_lists (codes "\nb") (codes "b") refl h.1
+
+-- no further line is taken
+pub two_are_taken : IsTakenThrough (Some (codes "a\nb\n")) (Some []) (codes "a\nb\n") → ⊥
+two_are_taken h = unequal_lists (codes "a\nb\n") (codes "a\n") refl h.0
+
+-- and at the end of the input there is nothing to take
+pub nothing_taken : IsTakenThrough (Some []) (Some []) [] → ⊥
+nothing_taken h = omega (arith, h.2)
 
 -- a line is cut at its first tab
 pub cut : IsCutAt 9 (codes "a\tb\tc") (codes "a") (codes "b\tc")
