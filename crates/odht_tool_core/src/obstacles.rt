@@ -1,4 +1,4 @@
-//! What a file may be replaced, and what permissions the new one gets: from the numbers that the system gives.
+//! Which files are replaced, and which permissions the new one gets, by the numbers that the system gives of a file.
 ghost use Rattle.std.specs.Prelude.{◌≡◌, bit_and, Some};
 ghost use Rattle.odht_tool_core.specs.Replaced.{obstacle_of, obstacle_text, irregular};
 ghost use Rattle.odht_tool_core.specs.Replaced.{kept_mode, within_owner, in_both};
