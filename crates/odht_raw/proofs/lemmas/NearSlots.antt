@@ -1,6 +1,6 @@
 -- Slots that are near the home of their key: when they are ready, and that the first ones of a list are placed as long as
 -- each is near.
-use Rattle.std.proofs.Common.{◌≡◌, ◌<◌, ◌≤◌, ◌+◌, ◌-◌, ◌%◌, ◌^◌, ◌∙◌, ◌↔◌, inl, inr, ℕ, zero, suc, true, not, nat_lt, sym, ap, subst, refl, List, [], ◌∷◌, ◌++◌, length, get_or, take, drop, filter, arith, All, Contains, lt-ltb, le-ltb}
+use Rattle.std.proofs.Common.{◌≡◌, ◌<◌, ◌≤◌, ◌+◌, ◌-◌, ◌%◌, ◌^◌, ◌∙◌, inl, inr, ℕ, zero, suc, sym, ap, subst, refl, List, [], ◌∷◌, ◌++◌, length, get_or, take, drop, arith, All, Contains, lt-ltb, le-ltb}
 use Rattle.std.proofs.lemmas.Bool.{cases_lt}
 use Rattle.std.proofs.lemmas.List.{get_or-take, get_or_default, length-take-le}
 use Rattle.std.proofs.lemmas.List.Elements.{All-head, All-tail}

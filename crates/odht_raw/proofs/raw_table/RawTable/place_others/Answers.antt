@@ -1,4 +1,4 @@
-use Rattle.std.proofs.Common.{◌≡◌, ◌∙◌, ◌+◌, ◌-◌, ◌≤◌, ℕ, true≢false, List, ◌++◌, length, take, drop, sym, ap, subst, arith, refl, All}
+use Rattle.std.proofs.Common.{◌≡◌, ◌+◌, ◌-◌, ℕ, true≢false, List, ◌++◌, length, take, drop, sym, ap, subst, arith, refl, All}
 use Rattle.std.proofs.lemmas.List.{take_all, length-drop}
 use borrow.Rule.Slice.PartMut.{put_mid}
 use Rattle.odht_base.specs.Format.{Format, format_of}
