@@ -13,6 +13,8 @@ pub mod SearchEnds
 pub mod Placings
 -- what the whole check sees
 pub mod Checked
+-- and what it knows of the slots that it has been through
+pub mod Summaries
 -- what an insert through borrowed parts may not do
 pub mod MutInserts
 -- what placing a key through borrowed parts may not do

@@ -63,12 +63,16 @@ pub mod SlotSummary
 pub mod SpanLooks
 -- lists of different numbers that rise
 pub mod RisingLists
+-- the list of all occupied slots, as it is made
+pub mod ListedSlots
 -- slots that wait to be placed, as they are listed
 pub mod WaitingSlots
 -- what the whole check looks at beyond a view
 pub mod LateStages
 -- when a slot is ready, by the slots that wait
 pub mod ReadyPositions
+-- near the home of its key
+pub mod NearSlots
 -- a list whose placed slots are moved to its front
 pub mod PartedSlots
 -- one pass through the slots that wait, in the search for an order

@@ -17,8 +17,11 @@
 --                          done, with the slots of ns that are placed, are the slots so far in the search for an order
 --     IsPass F P done ns n  after a pass that placed n slots, which are the first of ns; where n is 0, no slot is ready
 --                          after done but those of done
+--     AreListed F T ns     the slots of ns wait, and are pending in a table whose parts are T
 --     AreWholeParts F P T n  T is the parts of the table P, which is valid and has n pairs
-use Rattle.std.specs.Prelude.{◌≡◌, ℕ, ◌+◌, ◌-◌, ◌^◌, ◌%◌, ◌<◌, ◌≤◌, nat_lt, List, ◌++◌, map, filter, take, drop, AllPairs, Contains, IsPermutation}
+--     IsBegun F T ns n     of the list ns of all occupied slots of T the first n are placed, and the others wait; with these
+--                          done, the others are pending in each table whose parts are T
+use Rattle.std.specs.Prelude.{◌≡◌, ℕ, ◌+◌, ◌-◌, ◌^◌, ◌%◌, ◌<◌, ◌≤◌, nat_lt, List, ◌++◌, length, map, filter, take, drop, All, AllPairs, Contains, IsPermutation}
 use Rattle.odht_base.specs.Format.{Format}
 use Rattle.odht_base.specs.Made.{occupied}
 use Rattle.odht_base.specs.Probe.{probe_slot}
@@ -79,3 +82,15 @@ pub record AreWholeParts (F : Format) (P : Table) (T : TableParts) (n : ℕ) : T
   pub valid : IsValid F P
   pub parts : IsPartsOf F P T.entries.bytes T.control
   pub counted : n ≡ count P
+
+pub record AreListed (F : Format) (T : TableParts) (ns : List ℕ) : Type 0 where
+  pub waiting : All (IsWaiting T.entries.slots) ns
+  pub table : Table
+  pub parts : IsPartsOf F table T.entries.bytes T.control
+  pub done : List ℕ
+  pub pending : IsPending F table done ns
+
+pub record IsBegun (F : Format) (T : TableParts) (ns : List ℕ) (n : ℕ) : Type 0 where
+  pub within : n ≤ length ns
+  pub waiting : All (IsWaiting T.entries.slots) (drop n ns)
+  pub pending : (P : Table) → AreWholeParts F P T (length ns) → IsPending F P (take n ns) (drop n ns)

@@ -37,6 +37,7 @@ mod scan;
 mod search_result;
 mod span;
 mod table_mut;
+mod waiting;
 mod walk;
 
 pub use entries::{Entries, Entry};

@@ -12,13 +12,13 @@ use Rattle.odht_header.proofs.examples.Apart.{unequal, tested}
 use Rattle.odht_header.proofs.examples.Opened.{opened}
 
 -- sixteen slots: 5 beside 7 in slot 5 and 6 beside 8 in slot 6, both with their tag 0; the others are free
-abbrev entries_of_two : List ℕ
+abbrev pub entries_of_two : List ℕ
 entries_of_two = overwritten_at (overwritten_at (replicate 128 0) 40 (5 ∷ 0 ∷ 0 ∷ 0 ∷ 7 ∷ [])) 48 (6 ∷ 0 ∷ 0 ∷ 0 ∷ 8 ∷ [])
 
-abbrev parts : List ℕ → TableParts
+abbrev pub parts : List ℕ → TableParts
 parts control = record { control = control; entries = record { slots = 16; bytes = entries_of_two } }
 
-abbrev two : List ℕ
+abbrev pub two : List ℕ
 two = set (set (set (set (replicate 32 255) 5 0) 6 0) 21 0) 22 0
 
 -- both are decoded, and no slot has an error, nor the mirror

@@ -1,5 +1,5 @@
 -- Worked examples: slots that wait in the search for an insert order, in the table with 15 in slot 15 and 31 in slot 0.
-use Rattle.std.proofs.Common.{◌≡◌, ◌<◌, ◌≤◌, ◌+◌, ◌%◌, inl, inr, ℕ, List, refl, ap, subst, arith, [], ◌∷◌, get_or, AllPairs, Contains, lit<, lit≤}
+use Rattle.std.proofs.Common.{◌≡◌, ◌<◌, ◌≤◌, ◌+◌, ◌%◌, inl, inr, ℕ, zero, suc, List, refl, ap, subst, arith, [], ◌∷◌, get_or, All, AllPairs, Contains, lit<, lit≤}
 use Rattle.std.proofs.lemmas.Bool.{cases_lt}
 use Rattle.std.proofs.lemmas.List.Sorted.{IsPermutation-refl, IsPermutation-append_comm, length_permutation}
 use Rattle.odht_base.specs.Image.{entries, controls}
@@ -12,7 +12,7 @@ use Rattle.odht_base.proofs.lemmas.Placed.{IsPlaced-tests}
 use Rattle.odht_base.proofs.lemmas.SoFar.{so_far_none}
 use Rattle.odht_raw.specs.Frontiers.{AreFrontiers}
 use Rattle.odht_raw.specs.Parts.{TableParts}
-use Rattle.odht_raw.specs.Waiting.{waiting, slot_of, placed_of, IsWaiting, AreRising, WaitsWithin, WaitsBehind, IsLeft, IsFrontier, IsUnblocked, IsPending, AreWholeParts}
+use Rattle.odht_raw.specs.Waiting.{waiting, slot_of, placed_of, IsWaiting, AreRising, WaitsWithin, WaitsBehind, IsLeft, IsFrontier, IsUnblocked, IsPending, AreListed, IsBegun, AreWholeParts}
 use Rattle.odht_raw.specs.declared.raw_table.insert_order.Frontier.{Frontier}
 use Rattle.odht_header.proofs.examples.Opened.{opened}
 
@@ -164,3 +164,21 @@ whole = record { valid = fifteen_valid; parts = record { placed = fifteen_valid.
 -- and not with one
 pub one_refused : AreWholeParts direct_config fifteen_first parts 1 → ⊥
 one_refused h = omega (arith, h.counted, fifteen_slots.2)
+
+-- at the start both slots are listed
+pub listed : AreListed direct_config parts (waiting 0 ∷ waiting 15 ∷ [])
+unfolding opened
+listed = record { waiting = both; table = fifteen_first; parts = whole.parts; done = []; pending = at_start }
+  where
+    both : All (IsWaiting 16) (waiting 0 ∷ waiting 15 ∷ [])
+    both zero d l = (lit≤ tt, lit< tt)
+    both (suc zero) d l = (lit≤ tt, lit< tt)
+    both (suc (suc k)) d l = absurd (omega (arith, l))
+
+-- a slot that is placed is not listed so
+pub placed_refused : AreListed direct_config parts (waiting 0 ∷ 15 ∷ []) → ⊥
+placed_refused h = absurd (omega (arith, (h.waiting 1 0 (lit< tt)).0))
+
+-- of a list of all slots, one that is placed stands before those that wait, and slot 0 is not placed first
+pub begun_refused : (IsBegun direct_config parts (waiting 0 ∷ 15 ∷ []) 0 → ⊥) × (IsBegun direct_config parts (0 ∷ 15 ∷ []) 2 → ⊥)
+begun_refused = (λ h. absurd (omega (arith, (h.waiting 1 0 (lit< tt)).0)), λ h. pending_refused.2 (h.pending fifteen_first whole))

@@ -213,11 +213,11 @@ passed_none F P done old pending = record { pending = pending; idle = λ none k 
 
 module _ {s : ℕ} {old ns : List ℕ} {at placed : ℕ} (gone : IsGone s old ns at placed) where
   -- those from `at` on wait
-  rest_waits : All (IsWaiting s) (drop at ns)
+  pub rest_waits : All (IsWaiting s) (drop at ns)
   rest_waits = subst (All (IsWaiting s)) (sym gone.rest) (All-drop (IsWaiting s) at old gone.waited)
 
   -- so each is listed as one that waits
-  rest_high : All (λ n. 2 ^ 63 ≤ n) (drop at ns)
+  pub rest_high : All (λ n. 2 ^ 63 ≤ n) (drop at ns)
   rest_high k d l = (rest_waits k d l).0
 
   -- those behind the one at `at` are the old ones

@@ -34,7 +34,7 @@ list-first [] x e = absurd (none-some x (sym e))
 list-first (y ∷ xs) x e = ap (λ z. z ∷ xs) (sym (same_Some x y e))
 
 -- a range in two parts
-range-append : (a m n : ℕ) → range_with_len a (m + n) ≡ range_with_len a m ++ range_with_len (a + m) n
+pub range-append : (a m n : ℕ) → range_with_len a (m + n) ≡ range_with_len a m ++ range_with_len (a + m) n
 range-append a zero n = let e : a ≡ a + 0 = omega arith in let z : 0 + n ≡ n = omega arith in rw z (ap (λ b. range_with_len b n) e)
 range-append a (suc m) n =
     let e : a + 1 + m ≡ a + suc m = omega arith in

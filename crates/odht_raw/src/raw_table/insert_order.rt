@@ -1,26 +1,23 @@
 //! An order of inserts that makes a table, found within the buffer that it is written to.
-ghost use Rattle.std.specs.Prelude.{◌≡◌, ◌≤◌, ◌<◌, ◌+◌, ◌^◌, ◌↔◌, ℕ, List, ◌++◌, slice_index};
-ghost use Rattle.std.specs.Prelude.{length, map, drop, IsTrue, All, AllPairs, Contains};
-ghost use Rattle.std.specs.Prelude.{IsPermutation};
+ghost use Rattle.std.specs.Prelude.{◌≡◌, ◌≤◌, ◌<◌, ◌+◌, ◌^◌, ◌%◌, ◌↔◌, ℕ, List, ◌++◌, length, drop};
+ghost use Rattle.std.specs.Prelude.{IsTrue, All, AllPairs, Contains, IsPermutation};
 ghost use Rattle.odht_base.specs.Format.{format_of};
 ghost use Rattle.odht_base.specs.Load.{IsSlotCount};
-ghost use Rattle.odht_base.specs.Made.{occupied, IsMade, IsInsertOrder};
+ghost use Rattle.odht_base.specs.Made.{IsMade, IsInsertOrder};
 ghost use Rattle.odht_base.specs.Ready.{IsReady};
-ghost use Rattle.odht_base.specs.Decoded.{counts_as_free};
-ghost use Rattle.odht_base.specs.Table.{Table, Pair, count, slot_count as slots_of, is_free};
+ghost use Rattle.odht_base.specs.Decoded.{slot_key};
+ghost use Rattle.odht_base.specs.Table.{Table, Pair};
 ghost use Rattle.odht_base.specs.Valid.{HoldsPair, IsPartsOf};
 ghost use Rattle.odht_raw.specs.Frontiers.{AreFrontiers};
 ghost use Rattle.odht_raw.specs.Waiting.{waiting, placed_of, IsWaiting, AreRising, IsPending};
-ghost use Rattle.odht_raw.specs.Waiting.{AreWholeParts, IsPass, IsLeft, IsFrontier, IsUnblocked};
-ghost use Rattle.odht_raw.specs.Waiting.{WaitsWithin, WaitsBehind};
+ghost use Rattle.odht_raw.specs.Waiting.{AreWholeParts, AreListed, IsBegun, IsPass, IsLeft};
+ghost use Rattle.odht_raw.specs.Waiting.{IsFrontier, IsUnblocked, WaitsWithin, WaitsBehind};
 
-use super::{EntryMetadata, RawTable, is_empty_or_deleted};
+use super::RawTable;
+use super::waiting::{WAITING, list_occupied};
 use crate::bytes::ByteArray;
 use crate::hash::HashFn;
 use crate::swisstable_group_query::REFERENCE_GROUP_SIZE;
-
-// What is added to a slot that waits to be placed. It is above each slot.
-const WAITING: usize = 1 << 63;
 
 // How many frontiers are kept from one search to the next. Few homes have long searches at a time, and one that is
 // forgotten is only found again.
@@ -64,8 +61,55 @@ impl<'a, K: ByteArray, V: ByteArray, H: HashFn> RawTable<'a, K, V, H> {
             → (IsTrue result ↔ IsMade F P) }
     {
         list_occupied(self.control, self.entries.len(), out);
+        let near = self.place_near(out);
+        if near == out.len() {
+            return true;
+        }
+        self.place_others(out, near)
+    }
+
+    // Places slots in their order, as long as each is near its home. None that waits is before it in the probe order of
+    // its key then, so that it is ready. Answers how many were placed.
+    fn place_near(&self, slots: &mut [usize]) -> usize
+        requires whole { let F = format_of K.LEN V.LEN H.hash
+            in (P : Table) × AreWholeParts F P self.now (length slots.old) }
+        requires begun { IsBegun (format_of K.LEN V.LEN H.hash) self.now slots.old 0 }
+        ensures { IsBegun (format_of K.LEN V.LEN H.hash) self.now slots.new result }
+    {
+        // Its invariant is used: the slots are a slot count, and have control bytes and a mirror.
+        let _ = &self.control;
+        for at in 0..slots.len() {
+            let slot = slots[at] - WAITING;
+            if !is_near(slot, self.home_of(slot)) {
+                return at;
+            }
+            slots[at] = slot;
+        }
+        slots.len()
+    }
+
+    // `insert_order` of the slots that still wait, where the first `placed` are placed.
+    //
+    // The frontiers stand here, where some slot is not near its home: in most tables with few pairs none is looked for.
+    #[inline(never)]
+    fn place_others(&self, out: &mut [usize], placed: usize) -> bool
+        requires whole { let F = format_of K.LEN V.LEN H.hash
+            in (P : Table) × AreWholeParts F P self.now (length out.old) }
+        requires begun { IsBegun (format_of K.LEN V.LEN H.hash) self.now out.old placed }
+        ensures order { let F = format_of K.LEN V.LEN H.hash
+            in (P : Table)
+            → AreWholeParts F P self.now (length out.old)
+            → IsTrue result
+            → IsInsertOrder F P out.new }
+        ensures made { let F = format_of K.LEN V.LEN H.hash
+            in (P : Table)
+            → AreWholeParts F P self.now (length out.old)
+            → (IsTrue result ↔ IsMade F P) }
+    {
+        // Its invariant is used: the slots are a slot count.
+        let _ = &self.control;
         let mut frontiers = [Frontier::at(0); FRONTIERS];
-        let mut placed = 0;
+        let mut placed = placed;
         while placed < out.len() {
             let ready = self.place_ready(&mut out[placed..], &mut frontiers);
             if ready == 0 {
@@ -79,12 +123,8 @@ impl<'a, K: ByteArray, V: ByteArray, H: HashFn> RawTable<'a, K, V, H> {
     // Goes once through the slots that wait, and places each that is ready by then. At the end the placed slots come
     // first, in slot order, and after them the others. Answers how many were placed.
     fn place_ready(&self, slots: &mut [usize], frontiers: &mut [Frontier; FRONTIERS]) -> usize
+        requires listed { AreListed (format_of K.LEN V.LEN H.hash) self.now slots.old }
         requires frontiers { AreFrontiers slots.old self.now.entries.slots frontiers.old }
-        requires waiting { All (IsWaiting self.now.entries.slots) slots.old }
-        requires pending { let F = format_of K.LEN V.LEN H.hash
-            in (P : Table) × (done : List ℕ)
-            × IsPartsOf F P self.now.entries.bytes self.now.control
-            × IsPending F P done slots.old }
         ensures few { result ≤ length slots.new }
         ensures waiting { All (IsWaiting self.now.entries.slots) (drop result slots.new) }
         ensures pass { let F = format_of K.LEN V.LEN H.hash
@@ -134,15 +174,33 @@ impl<'a, K: ByteArray, V: ByteArray, H: HashFn> RawTable<'a, K, V, H> {
             → HoldsPair P slot p
             → (IsTrue result ↔ IsReady F P (done ++ placed_of slots.now) slot) }
     {
-        let key = self.entries.get(slot).key;
-        let mask = self.entries.len() - 1;
-        let home = H::hash(key.as_slice()) as usize & mask;
-        if home <= slot && slot - home < REFERENCE_GROUP_SIZE {
+        let home = self.home_of(slot);
+        if is_near(slot, home) {
             left <= home
         } else {
-            is_unblocked_from(home, slot, mask, left, slots, frontiers)
+            is_unblocked_from(home, slot, self.entries.len() - 1, left, slots, frontiers)
         }
     }
+
+    // The home of the key in a slot.
+    #[inline(always)]
+    fn home_of(&self, slot: usize) -> usize
+        requires { slot < self.now.entries.slots }
+        ensures { let F = format_of K.LEN V.LEN H.hash
+            in result
+            ≡ F.hash (slot_key F self.now.entries.bytes slot) % self.now.entries.slots }
+    {
+        let key = self.entries.get(slot).key;
+        H::hash(key.as_slice()) as usize & (self.entries.len() - 1)
+    }
+}
+
+// Whether a slot is one of the first group of a home, and not below the home.
+#[inline(always)]
+fn is_near(slot: usize, home: usize) -> bool
+    ensures { IsTrue result ↔ (home ≤ slot) × (slot < home + 16) }
+{
+    home <= slot && slot - home < REFERENCE_GROUP_SIZE
 }
 
 impl Frontier {
@@ -296,27 +354,4 @@ fn sort_placed_first(slots: &mut [usize], placed: usize)
         }
     }
     slots[front..].sort_unstable();
-}
-
-// Lists the occupied slots, as many as `out` has room for, each as one that waits.
-fn list_occupied(control: &[EntryMetadata], slot_count: usize, out: &mut [usize])
-    requires slots { slot_count ≤ 2 ^ 63 }
-    requires control { slot_count ≤ length control.now }
-    ensures { (P : Table)
-        → slots_of P ≡ slot_count
-        → ((i : ℕ) → i < slot_count
-        → counts_as_free (slice_index control.now i) ≡ is_free P.cells i)
-        → length out.old ≡ count P
-        → out.new ≡ map waiting (occupied P) }
-{
-    let mut occupied = 0;
-    for slot in 0..slot_count {
-        if occupied < out.len() {
-            // Written over by the next, where the slot is free: which slots are free is not to be guessed.
-            out[occupied] = WAITING + slot;
-            if !is_empty_or_deleted(control[slot]) {
-                occupied += 1;
-            }
-        }
-    }
 }

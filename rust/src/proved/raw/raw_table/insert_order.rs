@@ -1,13 +1,11 @@
 // Made by `make rust` of crates/odht_raw/src/raw_table/insert_order.rt.
 //! An order of inserts that makes a table, found within the buffer that it is written to.
 
-use super::{is_empty_or_deleted, EntryMetadata, RawTable};
+use super::waiting::{list_occupied, WAITING};
+use super::RawTable;
 use crate::proved::raw::bytes::ByteArray;
 use crate::proved::raw::hash::HashFn;
 use crate::proved::raw::swisstable_group_query::REFERENCE_GROUP_SIZE;
-
-// What is added to a slot that waits to be placed. It is above each slot.
-const WAITING: usize = 1 << 63;
 
 // How many frontiers are kept from one search to the next. Few homes have long searches at a time, and one that is
 // forgotten is only found again.
@@ -39,8 +37,37 @@ impl<'a, K: ByteArray, V: ByteArray, H: HashFn> RawTable<'a, K, V, H> {
     /// 64 homes. After each pass the slots that still wait are sorted. It allocates nothing.
     pub fn insert_order(&self, out: &mut [usize]) -> bool {
         list_occupied(self.control, self.entries.len(), out);
+        let near = self.place_near(out);
+        if near == out.len() {
+            return true;
+        }
+        self.place_others(out, near)
+    }
+
+    // Places slots in their order, as long as each is near its home. None that waits is before it in the probe order of
+    // its key then, so that it is ready. Answers how many were placed.
+    fn place_near(&self, slots: &mut [usize]) -> usize {
+        // Its invariant is used: the slots are a slot count, and have control bytes and a mirror.
+        let _ = &self.control;
+        for at in 0..slots.len() {
+            let slot = slots[at] - WAITING;
+            if !is_near(slot, self.home_of(slot)) {
+                return at;
+            }
+            slots[at] = slot;
+        }
+        slots.len()
+    }
+
+    // `insert_order` of the slots that still wait, where the first `placed` are placed.
+    //
+    // The frontiers stand here, where some slot is not near its home: in most tables with few pairs none is looked for.
+    #[inline(never)]
+    fn place_others(&self, out: &mut [usize], placed: usize) -> bool {
+        // Its invariant is used: the slots are a slot count.
+        let _ = &self.control;
         let mut frontiers = [Frontier::at(0); FRONTIERS];
-        let mut placed = 0;
+        let mut placed = placed;
         while placed < out.len() {
             let ready = self.place_ready(&mut out[placed..], &mut frontiers);
             if ready == 0 {
@@ -80,15 +107,26 @@ impl<'a, K: ByteArray, V: ByteArray, H: HashFn> RawTable<'a, K, V, H> {
         slots: &[usize],
         frontiers: &mut [Frontier; FRONTIERS],
     ) -> bool {
-        let key = self.entries.get(slot).key;
-        let mask = self.entries.len() - 1;
-        let home = H::hash(key.as_slice()) as usize & mask;
-        if home <= slot && slot - home < REFERENCE_GROUP_SIZE {
+        let home = self.home_of(slot);
+        if is_near(slot, home) {
             left <= home
         } else {
-            is_unblocked_from(home, slot, mask, left, slots, frontiers)
+            is_unblocked_from(home, slot, self.entries.len() - 1, left, slots, frontiers)
         }
     }
+
+    // The home of the key in a slot.
+    #[inline(always)]
+    fn home_of(&self, slot: usize) -> usize {
+        let key = self.entries.get(slot).key;
+        H::hash(key.as_slice()) as usize & (self.entries.len() - 1)
+    }
+}
+
+// Whether a slot is one of the first group of a home, and not below the home.
+#[inline(always)]
+fn is_near(slot: usize, home: usize) -> bool {
+    home <= slot && slot - home < REFERENCE_GROUP_SIZE
 }
 
 impl Frontier {
@@ -197,18 +235,4 @@ fn sort_placed_first(slots: &mut [usize], placed: usize) {
         }
     }
     slots[front..].sort_unstable();
-}
-
-// Lists the occupied slots, as many as `out` has room for, each as one that waits.
-fn list_occupied(control: &[EntryMetadata], slot_count: usize, out: &mut [usize]) {
-    let mut occupied = 0;
-    for slot in 0..slot_count {
-        if occupied < out.len() {
-            // Written over by the next, where the slot is free: which slots are free is not to be guessed.
-            out[occupied] = WAITING + slot;
-            if !is_empty_or_deleted(control[slot]) {
-                occupied += 1;
-            }
-        }
-    }
 }

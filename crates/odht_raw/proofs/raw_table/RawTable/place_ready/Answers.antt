@@ -9,7 +9,7 @@ use Rattle.odht_raw.proofs.raw_table.RawTable.place_ready.Goals as goal
 
 pub loop-at-init : goal.loop-at-init
 loop-at-init g c = (
-  gone_none _ _ c.requires.waiting (λ k. let fits = c.type_inv.slots k in search rules),
+  gone_none _ _ c.requires.listed.waiting (λ k. let fits = c.type_inv.slots k in search rules),
   left_none _,
   c.requires.frontiers,
   λ P done parts pending. passed_none _ P done _ pending,
@@ -27,8 +27,8 @@ module _ (g : Over) (c : In-loop-at g) where
 
   rising : AreRising c.loop-at.slots
   rising =
-      let known = c.requires.pending in
-      (c.loop-at.invariant.3 known.0 known.1 known.2 known.3).pending.rising
+      let known = c.requires.listed in
+      (c.loop-at.invariant.3 known.table known.done known.parts known.pending).pending.rising
 
   fit : (k : ℕ) → k < length c.loop-at.slots → get_or c.loop-at.slots k 0 < 2 ^ 64
   fit k l = c.loop-at.invariant.0.fit k 0 l
@@ -89,14 +89,14 @@ loop-at-preserved g c =
 
 pub returns-clause-few : goal.returns-clause-few
 returns-clause-few g c =
-    let known = c.requires.pending in
-    let passed = c.loop-at.invariant.3 known.0 known.1 known.2 known.3 in
+    let known = c.requires.listed in
+    let passed = c.loop-at.invariant.3 known.table known.done known.parts known.pending in
     sorted_few c.loop-at.invariant.0 passed.pending.rising c.sort_placed_first.ensures.permutation (c.sort_placed_first.ensures.rising passed.pending.rising)
 
 pub returns-clause-waiting : goal.returns-clause-waiting
 returns-clause-waiting g c =
-    let known = c.requires.pending in
-    let passed = c.loop-at.invariant.3 known.0 known.1 known.2 known.3 in
+    let known = c.requires.listed in
+    let passed = c.loop-at.invariant.3 known.table known.done known.parts known.pending in
     sorted_waiting c.loop-at.invariant.0 passed.pending.rising c.sort_placed_first.ensures.permutation (c.sort_placed_first.ensures.rising passed.pending.rising)
 
 pub returns-clause-pass : goal.returns-clause-pass

@@ -1,0 +1,94 @@
+use Rattle.std.proofs.Common.{◌≡◌, ◌+◌, ◌-◌, ◌<◌, ◌≤◌, ◌^◌, ℕ, List, [], length, get_or, subst, rules, arith}
+use Rattle.odht_base.specs.Format.{Format, IsFormat, format_of}
+use Rattle.odht_base.specs.Table.{Table}
+use Rattle.odht_raw.specs.Parts.{TableParts, IsTableParts}
+use Rattle.odht_raw.specs.Waiting.{AreRising, AreWholeParts, IsBegun}
+use Rattle.odht_header.proofs.lemmas.Formats.{IsFormat-format_of}
+use Rattle.odht_raw.proofs.lemmas.LeftSlots.{IsLeftBefore, left_none, left_placed, left_below, next_listed}
+use Rattle.odht_raw.proofs.lemmas.NearSlots.{near_ready, front_taken}
+use Rattle.odht_raw.proofs.lemmas.PlacedFirst.{IsGone, IsPassed, gone_none, gone_placed, next_waits, next_holds, passed_none, passed_placed, rest_waits, rest_high}
+use Rattle.odht_raw.proofs.raw_table.RawTable.place_near.Given.{Over}
+use Rattle.odht_raw.proofs.raw_table.RawTable.place_near.Goals.{In-loop-at}
+use Rattle.odht_raw.proofs.raw_table.RawTable.place_near.Goals as goal
+
+abbrev format : Over → Format
+format g = format_of g.K.ByteArray.LEN g.V.ByteArray.LEN g.H.HashFn.hash
+
+-- what is said of the parts
+abbrev Parts : Over → TableParts → Type 0
+Parts g T = IsTableParts g.H.HashFn.MIN_LEN g.K.ByteArray.LEN g.V.ByteArray.LEN T
+
+fits : (g : Over) (T : TableParts) → Parts g T → IsFormat (format g)
+fits g T v = IsFormat-format_of _ _ _ _ v.fitting.key_short v.fitting.value_short v.hashes g.met.H.HashFn.fits
+
+-- a list whose slots before `at` are placed
+taken : (g : Over) (T : TableParts) (old ns : List ℕ) (at : ℕ) → at ≤ length ns → length ns ≡ length old → IsGone T.entries.slots old ns at at → IsLeftBefore ns at 0
+    → ((P : Table) → AreWholeParts (format g) P T (length old) → IsPassed (format g) P [] old ns at at) → IsBegun (format g) T ns at
+taken g T old ns at few long gone left passed = record {
+  within = few;
+  waiting = rest_waits gone;
+  pending = λ P whole. front_taken (format g) P [] ns at few left (rest_high gone) (passed P (subst (AreWholeParts (format g) P T) long whole)).pending;
+}
+
+pub loop-at-init : goal.loop-at-init
+loop-at-init g c = record {
+  gone = gone_none _ _ c.requires.begun.waiting (λ k. let fits = c.type_inv.slots k in search rules);
+  left = left_none _;
+  passed = λ P whole. passed_none _ P [] _ (c.requires.begun.pending P whole);
+}
+
+-- what is known of the next slot
+module _ (g : Over) (c : In-loop-at g) where
+  inside : c.loop-at.at < length c.loop-at.slots
+  inside = omega (arith, c.loop-at-test.true, c.loop-at.auto.slots)
+
+  rising : AreRising c.loop-at.slots
+  rising = (c.loop-at.invariant.passed c.requires.whole.0 c.requires.whole.1).pending.rising
+
+  fit : (k : ℕ) → k < length c.loop-at.slots → get_or c.loop-at.slots k 0 < 2 ^ 64
+  fit k l = c.loop-at.invariant.gone.fit k 0 l
+
+  high : 2 ^ 63 ≤ get_or c.loop-at.slots c.loop-at.at 0
+  high = (next_waits c.loop-at.invariant.gone inside).0
+
+pub overflow_sub-slot : goal.overflow_sub-slot
+overflow_sub-slot g c = high g (goal.at.overflow_sub-slot g c).In-loop-at
+
+pub home_of-requires-after_bounds : goal.home_of-requires-after_bounds
+home_of-requires-after_bounds g c κs within =
+    let at = (goal.at.home_of-requires-after_bounds g c).In-loop-at in (next_waits c.loop-at.invariant.gone (inside g at)).1
+
+pub loop-at-preserved : goal.loop-at-preserved
+loop-at-preserved g c =
+    let at = (goal.at.loop-at-preserved g c).In-loop-at in
+    let T = c.args.self.now in
+    let v : Parts g T = subst (Parts g) c.self.view_is c.self.invariant in
+    let l = inside g at in
+    let gone = c.loop-at.invariant.gone in
+    let slot : ℕ = get_or c.loop-at.slots c.loop-at.at 0 - 2 ^ 63 in
+    let is = c.home_of.ensures in
+    let near = c.is_near.ensures.0 c.if-not-is_near.false in
+    let after = subst (λ b. b ≤ slot) is near.0 in
+    let below = subst (λ b. slot < b + 16) is near.1 in
+    let left = left_below c.loop-at.slots (rising g at) c.loop-at.at 0 c.loop-at.invariant.left (fit g at) l (high g at) in
+    let waits = next_listed c.loop-at.slots (rising g at) c.loop-at.at 0 c.loop-at.invariant.left (fit g at) l (high g at) in
+    record {
+      gone = gone_placed gone l;
+      left = left_placed c.loop-at.slots c.loop-at.at 0 slot c.loop-at.invariant.left l (omega (arith, gone.fit c.loop-at.at 0 l));
+      passed = λ P whole.
+          let passed = c.loop-at.invariant.passed P whole in
+          let held = next_holds gone l passed.pending in
+          passed_placed gone l passed
+          (near_ready (format g) (fits g T v) T v.slots v.mirrored c.loop-at.slots gone.fit slot waits P [] held.0 whole.parts passed.pending held.1 0 left (next_waits gone l).1 after below (omega arith));
+    }
+
+pub returns-then-not-is_near : goal.returns-then-not-is_near
+returns-then-not-is_near g c =
+    let at = (goal.at.returns-then-not-is_near g c).In-loop-at in
+    taken g c.args.self.now c.args.slots.now c.loop-at.slots c.loop-at.at (omega (arith, inside g at)) c.loop-at.auto.slots c.loop-at.invariant.gone c.loop-at.invariant.left c.loop-at.invariant.passed
+
+pub returns : goal.returns
+returns g c =
+    let all : c.loop-at.at ≡ length c.loop-at.slots = omega (arith, c.loop-at-test.false, c.loop-at.auto.slots, c.loop-at.auto.at-end) in
+    subst (IsBegun (format g) c.args.self.now c.loop-at.slots) all
+    (taken g c.args.self.now c.args.slots.now c.loop-at.slots c.loop-at.at (omega (arith, all)) c.loop-at.auto.slots c.loop-at.invariant.gone c.loop-at.invariant.left c.loop-at.invariant.passed)

@@ -1,0 +1,17 @@
+use Rattle.std.proofs.Common.{[], length}
+use Rattle.odht_base.specs.Format.{format_of}
+use Rattle.odht_base.specs.Table.{Table}
+use Rattle.odht_raw.specs.Waiting.{AreWholeParts}
+use Rattle.odht_raw.proofs.lemmas.LeftSlots.{IsLeftBefore}
+use Rattle.odht_raw.proofs.lemmas.PlacedFirst.{IsGone, IsPassed}
+use Rattle.odht_raw.proofs.raw_table.RawTable.place_near.Given as goal
+
+-- those before `at` are placed, and none was left to wait
+abbrev pub invariant-loop-at : goal.invariant-loop-at
+invariant-loop-at g l =
+    let F = format_of g.K.ByteArray.LEN g.V.ByteArray.LEN g.H.HashFn.hash in
+    record {
+      gone : IsGone l.self.entries.slots l.fn.slots l.slots l.at l.at;
+      left : IsLeftBefore l.slots l.at 0;
+      passed : (P : Table) → AreWholeParts F P l.self (length l.fn.slots) → IsPassed F P [] l.fn.slots l.slots l.at l.at;
+    }

@@ -1,0 +1,95 @@
+use Rattle.std.proofs.Common.{◌≡◌, ◌+◌, ◌-◌, ℕ, true≢false, List, ◌++◌, length, take, drop, sym, ap, subst, arith, refl, All}
+use Rattle.std.proofs.lemmas.List.{take_all, length-drop}
+use borrow.Rule.Slice.PartMut.{put_mid}
+use Rattle.odht_base.specs.Format.{Format, format_of}
+use Rattle.odht_base.specs.Load.{IsSlotCount}
+use Rattle.odht_base.proofs.lemmas.MadeTables.{IsMade-IsInsertOrder}
+use Rattle.odht_raw.specs.Parts.{TableParts}
+use Rattle.odht_raw.specs.Frontiers.{AreFrontiers}
+use Rattle.odht_raw.specs.Waiting.{IsWaiting, IsPending, AreWholeParts}
+use Rattle.odht_raw.proofs.lemmas.KeptFrontiers.{first_frontiers}
+use Rattle.odht_raw.proofs.lemmas.PendingSlots.{ended-length, ended-take, ended-drop, order_found, order_missing}
+use Rattle.odht_raw.proofs.raw_table.RawTable.place_others.Given.{Over}
+use Rattle.odht_raw.proofs.raw_table.RawTable.place_others.Goals as goal
+
+abbrev format : Over → Format
+format g = format_of g.K.ByteArray.LEN g.V.ByteArray.LEN g.H.HashFn.hash
+
+pub loop-placed-init : goal.loop-placed-init
+loop-placed-init g c = record {
+  begun = c.requires.begun;
+  frontiers = first_frontiers (drop c.args.placed c.args.out.now) c.args.self.now.entries.slots 64 c.at-frontiers.result
+      (subst (λ (t : TableParts). IsSlotCount t.entries.slots) c.self.view_is c.self.invariant.slots) c.at-frontiers.ensures;
+}
+
+-- what is left of a list behind its first slots
+rest : (xs : List ℕ) (n : ℕ) → take (length xs - n) (drop n xs) ≡ drop n xs
+rest xs n = take_all (length xs - n) (drop n xs) (omega (arith, length-drop n xs))
+
+pub place_ready-ready-requires-clause-frontiers : goal.place_ready-ready-requires-clause-frontiers
+place_ready-ready-requires-clause-frontiers g c κs within =
+    subst (λ ns. AreFrontiers ns c.args.self.now.entries.slots c.loop-placed.frontiers) (sym (rest c.loop-placed.out c.loop-placed.placed)) c.loop-placed.invariant.frontiers
+
+pub place_ready-ready-requires-clause-listed : goal.place_ready-ready-requires-clause-listed
+place_ready-ready-requires-clause-listed g c κs within =
+    let P = c.requires.whole.0 in
+    let whole = c.requires.whole.1 in
+    let out = c.loop-placed.out in
+    let n = c.loop-placed.placed in
+    record {
+      waiting = subst (All (IsWaiting c.args.self.now.entries.slots)) (sym (rest out n)) c.loop-placed.invariant.begun.waiting;
+      table = P;
+      parts = whole.parts;
+      done = take n out;
+      pending = subst (IsPending (format g) P (take n out)) (sym (rest out n))
+          (c.loop-placed.invariant.begun.pending P (subst (AreWholeParts (format g) P c.args.self.now) (sym c.loop-placed.auto.out) whole));
+    }
+
+pub returns-then-ready-eq0-clause-made : goal.returns-then-ready-eq0-clause-made
+returns-then-ready-eq0-clause-made g c P whole =
+    let out = c.loop-placed.out in
+    let n = c.loop-placed.placed in
+    let pending = subst (IsPending (format g) P (take n out)) (sym (rest out n))
+    (c.loop-placed.invariant.begun.pending P (subst (AreWholeParts (format g) P c.args.self.now) (sym c.loop-placed.auto.out) whole)) in
+    let stuck = (c.place_ready-ready.ensures.pass P (take n out) whole.parts pending).stuck c.if-ready-eq0.true in (
+      λ t. absurd (true≢false (sym t)),
+      λ made. absurd (order_missing (format g) P c.args.self.now out _ c.loop-placed.auto.out whole n c.loop-placed-test.true stuck made),
+    )
+
+pub loop-placed-preserved : goal.loop-placed-preserved
+loop-placed-preserved g c =
+    let v = c.loop-placed.invariant in
+    let e = c.place_ready-ready.ensures in
+    let out = c.loop-placed.out in
+    let n = c.loop-placed.placed in
+    let ready = c.place_ready-ready.result in
+    let left = c.place_ready-ready.new.slots in
+    record {
+      begun = record {
+        within = omega (arith, ended-length out left n v.begun.within, e.few);
+        waiting = subst (All (IsWaiting c.args.self.now.entries.slots)) (sym (ended-drop out left n v.begun.within ready e.few)) e.waiting;
+        pending = λ P whole.
+            let same : length (put_mid n (length out - n) out left) ≡ length out =
+            omega (arith, ended-length out left n v.begun.within, c.place_ready-ready.auto.slots, ap length (rest out n), length-drop n out, v.begun.within) in
+            subst (λ done. IsPending (format g) P done (drop (n + ready) (put_mid n (length out - n) out left))) (sym (ended-take out left n v.begun.within ready e.few))
+            (subst (IsPending (format g) P (take n out ++ take ready left)) (sym (ended-drop out left n v.begun.within ready e.few))
+            (e.pass P (take n out) whole.parts (subst (IsPending (format g) P (take n out)) (sym (rest out n))
+            (v.begun.pending P (subst (AreWholeParts (format g) P c.args.self.now) same whole)))).pending);
+      };
+      frontiers = subst (λ ns. AreFrontiers ns c.args.self.now.entries.slots c.place_ready-ready.new.frontiers) (sym (ended-drop out left n v.begun.within ready e.few)) e.frontiers;
+    }
+
+pub returns-clause-order : goal.returns-clause-order
+returns-clause-order g c P whole t =
+    order_found (format g) P c.args.self.now c.loop-placed.out _ c.loop-placed.auto.out whole c.loop-placed.placed
+    (omega (arith, c.loop-placed-test.false)) (c.loop-placed.invariant.begun.pending P (subst (AreWholeParts (format g) P c.args.self.now) (sym c.loop-placed.auto.out) whole))
+
+pub returns-clause-made : goal.returns-clause-made
+returns-clause-made g c P whole = (
+  λ t.
+      let out = c.loop-placed.out in
+      let order = order_found (format g) P c.args.self.now out _ c.loop-placed.auto.out whole c.loop-placed.placed
+      (omega (arith, c.loop-placed-test.false)) (c.loop-placed.invariant.begun.pending P (subst (AreWholeParts (format g) P c.args.self.now) (sym c.loop-placed.auto.out) whole)) in
+      (IsMade-IsInsertOrder (format g) P whole.valid).1 (out, order),
+  λ made. refl,
+)
