@@ -90,10 +90,17 @@ fn items_need_these_slots() {
 
 type Pairs<const K: usize, const V: usize> = Vec<([u8; K], [u8; V])>;
 
-// Random pairs of which some have the same key.
+// Random pairs of which some have the same key. Keys of more than 64 bytes differ behind these alone, or in their last
+// byte alone.
 fn pairs<const K: usize, const V: usize>(random: &mut Random) -> Pairs<K, V> {
     let count = random.below(200);
-    (0..count).map(|_| (random.array(), random.array())).collect()
+    let same = if K > 64 { [64, K - 1][count % 2] } else { 0 };
+    let key = |random: &mut Random| {
+        let mut key = random.array::<K>();
+        key[..same].fill(7);
+        key
+    };
+    (0..count).map(|_| (key(random), random.array())).collect()
 }
 
 fn collected<const K: usize, const V: usize>(
@@ -159,12 +166,18 @@ properties! {
     keys_of_17: 17, 0;
     keys_of_63: 63, 0;
     keys_of_64: 64, 0;
+    keys_of_65: 65, 0;
+    keys_of_128: 128, 0;
+    keys_of_255: 255, 0;
     keys_of_2_and_values_of_4: 2, 4;
     keys_of_4_and_values_of_4: 4, 4;
     keys_of_8_and_values_of_4: 8, 4;
     keys_of_17_and_values_of_4: 17, 4;
     keys_of_20_and_values_of_4: 20, 4;
     keys_of_64_and_values_of_4: 64, 4;
+    keys_of_65_and_values_of_4: 65, 4;
+    keys_of_128_and_values_of_4: 128, 4;
+    keys_of_255_and_values_of_4: 255, 4;
     keys_of_16_and_values_of_1: 16, 1;
     keys_of_16_and_values_of_2: 16, 2;
     keys_of_16_and_values_of_3: 16, 3;

@@ -24,11 +24,14 @@ impl Named for UnHashFn {
     const HASH: Hash = Hash::Un;
 }
 
-// Keys of which many have the same home and tag, and some are met again.
+// Keys of which many have the same home and tag, and some are met again. Of half the lists with keys of more than 64
+// bytes these differ behind 64 bytes alone, or in their last byte alone.
 fn pairs<const K: usize, const V: usize>(random: &mut Random, count: usize) -> Pairs<K, V> {
     let homes = random.byte();
+    let same = if K > 64 { [0, 64, 0, K - 1][homes as usize % 4] } else { 0 };
     let key = |random: &mut Random| {
         let mut key = random.array::<K>();
+        key[..same].fill(homes);
         if let Some(first) = key.first_mut().filter(|_| homes < 128) {
             *first &= 3;
         }
@@ -162,8 +165,12 @@ properties! {
     eight_and_four: 8, 4, FxHashFn;
     sixteen_and_eight: 16, 8, FxHashFn;
     thirty_one_and_five: 31, 5, FxHashFn;
+    sixty_five_and_eight: 65, 8, FxHashFn;
+    twice_sixty_four_and_four: 128, 4, FxHashFn;
+    most_and_four: 255, 4, FxHashFn;
     most_and_most: 255, 255, FxHashFn;
     four_and_four_direct: 4, 4, UnHashFn;
     eight_and_four_direct: 8, 4, UnHashFn;
     twenty_and_none_direct: 20, 0, UnHashFn;
+    twice_sixty_four_and_four_direct: 128, 4, UnHashFn;
 }

@@ -6,12 +6,14 @@
 --                                  unreachable
 --     free_in g                    the indices of the control bytes of g that count as free, rising
 --     AreRight F T b is            slot b + i gives no error, for each i of is
+--     IsFreeSlot F T i             the control byte of slot i is that of a free slot, 255, and its entry is zeros
+--     AreFree F T b is             slot b + i is such a slot, for each i of is
 use Rattle.std.specs.Prelude.{◌≡◌, ℕ, ◌+◌, ◌<◌, Bool, true, List, length, map, filter, filter_map, slice_index, Contains, Option, Some, None, MatchOption}
 use Rattle.std.specs.List.{range_with_len}
-use Rattle.odht_base.specs.Format.{Format}
-use Rattle.odht_base.specs.Decoded.{counts_as_free, decoded_cell}
+use Rattle.odht_base.specs.Format.{Format, entry_len}
+use Rattle.odht_base.specs.Decoded.{counts_as_free, decoded_cell, slot_entry}
 use Rattle.odht_raw.specs.Checks.{IsFitting}
-use Rattle.odht_raw.specs.Parts.{TableParts}
+use Rattle.odht_raw.specs.Parts.{TableParts, IsZeros}
 use Rattle.odht_header.specs.declared.error.Error.TheVariants.{Unreachable}
 use Rattle.odht_header.specs.Refusals.{slot_refusal_at, unreachable}
 
@@ -35,3 +37,9 @@ free_in g = filter (λ i. counts_as_free (slice_index g i)) (range_with_len 0 (l
 
 abbrev pub AreRight : Format → TableParts → ℕ → List ℕ → Type 0
 AreRight F T b is = (i : ℕ) → Contains is i → slot_refusal_at F T.entries.bytes T.control (b + i) ≡ None
+
+abbrev pub IsFreeSlot : Format → TableParts → ℕ → Type 0
+IsFreeSlot F T i = (slice_index T.control i ≡ 255) × IsZeros (entry_len F) (slot_entry F T.entries.bytes i)
+
+abbrev pub AreFree : Format → TableParts → ℕ → List ℕ → Type 0
+AreFree F T b is = (i : ℕ) → Contains is i → IsFreeSlot F T (b + i)

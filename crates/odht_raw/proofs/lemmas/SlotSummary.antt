@@ -5,13 +5,13 @@ use Rattle.std.specs.Option.{option_or}
 use Rattle.std.specs.Prelude.{is_some, Result, Ok, Err, IfOk, OnErr}
 use Rattle.std.specs.Result.{result_err}
 use Rattle.std.proofs.lemmas.Bool.{cases_lt}
-use Rattle.odht_base.specs.Format.{Format, tag}
+use Rattle.odht_base.specs.Format.{Format, entry_len, tag}
 use Rattle.odht_base.specs.Search.{search_end, is_at}
 use Rattle.odht_base.specs.Decoded.{counts_as_free, decoded_cell, decoded_cells, slot_entry, slot_key, slot_value}
 use Rattle.odht_base.specs.Table.{Pair}
 use Rattle.odht_raw.specs.Checks.{cells_of, decoded_count, IsFitting}
 use Rattle.odht_raw.specs.Parts.{TableParts}
-use Rattle.odht_raw.specs.Summaries.{IsSummary, IsFirstUnreachable, occupied_before}
+use Rattle.odht_raw.specs.Summaries.{IsSummary, IsFirstUnreachable, occupied_before, AreRight, AreFree}
 use Rattle.odht_header.specs.declared.error.Error.{Error}
 use Rattle.odht_header.specs.declared.error.Error.TheVariants.{NonZeroEmpty, BadFreeControl, ControlMismatch, Unreachable}
 use Rattle.odht_header.specs.Refusals.{◌gives◌, differs, first_of, hashes_refusal_at, bad_free_control, slot_refusal_at, slots_refusal, mirror_refusal, unreachable, reach_refusal}
@@ -44,6 +44,10 @@ free_slot_passes F es ctrl i n byte zeros =
     let free : counts_as_free (slice_index ctrl i) ≡ true = ap counts_as_free byte in
     let right : bad_free_control ctrl i ≡ None = None-gives _ _ (ap (λ c. counts_as_free c && differs c 255) byte) in
     slot_refusal_at-is F es ctrl i ∙ None-option_or _ _ (zero_entry_passes F es ctrl i free n zeros) right
+
+-- so free slots give no error
+pub free_slots_pass : (F : Format) (T : TableParts) (b : ℕ) (is : List ℕ) → AreFree F T b is → AreRight F T b is
+free_slots_pass F T b is free i m = let at = free i m in free_slot_passes F T.entries.bytes T.control (b + i) (entry_len F) at.0 at.1
 
 -- ---- how many cells hold a pair
 abbrev one : Option Pair → ℕ

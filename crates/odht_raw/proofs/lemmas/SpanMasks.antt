@@ -187,3 +187,14 @@ zero_word bs at k inside e low high =
 pub zeros_are : (bs : List ℕ) → ((k : ℕ) → k < length bs → slice_index bs k ≡ 0) → bs ≡ replicate (length bs) 0
 zeros_are [] h = refl
 zeros_are (x ∷ bs) h = λ i. h 0 (omega arith) i ∷ zeros_are bs (λ k l. h (suc k) (omega (arith, l))) i
+
+-- and a word of zeros is zero
+zero_at : (n i : ℕ) → slice_index (replicate n 0) i ≡ 0
+zero_at zero i = refl
+zero_at (suc n) zero = refl
+zero_at (suc n) (suc i) = zero_at n i
+
+pub word_zero : (bs : List ℕ) (n at : ℕ) → bs ≡ replicate n 0 → at + 8 ≤ length bs → num (bytes_at bs at 8) ≡ 0
+word_zero bs n at e inside =
+    let zeros = zeros_are (bytes_at bs at 8) (λ k l. index-bytes_at bs at 8 k (omega (arith, l, length-bytes_at bs at 8 inside)) ∙ ap (λ xs. slice_index xs (at + k)) e ∙ zero_at n (at + k)) in
+    ap num (zeros ∙ ap (λ m. replicate m 0) (length-bytes_at bs at 8 inside))

@@ -8,9 +8,8 @@ ghost use Rattle.odht_base.specs.Groups.{occupied};
 ghost use Rattle.odht_base.specs.Search.{search_end, is_at};
 ghost use Rattle.odht_base.specs.Decoded.{counts_as_free, slot_key};
 ghost use Rattle.odht_raw.specs.Checks.{cells_of, decoded_count, IsFitting, ArePassed, IsLookAt};
-ghost use Rattle.odht_raw.specs.Summaries.{IsSummary, AreRight, free_in};
+ghost use Rattle.odht_raw.specs.Summaries.{IsSummary, AreFree, AreRight, IsFreeSlot, free_in};
 ghost use Rattle.odht_header.specs.Refusals.{checked, bad_free_control, slots_refusal};
-ghost use Rattle.odht_header.specs.Refusals.{slot_refusal_at};
 ghost use Rattle.odht_header.specs.Refusals.{mirror_refusal, reach_refusal};
 
 use super::span::{Marks, SPAN, is_zeros, split};
@@ -149,11 +148,11 @@ impl<'a, K: ByteArray, V: ByteArray, H: HashFn> RawTable<'a, K, V, H> {
         })
     }
 
-    // Whether slots that count as free, of which the indices from `start` on are marked, have no error.
+    // Whether the slots whose indices from `start` on are marked are free, with no error.
     #[inline(always)]
     fn are_free(&self, start: usize, free: Marks) -> bool
         requires within { (i : ℕ) → Contains free i → start + i < self.now.entries.slots }
-        ensures { IsTrue result → AreRight (format_of K.LEN V.LEN H.hash) self.now start free }
+        ensures { IsTrue result ↔ AreFree (format_of K.LEN V.LEN H.hash) self.now start free }
     {
         // Its invariant is used: slots and control bytes are as many as fit in a `usize`.
         let _ = &self.control;
@@ -170,8 +169,7 @@ impl<'a, K: ByteArray, V: ByteArray, H: HashFn> RawTable<'a, K, V, H> {
     #[inline(always)]
     fn is_free(&self, slot: usize) -> bool
         requires { slot < self.now.entries.slots }
-        ensures { IsTrue result → slot_refusal_at (format_of K.LEN V.LEN H.hash)
-            self.now.entries.bytes self.now.control slot ≡ None }
+        ensures { IsTrue result ↔ IsFreeSlot (format_of K.LEN V.LEN H.hash) self.now slot }
     {
         self.control[slot] == FREE && is_zeros(self.entries.bytes_of(slot))
     }

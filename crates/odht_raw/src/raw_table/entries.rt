@@ -6,6 +6,9 @@ ghost use Rattle.odht_raw.specs.Parts.{entry_format};
 use crate::bytes::{ByteArray, is_same_bytes};
 use std::marker::{Model, PhantomData};
 
+// How many bytes a key has at most that is loaded to be compared.
+const SHORT: usize = 64;
+
 /// An entry: an encoded key and its encoded value, as a slot holds them.
 #[derive(Clone, Copy, PartialEq, Eq, Debug)]
 pub struct Entry<K: ByteArray, V: ByteArray> {
@@ -112,6 +115,7 @@ impl<'a, K: ByteArray, V: ByteArray> Entries<'a, K, V> {
     pub(crate) fn bytes_of(&self, slot: usize) -> &'a [u8]
         requires { slot < self.now.slots }
         ensures bytes { result.now ≡ slot_entry (entry_format K.LEN V.LEN) self.now.bytes slot }
+        ensures len { length result.now ≡ K.LEN + V.LEN }
     {
         let bytes = self.bytes;
         let at = slot * (K::LEN + V::LEN);
@@ -130,13 +134,22 @@ impl<'a, K: ByteArray, V: ByteArray> Entries<'a, K, V> {
         &bytes[at..at + K::LEN]
     }
 
-    /// Whether the key of a slot is `key`. Its bytes are compared where they are, and the value is not read.
+    /// Whether the key of a slot is `key`. The value is not read.
+    ///
+    /// A short key is loaded whole, so that its words are compared at once; a longer one is compared where it is. The
+    /// whole entry is cut out of the bytes, as `get` cuts it: where its value is read next, that is the same cut, and
+    /// is made once.
     #[inline(always)]
     pub(crate) fn has_key(&self, slot: usize, key: &K) -> bool
         requires { slot < self.now.slots }
         ensures { IsTrue result
             ↔ (slot_key (entry_format K.LEN V.LEN) self.now.bytes slot ≡ K.bytes key.now) }
     {
-        is_same_bytes(self.key_bytes_of(slot), key.as_slice())
+        let entry = self.bytes_of(slot);
+        let front = &entry[..K::LEN];
+        if K::LEN > SHORT {
+            return is_same_bytes(front, key.as_slice());
+        }
+        K::from_slice(front).equals(key)
     }
 }

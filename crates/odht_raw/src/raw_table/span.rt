@@ -1,6 +1,6 @@
 //! Which of up to 64 control bytes count as free and which do not, as two masks, and a test of bytes for zeros. Both go
 //! by words of eight bytes.
-ghost use Rattle.std.specs.Prelude.{◌≡◌, ◌<◌, ◌≤◌, ◌%◌, IsTrue, drop, length, slice_get};
+ghost use Rattle.std.specs.Prelude.{◌≡◌, ◌<◌, ◌≤◌, ◌%◌, ◌↔◌, IsTrue, drop, length, slice_get};
 ghost use Rattle.odht_base.specs.Groups.{occupied};
 ghost use Rattle.odht_base.specs.Masks.{set_bits};
 ghost use Rattle.odht_raw.specs.Parts.{IsZeros};
@@ -94,7 +94,7 @@ pub(crate) fn split(control: &[u8]) -> (Marks, Marks)
 /// Whether each byte is zero.
 #[inline(always)]
 pub(crate) fn is_zeros(bytes: &[u8]) -> bool
-    ensures { IsTrue result → IsZeros (length bytes.now) bytes.now }
+    ensures { IsTrue result ↔ IsZeros (length bytes.now) bytes.now }
 {
     let len = bytes.len();
     if len < WORD {

@@ -99,7 +99,7 @@ impl<'a, K: ByteArray, V: ByteArray, H: HashFn> RawTable<'a, K, V, H> {
         Ok(SlotSummary { occupied, unreachable })
     }
 
-    // Whether slots that count as free, of which the indices from `start` on are marked, have no error.
+    // Whether the slots whose indices from `start` on are marked are free, with no error.
     #[inline(always)]
     fn are_free(&self, start: usize, free: Marks) -> bool {
         // Its invariant is used: slots and control bytes are as many as fit in a `usize`.

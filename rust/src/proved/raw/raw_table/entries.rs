@@ -4,6 +4,9 @@
 use crate::proved::raw::bytes::{is_same_bytes, ByteArray};
 use std::marker::PhantomData;
 
+// How many bytes a key has at most that is loaded to be compared.
+const SHORT: usize = 64;
+
 /// An entry: an encoded key and its encoded value, as a slot holds them.
 #[derive(Clone, Copy, PartialEq, Eq, Debug)]
 pub struct Entry<K: ByteArray, V: ByteArray> {
@@ -75,9 +78,18 @@ impl<'a, K: ByteArray, V: ByteArray> Entries<'a, K, V> {
         &index!(bytes[at..at + K::LEN])
     }
 
-    /// Whether the key of a slot is `key`. Its bytes are compared where they are, and the value is not read.
+    /// Whether the key of a slot is `key`. The value is not read.
+    ///
+    /// A short key is loaded whole, so that its words are compared at once; a longer one is compared where it is. The
+    /// whole entry is cut out of the bytes, as `get` cuts it: where its value is read next, that is the same cut, and
+    /// is made once.
     #[inline(always)]
     pub(crate) fn has_key(&self, slot: usize, key: &K) -> bool {
-        is_same_bytes(self.key_bytes_of(slot), key.as_slice())
+        let entry = self.bytes_of(slot);
+        let front = &index!(entry[..K::LEN]);
+        if K::LEN > SHORT {
+            return is_same_bytes(front, key.as_slice());
+        }
+        K::from_slice(front).equals(key)
     }
 }

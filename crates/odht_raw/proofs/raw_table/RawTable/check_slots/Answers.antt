@@ -4,8 +4,9 @@ use Rattle.odht_base.specs.Format.{Format, format_of}
 use Rattle.odht_base.proofs.lemmas.ByteRanges.{length-bytes_at}
 use Rattle.odht_base.proofs.lemmas.SlotCounts.{sixteens}
 use Rattle.odht_raw.specs.Parts.{TableParts, IsTableParts}
+use Rattle.odht_raw.specs.Summaries.{AreFree, free_in}
 use Rattle.odht_raw.specs.declared.raw_table.check.SlotSummary.{SlotSummary}
-use Rattle.odht_raw.proofs.lemmas.SlotSummary.{all_passed, all_counted, all_reached, answer_err, answer_occupied, answer_reached}
+use Rattle.odht_raw.proofs.lemmas.SlotSummary.{all_passed, all_counted, all_reached, answer_err, answer_occupied, answer_reached, free_slots_pass}
 use Rattle.odht_raw.proofs.lemmas.SpanLooks.{free_low}
 use Rattle.odht_raw.proofs.raw_table.RawTable.check_slots.Given.{Over}
 use Rattle.odht_raw.proofs.raw_table.RawTable.check_slots.Goals.{After-len-slots, After-min-size}
@@ -57,6 +58,13 @@ are_free-requires-clause-within g c κs step i marked =
     let at = (goal.at.are_free-requires-clause-within g c).After-min-size in
     let low = free_low (bytes_at c.self.inside.control.now c.spans.start c.min-size.result) i (subst (λ xs. Contains xs i) c.split-free.ensures.free marked) in
     omega (arith, low, long g at, within g at)
+
+pub take_others-requires-clause-free : goal.take_others-requires-clause-free
+take_others-requires-clause-free g c κs _ =
+    let F : Format = format g in
+    let T : TableParts = c.args.self.now in
+    let marked = c.split-free.ensures.free ∙ ap (λ (t : TableParts). free_in (bytes_at t.control c.spans.start c.min-size.result)) c.self.view_is in
+    free_slots_pass F T c.spans.start _ (subst (AreFree F T c.spans.start) marked (c.are_free.ensures.0 c.if-not-are_free.false))
 
 pub spans-preserved : goal.spans-preserved
 spans-preserved g c =

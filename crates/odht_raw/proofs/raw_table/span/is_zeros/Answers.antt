@@ -1,8 +1,8 @@
-use Rattle.std.proofs.Common.{◌≡◌, ◌∙◌, ◌+◌, ◌-◌, ◌≤◌, length, sym, arith, inl, inr, eqb-true}
+use Rattle.std.proofs.Common.{◌≡◌, ◌∙◌, ◌==◌, ◌+◌, ◌-◌, ◌≤◌, length, sym, ap, arith, inl, inr, eqb-true, true≢false}
 use Rattle.std.proofs.lemmas.Bool.{cases_lt}
 use Rattle.odht_base.specs.Bytes.{bytes_at}
 use Rattle.odht_base.specs.Numbers.{num}
-use Rattle.odht_raw.proofs.lemmas.SpanMasks.{zero_word, zeros_are}
+use Rattle.odht_raw.proofs.lemmas.SpanMasks.{zero_word, word_zero, zeros_are}
 use Rattle.odht_raw.proofs.raw_table.span.is_zeros.Goals as goal
 
 pub words-preserved : goal.words-preserved
@@ -14,11 +14,20 @@ words-preserved c = (
   ],
 )
 
+pub returns-then-read_u64-ne0 : goal.returns-then-read_u64-ne0
+returns-then-read_u64-ne0 c = (
+  λ t. absurd (true≢false (sym t)),
+  λ zeros. absurd (c.if-read_u64-ne0.true (c.read_u64.ensures ∙ word_zero c.args.bytes.now (length c.args.bytes.now) c.words.at zeros (omega (arith, c.words-test.true)))),
+)
+
 pub returns : goal.returns
-returns c t =
-    let inside : length c.args.bytes.now - 8 + 8 ≤ length c.args.bytes.now = omega (arith, c.if-len-lt-WORD.false) in
-    let zero : num (bytes_at c.args.bytes.now (length c.args.bytes.now - 8) 8) ≡ 0 = sym c.read_u64-2.ensures ∙ eqb-true c.read_u64-2.result 0 t in
-    zeros_are c.args.bytes.now (λ k l. elim (cases_lt k c.words.at) [
-      | inl before ↦ c.words.invariant.1 k before
-      | inr here ↦ zero_word c.args.bytes.now (length c.args.bytes.now - 8) k inside zero (omega (arith, here, c.words-test.false)) (omega (arith, l, c.if-len-lt-WORD.false))
-    ])
+returns c =
+    let inside : length c.args.bytes.now - 8 + 8 ≤ length c.args.bytes.now = omega (arith, c.if-len-lt-WORD.false) in (
+      λ t. (
+          let zero : num (bytes_at c.args.bytes.now (length c.args.bytes.now - 8) 8) ≡ 0 = sym c.read_u64-2.ensures ∙ eqb-true c.read_u64-2.result 0 t in
+          zeros_are c.args.bytes.now (λ k l. elim (cases_lt k c.words.at) [
+            | inl before ↦ c.words.invariant.1 k before
+            | inr here ↦ zero_word c.args.bytes.now (length c.args.bytes.now - 8) k inside zero (omega (arith, here, c.words-test.false)) (omega (arith, l, c.if-len-lt-WORD.false))
+          ])),
+      λ zeros. ap (λ n. n == 0) (c.read_u64-2.ensures ∙ word_zero c.args.bytes.now (length c.args.bytes.now) (length c.args.bytes.now - 8) zeros inside),
+    )
