@@ -1,13 +1,18 @@
 -- Worked examples: slots that wait in the search for an insert order, in the table with 15 in slot 15 and 31 in slot 0.
-use Rattle.std.proofs.Common.{◌≡◌, ◌<◌, ◌≤◌, ◌+◌, ◌%◌, inl, inr, ℕ, zero, suc, List, refl, ap, subst, arith, [], ◌∷◌, get_or, All, AllPairs, Contains, lit<, lit≤}
+use Rattle.std.proofs.Common.{◌≡◌, ◌<◌, ◌≤◌, ◌+◌, ◌%◌, ◌∙◌, inl, inr, ℕ, zero, suc, List, refl, sym, ap, ap₂, subst, arith, [], ◌∷◌, get_or, All, AllPairs, Contains, lit<, lit≤}
 use Rattle.std.proofs.lemmas.Bool.{cases_lt}
 use Rattle.std.proofs.lemmas.List.Sorted.{IsPermutation-refl, IsPermutation-append_comm, length_permutation}
+use Rattle.odht_base.specs.Decoded.{decoded_cells}
+use Rattle.odht_base.specs.Format.{IsFormat}
+use Rattle.odht_base.specs.HashLaws.{un-lt}
 use Rattle.odht_base.specs.Image.{entries, controls}
 use Rattle.odht_base.specs.Probe.{probe_slot}
 use Rattle.odht_base.specs.Ready.{IsSoFar}
+use Rattle.odht_base.specs.Table.{Table}
 use Rattle.odht_base.specs.Valid.{IsValid}
 use Rattle.odht_base.proofs.examples.Configs.{direct_config}
 use Rattle.odht_base.proofs.examples.InsertOrders.{fifteen_first, fifteen_slots, fifteen_so_far, zero_so_far_refused}
+use Rattle.odht_base.proofs.lemmas.Parts.{decoded_cells-parts}
 use Rattle.odht_base.proofs.lemmas.Placed.{IsPlaced-tests}
 use Rattle.odht_base.proofs.lemmas.SoFar.{so_far_none}
 use Rattle.odht_raw.specs.Frontiers.{AreFrontiers}
@@ -178,6 +183,44 @@ listed = record { waiting = both; table = fifteen_first; parts = whole.parts; do
 -- a slot that is placed is not listed so
 pub placed_refused : AreListed direct_config parts (waiting 0 ∷ 15 ∷ []) → ⊥
 placed_refused h = absurd (omega (arith, (h.waiting 1 0 (lit< tt)).0))
+
+-- the hash of four bytes fits 32 bits
+direct_format : IsFormat direct_config
+direct_format = record {
+  key_short = lit≤ tt;
+  value_short = lit≤ tt;
+  hash_small = λ b is. un-lt b (subst (λ n. 4 ≤ n) (sym is.len) (lit≤ tt)) is.each;
+}
+
+-- each table that has these parts has the same cells
+same_cells : (P : Table) → AreWholeParts direct_config P parts 2 → P.cells ≡ fifteen_first.cells
+same_cells P is =
+    sym (decoded_cells-parts direct_config P.cells direct_format is.valid.placed.pairs is.valid.placed.slots.least)
+    ∙ ap₂ (decoded_cells direct_config) (sym is.parts.entries_are) (sym is.parts.controls_are)
+    ∙ decoded_cells-parts direct_config fifteen_first.cells direct_format fifteen_valid.placed.pairs fifteen_valid.placed.slots.least
+
+-- whatever its load factor is, slots 15 and 0 are placed in this order
+in_order : (factor : ℕ) → IsPending direct_config (record { factor = factor; cells = fifteen_first.cells }) (15 ∷ 0 ∷ []) []
+in_order factor =
+    let h = at_end in
+    record {
+      listed = h.listed;
+      rising = h.rising;
+      so_far = record {
+        apart = h.so_far.apart;
+        ready = λ n l.
+            let r = h.so_far.ready n l in
+            record { pair = r.pair; holds = r.holds; position = r.position; in_order = r.in_order; slot_is = r.slot_is; earlier_taken = r.earlier_taken };
+      };
+    }
+
+-- so both are placed
+pub begun : IsBegun direct_config parts (15 ∷ 0 ∷ []) 2
+begun = record {
+  within = lit≤ tt;
+  waiting = λ k d l. absurd (omega (arith, l));
+  pending = λ P is. subst (λ cs. IsPending direct_config (record { factor = P.factor; cells = cs }) (15 ∷ 0 ∷ []) []) (sym (same_cells P is)) (in_order P.factor);
+}
 
 -- of a list of all slots, one that is placed stands before those that wait, and slot 0 is not placed first
 pub begun_refused : (IsBegun direct_config parts (waiting 0 ∷ 15 ∷ []) 0 → ⊥) × (IsBegun direct_config parts (0 ∷ 15 ∷ []) 2 → ⊥)
