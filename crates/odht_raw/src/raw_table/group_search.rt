@@ -37,7 +37,7 @@ pub fn search<K: ByteArray, V: ByteArray, H: HashFn, Q: Group>(
 }
 
 /// `search` of a key whose hash is known.
-#[inline(always)]
+#[inline]
 pub fn search_hashed<K: ByteArray, V: ByteArray, H: HashFn, Q: Group>(
     scan: &mut Scan<'_>,
     entries: &Entries<'_, K, V>,
