@@ -21,7 +21,9 @@
 --     AreWholeParts F P T n  T is the parts of the table P, which is valid and has n pairs
 --     IsBegun F T ns n     of the list ns of all occupied slots of T the first n are placed, and the others wait; with these
 --                          done, the others are pending in each table whose parts are T
-use Rattle.std.specs.Prelude.{◌≡◌, ℕ, ◌+◌, ◌-◌, ◌^◌, ◌%◌, ◌<◌, ◌≤◌, nat_lt, List, ◌++◌, length, map, filter, take, drop, All, AllPairs, Contains, IsPermutation}
+--     IsFar F T n          the slot that is listed as the waiting n is below the home of its key, or past its first group
+use Rattle.std.specs.Prelude.{◌≡◌, ℕ, ◌+◌, ◌-◌, ◌^◌, ◌%◌, ◌<◌, ◌≤◌, ◌⊎◌, nat_lt, List, ◌++◌, length, map, filter, take, drop, All, AllPairs, Contains, IsPermutation}
+use Rattle.odht_base.specs.Decoded.{slot_key}
 use Rattle.odht_base.specs.Format.{Format}
 use Rattle.odht_base.specs.Made.{occupied}
 use Rattle.odht_base.specs.Probe.{probe_slot}
@@ -94,3 +96,6 @@ pub record IsBegun (F : Format) (T : TableParts) (ns : List ℕ) (n : ℕ) : Typ
   pub within : n ≤ length ns
   pub waiting : All (IsWaiting T.entries.slots) (drop n ns)
   pub pending : (P : Table) → AreWholeParts F P T (length ns) → IsPending F P (take n ns) (drop n ns)
+
+abbrev pub IsFar : Format → TableParts → ℕ → Type 0
+IsFar F T n = let home = F.hash (slot_key F T.entries.bytes (n - 2 ^ 63)) % T.entries.slots in (n - 2 ^ 63 < home) ⊎ (home + 16 ≤ n - 2 ^ 63)

@@ -17,7 +17,7 @@ use Rattle.odht_base.proofs.lemmas.Placed.{IsPlaced-tests}
 use Rattle.odht_base.proofs.lemmas.SoFar.{so_far_none}
 use Rattle.odht_raw.specs.Frontiers.{AreFrontiers}
 use Rattle.odht_raw.specs.Parts.{TableParts}
-use Rattle.odht_raw.specs.Waiting.{waiting, slot_of, placed_of, IsWaiting, AreRising, WaitsWithin, WaitsBehind, IsLeft, IsFrontier, IsUnblocked, IsPending, AreListed, IsBegun, AreWholeParts}
+use Rattle.odht_raw.specs.Waiting.{waiting, slot_of, placed_of, IsWaiting, AreRising, WaitsWithin, WaitsBehind, IsLeft, IsFrontier, IsUnblocked, IsPending, AreListed, IsBegun, IsFar, AreWholeParts}
 use Rattle.odht_raw.specs.declared.raw_table.insert_order.Frontier.{Frontier}
 use Rattle.odht_header.proofs.examples.Opened.{opened}
 
@@ -225,3 +225,8 @@ begun = record {
 -- of a list of all slots, one that is placed stands before those that wait, and slot 0 is not placed first
 pub begun_refused : (IsBegun direct_config parts (waiting 0 ∷ 15 ∷ []) 0 → ⊥) × (IsBegun direct_config parts (0 ∷ 15 ∷ []) 2 → ⊥)
 begun_refused = (λ h. absurd (omega (arith, (h.waiting 1 0 (lit< tt)).0)), λ h. pending_refused.2 (h.pending fifteen_first whole))
+
+-- the home of 31 is slot 15, so in slot 0 it is far; in slot 15 key 15 is not
+pub far : IsFar direct_config parts (waiting 0) × (IsFar direct_config parts (waiting 15) → ⊥)
+unfolding opened
+far = (inl (lit< tt), λ h. elim h [ inl below ↦ absurd (omega (arith, below)) | inr past ↦ absurd (omega (arith, past)) ])

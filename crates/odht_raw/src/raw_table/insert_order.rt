@@ -1,5 +1,6 @@
 //! An order of inserts that makes a table, found within the buffer that it is written to.
 ghost use Rattle.std.specs.Prelude.{◌≡◌, ◌≤◌, ◌<◌, ◌+◌, ◌^◌, ◌%◌, ◌↔◌, ℕ, List, ◌++◌, length, drop};
+ghost use Rattle.std.specs.Prelude.{slice_index};
 ghost use Rattle.std.specs.Prelude.{IsTrue, All, AllPairs, Contains, IsPermutation};
 ghost use Rattle.odht_base.specs.Format.{format_of};
 ghost use Rattle.odht_base.specs.Load.{IsSlotCount};
@@ -10,7 +11,7 @@ ghost use Rattle.odht_base.specs.Table.{Table, Pair};
 ghost use Rattle.odht_base.specs.Valid.{HoldsPair, IsPartsOf};
 ghost use Rattle.odht_raw.specs.Frontiers.{AreFrontiers};
 ghost use Rattle.odht_raw.specs.Waiting.{waiting, placed_of, IsWaiting, AreRising, IsPending};
-ghost use Rattle.odht_raw.specs.Waiting.{AreWholeParts, AreListed, IsBegun, IsPass, IsLeft};
+ghost use Rattle.odht_raw.specs.Waiting.{AreWholeParts, AreListed, IsBegun, IsFar, IsPass, IsLeft};
 ghost use Rattle.odht_raw.specs.Waiting.{IsFrontier, IsUnblocked, WaitsWithin, WaitsBehind};
 
 use super::RawTable;
@@ -74,7 +75,9 @@ impl<'a, K: ByteArray, V: ByteArray, H: HashFn> RawTable<'a, K, V, H> {
         requires whole { let F = format_of K.LEN V.LEN H.hash
             in (P : Table) × AreWholeParts F P self.now (length slots.old) }
         requires begun { IsBegun (format_of K.LEN V.LEN H.hash) self.now slots.old 0 }
-        ensures { IsBegun (format_of K.LEN V.LEN H.hash) self.now slots.new result }
+        ensures begun { IsBegun (format_of K.LEN V.LEN H.hash) self.now slots.new result }
+        ensures far { result < length slots.new
+            → IsFar (format_of K.LEN V.LEN H.hash) self.now (slice_index slots.new result) }
     {
         // Its invariant is used: the slots are a slot count, and have control bytes and a mirror.
         let _ = &self.control;

@@ -70,7 +70,7 @@ module _ (g : Over) (c : Then-near-out g) (P : Table) (whole : AreWholeParts (fo
   order : IsInsertOrder (format g) P c.place_near-near.new.slots
   order =
       order_found (format g) P c.args.self.now c.place_near-near.new.slots _ same whole c.place_near-near.result (omega (arith, c.if-near-out.true))
-      (c.place_near-near.ensures.pending P (subst (AreWholeParts (format g) P c.args.self.now) (sym same) whole))
+      (c.place_near-near.ensures.begun.pending P (subst (AreWholeParts (format g) P c.args.self.now) (sym same) whole))
 
 pub returns-then-near-out-clause-order : goal.returns-then-near-out-clause-order
 returns-then-near-out-clause-order g c P whole t = order g c P whole
@@ -78,3 +78,8 @@ returns-then-near-out-clause-order g c P whole t = order g c P whole
 pub returns-then-near-out-clause-made : goal.returns-then-near-out-clause-made
 returns-then-near-out-clause-made g c P whole =
     (λ t. (IsMade-IsInsertOrder (format g) P whole.valid).1 (c.place_near-near.new.slots, order g c P whole), λ made. refl)
+
+-- what the others give
+pub returns-clause-made : goal.returns-clause-made
+returns-clause-made g c P whole =
+    c.place_others.ensures.made P (subst (AreWholeParts (format g) P c.args.self.now) (sym (c.place_near-near.auto.slots ∙ c.list_occupied.auto.out)) whole)

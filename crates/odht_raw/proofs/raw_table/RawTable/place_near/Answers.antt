@@ -1,4 +1,5 @@
-use Rattle.std.proofs.Common.{◌≡◌, ◌+◌, ◌-◌, ◌<◌, ◌≤◌, ◌^◌, ℕ, List, [], length, get_or, subst, rules, arith}
+use Rattle.std.proofs.Common.{◌≡◌, ◌∙◌, ◌⊎◌, inl, inr, true≢false, sym, ◌+◌, ◌-◌, ◌<◌, ◌≤◌, ◌^◌, ℕ, List, [], length, get_or, subst, rules, arith}
+use Rattle.std.proofs.lemmas.Bool.{cases_lt}
 use Rattle.odht_base.specs.Format.{Format, IsFormat, format_of}
 use Rattle.odht_base.specs.Table.{Table}
 use Rattle.odht_raw.specs.Parts.{TableParts, IsTableParts}
@@ -82,13 +83,30 @@ loop-at-preserved g c =
           (near_ready (format g) (fits g T v) T v.slots v.mirrored c.loop-at.slots gone.fit slot waits P [] held.0 whole.parts passed.pending held.1 0 left (next_waits gone l).1 after below (omega arith));
     }
 
-pub returns-then-not-is_near : goal.returns-then-not-is_near
-returns-then-not-is_near g c =
-    let at = (goal.at.returns-then-not-is_near g c).In-loop-at in
+pub returns-then-not-is_near-clause-begun : goal.returns-then-not-is_near-clause-begun
+returns-then-not-is_near-clause-begun g c =
+    let at = (goal.at.returns-then-not-is_near-clause-begun g c).In-loop-at in
     taken g c.args.self.now c.args.slots.now c.loop-at.slots c.loop-at.at (omega (arith, inside g at)) c.loop-at.auto.slots c.loop-at.invariant.gone c.loop-at.invariant.left c.loop-at.invariant.passed
 
-pub returns : goal.returns
-returns g c =
+pub returns-clause-begun : goal.returns-clause-begun
+returns-clause-begun g c =
     let all : c.loop-at.at ≡ length c.loop-at.slots = omega (arith, c.loop-at-test.false, c.loop-at.auto.slots, c.loop-at.auto.at-end) in
     subst (IsBegun (format g) c.args.self.now c.loop-at.slots) all
     (taken g c.args.self.now c.args.slots.now c.loop-at.slots c.loop-at.at (omega (arith, all)) c.loop-at.auto.slots c.loop-at.invariant.gone c.loop-at.invariant.left c.loop-at.invariant.passed)
+
+-- the slot that is not near
+pub returns-then-not-is_near-clause-far : goal.returns-then-not-is_near-clause-far
+returns-then-not-is_near-clause-far g c l =
+    let slot : ℕ = get_or c.loop-at.slots c.loop-at.at 0 - 2 ^ 63 in
+    let home = c.home_of.result in
+    let far : (slot < home) ⊎ (home + 16 ≤ slot) = elim (cases_lt slot home) [
+      | inl below ↦ inl below
+      | inr above ↦ elim (cases_lt slot (home + 16)) [
+        | inl near ↦ absurd (true≢false (sym (c.is_near.ensures.1 (above, near)) ∙ c.if-not-is_near.true))
+        | inr past ↦ inr past
+      ]
+    ] in
+    subst (λ h. (slot < h) ⊎ (h + 16 ≤ slot)) c.home_of.ensures far
+
+pub returns-clause-far : goal.returns-clause-far
+returns-clause-far g c l = absurd (omega (arith, l))
