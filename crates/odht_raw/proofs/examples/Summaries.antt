@@ -7,11 +7,11 @@ use Rattle.odht_base.proofs.examples.Configs.{direct_config}
 use Rattle.odht_base.proofs.examples.Groups.{report, other_reports_refused}
 use Rattle.odht_base.proofs.lemmas.Pigeons.{contains_cases}
 use Rattle.odht_header.specs.Refusals.{slot_refusal_at, unreachable}
-use Rattle.odht_header.proofs.examples.Apart.{unequal, tested}
+use Rattle.odht_header.proofs.examples.Apart.{unequal, unequal_lists, tested}
 use Rattle.odht_header.proofs.examples.Opened.{opened}
 use Rattle.odht_raw.specs.Checks.{IsLookAt}
 use Rattle.odht_raw.specs.Parts.{TableParts}
-use Rattle.odht_raw.specs.Summaries.{IsFirstUnreachable, IsSummary, AreRight, free_in}
+use Rattle.odht_raw.specs.Summaries.{IsFirstUnreachable, IsFreeSlot, IsSummary, AreFree, AreRight, free_in}
 use Rattle.odht_raw.proofs.examples.Checked.{parts, two}
 
 -- ---- a group
@@ -70,6 +70,31 @@ right i c = elim (contains_cases 0 (1 ∷ []) i c) [
 pub wrong_refused : (AreRight direct_config (parts (set two 5 1)) 4 (0 ∷ 1 ∷ []) → ⊥) × (slot_refusal_at direct_config (parts two).entries.bytes (set two 5 1) 4 ≡ None)
 unfolding opened
 wrong_refused = (λ h. none-some _ (sym (h 1 (1, lit< tt, refl))), refl)
+
+-- slot 4 is free; not an occupied slot, one with another byte that counts as free, or one that has an entry
+pub free_slot : IsFreeSlot direct_config (parts two) 4 × (IsFreeSlot direct_config (parts two) 5 → ⊥)
+    × (IsFreeSlot direct_config (parts (set two 4 128)) 4 → ⊥) × (IsFreeSlot direct_config (parts (set two 5 255)) 5 → ⊥)
+unfolding opened
+free_slot = (
+  (refl, refl),
+  λ h. unequal 0 255 refl h.0,
+  λ h. unequal 128 255 refl h.0,
+  λ h. unequal_lists (5 ∷ 0 ∷ 0 ∷ 0 ∷ 7 ∷ 0 ∷ 0 ∷ 0 ∷ []) (replicate 8 0) refl h.1,
+)
+
+-- slots 4 and 7 are free, and with slot 5 among them not all are
+pub free_slots : AreFree direct_config (parts two) 4 (0 ∷ 3 ∷ []) × (AreFree direct_config (parts two) 4 (0 ∷ 1 ∷ []) → ⊥)
+unfolding opened
+free_slots = (
+  λ i c. elim (contains_cases 0 (3 ∷ []) i c) [
+    | inl first ↦ subst (λ k. IsFreeSlot direct_config (parts two) (4 + k)) first (refl, refl)
+    | inr later ↦ elim (contains_cases 3 [] i later) [
+      | inl second ↦ subst (λ k. IsFreeSlot direct_config (parts two) (4 + k)) second (refl, refl)
+      | inr none ↦ absurd (omega (arith, none.1))
+    ]
+  ],
+  λ h. unequal 0 255 refl (h 1 (1, lit< tt, refl)).0,
+)
 
 -- both keys are reached; the one in slot 7 is not, and then it is the first
 pub first_unreachable : IsFirstUnreachable direct_config (parts two) 16 None
