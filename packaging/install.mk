@@ -22,6 +22,12 @@ INSTALLED = $(HEADERS:%=$(DESTDIR)$(INCLUDEDIR)/%) $(INTO)/libodht.a $(INTO)/$(S
   $(INTO)/libodht.so $(INTO)/pkgconfig/odht.pc $(INTO)/cmake/odht/odht-config.cmake \
   $(INTO)/cmake/odht/odht-config-version.cmake
 
+# beside the shared library its two other names. They are copies here, and links only where it is installed: the gate
+# takes no link in the folder of the repository
+NAME_SHARED = for name in $(SONAME) libodht.so; do \
+  rm -f "$(BUILT)/$$name" && cp '$(BUILT)/$(SHARED)' "$(BUILT)/$$name" || exit 1; \
+done
+
 define INSTALL_ALL
 @install -d '$(DESTDIR)$(INCLUDEDIR)' '$(INTO)/pkgconfig' '$(INTO)/cmake/odht'
 @install -m 644 $(HEADERS:%=$(ROOT)/include/%) '$(DESTDIR)$(INCLUDEDIR)'

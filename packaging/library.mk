@@ -19,8 +19,7 @@ build/$(SHARED): build/libodht.a packaging/odht.map
 	@$(CC) -shared -nodefaultlibs -Wl,-soname,$(SONAME) -Wl,--version-script=packaging/odht.map \
 	  -Wl,-z,defs -Wl,-z,text -Wl,-z,relro -Wl,-z,noexecstack \
 	  -Wl,--whole-archive $< -Wl,--no-whole-archive -lc -lgcc -o $@
-	@ln -sf $(SHARED) build/$(SONAME)
-	@ln -sf $(SONAME) build/libodht.so
+	@$(NAME_SHARED)
 
 exports:
 	@python3 tools/shapes
