@@ -57,9 +57,9 @@ def run_into_packets(words, given, request, room):
     packets = Packets()
     env = {**os.environ, "ODHT_FAIL_REQUEST": str(request), "ODHT_REQUESTS": f"{room}/requests"}
     with subprocess.Popen(words, stdin=subprocess.PIPE, stdout=packets.output, stderr=subprocess.PIPE, env=env,
-                          cwd=room) as program:
+                          cwd=room, preexec_fn=limit) as program:
         packets.begin()
-        errors = program.communicate(given, 60)[1]
+        errors = program.communicate(given)[1]
     written, sizes = packets.end(60)
     with open(f"{room}/requests", encoding="utf-8") as it:
         made = int(it.read())

@@ -4,8 +4,8 @@
   tools/edits.py check       that each `old:` text stands once in its file; in a second
   tools/edits.py run [NAME..]   has the prover try each edit, of all crates or of these, on copies
 
-What earlier checks of the repository proved is kept, as `rt check` keeps it: an edit costs what the prover does anew
-for it. As many are tried at once as there are processors. build/logs/edits.log says of each by which line it is refused.
+What earlier checks of the repository proved is kept, as `rt check` keeps it: an edit costs what the prover does
+anew for it. As many are tried at once as there are processors. build/logs/edits.log says of each by which line it is refused.
 """
 import os
 import re
@@ -18,6 +18,7 @@ from collections import Counter
 from concurrent.futures import ThreadPoolExecutor
 
 import kit
+import watched
 
 TOP = os.path.dirname(os.path.dirname(os.path.realpath(__file__)))
 # the most edits that are tried in one copy
@@ -117,10 +118,8 @@ def copy_kept(what, name, tree, to):
 
 def rt(words, tree, name):
     """Runs `rt` in a crate of a tree. Returns its status and its lines."""
-    ran = subprocess.run(
-        ["rt", *words], cwd=f"{tree}/crates/{name}", stdin=subprocess.DEVNULL, stdout=subprocess.PIPE,
-        stderr=subprocess.STDOUT, text=True, errors="replace")
-    return ran.returncode, ran.stdout.rstrip("\n").split("\n")
+    status, printed = watched.run(["rt", *words], limit=None, cwd=f"{tree}/crates/{name}")
+    return status, printed.rstrip("\n").split("\n")
 
 
 def prove(chosen, tree):
@@ -193,6 +192,7 @@ def told(crate, verdicts, log):
 
 def run(names):
     kit.need()
+    watched.end_on_signals()
     unknown = [it for it in names if it not in crates()]
     if unknown:
         sys.exit(f"crates.txt names no {unknown[0]}")

@@ -8,6 +8,7 @@ mkdir -p "$1"
 target=$(cd "$1" && pwd)
 room=$(mktemp -d)
 trap 'rm -rf "$room"' EXIT
+trap 'exit 1' HUP INT TERM
 build() {
     "${MAKE:-make}" -s -C "$here" CARGO_TARGET_DIR="$target" "$@"
 }

@@ -32,6 +32,7 @@ pub fn below_the_maximum(alloc: Global, report: &mut Report) {
     report.size("accepted", accepted);
     tell_read(&table, report);
     report.table(&table);
+    report.size("bytes given up", table.into_raw_bytes().len());
 }
 
 // Adds what the calls that read a table return.

@@ -17,11 +17,11 @@
 --                          done, with the slots of ns that are placed, are the slots so far in the search for an order
 --     IsPass F P done ns n  after a pass that placed n slots, which are the first of ns; where n is 0, no slot is ready
 --                          after done but those of done
---     AreListed F T ns     the slots of ns wait, and are pending in a table whose parts are T
 --     AreWholeParts F P T n  T is the parts of the table P, which is valid and has n pairs
---     IsBegun F T ns n     of the list ns of all occupied slots of T the first n are placed, and the others wait; with these
---                          done, the others are pending in each table whose parts are T
---     IsFar F T n          the slot that is listed as the waiting n is below the home of its key, or past its first group
+--     AreListed F T ns     the slots of ns wait, and are pending in a table whose parts are T
+--     IsBegun F T ns n     n is at most the length of ns, and those behind the first n wait; with the first n done, they
+--                          are pending in each valid table whose parts are T, with as many pairs as ns has numbers
+--     IsFar F T n          the slot listed as the waiting n is below the home of its key, or past the group from there on
 use Rattle.std.specs.Prelude.{◌≡◌, ℕ, ◌+◌, ◌-◌, ◌^◌, ◌%◌, ◌<◌, ◌≤◌, ◌⊎◌, nat_lt, List, ◌++◌, length, map, filter, take, drop, All, AllPairs, Contains, IsPermutation}
 use Rattle.odht_base.specs.Decoded.{slot_key}
 use Rattle.odht_base.specs.Format.{Format}

@@ -1,10 +1,10 @@
--- Which files are replaced, and what permissions the new one gets. A mode is that of the system: the kind of a file, and
--- below it twelve bits, of which the last nine are what the owner, the group and all others may do.
+-- Which files are replaced, and what permissions the new one gets. A mode is that of the system: the kind of a file,
+-- and below it twelve bits, of which the last nine are what the owner, the group and all others may do.
 --     irregular k              why a file of this kind is not replaced, if there is a reason
 --     obstacle_of m n b        why a file of the mode m and of n names is not replaced, if there is a reason; b says that
 --                              other names may be left with the old file
 --     obstacle_text o          what `{}` writes of a reason
---     within_owner m           a mask: all bits of the owner, and of the group and the others those that the owner has too
+--     within_owner m           a mask: all bits of the owner, and of the group and the others those that the owner has
 --     in_both m                a mask: all bits of the owner, and of the group and the others those that both have
 --     kept_mode m o g          the permissions of the new file, where it keeps the owner (o) and the group (g), or not
 use Rattle.std.specs.Prelude.{ℕ, ◌*◌, ◌/◌, Bool, ◌||◌, List, ◌++◌, codes, decimal, Option, Some, None, bit_and, bit_or, nat_le, ◌==◌, if◌then◌else◌}

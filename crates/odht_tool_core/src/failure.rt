@@ -79,17 +79,11 @@ impl fmt::Display for Failure {
             Failure::NoShape {
                 key_size,
                 value_size,
-            } => write!(
-                f,
-                "no ready shape has keys of {key_size} and values of {value_size} bytes under this hash; `odht info` takes any"
-            ),
+            } => write_no_shape(*key_size, *value_size, f),
             Failure::NoHash {
                 key_size,
                 value_size,
-            } => write!(
-                f,
-                "the control bytes fit no hash function of ready shapes with keys of {key_size} and values of {value_size} bytes; `odht check` and `odht info` say more"
-            ),
+            } => write_no_hash(*key_size, *value_size, f),
             Failure::PastEnd { offset, len } => {
                 write!(f, "has {len} bytes, and so none at the offset {offset}")
             }
@@ -106,6 +100,28 @@ impl fmt::Display for Failure {
             Failure::Key(word) => write!(f, "{word:?} is not a key of the table's shape"),
         }
     }
+}
+
+fn write_no_shape<W: fmt::Write>(
+    key_size: u8,
+    value_size: u8,
+    f: &mut fmt::Formatter<W>,
+) -> fmt::Result {
+    write!(
+        f,
+        "no ready shape has keys of {key_size} and values of {value_size} bytes under this hash; `odht info` takes any"
+    )
+}
+
+fn write_no_hash<W: fmt::Write>(
+    key_size: u8,
+    value_size: u8,
+    f: &mut fmt::Formatter<W>,
+) -> fmt::Result {
+    write!(
+        f,
+        "the control bytes fit no hash function of ready shapes with keys of {key_size} and values of {value_size} bytes; `odht check` and `odht info` say more"
+    )
 }
 
 impl std::error::Error for Failure {}

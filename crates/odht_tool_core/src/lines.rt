@@ -78,8 +78,8 @@ fn take_buffered<R: BufRead>(reader: &mut R, line: &mut Vec<u8>) -> io::Result<B
     Ok(Buffered::Line)
 }
 
-// What is in the buffer where this error came when it was to be filled: where the read was interrupted a part of a line
-// at most, which is read again. Any other error is returned as it is.
+// What is done where this error came when the buffer was to be filled. Where the read was interrupted nothing was taken,
+// and it is tried again. Any other error is returned as it is.
 #[cold]
 fn buffered_after(refused: io::Error) -> io::Result<Buffered>
     ensures again { error_kind refused ≡ ErrorKind.Interrupted → result ≡ Ok Buffered.Part }

@@ -32,8 +32,8 @@ impl Target {
     /// Follows the links of the name. No file is opened.
     ///
     /// It fails with [`Failure::Obstacle`] where what is there is not a regular file, where its owner may not write it,
-    /// and where it has other names, unless `breaks_links`; with [`Failure::Write`] where the system does not follow the
-    /// links, or the file has no name where they end; and without memory.
+    /// and where it has other names, unless `breaks_links`; with [`Failure::Write`] where the system does not follow
+    /// the links, or the file has no name where they end; and without memory.
     pub fn find<R: Files + AllocGlobal>(
         rt: &R,
         path: &str,
@@ -55,7 +55,9 @@ impl Target {
                 breaks_links,
             })
         } else {
-            let error = io::Error::other("no name of the file is known");
+            let error = io::Error::other(
+                "no name of the file is known, or it was replaced just now",
+            );
             Err(Failure::Write(error))
         }
     }
@@ -123,7 +125,7 @@ fn is_same(one: &Option<Metadata>, other: &Option<Metadata>) -> bool {
 fn end_of_links<R: Files + AllocGlobal>(rt: &R, path: &str) -> io::Result<String> {
     let alloc: Global = rt.alloc();
     let mut name = String::from_str(alloc, path)?;
-    for _ in 0..MOST_LINKS {
+    for _ in 0..=MOST_LINKS {
         match next_name(rt, name.as_str())? {
             Some(next) => name = next,
             None => return Ok(name),

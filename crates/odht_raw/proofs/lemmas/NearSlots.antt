@@ -1,5 +1,4 @@
--- Slots that are near the home of their key: when they are ready, and that the first ones of a list are placed as long as
--- each is near.
+-- Slots that are placed in their order, as long as each is near its home: then it is ready.
 use Rattle.std.proofs.Common.{◌≡◌, ◌<◌, ◌≤◌, ◌+◌, ◌-◌, ◌%◌, ◌^◌, ◌∙◌, inl, inr, ℕ, zero, suc, sym, ap, subst, refl, List, [], ◌∷◌, ◌++◌, length, get_or, take, drop, arith, All, Contains, lt-ltb, le-ltb}
 use Rattle.std.proofs.lemmas.Bool.{cases_lt}
 use Rattle.std.proofs.lemmas.List.{get_or-take, get_or_default, length-take-le}

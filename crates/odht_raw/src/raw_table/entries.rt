@@ -136,9 +136,9 @@ impl<'a, K: ByteArray, V: ByteArray> Entries<'a, K, V> {
 
     /// Whether the key of a slot is `key`. The value is not read.
     ///
-    /// A short key is loaded whole, so that its words are compared at once; a longer one is compared where it is. The
-    /// whole entry is cut out of the bytes, as `get` cuts it: where its value is read next, that is the same cut, and
-    /// is made once.
+    /// A short key is loaded whole, and compared as its length allows; a longer one is compared where it is. The whole
+    /// entry is cut out of the bytes, as `get` cuts it: where its value is read next, that is the same cut, and is made
+    /// once.
     #[inline(always)]
     pub(crate) fn has_key(&self, slot: usize, key: &K) -> bool
         requires { slot < self.now.slots }

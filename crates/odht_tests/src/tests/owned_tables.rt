@@ -153,6 +153,8 @@ fn copies_have_the_same_bytes(rt: HostRuntime) {
     same_answer(&rt, 1, table.insert(&1, &9), Ok(Some(2)));
     same_value(&rt, 1, cloned.get(&1), Some(2));
     same_value(&rt, 1, copied.get(&1), Some(2));
+    let given_up = cloned.into_raw_bytes();
+    check_bytes(&rt, "the bytes given up", given_up.as_slice(), true);
 }
 
 // The bytes of such a table with the pair, of which one is another.

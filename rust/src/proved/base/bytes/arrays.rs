@@ -91,7 +91,7 @@ pub fn is_same_word(left: &[u8], right: &[u8], at: usize) -> bool {
 /// Whether two slices of the same length have the same bytes. They are compared where they are.
 ///
 /// Up to 64 bytes are compared in pieces of eight, then one of four, then the rest: a copy of a short key is written in
-/// such pieces too, and read back fastest in the same.
+/// such pieces too, and mostly read back fastest in the same.
 #[inline(always)]
 pub fn is_same_bytes(left: &[u8], right: &[u8]) -> bool {
     let len = right.len();

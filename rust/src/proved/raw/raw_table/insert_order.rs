@@ -61,7 +61,7 @@ impl<'a, K: ByteArray, V: ByteArray, H: HashFn> RawTable<'a, K, V, H> {
 
     // `insert_order` of the slots that still wait, where the first `placed` are placed.
     //
-    // The frontiers are set up here, and in a call of its own, since most tables with few pairs need none.
+    // It is a call of its own, since it sets the frontiers up, and most tables with few pairs need none.
     #[inline(never)]
     fn place_others(&self, out: &mut [usize], placed: usize) -> bool {
         // Its invariant is used: the slots are a slot count.
