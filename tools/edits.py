@@ -146,11 +146,12 @@ def parts_of(crate):
 def verdict(status, lines):
     """Returns whether the prover refused an edited crate, and by which line it says so."""
     errors = [it for it in lines if re.match(r"\S+:\d+:\d+: error", it)]
+    open_goals = [it for it in lines if re.match(r"(fn|impl) .*: not proved", it)]
     unread = [it for it in errors if it.removeprefix("./").startswith(("src/", "specs/")) and UNREAD.search(it)]
     if unread:
         return False, f"the prover cannot read it: {unread[0]}"
     if status == 1 and any(it.startswith("logic=not-proved") for it in lines):
-        return True, errors[0] if errors else "not proved"
+        return True, [*errors, *open_goals, "not proved"][0]
     return False, "it is still proved" if status == 0 else "\n".join(["it did not reach the prover", *lines[-6:]])
 
 
