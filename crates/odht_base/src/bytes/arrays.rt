@@ -79,8 +79,8 @@ impl<const LEN: usize> ByteArray for [u8; LEN] {
         as_bytes(self)
     }
 
-    // Arrays of one to four words are compared a word at a time, with no loop; those of 20 and 64 bytes as the compiler
-    // compares lists of a known length, which takes fewer instructions there.
+    // Arrays of one to four words are compared a word at a time, with no loop; those of 20 bytes as the compiler compares
+    // lists of a known length, which takes fewer instructions there.
     #[inline]
     fn equals(&self, other: &Self) -> bool {
         let (left, right): (&[u8], &[u8]) = (self, other);
@@ -89,7 +89,7 @@ impl<const LEN: usize> ByteArray for [u8; LEN] {
             16 => is_same_pair(left, right, 0),
             24 => is_same_pair(left, right, 0) && is_same_word(left, right, 16),
             32 => is_same_pair(left, right, 0) && is_same_pair(left, right, 16),
-            20 | 64 => is_same_list(left, right),
+            20 => is_same_list(left, right),
             _ => is_same_bytes(left, right),
         }
     }
