@@ -126,8 +126,7 @@ impl<C: Config, D: ByteStore> HashTable<C, D> {
     /// `get` of many keys: the value of each key is written to its index. The loads of eight keys overlap, so that many
     /// lookups in a large table are faster than one `get` after the other.
     ///
-    /// Each key is encoded twice, and hashed once. Where the group at a key's home has neither the key nor a free
-    /// control byte it is read twice.
+    /// Each key is encoded twice, and hashed once. No group is read twice.
     #[inline]
     pub fn get_all(&self, keys: &[C::Key], values: &mut [Option<C::Value>])
         requires { length values.old ≡ length keys.now }

@@ -46,8 +46,7 @@ impl<'a, T: Drop> Answers<T> for InSlice<'a, T> {
 
 /// Looks up the keys, eight at a time and then the rest one by one, and puts the answer of each key at its index.
 ///
-/// Each key is encoded twice, and hashed once. Where the group at a key's home has neither the key nor a free control
-/// byte it is read twice.
+/// Each key is encoded twice, and hashed once. No group is read twice.
 #[inline(always)]
 pub fn get_all<C: Config, A: Answers<Option<C::Value>>>(
     raw: &RawTable<'_, C::EncodedKey, C::EncodedValue, C::H>,

@@ -41,6 +41,8 @@ pub mod GroupLooks
 pub mod GroupSearches
 -- a search for the first free slot
 pub mod FreeSearches
+-- a search that passed each position
+pub mod PassedSearches
 -- the first look of a search
 pub mod FirstLooks
 -- a look at the mirror

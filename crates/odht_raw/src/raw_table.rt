@@ -3,7 +3,7 @@
 //! Where a comment says "on the parts of a table whose keys are all reached", its clause says `IsPartsOf`: no key is in
 //! two slots, the search for each key ends at its slot, and control bytes, mirror and entries are those of the table.
 ghost use Rattle.std.specs.Prelude.{◌≡◌, ◌+◌, ◌/◌, ◌^◌, ◌<◌, ◌≤◌, length, slice_index, IfOk};
-ghost use Rattle.std.specs.Prelude.{IsFalse};
+ghost use Rattle.std.specs.Prelude.{IsFalse, List, ℕ, ⊤};
 ghost use Rattle.std.specs.Result.{result_err};
 ghost use Rattle.odht_base.specs.Format.{format_of};
 ghost use Rattle.odht_base.specs.Load.{IsSlotCount};
@@ -11,6 +11,8 @@ ghost use Rattle.odht_base.specs.Decoded.{counts_as_free, slot_key};
 ghost use Rattle.odht_raw.specs.Parts.{entry_format};
 ghost use Rattle.odht_raw.specs.Checks.{IsSlotHash};
 ghost use Rattle.odht_raw.specs.Finds.{IsFind, IsCountedFind};
+ghost use Rattle.odht_raw.specs.SearchResults.{MatchSearchResult};
+ghost use Rattle.odht_raw.specs.Searches.{IsSearchEnd};
 ghost use Rattle.odht_raw.specs.Walks.{items_from};
 ghost use Rattle.odht_header.specs.Refusals.{checked, hashes_refusal, hashes_refusal_at};
 
@@ -120,7 +122,7 @@ impl<'a, K: ByteArray, V: ByteArray, H: HashFn> RawTable<'a, K, V, H> {
     ///
     /// On the parts of a table whose keys are all reached it is the map's answer. On any parts it is a value that is
     /// stored with an equal key. `find_counted` says how many groups that takes.
-    #[inline]
+    #[inline(always)]
     pub fn find(&self, key: &K) -> Option<V>
         ensures { IsFind (format_of K.LEN V.LEN H.hash) V.of_bytes self.now
             (K.bytes key.now) result }
@@ -132,7 +134,7 @@ impl<'a, K: ByteArray, V: ByteArray, H: HashFn> RawTable<'a, K, V, H> {
     /// `find`, and how many groups were read: on the parts of a table whose keys are all reached those up to the first
     /// slot that is free or holds the key, and on any parts at most all groups. How they are counted: docs/FORMAT.md,
     /// "Search".
-    #[inline]
+    #[inline(always)]
     pub fn find_counted(&self, key: &K) -> (Option<V>, usize)
         ensures { IsCountedFind (format_of K.LEN V.LEN H.hash) V.of_bytes self.now (K.bytes key.now)
             result }
@@ -142,18 +144,28 @@ impl<'a, K: ByteArray, V: ByteArray, H: HashFn> RawTable<'a, K, V, H> {
 
     /// `find_counted` by a group search of the caller's choice. On the parts of a table whose keys are all reached all
     /// searches give the same.
-    #[inline]
+    #[inline(always)]
     pub fn find_counted_by<Q: Group>(&self, key: &K) -> (Option<V>, usize)
         ensures { IsCountedFind (format_of K.LEN V.LEN H.hash) V.of_bytes self.now (K.bytes key.now)
             result }
     {
         let mut scan = Scan::new(self.control, self.entries.len());
         let end = search::<K, V, H, Q>(&mut scan, &self.entries, key);
-        let groups = scan.groups();
+        (self.value_at(end), scan.groups())
+    }
+
+    // The value of the slot where a search ended, if that slot holds the key.
+    #[inline(always)]
+    fn value_at(&self, end: Search) -> Option<V>
+        requires { MatchSearchResult end (λ slot. slot < self.now.entries.slots) (λ _. ⊤) ⊤ }
+        ensures { (k : List ℕ)
+            → IsSearchEnd (format_of K.LEN V.LEN H.hash) self.now.entries self.now.control k end
+            → IsFind (format_of K.LEN V.LEN H.hash) V.of_bytes self.now k result }
+    {
         match end {
-            Search::Found(slot) => (Some(self.entries.get(slot).value), groups),
-            Search::Free(_) => (None, groups),
-            Search::Neither => (None, groups),
+            Search::Found(slot) => Some(self.entries.get(slot).value),
+            Search::Free(_) => None,
+            Search::Neither => None,
         }
     }
 

@@ -1,12 +1,12 @@
 //! The search by groups of control bytes along the probe order.
-ghost use Rattle.std.specs.Prelude.{◌≡◌, ℕ, ◌+◌, ◌<◌, ◌≤◌, length, IfSome, IsNone};
+ghost use Rattle.std.specs.Prelude.{◌≡◌, ℕ, ◌+◌, ◌<◌, ◌≤◌, List, length, IfSome, IsNone};
 ghost use Rattle.odht_base.specs.Load.{IsSlotCount};
 ghost use Rattle.odht_base.specs.Format.{format_of};
 ghost use Rattle.odht_base.specs.Table.{Table};
 ghost use Rattle.odht_raw.specs.PartLengths.{ArePairLengths, AreSearchLengths};
 ghost use Rattle.odht_raw.specs.SearchEnds.{IsEndAmong, GoesOnAmong};
-ghost use Rattle.odht_raw.specs.SearchSteps.{IsGroupAt, IsLook, IsTag};
-ghost use Rattle.odht_raw.specs.Searches.{IsSearch, IsSearchEnd};
+ghost use Rattle.odht_raw.specs.SearchSteps.{IsGroupAt, IsLook, IsQuery, IsQueryOf, IsTag};
+ghost use Rattle.odht_raw.specs.Searches.{IsRest, IsSearch, IsSearchEnd, IsUnderWay, IsPassed};
 
 use super::{Entries, EntryMetadata, ProbeSeq, Scan, Search, tag_of};
 use crate::bytes::ByteArray;
@@ -22,7 +22,7 @@ use crate::swisstable_group_query::{Group, GroupQuery, REFERENCE_GROUP_SIZE};
 /// tag; and none before a `Free`, none in a group before that of a `Found`, and none at all on `Neither`, counts as
 /// free: each by its control byte or its mirror. No more groups are read than there are. All this holds for every group
 /// search. The rules are those of docs/FORMAT.md, "Search".
-#[inline]
+#[inline(always)]
 pub fn search<K: ByteArray, V: ByteArray, H: HashFn, Q: Group>(
     scan: &mut Scan<'_>,
     entries: &Entries<'_, K, V>,
@@ -37,7 +37,7 @@ pub fn search<K: ByteArray, V: ByteArray, H: HashFn, Q: Group>(
 }
 
 /// `search` of a key whose hash is known.
-#[inline]
+#[inline(always)]
 pub fn search_hashed<K: ByteArray, V: ByteArray, H: HashFn, Q: Group>(
     scan: &mut Scan<'_>,
     entries: &Entries<'_, K, V>,
@@ -50,9 +50,30 @@ pub fn search_hashed<K: ByteArray, V: ByteArray, H: HashFn, Q: Group>(
     ensures { IsSearch (format_of K.LEN V.LEN H.hash) entries.now (K.bytes key.now)
         scan.old scan.new result }
 {
-    let tag = tag_of(hash);
     let mask = scan.slots() - 1;
-    let mut probe = ProbeSeq::<REFERENCE_GROUP_SIZE>::new(hash as usize, mask);
+    let probe = ProbeSeq::<REFERENCE_GROUP_SIZE>::new(hash as usize, mask);
+    search_from::<K, V, H, Q>(scan, probe, entries, key, tag_of(hash))
+}
+
+// The rest of a search that is under way, from the group at the probe on.
+#[inline(always)]
+fn search_from<K: ByteArray, V: ByteArray, H: HashFn, Q: Group>(
+    scan: &mut Scan<'_>,
+    probe: ProbeSeq<REFERENCE_GROUP_SIZE>,
+    entries: &Entries<'_, K, V>,
+    key: &K,
+    tag: u8,
+) -> Search
+    requires lengths { AreSearchLengths H.MIN_LEN K.LEN V.LEN entries.now.slots
+        (length scan.old.control) }
+    requires tag { IsTag (format_of K.LEN V.LEN H.hash) (K.bytes key.now) tag }
+    requires at { IsUnderWay (format_of K.LEN V.LEN H.hash) entries.now scan.old.control
+        (K.bytes key.now) probe }
+    ensures { IsRest (format_of K.LEN V.LEN H.hash) entries.now (K.bytes key.now) probe.position
+        scan.old scan.new result }
+{
+    let mask = scan.slots() - 1;
+    let mut probe = probe;
     'groups: loop {
         let start = probe.index();
         let bytes = scan.group(start);
@@ -104,8 +125,36 @@ pub(super) fn whole_search<K: ByteArray, V: ByteArray, H: HashFn>(
     search_end::<K, V, H, GroupQuery>(control, entries, key, hash)
 }
 
+/// The rest of a search whose first group neither holds the key nor has a free byte. It is not inlined: where a first
+/// look ends the search, this is not called.
+#[inline(never)]
+pub(super) fn late_search<K: ByteArray, V: ByteArray, H: HashFn>(
+    control: &[EntryMetadata],
+    entries: &Entries<'_, K, V>,
+    key: &K,
+    hash: u32,
+) -> Search
+    requires slots { IsSlotCount entries.now.slots }
+    requires lengths { AreSearchLengths H.MIN_LEN K.LEN V.LEN entries.now.slots
+        (length control.now) }
+    requires hash { hash ≡ H.hash (K.bytes key.now) }
+    requires first { IsPassed (format_of K.LEN V.LEN H.hash) entries.now control.now
+        (K.bytes key.now) 16 }
+    ensures { IsSearchEnd (format_of K.LEN V.LEN H.hash) entries.now control.now
+        (K.bytes key.now) result }
+{
+    let mut scan = Scan::new(control, entries.len());
+    let mask = scan.slots() - 1;
+    let mut probe = ProbeSeq::<REFERENCE_GROUP_SIZE>::new(hash as usize, mask);
+    if probe.is_last_of(mask) {
+        return Search::Neither;
+    }
+    probe.advance(mask);
+    search_from::<K, V, H, GroupQuery>(&mut scan, probe, entries, key, tag_of(hash))
+}
+
 // Searches the sixteen slots from `start` on, whose control bytes are `bytes`, in pieces of the group search's size.
-#[inline]
+#[inline(always)]
 fn look_at_group<K: ByteArray, V: ByteArray, H: HashFn, Q: Group>(
     bytes: &[EntryMetadata],
     start: usize,
@@ -126,6 +175,10 @@ fn look_at_group<K: ByteArray, V: ByteArray, H: HashFn, Q: Group>(
         → IsGroupAt (format_of K.LEN V.LEN H.hash) P entries.now (K.bytes key.now) p start bytes.now
         → IsLook (format_of K.LEN V.LEN H.hash) P (K.bytes key.now) p 16 result }
 {
+    // One piece is told apart here, not by a loop of one turn: so the compiler knows early that a match ends the search.
+    if Q::SIZE == REFERENCE_GROUP_SIZE {
+        return look_at_piece::<K, V, H, Q>(bytes, start, entries, key, tag);
+    }
     for piece in 0..REFERENCE_GROUP_SIZE / Q::SIZE {
         let at = piece * Q::SIZE;
         let end = look_at_piece::<K, V, H, Q>(
@@ -143,7 +196,7 @@ fn look_at_group<K: ByteArray, V: ByteArray, H: HashFn, Q: Group>(
 }
 
 // Searches the slots from `start` on, modulo the slot count, whose control bytes are `bytes`.
-#[inline]
+#[inline(always)]
 fn look_at_piece<K: ByteArray, V: ByteArray, H: HashFn, Q: Group>(
     bytes: &[EntryMetadata],
     start: usize,
@@ -164,8 +217,36 @@ fn look_at_piece<K: ByteArray, V: ByteArray, H: HashFn, Q: Group>(
         → IsGroupAt (format_of K.LEN V.LEN H.hash) P entries.now (K.bytes key.now) p start bytes.now
         → IsLook (format_of K.LEN V.LEN H.hash) P (K.bytes key.now) p Q.SIZE result }
 {
+    look_in::<K, V, H, Q>(Q::of(bytes, tag), start, entries, key)
+}
+
+/// Where a search ends among the slots from `start` on, modulo the slot count, of whose control bytes `group` is the
+/// query for the key's tag: at a match with the key, else at the first free slot; None where it goes on behind them.
+#[inline(always)]
+pub(super) fn look_in<K: ByteArray, V: ByteArray, H: HashFn, Q: Group>(
+    group: Q,
+    start: usize,
+    entries: &Entries<'_, K, V>,
+    key: &K,
+) -> Option<Search>
+    requires slots { IsSlotCount entries.now.slots }
+    requires start { start + Q.SIZE ≤ entries.now.slots + 16 }
+    requires lengths { ArePairLengths H.MIN_LEN K.LEN V.LEN }
+    requires query { IsQuery (format_of K.LEN V.LEN H.hash) (K.bytes key.now) Q.SIZE
+        (Q.matches group) (Q.free group) }
+    ensures slot { let F = format_of K.LEN V.LEN H.hash
+        in (bs : List ℕ) → IsQueryOf F (K.bytes key.now) Q.SIZE bs (Q.matches group) (Q.free group)
+        → IfSome result (IsEndAmong F entries.now bs start Q.SIZE (K.bytes key.now)) }
+    ensures none { let F = format_of K.LEN V.LEN H.hash
+        in (bs : List ℕ) → IsQueryOf F (K.bytes key.now) Q.SIZE bs (Q.matches group) (Q.free group)
+        → IsNone result → GoesOnAmong F entries.now bs start (K.bytes key.now) Q.SIZE }
+    ensures on_placed { let F = format_of K.LEN V.LEN H.hash
+        in (bs : List ℕ) → IsQueryOf F (K.bytes key.now) Q.SIZE bs (Q.matches group) (Q.free group)
+        → (P : Table) (p : ℕ) → IsGroupAt F P entries.now (K.bytes key.now) p start bs
+        → IsLook F P (K.bytes key.now) p Q.SIZE result }
+{
     let mask = entries.len() - 1;
-    let mut group = Q::of(bytes, tag);
+    let mut group = group;
     'matches: while let Some(index) = group.first_match() {
         let slot = (start + index) & mask;
         if entries.has_key(slot, key) {

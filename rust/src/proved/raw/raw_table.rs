@@ -84,7 +84,7 @@ impl<'a, K: ByteArray, V: ByteArray, H: HashFn> RawTable<'a, K, V, H> {
     ///
     /// On the parts of a table whose keys are all reached it is the map's answer. On any parts it is a value that is
     /// stored with an equal key. `find_counted` says how many groups that takes.
-    #[inline]
+    #[inline(always)]
     pub fn find(&self, key: &K) -> Option<V> {
         let (value, _) = self.find_counted(key);
         value
@@ -93,22 +93,27 @@ impl<'a, K: ByteArray, V: ByteArray, H: HashFn> RawTable<'a, K, V, H> {
     /// `find`, and how many groups were read: on the parts of a table whose keys are all reached those up to the first
     /// slot that is free or holds the key, and on any parts at most all groups. How they are counted: docs/FORMAT.md,
     /// "Search".
-    #[inline]
+    #[inline(always)]
     pub fn find_counted(&self, key: &K) -> (Option<V>, usize) {
         self.find_counted_by::<GroupQuery>(key)
     }
 
     /// `find_counted` by a group search of the caller's choice. On the parts of a table whose keys are all reached all
     /// searches give the same.
-    #[inline]
+    #[inline(always)]
     pub fn find_counted_by<Q: Group>(&self, key: &K) -> (Option<V>, usize) {
         let mut scan = Scan::new(self.control, self.entries.len());
         let end = search::<K, V, H, Q>(&mut scan, &self.entries, key);
-        let groups = scan.groups();
+        (self.value_at(end), scan.groups())
+    }
+
+    // The value of the slot where a search ended, if that slot holds the key.
+    #[inline(always)]
+    fn value_at(&self, end: Search) -> Option<V> {
         match end {
-            Search::Found(slot) => (Some(self.entries.get(slot).value), groups),
-            Search::Free(_) => (None, groups),
-            Search::Neither => (None, groups),
+            Search::Found(slot) => Some(self.entries.get(slot).value),
+            Search::Free(_) => None,
+            Search::Neither => None,
         }
     }
 

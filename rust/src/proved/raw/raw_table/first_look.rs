@@ -2,7 +2,7 @@
 //! The first look of a search. To look up many keys, take the first looks of several keys before the first search ends:
 //! then their memory accesses overlap.
 
-use super::group_search::whole_search;
+use super::group_search::{late_search, look_in};
 use super::{tag_of, RawTable, Search};
 use crate::proved::raw::bytes::ByteArray;
 use crate::proved::raw::hash::HashFn;
@@ -30,26 +30,14 @@ impl<'a, K: ByteArray, V: ByteArray, H: HashFn> RawTable<'a, K, V, H> {
     /// `find` of a key whose first look was taken.
     ///
     /// The matches of the look are compared in turn. Where none holds the key and the group has no free byte, the
-    /// search goes through the groups from the first on, so the first group is read twice.
+    /// search goes on with the second group.
     #[inline(always)]
     pub fn find_from(&self, look: FirstLook, key: &K) -> Option<V> {
-        let mask = self.entries.len() - 1;
-        let home = look.hash as usize & mask;
-        let FirstLook { hash, mut group } = look;
-        while let Some(index) = group.first_match() {
-            let slot = (home + index) & mask;
-            if self.entries.has_key(slot, key) {
-                return Some(self.entries.get(slot).value);
-            }
-            group.drop_match();
-        }
-        if group.any_empty() {
-            return None;
-        }
-        match whole_search::<K, V, H>(self.control, &self.entries, key, hash) {
-            Search::Found(slot) => Some(self.entries.get(slot).value),
-            Search::Free(_) => None,
-            Search::Neither => None,
+        let home = look.hash as usize & (self.entries.len() - 1);
+        let FirstLook { hash, group } = look;
+        match look_in::<K, V, H, lanes::GroupQuery>(group, home, &self.entries, key) {
+            Some(end) => self.value_at(end),
+            None => self.value_at(late_search::<K, V, H>(self.control, &self.entries, key, hash)),
         }
     }
 }

@@ -15,7 +15,7 @@ use crate::proved::raw::swisstable_group_query::{Group, GroupQuery, REFERENCE_GR
 /// tag; and none before a `Free`, none in a group before that of a `Found`, and none at all on `Neither`, counts as
 /// free: each by its control byte or its mirror. No more groups are read than there are. All this holds for every group
 /// search. The rules are those of docs/FORMAT.md, "Search".
-#[inline]
+#[inline(always)]
 pub fn search<K: ByteArray, V: ByteArray, H: HashFn, Q: Group>(
     scan: &mut Scan<'_>,
     entries: &Entries<'_, K, V>,
@@ -26,16 +26,29 @@ pub fn search<K: ByteArray, V: ByteArray, H: HashFn, Q: Group>(
 }
 
 /// `search` of a key whose hash is known.
-#[inline]
+#[inline(always)]
 pub fn search_hashed<K: ByteArray, V: ByteArray, H: HashFn, Q: Group>(
     scan: &mut Scan<'_>,
     entries: &Entries<'_, K, V>,
     key: &K,
     hash: u32,
 ) -> Search {
-    let tag = tag_of(hash);
     let mask = scan.slots() - 1;
-    let mut probe = ProbeSeq::<REFERENCE_GROUP_SIZE>::new(hash as usize, mask);
+    let probe = ProbeSeq::<REFERENCE_GROUP_SIZE>::new(hash as usize, mask);
+    search_from::<K, V, H, Q>(scan, probe, entries, key, tag_of(hash))
+}
+
+// The rest of a search that is under way, from the group at the probe on.
+#[inline(always)]
+fn search_from<K: ByteArray, V: ByteArray, H: HashFn, Q: Group>(
+    scan: &mut Scan<'_>,
+    probe: ProbeSeq<REFERENCE_GROUP_SIZE>,
+    entries: &Entries<'_, K, V>,
+    key: &K,
+    tag: u8,
+) -> Search {
+    let mask = scan.slots() - 1;
+    let mut probe = probe;
     loop {
         let start = probe.index();
         let bytes = scan.group(start);
@@ -73,8 +86,27 @@ pub(super) fn whole_search<K: ByteArray, V: ByteArray, H: HashFn>(
     search_end::<K, V, H, GroupQuery>(control, entries, key, hash)
 }
 
+/// The rest of a search whose first group neither holds the key nor has a free byte. It is not inlined: where a first
+/// look ends the search, this is not called.
+#[inline(never)]
+pub(super) fn late_search<K: ByteArray, V: ByteArray, H: HashFn>(
+    control: &[EntryMetadata],
+    entries: &Entries<'_, K, V>,
+    key: &K,
+    hash: u32,
+) -> Search {
+    let mut scan = Scan::new(control, entries.len());
+    let mask = scan.slots() - 1;
+    let mut probe = ProbeSeq::<REFERENCE_GROUP_SIZE>::new(hash as usize, mask);
+    if probe.is_last_of(mask) {
+        return Search::Neither;
+    }
+    probe.advance(mask);
+    search_from::<K, V, H, GroupQuery>(&mut scan, probe, entries, key, tag_of(hash))
+}
+
 // Searches the sixteen slots from `start` on, whose control bytes are `bytes`, in pieces of the group search's size.
-#[inline]
+#[inline(always)]
 fn look_at_group<K: ByteArray, V: ByteArray, H: HashFn, Q: Group>(
     bytes: &[EntryMetadata],
     start: usize,
@@ -82,6 +114,10 @@ fn look_at_group<K: ByteArray, V: ByteArray, H: HashFn, Q: Group>(
     key: &K,
     tag: u8,
 ) -> Option<Search> {
+    // One piece is told apart here, not by a loop of one turn: so the compiler knows early that a match ends the search.
+    if Q::SIZE == REFERENCE_GROUP_SIZE {
+        return look_at_piece::<K, V, H, Q>(bytes, start, entries, key, tag);
+    }
     for piece in 0..REFERENCE_GROUP_SIZE / Q::SIZE {
         let at = piece * Q::SIZE;
         let end = look_at_piece::<K, V, H, Q>(
@@ -99,7 +135,7 @@ fn look_at_group<K: ByteArray, V: ByteArray, H: HashFn, Q: Group>(
 }
 
 // Searches the slots from `start` on, modulo the slot count, whose control bytes are `bytes`.
-#[inline]
+#[inline(always)]
 fn look_at_piece<K: ByteArray, V: ByteArray, H: HashFn, Q: Group>(
     bytes: &[EntryMetadata],
     start: usize,
@@ -107,8 +143,20 @@ fn look_at_piece<K: ByteArray, V: ByteArray, H: HashFn, Q: Group>(
     key: &K,
     tag: u8,
 ) -> Option<Search> {
+    look_in::<K, V, H, Q>(Q::of(bytes, tag), start, entries, key)
+}
+
+/// Where a search ends among the slots from `start` on, modulo the slot count, of whose control bytes `group` is the
+/// query for the key's tag: at a match with the key, else at the first free slot; None where it goes on behind them.
+#[inline(always)]
+pub(super) fn look_in<K: ByteArray, V: ByteArray, H: HashFn, Q: Group>(
+    group: Q,
+    start: usize,
+    entries: &Entries<'_, K, V>,
+    key: &K,
+) -> Option<Search> {
     let mask = entries.len() - 1;
-    let mut group = Q::of(bytes, tag);
+    let mut group = group;
     while let Some(index) = group.first_match() {
         let slot = (start + index) & mask;
         if entries.has_key(slot, key) {

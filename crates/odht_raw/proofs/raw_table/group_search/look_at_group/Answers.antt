@@ -15,7 +15,7 @@ overflow_add-start g c =
     let few = few_slots c.args.entries.now.slots c.requires.slots in
     let fits = piece-fits g.Q.Group.SIZE c.loop-piece.piece (omega (arith, c.loop-piece-test.true, ap (λ n. 16 / n) c.SIZE-piece-end.ensures)) in
     let l = c.requires.start in
-    rw c.SIZE.ensures (search rules)
+    rw c.SIZE-in-loop-piece.ensures (search rules)
 
 pub returns-then-is_some-clause-on_placed : goal.returns-then-is_some-clause-on_placed
 returns-then-is_some-clause-on_placed g c P p at =
@@ -24,7 +24,7 @@ returns-then-is_some-clause-on_placed g c P p at =
     let n : ℕ = c.loop-piece.piece * g.Q.Group.SIZE in
     let fits = piece-fits g.Q.Group.SIZE c.loop-piece.piece (omega (arith, c.loop-piece-test.true, ap (λ n. 16 / n) c.SIZE-piece-end.ensures)) in
     let there = IsGroupAt-piece F P c.args.entries.now k p c.args.start c.args.bytes.now n g.Q.Group.SIZE (omega (arith, c.requires.len, fits)) at (c.loop-piece.invariant.passed P p at) in
-    let known : IsLook F P k (p + n) g.Q.Group.SIZE c.look_at_piece-end.result = c.look_at_piece-end.ensures.on_placed P (p + n) (rw (c.SIZE.ensures, c.SIZE-in-loop-piece.ensures) there) in
+    let known : IsLook F P k (p + n) g.Q.Group.SIZE c.look_at_piece-end.result = c.look_at_piece-end.ensures.on_placed P (p + n) (rw (c.SIZE-in-loop-piece.ensures, c.SIZE-in-loop-piece-2.ensures) there) in
     look-piece F P k p n g.Q.Group.SIZE c.look_at_piece-end.result fits (sym c.is_some.ensures ∙ c.if-is_some.true) known
 
 pub returns-then-is_some-clause-slot : goal.returns-then-is_some-clause-slot
@@ -33,7 +33,7 @@ returns-then-is_some-clause-slot g c =
     let n : ℕ = c.loop-piece.piece * g.Q.Group.SIZE in
     let fits = piece-fits g.Q.Group.SIZE c.loop-piece.piece (omega (arith, c.loop-piece-test.true, ap (λ n. 16 / n) c.SIZE-piece-end.ensures)) in
     end-piece F c.args.entries.now c.args.bytes.now c.args.start n g.Q.Group.SIZE (g.K.ByteArray.bytes c.args.key.now) c.look_at_piece-end.result fits c.loop-piece.invariant.on
-    (rw (c.SIZE.ensures, c.SIZE-in-loop-piece.ensures) at c.look_at_piece-end.ensures.slot)
+    (rw (c.SIZE-in-loop-piece.ensures, c.SIZE-in-loop-piece-2.ensures) at c.look_at_piece-end.ensures.slot)
 
 pub loop-piece-init : goal.loop-piece-init
 loop-piece-init g c =
@@ -53,12 +53,12 @@ loop-piece-preserved g c =
     let missed = sym c.is_some.ensures ∙ c.if-is_some.false in
     let bytes = c.args.bytes.now in
     let on : GoesOnAmong F c.args.entries.now (bytes_at bytes n g.Q.Group.SIZE) (c.args.start + n) k g.Q.Group.SIZE =
-    rw (c.SIZE.ensures, c.SIZE-in-loop-piece.ensures) at c.look_at_piece-end.ensures.none missed in
+    rw (c.SIZE-in-loop-piece.ensures, c.SIZE-in-loop-piece-2.ensures) at c.look_at_piece-end.ensures.none missed in
     record {
       on = among-pieces (λ x b. IsFalse (counts_as_free b) × IsOther F c.args.entries.now k (x % c.args.entries.now.slots) b) bytes c.args.start c.loop-piece.piece g.Q.Group.SIZE c.loop-piece.invariant.on on;
       passed = λ P p at. (
           let there = IsGroupAt-piece F P c.args.entries.now k p c.args.start c.args.bytes.now n g.Q.Group.SIZE (omega (arith, c.requires.len, fits)) at (c.loop-piece.invariant.passed P p at) in
-          let known : IsLook F P k (p + n) g.Q.Group.SIZE c.look_at_piece-end.result = c.look_at_piece-end.ensures.on_placed P (p + n) (rw (c.SIZE.ensures, c.SIZE-in-loop-piece.ensures) there) in
+          let known : IsLook F P k (p + n) g.Q.Group.SIZE c.look_at_piece-end.result = c.look_at_piece-end.ensures.on_placed P (p + n) (rw (c.SIZE-in-loop-piece.ensures, c.SIZE-in-loop-piece-2.ensures) there) in
           let passed = look-none F P k (p + n) g.Q.Group.SIZE c.look_at_piece-end.result missed known in
           let sum : p + n + g.Q.Group.SIZE ≡ p + (c.loop-piece.piece + 1) * g.Q.Group.SIZE = omega arith in
           subst (Passed F P k) sum passed);
