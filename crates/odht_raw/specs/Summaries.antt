@@ -4,7 +4,6 @@
 --     IsSummary F T t n m o        none of them gives an error, m of them are occupied, and where the flag t says that
 --                                  searches are made, and slots and mirror give no error, o is the first that is
 --                                  unreachable
---     free_in g                    the indices of the control bytes of g that count as free, rising
 --     AreRight F T b is            slot b + i gives no error, for each i of is
 --     IsFreeSlot F T i             the control byte of slot i is that of a free slot, 255, and its entry is zeros
 --     AreFree F T b is             slot b + i is such a slot, for each i of is
@@ -31,9 +30,6 @@ pub record IsSummary (F : Format) (T : TableParts) (t : Bool) (n m : ℕ) (o : O
   pub passed : (i : ℕ) → i < n → slot_refusal_at F T.entries.bytes T.control i ≡ None
   pub counted : m ≡ occupied_before F T n
   pub reached : t ≡ true → IsFitting F T → IsFirstUnreachable F T n o
-
-abbrev pub free_in : List ℕ → List ℕ
-free_in g = filter (λ i. counts_as_free (slice_index g i)) (range_with_len 0 (length g))
 
 abbrev pub AreRight : Format → TableParts → ℕ → List ℕ → Type 0
 AreRight F T b is = (i : ℕ) → Contains is i → slot_refusal_at F T.entries.bytes T.control (b + i) ≡ None
