@@ -7,10 +7,10 @@
 --     AreRight F T b is            slot b + i gives no error, for each i of is
 --     IsFreeSlot F T i             the control byte of slot i is that of a free slot, 255, and its entry is zeros
 --     AreFree F T b is             slot b + i is such a slot, for each i of is
-use Rattle.std.specs.Prelude.{◌≡◌, ℕ, ◌+◌, ◌<◌, Bool, true, List, length, map, filter, filter_map, slice_index, Contains, Option, Some, None, MatchOption}
+use Rattle.std.specs.Prelude.{◌≡◌, ℕ, ◌+◌, ◌<◌, Bool, true, List, length, map, filter_map, slice_index, Contains, Option, Some, None, MatchOption}
 use Rattle.std.specs.List.{range_with_len}
 use Rattle.odht_base.specs.Format.{Format, entry_len}
-use Rattle.odht_base.specs.Decoded.{counts_as_free, decoded_cell, slot_entry}
+use Rattle.odht_base.specs.Decoded.{decoded_cell, slot_entry}
 use Rattle.odht_raw.specs.Checks.{IsFitting}
 use Rattle.odht_raw.specs.Parts.{TableParts, IsZeros}
 use Rattle.odht_header.specs.declared.error.Error.TheVariants.{Unreachable}

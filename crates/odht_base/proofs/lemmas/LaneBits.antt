@@ -1,9 +1,10 @@
 -- The masks of a group of sixteen lanes.
-use Rattle.std.proofs.Common.{◌≡◌, ℕ, zero, suc, ◌+◌, ◌-◌, ◌*◌, ◌/◌, ◌%◌, ◌^◌, ◌<◌, ◌≤◌, Bool, true, false, cond, List, [], ◌∷◌, ◌++◌, length, map, take, drop, length-drop, replicate, refl, sym, ap, ap₂, ◌∙◌, arith, nat_eq, nat_le, nat_lt, w8, bit_and, pow-suc, pow_mono, mul_assoc, length-take}
+use Rattle.std.proofs.Common.{◌≡◌, ℕ, zero, suc, ◌+◌, ◌-◌, ◌*◌, ◌/◌, ◌%◌, ◌^◌, ◌<◌, ◌≤◌, Bool, true, false, cond, List, [], ◌∷◌, ◌++◌, length, map, take, drop, length-drop, replicate, refl, sym, ap, ap₂, ◌∙◌, arith, nat_eq, nat_le, nat_lt, w8, bit_and, pow-suc, pow_mono, mul_assoc, mul_comm, mod-eq_of_lt, subst, inl, inr, length-take}
 use Rattle.std.proofs.Math.Arith.{mod-mul}
-use Rattle.std.proofs.Math.Seq.{take-length}
+use Rattle.std.proofs.Math.Seq.{take-add, take-length}
 use Rattle.std.proofs.Math.Nat.{zero-mod}
 use Rattle.std.proofs.lemmas.List.{length-map, map-append, take-map, drop-map}
+use Rattle.std.proofs.lemmas.Bool.{cases_lt}
 use native.Mathlib.Decide.{dec_le}
 use borrow.Author.Tests.{le-leb, lt-leb, lt-ltb, le-ltb}
 use Rattle.std.proofs.lemmas.Nat.{and_mask}
@@ -14,7 +15,7 @@ use Rattle.odht_base.specs.Masks.{set_bits}
 use Rattle.odht_base.specs.Bytes.{bytes_at}
 use Rattle.odht_base.specs.Decoded.{counts_as_free}
 use Rattle.odht_base.specs.Groups.{equal, first_free, free_in, occupied}
-use Rattle.odht_base.proofs.lemmas.ByteRanges.{length-bytes_at, drop-bytes_at}
+use Rattle.odht_base.proofs.lemmas.ByteRanges.{bytes_at-take}
 use Rattle.odht_base.proofs.lemmas.MarkedPositions.{equal-positions, free-positions, occupied-positions}
 use Rattle.odht_base.proofs.lemmas.MaskBits.{bits_mask, first_is_position}
 
@@ -129,7 +130,7 @@ late_set g l =
     ∙ ap (λ ts. slice_get (set_bits (mask_l ts)) 0) (drop-map counts_as_free 8 g)
     ∙ first_set (drop 8 g) (omega (arith, l, length-drop 8 g))
 
--- ---- sixteen bytes more, from byte n on
+-- ---- up to 64 bytes, sixteen at a time
 -- answers before others
 before : (xs ys : List Bool) → mask_l (xs ++ ys) ≡ mask_l xs + 2 ^ length xs * mask_l ys
 before [] ys = omega arith
@@ -137,30 +138,50 @@ before (x ∷ xs) ys =
     let power = pow-suc 2 (length xs) in
     omega (arith, before xs ys, ap (λ p. p * mask_l ys) power, mul_assoc 2 (2 ^ length xs) (mask_l ys))
 
-module _ (g : List ℕ) (n : ℕ) (few : length g ≤ 64) (inside : n + 16 ≤ length g) where
-  abbrev group : List ℕ
-  group = bytes_at g n 16
+-- the mask of up to 64 bytes fits a word
+pub free_fits : (g : List ℕ) → length g ≤ 64 → mask_l (map counts_as_free g) < 2 ^ 64
+free_fits g few = omega (arith, mask_l-lt (map counts_as_free g), pow_mono {i = length (map counts_as_free g)} {j = 64} (omega (arith, few, length-map g counts_as_free)))
 
-  parts : drop n g ≡ group ++ drop (n + 16) g
-  parts = drop-bytes_at g n 16
+-- sixteen bytes behind the first n
+pub free_more : (g : List ℕ) (n free bits : ℕ) → length g ≤ 64 → n + 16 ≤ length g → free ≡ mask_l (map counts_as_free (take n g)) → bits ≡ mask_l (map counts_as_free (bytes_at g n 16))
+    → free + bits * 2 ^ n % 2 ^ 64 ≡ mask_l (map counts_as_free (take (n + 16) g))
+free_more g n free bits few inside e f =
+    let long : length (map counts_as_free (take n g)) ≡ n = omega (arith, length-map (take n g) counts_as_free, length-take n g, inside) in
+    let parts : take (n + 16) g ≡ take n g ++ bytes_at g n 16 = take-add n 16 g ∙ ap (λ b. take n g ++ b) (sym (bytes_at-take g n 16)) in
+    let whole : mask_l (map counts_as_free (take (n + 16) g)) ≡ free + 2 ^ n * bits =
+    ap (λ xs. mask_l (map counts_as_free xs)) parts ∙ ap mask_l (map-append counts_as_free (take n g) (bytes_at g n 16)) ∙ before (map counts_as_free (take n g)) (map counts_as_free (bytes_at g n 16))
+    ∙ ap₂ (λ a b. a + b) (sym e) (ap₂ (λ k b. 2 ^ k * b) long (sym f)) in
+    let low = free_fits (take (n + 16) g) (omega (arith, length-take (n + 16) g, few, inside)) in
+    let turned = mul_comm bits (2 ^ n) in
+    let fits : bits * 2 ^ n % 2 ^ 64 ≡ bits * 2 ^ n = mod-eq_of_lt (omega (arith, whole, low, turned)) in
+    ap (λ m. free + m) (fits ∙ turned) ∙ sym whole
 
-  group_long : length group ≡ 16
-  group_long = length-bytes_at g n 16 inside
+-- the mask of the others, by the number of bytes
+rest_16 : (f m : ℕ) → f + m + 1 ≡ 2 ^ 16 → bit_and (18446744073709551615 - f) (18446744073709551615 / 2 ^ (64 - 16)) ≡ m
+rest_16 f m e = and_mask (18446744073709551615 - f) 16 ∙ omega (arith, e)
 
-  more : (t : ℕ → Bool) (m bits : ℕ) → m ≡ mask_l (map t (drop (n + 16) g)) → bits ≡ mask_l (map t group) → m * 2 ^ 16 % 2 ^ 64 + bits ≡ mask_l (map t (drop n g))
-  more t m bits e f =
-      let long : length (map t (drop (n + 16) g)) ≤ 48 = omega (arith, length-map (drop (n + 16) g) t, length-drop (n + 16) g, few, inside) in
-      let low : m < 2 ^ 48 = omega (arith, e, mask_l-lt (map t (drop (n + 16) g)), pow_mono {i = length (map t (drop (n + 16) g))} {j = 48} long) in
-      let power : 2 ^ length (map t group) ≡ 65536 = ap (λ k. 2 ^ k) (length-map group t ∙ group_long) in
-      let sum : m * 2 ^ 16 % 2 ^ 64 + bits ≡ mask_l (map t group) + 65536 * mask_l (map t (drop (n + 16) g)) = omega (arith, low, e, f) in
-      sum ∙ ap (λ k. mask_l (map t group) + k * mask_l (map t (drop (n + 16) g))) (sym power)
-      ∙ sym (before (map t group) (map t (drop (n + 16) g))) ∙ ap mask_l (sym (map-append t group (drop (n + 16) g))) ∙ ap (λ xs. mask_l (map t xs)) (sym parts)
+rest_32 : (f m : ℕ) → f + m + 1 ≡ 2 ^ 32 → bit_and (18446744073709551615 - f) (18446744073709551615 / 2 ^ (64 - 32)) ≡ m
+rest_32 f m e = and_mask (18446744073709551615 - f) 32 ∙ omega (arith, e)
 
-  module _ (bits : ℕ) (is : bits ≡ mask_l (map counts_as_free group)) where
-    pub more_free : (m : ℕ) → m ≡ mask_l (map counts_as_free (drop (n + 16) g)) → m * 2 ^ 16 % 2 ^ 64 + bits ≡ mask_l (map counts_as_free (drop n g))
-    more_free m e = more counts_as_free m bits e is
+rest_48 : (f m : ℕ) → f + m + 1 ≡ 2 ^ 48 → bit_and (18446744073709551615 - f) (18446744073709551615 / 2 ^ (64 - 48)) ≡ m
+rest_48 f m e = and_mask (18446744073709551615 - f) 48 ∙ omega (arith, e)
 
-    pub more_others : (m : ℕ) → m ≡ mask_l (map others (drop (n + 16) g)) → m * 2 ^ 16 % 2 ^ 64 + (65535 - bits) ≡ mask_l (map others (drop n g))
-    more_others m e =
-        let power : 2 ^ length group ≡ 65536 = ap (λ k. 2 ^ k) group_long in
-        more others m (65535 - bits) e (omega (arith, is, both_masks group, power))
+rest_64 : (f m : ℕ) → f + m + 1 ≡ 2 ^ 64 → bit_and (18446744073709551615 - f) (18446744073709551615 / 2 ^ (64 - 64)) ≡ m
+rest_64 f m e = and_mask (18446744073709551615 - f) 64 ∙ omega (arith, e)
+
+pub occupied_rest : (g : List ℕ) (n f : ℕ) → length g ≡ n → 1 ≤ n → n ≤ 64 → n % 16 ≡ 0 → f ≡ mask_l (map counts_as_free g)
+    → set_bits (bit_and (18446744073709551615 - f) (18446744073709551615 / 2 ^ (64 - n))) ≡ occupied g
+occupied_rest g n f long some few sixteen e =
+    let m : ℕ = mask_l (map others g) in
+    let Rest : ℕ → Type 0 = λ k. f + m + 1 ≡ 2 ^ k → bit_and (18446744073709551615 - f) (18446744073709551615 / 2 ^ (64 - k)) ≡ m in
+    let rest : Rest n = elim (cases_lt n 17) [
+      | inl l ↦ subst Rest (let is : 16 ≡ n = omega arith in is) (rest_16 f m)
+      | inr l ↦ elim (cases_lt n 33) [
+        | inl k ↦ subst Rest (let is : 32 ≡ n = omega arith in is) (rest_32 f m)
+        | inr k ↦ elim (cases_lt n 49) [
+          | inl j ↦ subst Rest (let is : 48 ≡ n = omega arith in is) (rest_48 f m)
+          | inr j ↦ subst Rest (let is : 64 ≡ n = omega arith in is) (rest_64 f m)
+        ]
+      ]
+    ] in
+    ap set_bits (rest (ap (λ k. k + m + 1) e ∙ both_masks g ∙ ap (λ k. 2 ^ k) long)) ∙ occupied_set g (omega (arith, long))

@@ -44,14 +44,12 @@ pub fn occupied(control: &[u8], count: usize) -> IndexSet {
 /// The indices of the control bytes that count as free, and of the others. There are up to 64, a multiple of sixteen.
 #[inline(always)]
 pub fn free_and_occupied(control: &[u8]) -> (IndexSet, IndexSet) {
-    let mut at = control.len();
     let mut free = 0;
-    let mut others = 0;
-    while at > 0 {
-        at -= REFERENCE_GROUP_SIZE;
-        let bits = free_bits(u8x16::from_slice(&control[at..at + REFERENCE_GROUP_SIZE]));
-        free = (free << 16) + bits;
-        others = (others << 16) + (0xFFFF - bits);
+    let mut at = 0;
+    while at < control.len() {
+        free += free_bits(u8x16::from_slice(&control[at..at + REFERENCE_GROUP_SIZE])) << at as u32;
+        at += REFERENCE_GROUP_SIZE;
     }
-    (IndexSet::of_bits(free), IndexSet::of_bits(others))
+    let all = u64::MAX >> (64 - control.len()) as u32;
+    (IndexSet::of_bits(free), IndexSet::of_bits(!free & all))
 }

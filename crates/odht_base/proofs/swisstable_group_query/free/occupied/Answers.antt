@@ -1,7 +1,6 @@
-use Rattle.std.proofs.Common.{◌∙◌, ◌-◌, ◌*◌, ◌^◌, ◌%◌, ap, map, take, bit_and}
+use Rattle.std.proofs.Common.{◌∙◌, ◌-◌, ◌*◌, ◌^◌, ◌%◌, ap, map, bit_and}
 use lib.Lanes.{mask_l}
 use Rattle.odht_base.specs.Decoded.{counts_as_free}
-use Rattle.odht_base.specs.Groups.{occupied}
 use Rattle.odht_base.specs.Masks.{set_bits}
 use Rattle.odht_base.proofs.lemmas.LaneBits.{in_lanes, occupied_first}
 use Rattle.odht_base.proofs.swisstable_group_query.free.occupied.Goals as goal

@@ -54,6 +54,9 @@ module _ (g : Over) (c : After-min-size g) where
 pub free_and_occupied-free-requires-clause-groups : goal.free_and_occupied-free-requires-clause-groups
 free_and_occupied-free-requires-clause-groups g c = let at = (goal.at.free_and_occupied-free-requires-clause-groups g c).After-min-size in ap (λ n. n % 16) (long g at) ∙ groups g at
 
+pub free_and_occupied-free-requires-clause-some : goal.free_and_occupied-free-requires-clause-some
+free_and_occupied-free-requires-clause-some g c = let at = (goal.at.free_and_occupied-free-requires-clause-some g c).After-min-size in omega (arith, long g at, size_is g at, before g at)
+
 pub are_free-requires-clause-within : goal.are_free-requires-clause-within
 are_free-requires-clause-within g c κs step i marked =
     let at = (goal.at.are_free-requires-clause-within g c).After-min-size in

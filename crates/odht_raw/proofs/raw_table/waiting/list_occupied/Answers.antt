@@ -27,6 +27,9 @@ module _ (c : After-min-size) where
 pub free_and_occupied-others-requires-clause-groups : goal.free_and_occupied-others-requires-clause-groups
 free_and_occupied-others-requires-clause-groups c = let at = (goal.at.free_and_occupied-others-requires-clause-groups c).After-min-size in ap (λ n. n % 16) (long at) ∙ groups at
 
+pub free_and_occupied-others-requires-clause-some : goal.free_and_occupied-others-requires-clause-some
+free_and_occupied-others-requires-clause-some c = let at = (goal.at.free_and_occupied-others-requires-clause-some c).After-min-size in omega (arith, long at, c.min-size.ensures, c.spans-test.true)
+
 pub list_marked-listed-requires-clause-slots : goal.list_marked-listed-requires-clause-slots
 list_marked-listed-requires-clause-slots c i marked =
     let at = (goal.at.list_marked-listed-requires-clause-slots c).After-min-size in
