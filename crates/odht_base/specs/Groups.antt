@@ -2,6 +2,7 @@
 --     equal g h              the indices of the bytes h, rising
 --     first_free g           the least index of a byte of 128 or more, if any
 --     late_free g            the least such index from 8 on, where there is one, else the least of all
+--     free_in g              the indices of the bytes of 128 or more, rising
 --     occupied g             the indices of the bytes below 128, rising
 --     IsReport g h xs        the indices xs rise, each index of h is among them, and none of a byte of 128 or more
 --     IsWordReport g h xs    what the word search reports: a byte other than h only where it is h xor 1 and the index
@@ -21,6 +22,9 @@ first_free g = position counts_as_free g
 
 abbrev pub late_free : List ℕ → Option ℕ
 late_free g = option_or (option_map (λ i. i + 8) (first_free (drop 8 g))) (first_free g)
+
+abbrev pub free_in : List ℕ → List ℕ
+free_in g = filter (λ i. counts_as_free (slice_index g i)) (range_with_len 0 (length g))
 
 abbrev pub occupied : List ℕ → List ℕ
 occupied g = filter (λ i. nat_lt (slice_index g i) 128) (range_with_len 0 (length g))

@@ -57,8 +57,6 @@ pub mod Bounds
 pub mod BoundedSearches
 -- and the slot's own position there
 pub mod KeyPositions
--- the masks of control bytes
-pub mod SpanMasks
 -- a look at the slots in turn
 pub mod SlotSummary
 -- a span at a time, first the free ones and then the others

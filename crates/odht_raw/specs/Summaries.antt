@@ -4,14 +4,13 @@
 --     IsSummary F T t n m o        none of them gives an error, m of them are occupied, and where the flag t says that
 --                                  searches are made, and slots and mirror give no error, o is the first that is
 --                                  unreachable
---     free_in g                    the indices of the control bytes of g that count as free, rising
 --     AreRight F T b is            slot b + i gives no error, for each i of is
 --     IsFreeSlot F T i             the control byte of slot i is that of a free slot, 255, and its entry is zeros
 --     AreFree F T b is             slot b + i is such a slot, for each i of is
-use Rattle.std.specs.Prelude.{◌≡◌, ℕ, ◌+◌, ◌<◌, Bool, true, List, length, map, filter, filter_map, slice_index, Contains, Option, Some, None, MatchOption}
+use Rattle.std.specs.Prelude.{◌≡◌, ℕ, ◌+◌, ◌<◌, Bool, true, List, length, map, filter_map, slice_index, Contains, Option, Some, None, MatchOption}
 use Rattle.std.specs.List.{range_with_len}
 use Rattle.odht_base.specs.Format.{Format, entry_len}
-use Rattle.odht_base.specs.Decoded.{counts_as_free, decoded_cell, slot_entry}
+use Rattle.odht_base.specs.Decoded.{decoded_cell, slot_entry}
 use Rattle.odht_raw.specs.Checks.{IsFitting}
 use Rattle.odht_raw.specs.Parts.{TableParts, IsZeros}
 use Rattle.odht_header.specs.declared.error.Error.TheVariants.{Unreachable}
@@ -31,9 +30,6 @@ pub record IsSummary (F : Format) (T : TableParts) (t : Bool) (n m : ℕ) (o : O
   pub passed : (i : ℕ) → i < n → slot_refusal_at F T.entries.bytes T.control i ≡ None
   pub counted : m ≡ occupied_before F T n
   pub reached : t ≡ true → IsFitting F T → IsFirstUnreachable F T n o
-
-abbrev pub free_in : List ℕ → List ℕ
-free_in g = filter (λ i. counts_as_free (slice_index g i)) (range_with_len 0 (length g))
 
 abbrev pub AreRight : Format → TableParts → ℕ → List ℕ → Type 0
 AreRight F T b is = (i : ℕ) → Contains is i → slot_refusal_at F T.entries.bytes T.control (b + i) ≡ None

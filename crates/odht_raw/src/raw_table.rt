@@ -19,6 +19,7 @@ ghost use Rattle.odht_header.specs.Refusals.{checked, hashes_refusal, hashes_ref
 use crate::bytes::ByteArray;
 use crate::error::Error;
 use crate::hash::HashFn;
+pub(crate) use crate::swisstable_group_query::is_empty_or_deleted;
 use crate::swisstable_group_query::{Group, GroupQuery};
 use std::marker::{Model, PhantomData};
 
@@ -37,7 +38,6 @@ mod probe_seq;
 mod runs;
 mod scan;
 mod search_result;
-mod span;
 mod table_mut;
 mod waiting;
 mod walk;
@@ -60,19 +60,8 @@ pub type EntryMetadata = u8;
 /// The control byte of a free slot.
 pub const FREE: EntryMetadata = 255;
 
-// The least control byte that counts as free: one above each tag.
-const LEAST_FREE: EntryMetadata = 128;
-
 // How many low bits of a hash are not part of its tag.
 const TAG_SHIFT: u32 = 25;
-
-/// Whether a control byte counts as free. The name is that of the Rust crate; no slot is ever deleted.
-#[inline]
-pub(crate) fn is_empty_or_deleted(control: EntryMetadata) -> bool
-    ensures { result ≡ counts_as_free control }
-{
-    control >= LEAST_FREE
-}
 
 /// The tag of a key with this hash: the seven highest bits of the hash.
 #[inline]

@@ -16,6 +16,7 @@ use crate::status::{Status, of_output};
 use crate::text::Text;
 use odht_base::bytes::{Borrowed, ByteArray};
 use odht_base::hash::HashFn;
+use odht_base::swisstable_group_query::is_empty_or_deleted;
 use odht_header::config::{Coded, Config};
 use odht_raw::memory_layout::{Allocation, Entries};
 use std::io::{self, Write};
@@ -73,7 +74,7 @@ where
         (slot_line ⟦<C as Coded>⟧.coding C.Key.text C.Value.text parts slot)) }
 {
     let tag = control[slot];
-    if tag >= 128 {
+    if is_empty_or_deleted(tag) {
         return Ok(());
     }
     let entry = entries.get(slot);

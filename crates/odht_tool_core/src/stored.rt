@@ -19,6 +19,7 @@ use crate::groups::{groups_to, groups_to_free};
 use crate::histogram::Histogram;
 use crate::shapes::Hash;
 use odht_base::hash::{FxHashFn, HashFn, UnHashFn};
+use odht_base::swisstable_group_query::is_empty_or_deleted;
 use odht_header::error::Error;
 use odht_header::header::{HEADER_SIZE, Header};
 use odht_raw::raw_table::tag_of;
@@ -152,7 +153,7 @@ impl<'a> StoredTable<'a> {
         requires { slot < self.now.slots }
         ensures { result ≡ not (counts_as_free (slice_index self.now.control slot)) }
     {
-        self.control[slot] < 128
+        !is_empty_or_deleted(self.control[slot])
     }
 
     // The hash of the key of a slot.

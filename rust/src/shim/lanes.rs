@@ -44,7 +44,6 @@ mod tests {
                     };
                     assert_eq!(x.simd_eq(y).to_bitmask(), bits(|a, b| a == b));
                     assert_eq!(x.simd_ge(y).to_bitmask(), bits(|a, b| a >= b));
-                    assert_eq!(x.simd_lt(y).to_bitmask(), bits(|a, b| a < b));
                 }
             }
         };

@@ -80,14 +80,15 @@ const KINDS: [Kind; 3] =
     [("one hash", one_hash), ("one home", one_home), ("few free slots", few_free_slots)];
 
 // 222 keys of one hash fill 13 groups and 14 slots of the next. The search for the key at position p reads p / 16 + 1
-// groups: 16 * (1 + .. + 13) + 14 * 14 in all. It compares p keys: 222 * 221 / 2 in all.
+// groups: 16 * (1 + .. + 13) + 14 * 14 in all, 1652. It compares p keys: 222 * 221 / 2 in all. Before, each group is read
+// once for which slots are free: 16 reads more.
 #[test]
 fn reads_and_compares_are_counted() {
     let bytes = bytes_of(&one_hash(256));
-    assert_eq!(counted(|| check_all::<Keys>(&bytes)), (Ok(()), 1652, 24_531));
+    assert_eq!(counted(|| check_all::<Keys>(&bytes)), (Ok(()), 1668, 24_531));
     // With each of 128 tags in turn, a key is compared where 128 positions before it there is one: 222 - 128 in all.
     let bytes = bytes_of(&one_home(256));
-    assert_eq!(counted(|| check_all::<Keys>(&bytes)), (Ok(()), 1652, 94));
+    assert_eq!(counted(|| check_all::<Keys>(&bytes)), (Ok(()), 1668, 94));
 }
 
 #[test]
@@ -100,7 +101,8 @@ fn the_tables_are_valid() {
 }
 
 /// Checks the bytes with a bound, and that what it reads and compares is within what is promised: for the bound a read
-/// a slot and group; and where it is kept once more as many, and sixteen times as many compares.
+/// a slot and group; where it is kept once more as many, and sixteen times as many compares. A read of each group, for
+/// which slots are free, is within that where the bound is kept, since then not all slots have keys that are searched for.
 fn within(bytes: &[u8], slots: usize, groups: usize) -> (Result<(), Error>, usize) {
     let view = HashTable::<Keys, _>::from_raw_bytes(bytes).unwrap();
     let (keeps, bound_reads, none) = counted(|| view.searches_within(groups));
@@ -114,7 +116,7 @@ fn within(bytes: &[u8], slots: usize, groups: usize) -> (Result<(), Error>, usiz
         assert!(
             matches!(result, Err(Error::SearchTooLong { groups: asked, .. }) if asked == groups)
         );
-        assert_eq!((reads, compares), (bound_reads, 0));
+        assert_eq!((reads, compares), (bound_reads + slots / 16, 0));
     }
     (result, compares)
 }

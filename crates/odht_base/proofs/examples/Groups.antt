@@ -1,7 +1,17 @@
 -- Worked examples: what a search of a group may report.
 use Rattle.std.proofs.Common.{◌≡◌, ◌<◌, ◌+◌, ◌⊎◌, ℕ, zero, suc, inl, inr, [], ◌∷◌, refl, subst, lit<, arith}
 use Rattle.std.specs.Prelude.{Contains, slice_index, bit_xor}
-use Rattle.odht_base.specs.Groups.{IsReport, IsWordReport}
+use Rattle.odht_base.specs.Groups.{IsReport, IsWordReport, free_in, occupied}
+use Rattle.odht_base.specs.Masks.{bits_from, set_bits, set_bytes}
+
+-- 128 and 255 count as free, 0 and 127 do not
+pub free_bytes : (free_in (0 ∷ 255 ∷ 127 ∷ 128 ∷ []) ≡ 1 ∷ 3 ∷ []) × (free_in (127 ∷ []) ≡ []) × (occupied (0 ∷ 255 ∷ 127 ∷ 128 ∷ []) ≡ 0 ∷ 2 ∷ [])
+free_bytes = (refl, refl, refl)
+
+-- of 2 ^ 63 + 22 the bits 1, 2, 4 and 63 are set, which are bits of the bytes 0, 0, 0 and 7
+pub bits : (set_bits 9223372036854775830 ≡ 1 ∷ 2 ∷ 4 ∷ 63 ∷ []) × (set_bytes 9223372036854775830 ≡ 0 ∷ 0 ∷ 0 ∷ 7 ∷ []) × (set_bits 0 ≡ [])
+unfolding bits_from
+bits = (refl, refl, refl)
 
 -- the numbers are equal
 abbrev Equal : ℕ → ℕ → Type 0

@@ -1,5 +1,5 @@
 -- Bytes read and written at an offset between two lists.
-use Rattle.std.proofs.Common.{◌≡◌, ◌<◌, ◌≤◌, ◌∙◌, ◌+◌, ◌-◌, ◌++◌, ℕ, suc, sym, ap, ap₂, All, List, [], ◌∷◌, take, drop, set, length, get_or, arith, length-append, length-drop, length-take, append_assoc, take_at, drop_at, take-append-drop, drop-cons, drop-drop, take-take}
+use Rattle.std.proofs.Common.{◌≡◌, ◌<◌, ◌≤◌, ◌∙◌, ◌+◌, ◌-◌, ◌++◌, ℕ, suc, sym, ap, ap₂, All, List, [], ◌∷◌, take, drop, set, length, get_or, get_or-take, get_or-drop, slice_index, arith, length-append, length-drop, length-take, append_assoc, take_at, drop_at, take-append-drop, drop-cons, drop-drop, take-take}
 use Rattle.std.proofs.Math.Seq.{take-add, take-length}
 use Rattle.std.proofs.lemmas.List.{take-append-le, drop-append-le, drop-take, set_split}
 use Rattle.std.proofs.lemmas.List.Elements.{All-take, All-drop}
@@ -21,6 +21,10 @@ bytes_at-between xs ys zs at n a b =
 -- n bytes read within a list are n bytes
 pub length-bytes_at : (B : List ℕ) (at n : ℕ) → at + n ≤ length B → length (bytes_at B at n) ≡ n
 length-bytes_at B at n h = omega (arith, length-take {A = ℕ}, length-drop {A = ℕ})
+
+-- byte i of n bytes at an offset
+pub index-bytes_at : (B : List ℕ) (at n i : ℕ) → i < n → slice_index (bytes_at B at n) i ≡ slice_index B (at + i)
+index-bytes_at B at n i l = get_or-take (at + n - at) (drop at B) i 0 (omega arith) ∙ get_or-drop at B i 0
 
 -- the bytes at an offset, then the rest
 pub drop-bytes_at : (B : List ℕ) (at n : ℕ) → drop at B ≡ bytes_at B at n ++ drop (at + n) B

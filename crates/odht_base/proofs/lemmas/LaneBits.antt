@@ -1,16 +1,31 @@
 -- The masks of a group of sixteen lanes.
-use Rattle.std.proofs.Common.{◌≡◌, ℕ, zero, suc, ◌+◌, ◌-◌, ◌*◌, ◌/◌, ◌%◌, ◌^◌, ◌<◌, ◌≤◌, Bool, true, false, cond, List, [], ◌∷◌, length, map, take, drop, length-drop, replicate, refl, sym, ap, ap₂, ◌∙◌, arith, nat_eq, nat_le, nat_lt, w8, bit_and, pow-suc, pow_mono, length-take}
+use Rattle.std.proofs.Common.{◌≡◌, ℕ, zero, suc, ◌+◌, ◌-◌, ◌*◌, ◌/◌, ◌%◌, ◌^◌, ◌<◌, ◌≤◌, Bool, true, false, cond, List, [], ◌∷◌, ◌++◌, length, map, take, drop, length-drop, replicate, refl, sym, ap, ap₂, ◌∙◌, arith, nat_eq, nat_le, nat_lt, w8, bit_and, pow-suc, pow_mono, mul_assoc, mul_comm, mod-eq_of_lt, subst, inl, inr, length-take}
 use Rattle.std.proofs.Math.Arith.{mod-mul}
+use Rattle.std.proofs.Math.Seq.{take-add, take-length}
 use Rattle.std.proofs.Math.Nat.{zero-mod}
-use Rattle.std.proofs.lemmas.List.{length-map, take-map, drop-map}
+use Rattle.std.proofs.lemmas.List.{length-map, map-append, take-map, drop-map}
+use Rattle.std.proofs.lemmas.Bool.{cases_lt}
+use native.Mathlib.Decide.{dec_le}
+use borrow.Author.Tests.{le-leb, lt-leb, lt-ltb, le-ltb}
 use Rattle.std.proofs.lemmas.Nat.{and_mask}
 use Rattle.std.specs.Prelude.{slice_get}
-use Rattle.std.proofs.lemmas.Simd.{bitmask_splat, mask_l-mod}
+use Rattle.std.proofs.lemmas.Simd.{bitmask_splat, mask_l-lt, mask_l-mod}
 use lib.Lanes.{mask_l, zip2, top}
 use Rattle.odht_base.specs.Masks.{set_bits}
-use Rattle.odht_base.specs.Groups.{equal, first_free, occupied}
-use Rattle.odht_base.proofs.lemmas.MarkedPositions.{positions_of, equal-positions, occupied-positions}
+use Rattle.odht_base.specs.Bytes.{bytes_at}
+use Rattle.odht_base.specs.Decoded.{counts_as_free}
+use Rattle.odht_base.specs.Groups.{equal, first_free, free_in, occupied}
+use Rattle.odht_base.proofs.lemmas.ByteRanges.{bytes_at-take}
+use Rattle.odht_base.proofs.lemmas.MarkedPositions.{equal-positions, free-positions, occupied-positions}
 use Rattle.odht_base.proofs.lemmas.MaskBits.{bits_mask, first_is_position}
+
+-- a byte that does not count as free
+abbrev pub others : ℕ → Bool
+others x = nat_lt x 128
+
+-- sixteen bytes in lanes are these bytes
+pub in_lanes : (g : List ℕ) → length g ≡ 16 → take 16 g ≡ g
+in_lanes g l = ap (λ n. take n g) (sym l) ∙ take-length g
 
 -- the mask of the lanes that equal h
 pub equal_lanes : (g : List ℕ) (h : ℕ) → length g ≡ 16 → set_bits (mask_l (map (top 7) (zip2 (λ a b. cond (nat_eq a b) (2 ^ 8 - 1) 0) g (replicate 16 h))) % 2 ^ 64) ≡ equal g h
@@ -31,16 +46,22 @@ tests_left t x (suc n) [] l = absurd (omega arith)
 tests_left t x zero (y ∷ ys) l = absurd (omega arith)
 tests_left t x (suc n) (y ∷ ys) l = ap₂ (λ b bs. b ∷ bs) (top_byte (t x y)) (tests_left t x n ys (omega arith))
 
--- the first of the lanes of 128 or more
-pub free_lanes : (g : List ℕ) → length g ≡ 16 → slice_get (set_bits (mask_l (map (top 7) (zip2 (λ a b. cond (nat_le a b) 255 0) (replicate 16 128) g)) % 2 ^ 64)) 0 ≡ first_free g
-free_lanes g l =
-    let tests = map (λ x. nat_le 128 x) g in
-    let size : length tests ≤ 64 = omega (arith, length-map g (λ x. nat_le 128 x)) in
-    ap (λ m. slice_get (set_bits (mask_l m % 2 ^ 64)) 0) (tests_left (λ a b. nat_le a b) 128 16 g l)
-    ∙ ap (λ m. slice_get (set_bits m) 0) (mask_l-mod tests 64 size)
-    ∙ ap (λ xs. slice_get xs 0) (bits_mask 64 0 tests size)
-    ∙ first_is_position (λ x. nat_le 128 x) g
+-- the mask of the lanes that count as free
+pub free_mask : (g : List ℕ) → length g ≡ 16 → mask_l (map (top 7) (zip2 (λ a b. cond (nat_le a b) 255 0) (replicate 16 128) g)) % 2 ^ 64 ≡ mask_l (map counts_as_free g)
+free_mask g l = ap (λ m. mask_l m % 2 ^ 64) (tests_left (λ a b. nat_le a b) 128 16 g l) ∙ mask_l-mod (map counts_as_free g) 64 (omega (arith, length-map g counts_as_free))
 
+-- which bytes a mask marks
+pub free_set : (g : List ℕ) → length g ≤ 64 → set_bits (mask_l (map counts_as_free g)) ≡ free_in g
+free_set g l = bits_mask 64 0 (map counts_as_free g) (omega (arith, length-map g counts_as_free)) ∙ sym (free-positions g)
+
+pub occupied_set : (g : List ℕ) → length g ≤ 64 → set_bits (mask_l (map others g)) ≡ occupied g
+occupied_set g l = bits_mask 64 0 (map others g) (omega (arith, length-map g others)) ∙ sym (occupied-positions g)
+
+-- the first that counts as free
+pub first_set : (g : List ℕ) → length g ≤ 64 → slice_get (set_bits (mask_l (map counts_as_free g))) 0 ≡ first_free g
+first_set g l = ap (λ xs. slice_get xs 0) (free_set g l ∙ free-positions g) ∙ first_is_position counts_as_free g
+
+-- ---- the first of the answers, and the rest
 -- the same with one answer more
 next-mask : (b : Bool) (bs : List Bool) (n : ℕ) → mask_l bs % 2 ^ n ≡ mask_l (take n bs) → mask_l (b ∷ bs) / 2 ≡ mask_l bs → mask_l (b ∷ bs) % 2 ≡ cond b 1 0
     → mask_l (take n bs) * 2 + cond b 1 0 ≡ mask_l (b ∷ take n bs) → mask_l (b ∷ bs) % 2 ^ suc n ≡ mask_l (b ∷ take n bs)
@@ -61,18 +82,26 @@ mask_l-take (b ∷ bs) zero = omega arith
 mask_l-take (true ∷ bs) (suc n) = next-mask true bs n (mask_l-take bs n) (omega arith) (omega arith) (omega arith)
 mask_l-take (false ∷ bs) (suc n) = next-mask false bs n (mask_l-take bs n) (omega arith) (omega arith) (omega arith)
 
--- the mask of the occupied ones of the first lanes
-pub occupied_lanes : (g : List ℕ) (n : ℕ) → length g ≡ 16 → n ≤ 16
-    → set_bits (bit_and (mask_l (map (top 7) (zip2 (λ a b. cond (nat_lt a b) 255 0) g (replicate 16 128))) % 2 ^ 64) (1 * 2 ^ n % 2 ^ 64 - 1)) ≡ occupied (take n g)
-occupied_lanes g n l m =
+-- a byte counts as free, or it does not
+either : (x : ℕ) → cond (counts_as_free x) 1 0 + cond (others x) 1 0 ≡ 1
+either x = elim (dec_le 128 x) [ yes p ↦ rw (le-leb 128 x p, le-ltb x 128 (omega arith)) refl | no p ↦ rw (lt-leb 128 x (omega arith), lt-ltb x 128 (omega arith)) refl ]
+
+-- so the masks of the two have each bit once
+both_masks : (g : List ℕ) → mask_l (map counts_as_free g) + mask_l (map others g) + 1 ≡ 2 ^ length g
+both_masks [] = refl
+both_masks (x ∷ g) = omega (arith, either x, both_masks g, pow-suc 2 (length g))
+
+-- the mask of the others of the first bytes
+pub occupied_first : (g : List ℕ) (n : ℕ) → length g ≡ 16 → n ≤ 16 → set_bits (1 * 2 ^ n % 2 ^ 64 - 1 - bit_and (mask_l (map counts_as_free g)) (1 * 2 ^ n % 2 ^ 64 - 1)) ≡ occupied (take n g)
+occupied_first g n l m =
     let below : 2 ^ n ≤ 2 ^ 16 = pow_mono {i = n} {j = 16} m in
     let ones : 1 * 2 ^ n % 2 ^ 64 - 1 ≡ 2 ^ n - 1 = omega (arith, below) in
-    ap₂ (λ x y. set_bits (bit_and x y)) (bitmask_splat w8 (λ a b. nat_lt a b) g 16 128 l (omega arith)) ones
-    ∙ ap set_bits (and_mask (mask_l (map (λ x. nat_lt x 128) g)) n)
-    ∙ ap set_bits (mask_l-take (map (λ x. nat_lt x 128) g) n)
-    ∙ bits_mask 64 0 (take n (map (λ x. nat_lt x 128) g)) (omega (arith, length-take n (map (λ x. nat_lt x 128) g), length-map g (λ x. nat_lt x 128)))
-    ∙ ap (positions_of 0) (take-map (λ x. nat_lt x 128) n g)
-    ∙ sym (occupied-positions (take n g))
+    let kept : bit_and (mask_l (map counts_as_free g)) (2 ^ n - 1) ≡ mask_l (map counts_as_free (take n g)) =
+    and_mask (mask_l (map counts_as_free g)) n ∙ mask_l-take (map counts_as_free g) n ∙ ap mask_l (take-map counts_as_free n g) in
+    let long : length (take n g) ≡ n = omega (arith, length-take n g) in
+    let power : 2 ^ length (take n g) ≡ 2 ^ n = ap (λ k. 2 ^ k) long in
+    let rest : 2 ^ n - 1 - bit_and (mask_l (map counts_as_free g)) (2 ^ n - 1) ≡ mask_l (map others (take n g)) = omega (arith, kept, both_masks (take n g), power) in
+    ap (λ k. set_bits (k - bit_and (mask_l (map counts_as_free g)) k)) ones ∙ ap set_bits rest ∙ occupied_set (take n g) (omega arith)
 
 -- the mask without its first eight answers
 next_half : (b : Bool) (bs : List Bool) → mask_l (b ∷ bs) / 2 ≡ mask_l bs
@@ -94,15 +123,65 @@ mask_l-drop (a ∷ b ∷ c ∷ d ∷ e ∷ f ∷ g ∷ h ∷ bs) l =
     )
 mask_l-drop bs l = absurd (omega (arith, l))
 
--- the first from the eighth on of the lanes of 128 or more
-pub late_lanes : (g : List ℕ) → length g ≡ 16 → slice_get (set_bits (mask_l (map (top 7) (zip2 (λ a b. cond (nat_le a b) 255 0) (replicate 16 128) g)) % 2 ^ 64 / 2 ^ 8)) 0 ≡ first_free (drop 8 g)
-late_lanes g l =
-    let tests = map (λ x. nat_le 128 x) g in
-    let size : length tests ≤ 64 = omega (arith, length-map g (λ x. nat_le 128 x)) in
-    let many : 8 ≤ length tests = omega (arith, l, length-map g (λ x. nat_le 128 x)) in
-    ap (λ m. slice_get (set_bits (mask_l m % 2 ^ 64 / 2 ^ 8)) 0) (tests_left (λ a b. nat_le a b) 128 16 g l)
-    ∙ ap (λ m. slice_get (set_bits (m / 2 ^ 8)) 0) (mask_l-mod tests 64 size)
-    ∙ ap (λ m. slice_get (set_bits m) 0) (mask_l-drop tests many)
-    ∙ ap (λ xs. slice_get xs 0) (bits_mask 64 0 (drop 8 tests) (omega (arith, length-drop 8 tests, size)))
-    ∙ ap (λ ts. slice_get (positions_of 0 ts) 0) (drop-map (λ x. nat_le 128 x) 8 g)
-    ∙ first_is_position (λ x. nat_le 128 x) (drop 8 g)
+-- the first from the eighth on that counts as free
+pub late_set : (g : List ℕ) → length g ≡ 16 → slice_get (set_bits (mask_l (map counts_as_free g) / 2 ^ 8)) 0 ≡ first_free (drop 8 g)
+late_set g l =
+    ap (λ m. slice_get (set_bits m) 0) (mask_l-drop (map counts_as_free g) (omega (arith, l, length-map g counts_as_free)))
+    ∙ ap (λ ts. slice_get (set_bits (mask_l ts)) 0) (drop-map counts_as_free 8 g)
+    ∙ first_set (drop 8 g) (omega (arith, l, length-drop 8 g))
+
+-- ---- up to 64 bytes, sixteen at a time
+-- answers before others
+before : (xs ys : List Bool) → mask_l (xs ++ ys) ≡ mask_l xs + 2 ^ length xs * mask_l ys
+before [] ys = omega arith
+before (x ∷ xs) ys =
+    let power = pow-suc 2 (length xs) in
+    omega (arith, before xs ys, ap (λ p. p * mask_l ys) power, mul_assoc 2 (2 ^ length xs) (mask_l ys))
+
+-- the mask of up to 64 bytes fits a word
+pub free_fits : (g : List ℕ) → length g ≤ 64 → mask_l (map counts_as_free g) < 2 ^ 64
+free_fits g few = omega (arith, mask_l-lt (map counts_as_free g), pow_mono {i = length (map counts_as_free g)} {j = 64} (omega (arith, few, length-map g counts_as_free)))
+
+-- sixteen bytes behind the first n
+pub free_more : (g : List ℕ) (n free bits : ℕ) → length g ≤ 64 → n + 16 ≤ length g → free ≡ mask_l (map counts_as_free (take n g)) → bits ≡ mask_l (map counts_as_free (bytes_at g n 16))
+    → free + bits * 2 ^ n % 2 ^ 64 ≡ mask_l (map counts_as_free (take (n + 16) g))
+free_more g n free bits few inside e f =
+    let long : length (map counts_as_free (take n g)) ≡ n = omega (arith, length-map (take n g) counts_as_free, length-take n g, inside) in
+    let parts : take (n + 16) g ≡ take n g ++ bytes_at g n 16 = take-add n 16 g ∙ ap (λ b. take n g ++ b) (sym (bytes_at-take g n 16)) in
+    let whole : mask_l (map counts_as_free (take (n + 16) g)) ≡ free + 2 ^ n * bits =
+    ap (λ xs. mask_l (map counts_as_free xs)) parts ∙ ap mask_l (map-append counts_as_free (take n g) (bytes_at g n 16)) ∙ before (map counts_as_free (take n g)) (map counts_as_free (bytes_at g n 16))
+    ∙ ap₂ (λ a b. a + b) (sym e) (ap₂ (λ k b. 2 ^ k * b) long (sym f)) in
+    let low = free_fits (take (n + 16) g) (omega (arith, length-take (n + 16) g, few, inside)) in
+    let turned = mul_comm bits (2 ^ n) in
+    let fits : bits * 2 ^ n % 2 ^ 64 ≡ bits * 2 ^ n = mod-eq_of_lt (omega (arith, whole, low, turned)) in
+    ap (λ m. free + m) (fits ∙ turned) ∙ sym whole
+
+-- the mask of the others, by the number of bytes
+rest_16 : (f m : ℕ) → f + m + 1 ≡ 2 ^ 16 → bit_and (18446744073709551615 - f) (18446744073709551615 / 2 ^ (64 - 16)) ≡ m
+rest_16 f m e = and_mask (18446744073709551615 - f) 16 ∙ omega (arith, e)
+
+rest_32 : (f m : ℕ) → f + m + 1 ≡ 2 ^ 32 → bit_and (18446744073709551615 - f) (18446744073709551615 / 2 ^ (64 - 32)) ≡ m
+rest_32 f m e = and_mask (18446744073709551615 - f) 32 ∙ omega (arith, e)
+
+rest_48 : (f m : ℕ) → f + m + 1 ≡ 2 ^ 48 → bit_and (18446744073709551615 - f) (18446744073709551615 / 2 ^ (64 - 48)) ≡ m
+rest_48 f m e = and_mask (18446744073709551615 - f) 48 ∙ omega (arith, e)
+
+rest_64 : (f m : ℕ) → f + m + 1 ≡ 2 ^ 64 → bit_and (18446744073709551615 - f) (18446744073709551615 / 2 ^ (64 - 64)) ≡ m
+rest_64 f m e = and_mask (18446744073709551615 - f) 64 ∙ omega (arith, e)
+
+pub occupied_rest : (g : List ℕ) (n f : ℕ) → length g ≡ n → 1 ≤ n → n ≤ 64 → n % 16 ≡ 0 → f ≡ mask_l (map counts_as_free g)
+    → set_bits (bit_and (18446744073709551615 - f) (18446744073709551615 / 2 ^ (64 - n))) ≡ occupied g
+occupied_rest g n f long some few sixteen e =
+    let m : ℕ = mask_l (map others g) in
+    let Rest : ℕ → Type 0 = λ k. f + m + 1 ≡ 2 ^ k → bit_and (18446744073709551615 - f) (18446744073709551615 / 2 ^ (64 - k)) ≡ m in
+    let rest : Rest n = elim (cases_lt n 17) [
+      | inl l ↦ subst Rest (let is : 16 ≡ n = omega arith in is) (rest_16 f m)
+      | inr l ↦ elim (cases_lt n 33) [
+        | inl k ↦ subst Rest (let is : 32 ≡ n = omega arith in is) (rest_32 f m)
+        | inr k ↦ elim (cases_lt n 49) [
+          | inl j ↦ subst Rest (let is : 48 ≡ n = omega arith in is) (rest_48 f m)
+          | inr j ↦ subst Rest (let is : 64 ≡ n = omega arith in is) (rest_64 f m)
+        ]
+      ]
+    ] in
+    ap set_bits (rest (ap (λ k. k + m + 1) e ∙ both_masks g ∙ ap (λ k. 2 ^ k) long)) ∙ occupied_set g (omega (arith, long))

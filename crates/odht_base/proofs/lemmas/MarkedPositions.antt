@@ -6,7 +6,8 @@ use Rattle.std.specs.List.Sorted.{IsStrictlyIncreasing}
 use borrow.Author.Tests.{eqb-true, eq-eqb}
 use mathlib.Core.Bool.{true≢false}
 use Rattle.std.specs.List.{range_with_len}
-use Rattle.odht_base.specs.Groups.{equal, occupied, IsReport}
+use Rattle.odht_base.specs.Decoded.{counts_as_free}
+use Rattle.odht_base.specs.Groups.{equal, free_in, occupied, IsReport}
 
 -- the positions of the true answers, counted from i on
 abbrev pub positions_of : ℕ → List Bool → List ℕ
@@ -25,7 +26,10 @@ filter-positions p q i (x ∷ g) h =
 pub equal-positions : (g : List ℕ) (h : ℕ) → equal g h ≡ positions_of 0 (map (λ x. nat_eq x h) g)
 equal-positions g h = filter-positions (λ x. nat_eq x h) (λ i. nat_eq (get_or g i 0) h) 0 g (λ k l. let at : 0 + k ≡ k = omega arith in rw at refl)
 
--- and so are those of the bytes of occupied slots
+-- and so are those of the bytes that count as free, and of the others
+pub free-positions : (g : List ℕ) → free_in g ≡ positions_of 0 (map counts_as_free g)
+free-positions g = filter-positions counts_as_free (λ i. counts_as_free (get_or g i 0)) 0 g (λ k l. let at : 0 + k ≡ k = omega arith in rw at refl)
+
 pub occupied-positions : (g : List ℕ) → occupied g ≡ positions_of 0 (map (λ x. nat_lt x 128) g)
 occupied-positions g = filter-positions (λ x. nat_lt x 128) (λ i. nat_lt (get_or g i 0) 128) 0 g (λ k l. let at : 0 + k ≡ k = omega arith in rw at refl)
 

@@ -1,11 +1,12 @@
 -- The set bits of a mask.
-use Rattle.std.proofs.Common.{◌≡◌, ℕ, zero, suc, ◌+◌, ◌-◌, ◌*◌, ◌/◌, ◌%◌, ◌^◌, ◌<◌, ◌≤◌, Bool, true, false, cond, not, List, [], ◌∷◌, length, map, drop, refl, ap, ◌∙◌, arith, Some, None, bit_and, nat_eq, nat_lt}
+use Rattle.std.proofs.Common.{◌≡◌, ℕ, zero, suc, ◌+◌, ◌-◌, ◌*◌, ◌/◌, ◌%◌, ◌^◌, ◌<◌, ◌≤◌, Bool, true, false, cond, not, List, [], ◌∷◌, length, map, drop, IsTrue, ◌↔◌, true≢false, refl, sym, ap, ◌∙◌, arith, Some, None, bit_and, nat_eq, nat_lt}
+use Rattle.std.proofs.lemmas.Option.{none-some}
 use Rattle.std.specs.Prelude.{slice_get}
 use Rattle.std.specs.List.{position, position_or_len}
 use lib.Bits.{and_step, and_self, and_zero_l}
 use lib.Count.{count_trailing_zeros, under}
 use lib.Lanes.{mask_l}
-use borrow.Author.Tests.{lt-ltb, le-ltb, ltb-true, ltb-false}
+use borrow.Author.Tests.{lt-ltb, le-ltb, ltb-true, ltb-false, ne_eqb}
 use Rattle.odht_base.specs.Masks.{bits_from, set_bits}
 use Rattle.odht_base.proofs.lemmas.MarkedPositions.{positions_of}
 
@@ -43,6 +44,14 @@ pub lowest : (k i n : ℕ) → 0 < n → n < 2 ^ k → slice_get (bits_from k i 
 unfolding bits_from count_trailing_zeros
 lowest zero i n p q = absurd (omega arith)
 lowest (suc k) i n p q = low_by k i n (n % 2) refl p (λ h. lowest k (i + 1) (n / 2) h (omega arith))
+
+-- so a mask is empty exactly where it is zero
+pub none_set : (n : ℕ) → n < 2 ^ 64 → IsTrue (nat_eq n 0) ↔ (set_bits n ≡ [])
+none_set zero l = (λ t. no_bits 64 0, λ e. refl)
+none_set (suc n) l = (
+  λ t. absurd (true≢false (sym t ∙ ne_eqb (suc n) 0 (λ e. absurd (omega (arith, e))))),
+  λ e. absurd (none-some _ (sym (ap (λ xs. slice_get xs 0) e) ∙ lowest 64 0 (suc n) (omega arith) l)),
+)
 
 -- the positions that are left, by the lowest bit
 rest_by : (k i n d : ℕ) → n % 2 ≡ d → 0 < n → (0 < n / 2 → bits_from k (i + 1) (bit_and (n / 2) (n / 2 - 1)) ≡ drop 1 (bits_from k (i + 1) (n / 2)))

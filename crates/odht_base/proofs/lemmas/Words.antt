@@ -1,10 +1,11 @@
 -- Numbers as the machine reads and writes them, and lists of bytes that are compared by words.
-use Rattle.std.proofs.Common.{◌≡◌, ◌↔◌, ◌<◌, ◌≤◌, ◌∙◌, ◌+◌, ◌-◌, ◌*◌, ◌^◌, ℕ, zero, suc, refl, sym, ap, ap₂, arith, pow-suc, List, [], ◌∷◌, ◌++◌, length, take, drop, get_or, length-take, All, IsTrue, nat_eq, Bool, eqb-true, eq-eqb, mul_assoc, subst}
+use Rattle.std.proofs.Common.{◌≡◌, ◌↔◌, ◌<◌, ◌≤◌, ◌∙◌, ◌+◌, ◌-◌, ◌*◌, ◌^◌, ℕ, zero, suc, refl, sym, ap, ap₂, arith, pow-suc, List, [], ◌∷◌, ◌++◌, length, take, drop, get_or, replicate, length-take, All, IsTrue, nat_eq, Bool, eqb-true, eq-eqb, mul_assoc, subst}
+use Rattle.std.specs.Prelude.{slice_index}
 use Rattle.std.specs.Int.{Width, byte_len, byte_worth, sum_through, from_le_bytes}
 use Rattle.std.proofs.Math.Seq.{take-suc, take-length}
 use Rattle.odht_base.specs.Bytes.{bytes_at}
 use Rattle.odht_base.specs.Numbers.{num, le_bytes}
-use Rattle.odht_base.proofs.lemmas.ByteRanges.{length-bytes_at, bytes_at-take, bytes_at-whole, bytes_at-add, bytes_at-bytes_at, All-bytes_at}
+use Rattle.odht_base.proofs.lemmas.ByteRanges.{index-bytes_at, length-bytes_at, bytes_at-take, bytes_at-whole, bytes_at-add, bytes_at-bytes_at, All-bytes_at}
 use Rattle.odht_base.proofs.lemmas.Numbers.{le_bytes-num}
 
 -- ---- what `from_le_bytes` reads
@@ -82,3 +83,31 @@ rest_decides xs ys n r e l same w =
   where
     behind : (b : List ℕ) → length b ≡ length ys → take (length b - n) (drop n b) ≡ bytes_at b n (length ys - n)
     behind b k = ap (λ j. take (j - n) (drop n b)) k ∙ sym (bytes_at-take b n (length ys - n))
+
+-- ---- zeros
+num_zero : (xs : List ℕ) → num xs ≡ 0 → (k : ℕ) → k < length xs → get_or xs k 0 ≡ 0
+num_zero [] e k l = absurd (omega (arith, l))
+num_zero (x ∷ xs) e zero l = omega (arith, e)
+num_zero (x ∷ xs) e (suc k) l = num_zero xs (omega (arith, e)) k (omega (arith, l))
+
+-- a word of zero has eight bytes of zero
+pub zero_word : (bs : List ℕ) (at k : ℕ) → at + 8 ≤ length bs → num (bytes_at bs at 8) ≡ 0 → at ≤ k → k < at + 8 → slice_index bs k ≡ 0
+zero_word bs at k inside e low high =
+    let j : ℕ = k - at in
+    let is : at + j ≡ k = omega (arith, low) in
+    ap (slice_index bs) (sym is) ∙ sym (index-bytes_at bs at 8 j (omega (arith, high, low))) ∙ num_zero (bytes_at bs at 8) e j (omega (arith, high, low, length-bytes_at bs at 8 inside))
+
+pub zeros_are : (bs : List ℕ) → ((k : ℕ) → k < length bs → slice_index bs k ≡ 0) → bs ≡ replicate (length bs) 0
+zeros_are [] h = refl
+zeros_are (x ∷ bs) h = λ i. h 0 (omega arith) i ∷ zeros_are bs (λ k l. h (suc k) (omega (arith, l))) i
+
+-- and a word of zeros is zero
+zero_at : (n i : ℕ) → slice_index (replicate n 0) i ≡ 0
+zero_at zero i = refl
+zero_at (suc n) zero = refl
+zero_at (suc n) (suc i) = zero_at n i
+
+pub word_zero : (bs : List ℕ) (n at : ℕ) → bs ≡ replicate n 0 → at + 8 ≤ length bs → num (bytes_at bs at 8) ≡ 0
+word_zero bs n at e inside =
+    let zeros = zeros_are (bytes_at bs at 8) (λ k l. index-bytes_at bs at 8 k (omega (arith, l, length-bytes_at bs at 8 inside)) ∙ ap (λ xs. slice_index xs (at + k)) e ∙ zero_at n (at + k)) in
+    ap num (zeros ∙ ap (λ m. replicate m 0) (length-bytes_at bs at 8 inside))

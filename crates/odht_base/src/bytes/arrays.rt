@@ -164,6 +164,25 @@ pub fn is_same_bytes(left: &[u8], right: &[u8]) -> bool
     is_same_half(left, right, at) && is_same_list(&left[at + 4..], &right[at + 4..])
 }
 
+/// Whether each byte is zero, eight of them at a time.
+#[inline(always)]
+pub fn is_zeros(bytes: &[u8]) -> bool
+    ensures { IsTrue result ↔ (bytes.now ≡ replicate (length bytes.now) 0) }
+{
+    let len = bytes.len();
+    if len < 8 {
+        return bytes.iter().all(|b| *b == 0);
+    }
+    let mut at = 0;
+    'words: while at + 8 < len {
+        if read_u64(bytes, at) != 0 {
+            return false;
+        }
+        at += 8;
+    }
+    read_u64(bytes, len - 8) == 0
+}
+
 // Whether two slices are equal.
 #[inline(always)]
 fn is_same_list(left: &[u8], right: &[u8]) -> bool

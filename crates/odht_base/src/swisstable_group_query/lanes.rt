@@ -4,8 +4,8 @@ ghost use Rattle.std.specs.Iterator.{YieldsFirst, MakesProgress, item_count};
 ghost use Rattle.std.proofs.Common.{refl};
 ghost use Rattle.odht_base.specs.Groups.{IsReport, equal, first_free};
 
-use super::Group;
-use super::mask::{lowest_bit, without_lowest_bit};
+use super::free::free_bits;
+use super::{Group, IndexSet};
 use std::marker::Model;
 use std::simd::prelude::*;
 
@@ -15,22 +15,17 @@ pub const GROUP_SIZE: usize = 16;
 /// A search of sixteen control bytes. It iterates over its matches: exactly the indices of the tag.
 #[derive(Drop)]
 pub struct GroupQuery {
-    eq_mask: u64,
-    empty_mask: u64,
+    matches: IndexSet,
+    free: IndexSet,
 }
 
 impl Model for GroupQuery {
     ghost use Rattle.std.specs.Prelude.{slice_get};
     ghost use Rattle.odht_base.specs.Groups.{GroupMatches};
-    ghost use Rattle.odht_base.specs.Masks.{set_bits};
 
     ghost Value = { GroupMatches };
 
-    ghost view = { λ q. record {
-      matches = set_bits q.eq_mask;
-      free = slice_get
-          (set_bits q.empty_mask) 0;
-    } };
+    ghost view = { λ q. record { matches = q.matches; free = slice_get q.free 0 } };
 }
 
 impl GroupQuery {
@@ -42,8 +37,8 @@ impl GroupQuery {
         ensures free { result.free ≡ first_free lanes }
     {
         GroupQuery {
-            eq_mask: lanes.simd_eq(u8x16::splat(h2)).to_bitmask(),
-            empty_mask: lanes.simd_ge(u8x16::splat(128)).to_bitmask(),
+            matches: IndexSet::of_bits(lanes.simd_eq(u8x16::splat(h2)).to_bitmask()),
+            free: IndexSet::of_bits(free_bits(lanes)),
         }
     }
 
@@ -62,7 +57,7 @@ impl GroupQuery {
     pub fn any_empty(&self) -> bool
         ensures { result ≡ is_some self.now.free }
     {
-        lowest_bit(self.empty_mask).is_some()
+        !self.free.is_empty()
     }
 
     /// The least index of a byte of 128 or more, whether or not matches were dropped.
@@ -70,7 +65,7 @@ impl GroupQuery {
     pub fn first_empty(&self) -> Option<usize>
         ensures { result ≡ self.now.free }
     {
-        lowest_bit(self.empty_mask)
+        self.free.first()
     }
 }
 
@@ -107,12 +102,12 @@ impl Group for GroupQuery {
 
     #[inline]
     fn first_match(&self) -> Option<usize> {
-        lowest_bit(self.eq_mask)
+        self.matches.first()
     }
 
     #[inline]
     fn drop_match(&mut self) {
-        self.eq_mask = without_lowest_bit(self.eq_mask);
+        self.matches.drop_first();
     }
 
     ghost divides = { refl };
@@ -133,8 +128,6 @@ impl Iterator for GroupQuery {
             (item_count (λ q. q.matches)) self.old result self.new }
         ensures free { self.new.free ≡ self.old.free }
     {
-        let index = self.first_match()?;
-        self.drop_match();
-        Some(index)
+        self.matches.take()
     }
 }

@@ -1,12 +1,10 @@
 //! The search of eight control bytes in one word of 64 bits.
-ghost use Rattle.std.specs.Prelude.{◌≡◌, ◌<◌, ⊤, length, slice_get, is_some};
+ghost use Rattle.std.specs.Prelude.{◌≡◌, ◌<◌, ◌/◌, ⊤, length, map, slice_get, is_some};
 ghost use Rattle.std.specs.Iterator.{YieldsFirst, MakesProgress, item_count};
 ghost use Rattle.std.proofs.Common.{refl};
 ghost use Rattle.odht_base.specs.Groups.{IsReport, IsWordReport, first_free};
-ghost use Rattle.odht_base.specs.Masks.{set_bytes};
 
-use super::Group;
-use super::mask::{lowest_bit, without_lowest_bit};
+use super::{Group, IndexSet};
 use std::marker::Model;
 
 /// How many control bytes are searched at once.
@@ -24,30 +22,28 @@ const HIGH_BITS: u64 = 0x8080_8080_8080_8080;
 /// the byte before it matches too: the subtraction of that byte borrows from it.
 #[derive(Drop)]
 pub struct GroupQuery {
-    eq_mask: u64,
-    empty_mask: u64,
+    matches: IndexSet,
+    free: IndexSet,
 }
 
 impl Model for GroupQuery {
-    ghost use Rattle.std.specs.Prelude.{slice_get};
+    ghost use Rattle.std.specs.Prelude.{◌/◌, map, slice_get};
     ghost use Rattle.odht_base.specs.Groups.{GroupMatches};
-    ghost use Rattle.odht_base.specs.Masks.{set_bytes};
 
     ghost Value = { GroupMatches };
 
     ghost view = { λ q. record {
-      matches = set_bytes q.eq_mask;
-      free = slice_get
-          (set_bytes q.empty_mask) 0;
+      matches = map (λ j. j / 8) q.matches;
+      free = slice_get (map (λ j. j / 8) q.free) 0;
     } };
 }
 
-// The index of the lowest byte in which a bit is set.
+// The index of the byte with the least of these bits.
 #[inline(always)]
-fn lowest_byte(mask: u64) -> Option<usize>
-    ensures { result ≡ slice_get (set_bytes mask) 0 }
+fn first_byte(bits: &IndexSet) -> Option<usize>
+    ensures { result ≡ slice_get (map (λ j. j / 8) bits.now) 0 }
 {
-    match lowest_bit(mask) {
+    match bits.first() {
         Some(position) => Some(position / 8),
         None => None,
     }
@@ -64,8 +60,8 @@ impl GroupQuery {
         let group = u64::from_le_bytes(*group);
         let cmp = group ^ (h2 as u64 * LOW_BITS);
         GroupQuery {
-            eq_mask: cmp.wrapping_sub(LOW_BITS) & (!cmp & HIGH_BITS),
-            empty_mask: group & HIGH_BITS,
+            matches: IndexSet::of_bits(cmp.wrapping_sub(LOW_BITS) & (!cmp & HIGH_BITS)),
+            free: IndexSet::of_bits(group & HIGH_BITS),
         }
     }
 
@@ -74,7 +70,7 @@ impl GroupQuery {
     pub fn any_empty(&self) -> bool
         ensures { result ≡ is_some self.now.free }
     {
-        lowest_byte(self.empty_mask).is_some()
+        !self.free.is_empty()
     }
 
     /// The least index of a byte of 128 or more, whether or not matches were dropped.
@@ -82,7 +78,7 @@ impl GroupQuery {
     pub fn first_empty(&self) -> Option<usize>
         ensures { result ≡ self.now.free }
     {
-        lowest_byte(self.empty_mask)
+        first_byte(&self.free)
     }
 }
 
@@ -122,12 +118,12 @@ impl Group for GroupQuery {
 
     #[inline]
     fn first_match(&self) -> Option<usize> {
-        lowest_byte(self.eq_mask)
+        first_byte(&self.matches)
     }
 
     #[inline]
     fn drop_match(&mut self) {
-        self.eq_mask = without_lowest_bit(self.eq_mask);
+        self.matches.drop_first();
     }
 
     ghost divides = { refl };

@@ -11,14 +11,10 @@ use Rattle.odht_header.proofs.examples.Apart.{unequal, unequal_lists, tested}
 use Rattle.odht_header.proofs.examples.Opened.{opened}
 use Rattle.odht_raw.specs.Checks.{IsLookAt}
 use Rattle.odht_raw.specs.Parts.{TableParts}
-use Rattle.odht_raw.specs.Summaries.{IsFirstUnreachable, IsFreeSlot, IsSummary, AreFree, AreRight, free_in}
+use Rattle.odht_raw.specs.Summaries.{IsFirstUnreachable, IsFreeSlot, IsSummary, AreFree, AreRight}
 use Rattle.odht_raw.proofs.examples.Checked.{parts, two}
 
 -- ---- a group
--- 128 and 255 count as free, 0 and 127 do not
-pub free_bytes : (free_in (0 ∷ 255 ∷ 127 ∷ 128 ∷ []) ≡ 1 ∷ 3 ∷ []) × (free_in (127 ∷ []) ≡ [])
-free_bytes = (refl, refl)
-
 -- a search of two bytes for 3, which is the first; the second is free
 pub look : IsLookAt (3 ∷ 255 ∷ []) 3 (record { matches = 0 ∷ []; free = Some 1 })
 look = record { report = report; free = refl }

@@ -8,14 +8,14 @@ use native.Mathlib.Decide.{dec_le}
 use borrow.Author.Tests.{le-leb, lt-leb, lt-ltb, le-ltb}
 use Rattle.odht_base.specs.Bytes.{bytes_at}
 use Rattle.odht_base.specs.Format.{Format}
-use Rattle.odht_base.specs.Groups.{occupied as occupied_of}
+use Rattle.odht_base.specs.Groups.{free_in, occupied as occupied_of}
 use Rattle.odht_base.specs.Decoded.{counts_as_free}
 use Rattle.odht_base.proofs.lemmas.ByteRanges.{length-bytes_at}
 use Rattle.odht_base.proofs.lemmas.OccupiedSlots.{contains_filter}
 use Rattle.odht_base.proofs.lemmas.Options.{some_same}
 use Rattle.odht_base.proofs.lemmas.Pigeons.{contains_cases}
 use Rattle.odht_raw.specs.Parts.{TableParts}
-use Rattle.odht_raw.specs.Summaries.{IsSummary, AreRight, free_in}
+use Rattle.odht_raw.specs.Summaries.{IsSummary, AreRight}
 use Rattle.odht_raw.proofs.lemmas.GroupLooks.{index-bytes_at}
 use Rattle.odht_header.specs.Refusals.{slot_refusal_at}
 use Rattle.odht_raw.proofs.lemmas.SlotSummary.{summary_run}

@@ -4,8 +4,6 @@ ghost use Rattle.odht_base.specs.Format.{format_of};
 ghost use Rattle.odht_base.specs.Search.{groups_read};
 ghost use Rattle.odht_base.specs.Table.{Table};
 ghost use Rattle.odht_base.specs.Valid.{IsPartsOf};
-ghost use Rattle.odht_base.specs.Bytes.{bytes_at};
-ghost use Rattle.odht_base.specs.Groups.{late_free};
 ghost use Rattle.odht_header.specs.Refusals.{longer_refusal};
 ghost use Rattle.odht_base.specs.Bounds.{ends_within, first_longer, AreWithin};
 
@@ -75,7 +73,8 @@ impl<'a, K: ByteArray, V: ByteArray, H: HashFn> RawTable<'a, K, V, H> {
         let mut left = groups;
         'groups: while left > 0 {
             let start = probe.index();
-            if let Some(index) = self.late_free(start) {
+            let control = self.control;
+            if let Some(index) = late_free(&control[start..start + REFERENCE_GROUP_SIZE]) {
                 return Some(index.min(mask - start) + 1);
             }
             if probe.is_last() {
@@ -85,14 +84,5 @@ impl<'a, K: ByteArray, V: ByteArray, H: HashFn> RawTable<'a, K, V, H> {
             left -= 1;
         }
         None
-    }
-
-    // The index of a free one of the sixteen control bytes from `start` on, a late one where there is one.
-    #[inline]
-    fn late_free(&self, start: usize) -> Option<usize>
-        requires { start < self.now.entries.slots }
-        ensures { result ≡ late_free (bytes_at self.now.control start 16) }
-    {
-        late_free(&self.control[start..start + REFERENCE_GROUP_SIZE])
     }
 }

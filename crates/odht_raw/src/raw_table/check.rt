@@ -4,21 +4,20 @@ ghost use Rattle.std.specs.Prelude.{◌+◌, ℕ, Contains, IsTrue, None, OnErr,
 ghost use Rattle.std.specs.Result.{result_err};
 ghost use Rattle.odht_base.specs.Bytes.{bytes_at};
 ghost use Rattle.odht_base.specs.Format.{format_of, tag as key_tag};
-ghost use Rattle.odht_base.specs.Groups.{occupied};
+ghost use Rattle.odht_base.specs.Groups.{free_in, occupied};
 ghost use Rattle.odht_base.specs.Search.{search_end, is_at};
 ghost use Rattle.odht_base.specs.Decoded.{counts_as_free, slot_key};
 ghost use Rattle.odht_raw.specs.Checks.{cells_of, decoded_count, IsFitting, ArePassed, IsLookAt};
-ghost use Rattle.odht_raw.specs.Summaries.{IsSummary, AreFree, AreRight, IsFreeSlot, free_in};
+ghost use Rattle.odht_raw.specs.Summaries.{IsSummary, AreFree, AreRight, IsFreeSlot};
 ghost use Rattle.odht_header.specs.Refusals.{checked, bad_free_control, slots_refusal};
 ghost use Rattle.odht_header.specs.Refusals.{mirror_refusal, reach_refusal};
 
-use super::span::{Marks, SPAN, is_zeros, split};
 use super::{FREE, ProbeSeq, RawTable, Scan, tag_of};
-use crate::bytes::ByteArray;
+use crate::bytes::{ByteArray, is_zeros};
 use crate::error::Error;
 use crate::hash::HashFn;
 use crate::swisstable_group_query::lanes::GroupQuery;
-use crate::swisstable_group_query::{Group, REFERENCE_GROUP_SIZE};
+use crate::swisstable_group_query::{Group, IndexSet, REFERENCE_GROUP_SIZE, free_and_occupied};
 
 /// What a check of all slots found, where no slot gives an error.
 #[derive(Clone, Copy)]
@@ -59,8 +58,8 @@ impl<'a, K: ByteArray, V: ByteArray, H: HashFn> RawTable<'a, K, V, H> {
         };
         let mut start = 0;
         'spans: while start < slots {
-            let size = (slots - start).min(SPAN);
-            let (free, others) = split(&self.control[start..start + size]);
+            let size = (slots - start).min(IndexSet::CAPACITY);
+            let (free, others) = free_and_occupied(&self.control[start..start + size]);
             if !self.are_free(start, free) {
                 return self.check_from(start, searches, summary);
             }
@@ -112,7 +111,7 @@ impl<'a, K: ByteArray, V: ByteArray, H: HashFn> RawTable<'a, K, V, H> {
         &self,
         start: usize,
         size: usize,
-        others: Marks,
+        others: IndexSet,
         searches: bool,
         before: SlotSummary,
     ) -> Result<SlotSummary, Error>
@@ -150,7 +149,7 @@ impl<'a, K: ByteArray, V: ByteArray, H: HashFn> RawTable<'a, K, V, H> {
 
     // Whether the slots whose indices from `start` on are marked are free, with no error.
     #[inline(always)]
-    fn are_free(&self, start: usize, free: Marks) -> bool
+    fn are_free(&self, start: usize, free: IndexSet) -> bool
         requires within { (i : ℕ) → Contains free i → start + i < self.now.entries.slots }
         ensures { IsTrue result ↔ AreFree (format_of K.LEN V.LEN H.hash) self.now start free }
     {

@@ -8,7 +8,7 @@ ghost use Rattle.odht_base.specs.Table.{Table, count, slot_count as slots_of, is
 ghost use Rattle.odht_raw.specs.Waiting.{waiting};
 
 use super::EntryMetadata;
-use super::span::{Marks, SPAN, split};
+use crate::swisstable_group_query::{IndexSet, free_and_occupied};
 
 /// What is added to a slot that waits to be placed. It is above each slot.
 pub(crate) const WAITING: usize = 1 << 63;
@@ -28,8 +28,8 @@ pub(crate) fn list_occupied(control: &[EntryMetadata], slot_count: usize, out: &
     let mut listed = 0;
     let mut start = 0;
     'spans: while start < slot_count {
-        let size = (slot_count - start).min(SPAN);
-        let (_, others) = split(&control[start..start + size]);
+        let size = (slot_count - start).min(IndexSet::CAPACITY);
+        let (_, others) = free_and_occupied(&control[start..start + size]);
         listed = list_marked(start, others, out, listed);
         start += size;
     }
@@ -38,7 +38,7 @@ pub(crate) fn list_occupied(control: &[EntryMetadata], slot_count: usize, out: &
 // Lists the slots that are marked from `start` on, each as one that waits, behind the first `listed` numbers, as far as
 // there is room. Returns how many numbers are listed then.
 #[inline(always)]
-fn list_marked(start: usize, marks: Marks, out: &mut [usize], listed: usize) -> usize
+fn list_marked(start: usize, marks: IndexSet, out: &mut [usize], listed: usize) -> usize
     requires slots { (i : ℕ) → Contains marks i → start + i < 2 ^ 63 }
     requires room { listed ≤ length out.old }
     ensures room { result ≤ length out.new }

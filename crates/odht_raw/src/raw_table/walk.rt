@@ -6,7 +6,7 @@ ghost use Rattle.odht_raw.specs.Walks.{items_from, numbered_from};
 
 use super::{Entries, Entry, EntryMetadata};
 use crate::bytes::ByteArray;
-use crate::swisstable_group_query::{OccupiedQuery, REFERENCE_GROUP_SIZE};
+use crate::swisstable_group_query::{IndexSet, REFERENCE_GROUP_SIZE, occupied};
 use std::iter::FusedIterator;
 use std::marker::Model;
 
@@ -20,7 +20,7 @@ pub struct RawSlots<'a, K: ByteArray, V: ByteArray> {
     control: &'a [EntryMetadata],
     entries: Entries<'a, K, V>,
     base: usize,
-    occupied: OccupiedQuery,
+    occupied: IndexSet,
     next_slot: usize,
 }
 
@@ -58,7 +58,7 @@ impl<'a, K: ByteArray, V: ByteArray> RawSlots<'a, K, V> {
             control,
             entries,
             base: first,
-            occupied: OccupiedQuery::none(),
+            occupied: IndexSet::empty(),
             next_slot: first,
         }
     }
@@ -74,7 +74,7 @@ impl<'a, K: ByteArray, V: ByteArray> Iterator for RawSlots<'a, K, V> {
     #[inline]
     fn next(&mut self) -> Option<(usize, (EntryMetadata, Entry<K, V>))> {
         'groups: loop {
-            if let Some(index) = self.occupied.next_occupied() {
+            if let Some(index) = self.occupied.take() {
                 let slot = self.base + index;
                 return Some((slot, (self.control[slot], self.entries.get(slot))));
             }
@@ -84,10 +84,7 @@ impl<'a, K: ByteArray, V: ByteArray> Iterator for RawSlots<'a, K, V> {
             self.base = self.next_slot;
             let size = (self.entries.len() - self.base).min(REFERENCE_GROUP_SIZE);
             let control = self.control;
-            self.occupied = OccupiedQuery::of(
-                &control[self.base..self.base + REFERENCE_GROUP_SIZE],
-                size,
-            );
+            self.occupied = occupied(&control[self.base..self.base + REFERENCE_GROUP_SIZE], size);
             self.next_slot += size;
         }
     }

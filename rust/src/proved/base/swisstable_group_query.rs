@@ -6,14 +6,13 @@
 //! named below; what they promise does not depend on the choice.
 
 mod free;
+mod index_set;
 pub mod lanes;
-mod mask;
 pub mod no_simd;
-mod occupied;
 
-pub use free::late_free;
+pub use free::{free_and_occupied, is_empty_or_deleted, late_free, occupied};
+pub use index_set::IndexSet;
 pub use lanes::{GroupQuery, GROUP_SIZE};
-pub use occupied::OccupiedQuery;
 
 /// How many control bytes count as one group in the probe order, however many are searched at once.
 pub const REFERENCE_GROUP_SIZE: usize = 16;

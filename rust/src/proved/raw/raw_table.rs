@@ -7,6 +7,7 @@
 use crate::proved::raw::bytes::ByteArray;
 use crate::proved::raw::error::Error;
 use crate::proved::raw::hash::HashFn;
+pub(crate) use crate::proved::raw::swisstable_group_query::is_empty_or_deleted;
 use crate::proved::raw::swisstable_group_query::{Group, GroupQuery};
 use std::marker::PhantomData;
 
@@ -25,7 +26,6 @@ mod probe_seq;
 mod runs;
 mod scan;
 mod search_result;
-mod span;
 mod table_mut;
 mod waiting;
 mod walk;
@@ -48,17 +48,8 @@ pub type EntryMetadata = u8;
 /// The control byte of a free slot.
 pub const FREE: EntryMetadata = 255;
 
-// The least control byte that counts as free: one above each tag.
-const LEAST_FREE: EntryMetadata = 128;
-
 // How many low bits of a hash are not part of its tag.
 const TAG_SHIFT: u32 = 25;
-
-/// Whether a control byte counts as free. The name is that of the Rust crate; no slot is ever deleted.
-#[inline]
-pub(crate) fn is_empty_or_deleted(control: EntryMetadata) -> bool {
-    control >= LEAST_FREE
-}
 
 /// The tag of a key with this hash: the seven highest bits of the hash.
 #[inline]

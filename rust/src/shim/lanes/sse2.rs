@@ -54,13 +54,6 @@ impl u8x16 {
     pub fn simd_ge(self, other: Self) -> Mask {
         Mask(sse2!(_mm_cmpeq_epi8(_mm_max_epu8(self.0, other.0), self.0)))
     }
-
-    /// Which bytes are smaller.
-    #[inline(always)]
-    pub fn simd_lt(self, other: Self) -> Mask {
-        let Mask(ge) = self.simd_ge(other);
-        Mask(sse2!(_mm_xor_si128(ge, _mm_set1_epi8(-1))))
-    }
 }
 
 impl Mask {

@@ -53,13 +53,6 @@ impl u8x16 {
         })
     }
 
-    /// Which bytes are smaller.
-    #[inline(always)]
-    pub fn simd_lt(self, other: Self) -> Mask {
-        let Mask([low, high]) = self.simd_ge(other);
-        Mask([low ^ HIGH, high ^ HIGH])
-    }
-
     #[inline(always)]
     fn each(self, other: Self, of: impl Fn(u64, u64) -> u64) -> Mask {
         Mask([of(self.0[0], other.0[0]), of(self.0[1], other.0[1])])

@@ -111,6 +111,23 @@ pub fn is_same_bytes(left: &[u8], right: &[u8]) -> bool {
     is_same_half(left, right, at) && is_same_list(&index!(left[at + 4..]), &index!(right[at + 4..]))
 }
 
+/// Whether each byte is zero, eight of them at a time.
+#[inline(always)]
+pub fn is_zeros(bytes: &[u8]) -> bool {
+    let len = bytes.len();
+    if len < 8 {
+        return bytes.iter().all(|b| *b == 0);
+    }
+    let mut at = 0;
+    while at + 8 < len {
+        if read_u64(bytes, at) != 0 {
+            return false;
+        }
+        at += 8;
+    }
+    read_u64(bytes, len - 8) == 0
+}
+
 // Whether two slices are equal.
 #[inline(always)]
 fn is_same_list(left: &[u8], right: &[u8]) -> bool {

@@ -1,8 +1,8 @@
 // Made by `make rust` of crates/odht_base/src/swisstable_group_query/lanes.rt.
 //! The search of sixteen control bytes at once, in the lanes of one vector.
 
-use super::mask::{lowest_bit, without_lowest_bit};
-use super::Group;
+use super::free::free_bits;
+use super::{Group, IndexSet};
 use crate::shim::u8x16;
 
 /// How many control bytes are searched at once.
@@ -10,8 +10,8 @@ pub const GROUP_SIZE: usize = 16;
 
 /// A search of sixteen control bytes. It iterates over its matches: exactly the indices of the tag.
 pub struct GroupQuery {
-    eq_mask: u64,
-    empty_mask: u64,
+    matches: IndexSet,
+    free: IndexSet,
 }
 
 impl GroupQuery {
@@ -19,8 +19,8 @@ impl GroupQuery {
     #[inline]
     fn of_lanes(lanes: u8x16, h2: u8) -> GroupQuery {
         GroupQuery {
-            eq_mask: lanes.simd_eq(u8x16::splat(h2)).to_bitmask(),
-            empty_mask: lanes.simd_ge(u8x16::splat(128)).to_bitmask(),
+            matches: IndexSet::of_bits(lanes.simd_eq(u8x16::splat(h2)).to_bitmask()),
+            free: IndexSet::of_bits(free_bits(lanes)),
         }
     }
 
@@ -33,13 +33,13 @@ impl GroupQuery {
     /// Whether the group has a byte of 128 or more.
     #[inline]
     pub fn any_empty(&self) -> bool {
-        lowest_bit(self.empty_mask).is_some()
+        !self.free.is_empty()
     }
 
     /// The least index of a byte of 128 or more, whether or not matches were dropped.
     #[inline]
     pub fn first_empty(&self) -> Option<usize> {
-        lowest_bit(self.empty_mask)
+        self.free.first()
     }
 }
 
@@ -64,12 +64,12 @@ impl Group for GroupQuery {
 
     #[inline]
     fn first_match(&self) -> Option<usize> {
-        lowest_bit(self.eq_mask)
+        self.matches.first()
     }
 
     #[inline]
     fn drop_match(&mut self) {
-        self.eq_mask = without_lowest_bit(self.eq_mask);
+        self.matches.drop_first();
     }
 }
 
@@ -79,8 +79,6 @@ impl Iterator for GroupQuery {
     /// Takes the least match that is left.
     #[inline]
     fn next(&mut self) -> Option<usize> {
-        let index = self.first_match()?;
-        self.drop_match();
-        Some(index)
+        self.matches.take()
     }
 }

@@ -1,8 +1,7 @@
 // Made by `make rust` of crates/odht_base/src/swisstable_group_query/no_simd.rt.
 //! The search of eight control bytes in one word of 64 bits.
 
-use super::mask::{lowest_bit, without_lowest_bit};
-use super::Group;
+use super::{Group, IndexSet};
 
 /// How many control bytes are searched at once.
 pub const GROUP_SIZE: usize = 8;
@@ -18,14 +17,14 @@ const HIGH_BITS: u64 = 0x8080_8080_8080_8080;
 /// Beside each byte that is the tag, a byte that differs from the tag in its lowest bit alone can match, but only where
 /// the byte before it matches too: the subtraction of that byte borrows from it.
 pub struct GroupQuery {
-    eq_mask: u64,
-    empty_mask: u64,
+    matches: IndexSet,
+    free: IndexSet,
 }
 
-// The index of the lowest byte in which a bit is set.
+// The index of the byte with the least of these bits.
 #[inline(always)]
-fn lowest_byte(mask: u64) -> Option<usize> {
-    match lowest_bit(mask) {
+fn first_byte(bits: &IndexSet) -> Option<usize> {
+    match bits.first() {
         Some(position) => Some(position / 8),
         None => None,
     }
@@ -38,21 +37,21 @@ impl GroupQuery {
         let group = u64::from_le_bytes(*group);
         let cmp = group ^ (h2 as u64 * LOW_BITS);
         GroupQuery {
-            eq_mask: cmp.wrapping_sub(LOW_BITS) & (!cmp & HIGH_BITS),
-            empty_mask: group & HIGH_BITS,
+            matches: IndexSet::of_bits(cmp.wrapping_sub(LOW_BITS) & (!cmp & HIGH_BITS)),
+            free: IndexSet::of_bits(group & HIGH_BITS),
         }
     }
 
     /// Whether the group has a byte of 128 or more.
     #[inline]
     pub fn any_empty(&self) -> bool {
-        lowest_byte(self.empty_mask).is_some()
+        !self.free.is_empty()
     }
 
     /// The least index of a byte of 128 or more, whether or not matches were dropped.
     #[inline]
     pub fn first_empty(&self) -> Option<usize> {
-        lowest_byte(self.empty_mask)
+        first_byte(&self.free)
     }
 }
 
@@ -78,12 +77,12 @@ impl Group for GroupQuery {
 
     #[inline]
     fn first_match(&self) -> Option<usize> {
-        lowest_byte(self.eq_mask)
+        first_byte(&self.matches)
     }
 
     #[inline]
     fn drop_match(&mut self) {
-        self.eq_mask = without_lowest_bit(self.eq_mask);
+        self.matches.drop_first();
     }
 }
 

@@ -54,7 +54,8 @@ impl<'a, K: ByteArray, V: ByteArray, H: HashFn> RawTable<'a, K, V, H> {
         let mut left = groups;
         while left > 0 {
             let start = probe.index();
-            if let Some(index) = self.late_free(start) {
+            let control = self.control;
+            if let Some(index) = late_free(&control[start..start + REFERENCE_GROUP_SIZE]) {
                 return Some(index.min(mask - start) + 1);
             }
             if probe.is_last() {
@@ -64,11 +65,5 @@ impl<'a, K: ByteArray, V: ByteArray, H: HashFn> RawTable<'a, K, V, H> {
             left -= 1;
         }
         None
-    }
-
-    // The index of a free one of the sixteen control bytes from `start` on, a late one where there is one.
-    #[inline]
-    fn late_free(&self, start: usize) -> Option<usize> {
-        late_free(&self.control[start..start + REFERENCE_GROUP_SIZE])
     }
 }

@@ -1,13 +1,14 @@
 // Made by `make rust` of crates/odht_raw/src/raw_table/check.rt.
 //! The whole check of the parts of a table: each slot, the mirror, and that the search for each key ends at its slot.
 
-use super::span::{is_zeros, split, Marks, SPAN};
 use super::{tag_of, ProbeSeq, RawTable, Scan, FREE};
-use crate::proved::raw::bytes::ByteArray;
+use crate::proved::raw::bytes::{is_zeros, ByteArray};
 use crate::proved::raw::error::Error;
 use crate::proved::raw::hash::HashFn;
 use crate::proved::raw::swisstable_group_query::lanes::GroupQuery;
-use crate::proved::raw::swisstable_group_query::{Group, REFERENCE_GROUP_SIZE};
+use crate::proved::raw::swisstable_group_query::{
+    free_and_occupied, Group, IndexSet, REFERENCE_GROUP_SIZE,
+};
 
 /// What a check of all slots found, where no slot gives an error.
 #[derive(Clone, Copy)]
@@ -35,8 +36,8 @@ impl<'a, K: ByteArray, V: ByteArray, H: HashFn> RawTable<'a, K, V, H> {
         let mut summary = SlotSummary { occupied: 0, unreachable: None };
         let mut start = 0;
         while start < slots {
-            let size = (slots - start).min(SPAN);
-            let (free, others) = split(&self.control[start..start + size]);
+            let size = (slots - start).min(IndexSet::CAPACITY);
+            let (free, others) = free_and_occupied(&self.control[start..start + size]);
             if !self.are_free(start, free) {
                 return self.check_from(start, searches, summary);
             }
@@ -77,7 +78,7 @@ impl<'a, K: ByteArray, V: ByteArray, H: HashFn> RawTable<'a, K, V, H> {
         &self,
         start: usize,
         size: usize,
-        others: Marks,
+        others: IndexSet,
         searches: bool,
         before: SlotSummary,
     ) -> Result<SlotSummary, Error> {
@@ -101,7 +102,7 @@ impl<'a, K: ByteArray, V: ByteArray, H: HashFn> RawTable<'a, K, V, H> {
 
     // Whether the slots whose indices from `start` on are marked are free, with no error.
     #[inline(always)]
-    fn are_free(&self, start: usize, free: Marks) -> bool {
+    fn are_free(&self, start: usize, free: IndexSet) -> bool {
         // Its invariant is used: slots and control bytes are as many as fit in a `usize`.
         let _ = &self.control;
         let mut free = free;

@@ -1,8 +1,8 @@
 // Made by `make rust` of crates/odht_raw/src/raw_table/waiting.rt.
 //! The occupied slots of a table, listed as ones that wait to be placed.
 
-use super::span::{split, Marks, SPAN};
 use super::EntryMetadata;
+use crate::proved::raw::swisstable_group_query::{free_and_occupied, IndexSet};
 
 /// What is added to a slot that waits to be placed. It is above each slot.
 pub(crate) const WAITING: usize = 1 << 63;
@@ -13,8 +13,8 @@ pub(crate) fn list_occupied(control: &[EntryMetadata], slot_count: usize, out: &
     let mut listed = 0;
     let mut start = 0;
     while start < slot_count {
-        let size = (slot_count - start).min(SPAN);
-        let (_, others) = split(&control[start..start + size]);
+        let size = (slot_count - start).min(IndexSet::CAPACITY);
+        let (_, others) = free_and_occupied(&control[start..start + size]);
         listed = list_marked(start, others, out, listed);
         start += size;
     }
@@ -23,7 +23,7 @@ pub(crate) fn list_occupied(control: &[EntryMetadata], slot_count: usize, out: &
 // Lists the slots that are marked from `start` on, each as one that waits, behind the first `listed` numbers, as far as
 // there is room. Returns how many numbers are listed then.
 #[inline(always)]
-fn list_marked(start: usize, marks: Marks, out: &mut [usize], listed: usize) -> usize {
+fn list_marked(start: usize, marks: IndexSet, out: &mut [usize], listed: usize) -> usize {
     let mut marks = marks;
     let mut listed = listed;
     while let Some(index) = marks.take() {

@@ -3,7 +3,7 @@
 
 use super::{Entries, Entry, EntryMetadata};
 use crate::proved::raw::bytes::ByteArray;
-use crate::proved::raw::swisstable_group_query::{OccupiedQuery, REFERENCE_GROUP_SIZE};
+use crate::proved::raw::swisstable_group_query::{occupied, IndexSet, REFERENCE_GROUP_SIZE};
 use std::iter::FusedIterator;
 
 /// A walk from a slot on over the slots whose own control byte does not count as free, in slot order: the index of each
@@ -15,7 +15,7 @@ pub struct RawSlots<'a, K: ByteArray, V: ByteArray> {
     control: &'a [EntryMetadata],
     entries: Entries<'a, K, V>,
     base: usize,
-    occupied: OccupiedQuery,
+    occupied: IndexSet,
     next_slot: usize,
 }
 
@@ -25,13 +25,7 @@ impl<'a, K: ByteArray, V: ByteArray> RawSlots<'a, K, V> {
     #[inline]
     pub fn new(control: &'a [EntryMetadata], entries: Entries<'a, K, V>, from: usize) -> Self {
         let first = from.min(entries.len());
-        RawSlots {
-            control,
-            entries,
-            base: first,
-            occupied: OccupiedQuery::none(),
-            next_slot: first,
-        }
+        RawSlots { control, entries, base: first, occupied: IndexSet::empty(), next_slot: first }
     }
 }
 
@@ -41,7 +35,7 @@ impl<'a, K: ByteArray, V: ByteArray> Iterator for RawSlots<'a, K, V> {
     #[inline]
     fn next(&mut self) -> Option<(usize, (EntryMetadata, Entry<K, V>))> {
         loop {
-            if let Some(index) = self.occupied.next_occupied() {
+            if let Some(index) = self.occupied.take() {
                 let slot = self.base + index;
                 return Some((slot, (index!(self.control[slot]), self.entries.get(slot))));
             }
@@ -51,10 +45,8 @@ impl<'a, K: ByteArray, V: ByteArray> Iterator for RawSlots<'a, K, V> {
             self.base = self.next_slot;
             let size = (self.entries.len() - self.base).min(REFERENCE_GROUP_SIZE);
             let control = self.control;
-            self.occupied = OccupiedQuery::of(
-                &index!(control[self.base..self.base + REFERENCE_GROUP_SIZE]),
-                size,
-            );
+            self.occupied =
+                occupied(&index!(control[self.base..self.base + REFERENCE_GROUP_SIZE]), size);
             self.next_slot += size;
         }
     }

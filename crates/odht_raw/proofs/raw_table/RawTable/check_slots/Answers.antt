@@ -1,10 +1,11 @@
 use Rattle.std.proofs.Common.{◌≡◌, ◌∙◌, ◌+◌, ◌-◌, ◌%◌, ◌<◌, ◌≤◌, Contains, length, min, sym, ap, subst, arith}
 use Rattle.odht_base.specs.Bytes.{bytes_at}
 use Rattle.odht_base.specs.Format.{Format, format_of}
+use Rattle.odht_base.specs.Groups.{free_in}
 use Rattle.odht_base.proofs.lemmas.ByteRanges.{length-bytes_at}
 use Rattle.odht_base.proofs.lemmas.SlotCounts.{sixteens}
 use Rattle.odht_raw.specs.Parts.{TableParts, IsTableParts}
-use Rattle.odht_raw.specs.Summaries.{AreFree, free_in}
+use Rattle.odht_raw.specs.Summaries.{AreFree}
 use Rattle.odht_raw.specs.declared.raw_table.check.SlotSummary.{SlotSummary}
 use Rattle.odht_raw.proofs.lemmas.SlotSummary.{all_passed, all_counted, all_reached, answer_err, answer_occupied, answer_reached, free_slots_pass}
 use Rattle.odht_raw.proofs.lemmas.SpanLooks.{free_low}
@@ -40,30 +41,33 @@ module _ (g : Over) (c : After-min-size g) where
   within : c.spans.start + c.min-size.result ≤ c.args.self.now.entries.slots
   within = omega (arith, size_is, before)
 
-  words : c.min-size.result % 8 ≡ 0
-  words =
+  groups : c.min-size.result % 16 ≡ 0
+  groups =
       let m = sixteens c.args.self.now.entries.slots (parts g counted).slots in
-      omega (arith, size_is, before, c.spans.invariant.words, m.2)
+      omega (arith, size_is, before, c.spans.invariant.groups, m.2)
 
   long : length (bytes_at c.self.inside.control.now c.spans.start c.min-size.result) ≡ c.min-size.result
   long =
       let same : c.self.inside.entries.slots ≡ c.args.self.now.entries.slots = ap (λ (t : TableParts). t.entries.slots) c.self.view_is in
       length-bytes_at c.self.inside.control.now c.spans.start c.min-size.result (omega (arith, within, same, c.self.invariant.mirrored))
 
-pub split-free-requires-clause-words : goal.split-free-requires-clause-words
-split-free-requires-clause-words g c = let at = (goal.at.split-free-requires-clause-words g c).After-min-size in ap (λ n. n % 8) (long g at) ∙ words g at
+pub free_and_occupied-free-requires-clause-groups : goal.free_and_occupied-free-requires-clause-groups
+free_and_occupied-free-requires-clause-groups g c = let at = (goal.at.free_and_occupied-free-requires-clause-groups g c).After-min-size in ap (λ n. n % 16) (long g at) ∙ groups g at
+
+pub free_and_occupied-free-requires-clause-some : goal.free_and_occupied-free-requires-clause-some
+free_and_occupied-free-requires-clause-some g c = let at = (goal.at.free_and_occupied-free-requires-clause-some g c).After-min-size in omega (arith, long g at, size_is g at, before g at)
 
 pub are_free-requires-clause-within : goal.are_free-requires-clause-within
 are_free-requires-clause-within g c κs step i marked =
     let at = (goal.at.are_free-requires-clause-within g c).After-min-size in
-    let low = free_low (bytes_at c.self.inside.control.now c.spans.start c.min-size.result) i (subst (λ xs. Contains xs i) c.split-free.ensures.free marked) in
+    let low = free_low (bytes_at c.self.inside.control.now c.spans.start c.min-size.result) i (subst (λ xs. Contains xs i) c.free_and_occupied-free.ensures.free marked) in
     omega (arith, low, long g at, within g at)
 
 pub take_others-requires-clause-free : goal.take_others-requires-clause-free
 take_others-requires-clause-free g c κs _ =
     let F : Format = format g in
     let T : TableParts = c.args.self.now in
-    let marked = c.split-free.ensures.free ∙ ap (λ (t : TableParts). free_in (bytes_at t.control c.spans.start c.min-size.result)) c.self.view_is in
+    let marked = c.free_and_occupied-free.ensures.free ∙ ap (λ (t : TableParts). free_in (bytes_at t.control c.spans.start c.min-size.result)) c.self.view_is in
     free_slots_pass F T c.spans.start _ (subst (AreFree F T c.spans.start) marked (c.are_free.ensures.0 c.if-not-are_free.false))
 
 pub spans-preserved : goal.spans-preserved
@@ -71,7 +75,7 @@ spans-preserved g c =
     let at = (goal.at.spans-preserved g c).After-min-size in
     record {
       within = within g at;
-      words = omega (arith, words g at, c.spans.invariant.words);
+      groups = omega (arith, groups g at, c.spans.invariant.groups);
       known = c.in_ok-summary.ensures.ok;
     }
 

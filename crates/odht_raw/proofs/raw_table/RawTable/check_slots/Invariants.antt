@@ -9,7 +9,7 @@ invariant-spans g l =
     let F = format_of g.K.ByteArray.LEN g.V.ByteArray.LEN g.H.HashFn.hash in
     record {
       within : l.start ≤ l.self.entries.slots;
-      words : l.start % 8 ≡ 0;
+      groups : l.start % 16 ≡ 0;
       known : IsSummary F l.self l.fn.searches l.start l.summary.occupied l.summary.unreachable;
     }
 

@@ -33,6 +33,9 @@ module _ (g : Over) (c : After-index-start g) (mirrored : length c.args.self.now
   abbrev j : ℕ
   j = c.groups.probe.position / 16
 
+  seen : late_free (bytes_at c.args.self.now.control c.index-start.result 16) ≡ late_free (bytes_at c.self.inside.control.now c.index-start.result 16)
+  seen = sym (ap (λ (t : TableParts). late_free (bytes_at t.control c.index-start.result 16)) c.self.view_is)
+
   at_group : c.index-start.result ≡ probe_slot c.args.home (length c.args.self.now.control - 16) (16 * j)
   at_group =
       let v = c.groups.invariant in
@@ -90,7 +93,7 @@ returns-in-Some-clause-within g c =
           let further : probe_slot home (length ctrl - 16) (16 * j) + i < length ctrl - 16 = omega (arith, at, l, inside, below, slots, all) in
           ends_at ctrl c.args.groups (home + i) j (le-min early within)
           (ap (λ x. is_some (first_free (bytes_at ctrl x 16))) (probe_slot-further home (length ctrl - 16) (16 * j) i further ∙ ap (λ x. x + i) (sym at))
-          ∙ late-further ctrl start i c.in-Some.index (sym c.late_free.ensures ∙ c.in-Some.is) (omega (arith, l, near)) (omega (arith, l, inside, below, slots, all)));
+          ∙ late-further ctrl start i c.in-Some.index (seen g (goal.at.returns-in-Some-clause-within g c).After-index-start all ∙ sym c.late_free.ensures ∙ c.in-Some.is) (omega (arith, l, near)) (omega (arith, l, inside, below, slots, all)));
     }
 
 pub returns-then-is_last-clause-longer : goal.returns-then-is_last-clause-longer
@@ -100,7 +103,7 @@ returns-then-is_last-clause-longer g c is =
     let all = mirrored g (goal.at.returns-then-is_last-clause-longer g c).After-len-mask in
     goes_on c.args.self.now.control c.args.groups c.args.home (λ j l.
     let few : j < (length c.args.self.now.control - 16) / 16 = omega (arith, l, min-le_right c.args.groups ((length c.args.self.now.control - 16) / 16)) in
-    occupied_to g (goal.at.returns-then-is_last-clause-longer g c).After-index-start all (sym c.late_free.ensures ∙ c.in_default.is) j (omega (arith, few, last, v.mask, all)))
+    occupied_to g (goal.at.returns-then-is_last-clause-longer g c).After-index-start all (seen g (goal.at.returns-then-is_last-clause-longer g c).After-index-start all ∙ sym c.late_free.ensures ∙ c.in_default.is) j (omega (arith, few, last, v.mask, all)))
 
 pub advance-requires : goal.advance-requires
 advance-requires g c =
@@ -122,7 +125,7 @@ groups-preserved g c =
       aligned = omega (arith, place, v.aligned);
       within = omega (arith, place, v.aligned, v.mask, sixteen.2, more);
       left = omega (arith, place, v.left, c.groups-test.true);
-      occupied = λ j l. occupied_to g (goal.at.groups-preserved g c).After-index-start (mirrored g at) (sym c.late_free.ensures ∙ c.in_default.is) j (omega (arith, l, place));
+      occupied = λ j l. occupied_to g (goal.at.groups-preserved g c).After-index-start (mirrored g at) (seen g (goal.at.groups-preserved g c).After-index-start (mirrored g at) ∙ sym c.late_free.ensures ∙ c.in_default.is) j (omega (arith, l, place));
     }
 
 pub returns-clause-longer : goal.returns-clause-longer

@@ -13,10 +13,10 @@ module _ (c : After-min-size) where
   within : c.spans.start + c.min-size.result ≤ c.args.slot_count
   within = omega (arith, c.min-size.ensures, c.spans-test.true)
 
-  words : c.min-size.result % 8 ≡ 0
-  words =
+  groups : c.min-size.result % 16 ≡ 0
+  groups =
       let m = sixteens c.args.slot_count c.requires.slots in
-      omega (arith, c.min-size.ensures, c.spans-test.true, c.spans.invariant.words, m.2)
+      omega (arith, c.min-size.ensures, c.spans-test.true, c.spans.invariant.groups, m.2)
 
   inside : c.spans.start + c.min-size.result ≤ length c.args.control.now
   inside = omega (arith, within, c.requires.control)
@@ -24,13 +24,16 @@ module _ (c : After-min-size) where
   long : length (bytes_at c.args.control.now c.spans.start c.min-size.result) ≡ c.min-size.result
   long = length-bytes_at c.args.control.now c.spans.start c.min-size.result inside
 
-pub split-others-requires-clause-words : goal.split-others-requires-clause-words
-split-others-requires-clause-words c = let at = (goal.at.split-others-requires-clause-words c).After-min-size in ap (λ n. n % 8) (long at) ∙ words at
+pub free_and_occupied-others-requires-clause-groups : goal.free_and_occupied-others-requires-clause-groups
+free_and_occupied-others-requires-clause-groups c = let at = (goal.at.free_and_occupied-others-requires-clause-groups c).After-min-size in ap (λ n. n % 16) (long at) ∙ groups at
+
+pub free_and_occupied-others-requires-clause-some : goal.free_and_occupied-others-requires-clause-some
+free_and_occupied-others-requires-clause-some c = let at = (goal.at.free_and_occupied-others-requires-clause-some c).After-min-size in omega (arith, long at, c.min-size.ensures, c.spans-test.true)
 
 pub list_marked-listed-requires-clause-slots : goal.list_marked-listed-requires-clause-slots
 list_marked-listed-requires-clause-slots c i marked =
     let at = (goal.at.list_marked-listed-requires-clause-slots c).After-min-size in
-    let low = occupied_low (bytes_at c.args.control.now c.spans.start c.min-size.result) i (subst (λ xs. Contains xs i) c.split-others.ensures.occupied marked) in
+    let low = occupied_low (bytes_at c.args.control.now c.spans.start c.min-size.result) i (subst (λ xs. Contains xs i) c.free_and_occupied-others.ensures.occupied marked) in
     omega (arith, low, long at, within at, few_slots c.args.slot_count c.requires.slots)
 
 pub spans-preserved : goal.spans-preserved
@@ -38,10 +41,10 @@ spans-preserved c =
     let at = (goal.at.spans-preserved c).After-min-size in
     record {
       within = within at;
-      words = omega (arith, words at, c.spans.invariant.words);
+      groups = omega (arith, groups at, c.spans.invariant.groups);
       listed = listed_span c.args.control.now c.spans.start c.min-size.result c.spans.out c.list_marked-listed.new.out c.spans.listed c.list_marked-listed.result
           (inside at) c.list_marked-listed.auto.out c.list_marked-listed.ensures.room
-          (c.list_marked-listed.ensures.listed ∙ ap (λ marks. take (length c.list_marked-listed.new.out) (take c.spans.listed c.spans.out ++ map (λ i. waiting (c.spans.start + i)) marks)) c.split-others.ensures.occupied)
+          (c.list_marked-listed.ensures.listed ∙ ap (λ marks. take (length c.list_marked-listed.new.out) (take c.spans.listed c.spans.out ++ map (λ i. waiting (c.spans.start + i)) marks)) c.free_and_occupied-others.ensures.occupied)
           c.spans.invariant.listed;
     }
 

@@ -5,7 +5,7 @@ use Rattle.odht_raw.proofs.raw_table.waiting.list_occupied.Given as goal
 abbrev pub invariant-spans : goal.invariant-spans
 invariant-spans l = record {
   within : l.start ≤ l.slot_count;
-  words : l.start % 8 ≡ 0;
+  groups : l.start % 16 ≡ 0;
   listed : IsListedBelow l.control l.start l.out l.listed;
 }
 

@@ -10,7 +10,7 @@ returns-clause-items g c =
     let h = g.V.ByteArray.of_bytes in
     let F = entry_format g.K.ByteArray.LEN g.V.ByteArray.LEN in
     let T : TableParts = record { control = c.args.control.now; entries = c.args.entries } in
-    ap (λ xs. numbered_of f h F T (map (λ i. c.min-first.result + i) xs) ++ numbered_from f h F T c.min-first.result) c.none.ensures
+    ap (λ xs. numbered_of f h F T (map (λ i. c.min-first.result + i) xs) ++ numbered_from f h F T c.min-first.result) c.empty.ensures
     ∙ ap (numbered_from f h F T) (c.min-first.ensures ∙ ap (min c.args.from) c.len.ensures) ∙ numbered_from-min f h F T c.args.from
 
 pub returns-clause-few : goal.returns-clause-few
@@ -19,4 +19,4 @@ returns-clause-few g c =
     let h = g.V.ByteArray.of_bytes in
     let F = entry_format g.K.ByteArray.LEN g.V.ByteArray.LEN in
     let T : TableParts = record { control = c.args.control.now; entries = c.args.entries } in
-    rw c.none.ensures (few-numbered f h F T c.min-first.result)
+    rw c.empty.ensures (few-numbered f h F T c.min-first.result)

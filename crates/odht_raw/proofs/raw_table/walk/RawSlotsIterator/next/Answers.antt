@@ -33,10 +33,10 @@ module _ (g : Over) (c : In-Some g) where
   mirrored = ap (λ x. length x.now) c.groups.invariant.control ∙ c.self.invariant.0 ∙ ap (λ e. e.slots + 16) (sym c.groups.invariant.entries)
 
   -- the index and those behind it are the ones that were left
-  split : c.groups.self-inside.occupied ≡ c.in-Some.index ∷ c.next_occupied.new.self
-  split = list-first c.groups.self-inside.occupied c.in-Some.index c.in-Some.ensures.next ∙ ap (λ xs. c.in-Some.index ∷ xs) (sym c.next_occupied.ensures.rest)
+  split : c.groups.self-inside.occupied ≡ c.in-Some.index ∷ c.take.new.self
+  split = list-first c.groups.self-inside.occupied c.in-Some.index c.in-Some.ensures.next ∙ ap (λ xs. c.in-Some.index ∷ xs) (sym c.take.ensures.rest)
 
-  left : AreOccupied parts c.groups.self-inside.base (c.in-Some.index ∷ c.next_occupied.new.self)
+  left : AreOccupied parts c.groups.self-inside.base (c.in-Some.index ∷ c.take.new.self)
   left = subst (AreOccupied parts c.groups.self-inside.base) split c.groups.invariant.occupied
 
   here : (c.groups.self-inside.base + c.in-Some.index < c.groups.self-inside.entries.slots) × IsFalse (counts_as_free (slice_index c.groups.self-inside.control.now (c.groups.self-inside.base + c.in-Some.index)))
@@ -68,7 +68,7 @@ returns-in-Some-clause-steps g c =
     sym c.self.view_is
     ∙ sym c.groups.invariant.left
     ∙ ap (λ xs. numbered_of g.K.ByteArray.of_bytes g.V.ByteArray.of_bytes F T (map (λ i. at + i) xs) ++ later) (split g some)
-    ∙ ap (λ xs. xs ++ later) (numbered_of-first g.K.ByteArray.of_bytes g.V.ByteArray.of_bytes F T (at + c.in-Some.index) (map (λ i. at + i) c.next_occupied.new.self) c.get.result (here g some).1 c.get.ensures.key c.get.ensures.value)
+    ∙ ap (λ xs. xs ++ later) (numbered_of-first g.K.ByteArray.of_bytes g.V.ByteArray.of_bytes F T (at + c.in-Some.index) (map (λ i. at + i) c.take.new.self) c.get.result (here g some).1 c.get.ensures.key c.get.ensures.value)
 
 pub returns-in-Some-clause-goes : goal.returns-in-Some-clause-goes
 returns-in-Some-clause-goes g c =
@@ -93,9 +93,9 @@ groups-preserved g c =
       control = v.control;
       entries = v.entries;
       within = fits;
-      occupied = subst (AreOccupied T at) (sym c.of-self-inside.ensures) (occupied-All T at (take n B) (omega (arith, len, fits)) are);
+      occupied = subst (AreOccupied T at) (sym c.occupied-self-inside.ensures) (occupied-All T at (take n B) (omega (arith, len, fits)) are);
       left =
-          ap (λ xs. numbered_of g.K.ByteArray.of_bytes g.V.ByteArray.of_bytes F T (map (λ i. at + i) xs) ++ numbered_from g.K.ByteArray.of_bytes g.V.ByteArray.of_bytes F T (at + n)) c.of-self-inside.ensures
+          ap (λ xs. numbered_of g.K.ByteArray.of_bytes g.V.ByteArray.of_bytes F T (map (λ i. at + i) xs) ++ numbered_from g.K.ByteArray.of_bytes g.V.ByteArray.of_bytes F T (at + n)) c.occupied-self-inside.ensures
           ∙ sym (numbered_from-group g.K.ByteArray.of_bytes g.V.ByteArray.of_bytes F T at n (take n B) len fits are)
           ∙ sym (ap (λ xs. numbered_of g.K.ByteArray.of_bytes g.V.ByteArray.of_bytes F T (map (λ i. c.groups.self-inside.base + i) xs) ++ numbered_from g.K.ByteArray.of_bytes g.V.ByteArray.of_bytes F T at) none)
           ∙ v.left;

@@ -1,5 +1,5 @@
 use Rattle.std.proofs.Common.{◌≡◌, ◌<◌, ◌≤◌, ◌-◌, ℕ, length, slice_index}
-use Rattle.odht_raw.proofs.raw_table.span.is_zeros.Given as goal
+use Rattle.odht_base.proofs.bytes.arrays.is_zeros.Given as goal
 
 -- each byte before `at` is zero
 abbrev pub invariant-words : goal.invariant-words
