@@ -2,8 +2,7 @@
 use Rattle.std.proofs.Common.{◌≡◌, ◌<◌, ◌≤◌, ◌∙◌, ◌+◌, ◌-◌, ◌==◌, ◌&&◌, inl, inr, ℕ, zero, suc, Bool, true, false, true≢false, not, sym, ap, subst, refl, List, [], ◌∷◌, Option, Some, None, map, length, replicate, slice_index, arith, option_map}
 use Rattle.std.specs.List.{range_with_len, filter_map, cons_option, list_all}
 use Rattle.std.specs.Option.{option_or}
-use Rattle.std.specs.Prelude.{is_some, Result, Ok, Err, IfOk, OnErr}
-use Rattle.std.specs.Result.{result_err}
+use Rattle.std.specs.Prelude.{is_some}
 use Rattle.std.proofs.lemmas.Bool.{cases_lt}
 use Rattle.odht_base.specs.Format.{Format, entry_len, tag}
 use Rattle.odht_base.specs.Search.{search_end, is_at}

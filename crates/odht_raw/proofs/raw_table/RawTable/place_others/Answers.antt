@@ -48,15 +48,17 @@ place_ready-ready-requires-clause-listed g c κs within =
     }
 
 pub returns-then-ready-eq0 : goal.returns-then-ready-eq0
-returns-then-ready-eq0 g c = record { order = λ P whole t. absurd (true≢false (sym t)); made = λ P whole.
-    let out = c.loop-placed.out in
-    let n = c.loop-placed.placed in
-    let pending = subst (IsPending (format g) P (take n out)) (sym (rest out n))
-    (c.loop-placed.invariant.begun.pending P (subst (AreWholeParts (format g) P c.args.self.now) (sym c.loop-placed.auto.out) whole)) in
-    let stuck = (c.place_ready-ready.ensures.pass P (take n out) whole.parts pending).stuck c.if-ready-eq0.true in (
-      λ t. absurd (true≢false (sym t)),
-      λ made. absurd (order_missing (format g) P c.args.self.now out _ c.loop-placed.auto.out whole n c.loop-placed-test.true stuck made),
-    );
+returns-then-ready-eq0 g c = record {
+  order = λ P whole t. absurd (true≢false (sym t));
+  made = λ P whole.
+      let out = c.loop-placed.out in
+      let n = c.loop-placed.placed in
+      let pending = subst (IsPending (format g) P (take n out)) (sym (rest out n))
+      (c.loop-placed.invariant.begun.pending P (subst (AreWholeParts (format g) P c.args.self.now) (sym c.loop-placed.auto.out) whole)) in
+      let stuck = (c.place_ready-ready.ensures.pass P (take n out) whole.parts pending).stuck c.if-ready-eq0.true in (
+        λ t. absurd (true≢false (sym t)),
+        λ made. absurd (order_missing (format g) P c.args.self.now out _ c.loop-placed.auto.out whole n c.loop-placed-test.true stuck made),
+      );
 }
 
 pub loop-placed-preserved : goal.loop-placed-preserved
