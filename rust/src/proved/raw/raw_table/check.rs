@@ -126,10 +126,9 @@ impl<'a, K: ByteArray, V: ByteArray, H: HashFn> RawTable<'a, K, V, H> {
     // Most keys are in the group of their home, with no free byte and no match before them: then this is all.
     #[inline]
     fn is_reached(&self, slot: usize, hash: u32) -> bool {
-        let slots = self.entries.len();
-        let mask = slots - 1;
+        let mask = self.entries.len() - 1;
         let home = hash as usize & mask;
-        let before = (slot + slots - home) & mask;
+        let before = slot.wrapping_sub(home) & mask;
         let group = self.query_at(home, tag_of(hash));
         if before < REFERENCE_GROUP_SIZE
             && group.first_empty().unwrap_or(REFERENCE_GROUP_SIZE) >= before

@@ -7,7 +7,7 @@ use Rattle.odht_base.proofs.lemmas.SlotCounts.{bit_and-slots}
 use Rattle.odht_raw.specs.Checks.{cells_of, IsLookAt}
 use Rattle.odht_raw.specs.Parts.{TableParts, IsTableParts}
 use Rattle.odht_raw.proofs.lemmas.KeyPasses.{slots_decoded, stops_key}
-use Rattle.odht_raw.proofs.lemmas.KeyPositions.{home_position, ends_here}
+use Rattle.odht_raw.proofs.lemmas.KeyPositions.{home_position, ends_here, distance}
 use Rattle.odht_raw.proofs.lemmas.PartLooks.{are_clear}
 use Rattle.odht_raw.proofs.raw_table.RawTable.is_reached.Given.{Over}
 use Rattle.odht_raw.proofs.raw_table.RawTable.is_reached.Goals.{After-query_at-group}
@@ -34,18 +34,18 @@ module _ (g : Over) (c : After-query_at-group g) where
   parts : IsTableParts g.H.HashFn.MIN_LEN g.K.ByteArray.LEN g.V.ByteArray.LEN T
   parts = subst (IsTableParts g.H.HashFn.MIN_LEN g.K.ByteArray.LEN g.V.ByteArray.LEN) c.self.view_is c.self.invariant
 
-  slots : c.len-slots.result ≡ s
-  slots = c.len-slots.ensures ∙ ap (λ (t : TableParts). t.entries.slots) c.self.view_is
+  slots : c.len-mask.result ≡ s
+  slots = c.len-mask.ensures ∙ ap (λ (t : TableParts). t.entries.slots) c.self.view_is
 
   home_low : home < s
   home_low = let least = parts.slots.least in omega (arith, least)
 
-  home_is : bit_and c.args.hash (c.len-slots.result - 1) ≡ home
+  home_is : bit_and c.args.hash (c.len-mask.result - 1) ≡ home
   home_is = ap (λ n. bit_and c.args.hash (n - 1)) slots ∙ bit_and-slots c.args.hash s parts.slots
 
   -- how far the slot is behind it
-  behind_is : bit_and (c.args.slot + c.len-slots.result - bit_and c.args.hash (c.len-slots.result - 1)) (c.len-slots.result - 1) ≡ (c.args.slot + s - home) % s
-  behind_is = (λ i. bit_and (c.args.slot + slots i - home_is i) (slots i - 1)) ∙ bit_and-slots (c.args.slot + s - home) s parts.slots
+  behind_is : bit_and ((c.args.slot + (2 ^ 64 - bit_and c.args.hash (c.len-mask.result - 1))) % 2 ^ 64) (c.len-mask.result - 1) ≡ (c.args.slot + s - home) % s
+  behind_is = (λ i. bit_and ((c.args.slot + (2 ^ 64 - home_is i)) % 2 ^ 64) (slots i - 1)) ∙ distance c.args.slot home s parts.slots home_low
 
   look : IsLookAt (bytes_at T.control home 16) (c.args.hash / 2 ^ 25) c.query_at-group.result
   look = subst₂ (λ b h. IsLookAt (bytes_at T.control b 16) h c.query_at-group.result) home_is c.tag_of.ensures c.query_at-group.ensures
