@@ -295,7 +295,7 @@ impl<C: Config> HashTableOwned<C> {
         ensures memory { OnErr result (result ≡ Err Error.Memory) }
         ensures refused { OnErr result (self.new ≡ self.old) }
     {
-        let Ok(mut grown) = self.grown() else {
+        let Ok(mut grown) = self.grown_table() else {
             return Err(Error::Memory);
         };
         let Ok(old) = grown.insert(key, value) else {
@@ -309,7 +309,7 @@ impl<C: Config> HashTableOwned<C> {
     // The pairs of this table, placed in slot order into a table with the slots for twice as many, and for one at
     // least.
     #[inline(never)]
-    fn grown(&self) -> Result<HashTable<C, OwnedBytes>, Error>
+    fn grown_table(&self) -> Result<HashTable<C, OwnedBytes>, Error>
         ensures ok { let F = ⟦<C as Coded>⟧.coding.format
             in (P : Table)
             → IsImage F P self.now

@@ -1,20 +1,26 @@
 -- What is known of the slots of the parts T before slot n.
 --     occupied_before F T n        how many of them hold a pair
 --     IsFirstUnreachable F T n o   o is the first of them at which the search for its key does not end, if there is one
+--     HaveNoError F T n            none of them gives an error
+--     IsFirstError F T r           if r is an error, then it is the first in slot order
 --     IsSummary F T t n m o        none of them gives an error, m of them are occupied, and where the flag t says that
 --                                  searches are made, and slots and mirror give no error, o is the first that is
 --                                  unreachable
+--     IsKnown F T t n s            the same, of the counts in s
 --     AreRight F T b is            slot b + i gives no error, for each i of is
 --     IsFreeSlot F T i             the control byte of slot i is that of a free slot, 255, and its entry is zeros
 --     AreFree F T b is             slot b + i is such a slot, for each i of is
-use Rattle.std.specs.Prelude.{◌≡◌, ℕ, ◌+◌, ◌<◌, Bool, true, List, length, map, filter_map, slice_index, Contains, Option, Some, None, MatchOption}
+use Rattle.std.specs.Prelude.{◌≡◌, ℕ, ◌+◌, ◌<◌, Bool, true, List, length, map, filter_map, slice_index, Contains, Option, Some, None, MatchOption, Result, OnErr}
 use Rattle.std.specs.List.{range_with_len}
+use Rattle.std.specs.Result.{result_err}
 use Rattle.odht_base.specs.Format.{Format, entry_len}
 use Rattle.odht_base.specs.Decoded.{decoded_cell, slot_entry}
 use Rattle.odht_raw.specs.Checks.{IsFitting}
 use Rattle.odht_raw.specs.Parts.{TableParts, IsZeros}
+use Rattle.odht_raw.specs.declared.raw_table.check.SlotSummary.{SlotSummary}
+use Rattle.odht_header.specs.declared.error.Error.{Error}
 use Rattle.odht_header.specs.declared.error.Error.TheVariants.{Unreachable}
-use Rattle.odht_header.specs.Refusals.{slot_refusal_at, unreachable}
+use Rattle.odht_header.specs.Refusals.{slot_refusal_at, slots_refusal, unreachable}
 
 abbrev pub occupied_before : Format → TableParts → ℕ → ℕ
 occupied_before F T n = length (filter_map (λ c. c) (map (decoded_cell F T.entries.bytes T.control) (range_with_len 0 n)))
@@ -26,10 +32,19 @@ IsFirstUnreachable F T n o =
     ((i : ℕ) → i < n → refusal i ≡ None)
     (λ j. (j < n) × ((i : ℕ) → i < j → refusal i ≡ None) × (refusal j ≡ Some (Unreachable j)))
 
+abbrev pub HaveNoError : Format → TableParts → ℕ → Type 0
+HaveNoError F T n = (i : ℕ) → i < n → slot_refusal_at F T.entries.bytes T.control i ≡ None
+
+abbrev pub IsFirstError : {X : Type 0} → Format → TableParts → Result X Error → Type 0
+IsFirstError F T r = OnErr r (result_err r ≡ slots_refusal F T.entries.bytes T.control)
+
 pub record IsSummary (F : Format) (T : TableParts) (t : Bool) (n m : ℕ) (o : Option ℕ) : Type 0 where
-  pub passed : (i : ℕ) → i < n → slot_refusal_at F T.entries.bytes T.control i ≡ None
+  pub passed : HaveNoError F T n
   pub counted : m ≡ occupied_before F T n
   pub reached : t ≡ true → IsFitting F T → IsFirstUnreachable F T n o
+
+abbrev pub IsKnown : Format → TableParts → Bool → ℕ → SlotSummary → Type 0
+IsKnown F T t n s = IsSummary F T t n s.occupied s.unreachable
 
 abbrev pub AreRight : Format → TableParts → ℕ → List ℕ → Type 0
 AreRight F T b is = (i : ℕ) → Contains is i → slot_refusal_at F T.entries.bytes T.control (b + i) ≡ None

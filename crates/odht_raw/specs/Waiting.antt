@@ -18,14 +18,17 @@
 --     IsPass F P done ns n  after a pass that placed n slots, which are the first of ns; where n is 0, no slot is ready
 --                          after done but those of done
 --     AreWholeParts F P T n  T is the parts of the table P, which is valid and has n pairs
+--     IsWhole F T n        T is the parts of a valid table that has n pairs
+--     IsOrderAnswer F T n ns b   where T is the parts of a valid table of n pairs, b says whether inserts make this table,
+--                          and where they do ns is an order of its slots in which they do
 --     AreListed F T ns     the slots of ns wait, and are pending in a table whose parts are T
 --     IsBegun F T ns n     n is at most the length of ns, and those behind the first n wait; with the first n done, they
 --                          are pending in each valid table whose parts are T, with as many pairs as ns has numbers
 --     IsFar F T n          the slot listed as the waiting n is below the home of its key, or past the group from there on
-use Rattle.std.specs.Prelude.{◌≡◌, ℕ, ◌+◌, ◌-◌, ◌^◌, ◌%◌, ◌<◌, ◌≤◌, ◌⊎◌, nat_lt, List, ◌++◌, length, map, filter, take, drop, All, AllPairs, Contains, IsPermutation}
+use Rattle.std.specs.Prelude.{◌≡◌, ℕ, ◌+◌, ◌-◌, ◌^◌, ◌%◌, ◌<◌, ◌≤◌, ◌⊎◌, ◌↔◌, Bool, IsTrue, nat_lt, List, ◌++◌, length, map, filter, take, drop, All, AllPairs, Contains, IsPermutation}
 use Rattle.odht_base.specs.Decoded.{slot_key}
 use Rattle.odht_base.specs.Format.{Format}
-use Rattle.odht_base.specs.Made.{occupied}
+use Rattle.odht_base.specs.Made.{occupied, IsMade, IsInsertOrder}
 use Rattle.odht_base.specs.Probe.{probe_slot}
 use Rattle.odht_base.specs.Ready.{IsSoFar, IsStuck}
 use Rattle.odht_base.specs.Table.{Table, count}
@@ -84,6 +87,13 @@ pub record AreWholeParts (F : Format) (P : Table) (T : TableParts) (n : ℕ) : T
   pub valid : IsValid F P
   pub parts : IsPartsOf F P T.entries.bytes T.control
   pub counted : n ≡ count P
+
+abbrev pub IsWhole : Format → TableParts → ℕ → Type 0
+IsWhole F T n = (P : Table) × AreWholeParts F P T n
+
+pub record IsOrderAnswer (F : Format) (T : TableParts) (n : ℕ) (ns : List ℕ) (b : Bool) : Type 0 where
+  pub order : (P : Table) → AreWholeParts F P T n → IsTrue b → IsInsertOrder F P ns
+  pub made : (P : Table) → AreWholeParts F P T n → (IsTrue b ↔ IsMade F P)
 
 pub record AreListed (F : Format) (T : TableParts) (ns : List ℕ) : Type 0 where
   pub waiting : All (IsWaiting T.entries.slots) ns

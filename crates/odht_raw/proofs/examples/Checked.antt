@@ -1,10 +1,10 @@
 -- Worked examples: what the whole check reads in the parts of a table, and what it rejects there.
-use Rattle.std.proofs.Common.{◌≡◌, ◌+◌, ◌%◌, ℕ, refl, sym, true≢false, not, List, [], ◌∷◌, Some, None, replicate, set, lit<}
+use Rattle.std.proofs.Common.{◌≡◌, ◌+◌, ◌%◌, ℕ, refl, sym, true≢false, not, List, [], ◌∷◌, Some, None, true, false, replicate, set, lit<}
 use Rattle.odht_base.specs.Bytes.{overwritten_at}
 use Rattle.odht_base.specs.Numbers.{le_bytes}
 use Rattle.odht_base.specs.Search.{stops_at}
 use Rattle.odht_base.proofs.examples.Configs.{direct_config}
-use Rattle.odht_raw.specs.Checks.{cells_of, decoded_count, IsFitting, IsSlotHash, ArePassed}
+use Rattle.odht_raw.specs.Checks.{cells_of, decoded_count, IsFitting, IsSlotHash, IsHashAt, IsReachAnswer, ArePassed}
 use Rattle.odht_raw.specs.Parts.{TableParts}
 use Rattle.odht_header.proofs.lemmas.FirstErrors.{not-true}
 use Rattle.std.proofs.lemmas.Option.{none-some}
@@ -45,6 +45,15 @@ pub other_hash_refused : (IsSlotHash direct_config (parts two) 5 (Some 6) → �
     × (IsSlotHash direct_config (parts two) 4 (Some 0) → ⊥)
 unfolding opened
 other_hash_refused = (λ h. unequal 6 5 refl h.1, λ h. true≢false (sym h), λ h. true≢false h.0)
+
+-- key 5 is its own hash, and has no other; the search for it ends at its slot
+pub key_found : IsHashAt direct_config (parts two) 5 5 × IsReachAnswer direct_config (parts two) 5 true
+unfolding opened
+key_found = (refl, λ fitting. refl)
+
+pub other_answers_refused : (IsHashAt direct_config (parts two) 5 6 → ⊥) × (IsReachAnswer direct_config (parts two) 5 false → ⊥)
+unfolding opened
+other_answers_refused = (λ h. unequal 6 5 refl h, λ h. true≢false (sym (h two_decoded.1)))
 
 -- slots 5 and 6 are passed by the search for 7
 pub passed : ArePassed direct_config (parts two) (le_bytes 4 7) 5 2

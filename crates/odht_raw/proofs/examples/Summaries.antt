@@ -1,5 +1,5 @@
 -- Worked examples: what the whole check knows of the slots that it has been through, and what it sees in a group.
-use Rattle.std.proofs.Common.{◌≡◌, ◌+◌, ℕ, refl, sym, subst, true, false, true≢false, inl, inr, arith, [], ◌∷◌, Option, Some, None, replicate, set, lit<}
+use Rattle.std.proofs.Common.{◌≡◌, ◌+◌, ℕ, refl, sym, subst, true, false, true≢false, inl, inr, arith, [], ◌∷◌, Option, Some, None, Err, replicate, set, lit<}
 use Rattle.std.specs.Prelude.{is_none}
 use Rattle.std.proofs.lemmas.Option.{none-some}
 use Rattle.odht_base.specs.Bytes.{overwritten_at}
@@ -7,11 +7,12 @@ use Rattle.odht_base.proofs.examples.Configs.{direct_config}
 use Rattle.odht_base.proofs.examples.Groups.{report, other_reports_refused}
 use Rattle.odht_base.proofs.lemmas.Pigeons.{contains_cases}
 use Rattle.odht_header.specs.Refusals.{slot_refusal_at, unreachable}
+use Rattle.odht_header.specs.declared.error.Error.TheVariants.{ControlMismatch}
 use Rattle.odht_header.proofs.examples.Apart.{unequal, unequal_lists, tested}
 use Rattle.odht_header.proofs.examples.Opened.{opened}
 use Rattle.odht_raw.specs.Checks.{IsLookAt}
 use Rattle.odht_raw.specs.Parts.{TableParts}
-use Rattle.odht_raw.specs.Summaries.{IsFirstUnreachable, IsFreeSlot, IsSummary, AreFree, AreRight}
+use Rattle.odht_raw.specs.Summaries.{IsFirstUnreachable, IsFirstError, IsFreeSlot, IsKnown, IsSummary, HaveNoError, AreFree, AreRight}
 use Rattle.odht_raw.proofs.examples.Checked.{parts, two}
 
 -- ---- a group
@@ -145,3 +146,16 @@ other_summaries_refused = (
   λ h. none-some _ (sym (h.passed 5 (lit< tt))),
   λ h. other_first_refused.0 (h.reached refl (record { slots = refl; mirror = refl })),
 )
+
+-- the same of a summary by its name
+pub known : IsKnown direct_config lost true 16 (record { occupied = 1; unreachable = Some 7 }) × (IsKnown direct_config lost true 16 (record { occupied = 1; unreachable = None }) → ⊥)
+known = (summaries.1, other_summaries_refused.2)
+
+-- a wrong tag in slot 5 is the first error, and none comes before; where there is none, none is the first
+pub first_error : IsFirstError {X = ℕ} direct_config (parts (set two 5 1)) (Err (ControlMismatch 5 0 1)) × HaveNoError direct_config (parts (set two 5 1)) 5
+unfolding opened
+first_error = (refl, λ i l. none_if _ (tested (λ i. is_none (slot_refusal_at direct_config (parts (set two 5 1)).entries.bytes (set two 5 1) i)) 5 i refl l))
+
+pub other_errors_refused : (IsFirstError {X = ℕ} direct_config (parts two) (Err (ControlMismatch 5 0 1)) → ⊥) × (HaveNoError direct_config (parts (set two 5 1)) 6 → ⊥)
+unfolding opened
+other_errors_refused = (λ h. none-some _ (sym h), λ h. none-some _ (sym (h 5 (lit< tt))))

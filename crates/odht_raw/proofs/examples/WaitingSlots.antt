@@ -1,24 +1,27 @@
 -- Worked examples: slots that wait in the search for an insert order, in the table with 15 in slot 15 and 31 in slot 0.
-use Rattle.std.proofs.Common.{◌≡◌, ◌<◌, ◌≤◌, ◌+◌, ◌%◌, ◌∙◌, inl, inr, ℕ, zero, suc, List, refl, sym, ap, ap₂, subst, arith, [], ◌∷◌, get_or, All, AllPairs, Contains, lit<, lit≤}
+use Rattle.std.proofs.Common.{◌≡◌, ◌<◌, ◌≤◌, ◌+◌, ◌%◌, ◌∙◌, inl, inr, ℕ, zero, suc, List, refl, true, false, true≢false, sym, ap, ap₂, subst, arith, [], ◌∷◌, get_or, All, AllPairs, Contains, lit<, lit≤}
 use Rattle.std.proofs.lemmas.Bool.{cases_lt}
 use Rattle.std.proofs.lemmas.List.Sorted.{IsPermutation-refl, IsPermutation-append_comm, length_permutation}
 use Rattle.odht_base.specs.Decoded.{decoded_cells}
 use Rattle.odht_base.specs.Format.{IsFormat}
 use Rattle.odht_base.specs.HashLaws.{un-lt}
 use Rattle.odht_base.specs.Image.{entries, controls}
+use Rattle.odht_base.specs.Made.{IsInsertOrder}
 use Rattle.odht_base.specs.Probe.{probe_slot}
 use Rattle.odht_base.specs.Ready.{IsSoFar}
 use Rattle.odht_base.specs.Table.{Table}
 use Rattle.odht_base.specs.Valid.{IsValid}
 use Rattle.odht_base.proofs.examples.Configs.{direct_config}
 use Rattle.odht_base.proofs.examples.InsertOrders.{fifteen_first, fifteen_slots, fifteen_so_far, zero_so_far_refused}
+use Rattle.odht_base.proofs.lemmas.MadeTables.{IsMade-IsInsertOrder}
 use Rattle.odht_base.proofs.lemmas.Parts.{decoded_cells-parts}
 use Rattle.odht_base.proofs.lemmas.Placed.{IsPlaced-tests}
 use Rattle.odht_base.proofs.lemmas.SoFar.{so_far_none}
 use Rattle.odht_raw.specs.Frontiers.{AreFrontiers}
 use Rattle.odht_raw.specs.Parts.{TableParts}
-use Rattle.odht_raw.specs.Waiting.{waiting, slot_of, placed_of, IsWaiting, AreRising, WaitsWithin, WaitsBehind, IsLeft, IsFrontier, IsUnblocked, IsPending, AreListed, IsBegun, IsFar, AreWholeParts}
+use Rattle.odht_raw.specs.Waiting.{waiting, slot_of, placed_of, IsWaiting, AreRising, WaitsWithin, WaitsBehind, IsLeft, IsFrontier, IsUnblocked, IsPending, AreListed, IsBegun, IsFar, AreWholeParts, IsWhole, IsOrderAnswer}
 use Rattle.odht_raw.specs.declared.raw_table.insert_order.Frontier.{Frontier}
+use Rattle.odht_raw.proofs.lemmas.PendingSlots.{order_found}
 use Rattle.odht_header.proofs.examples.Opened.{opened}
 
 -- ---- lists of slots
@@ -225,6 +228,20 @@ begun = record {
 -- of a list of all slots, one that is placed stands before those that wait, and slot 0 is not placed first
 pub begun_refused : (IsBegun direct_config parts (waiting 0 ∷ 15 ∷ []) 0 → ⊥) × (IsBegun direct_config parts (0 ∷ 15 ∷ []) 2 → ⊥)
 begun_refused = (λ h. absurd (omega (arith, (h.waiting 1 0 (lit< tt)).0)), λ h. pending_refused.2 (h.pending fifteen_first whole))
+
+-- these are the parts of a table of two pairs, which inserts make; slots 15 and 0 are such an order
+pub order_answer : IsWhole direct_config parts 2 × IsOrderAnswer direct_config parts 2 (15 ∷ 0 ∷ []) true
+order_answer = (
+  (fifteen_first, whole),
+  record { order = λ P is t. order P is; made = λ P is. (λ t. (IsMade-IsInsertOrder direct_config P is.valid).1 (15 ∷ 0 ∷ [], order P is), λ made. refl) },
+)
+  where
+    order : (P : Table) → AreWholeParts direct_config P parts 2 → IsInsertOrder direct_config P (15 ∷ 0 ∷ [])
+    order P is = order_found direct_config P parts (15 ∷ 0 ∷ []) 2 refl is 2 (lit≤ tt) (begun.pending P is)
+
+-- so that none makes it is no answer
+pub unmade_refused : IsOrderAnswer direct_config parts 2 (15 ∷ 0 ∷ []) false → ⊥
+unmade_refused h = absurd (true≢false (sym ((h.made fifteen_first whole).1 ((order_answer.1.made fifteen_first whole).0 refl))))
 
 -- the home of 31 is slot 15, so in slot 0 it is far; in slot 15 key 15 is not
 pub far : IsFar direct_config parts (waiting 0) × (IsFar direct_config parts (waiting 15) → ⊥)

@@ -1,12 +1,14 @@
 -- The search for the key of a slot, a group at a time: the slot's position in the probe order, and what the groups say.
-use Rattle.std.proofs.Common.{◌≡◌, ℕ, ◌+◌, ◌-◌, ◌*◌, ◌%◌, ◌<◌, ◌≤◌, ◌↔◌, inl, inr, sym, ap, ◌∙◌, subst, arith, Bool, true, false, true≢false, IsTrue, List, length, refl}
-use Rattle.std.proofs.Math.Nat.{mod-eq_of_lt, add-mod_right}
+use Rattle.std.proofs.Common.{◌≡◌, ℕ, ◌+◌, ◌-◌, ◌*◌, ◌%◌, ◌<◌, ◌≤◌, ◌↔◌, inl, inr, sym, ap, ◌∙◌, subst, arith, Bool, true, false, true≢false, IsTrue, List, length, refl, ◌^◌, bit_and, pow-add}
+use Rattle.std.proofs.Math.Nat.{mod-eq_of_lt, add-mod_right, mod-mod_of_dvd, mul-mod_right, add-mul-mod_self_left}
 use Rattle.std.proofs.lemmas.Bool.{cases_lt}
+use Rattle.std.proofs.lemmas.Nat.Gcd.{dvd_of_mod-eq-zero}
 use Rattle.odht_base.specs.Format.{Format, home}
 use Rattle.odht_base.specs.Load.{IsSlotCount}
 use Rattle.odht_base.specs.Probe.{probe_slot}
 use Rattle.odht_base.specs.Search.{search_end, stops_at, is_at}
 use Rattle.odht_base.specs.Table.{Cells}
+use Rattle.odht_base.proofs.lemmas.SlotCounts.{exponent, few_slots, bit_and-slots}
 use Rattle.odht_base.proofs.lemmas.Orders.{probe_slot-lt, probe_slot-group, probe_slot-onto}
 use Rattle.odht_raw.proofs.lemmas.KeyPasses.{ends_there, ends_elsewhere}
 use Rattle.odht_raw.proofs.lemmas.ProbeSteps.{probe_slot-step}
@@ -136,3 +138,18 @@ module _ (h s b p i : ℕ) (count : IsSlotCount s) (aligned : p % 16 ≡ 0) (wit
     ends_earlier far others stopped =
         let n = later_position far others in
         sym (misses n.0 n.1 n.2 (λ all. stopped (group_passes 16 n.0 (omega arith) n.3 all)))
+
+-- how far slot a is behind the home h, around the end: their difference as it wraps, modulo the slot count
+pub distance : (a h s : ℕ) → IsSlotCount s → h < s → bit_and ((a + (2 ^ 64 - h)) % 2 ^ 64) (s - 1) ≡ (a + s - h) % s
+distance a h s count low =
+    let e = exponent s count in
+    let few = few_slots s count in
+    let m : ℕ = 2 ^ (64 - e.0) in
+    let sum : e.0 + (64 - e.0) ≡ 64 = omega (arith, e.2) in
+    let whole : 2 ^ 64 ≡ s * m = sym (ap (λ n. 2 ^ n) sum) ∙ pow-add 2 e.0 (64 - e.0) ∙ ap (λ n. n * m) (sym e.3) in
+    let round : a + (2 ^ 64 - h) + s ≡ a + s - h + s * m = omega (arith, whole, low, few) in
+    bit_and-slots ((a + (2 ^ 64 - h)) % 2 ^ 64) s count
+    ∙ mod-mod_of_dvd s (a + (2 ^ 64 - h)) (dvd_of_mod-eq-zero s (ap (λ n. n % s) whole ∙ mul-mod_right s m))
+    ∙ sym (add-mod_right (a + (2 ^ 64 - h)) s)
+    ∙ ap (λ n. n % s) round
+    ∙ add-mul-mod_self_left (a + s - h) s m

@@ -2,8 +2,7 @@
 use Rattle.std.proofs.Common.{◌≡◌, ◌<◌, ◌≤◌, ◌∙◌, ◌+◌, ◌-◌, ◌==◌, ◌&&◌, inl, inr, ℕ, zero, suc, Bool, true, false, true≢false, not, sym, ap, subst, refl, List, [], ◌∷◌, Option, Some, None, map, length, replicate, slice_index, arith, option_map}
 use Rattle.std.specs.List.{range_with_len, filter_map, cons_option, list_all}
 use Rattle.std.specs.Option.{option_or}
-use Rattle.std.specs.Prelude.{is_some, Result, Ok, Err, IfOk, OnErr}
-use Rattle.std.specs.Result.{result_err}
+use Rattle.std.specs.Prelude.{is_some}
 use Rattle.std.proofs.lemmas.Bool.{cases_lt}
 use Rattle.odht_base.specs.Format.{Format, entry_len, tag}
 use Rattle.odht_base.specs.Search.{search_end, is_at}
@@ -11,7 +10,7 @@ use Rattle.odht_base.specs.Decoded.{counts_as_free, decoded_cell, decoded_cells,
 use Rattle.odht_base.specs.Table.{Pair}
 use Rattle.odht_raw.specs.Checks.{cells_of, decoded_count, IsFitting}
 use Rattle.odht_raw.specs.Parts.{TableParts}
-use Rattle.odht_raw.specs.Summaries.{IsSummary, IsFirstUnreachable, occupied_before, AreRight, AreFree}
+use Rattle.odht_raw.specs.Summaries.{IsSummary, IsFirstUnreachable, occupied_before, HaveNoError, AreRight, AreFree}
 use Rattle.odht_header.specs.declared.error.Error.{Error}
 use Rattle.odht_header.specs.declared.error.Error.TheVariants.{NonZeroEmpty, BadFreeControl, ControlMismatch, Unreachable}
 use Rattle.odht_header.specs.Refusals.{◌gives◌, differs, first_of, hashes_refusal_at, bad_free_control, slot_refusal_at, slots_refusal, mirror_refusal, unreachable, reach_refusal}
@@ -73,6 +72,33 @@ count_next f a (suc n) =
     let last = ap (λ x. one (f x)) at in
     omega (arith, h, here, rest, last)
 
+-- ---- a slot, and those before it
+-- what holds of those before n and of n holds of those before n + 1
+pub one_more : (X : ℕ → Type 0) (n : ℕ) → ((i : ℕ) → i < n → X i) → X n → (i : ℕ) → i < n + 1 → X i
+one_more X n before here i l = elim (cases_lt i n) [
+  | inl low ↦ before i low
+  | inr past ↦ let same : n ≡ i = omega arith in subst X same here
+]
+
+module _ (F : Format) (T : TableParts) where
+  -- it has no error where neither look has one
+  pub passes : (i : ℕ) → hashes_refusal_at F T.entries.bytes T.control i ≡ None → bad_free_control T.control i ≡ None → slot_refusal_at F T.entries.bytes T.control i ≡ None
+  passes i e f = slot_refusal_at-is F T.entries.bytes T.control i ∙ None-option_or _ _ e f
+
+  -- at the first slot with an error
+  module _ (n : ℕ) (before : HaveNoError F T n) (low : n < length T.control - 16) (x : Error) where
+    refused : slot_refusal_at F T.entries.bytes T.control n ≡ Some x → slots_refusal F T.entries.bytes T.control ≡ Some x
+    unfolding slots_refusal
+    refused here = first_slot-at (slot_refusal_at F T.entries.bytes T.control) (length T.control - 16) n x low before here
+
+    -- that of a view
+    pub first_refused : hashes_refusal_at F T.entries.bytes T.control n ≡ Some x → slots_refusal F T.entries.bytes T.control ≡ Some x
+    first_refused e = refused (slot_refusal_at-is F T.entries.bytes T.control n ∙ option_or-first _ _ x e)
+
+    -- or that of a stray control byte
+    pub first_stray : hashes_refusal_at F T.entries.bytes T.control n ≡ None → bad_free_control T.control n ≡ Some x → slots_refusal F T.entries.bytes T.control ≡ Some x
+    first_stray e f = refused (slot_refusal_at-is F T.entries.bytes T.control n ∙ option_or-second _ _ e ∙ f)
+
 -- ---- the slots before n: none has an error, m of them are occupied, and where searches are made o is the first of
 -- these that is unreachable
 module _ (F : Format) (T : TableParts) (searches : Bool) where
@@ -87,16 +113,6 @@ module _ (F : Format) (T : TableParts) (searches : Bool) where
 
   occupied_next : (n : ℕ) → occupied_before F T (n + 1) ≡ occupied_before F T n + one (decoded_cell F es ctrl (0 + n))
   occupied_next n = let next : n + 1 ≡ suc n = omega arith in ap (occupied_before F T) next ∙ count_next (decoded_cell F es ctrl) 0 n
-
-  one_more : (X : ℕ → Type 0) (n : ℕ) → ((i : ℕ) → i < n → X i) → X n → (i : ℕ) → i < n + 1 → X i
-  one_more X n before here i l = elim (cases_lt i n) [
-    | inl low ↦ before i low
-    | inr past ↦ let same : n ≡ i = omega arith in subst X same here
-  ]
-
-  -- it has no error where neither look has one
-  passes : (i : ℕ) → hashes_refusal_at F es ctrl i ≡ None → bad_free_control ctrl i ≡ None → slot_refusal_at F es ctrl i ≡ None
-  passes i e f = slot_refusal_at-is F es ctrl i ∙ None-option_or _ _ e f
 
   -- after a free slot that has no error
   pub summary_right : (n m : ℕ) (o : Option ℕ) → Summary n m o → slot_refusal_at F es ctrl n ≡ None → counts_as_free (slice_index ctrl n) ≡ true → Summary (n + 1) m o
@@ -116,10 +132,6 @@ module _ (F : Format) (T : TableParts) (searches : Bool) where
       go None all = one_more (λ i. unreachable F es ctrl i ≡ None) n all reaches
       go (Some j) first = (omega (arith, first.0), first.1, first.2)
 
-  -- the same, by its two looks
-  pub summary_free : (n m : ℕ) (o : Option ℕ) → Summary n m o → hashes_refusal_at F es ctrl n ≡ None → counts_as_free (slice_index ctrl n) ≡ true → bad_free_control ctrl n ≡ None → Summary (n + 1) m o
-  summary_free n m o summary e free right = summary_right n m o summary (passes n e right) free
-
   -- after some of them
   pub summary_run : (d n m : ℕ) (o : Option ℕ) → Summary n m o → ((i : ℕ) → n ≤ i → i < n + d → (slot_refusal_at F es ctrl i ≡ None) × (counts_as_free (slice_index ctrl i) ≡ true)) → Summary (n + d) m o
   summary_run zero n m o summary right = let same : n ≡ n + 0 = omega arith in subst (λ k. Summary k m o) same summary
@@ -131,7 +143,7 @@ module _ (F : Format) (T : TableParts) (searches : Bool) where
   -- after an occupied one
   module _ (n m : ℕ) (o : Option ℕ) (summary : Summary n m o) (e : hashes_refusal_at F es ctrl n ≡ None) (occupied : counts_as_free (slice_index ctrl n) ≡ false) where
     occupied_passed : (i : ℕ) → i < n + 1 → slot_refusal_at F es ctrl i ≡ None
-    occupied_passed = one_more (λ i. slot_refusal_at F es ctrl i ≡ None) n summary.passed (passes n e (bad_free_control-occupied ctrl n occupied))
+    occupied_passed = one_more (λ i. slot_refusal_at F es ctrl i ≡ None) n summary.passed (passes F T n e (bad_free_control-occupied ctrl n occupied))
 
     occupied_counted : m + 1 ≡ occupied_before F T (n + 1)
     occupied_counted = let more = occupied_next n in let some = ap one shows in omega (arith, summary.counted, more, some)
@@ -165,20 +177,6 @@ module _ (F : Format) (T : TableParts) (searches : Bool) where
         here : IsFitting F T → (not (counts_as_free (slice_index ctrl n)) && not ends) ≡ true
         here fitting = rw (occupied, sym (known fitting)) refl
 
-  -- ---- at the first slot with an error
-  module _ (n m : ℕ) (o : Option ℕ) (summary : Summary n m o) (low : n < length ctrl - 16) (x : Error) where
-    refused : slot_refusal_at F es ctrl n ≡ Some x → slots_refusal F es ctrl ≡ Some x
-    unfolding slots_refusal
-    refused here = first_slot-at (slot_refusal_at F es ctrl) (length ctrl - 16) n x low summary.passed here
-
-    -- that of a view
-    pub summary_refused : hashes_refusal_at F es ctrl n ≡ Some x → slots_refusal F es ctrl ≡ Some x
-    summary_refused e = refused (slot_refusal_at-is F es ctrl n ∙ option_or-first _ _ x e)
-
-    -- or that of a stray control byte
-    pub summary_stray : hashes_refusal_at F es ctrl n ≡ None → bad_free_control ctrl n ≡ Some x → slots_refusal F es ctrl ≡ Some x
-    summary_stray e f = refused (slot_refusal_at-is F es ctrl n ∙ option_or-second _ _ e ∙ f)
-
   -- ---- at the end
   module _ (n m : ℕ) (o : Option ℕ) (summary : Summary n m o) (all : length ctrl - 16 ≡ n) where
     -- no slot has an error
@@ -211,17 +209,3 @@ module _ (F : Format) (T : TableParts) (searches : Bool) where
       few : (n : ℕ) → occupied_before F T n ≤ n
       few zero = omega arith
       few (suc n) = let h = count_next (decoded_cell F es ctrl) 0 n in let l = at_most (decoded_cell F es ctrl (0 + n)) in omega (arith, h, l, few n)
-
-  -- ---- an answer from what is known at the end
-  module _ {X : Type 0} (occupied : X → ℕ) (first : X → Option ℕ) (n : ℕ) (all : length ctrl - 16 ≡ n) where
-    pub answer_err : (r : Result X Error) → OnErr r (result_err r ≡ slots_refusal F es ctrl) → IfOk r (λ x. Summary n (occupied x) (first x)) → result_err r ≡ slots_refusal F es ctrl
-    answer_err (Ok x) err ok = sym (all_passed n (occupied x) (first x) ok all)
-    answer_err (Err e) err ok = err
-
-    pub answer_occupied : (r : Result X Error) → IfOk r (λ x. Summary n (occupied x) (first x)) → IfOk r (λ x. occupied x ≡ decoded_count F T)
-    answer_occupied (Ok x) ok = all_counted n (occupied x) (first x) ok all
-    answer_occupied (Err e) ok = tt
-
-    pub answer_reached : (r : Result X Error) → IfOk r (λ x. Summary n (occupied x) (first x)) → searches ≡ true → mirror_refusal ctrl ≡ None → IfOk r (λ x. option_map Unreachable (first x) ≡ reach_refusal F es ctrl)
-    answer_reached (Ok x) ok made mirror = all_reached n (occupied x) (first x) ok all made mirror
-    answer_reached (Err e) ok made mirror = tt

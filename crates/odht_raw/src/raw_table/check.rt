@@ -5,14 +5,15 @@ ghost use Rattle.std.specs.Result.{result_err};
 ghost use Rattle.odht_base.specs.Bytes.{bytes_at};
 ghost use Rattle.odht_base.specs.Format.{format_of, tag as key_tag};
 ghost use Rattle.odht_base.specs.Groups.{free_in, occupied};
-ghost use Rattle.odht_base.specs.Search.{search_end, is_at};
 ghost use Rattle.odht_base.specs.Decoded.{counts_as_free, slot_key};
-ghost use Rattle.odht_raw.specs.Checks.{cells_of, decoded_count, IsFitting, ArePassed, IsLookAt};
-ghost use Rattle.odht_raw.specs.Summaries.{IsSummary, AreFree, AreRight, IsFreeSlot};
+ghost use Rattle.odht_raw.specs.Checks.{decoded_count, IsFitting, ArePassed, IsLookAt};
+ghost use Rattle.odht_raw.specs.Checks.{IsHashAt, IsReachAnswer};
+ghost use Rattle.odht_raw.specs.Summaries.{IsKnown, IsFirstError, HaveNoError, AreFree, AreRight};
+ghost use Rattle.odht_raw.specs.Summaries.{IsFreeSlot};
 ghost use Rattle.odht_header.specs.Refusals.{checked, bad_free_control, slots_refusal};
 ghost use Rattle.odht_header.specs.Refusals.{mirror_refusal, reach_refusal};
 
-use super::{FREE, ProbeSeq, RawTable, Scan, tag_of};
+use super::{FREE, ProbeSeq, RawTable, Scan, is_empty_or_deleted, tag_of};
 use crate::bytes::{ByteArray, is_zeros};
 use crate::error::Error;
 use crate::hash::HashFn;
@@ -61,7 +62,7 @@ impl<'a, K: ByteArray, V: ByteArray, H: HashFn> RawTable<'a, K, V, H> {
             let size = (slots - start).min(IndexSet::CAPACITY);
             let (free, others) = free_and_occupied(&self.control[start..start + size]);
             if !self.are_free(start, free) {
-                return self.check_from(start, searches, summary);
+                self.check_in_order(start, size)?;
             }
             summary = self.take_others(start, size, others, searches, summary)?;
             start += size;
@@ -69,39 +70,22 @@ impl<'a, K: ByteArray, V: ByteArray, H: HashFn> RawTable<'a, K, V, H> {
         Ok(summary)
     }
 
-    // `check_slots` of the slots from `start` on, each in its order, from what is known of those before them.
+    // The first error of the `size` slots from `start` on, each looked at in its order. Those before have none.
     #[inline(never)]
-    fn check_from(
-        &self,
-        start: usize,
-        searches: bool,
-        before: SlotSummary,
-    ) -> Result<SlotSummary, Error>
-        requires start { start ≤ self.now.entries.slots }
-        requires known { IsSummary (format_of K.LEN V.LEN H.hash) self.now searches start
-            before.occupied before.unreachable }
-        ensures err { OnErr result (result_err result ≡ slots_refusal (format_of K.LEN V.LEN H.hash)
-            self.now.entries.bytes self.now.control) }
-        ensures ok { IfOk result (λ summary. IsSummary (format_of K.LEN V.LEN H.hash) self.now
-            searches self.now.entries.slots summary.occupied summary.unreachable) }
+    fn check_in_order(&self, start: usize, size: usize) -> Result<(), Error>
+        requires size { start + size ≤ self.now.entries.slots }
+        requires before { HaveNoError (format_of K.LEN V.LEN H.hash) self.now start }
+        ensures err { IsFirstError (format_of K.LEN V.LEN H.hash) self.now result }
+        ensures ok { let F = format_of K.LEN V.LEN H.hash
+            in IfOk result (λ _. HaveNoError F self.now (start + size)) }
     {
-        let mut occupied = before.occupied;
-        let mut unreachable = before.unreachable;
-        for slot in start..self.entries.len() {
-            match self.check_slot(slot)? {
-                None => self.check_free_control(slot)?,
-                Some(hash) => {
-                    occupied += 1;
-                    if searches && unreachable.is_none() && !self.is_reached(slot, hash) {
-                        unreachable = Some(slot);
-                    }
-                }
-            }
+        // Its invariant is used: slots and control bytes are as many as fit in a `usize`.
+        let _ = &self.control;
+        for slot in start..start + size {
+            self.check_slot(slot)?;
+            self.check_free_control(slot)?;
         }
-        Ok(SlotSummary {
-            occupied,
-            unreachable,
-        })
+        Ok(())
     }
 
     // What is known after a span of `size` slots from `start` on, of which the free ones have no error, from what is
@@ -119,12 +103,10 @@ impl<'a, K: ByteArray, V: ByteArray, H: HashFn> RawTable<'a, K, V, H> {
         requires others { others ≡ occupied (bytes_at self.now.control start size) }
         requires free { AreRight (format_of K.LEN V.LEN H.hash) self.now start
             (free_in (bytes_at self.now.control start size)) }
-        requires known { IsSummary (format_of K.LEN V.LEN H.hash) self.now searches start
-            before.occupied before.unreachable }
-        ensures err { OnErr result (result_err result ≡ slots_refusal (format_of K.LEN V.LEN H.hash)
-            self.now.entries.bytes self.now.control) }
-        ensures ok { IfOk result (λ summary. IsSummary (format_of K.LEN V.LEN H.hash) self.now
-            searches (start + size) summary.occupied summary.unreachable) }
+        requires known { IsKnown (format_of K.LEN V.LEN H.hash) self.now searches start before }
+        ensures err { IsFirstError (format_of K.LEN V.LEN H.hash) self.now result }
+        ensures ok { let F = format_of K.LEN V.LEN H.hash
+            in IfOk result (IsKnown F self.now searches (start + size)) }
     {
         // Its invariant is used: slots and control bytes are as many as fit in a `usize`.
         let _ = &self.control;
@@ -173,15 +155,14 @@ impl<'a, K: ByteArray, V: ByteArray, H: HashFn> RawTable<'a, K, V, H> {
         self.control[slot] == FREE && is_zeros(self.entries.bytes_of(slot))
     }
 
-    // Whether the control byte of a slot that counts as free is `FREE`; else `BadFreeControl`.
+    // `BadFreeControl` where the control byte of a slot counts as free and is not `FREE`.
     #[inline]
     fn check_free_control(&self, slot: usize) -> Result<(), Error>
-        requires slot { slot < self.now.entries.slots }
-        requires free { IsTrue (counts_as_free (slice_index self.now.control slot)) }
+        requires { slot < self.now.entries.slots }
         ensures { result ≡ checked (bad_free_control self.now.control slot) }
     {
         let found = self.control[slot];
-        if found == FREE {
+        if found == FREE || !is_empty_or_deleted(found) {
             Ok(())
         } else {
             Err(Error::BadFreeControl { slot, found })
@@ -197,18 +178,13 @@ impl<'a, K: ByteArray, V: ByteArray, H: HashFn> RawTable<'a, K, V, H> {
     #[inline]
     fn is_reached(&self, slot: usize, hash: u32) -> bool
         requires slot { slot < self.now.entries.slots }
-        requires hash { hash
-            ≡ H.hash (slot_key (format_of K.LEN V.LEN H.hash) self.now.entries.bytes slot) }
-        ensures { let F = format_of K.LEN V.LEN H.hash
-            in IsFitting F self.now
-            → result ≡ is_at slot
-            (search_end F (cells_of F self.now) (slot_key F self.now.entries.bytes slot)) }
+        requires hash { IsHashAt (format_of K.LEN V.LEN H.hash) self.now slot hash }
+        ensures { IsReachAnswer (format_of K.LEN V.LEN H.hash) self.now slot result }
     {
-        let slots = self.entries.len();
-        let mask = slots - 1;
+        let mask = self.entries.len() - 1;
         let home = hash as usize & mask;
-        let before = (slot + slots - home) & mask;
-        let group = self.look_at(home, tag_of(hash));
+        let before = slot.wrapping_sub(home) & mask;
+        let group = self.query_at(home, tag_of(hash));
         if before < REFERENCE_GROUP_SIZE
             && group.first_empty().unwrap_or(REFERENCE_GROUP_SIZE) >= before
             && group.first_match().unwrap_or(REFERENCE_GROUP_SIZE) >= before
@@ -224,14 +200,10 @@ impl<'a, K: ByteArray, V: ByteArray, H: HashFn> RawTable<'a, K, V, H> {
     #[inline(never)]
     fn is_reached_late(&self, slot: usize, hash: u32, first: GroupQuery) -> bool
         requires slot { slot < self.now.entries.slots }
-        requires hash { hash
-            ≡ H.hash (slot_key (format_of K.LEN V.LEN H.hash) self.now.entries.bytes slot) }
+        requires hash { IsHashAt (format_of K.LEN V.LEN H.hash) self.now slot hash }
         requires group { IsLookAt (bytes_at self.now.control (hash % self.now.entries.slots) 16)
             (hash / 2 ^ 25) first }
-        ensures { let F = format_of K.LEN V.LEN H.hash
-            in IsFitting F self.now
-            → result ≡ is_at slot
-            (search_end F (cells_of F self.now) (slot_key F self.now.entries.bytes slot)) }
+        ensures { IsReachAnswer (format_of K.LEN V.LEN H.hash) self.now slot result }
     {
         let slots = self.entries.len();
         let mask = slots - 1;
@@ -248,13 +220,13 @@ impl<'a, K: ByteArray, V: ByteArray, H: HashFn> RawTable<'a, K, V, H> {
                 return false;
             }
             probe.advance(mask);
-            group = self.look_at(probe.index(), tag);
+            group = self.query_at(probe.index(), tag);
         }
     }
 
     // The search for a tag in the group of sixteen control bytes from that of slot `start` on.
     #[inline]
-    fn look_at(&self, start: usize, tag: u8) -> GroupQuery
+    fn query_at(&self, start: usize, tag: u8) -> GroupQuery
         requires start { start < self.now.entries.slots }
         requires tag { tag < 128 }
         ensures { IsLookAt (bytes_at self.now.control start 16) tag result }
@@ -287,26 +259,12 @@ impl<'a, K: ByteArray, V: ByteArray, H: HashFn> RawTable<'a, K, V, H> {
             if index >= count {
                 return true;
             }
-            if self.have_same_key((start + index) & mask, slot) {
+            if self.entries.have_same_key((start + index) & mask, slot) {
                 return false;
             }
             group.drop_match();
         }
         true
-    }
-
-    // Whether the entries of two slots have the same key.
-    #[inline]
-    fn have_same_key(&self, slot: usize, other: usize) -> bool
-        requires slot { slot < self.now.entries.slots }
-        requires other { other < self.now.entries.slots }
-        ensures { let key = slot_key (format_of K.LEN V.LEN H.hash) self.now.entries.bytes
-            in IsTrue result ↔ (key slot ≡ key other) }
-    {
-        self.entries
-            .get(slot)
-            .key
-            .equals(&self.entries.get(other).key)
     }
 
     /// Compares the mirror with the control bytes of the first sixteen slots; `MirrorMismatch` of the first index that

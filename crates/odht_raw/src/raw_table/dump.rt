@@ -24,7 +24,7 @@ impl<'a, K: ByteArray, V: ByteArray, H: HashFn> RawTable<'a, K, V, H> {
     }
 
     // Writes the line of a slot.
-    fn write_slot<W: fmt::Write>(&self, slot: usize, f: &mut fmt::Formatter<W>) -> fmt::Result
+    fn write_slot_line<W: fmt::Write>(&self, slot: usize, f: &mut fmt::Formatter<W>) -> fmt::Result
         requires { slot < self.now.entries.slots }
         ensures { DisplaysOnOk W.write_str_gives f.old result
             (slot_text (entry_format K.LEN V.LEN)
@@ -56,7 +56,7 @@ impl<'a, K: ByteArray, V: ByteArray, H: HashFn> fmt::Debug for RawTable<'a, K, V
     fn fmt<W: fmt::Write>(&self, f: &mut fmt::Formatter<W>) -> fmt::Result {
         self.write_head(f)?;
         for slot in 0..self.entries.len() {
-            self.write_slot(slot, f)?;
+            self.write_slot_line(slot, f)?;
         }
         writeln!(f, "}}")
     }

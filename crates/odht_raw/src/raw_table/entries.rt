@@ -152,4 +152,15 @@ impl<'a, K: ByteArray, V: ByteArray> Entries<'a, K, V> {
         }
         K::from_slice(front).equals(key)
     }
+
+    // Whether the keys of two slots are equal. They are compared where they stand.
+    #[inline]
+    pub(crate) fn have_same_key(&self, slot: usize, other: usize) -> bool
+        requires slot { slot < self.now.slots }
+        requires other { other < self.now.slots }
+        ensures { let key = slot_key (entry_format K.LEN V.LEN) self.now.bytes
+            in IsTrue result ↔ (key slot ≡ key other) }
+    {
+        is_same_bytes(self.key_bytes_of(slot), self.key_bytes_of(other))
+    }
 }

@@ -4,15 +4,14 @@ ghost use Rattle.std.specs.Prelude.{slice_index};
 ghost use Rattle.std.specs.Prelude.{IsTrue, All, AllPairs, Contains, IsPermutation};
 ghost use Rattle.odht_base.specs.Format.{format_of};
 ghost use Rattle.odht_base.specs.Load.{IsSlotCount};
-ghost use Rattle.odht_base.specs.Made.{IsMade, IsInsertOrder};
 ghost use Rattle.odht_base.specs.Ready.{IsReady};
 ghost use Rattle.odht_base.specs.Decoded.{slot_key};
 ghost use Rattle.odht_base.specs.Table.{Table, Pair};
 ghost use Rattle.odht_base.specs.Valid.{HoldsPair, IsPartsOf};
 ghost use Rattle.odht_raw.specs.Frontiers.{AreFrontiers};
 ghost use Rattle.odht_raw.specs.Waiting.{waiting, placed_of, IsWaiting, AreRising, IsPending};
-ghost use Rattle.odht_raw.specs.Waiting.{AreWholeParts, AreListed, IsBegun, IsFar, IsPass, IsLeft};
-ghost use Rattle.odht_raw.specs.Waiting.{IsFrontier, IsUnblocked, WaitsWithin, WaitsBehind};
+ghost use Rattle.odht_raw.specs.Waiting.{IsWhole, IsOrderAnswer, AreListed, IsBegun, IsFar, IsPass};
+ghost use Rattle.odht_raw.specs.Waiting.{IsLeft, IsFrontier, IsUnblocked, WaitsWithin, WaitsBehind};
 
 use super::RawTable;
 use super::waiting::{WAITING, list_occupied};
@@ -49,17 +48,9 @@ impl<'a, K: ByteArray, V: ByteArray, H: HashFn> RawTable<'a, K, V, H> {
     /// each group up to its own, but for those that were passed before from the same home, as far as that is kept, for
     /// 64 homes. After each pass the slots that still wait are sorted. It allocates nothing.
     pub fn insert_order(&self, out: &mut [usize]) -> bool
-        requires whole { let F = format_of K.LEN V.LEN H.hash
-            in (P : Table) × AreWholeParts F P self.now (length out.old) }
-        ensures order { let F = format_of K.LEN V.LEN H.hash
-            in (P : Table)
-            → AreWholeParts F P self.now (length out.old)
-            → IsTrue result
-            → IsInsertOrder F P out.new }
-        ensures made { let F = format_of K.LEN V.LEN H.hash
-            in (P : Table)
-            → AreWholeParts F P self.now (length out.old)
-            → (IsTrue result ↔ IsMade F P) }
+        requires whole { IsWhole (format_of K.LEN V.LEN H.hash) self.now (length out.old) }
+        ensures { let F = format_of K.LEN V.LEN H.hash
+            in IsOrderAnswer F self.now (length out.old) out.new result }
     {
         list_occupied(self.control, self.entries.len(), out);
         let near = self.place_near(out);
@@ -72,8 +63,7 @@ impl<'a, K: ByteArray, V: ByteArray, H: HashFn> RawTable<'a, K, V, H> {
     // Places slots in their order, as long as each is near its home. None that waits is before it in the probe order of
     // its key then, so that it is ready. Answers how many were placed.
     fn place_near(&self, slots: &mut [usize]) -> usize
-        requires whole { let F = format_of K.LEN V.LEN H.hash
-            in (P : Table) × AreWholeParts F P self.now (length slots.old) }
+        requires whole { IsWhole (format_of K.LEN V.LEN H.hash) self.now (length slots.old) }
         requires begun { IsBegun (format_of K.LEN V.LEN H.hash) self.now slots.old 0 }
         ensures begun { IsBegun (format_of K.LEN V.LEN H.hash) self.now slots.new result }
         ensures far { result < length slots.new
@@ -96,18 +86,10 @@ impl<'a, K: ByteArray, V: ByteArray, H: HashFn> RawTable<'a, K, V, H> {
     // It is a call of its own, since it sets the frontiers up, and most tables with few pairs need none.
     #[inline(never)]
     fn place_others(&self, out: &mut [usize], placed: usize) -> bool
-        requires whole { let F = format_of K.LEN V.LEN H.hash
-            in (P : Table) × AreWholeParts F P self.now (length out.old) }
+        requires whole { IsWhole (format_of K.LEN V.LEN H.hash) self.now (length out.old) }
         requires begun { IsBegun (format_of K.LEN V.LEN H.hash) self.now out.old placed }
-        ensures order { let F = format_of K.LEN V.LEN H.hash
-            in (P : Table)
-            → AreWholeParts F P self.now (length out.old)
-            → IsTrue result
-            → IsInsertOrder F P out.new }
-        ensures made { let F = format_of K.LEN V.LEN H.hash
-            in (P : Table)
-            → AreWholeParts F P self.now (length out.old)
-            → (IsTrue result ↔ IsMade F P) }
+        ensures { let F = format_of K.LEN V.LEN H.hash
+            in IsOrderAnswer F self.now (length out.old) out.new result }
     {
         // Its invariant is used: the slots are a slot count.
         let _ = &self.control;
@@ -193,7 +175,8 @@ impl<'a, K: ByteArray, V: ByteArray, H: HashFn> RawTable<'a, K, V, H> {
             in result
             ≡ F.hash (slot_key F self.now.entries.bytes slot) % self.now.entries.slots }
     {
-        let key = self.entries.get(slot).key;
+        // Hashed as a slice of the entries, long keys take more instructions.
+        let key = K::from_slice(self.entries.key_bytes_of(slot));
         H::hash(key.as_slice()) as usize & (self.entries.len() - 1)
     }
 }

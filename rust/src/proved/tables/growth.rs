@@ -65,12 +65,12 @@ pub(crate) fn write_grown<C: Config, D: ByteStore>(
     let factor = header.max_load_factor();
     let (control, entries) = table.allocation.data_slices();
     let walk = RawIter::new(control, entries);
-    write_table::<C>(out, slot_count, item_count, factor, walk);
+    write_walked::<C>(out, slot_count, item_count, factor, walk);
 }
 
 // Writes the table of so many slots with the items of the walk into bytes whose entries are zeros. The new header gets
 // `item_count`, whatever the walk gives.
-fn write_table<C: Config>(
+fn write_walked<C: Config>(
     bytes: &mut [u8],
     slot_count: usize,
     item_count: usize,

@@ -172,7 +172,7 @@ impl<C: Config> HashTableOwned<C> {
     // `insert` of an absent key at the maximum: into the grown table.
     #[inline(never)]
     fn insert_grown(&mut self, key: &C::Key, value: &C::Value) -> Result<Option<C::Value>, Error> {
-        let Ok(mut grown) = self.grown() else {
+        let Ok(mut grown) = self.grown_table() else {
             return Err(Error::Memory);
         };
         let Ok(old) = grown.insert(key, value) else {
@@ -186,7 +186,7 @@ impl<C: Config> HashTableOwned<C> {
     // The pairs of this table, placed in slot order into a table with the slots for twice as many, and for one at
     // least.
     #[inline(never)]
-    fn grown(&self) -> Result<HashTable<C, OwnedBytes>, Error> {
+    fn grown_table(&self) -> Result<HashTable<C, OwnedBytes>, Error> {
         let Some((slot_count, len)) = grown_layout::<C>(&self.table.allocation.header()) else {
             return Err(Error::Memory);
         };

@@ -40,7 +40,7 @@ pub fn get_all<C: Config, A: Answers<Option<C::Value>>>(
 ) {
     let from = get_batches::<C, A>(raw, keys, answers);
     for index in from..keys.len() {
-        let look = look_at::<C>(raw, keys, index);
+        let look = first_look_at::<C>(raw, keys, index);
         get_one::<C, A>(raw, look, keys, index, answers);
     }
 }
@@ -67,14 +67,14 @@ fn get_eight<C: Config, A: Answers<Option<C::Value>>>(
     from: usize,
     answers: &mut A,
 ) {
-    let first = look_at::<C>(raw, keys, from);
-    let second = look_at::<C>(raw, keys, from + 1);
-    let third = look_at::<C>(raw, keys, from + 2);
-    let fourth = look_at::<C>(raw, keys, from + 3);
-    let fifth = look_at::<C>(raw, keys, from + 4);
-    let sixth = look_at::<C>(raw, keys, from + 5);
-    let seventh = look_at::<C>(raw, keys, from + 6);
-    let eighth = look_at::<C>(raw, keys, from + 7);
+    let first = first_look_at::<C>(raw, keys, from);
+    let second = first_look_at::<C>(raw, keys, from + 1);
+    let third = first_look_at::<C>(raw, keys, from + 2);
+    let fourth = first_look_at::<C>(raw, keys, from + 3);
+    let fifth = first_look_at::<C>(raw, keys, from + 4);
+    let sixth = first_look_at::<C>(raw, keys, from + 5);
+    let seventh = first_look_at::<C>(raw, keys, from + 6);
+    let eighth = first_look_at::<C>(raw, keys, from + 7);
     get_one::<C, A>(raw, first, keys, from, answers);
     get_one::<C, A>(raw, second, keys, from + 1, answers);
     get_one::<C, A>(raw, third, keys, from + 2, answers);
@@ -99,7 +99,7 @@ fn get_one<C: Config, A: Answers<Option<C::Value>>>(
 
 // The first look of the search for the key at an index, which `find_at` continues. It reads one group of control bytes.
 #[inline(always)]
-fn look_at<C: Config>(
+fn first_look_at<C: Config>(
     raw: &RawTable<'_, C::EncodedKey, C::EncodedValue, C::H>,
     keys: &[C::Key],
     index: usize,
@@ -107,7 +107,7 @@ fn look_at<C: Config>(
     raw.first_look(&C::encode_key(&index!(keys[index])))
 }
 
-// The value of the key at an index, from its first look by `look_at`. The key is encoded once more.
+// The value of the key at an index, from its first look by `first_look_at`. The key is encoded once more.
 #[inline(always)]
 fn find_at<C: Config>(
     raw: &RawTable<'_, C::EncodedKey, C::EncodedValue, C::H>,

@@ -15,8 +15,8 @@ use Rattle.odht.proofs.lemmas.Growths.{grown_placed, grown_image}
 use Rattle.odht.proofs.lemmas.ViewInserts.{count_header, factor_header}
 use Rattle.odht.proofs.growth.write_grown.Goals as goal
 
-pub write_table-requires-clause-slots : goal.write_table-requires-clause-slots
-write_table-requires-clause-slots g c κs within = (slots_for-IsLeastSlots _ _ _ c.requires.slots).is_count
+pub write_walked-requires-clause-slots : goal.write_walked-requires-clause-slots
+write_walked-requires-clause-slots g c κs within = (slots_for-IsLeastSlots _ _ _ c.requires.slots).is_count
 
 -- the written bytes are those of the grown table
 pub returns-clause-on_valid : goal.returns-clause-on_valid
@@ -41,28 +41,28 @@ returns-clause-on_valid g c P is =
     let q = grown_placed F P is.valid s enough in
     let placed : place_all F (empty s c.max_load_factor-factor.result.0) (map (stored key.bytes value.bytes) c.new-walk.result) ≡ Some q.0 = (λ i. place_all F (empty s (factor i)) (pairs i)) ∙ q.1 in
     let apart : KeysApart (map (stored key.bytes value.bytes) c.new-walk.result) = subst KeysApart (sym pairs) (walk-KeysApart F P is.valid.placed) in
-    let bytes : c.write_table.new.bytes ≡ header_bytes F s (count P) P.factor ++ parts F q.0.cells =
-    c.write_table.ensures.placed q.0 apart placed ∙ (λ i. header_bytes F s (items i) (factor i) ++ parts F q.0.cells) in
-    let is_grown = grown_image F P is.valid s enough q.0 q.1 c.write_table.new.bytes bytes in
+    let bytes : c.write_walked.new.bytes ≡ header_bytes F s (count P) P.factor ++ parts F q.0.cells =
+    c.write_walked.ensures.placed q.0 apart placed ∙ (λ i. header_bytes F s (items i) (factor i) ++ parts F q.0.cells) in
+    let is_grown = grown_image F P is.valid s enough q.0 q.1 c.write_walked.new.bytes bytes in
     (q.0, is_grown.0, is_grown.1)
 
 -- the new header has the item count and the load factor of the old one
 pub returns-clause-accepted : goal.returns-clause-accepted
 returns-clause-accepted g c =
     let F : Format = format_of g.C.EncodedKey.ByteArray.LEN g.C.EncodedValue.ByteArray.LEN g.C.H.HashFn.hash in
-    headed_accepted F c.write_table.new.bytes c.args.slot_count c.item_count-item_count.result c.max_load_factor-factor.result.0 c.write_table.ensures.header
-    (slots_for-IsLeastSlots _ _ _ c.requires.slots).is_count (omega (arith, c.write_table.auto.bytes, c.requires.len))
+    headed_accepted F c.write_walked.new.bytes c.args.slot_count c.item_count-item_count.result c.max_load_factor-factor.result.0 c.write_walked.ensures.header
+    (slots_for-IsLeastSlots _ _ _ c.requires.slots).is_count (omega (arith, c.write_walked.auto.bytes, c.requires.len))
 
 pub returns-clause-count : goal.returns-clause-count
 returns-clause-count g c =
     let F : Format = format_of g.C.EncodedKey.ByteArray.LEN g.C.EncodedValue.ByteArray.LEN g.C.H.HashFn.hash in
     let header = c.header-header.ensures.bytes ∙ ap g.D.ByteStore.bytes c.table.view_is in
-    headed_count F c.write_table.new.bytes c.args.slot_count c.item_count-item_count.result c.max_load_factor-factor.result.0 c.write_table.ensures.header c.item_count-item_count.type_inv
+    headed_count F c.write_walked.new.bytes c.args.slot_count c.item_count-item_count.result c.max_load_factor-factor.result.0 c.write_walked.ensures.header c.item_count-item_count.type_inv
     ∙ c.item_count-item_count.ensures ∙ ap header_count header
 
 pub returns-clause-factor : goal.returns-clause-factor
 returns-clause-factor g c =
     let F : Format = format_of g.C.EncodedKey.ByteArray.LEN g.C.EncodedValue.ByteArray.LEN g.C.H.HashFn.hash in
     let header = c.header-header.ensures.bytes ∙ ap g.D.ByteStore.bytes c.table.view_is in
-    headed_factor F c.write_table.new.bytes c.args.slot_count c.item_count-item_count.result c.max_load_factor-factor.result.0 c.write_table.ensures.header c.max_load_factor-factor.type_inv.1.1.0.1
+    headed_factor F c.write_walked.new.bytes c.args.slot_count c.item_count-item_count.result c.max_load_factor-factor.result.0 c.write_walked.ensures.header c.max_load_factor-factor.type_inv.1.1.0.1
     ∙ c.max_load_factor-factor.ensures ∙ ap header_factor header

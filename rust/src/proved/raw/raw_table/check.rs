@@ -39,7 +39,7 @@ impl<'a, K: ByteArray, V: ByteArray, H: HashFn> RawTable<'a, K, V, H> {
             let size = (slots - start).min(IndexSet::CAPACITY);
             let (free, others) = free_and_occupied(&self.control[start..start + size]);
             if !self.are_free(start, free) {
-                return self.check_from(start, searches, summary);
+                self.check_in_order(start, size)?;
             }
             summary = self.take_others(start, size, others, searches, summary)?;
             start += size;
@@ -47,28 +47,16 @@ impl<'a, K: ByteArray, V: ByteArray, H: HashFn> RawTable<'a, K, V, H> {
         Ok(summary)
     }
 
-    // `check_slots` of the slots from `start` on, each in its order, from what is known of those before them.
+    // The first error of the `size` slots from `start` on, each looked at in its order. Those before have none.
     #[inline(never)]
-    fn check_from(
-        &self,
-        start: usize,
-        searches: bool,
-        before: SlotSummary,
-    ) -> Result<SlotSummary, Error> {
-        let mut occupied = before.occupied;
-        let mut unreachable = before.unreachable;
-        for slot in start..self.entries.len() {
-            match self.check_slot(slot)? {
-                None => self.check_free_control(slot)?,
-                Some(hash) => {
-                    occupied += 1;
-                    if searches && unreachable.is_none() && !self.is_reached(slot, hash) {
-                        unreachable = Some(slot);
-                    }
-                }
-            }
+    fn check_in_order(&self, start: usize, size: usize) -> Result<(), Error> {
+        // Its invariant is used: slots and control bytes are as many as fit in a `usize`.
+        let _ = &self.control;
+        for slot in start..start + size {
+            self.check_slot(slot)?;
+            self.check_free_control(slot)?;
         }
-        Ok(SlotSummary { occupied, unreachable })
+        Ok(())
     }
 
     // What is known after a span of `size` slots from `start` on, of which the free ones have no error, from what is
@@ -120,11 +108,11 @@ impl<'a, K: ByteArray, V: ByteArray, H: HashFn> RawTable<'a, K, V, H> {
         self.control[slot] == FREE && is_zeros(self.entries.bytes_of(slot))
     }
 
-    // Whether the control byte of a slot that counts as free is `FREE`; else `BadFreeControl`.
+    // `BadFreeControl` where the control byte of a slot counts as free and is not `FREE`.
     #[inline]
     fn check_free_control(&self, slot: usize) -> Result<(), Error> {
         let found = self.control[slot];
-        if found == FREE {
+        if found == FREE || !is_empty_or_deleted(found) {
             Ok(())
         } else {
             Err(Error::BadFreeControl { slot, found })
@@ -139,11 +127,10 @@ impl<'a, K: ByteArray, V: ByteArray, H: HashFn> RawTable<'a, K, V, H> {
     // Most keys are in the group of their home, with no free byte and no match before them: then this is all.
     #[inline]
     fn is_reached(&self, slot: usize, hash: u32) -> bool {
-        let slots = self.entries.len();
-        let mask = slots - 1;
+        let mask = self.entries.len() - 1;
         let home = hash as usize & mask;
-        let before = (slot + slots - home) & mask;
-        let group = self.look_at(home, tag_of(hash));
+        let before = slot.wrapping_sub(home) & mask;
+        let group = self.query_at(home, tag_of(hash));
         if before < REFERENCE_GROUP_SIZE
             && group.first_empty().unwrap_or(REFERENCE_GROUP_SIZE) >= before
             && group.first_match().unwrap_or(REFERENCE_GROUP_SIZE) >= before
@@ -173,13 +160,13 @@ impl<'a, K: ByteArray, V: ByteArray, H: HashFn> RawTable<'a, K, V, H> {
                 return false;
             }
             probe.advance(mask);
-            group = self.look_at(probe.index(), tag);
+            group = self.query_at(probe.index(), tag);
         }
     }
 
     // The search for a tag in the group of sixteen control bytes from that of slot `start` on.
     #[inline]
-    fn look_at(&self, start: usize, tag: u8) -> GroupQuery {
+    fn query_at(&self, start: usize, tag: u8) -> GroupQuery {
         let mut scan = Scan::new(self.control, self.entries.len());
         GroupQuery::of(scan.group(start), tag)
     }
@@ -197,18 +184,12 @@ impl<'a, K: ByteArray, V: ByteArray, H: HashFn> RawTable<'a, K, V, H> {
             if index >= count {
                 return true;
             }
-            if self.have_same_key((start + index) & mask, slot) {
+            if self.entries.have_same_key((start + index) & mask, slot) {
                 return false;
             }
             group.drop_match();
         }
         true
-    }
-
-    // Whether the entries of two slots have the same key.
-    #[inline]
-    fn have_same_key(&self, slot: usize, other: usize) -> bool {
-        self.entries.get(slot).key.equals(&self.entries.get(other).key)
     }
 
     /// Compares the mirror with the control bytes of the first sixteen slots; `MirrorMismatch` of the first index that

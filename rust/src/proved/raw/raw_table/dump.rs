@@ -15,7 +15,7 @@ impl<'a, K: ByteArray, V: ByteArray, H: HashFn> RawTable<'a, K, V, H> {
     }
 
     // Writes the line of a slot.
-    fn write_slot(&self, slot: usize, f: &mut fmt::Formatter<'_>) -> fmt::Result {
+    fn write_slot_line(&self, slot: usize, f: &mut fmt::Formatter<'_>) -> fmt::Result {
         let control_byte = self.control[slot];
         if is_empty_or_deleted(control_byte) {
             return writeln!(f, "slot {slot}: empty");
@@ -30,7 +30,7 @@ impl<'a, K: ByteArray, V: ByteArray, H: HashFn> fmt::Debug for RawTable<'a, K, V
     fn fmt(&self, f: &mut fmt::Formatter<'_>) -> fmt::Result {
         self.write_head(f)?;
         for slot in 0..self.entries.len() {
-            self.write_slot(slot, f)?;
+            self.write_slot_line(slot, f)?;
         }
         writeln!(f, "}}")
     }

@@ -92,4 +92,10 @@ impl<'a, K: ByteArray, V: ByteArray> Entries<'a, K, V> {
         }
         K::from_slice(front).equals(key)
     }
+
+    // Whether the keys of two slots are equal. They are compared where they stand.
+    #[inline]
+    pub(crate) fn have_same_key(&self, slot: usize, other: usize) -> bool {
+        is_same_bytes(self.key_bytes_of(slot), self.key_bytes_of(other))
+    }
 }

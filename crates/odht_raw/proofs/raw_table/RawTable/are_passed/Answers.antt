@@ -1,4 +1,5 @@
-use Rattle.std.proofs.Common.{◌≡◌, ◌∙◌, ◌+◌, ◌-◌, ◌%◌, ◌<◌, ◌≤◌, ℕ, List, true≢false, bit_and, sym, ap, subst, arith, refl, inl, inr}
+use Rattle.std.proofs.Common.{◌≡◌, ◌∙◌, ◌+◌, ◌-◌, ◌%◌, ◌<◌, ◌≤◌, ℕ, Bool, List, true≢false, bit_and, sym, ap, subst, arith, refl, inl, inr}
+use Rattle.std.specs.Prelude.{◌↔◌, IsTrue}
 use Rattle.std.specs.Option.{unwrap_or}
 use Rattle.odht_base.specs.Format.{Format, format_of}
 use Rattle.odht_base.specs.Decoded.{slot_key}
@@ -30,6 +31,11 @@ module _ (g : Over) (c : After-unwrap_or g) where
   first : c.unwrap_or.result ≡ unwrap_or c.args.group.free 16
   first = c.unwrap_or.ensures ∙ ap (λ o. unwrap_or o 16) c.first_empty.ensures
 
+  -- the keys are compared in the entries of the table
+  compared : (same : Bool) (slot : ℕ) → (IsTrue same ↔ (slot_key (format g) c.self.inside.entries.bytes slot ≡ slot_key (format g) c.self.inside.entries.bytes c.args.slot))
+      → (IsTrue same ↔ (slot_key (format g) T.entries.bytes slot ≡ key))
+  compared same slot is = subst (λ (t : TableParts). IsTrue same ↔ (slot_key (format g) t.entries.bytes slot ≡ slot_key (format g) t.entries.bytes c.args.slot)) c.self.view_is is
+
 pub returns-then-unwrap_or-count : goal.returns-then-unwrap_or-count
 returns-then-unwrap_or-count g c fitting =
     let at = (goal.at.returns-then-unwrap_or-count g c).After-unwrap_or in (
@@ -56,7 +62,7 @@ returns-then-have_same_key g c fitting =
       λ t. absurd (true≢false (sym t)),
       λ passed. absurd (not_passed_key (format g) (T g at) (parts g at).mirrored (parts g at).slots.least fitting c.args.start c.requires.start (key g at) c.args.group c.requires.group
           c.args.count c.requires.count c.in-Some.index (omega (arith, c.if-index-count.false))
-          (ap (slot_key (format g) (T g at).entries.bytes) (sym (masked g at (c.args.start + c.in-Some.index))) ∙ c.have_same_key.ensures.0 c.if-have_same_key.true) passed),
+          (ap (slot_key (format g) (T g at).entries.bytes) (sym (masked g at (c.args.start + c.in-Some.index))) ∙ (compared g at _ _ c.have_same_key.ensures).0 c.if-have_same_key.true) passed),
     )
 
 pub matches-preserved : goal.matches-preserved
@@ -64,7 +70,7 @@ matches-preserved g c =
     let at = (goal.at.matches-preserved g c).After-unwrap_or in (
       rising-rest c.matches.group.matches c.drop_match.new.self.matches c.drop_match.ensures.rest c.matches.invariant.0,
       taken-next _ _ _ _ c.in-Some.index c.matches.invariant.1 c.in-Some.ensures c.drop_match.ensures.rest (λ low same.
-          true≢false (sym (c.have_same_key.ensures.1 (ap (slot_key (format g) (T g at).entries.bytes) (masked g at (c.args.start + c.in-Some.index)) ∙ same)) ∙ c.if-have_same_key.false)),
+          true≢false (sym ((compared g at _ _ c.have_same_key.ensures).1 (ap (slot_key (format g) (T g at).entries.bytes) (masked g at (c.args.start + c.in-Some.index)) ∙ same)) ∙ c.if-have_same_key.false)),
     )
 
 pub returns : goal.returns

@@ -6,11 +6,10 @@ use Rattle.odht_base.proofs.lemmas.ByteRanges.{length-bytes_at}
 use Rattle.odht_base.proofs.lemmas.SlotCounts.{sixteens}
 use Rattle.odht_raw.specs.Parts.{TableParts, IsTableParts}
 use Rattle.odht_raw.specs.Summaries.{AreFree}
-use Rattle.odht_raw.specs.declared.raw_table.check.SlotSummary.{SlotSummary}
-use Rattle.odht_raw.proofs.lemmas.SlotSummary.{all_passed, all_counted, all_reached, answer_err, answer_occupied, answer_reached, free_slots_pass}
+use Rattle.odht_raw.proofs.lemmas.SlotSummary.{all_passed, all_counted, all_reached, free_slots_pass}
 use Rattle.odht_raw.proofs.lemmas.SpanLooks.{free_low}
 use Rattle.odht_raw.proofs.raw_table.RawTable.check_slots.Given.{Over}
-use Rattle.odht_raw.proofs.raw_table.RawTable.check_slots.Goals.{After-len-slots, After-min-size}
+use Rattle.odht_raw.proofs.raw_table.RawTable.check_slots.Goals.{After-len-slots, After-min-size, then-not-are_free+in_ok-check_in_order, else-not-are_free}
 use Rattle.odht_raw.proofs.raw_table.RawTable.check_slots.Goals as goal
 
 abbrev format : Over → Format
@@ -63,12 +62,23 @@ are_free-requires-clause-within g c κs step i marked =
     let low = free_low (bytes_at c.self.inside.control.now c.spans.start c.min-size.result) i (subst (λ xs. Contains xs i) c.free_and_occupied-free.ensures.free marked) in
     omega (arith, low, long g at, within g at)
 
+pub check_in_order-requires-clause-size : goal.check_in_order-requires-clause-size
+check_in_order-requires-clause-size g c κs _ = within g (goal.at.check_in_order-requires-clause-size g c).After-min-size
+
 pub take_others-requires-clause-free : goal.take_others-requires-clause-free
 take_others-requires-clause-free g c κs _ =
+    let at = (goal.at.take_others-requires-clause-free g c).After-min-size in
     let F : Format = format g in
     let T : TableParts = c.args.self.now in
-    let marked = c.free_and_occupied-free.ensures.free ∙ ap (λ (t : TableParts). free_in (bytes_at t.control c.spans.start c.min-size.result)) c.self.view_is in
-    free_slots_pass F T c.spans.start _ (subst (AreFree F T c.spans.start) marked (c.are_free.ensures.0 c.if-not-are_free.false))
+    elim c.if-not-are_free.branch [
+      | then-not-are_free+in_ok-check_in_order w ↦ λ i marked.
+          let low = free_low (bytes_at T.control c.spans.start c.min-size.result) i marked in
+          let size = subst (λ (t : TableParts). length (bytes_at t.control c.spans.start c.min-size.result) ≡ c.min-size.result) c.self.view_is (long g at) in
+          w.in_ok-check_in_order.ensures.ok (c.spans.start + i) (omega (arith, low, size))
+      | else-not-are_free w ↦
+          let marked = c.free_and_occupied-free.ensures.free ∙ ap (λ (t : TableParts). free_in (bytes_at t.control c.spans.start c.min-size.result)) c.self.view_is in
+          free_slots_pass F T c.spans.start _ (subst (AreFree F T c.spans.start) marked (c.are_free.ensures.0 w.if-not-are_free.false))
+    ]
 
 pub spans-preserved : goal.spans-preserved
 spans-preserved g c =
@@ -78,21 +88,6 @@ spans-preserved g c =
       groups = omega (arith, groups g at, c.spans.invariant.groups);
       known = c.in_ok-summary.ensures.ok;
     }
-
-pub returns-then-not-are_free-clause-err : goal.returns-then-not-are_free-clause-err
-returns-then-not-are_free-clause-err g c =
-    let at = (goal.at.returns-then-not-are_free-clause-err g c).After-len-slots in
-    answer_err (format g) c.args.self.now c.args.searches (λ (s : SlotSummary). s.occupied) (λ (s : SlotSummary). s.unreachable) c.args.self.now.entries.slots (all g at) c.check_from.result c.check_from.ensures.err c.check_from.ensures.ok
-
-pub returns-then-not-are_free-clause-occupied : goal.returns-then-not-are_free-clause-occupied
-returns-then-not-are_free-clause-occupied g c =
-    let at = (goal.at.returns-then-not-are_free-clause-occupied g c).After-len-slots in
-    answer_occupied (format g) c.args.self.now c.args.searches (λ (s : SlotSummary). s.occupied) (λ (s : SlotSummary). s.unreachable) c.args.self.now.entries.slots (all g at) c.check_from.result c.check_from.ensures.ok
-
-pub returns-then-not-are_free-clause-reached : goal.returns-then-not-are_free-clause-reached
-returns-then-not-are_free-clause-reached g c =
-    let at = (goal.at.returns-then-not-are_free-clause-reached g c).After-len-slots in
-    answer_reached (format g) c.args.self.now c.args.searches (λ (s : SlotSummary). s.occupied) (λ (s : SlotSummary). s.unreachable) c.args.self.now.entries.slots (all g at) c.check_from.result c.check_from.ensures.ok
 
 pub returns-clause-err : goal.returns-clause-err
 returns-clause-err g c =

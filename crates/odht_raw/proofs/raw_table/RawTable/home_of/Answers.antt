@@ -13,5 +13,5 @@ returns g c =
     let count : IsSlotCount s = subst (λ (t : TableParts). IsSlotCount t.entries.slots) c.self.view_is c.self.invariant.slots in
     let slots : c.len.result ≡ s = c.len.ensures ∙ ap (λ (t : TableParts). t.entries.slots) c.self.view_is in
     let key : c.as_slice.result.now ≡ slot_key F c.args.self.now.entries.bytes c.args.slot =
-    c.as_slice.ensures.value ∙ c.get.ensures.key_bytes ∙ ap (λ (t : TableParts). slot_key F t.entries.bytes c.args.slot) c.self.view_is in
+    c.as_slice.ensures.value ∙ ap g.K.ByteArray.bytes c.from_slice-key.ensures ∙ g.met.K.ByteArray.kept _ c.key_bytes_of.ensures.len ∙ c.key_bytes_of.ensures.bytes ∙ ap (λ (t : TableParts). slot_key F t.entries.bytes c.args.slot) c.self.view_is in
     ap (λ n. bit_and c.hash.result (n - 1)) slots ∙ bit_and-slots c.hash.result s count ∙ ap (λ x. x % s) (c.hash.ensures ∙ ap g.H.HashFn.hash key)

@@ -7,7 +7,7 @@ use Rattle.odht_base.specs.Table.{Table, slot_count, is_free}
 use Rattle.odht_base.proofs.lemmas.MadeTables.{IsMade-IsInsertOrder}
 use Rattle.odht_base.proofs.lemmas.SlotCounts.{few_slots}
 use Rattle.odht_raw.specs.Parts.{TableParts}
-use Rattle.odht_raw.specs.Waiting.{waiting, IsWaiting, IsPending, AreWholeParts}
+use Rattle.odht_raw.specs.Waiting.{waiting, IsWaiting, IsPending, AreWholeParts, IsOrderAnswer}
 use Rattle.odht_header.proofs.lemmas.Formats.{IsFormat-format_of}
 use Rattle.odht_raw.proofs.lemmas.PartCells.{slots_are, byte_is}
 use Rattle.odht_raw.proofs.lemmas.PendingSlots.{all_wait, all_pending, order_found}
@@ -72,14 +72,13 @@ module _ (g : Over) (c : Then-near-out g) (P : Table) (whole : AreWholeParts (fo
       order_found (format g) P c.args.self.now c.place_near-near.new.slots _ same whole c.place_near-near.result (omega (arith, c.if-near-out.true))
       (c.place_near-near.ensures.begun.pending P (subst (AreWholeParts (format g) P c.args.self.now) (sym same) whole))
 
-pub returns-then-near-out-clause-order : goal.returns-then-near-out-clause-order
-returns-then-near-out-clause-order g c P whole t = order g c P whole
-
-pub returns-then-near-out-clause-made : goal.returns-then-near-out-clause-made
-returns-then-near-out-clause-made g c P whole =
-    (λ t. (IsMade-IsInsertOrder (format g) P whole.valid).1 (c.place_near-near.new.slots, order g c P whole), λ made. refl)
+pub returns-then-near-out : goal.returns-then-near-out
+returns-then-near-out g c = record {
+  order = λ P whole t. order g c P whole;
+  made = λ P whole. (λ t. (IsMade-IsInsertOrder (format g) P whole.valid).1 (c.place_near-near.new.slots, order g c P whole), λ made. refl);
+}
 
 -- what the others give
-pub returns-clause-made : goal.returns-clause-made
-returns-clause-made g c P whole =
-    c.place_others.ensures.made P (subst (AreWholeParts (format g) P c.args.self.now) (sym (c.place_near-near.auto.slots ∙ c.list_occupied.auto.out)) whole)
+pub returns : goal.returns
+returns g c =
+    subst (λ n. IsOrderAnswer (format g) c.args.self.now n c.place_others.new.out c.place_others.result) (c.place_near-near.auto.slots ∙ c.list_occupied.auto.out) c.place_others.ensures

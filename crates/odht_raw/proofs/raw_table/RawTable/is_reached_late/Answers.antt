@@ -102,7 +102,7 @@ groups-preserved g c =
       looked =
           let next : c.index.result ≡ probe_slot (c.args.hash % s g at) (s g at) c.advance.new.self.position =
           c.index.ensures.slot ∙ (λ i. probe_slot (ap (λ q. q.home) c.advance.ensures i) (ap (λ q. q.mask + 1) c.advance.ensures i) c.advance.new.self.position) ∙ (λ i. probe_slot (v.home i) (v.mask i) c.advance.new.self.position) in
-          subst₂ (λ b h. IsLookAt (bytes_at c.args.self.now.control b 16) h c.look_at-group.result) next c.tag_of-tag.ensures c.look_at-group.ensures;
+          subst₂ (λ b h. IsLookAt (bytes_at c.args.self.now.control b 16) h c.query_at-group.result) next c.tag_of-tag.ensures c.query_at-group.ensures;
       others = λ q l e. elim (cases_lt q c.groups.probe.position) [
         | inl before ↦ v.others q before e
         | inr here ↦

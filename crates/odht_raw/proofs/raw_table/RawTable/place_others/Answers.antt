@@ -3,6 +3,8 @@ use Rattle.std.proofs.lemmas.List.{take_all, length-drop}
 use borrow.Rule.Slice.PartMut.{put_mid}
 use Rattle.odht_base.specs.Format.{Format, format_of}
 use Rattle.odht_base.specs.Load.{IsSlotCount}
+use Rattle.odht_base.specs.Made.{IsInsertOrder}
+use Rattle.odht_base.specs.Table.{Table}
 use Rattle.odht_base.proofs.lemmas.MadeTables.{IsMade-IsInsertOrder}
 use Rattle.odht_raw.specs.Parts.{TableParts}
 use Rattle.odht_raw.specs.Frontiers.{AreFrontiers}
@@ -45,16 +47,19 @@ place_ready-ready-requires-clause-listed g c κs within =
           (c.loop-placed.invariant.begun.pending P (subst (AreWholeParts (format g) P c.args.self.now) (sym c.loop-placed.auto.out) whole));
     }
 
-pub returns-then-ready-eq0-clause-made : goal.returns-then-ready-eq0-clause-made
-returns-then-ready-eq0-clause-made g c P whole =
-    let out = c.loop-placed.out in
-    let n = c.loop-placed.placed in
-    let pending = subst (IsPending (format g) P (take n out)) (sym (rest out n))
-    (c.loop-placed.invariant.begun.pending P (subst (AreWholeParts (format g) P c.args.self.now) (sym c.loop-placed.auto.out) whole)) in
-    let stuck = (c.place_ready-ready.ensures.pass P (take n out) whole.parts pending).stuck c.if-ready-eq0.true in (
-      λ t. absurd (true≢false (sym t)),
-      λ made. absurd (order_missing (format g) P c.args.self.now out _ c.loop-placed.auto.out whole n c.loop-placed-test.true stuck made),
-    )
+pub returns-then-ready-eq0 : goal.returns-then-ready-eq0
+returns-then-ready-eq0 g c = record {
+  order = λ P whole t. absurd (true≢false (sym t));
+  made = λ P whole.
+      let out = c.loop-placed.out in
+      let n = c.loop-placed.placed in
+      let pending = subst (IsPending (format g) P (take n out)) (sym (rest out n))
+      (c.loop-placed.invariant.begun.pending P (subst (AreWholeParts (format g) P c.args.self.now) (sym c.loop-placed.auto.out) whole)) in
+      let stuck = (c.place_ready-ready.ensures.pass P (take n out) whole.parts pending).stuck c.if-ready-eq0.true in (
+        λ t. absurd (true≢false (sym t)),
+        λ made. absurd (order_missing (format g) P c.args.self.now out _ c.loop-placed.auto.out whole n c.loop-placed-test.true stuck made),
+      );
+}
 
 pub loop-placed-preserved : goal.loop-placed-preserved
 loop-placed-preserved g c =
@@ -79,17 +84,10 @@ loop-placed-preserved g c =
       frontiers = subst (λ ns. AreFrontiers ns c.args.self.now.entries.slots c.place_ready-ready.new.frontiers) (sym (ended-drop out left n v.begun.within ready e.few)) e.frontiers;
     }
 
-pub returns-clause-order : goal.returns-clause-order
-returns-clause-order g c P whole t =
-    order_found (format g) P c.args.self.now c.loop-placed.out _ c.loop-placed.auto.out whole c.loop-placed.placed
-    (omega (arith, c.loop-placed-test.false)) (c.loop-placed.invariant.begun.pending P (subst (AreWholeParts (format g) P c.args.self.now) (sym c.loop-placed.auto.out) whole))
-
-pub returns-clause-made : goal.returns-clause-made
-returns-clause-made g c P whole = (
-  λ t.
-      let out = c.loop-placed.out in
-      let order = order_found (format g) P c.args.self.now out _ c.loop-placed.auto.out whole c.loop-placed.placed
-      (omega (arith, c.loop-placed-test.false)) (c.loop-placed.invariant.begun.pending P (subst (AreWholeParts (format g) P c.args.self.now) (sym c.loop-placed.auto.out) whole)) in
-      (IsMade-IsInsertOrder (format g) P whole.valid).1 (out, order),
-  λ made. refl,
-)
+pub returns : goal.returns
+returns g c = record { order = λ P whole t. order P whole; made = λ P whole. (λ t. (IsMade-IsInsertOrder (format g) P whole.valid).1 (c.loop-placed.out, order P whole), λ made. refl) }
+  where
+    order : (P : Table) → AreWholeParts (format g) P c.args.self.now (length c.args.out.now) → IsInsertOrder (format g) P c.loop-placed.out
+    order P whole =
+        order_found (format g) P c.args.self.now c.loop-placed.out _ c.loop-placed.auto.out whole c.loop-placed.placed
+        (omega (arith, c.loop-placed-test.false)) (c.loop-placed.invariant.begun.pending P (subst (AreWholeParts (format g) P c.args.self.now) (sym c.loop-placed.auto.out) whole))

@@ -5,7 +5,7 @@ use Rattle.std.proofs.lemmas.Bool.{and_parts}
 use Rattle.odht_base.specs.Format.{Format, format_of}
 use Rattle.odht_header.specs.Refusals.{hashes_refusal_at, slots_refusal}
 use Rattle.odht_raw.specs.Parts.{TableParts}
-use Rattle.odht_raw.proofs.lemmas.SlotSummary.{summary_occupied, summary_unreachable, summary_refused, summary_few}
+use Rattle.odht_raw.proofs.lemmas.SlotSummary.{summary_occupied, summary_unreachable, first_refused, summary_few}
 use Rattle.odht_raw.proofs.lemmas.SpanLooks.{IsSpan, IsNext, span_start, span_next, span_end}
 use Rattle.odht_raw.proofs.raw_table.RawTable.take_others.Given.{Over}
 use Rattle.odht_raw.proofs.raw_table.RawTable.take_others.Goals.{then-searches, else-searches, Joined-searches, In-Some, else-searching-via-then-searching+else-not-is_reached, else-searching-via-else-searching}
@@ -83,7 +83,7 @@ returns-in_err-hash-clause-err g c =
     let here = sym c.check_key.ensures.err ∙ ap result_err c.in_err-hash.was in
     let refusal : c.from_residual.result ≡ Err c.in_err-hash.field-0.0 = search rules in
     subst (λ r. OnErr r (result_err r ≡ slots_refusal (format g) c.args.self.now.entries.bytes c.args.self.now.control)) (sym refusal)
-    (sym (summary_refused (format g) c.args.self.now c.args.searches (slot g at) c.slots.occupied c.slots.unreachable (next g at).known (behind_mirror g at) _ here))
+    (sym (first_refused (format g) c.args.self.now (slot g at) (next g at).known.passed (behind_mirror g at) _ here))
 
 pub overflow_add-occupied : goal.overflow_add-occupied
 overflow_add-occupied g c =

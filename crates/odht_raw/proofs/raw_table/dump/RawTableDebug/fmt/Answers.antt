@@ -18,8 +18,8 @@ loop-slot-preserved g c =
     let lines = slots_text F key_text value_text T slot in
     let line = slot_text F key_text value_text T slot in
     let more = then_text_assoc head lines line ∙ ap (λ o. head ++? o) (sym (slots_text-more F key_text value_text T slot)) in
-    displays_on_ok_of_eq g.W.Write.write_str_gives c.args.f.now c.write_slot.new.f (Ok tt) _ _ more
-    (displayed-append g.W.Write.write_str_gives c.args.f.now c.loop-slot.f c.write_slot.new.f (Ok tt) (head ++? lines) line c.loop-slot.invariant c.in_ok-write_slot.ensures)
+    displays_on_ok_of_eq g.W.Write.write_str_gives c.args.f.now c.write_slot_line.new.f (Ok tt) _ _ more
+    (displayed-append g.W.Write.write_str_gives c.args.f.now c.loop-slot.f c.write_slot_line.new.f (Ok tt) (head ++? lines) line c.loop-slot.invariant c.in_ok-write_slot_line.ensures)
 
 pub returns : goal.returns
 returns g c =

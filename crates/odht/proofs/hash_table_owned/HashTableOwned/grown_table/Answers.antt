@@ -3,9 +3,9 @@ use Rattle.odht_base.specs.Bytes.{bytes_at}
 use Rattle.odht_base.specs.Format.{Format, format_of, entry_len}
 use Rattle.odht_raw.specs.Frame.{IsAccepted}
 use Rattle.odht_raw.proofs.lemmas.NewTables.{bytes_at-zeros}
-use Rattle.odht.proofs.hash_table_owned.HashTableOwned.grown.Given.{Over}
-use Rattle.odht.proofs.hash_table_owned.HashTableOwned.grown.Goals as goal
-use Rattle.odht.proofs.hash_table_owned.HashTableOwned.grown.Goals.{After-new}
+use Rattle.odht.proofs.hash_table_owned.HashTableOwned.grown_table.Given.{Over}
+use Rattle.odht.proofs.hash_table_owned.HashTableOwned.grown_table.Goals as goal
+use Rattle.odht.proofs.hash_table_owned.HashTableOwned.grown_table.Goals.{After-new}
 
 pub write_grown-requires-clause-zeros : goal.write_grown-requires-clause-zeros
 write_grown-requires-clause-zeros g c κs within =

@@ -8,9 +8,9 @@ use Rattle.odht_base.proofs.lemmas.Image.{entries-empty, controls-empty}
 use Rattle.odht_base.proofs.lemmas.Parts.{length-header_bytes}
 use Rattle.odht_base.proofs.lemmas.FreeSlots.{map_of-empty, empty-IsPlaced}
 use Rattle.odht_raw.proofs.lemmas.NewTables.{bytes-new}
-use Rattle.odht.proofs.growth.write_table.Given.{Over}
-use Rattle.odht.proofs.growth.write_table.Goals.{After-split_at_mut-header}
-use Rattle.odht.proofs.growth.write_table.Goals as goal
+use Rattle.odht.proofs.growth.write_walked.Given.{Over}
+use Rattle.odht.proofs.growth.write_walked.Goals.{After-split_at_mut-header}
+use Rattle.odht.proofs.growth.write_walked.Goals as goal
 
 abbrev format : Over → Format
 format g = format_of g.C.EncodedKey.ByteArray.LEN g.C.EncodedValue.ByteArray.LEN g.C.H.HashFn.hash

@@ -3,7 +3,7 @@ use Rattle.std.proofs.lemmas.Option.{slice_get-get_or}
 use Rattle.odht_base.specs.Format.{format_of}
 use Rattle.odht_base.proofs.lemmas.Options.{some_same}
 use Rattle.odht_raw.specs.FirstLooks.{first_look_of}
-use Rattle.odht.proofs.lookups.look_at.Goals as goal
+use Rattle.odht.proofs.lookups.first_look_at.Goals as goal
 
 pub bounds-keys-index : goal.bounds-keys-index
 bounds-keys-index g c = c.requires
