@@ -153,7 +153,7 @@ impl<'a, K: ByteArray, V: ByteArray> Entries<'a, K, V> {
         K::from_slice(front).equals(key)
     }
 
-    // Whether the keys of two slots are equal. They are compared where they stand.
+    // Whether the keys of two slots are equal. No value is read.
     #[inline]
     pub(crate) fn have_same_key(&self, slot: usize, other: usize) -> bool
         requires slot { slot < self.now.slots }
@@ -161,6 +161,7 @@ impl<'a, K: ByteArray, V: ByteArray> Entries<'a, K, V> {
         ensures { let key = slot_key (entry_format K.LEN V.LEN) self.now.bytes
             in IsTrue result ↔ (key slot ≡ key other) }
     {
-        is_same_bytes(self.key_bytes_of(slot), self.key_bytes_of(other))
+        let key = K::from_slice(self.key_bytes_of(other));
+        self.has_key(slot, &key)
     }
 }
