@@ -34,9 +34,9 @@
  *   requires; a table's bytes alone may begin at any address.
  * - Where ODHT_TAKES_NULL is 1, that is with GCC and Clang, NULL may be passed for a
  *   slice of length 0, and for an out-parameter of a single number or value that the
- *   caller does not want (former, value, accepted, count, len), which is then not written. A
- *   key and a view are never NULL. Where ODHT_TAKES_NULL is 0 no pointer is NULL, also
- *   where the length beside it is 0.
+ *   caller does not want (former, value, accepted, count, len, slot), which is then not
+ *   written. A key and a view are never NULL. Where ODHT_TAKES_NULL is 0 no pointer is NULL,
+ *   also where the length beside it is 0.
  *
  * The comments on the answers hold for valid bytes: those that these calls have
  * made, and all others that odht_*_check accepts. It reads every byte. odht_*_open
@@ -105,6 +105,10 @@ extern "C" {
 /* A bound of searches for odht_*_check_within, in groups of sixteen control bytes, that tables of
    keys whose hashes vary keep. */
 #define ODHT_DEFAULT_GROUPS 128
+
+/* What odht_*_open_at, odht_*_check_at and odht_*_check_within_at write where the first error is in
+   no slot, and with ODHT_OK. No table has so many slots. */
+#define ODHT_NO_SLOT SIZE_MAX
 
 /* What a call answers. Beside each number: Error::Name is the name of the library's error in
    Rattle, and then when it occurs. docs/FORMAT.md, "Numbers for C", has the same table. */
