@@ -130,12 +130,14 @@ pub unsafe extern "C" fn odht_b16_u32_insert(
 pub unsafe extern "C" fn odht_b16_u32_insert_all(
     bytes: *mut u8,
     bytes_len: usize,
-    keys: &[[u8; 16]],
+    keys: *const [u8; 16],
+    keys_len: usize,
     values: *const u32,
     values_len: usize,
     accepted: &mut usize,
 ) -> u32 {
     let bytes = unsafe { crate::lists::list_mut(bytes, bytes_len) };
+    let keys = unsafe { crate::lists::list(keys, keys_len) };
     let values = unsafe { crate::lists::list(values, values_len) };
     if values.len() != keys.len() {
         return BAD_LENGTHS;
@@ -164,13 +166,15 @@ pub unsafe extern "C" fn odht_b16_u32_get(
 pub unsafe extern "C" fn odht_b16_u32_get_all(
     bytes: *const u8,
     bytes_len: usize,
-    keys: &[[u8; 16]],
+    keys: *const [u8; 16],
+    keys_len: usize,
     values: *mut u32,
     values_len: usize,
     found: *mut u8,
     found_len: usize,
 ) -> u32 {
     let bytes = unsafe { crate::lists::list(bytes, bytes_len) };
+    let keys = unsafe { crate::lists::list(keys, keys_len) };
     let values = unsafe { crate::lists::list_mut(values, values_len) };
     let found = unsafe { crate::lists::list_mut(found, found_len) };
     if values.len() != keys.len() || found.len() != keys.len() {
@@ -227,12 +231,14 @@ pub unsafe extern "C" fn odht_b16_u32_walk(
     bytes: *const u8,
     bytes_len: usize,
     cursor: &mut usize,
-    keys: &mut [[u8; 16]],
+    keys: *mut [u8; 16],
+    keys_len: usize,
     values: *mut u32,
     values_len: usize,
     item_count: &mut usize,
 ) -> u32 {
     let bytes = unsafe { crate::lists::list(bytes, bytes_len) };
+    let keys = unsafe { crate::lists::list_mut(keys, keys_len) };
     let values = unsafe { crate::lists::list_mut(values, values_len) };
     if values.len() != keys.len() {
         return BAD_LENGTHS;
@@ -269,12 +275,14 @@ pub unsafe extern "C" fn odht_b16_u32_view_get(
 #[unsafe(no_mangle)]
 pub unsafe extern "C" fn odht_b16_u32_view_get_all(
     view: &View<'_>,
-    keys: &[[u8; 16]],
+    keys: *const [u8; 16],
+    keys_len: usize,
     values: *mut u32,
     values_len: usize,
     found: *mut u8,
     found_len: usize,
 ) -> u32 {
+    let keys = unsafe { crate::lists::list(keys, keys_len) };
     let values = unsafe { crate::lists::list_mut(values, values_len) };
     let found = unsafe { crate::lists::list_mut(found, found_len) };
     if values.len() != keys.len() || found.len() != keys.len() {
@@ -337,7 +345,8 @@ pub unsafe extern "C" fn odht_b16_u32_grow(
 /// table `out` is unchanged. Allocates nothing. One pass over the bytes, then one insert for each pair.
 #[unsafe(no_mangle)]
 pub unsafe extern "C" fn odht_b16_u32_build(
-    keys: &[[u8; 16]],
+    keys: *const [u8; 16],
+    keys_len: usize,
     values: *const u32,
     values_len: usize,
     max_load_factor_percent: u8,
@@ -345,6 +354,7 @@ pub unsafe extern "C" fn odht_b16_u32_build(
     out_len: usize,
     len: &mut usize,
 ) -> u32 {
+    let keys = unsafe { crate::lists::list(keys, keys_len) };
     let values = unsafe { crate::lists::list(values, values_len) };
     let out = unsafe { crate::lists::list_mut(out, out_len) };
     if values.len() != keys.len() {
@@ -361,7 +371,8 @@ pub unsafe extern "C" fn odht_b16_u32_build(
 /// the growths, and one copy of the table.
 #[unsafe(no_mangle)]
 pub unsafe extern "C" fn odht_b16_u32_build_growing(
-    keys: &[[u8; 16]],
+    keys: *const [u8; 16],
+    keys_len: usize,
     values: *const u32,
     values_len: usize,
     out: *mut u8,
@@ -369,6 +380,7 @@ pub unsafe extern "C" fn odht_b16_u32_build_growing(
     len: &mut usize,
 ) -> u32 {
     let alloc = Global;
+    let keys = unsafe { crate::lists::list(keys, keys_len) };
     let values = unsafe { crate::lists::list(values, values_len) };
     let out = unsafe { crate::lists::list_mut(out, out_len) };
     if values.len() != keys.len() {

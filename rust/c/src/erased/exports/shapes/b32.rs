@@ -129,12 +129,14 @@ pub unsafe extern "C" fn odht_b32_insert(
 pub unsafe extern "C" fn odht_b32_insert_all(
     bytes: *mut u8,
     bytes_len: usize,
-    keys: &[[u8; 32]],
+    keys: *const [u8; 32],
+    keys_len: usize,
     values: *const (),
     values_len: usize,
     accepted: &mut usize,
 ) -> u32 {
     let bytes = unsafe { crate::lists::list_mut(bytes, bytes_len) };
+    let keys = unsafe { crate::lists::list(keys, keys_len) };
     let values = unsafe { crate::lists::list(values, values_len) };
     if values.len() != keys.len() {
         return BAD_LENGTHS;
@@ -163,13 +165,15 @@ pub unsafe extern "C" fn odht_b32_get(
 pub unsafe extern "C" fn odht_b32_get_all(
     bytes: *const u8,
     bytes_len: usize,
-    keys: &[[u8; 32]],
+    keys: *const [u8; 32],
+    keys_len: usize,
     values: *mut (),
     values_len: usize,
     found: *mut u8,
     found_len: usize,
 ) -> u32 {
     let bytes = unsafe { crate::lists::list(bytes, bytes_len) };
+    let keys = unsafe { crate::lists::list(keys, keys_len) };
     let values = unsafe { crate::lists::list_mut(values, values_len) };
     let found = unsafe { crate::lists::list_mut(found, found_len) };
     if values.len() != keys.len() || found.len() != keys.len() {
@@ -226,12 +230,14 @@ pub unsafe extern "C" fn odht_b32_walk(
     bytes: *const u8,
     bytes_len: usize,
     cursor: &mut usize,
-    keys: &mut [[u8; 32]],
+    keys: *mut [u8; 32],
+    keys_len: usize,
     values: *mut (),
     values_len: usize,
     item_count: &mut usize,
 ) -> u32 {
     let bytes = unsafe { crate::lists::list(bytes, bytes_len) };
+    let keys = unsafe { crate::lists::list_mut(keys, keys_len) };
     let values = unsafe { crate::lists::list_mut(values, values_len) };
     if values.len() != keys.len() {
         return BAD_LENGTHS;
@@ -264,12 +270,14 @@ pub unsafe extern "C" fn odht_b32_view_get(view: &View<'_>, key: &[u8; 32], valu
 #[unsafe(no_mangle)]
 pub unsafe extern "C" fn odht_b32_view_get_all(
     view: &View<'_>,
-    keys: &[[u8; 32]],
+    keys: *const [u8; 32],
+    keys_len: usize,
     values: *mut (),
     values_len: usize,
     found: *mut u8,
     found_len: usize,
 ) -> u32 {
+    let keys = unsafe { crate::lists::list(keys, keys_len) };
     let values = unsafe { crate::lists::list_mut(values, values_len) };
     let found = unsafe { crate::lists::list_mut(found, found_len) };
     if values.len() != keys.len() || found.len() != keys.len() {
@@ -332,7 +340,8 @@ pub unsafe extern "C" fn odht_b32_grow(
 /// table `out` is unchanged. Allocates nothing. One pass over the bytes, then one insert for each pair.
 #[unsafe(no_mangle)]
 pub unsafe extern "C" fn odht_b32_build(
-    keys: &[[u8; 32]],
+    keys: *const [u8; 32],
+    keys_len: usize,
     values: *const (),
     values_len: usize,
     max_load_factor_percent: u8,
@@ -340,6 +349,7 @@ pub unsafe extern "C" fn odht_b32_build(
     out_len: usize,
     len: &mut usize,
 ) -> u32 {
+    let keys = unsafe { crate::lists::list(keys, keys_len) };
     let values = unsafe { crate::lists::list(values, values_len) };
     let out = unsafe { crate::lists::list_mut(out, out_len) };
     if values.len() != keys.len() {
@@ -356,7 +366,8 @@ pub unsafe extern "C" fn odht_b32_build(
 /// the growths, and one copy of the table.
 #[unsafe(no_mangle)]
 pub unsafe extern "C" fn odht_b32_build_growing(
-    keys: &[[u8; 32]],
+    keys: *const [u8; 32],
+    keys_len: usize,
     values: *const (),
     values_len: usize,
     out: *mut u8,
@@ -364,6 +375,7 @@ pub unsafe extern "C" fn odht_b32_build_growing(
     len: &mut usize,
 ) -> u32 {
     let alloc = Global;
+    let keys = unsafe { crate::lists::list(keys, keys_len) };
     let values = unsafe { crate::lists::list(values, values_len) };
     let out = unsafe { crate::lists::list_mut(out, out_len) };
     if values.len() != keys.len() {
