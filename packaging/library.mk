@@ -29,5 +29,14 @@ exports_are_current:
 	@sh crates/odht_c/exports/statuses.sh > /dev/null
 
 # what is made is installed as it is, so that it can be made as one user and installed as another
-install: $(if $(and $(wildcard build/libodht.a),$(wildcard build/$(SHARED))),,lib)
+MADE := $(and $(wildcard build/libodht.a),$(wildcard build/$(SHARED)))
+ifneq ($(or $(MADE),$(shell command -v rt 2> /dev/null)),)
+install: $(if $(MADE),,lib)
 	$(INSTALL_ALL)
+else
+# nothing was made, and there is no kit to make it
+install:
+	@echo 'there is no rt here, the command of the kit of Rattle: cargo makes the library of erased source (rust/c/README.md)'
+	@$(MAKE) --no-print-directory -C rust/c install \
+	  $(if $(DESTDIR),'DESTDIR=$(if $(filter /%,$(DESTDIR)),,$(CURDIR)/)$(DESTDIR)')
+endif
