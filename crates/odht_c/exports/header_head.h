@@ -52,10 +52,17 @@
  * load factor. docs/FORMAT.md has the details.
  *
  * odht_*_build_growing alone allocates memory, by malloc, and frees it before it
- * returns. libodht.a and libodht.so need the C library and nothing else.
+ * returns. libodht.a and libodht.so need the C library and nothing else. This header
+ * needs C99 or later, or C++11 or later.
  */
 #ifndef ODHT_H
 #define ODHT_H
+
+/* Strict C89 and C94 have no inline functions. (As an extension, as in gnu89, they do.) */
+#if defined(__STRICT_ANSI__) && !defined(__cplusplus) \
+    && (!defined(__STDC_VERSION__) || __STDC_VERSION__ < 199901L)
+#error "odht.h needs C99 or later, or C++11 or later"
+#endif
 
 #include <stddef.h>
 #include <stdint.h>
