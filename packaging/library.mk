@@ -6,7 +6,7 @@ include packaging/install.mk
 # the kit's folder is asked for only where something is linked
 KIT = $(dir $(shell rt doc))
 
-# whether both are there. What is made is installed as it is, so that it can be made as one user and installed as another
+# whether both are there. What is made is installed as it is, so it can be made as one user and installed as another
 MADE := $(and $(wildcard build/libodht.a),$(wildcard build/$(SHARED)))
 # where neither is there, and no kit to make them, cargo makes the library of erased source
 ifneq ($(or $(MADE),$(shell command -v rt 2> /dev/null)),)
@@ -19,7 +19,8 @@ lib:
 	@$(NEEDS_KIT)
 
 install:
-	@echo 'there is no rt here, the command of the kit of Rattle: cargo makes the library of erased source (rust/c/README.md)'
+	@echo 'there is no rt here, the command of the kit of Rattle:' \
+	  'cargo makes the library of erased source (rust/c/README.md)'
 	@$(MAKE) --no-print-directory -C rust/c install \
 	  $(if $(DESTDIR),'DESTDIR=$(if $(filter /%,$(DESTDIR)),,$(CURDIR)/)$(DESTDIR)')
 endif
