@@ -1,6 +1,6 @@
 -- Where opening bytes or checking them fails: the slot that the first error names.
 --     no_slot             the number that stands for no slot, SIZE_MAX of C
---     slot_of e           the slot of the error e: of an entry, a control byte or a key that is not reachable its slot, of
+--     slot_of e           the slot of the error e: of an entry, a control byte or an unreachable key its slot, of
 --                         a mirror byte its index, of long searches their home; of any other error no_slot
 --     slot_or_none o      the slot of an error, or no_slot where there is none
 --     PlaceAnswers o s new   where the first error is o, the status is s, and the caller's buffer holds `new` then
