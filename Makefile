@@ -7,7 +7,7 @@
 # make build: the program with its proofs, as a file
 # make lib: build/libodht.a and build/libodht.so, each with all that it needs but the C library
 # make install, make uninstall: these, the header and what pkg-config and CMake read, below PREFIX, and below DESTDIR
-# before it
+# before it; where there is no kit, the library of erased source that cargo makes, as in rust/c
 # make archive: what `make lib` needs, over the libraries that `make prove` has just proved: `rt lib` would prove them again
 # make exports: include/odht.h and the exports of each shape of tables, of what is written once for all shapes
 # make rust: what is generated of the crate for Rust, rust/src/proved and rust/c/src/erased, of the proved crates, and its
@@ -23,7 +23,7 @@
 # make bounds: loops that tell what bounds these speeds; ODHT_RUST=folder is needed
 # make searches: how long searches are in tables of random keys, by the crate for Rust; SLOTS=1048576 for no larger tables
 # `rt` is the command of the kit of Rattle. Without it go: test with PARTS='rust edits generated runner watch bench', rust,
-# exports, bench-crate, searches and uninstall; and, where build/ has the library already, lib and install
+# exports, bench-crate, searches, install and uninstall; and, where build/ has the library already, lib
 SCRIPT ?= crates/odht_table/stdin
 PARTS ?=
 NAMES ?=
@@ -45,7 +45,8 @@ SLOTS ?=
 # the first line of each recipe that needs `rt`: where there is none, it ends make with one line
 NEEDS_KIT = $(if $(shell command -v rt),,$(error $@ needs rt, the command of the kit of Rattle (its compiler and \
   prover), and there is none here; without it go: $(WITHOUT_KIT)))
-WITHOUT_KIT = make test PARTS='rust edits generated runner watch bench', make rust, exports, bench-crate, searches
+WITHOUT_KIT = make test PARTS='rust edits generated runner watch bench', make rust, exports, bench-crate, searches, \
+  install (of what cargo makes)
 .PHONY: run test prove edits build archive lib rust exports exports_are_current install uninstall examples bench
 run:
 	@$(NEEDS_KIT)

@@ -49,9 +49,9 @@
  *   requires; a table's bytes alone may begin at any address.
  * - Where ODHT_TAKES_NULL is 1, that is with GCC and Clang, NULL may be passed for a
  *   slice of length 0, and for an out-parameter of a single number or value that the
- *   caller does not want (former, value, accepted, count, len), which is then not written. A
- *   key and a view are never NULL. Where ODHT_TAKES_NULL is 0 no pointer is NULL, also
- *   where the length beside it is 0.
+ *   caller does not want (former, value, accepted, count, len, slot), which is then not
+ *   written. A key and a view are never NULL. Where ODHT_TAKES_NULL is 0 no pointer is NULL,
+ *   also where the length beside it is 0.
  *
  * The comments on the answers hold for valid bytes: those that these calls have
  * made, and all others that odht_*_check accepts. It reads every byte. odht_*_open
@@ -67,10 +67,17 @@
  * load factor. docs/FORMAT.md has the details.
  *
  * odht_*_build_growing alone allocates memory, by malloc, and frees it before it
- * returns. libodht.a and libodht.so need the C library and nothing else.
+ * returns. libodht.a and libodht.so need the C library and nothing else. This header
+ * needs C99 or later, or C++11 or later.
  */
 #ifndef ODHT_H
 #define ODHT_H
+
+/* Strict C89 and C94 have no inline functions. (As an extension, as in gnu89, they do.) */
+#if defined(__STRICT_ANSI__) && !defined(__cplusplus) \
+    && (!defined(__STDC_VERSION__) || __STDC_VERSION__ < 199901L)
+#error "odht.h needs C99 or later, or C++11 or later"
+#endif
 
 #include <stddef.h>
 #include <stdint.h>
@@ -120,6 +127,10 @@ extern "C" {
 /* A bound of searches for odht_*_check_within, in groups of sixteen control bytes, that tables of
    keys whose hashes vary keep. */
 #define ODHT_DEFAULT_GROUPS 128
+
+/* What odht_*_open_at, odht_*_check_at and odht_*_check_within_at write where the first error is in
+   no slot, and with ODHT_OK. No table has so many slots. */
+#define ODHT_NO_SLOT SIZE_MAX
 
 /* What a call answers. Beside each number: Error::Name is the name of the library's error in
    Rattle, and then when it occurs. docs/FORMAT.md, "Numbers for C", has the same table. */
@@ -284,7 +295,7 @@ typedef struct odht_view {
  *     Whether bytes are valid, to the last one: those of a table that the format
  *     allows. Then all comments on answers here hold for them.
  *     OK: they are valid. An error, 1 to 16: the first in the order that is described
- *     above; it does not say in which slot.
+ *     above. odht_S_check_at says in which slot.
  *     It goes over the slots, up to 64 at a time, and for each occupied slot reads the
  *     control bytes of its key's probe order up to it, sixteen at a time; a key is
  *     compared only where an earlier slot of that order has its tag. It allocates
@@ -305,6 +316,16 @@ typedef struct odht_view {
  *     For s slots it reads at most 2 * s * groups groups, and compares at most
  *     16 * s * groups keys. With s / 16 groups or more it answers as odht_S_check. It
  *     allocates nothing.
+ *
+ * odht_S_open_at(bytes, bytes_len, *slot)
+ * odht_S_check_at(bytes, bytes_len, *slot)
+ * odht_S_check_within_at(bytes, bytes_len, groups, *slot)
+ *     As odht_S_open, odht_S_check and odht_S_check_within, and *slot is where the first
+ *     error is, which is the one that is answered. Slots count from 0.
+ *     NON_ZERO_EMPTY, CONTROL_MISMATCH, BAD_FREE_CONTROL, UNREACHABLE: its slot.
+ *     MIRROR_MISMATCH: the slot, 0 to 15, whose control byte the mirror does not repeat.
+ *     SEARCH_TOO_LONG: the slot where such searches begin. OK, and all other errors, which
+ *     are in no slot: ODHT_NO_SLOT.
  *
  * odht_S_len(bytes, bytes_len, *count)
  *     OK: *count is the header's count of items. It may be untrue: before odht_S_check
@@ -526,6 +547,22 @@ ODHT_NODISCARD extern uint32_t odht_version(void);
     ODHT_CALL(uint32_t, P##check_within, (const uint8_t *bytes, size_t bytes_len, size_t groups), \
         return odht_symbol_##P##check_within( \
             odht_read_uint8_t(bytes, bytes_len), bytes_len, groups);) \
+\
+    /* As open, check and check_within, and *slot is where the first error is; ODHT_NO_SLOT where \
+       it is in no slot, and with OK. */ \
+    ODHT_CALL(uint32_t, P##open_at, (const uint8_t *bytes, size_t bytes_len, size_t *slot), \
+        size_t unwanted = 0; \
+        return odht_symbol_##P##open_at( \
+            odht_read_uint8_t(bytes, bytes_len), bytes_len, slot ? slot : &unwanted);) \
+    ODHT_CALL(uint32_t, P##check_at, (const uint8_t *bytes, size_t bytes_len, size_t *slot), \
+        size_t unwanted = 0; \
+        return odht_symbol_##P##check_at( \
+            odht_read_uint8_t(bytes, bytes_len), bytes_len, slot ? slot : &unwanted);) \
+    ODHT_CALL(uint32_t, P##check_within_at, \
+        (const uint8_t *bytes, size_t bytes_len, size_t groups, size_t *slot), \
+        size_t unwanted = 0; \
+        return odht_symbol_##P##check_within_at( \
+            odht_read_uint8_t(bytes, bytes_len), bytes_len, groups, slot ? slot : &unwanted);) \
 \
     /* OK: *count is the header's count of items. An error, 1 to 7: it is unchanged. */ \
     ODHT_CALL(uint32_t, P##len, (const uint8_t *bytes, size_t bytes_len, size_t *count), \

@@ -100,6 +100,19 @@ template <class Key, class Value> struct calls;
     { \
         return ::odht_##S##_check_within(data, len, groups); \
     } \
+    static std::uint32_t open_at(const std::uint8_t *data, std::size_t len, std::size_t *slot) noexcept \
+    { \
+        return ::odht_##S##_open_at(data, len, slot); \
+    } \
+    static std::uint32_t check_at(const std::uint8_t *data, std::size_t len, std::size_t *slot) noexcept \
+    { \
+        return ::odht_##S##_check_at(data, len, slot); \
+    } \
+    static std::uint32_t check_within_at( \
+        const std::uint8_t *data, std::size_t len, std::size_t groups, std::size_t *slot) noexcept \
+    { \
+        return ::odht_##S##_check_within_at(data, len, groups, slot); \
+    } \
     static std::uint32_t table_len(const std::uint8_t *data, std::size_t len, std::size_t *found) noexcept \
     { \
         return ::odht_##S##_table_len(data, len, found); \
@@ -237,6 +250,21 @@ public:
         const void *data, std::size_t len, std::size_t groups = ODHT_DEFAULT_GROUPS) noexcept
     {
         return as_status(calls::check_within(static_cast<const std::uint8_t *>(data), len, groups));
+    }
+
+    /* The same, and slot is where the first error is; ODHT_NO_SLOT where it is in no slot, and with ODHT_OK. */
+    [[nodiscard]] static status open_at(const void *data, std::size_t len, std::size_t &slot) noexcept
+    {
+        return as_status(calls::open_at(static_cast<const std::uint8_t *>(data), len, &slot));
+    }
+    [[nodiscard]] static status check_at(const void *data, std::size_t len, std::size_t &slot) noexcept
+    {
+        return as_status(calls::check_at(static_cast<const std::uint8_t *>(data), len, &slot));
+    }
+    [[nodiscard]] static status check_within_at(
+        const void *data, std::size_t len, std::size_t groups, std::size_t &slot) noexcept
+    {
+        return as_status(calls::check_within_at(static_cast<const std::uint8_t *>(data), len, groups, &slot));
     }
 
     /* The value of a key. A set has contains alone. */

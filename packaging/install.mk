@@ -40,6 +40,7 @@ define INSTALL_ALL
   $(FILL) $(ROOT)/packaging/$$file.cmake.in > "$(INTO)/cmake/odht/$$file.cmake" || exit 1; \
 done
 @chmod 644 '$(INTO)/pkgconfig/odht.pc' '$(INTO)/cmake/odht/'*.cmake
+$(if $(DESTDIR),,@echo "libodht is in $(LIBDIR). Programs find it after ldconfig, or by -Wl,-rpath,$(LIBDIR)")
 endef
 
 uninstall:

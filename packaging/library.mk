@@ -6,7 +6,24 @@ include packaging/install.mk
 # the kit's folder is asked for only where something is linked
 KIT = $(dir $(shell rt doc))
 
+# whether both are there. What is made is installed as it is, so it can be made as one user and installed as another
+MADE := $(and $(wildcard build/libodht.a),$(wildcard build/$(SHARED)))
+# where neither is there, and no kit to make them, cargo makes the library of erased source
+ifneq ($(or $(MADE),$(shell command -v rt 2> /dev/null)),)
 lib: exports_are_current build/libodht.a build/$(SHARED)
+
+install: $(if $(MADE),,lib)
+	$(INSTALL_ALL)
+else
+lib:
+	@$(NEEDS_KIT)
+
+install:
+	@echo 'there is no rt here, the command of the kit of Rattle:' \
+	  'cargo makes the library of erased source (rust/c/README.md)'
+	@$(MAKE) --no-print-directory -C rust/c install \
+	  $(if $(DESTDIR),'DESTDIR=$(if $(filter /%,$(DESTDIR)),,$(CURDIR)/)$(DESTDIR)')
+endif
 
 build/libodht.a: $(LIBRARY) packaging/merge.sh
 	@$(NEEDS_KIT)
@@ -27,7 +44,3 @@ exports:
 exports_are_current:
 	@python3 tools/shapes --check
 	@sh crates/odht_c/exports/statuses.sh > /dev/null
-
-# what is made is installed as it is, so that it can be made as one user and installed as another
-install: $(if $(and $(wildcard build/libodht.a),$(wildcard build/$(SHARED))),,lib)
-	$(INSTALL_ALL)

@@ -19,13 +19,16 @@ import watched
 # the limit; how long parts work or print that only take long; and how long those would sleep that hang
 LIMIT, SECONDS, ASLEEP = 2, 5, 300
 
-# runs a part of these words, in Python, with its log in the folder
+# runs a part of these words, in Python, with its log in the folder, and with as much processor time for each of its
+# processes as the tests in Rattle have, or with this limit
 DRIVER = """
 import sys
 sys.path.insert(0, sys.argv[1])
 import run
 run.BUILT = run.LOGS = sys.argv[2]
-run.PARTS = {"planted": ([], lambda part: part.counted(sys.executable, "-c", sys.argv[3]))}
+seconds = int(sys.argv[4]) if len(sys.argv) > 4 else run.TEST_IN_RATTLE
+words = run.limited(seconds, sys.executable, "-c", sys.argv[3])
+run.PARTS = {"planted": ([], lambda part: part.counted(*words))}
 sys.exit(run.main())
 """
 COUNTS = "print('1 passed, 0 failed')"
@@ -35,6 +38,14 @@ WORKS = f"import time\nwhile time.process_time() < {SECONDS}: pass\n"
 PRINTS = f"import time\nfor _ in range({2 * SECONDS}): print('.', flush=True); time.sleep(0.5)\n"
 # a program below another one, in a session of its own
 BELOW = "import subprocess, sys\nsubprocess.run([sys.executable, '-c', {!r}], start_new_session=True)\n"
+# a runner of tests: a program for each, one after the other, of which it says how they end
+TESTS = """
+import signal, subprocess, sys
+ran = [subprocess.run([sys.executable, '-c', it]).returncode for it in {!r}]
+for it in ran:
+    print(signal.Signals(-it).name if it < 0 else it)
+print(f'{{ran.count(0)}} passed, {{len(ran) - ran.count(0)}} failed')
+"""
 PASSED = ["planted: 1 passed, 0 failed; N s", "1 passed, 0 failed"]
 ENDED = f"ENDED: no output and no processor time for {LIMIT} seconds"
 HUNG = ["before", f"planted: {ENDED}", f"planted: {ENDED}; planted.log", "0 passed, 1 failed"]
@@ -52,6 +63,18 @@ PARTS = [
     ("one that works for longer", WORKS + COUNTS, ["1 passed, 0 failed"], PASSED),
     ("one that works for longer below", BELOW.format(WORKS) + COUNTS, ["1 passed, 0 failed"], PASSED),
     ("one that prints slowly", PRINTS + COUNTS, ["."] * 2 * SECONDS + ["1 passed, 0 failed"], PASSED),
+]
+# The same of parts whose processes have LIMIT seconds of processor time each.
+LIMITED = [
+    ("a test that works without end", TESTS.format(["while True: pass", "exit(1)", "exit(0)"]),
+     ["SIGXCPU", "1", "0", "1 passed, 2 failed"],
+     ["SIGXCPU", "1", "0", "1 passed, 2 failed", "planted: 1 passed, 2 failed; N s", "planted: 2 FAILED; planted.log",
+      "1 passed, 2 failed"]),
+    ("a test that sleeps for longer, and prints", TESTS.format([PRINTS]),
+     ["."] * 2 * SECONDS + ["0", "1 passed, 0 failed"], PASSED),
+    ("tests that work for longer together", TESTS.format([WORKS.replace(str(SECONDS), "1")] * SECONDS) + COUNTS,
+     ["0"] * SECONDS + [f"{SECONDS} passed, 0 failed", "1 passed, 0 failed"],
+     [f"planted: {SECONDS + 1} passed, 0 failed; N s", f"{SECONDS + 1} passed, 0 failed"]),
 ]
 # keeps a folder while it sleeps, and begins a program that ignores what it is asked
 KEEPS = f"""
@@ -77,12 +100,12 @@ def heed_signals():
         signal.signal(it, signal.SIG_DFL)
 
 
-def begin(folder, text):
+def begin(folder, text, *limit):
     """Begins tests/run.py with a part of this text, in a folder for its logs and for all temporary ones."""
     os.mkdir(f"{folder}/temporary")
     env = {**os.environ, "TEST_SECONDS": str(LIMIT), "TMPDIR": f"{folder}/temporary"}
     how = {"preexec_fn": heed_signals, "stdout": subprocess.PIPE, "stderr": subprocess.STDOUT}
-    words = [sys.executable, "-c", DRIVER, HERE, folder, text]
+    words = [sys.executable, "-c", DRIVER, HERE, folder, text, *limit]
     return subprocess.Popen(words, cwd=folder, env=env, universal_newlines=True, **how)
 
 
@@ -106,15 +129,15 @@ def is_right(name, found, wanted):
     return found == wanted
 
 
-def is_handled(row):
+def is_handled(row, *limit):
     """Whether a part is told as it must be, and all that it began is ended."""
     name, text, log, lines = row
     with tempfile.TemporaryDirectory() as folder:
-        driver = begin(folder, text)
+        driver = begin(folder, text, *limit)
         printed = re.sub(r"\d+ s$", "N s", driver.communicate()[0], flags=re.M)
         with open(f"{folder}/planted.log", encoding="utf-8") as it:
             found = it.read().split("\n"), printed.split("\n"), driver.returncode, left_of(folder)
-    status = 0 if lines == PASSED else 1
+    status = 1 if any(" FAILED; " in it or ENDED in it for it in lines) else 0
     return is_right(name, found, ([*log, ""], ["planted: begins", *lines, ""], status, []))
 
 
@@ -132,9 +155,10 @@ def is_ended_by(number):
 
 def main():
     watched.end_on_signals()
-    with ThreadPoolExecutor(len(PARTS) + len(watched.SIGNALS)) as lanes:
+    with ThreadPoolExecutor(len(PARTS) + len(LIMITED) + len(watched.SIGNALS)) as lanes:
         handled, ended = lanes.map(is_handled, PARTS), lanes.map(is_ended_by, watched.SIGNALS)
-        results = [*handled, *ended]
+        limited = lanes.map(lambda row: is_handled(row, str(LIMIT)), LIMITED)
+        results = [*handled, *limited, *ended]
     print(f"{sum(results)} passed, {len(results) - sum(results)} failed")
     return 0 if all(results) else 1
 

@@ -41,8 +41,10 @@ WORD = f"{BUILT}/word"
 PRINTING = threading.Lock()
 # the crates of tests
 IN_RATTLE = ["odht_tests", "odht_interface"]
-# seconds for one test in Rattle, by the clock: enough on a busy machine
-TEST_IN_RATTLE = 3600
+# of processor time, for one test in Rattle: what works without end is ended by it, and what sleeps by tools/watched.py
+TEST_IN_RATTLE = 600
+# the limit by the clock that `rattle-test` has: a year, since a machine may be busy
+NEVER = 365 * 24 * 3600
 
 
 def say(text):
@@ -91,6 +93,11 @@ def counted(status, printed, pattern=r"(\d+) passed[,;] (\d+) failed"):
     return passed, failed, printed
 
 
+def limited(seconds, *words):
+    """Returns a command each of whose processes is ended (SIGXCPU) after so many seconds of processor time."""
+    return ["sh", "-c", f'ulimit -S -t {seconds} && exec "$@"', "sh", *words]
+
+
 def generated(part):
     ran = [
         part.run(sys.executable, "tools/shapes", "--check"),
@@ -114,8 +121,8 @@ def vectors(part, built=BUILT):
 
 
 def tests_in_rattle(part, built=BUILT):
-    words = [f"{unproved.KIT}/bin/rattle-test", "--seconds", str(TEST_IN_RATTLE)]
-    ran = [part.run(*words, f"{built}/{name}") for name in IN_RATTLE]
+    words = [f"{unproved.KIT}/bin/rattle-test", "--seconds", str(NEVER)]
+    ran = [part.run(*limited(TEST_IN_RATTLE, *words, f"{built}/{name}")) for name in IN_RATTLE]
     return counted(max(status for status, _ in ran), "".join(printed for _, printed in ran))
 
 

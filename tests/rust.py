@@ -15,7 +15,7 @@
     package    `cargo package` verifies the crate, without a warning; the documents in it are current, and those of
                rustdoc are made of what it packed
     c          libodht of the erased exports has the calls of include/odht.h; the examples in C and C++ go over it, and
-               over what `make install` there puts anywhere
+               over what `make install` there puts anywhere; and all of tests/c
 
 What the machine does not have is left out, with a word. The last line counts. There is no limit of time: where one
 cargo builds, others wait for it. What hangs is for tests/run.py.
@@ -236,7 +236,8 @@ def library_for_c():
         passed += 1
     for script, folder in (("examples.sh", libraries), ("installed.sh", CARGO_FILES)):
         passed += len(re.findall("well", run(["sh", f"rust/c/{script}", folder])))
-    return passed
+    printed = run(["sh", "tests/c/run.sh", f"{libraries}/libodht.a", "cc"], SANITIZERS="no")
+    return passed + int(re.search(r"(\d+) passed, 0 failed", printed)[1])
 
 
 TESTS = {

@@ -16,6 +16,9 @@ static void TEST(void)
     EXPECT(CALL(open)(NULL, 0), ODHT_TOO_SHORT);
     EXPECT(CALL(check)(NULL, 0), ODHT_TOO_SHORT);
     EXPECT(CALL(check_within)(NULL, 0, ODHT_DEFAULT_GROUPS), ODHT_TOO_SHORT);
+    EXPECT(CALL(open_at)(NULL, 0, NULL), ODHT_TOO_SHORT);
+    EXPECT(CALL(check_at)(NULL, 0, NULL), ODHT_TOO_SHORT);
+    EXPECT(CALL(check_within_at)(NULL, 0, ODHT_DEFAULT_GROUPS, NULL), ODHT_TOO_SHORT);
     EXPECT(CALL(len)(NULL, 0, NULL), ODHT_TOO_SHORT);
     EXPECT(CALL(get)(NULL, 0, KEY, NULL), ODHT_TOO_SHORT);
     EXPECT(CALL(get_all)(NULL, 0, NULL, 0, NULL, 0, NULL, 0), ODHT_TOO_SHORT);
@@ -35,6 +38,9 @@ static void TEST(void)
 
     /* An empty table, and arrays without items. */
     EXPECT(CALL(init)(bytes, LENGTH, 13, 87), ODHT_OK);
+    EXPECT(CALL(open_at)(bytes, LENGTH, NULL), ODHT_OK);
+    EXPECT(CALL(check_at)(bytes, LENGTH, NULL), ODHT_OK);
+    EXPECT(CALL(check_within_at)(bytes, LENGTH, 1, NULL), ODHT_OK);
     EXPECT(CALL(len)(bytes, LENGTH, NULL), ODHT_OK);
     EXPECT(CALL(get)(bytes, LENGTH, KEY, NULL), ODHT_ABSENT);
     EXPECT(CALL(get_all)(bytes, LENGTH, NULL, 0, NULL, 0, NULL, 0), ODHT_OK);

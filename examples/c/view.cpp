@@ -117,6 +117,18 @@ static void hashes_and_sets()
     EXPECT(!pairs);
 }
 
+/* Where opening and checks fail: the keys are in slots 5, 9 and 15. */
+static void places(std::vector<std::uint8_t> bytes)
+{
+    std::size_t slot = 0;
+    EXPECT(Numbers::check_at(bytes.data(), bytes.size(), slot) == ODHT_OK && slot == ODHT_NO_SLOT);
+    EXPECT(Numbers::check_within_at(bytes.data(), bytes.size(), 0, slot) == ODHT_SEARCH_TOO_LONG && slot == 0);
+    bytes[227] = 200;
+    EXPECT(Numbers::check_at(bytes.data(), bytes.size(), slot) == ODHT_BAD_FREE_CONTROL && slot == 3);
+    bytes[229] = 0;
+    EXPECT(Numbers::open_at(bytes.data(), bytes.size(), slot) == ODHT_CONTROL_MISMATCH && slot == 5);
+}
+
 static void failures(std::vector<std::uint8_t> bytes)
 {
     odht::status why = ODHT_FULL;
@@ -136,6 +148,7 @@ static void failures(std::vector<std::uint8_t> bytes)
     EXPECT(odht::build(&key, &value, 1, 0, made) == ODHT_BAD_PERCENT && made.size() == 3);
     EXPECT(Numbers::check(bytes.data(), bytes.size()) == ODHT_OK);
     EXPECT(Numbers::check_within(bytes.data(), bytes.size()) == ODHT_OK);
+    places(bytes);
     bytes[8] = 4;
     EXPECT(Numbers::check(bytes.data(), bytes.size()) == ODHT_WRONG_ITEM_COUNT);
     EXPECT(Numbers::open(bytes.data(), bytes.size())->size() == 4);

@@ -33,6 +33,14 @@ for program in null forged sets readme; do
     try "$program" "$top/examples/c/$program.c"
 done
 
+# odht.h in the versions of C that it is for, and in the one that it says it is not for
+for version in c99 c11 c17; do
+    cc "-std=$version" -Wall -Wextra -Wpedantic -Werror "-I$top/include" -fsyntax-only "$top/examples/c/readme.c"
+done
+if cc -std=c89 "-I$top/include" -fsyntax-only "$top/examples/c/readme.c" 2> told; then exit 1; fi
+grep -q 'error.*needs C99' told
+echo 'versions of C: well'
+
 # odht.hpp in each version, without exceptions, and where the calls are the symbols themselves
 for compiler in g++ clang++; do
     command -v "$compiler" > /dev/null 2>&1 || continue

@@ -62,6 +62,27 @@ test ! -s printed
 grep -q '^prefix=/opt/odht$' staged/opt/odht/lib64/pkgconfig/odht.pc
 build uninstall DESTDIR="$room/staged" PREFIX=/opt/odht LIBDIR=/opt/odht/lib64
 build uninstall PREFIX="$room/usr"
+# at the top, where there is no kit and nothing was made: only what make, cargo and the recipes call is on the PATH
+mkdir bare
+for name in cargo rustc cc ld make sh cat chmod cp echo find install ln realpath rm rmdir sed; do
+    for folder in $(echo "$PATH" | tr : ' '); do
+        if [ -x "$folder/$name" ]; then
+            ln -s "$folder/$name" "bare/$name"
+            break
+        fi
+    done
+done
+at_top() {
+    PATH="$room/bare" make -s -C "$here/../.." CARGO_TARGET_DIR="$target" MADE= DESTDIR="$room/staged" "$@"
+}
+at_top install > printed
+test "$(wc -l < printed)" -eq 1
+grep -q '^there is no rt here.*rust/c' printed
+# shellcheck disable=SC2086
+cc $warnings -Istaged/usr/local/include program.c staged/usr/local/lib/libodht.a -o program
+runs ./program
+at_top uninstall
+echo 'without the kit: well'
 left=$(find staged usr ! -type d)
 test -z "$left" || { echo "not removed: $left" >&2; exit 1; }
 echo 'uninstall: well'

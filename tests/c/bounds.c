@@ -35,9 +35,14 @@ static void keys_of_one_hash(void)
     STATUS(odht_b16_u32_check(bytes, len), ODHT_OK);
     STATUS(odht_b16_u32_check_within(bytes, len, 13), ODHT_SEARCH_TOO_LONG);
     STATUS(odht_b16_u32_check_within(bytes, len, 16), ODHT_OK);
-    for (size_t groups = 0; groups <= 17; groups++)
-        STATUS(odht_b16_u32_check_within(bytes, len, groups),
-               within_error(&table, ODHT_OK, groups));
+    for (size_t groups = 0; groups <= 17; groups++) {
+        uint32_t expected = within_error(&table, ODHT_OK, groups);
+        size_t *slot = SIZES(0);
+
+        STATUS(odht_b16_u32_check_within(bytes, len, groups), expected);
+        STATUS(odht_b16_u32_check_within_at(bytes, len, groups, slot), expected);
+        EQUAL(*slot, error_slot(&table, expected, groups));
+    }
 }
 
 /* In each more than 32 groups from one home on are full, of 64 and more. */

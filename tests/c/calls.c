@@ -14,7 +14,8 @@ EACH_SHAPE(CALLS_OF_MAP, CALLS_OF_SET)
 #define ROW(shape, key, value, hash) \
     { \
         #shape, { key, value, hash }, odht_##shape##_bytes_needed, odht_##shape##_init, \
-        odht_##shape##_open, odht_##shape##_check, odht_##shape##_check_within, odht_##shape##_len, odht_##shape##_sizes, \
+        odht_##shape##_open, odht_##shape##_check, odht_##shape##_check_within, odht_##shape##_open_at, \
+        odht_##shape##_check_at, odht_##shape##_check_within_at, odht_##shape##_len, odht_##shape##_sizes, \
         odht_##shape##_table_len, odht_##shape##_insert_order, odht_##shape##_grow, \
         odht_##shape##_open_view, odht_##shape##_view_len, shape##_get_of_bytes, \
         shape##_get_all_of_bytes, shape##_insert_of_bytes, shape##_insert_all_of_bytes, \

@@ -30,6 +30,9 @@ struct calls {
     uint32_t (*open)(const uint8_t *bytes, size_t len);
     uint32_t (*check)(const uint8_t *bytes, size_t len);
     uint32_t (*check_within)(const uint8_t *bytes, size_t len, size_t groups);
+    uint32_t (*open_at)(const uint8_t *bytes, size_t len, size_t *slot);
+    uint32_t (*check_at)(const uint8_t *bytes, size_t len, size_t *slot);
+    uint32_t (*check_within_at)(const uint8_t *bytes, size_t len, size_t groups, size_t *slot);
     uint32_t (*len)(const uint8_t *bytes, size_t len, size_t *count);
     uint32_t (*sizes)(const uint8_t *bytes, size_t len, size_t *slots, size_t *maximum,
                       uint8_t *percent);

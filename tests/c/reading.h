@@ -68,4 +68,8 @@ uint32_t opening_error(const struct reading *table);
 uint32_t whole_error(const struct reading *table);
 uint32_t within_error(const struct reading *table, uint32_t whole, size_t groups);
 
+/* The slot of this error, which is that of opening or of the whole check with a bound of so many groups; of other errors
+   than those of slots, and of ODHT_OK, SIZE_MAX. */
+size_t error_slot(const struct reading *table, uint32_t error, size_t groups);
+
 #endif

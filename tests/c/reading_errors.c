@@ -121,12 +121,17 @@ static uint32_t slots_error(const struct reading *table)
     return error;
 }
 
+static bool mirror_differs(const struct reading *table, size_t index)
+{
+    size_t control = control_at(table, index);
+
+    return byte_at(table, control) != byte_at(table, control + slots_of(table));
+}
+
 static uint32_t mirror_error(const struct reading *table)
 {
-    size_t controls = control_at(table, 0);
-
     for (size_t index = 0; index < 16; index++)
-        if (byte_at(table, controls + index) != byte_at(table, controls + slots_of(table) + index))
+        if (mirror_differs(table, index))
             return ODHT_MIRROR_MISMATCH;
     return ODHT_OK;
 }
@@ -139,10 +144,15 @@ static uint32_t count_error(const struct reading *table)
     return count_of(table) > maximum_of(table) ? ODHT_TOO_MANY_ITEMS : ODHT_OK;
 }
 
+static bool is_unreachable(const struct reading *table, size_t slot)
+{
+    return is_occupied(table, slot) && search_end(table, key_in(table, slot)) != slot;
+}
+
 static uint32_t reach_error(const struct reading *table)
 {
     for (size_t slot = 0; slot < slots_of(table); slot++)
-        if (is_occupied(table, slot) && search_end(table, key_in(table, slot)) != slot)
+        if (is_unreachable(table, slot))
             return ODHT_UNREACHABLE;
     return ODHT_OK;
 }
@@ -178,4 +188,33 @@ uint32_t within_error(const struct reading *table, uint32_t whole, size_t groups
         if (!ends_within(table, home, groups))
             return ODHT_SEARCH_TOO_LONG;
     return whole;
+}
+
+/* Whether this error, one of slots, is at this slot. */
+static bool is_error_at(const struct reading *table, uint32_t error, size_t groups, size_t slot)
+{
+    switch (error) {
+    case ODHT_MIRROR_MISMATCH: return mirror_differs(table, slot);
+    case ODHT_UNREACHABLE: return is_unreachable(table, slot);
+    case ODHT_SEARCH_TOO_LONG: return !ends_within(table, slot, groups);
+    default: return contents_error(table, slot) == error;
+    }
+}
+
+static bool is_of_slots(uint32_t error)
+{
+    return error == ODHT_NON_ZERO_EMPTY || error == ODHT_CONTROL_MISMATCH
+        || error == ODHT_BAD_FREE_CONTROL || error == ODHT_MIRROR_MISMATCH
+        || error == ODHT_UNREACHABLE || error == ODHT_SEARCH_TOO_LONG;
+}
+
+size_t error_slot(const struct reading *table, uint32_t error, size_t groups)
+{
+    size_t slot = 0;
+
+    if (!is_of_slots(error))
+        return SIZE_MAX;
+    while (slot < slots_of(table) && !is_error_at(table, error, groups, slot))
+        slot++;
+    return slot;
 }

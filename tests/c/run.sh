@@ -1,7 +1,7 @@
 #!/bin/sh
 # run.sh LIBRARY [CC]: compiles the tests of the calls for C over this archive and runs them: with CC, or with cc and,
-# where there is one, with clang; and with each under the sanitizers, where they run here. Prints what the program
-# prints. The status is 0 only where each run went well.
+# where there is one, with clang; and with each under the sanitizers, where they run here and SANITIZERS is not `no`.
+# Prints what the program prints. The status is 0 only where each run went well.
 set -eu
 if [ $# -lt 1 ] || [ ! -f "$1" ]; then
     echo 'usage: run.sh LIBRARY [CC]' >&2
@@ -47,6 +47,6 @@ if [ $# = 0 ]; then
 fi
 for compiler in "$@"; do
     try "$compiler" ''
-    if sanitizes "$compiler"; then try "$compiler" "$sanitizers"; fi
+    if [ "${SANITIZERS-}" != no ] && sanitizes "$compiler"; then try "$compiler" "$sanitizers"; fi
 done
 exit "$status"

@@ -20,6 +20,7 @@ extern const struct test list_tests[];
 extern const struct test lookup_tests[];
 extern const struct test memory_tests[];
 extern const struct test order_tests[];
+extern const struct test place_tests[];
 extern const struct test prefix_tests[];
 extern const struct test shape_tests[];
 extern const struct test status_tests[];
@@ -32,8 +33,8 @@ extern const struct test whole_check_tests[];
     { \
         harness_tests, bound_tests, build_tests, carried_tests, changed_table_tests, \
         check_tests, error_tests, grow_tests, header_tests, init_tests, insert_tests, large_tests, \
-        list_tests, lookup_tests, memory_tests, order_tests, prefix_tests, shape_tests, \
-        status_tests, view_tests, walk_tests, whole_check_tests \
+        list_tests, lookup_tests, memory_tests, order_tests, place_tests, prefix_tests, \
+        shape_tests, status_tests, view_tests, walk_tests, whole_check_tests \
     }
 
 #endif

@@ -23,9 +23,24 @@ static void check_within(const struct calls *calls, const struct reading *table,
                          size_t groups)
 {
     uint32_t expected = within_error(table, whole, groups);
+    size_t slot = 0;
 
     STATUS(calls->check_within(table->bytes, table->len, groups), expected);
+    STATUS(calls->check_within_at(table->bytes, table->len, groups, &slot), expected);
+    EQUAL(slot, error_slot(table, expected, groups));
     longer[groups] += expected == ODHT_SEARCH_TOO_LONG;
+}
+
+/* Asserts that opening and whole check say in which slot the errors of the second reading are. */
+static void check_places(const struct calls *calls, const struct reading *table, uint32_t whole)
+{
+    uint32_t opening = opening_error(table);
+    size_t slot = 0;
+
+    STATUS(calls->open_at(table->bytes, table->len, &slot), opening);
+    EQUAL(slot, error_slot(table, opening, 0));
+    STATUS(calls->check_at(table->bytes, table->len, &slot), whole);
+    EQUAL(slot, error_slot(table, whole, 0));
 }
 
 /* Asserts that header, opening and whole check return the errors of the second reading, and counts the last. */
@@ -37,6 +52,7 @@ static void check_errors(const struct calls *calls, const uint8_t *bytes, size_t
     size_t count = 0;
 
     STATUS(calls->check(bytes, len), expected);
+    check_places(calls, &table, expected);
     for (size_t groups = 1; groups <= BOUNDS; groups++)
         check_within(calls, &table, expected, groups);
     STATUS(calls->open(bytes, len), opening_error(&table));

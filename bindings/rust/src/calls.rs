@@ -20,6 +20,9 @@ pub trait Calls {
     fn open(bytes: &[u8]) -> u32;
     fn check(bytes: &[u8]) -> u32;
     fn check_within(bytes: &[u8], groups: usize) -> u32;
+    fn open_at(bytes: &[u8], slot: &mut usize) -> u32;
+    fn check_at(bytes: &[u8], slot: &mut usize) -> u32;
+    fn check_within_at(bytes: &[u8], groups: usize, slot: &mut usize) -> u32;
     fn sizes(bytes: &[u8], slots: &mut usize, max_items: &mut usize, percent: &mut u8) -> u32;
     fn table_len(bytes: &[u8], len: &mut usize) -> u32;
     fn insert(bytes: &mut [u8], key: &Self::Key, value: Self::Value, former: &mut Self::Value) -> u32;
@@ -106,6 +109,21 @@ macro_rules! calls {
             fn check_within(bytes: &[u8], groups: usize) -> u32 {
                 // SAFETY: the pointer and the length are those of a slice.
                 unsafe { sys::$module::check_within(bytes.as_ptr(), bytes.len(), groups) }
+            }
+
+            fn open_at(bytes: &[u8], slot: &mut usize) -> u32 {
+                // SAFETY: of a slice, and a reference that is apart.
+                unsafe { sys::$module::open_at(bytes.as_ptr(), bytes.len(), slot) }
+            }
+
+            fn check_at(bytes: &[u8], slot: &mut usize) -> u32 {
+                // SAFETY: of a slice, and a reference that is apart.
+                unsafe { sys::$module::check_at(bytes.as_ptr(), bytes.len(), slot) }
+            }
+
+            fn check_within_at(bytes: &[u8], groups: usize, slot: &mut usize) -> u32 {
+                // SAFETY: of a slice, and a reference that is apart.
+                unsafe { sys::$module::check_within_at(bytes.as_ptr(), bytes.len(), groups, slot) }
             }
 
             #[inline]

@@ -124,3 +124,37 @@ impl fmt::Display for Error {
 }
 
 impl std::error::Error for Error {}
+
+/// An error of bytes, and where it is.
+#[derive(Clone, Copy, Debug, PartialEq, Eq, Hash)]
+pub struct ErrorAt {
+    /// The first error.
+    pub error: Error,
+    /// Its slot, counted from 0: of an entry, a control byte or a key that is not reachable. Of
+    /// [`Error::MirrorMismatch`] the slot whose control byte is not repeated; of [`Error::SearchTooLong`] the slot
+    /// where such searches begin. `None` where the error is in no slot.
+    pub slot: Option<usize>,
+}
+
+impl ErrorAt {
+    /// The error of a status, and what the call wrote for its slot.
+    pub(crate) fn unless_ok(status: u32, slot: usize) -> Result<(), ErrorAt> {
+        let slot = if slot == usize::MAX { None } else { Some(slot) };
+        Error::unless_ok(status, ()).map_err(|error| ErrorAt { error, slot })
+    }
+}
+
+impl fmt::Display for ErrorAt {
+    fn fmt(&self, formatter: &mut fmt::Formatter<'_>) -> fmt::Result {
+        match self.slot {
+            Some(slot) => write!(formatter, "{} at slot {slot}", self.error),
+            None => self.error.fmt(formatter),
+        }
+    }
+}
+
+impl std::error::Error for ErrorAt {
+    fn source(&self) -> Option<&(dyn std::error::Error + 'static)> {
+        Some(&self.error)
+    }
+}

@@ -13,7 +13,7 @@ mod table;
 mod table_mut;
 
 pub use builder::{Builder, DEFAULT_PERCENT};
-pub use error::Error;
+pub use error::{Error, ErrorAt};
 pub use iter::Iter;
 pub use shape::*;
 pub use table::{Sizes, Table, Walked, DEFAULT_GROUPS};

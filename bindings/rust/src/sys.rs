@@ -74,6 +74,18 @@ macro_rules! declare {
                 #[link_name = concat!("odht_", stringify!($module), "_check_within")]
                 pub fn check_within(bytes: *const u8, bytes_len: usize, groups: usize) -> u32;
 
+                /// Whether bytes can be used as a table, and where the first error is.
+                #[link_name = concat!("odht_", stringify!($module), "_open_at")]
+                pub fn open_at(bytes: *const u8, bytes_len: usize, slot: *mut usize) -> u32;
+
+                /// Whether bytes are valid, and where the first error is.
+                #[link_name = concat!("odht_", stringify!($module), "_check_at")]
+                pub fn check_at(bytes: *const u8, bytes_len: usize, slot: *mut usize) -> u32;
+
+                /// The same with a bound of searches.
+                #[link_name = concat!("odht_", stringify!($module), "_check_within_at")]
+                pub fn check_within_at(bytes: *const u8, bytes_len: usize, groups: usize, slot: *mut usize) -> u32;
+
                 /// What the header says of the slots.
                 #[link_name = concat!("odht_", stringify!($module), "_sizes")]
                 pub fn sizes(

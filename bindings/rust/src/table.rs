@@ -4,7 +4,7 @@ use std::fmt;
 use std::marker::PhantomData;
 
 use crate::calls::Calls;
-use crate::error::{Error, ABSENT, OK, UNMADE};
+use crate::error::{Error, ErrorAt, ABSENT, OK, UNMADE};
 use crate::iter::Iter;
 use crate::shape::Shape;
 use crate::sys::View;
@@ -110,6 +110,48 @@ impl<'a, S: Shape> Table<'a, S> {
     pub fn checked_within(bytes: &'a [u8], groups: usize) -> Result<Self, Error> {
         Error::unless_ok(S::Calls::check_within(bytes, groups), ())?;
         Table::open(bytes)
+    }
+
+    /// Whether [`Table::open`] opens the bytes, and where the first error is.
+    ///
+    /// # Errors
+    ///
+    /// The error of [`Table::open`], with its slot.
+    pub fn open_at(bytes: &[u8]) -> Result<(), ErrorAt> {
+        let mut slot = 0;
+        let status = S::Calls::open_at(bytes, &mut slot);
+        ErrorAt::unless_ok(status, slot)
+    }
+
+    /// Whether bytes are valid, and where the first error is. The cost is that of [`Table::checked`].
+    ///
+    /// ```
+    /// # use odht_ffi::{Builder, Error, ErrorAt, Table, U64U32};
+    /// let mut bytes = [(1, 2)].into_iter().collect::<Builder<U64U32>>().build()?;
+    /// assert_eq!(Table::<U64U32>::check_at(&bytes), Ok(()));
+    /// bytes[32] = 1; // in the entry of slot 0, which is free
+    /// assert_eq!(Table::<U64U32>::check_at(&bytes), Err(ErrorAt { error: Error::NonZeroEmpty, slot: Some(0) }));
+    /// # Ok::<(), Error>(())
+    /// ```
+    ///
+    /// # Errors
+    ///
+    /// The error of [`Table::checked`], with its slot.
+    pub fn check_at(bytes: &[u8]) -> Result<(), ErrorAt> {
+        let mut slot = 0;
+        let status = S::Calls::check_at(bytes, &mut slot);
+        ErrorAt::unless_ok(status, slot)
+    }
+
+    /// [`Table::check_at`] with a bound of searches, in groups: of bytes of strangers, as [`Table::checked_within`].
+    ///
+    /// # Errors
+    ///
+    /// The error of [`Table::checked_within`], with its slot.
+    pub fn check_within_at(bytes: &[u8], groups: usize) -> Result<(), ErrorAt> {
+        let mut slot = 0;
+        let status = S::Calls::check_within_at(bytes, groups, &mut slot);
+        ErrorAt::unless_ok(status, slot)
     }
 
     /// How many bytes the table at the front of `bytes` has, by its header. What follows the table is not looked at, nor

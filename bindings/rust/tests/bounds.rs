@@ -3,7 +3,7 @@
 mod common;
 
 use common::worked_example;
-use odht_ffi::{empty_table, Error, Table, TableMut, B16U32, DEFAULT_GROUPS, U64U32};
+use odht_ffi::{empty_table, Error, ErrorAt, Table, TableMut, B16U32, DEFAULT_GROUPS, U64U32};
 
 /// 222 keys whose last four bytes are the same, so that they have one hash, in 256 slots: 13 full groups of its probe
 /// order, and 14 slots of the next. So a search from its home reads 14 groups.
@@ -25,6 +25,7 @@ fn within(bytes: &[u8], groups: usize) -> Result<(), Error> {
         assert_eq!(table.bytes(), bytes);
     });
     assert_eq!(Table::<B16U32>::open(bytes).unwrap().check_within(groups), checked);
+    assert_eq!(Table::<B16U32>::check_within_at(bytes, groups).map_err(|it| it.error), checked);
     let mut copy = bytes.to_vec();
     let inserted = TableMut::<B16U32>::checked_within(&mut copy, groups).map(|mut table| {
         assert_eq!(table.insert(&[1; 16], 1), Err(Error::Full));
@@ -68,4 +69,25 @@ fn sixteen_slots_are_one_group() {
     assert_eq!((table.get(&3), table.check_within(1)), (Some(4), Ok(())));
     assert_eq!(table.check_within(0), Err(Error::SearchTooLong));
     assert_eq!(Table::<U64U32>::checked_within(&bytes[1..], 1).map(|_| ()), Err(Error::WrongTag));
+}
+
+/// The keys of the worked example are in slots 5, 9 and 15; what is changed was worked out by hand.
+#[test]
+fn where_the_first_error_is() {
+    let at = |error, slot| Err(ErrorAt { error, slot });
+    let mut bytes = worked_example();
+    assert_eq!(Table::<U64U32>::open_at(&bytes), Ok(()));
+    assert_eq!(Table::<U64U32>::check_at(&bytes), Ok(()));
+    assert_eq!(Table::<U64U32>::check_within_at(&bytes, 1), Ok(()));
+    assert_eq!(Table::<U64U32>::check_within_at(&bytes, 0), at(Error::SearchTooLong, Some(0)));
+    bytes[8] = 4;
+    assert_eq!(Table::<U64U32>::check_at(&bytes), at(Error::WrongItemCount, None));
+    bytes[227] = 200; // the control byte of slot 3, which is free
+    assert_eq!(Table::<U64U32>::open_at(&bytes), Ok(()));
+    let error = Table::<U64U32>::check_at(&bytes).unwrap_err();
+    assert_eq!(error, ErrorAt { error: Error::BadFreeControl, slot: Some(3) });
+    assert_eq!(error.to_string(), "bad free control at slot 3");
+    bytes[116] = 1; // in the entry of slot 7, which is free
+    assert_eq!(Table::<U64U32>::open_at(&bytes), at(Error::NonZeroEmpty, Some(7)));
+    assert_eq!(Table::<U64U32>::open_at(&bytes[..255]), at(Error::WrongLength, None));
 }

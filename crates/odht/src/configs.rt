@@ -71,6 +71,18 @@ impl Short for [u8; 64] {
     ghost short = { lit≤ tt };
 }
 
+impl Short for [u8; 65] {
+    ghost short = { lit≤ tt };
+}
+
+impl Short for [u8; 128] {
+    ghost short = { lit≤ tt };
+}
+
+impl Short for [u8; 255] {
+    ghost short = { lit≤ tt };
+}
+
 /// From bytes to bytes, as they are.
 pub struct Plain<K, V> {
     key: PhantomData<K>,

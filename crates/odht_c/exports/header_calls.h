@@ -28,7 +28,7 @@
  *     Whether bytes are valid, to the last one: those of a table that the format
  *     allows. Then all comments on answers here hold for them.
  *     OK: they are valid. An error, 1 to 16: the first in the order that is described
- *     above; it does not say in which slot.
+ *     above. odht_S_check_at says in which slot.
  *     It goes over the slots, up to 64 at a time, and for each occupied slot reads the
  *     control bytes of its key's probe order up to it, sixteen at a time; a key is
  *     compared only where an earlier slot of that order has its tag. It allocates
@@ -49,6 +49,16 @@
  *     For s slots it reads at most 2 * s * groups groups, and compares at most
  *     16 * s * groups keys. With s / 16 groups or more it answers as odht_S_check. It
  *     allocates nothing.
+ *
+ * odht_S_open_at(bytes, bytes_len, *slot)
+ * odht_S_check_at(bytes, bytes_len, *slot)
+ * odht_S_check_within_at(bytes, bytes_len, groups, *slot)
+ *     As odht_S_open, odht_S_check and odht_S_check_within, and *slot is where the first
+ *     error is, which is the one that is answered. Slots count from 0.
+ *     NON_ZERO_EMPTY, CONTROL_MISMATCH, BAD_FREE_CONTROL, UNREACHABLE: its slot.
+ *     MIRROR_MISMATCH: the slot, 0 to 15, whose control byte the mirror does not repeat.
+ *     SEARCH_TOO_LONG: the slot where such searches begin. OK, and all other errors, which
+ *     are in no slot: ODHT_NO_SLOT.
  *
  * odht_S_len(bytes, bytes_len, *count)
  *     OK: *count is the header's count of items. It may be untrue: before odht_S_check

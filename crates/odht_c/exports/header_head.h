@@ -34,9 +34,9 @@
  *   requires; a table's bytes alone may begin at any address.
  * - Where ODHT_TAKES_NULL is 1, that is with GCC and Clang, NULL may be passed for a
  *   slice of length 0, and for an out-parameter of a single number or value that the
- *   caller does not want (former, value, accepted, count, len), which is then not written. A
- *   key and a view are never NULL. Where ODHT_TAKES_NULL is 0 no pointer is NULL, also
- *   where the length beside it is 0.
+ *   caller does not want (former, value, accepted, count, len, slot), which is then not
+ *   written. A key and a view are never NULL. Where ODHT_TAKES_NULL is 0 no pointer is NULL,
+ *   also where the length beside it is 0.
  *
  * The comments on the answers hold for valid bytes: those that these calls have
  * made, and all others that odht_*_check accepts. It reads every byte. odht_*_open
@@ -52,10 +52,17 @@
  * load factor. docs/FORMAT.md has the details.
  *
  * odht_*_build_growing alone allocates memory, by malloc, and frees it before it
- * returns. libodht.a and libodht.so need the C library and nothing else.
+ * returns. libodht.a and libodht.so need the C library and nothing else. This header
+ * needs C99 or later, or C++11 or later.
  */
 #ifndef ODHT_H
 #define ODHT_H
+
+/* Strict C89 and C94 have no inline functions. (As an extension, as in gnu89, they do.) */
+#if defined(__STRICT_ANSI__) && !defined(__cplusplus) \
+    && (!defined(__STDC_VERSION__) || __STDC_VERSION__ < 199901L)
+#error "odht.h needs C99 or later, or C++11 or later"
+#endif
 
 #include <stddef.h>
 #include <stdint.h>
@@ -105,6 +112,10 @@ extern "C" {
 /* A bound of searches for odht_*_check_within, in groups of sixteen control bytes, that tables of
    keys whose hashes vary keep. */
 #define ODHT_DEFAULT_GROUPS 128
+
+/* What odht_*_open_at, odht_*_check_at and odht_*_check_within_at write where the first error is in
+   no slot, and with ODHT_OK. No table has so many slots. */
+#define ODHT_NO_SLOT SIZE_MAX
 
 /* What a call answers. Beside each number: Error::Name is the name of the library's error in
    Rattle, and then when it occurs. docs/FORMAT.md, "Numbers for C", has the same table. */

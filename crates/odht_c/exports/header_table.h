@@ -27,6 +27,22 @@
         return odht_symbol_##P##check_within( \
             odht_read_uint8_t(bytes, bytes_len), bytes_len, groups);) \
 \
+    /* As open, check and check_within, and *slot is where the first error is; ODHT_NO_SLOT where \
+       it is in no slot, and with OK. */ \
+    ODHT_CALL(uint32_t, P##open_at, (const uint8_t *bytes, size_t bytes_len, size_t *slot), \
+        size_t unwanted = 0; \
+        return odht_symbol_##P##open_at( \
+            odht_read_uint8_t(bytes, bytes_len), bytes_len, slot ? slot : &unwanted);) \
+    ODHT_CALL(uint32_t, P##check_at, (const uint8_t *bytes, size_t bytes_len, size_t *slot), \
+        size_t unwanted = 0; \
+        return odht_symbol_##P##check_at( \
+            odht_read_uint8_t(bytes, bytes_len), bytes_len, slot ? slot : &unwanted);) \
+    ODHT_CALL(uint32_t, P##check_within_at, \
+        (const uint8_t *bytes, size_t bytes_len, size_t groups, size_t *slot), \
+        size_t unwanted = 0; \
+        return odht_symbol_##P##check_within_at( \
+            odht_read_uint8_t(bytes, bytes_len), bytes_len, groups, slot ? slot : &unwanted);) \
+\
     /* OK: *count is the header's count of items. An error, 1 to 7: it is unchanged. */ \
     ODHT_CALL(uint32_t, P##len, (const uint8_t *bytes, size_t bytes_len, size_t *count), \
         size_t unwanted = 0; \

@@ -13,6 +13,8 @@ pub mod Views
 pub mod Walks
 -- the numbers of a header
 pub mod Sizes
+-- where opening or checking fails
+pub mod Places
 -- tables at the front of longer bytes
 pub mod Prefixes
 -- orders of inserts

@@ -3,6 +3,8 @@
 pub mod Statuses
 -- the calls that read a table
 pub mod Reads
+-- the calls that tell where opening or checking fails
+pub mod Places
 -- the call for the length of a table at the front of longer bytes
 pub mod Prefixes
 -- the call that walks over a table and writes its pairs to arrays

@@ -6,6 +6,7 @@ pub mod build;
 pub mod grow;
 mod lookups;
 pub mod order;
+pub mod places;
 pub mod read;
 pub mod status;
 pub mod view;

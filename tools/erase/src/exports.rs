@@ -42,8 +42,10 @@ impl Eraser<'_> {
         }
         let (name, close) = (self.source.text(at), self.source.close(list)?);
         let item: String = (list + 1..close).map(|i| self.source.text(i)).collect();
-        if item.contains(';') {
-            return Ok(String::new()); // an array comes as a pointer
+        // an array comes as a pointer; a list of arrays is a list
+        let inner = if self.source.is(list + 1, "[") { self.source.close(list + 1)? } else { list };
+        if (inner + 1..close).any(|i| self.source.is(i, ";")) {
+            return Ok(String::new());
         }
         let (pointer, of) = if is_mut { ("mut", "list_mut") } else { ("const", "list") };
         self.source.replace(at, close, &format!("{name}: *{pointer} {item}, {name}_len: usize"));

@@ -177,6 +177,13 @@ fn lists_of_exports_are_pointers_and_lengths() {
             "#[unsafe(no_mangle)] pub unsafe extern \"C\" fn f<'a>(v: &mut V<'a>, k: &[u8; 4], x: *const u8, \
              x_len: usize) { let x = unsafe { crate::lists::list(x, x_len) };}",
         ),
+        // lists of arrays too, and an array of arrays is none
+        (
+            "extern \"C\" fn f(k: &[[u8; 4]], v: &mut [[u8; 16]], a: &[[u8; 4]; 2]) {}",
+            "unsafe extern \"C\" fn f(k: *const [u8;4], k_len: usize, v: *mut [u8;16], v_len: usize, \
+             a: &[[u8; 4]; 2]) { let k = unsafe { crate::lists::list(k, k_len) };\
+             let v = unsafe { crate::lists::list_mut(v, v_len) };}",
+        ),
         (
             "extern \"C\" fn f(alloc: Global, n: usize) {}",
             "unsafe extern \"C\" fn f( n: usize) { let alloc = Global;}",

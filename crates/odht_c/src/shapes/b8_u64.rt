@@ -11,6 +11,7 @@ ghost use Rattle.odht_header.specs.Refusals.{view_refusal, check_refusal, check_
 ghost use Rattle.odht_calls.specs.Statuses.{status_or_ok};
 ghost use Rattle.odht_calls.specs.Reads.{GetAnswers, GetAllAnswers, LenAnswers, SizesAnswers};
 ghost use Rattle.odht_calls.specs.Prefixes.{TableLenAnswers};
+ghost use Rattle.odht_calls.specs.Places.{PlaceAnswers};
 ghost use Rattle.odht_calls.specs.Walks.{WalkAnswers};
 ghost use Rattle.odht_calls.specs.Views.{OpenViewAnswers, ViewGetAnswers, ViewGetAllAnswers};
 ghost use Rattle.odht_calls.specs.Views.{ViewLenAnswers};
@@ -25,7 +26,7 @@ use odht::config::Coded;
 use odht::configs::Bytes8ToU64 as Shape;
 use odht_calls::status::BAD_LENGTHS;
 use odht_calls::view::{self, View};
-use odht_calls::{build, grow, order, read, walk, write};
+use odht_calls::{build, grow, order, places, read, walk, write};
 use std::alloc::Global;
 
 /// Writes to `len` how many bytes a new table for so many items has: status 0. `BAD_PERCENT` where the load factor is
@@ -85,6 +86,37 @@ pub extern "C" fn odht_b8_u64_check_within(bytes: &[u8], groups: usize) -> u32
         in result ≡ status_or_ok (check_refusal_by F (Some groups) bytes.now) }
 {
     read::check_within::<Shape>(bytes, groups)
+}
+
+/// `open`, and writes to `slot` where the first error is: the slot, or `NO_SLOT`, the largest number, of an error of
+/// the header or length and with status 0. The cost does not depend on the number of slots.
+#[unsafe(no_mangle)]
+pub extern "C" fn odht_b8_u64_open_at(bytes: &[u8], slot: &mut usize) -> u32
+    ensures { PlaceAnswers (view_refusal ⟦<Shape as Coded>⟧.coding.format bytes.now) result
+        slot.new }
+{
+    places::open_at::<Shape>(bytes, slot)
+}
+
+/// `check`, and writes to `slot` where the first error is: the slot of an error of an entry, a control byte or a key
+/// that is not reachable; of `MIRROR_MISMATCH` the index of the mirror's byte; or `NO_SLOT`, the largest number, of any
+/// other error and with status 0. The cost is that of `check`.
+#[unsafe(no_mangle)]
+pub extern "C" fn odht_b8_u64_check_at(bytes: &[u8], slot: &mut usize) -> u32
+    ensures { PlaceAnswers (check_refusal ⟦<Shape as Coded>⟧.coding.format bytes.now) result
+        slot.new }
+{
+    places::check_at::<Shape>(bytes, slot)
+}
+
+/// `check_within`, and writes to `slot` where the first error is, as `check_at` does; of `SEARCH_TOO_LONG` the slot
+/// where the searches begin. The cost is that of `check_within`.
+#[unsafe(no_mangle)]
+pub extern "C" fn odht_b8_u64_check_within_at(bytes: &[u8], groups: usize, slot: &mut usize) -> u32
+    ensures { let F = ⟦<Shape as Coded>⟧.coding.format
+        in PlaceAnswers (check_refusal_by F (Some groups) bytes.now) result slot.new }
+{
+    places::check_within_at::<Shape>(bytes, groups, slot)
 }
 
 /// Gives the key this value: status 0 where the key was new, `REPLACED` where it had a value, which is written to

@@ -11,10 +11,16 @@ use std::collections::BTreeMap;
 use std::process::Abort;
 
 impl Random {
-    fn array<A: ByteArray>(&mut self, rt: &impl Abort) -> A {
-        let mut buffer = [0; 64];
+    // Arrays of more than 64 bytes, which are compared in another way, differ behind these alone, or in the last alone.
+    fn array<A: ByteArray>(&mut self, rt: &impl Abort, is_last: bool) -> A {
+        let mut buffer = [0; 255];
         assert!(rt; A::LEN <= buffer.len());
-        for place in buffer[..A::LEN].iter_mut() {
+        let zeros = match A::LEN {
+            0..=64 => 0,
+            len if is_last => len - 1,
+            _ => 64,
+        };
+        for place in buffer[zeros..A::LEN].iter_mut() {
             *place = self.byte();
         }
         A::from_slice(&buffer[..A::LEN])
@@ -26,8 +32,8 @@ fn random_list<K: Short, V: Short>(rt: &impl Abort, alloc: Global, seed: u64) ->
     let mut random = Random { state: seed };
     let mut list = Vec::new(alloc);
     for _ in 0..seed.wrapping_mul(3) {
-        let key: K = random.array(rt);
-        let value: V = random.array(rt);
+        let key: K = random.array(rt, seed % 2 == 0);
+        let value: V = random.array(rt, false);
         list.push((key, value)).expect(rt, "memory");
     }
     list
@@ -220,6 +226,14 @@ fn long_keys_and_no_values(rt: HostRuntime) {
     check_all::<[u8; 17], [u8; 0]>(&rt, rt.alloc());
     check_all::<[u8; 63], [u8; 0]>(&rt, rt.alloc());
     check_all::<[u8; 64], [u8; 0]>(&rt, rt.alloc());
+}
+
+#[test]
+fn keys_that_differ_behind_64_bytes(rt: HostRuntime) {
+    check_all::<[u8; 65], [u8; 0]>(&rt, rt.alloc());
+    check_all::<[u8; 65], [u8; 4]>(&rt, rt.alloc());
+    check_all::<[u8; 128], [u8; 65]>(&rt, rt.alloc());
+    check_all::<[u8; 255], [u8; 1]>(&rt, rt.alloc());
 }
 
 #[test]

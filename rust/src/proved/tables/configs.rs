@@ -44,6 +44,12 @@ impl Short for [u8; 63] {}
 
 impl Short for [u8; 64] {}
 
+impl Short for [u8; 65] {}
+
+impl Short for [u8; 128] {}
+
+impl Short for [u8; 255] {}
+
 /// From bytes to bytes, as they are.
 pub struct Plain<K, V> {
     key: PhantomData<K>,

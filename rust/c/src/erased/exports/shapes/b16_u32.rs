@@ -9,7 +9,7 @@
 
 use crate::erased::calls::status::BAD_LENGTHS;
 use crate::erased::calls::view::{self, View};
-use crate::erased::calls::{build, grow, order, read, walk, write};
+use crate::erased::calls::{build, grow, order, places, read, walk, write};
 use crate::proved::tables::bytes::BorrowedMut;
 use crate::proved::tables::configs::Bytes16ToU32 as Shape;
 use crate::shim::Global;
@@ -69,6 +69,44 @@ pub unsafe extern "C" fn odht_b16_u32_check_within(
     read::check_within::<Shape>(bytes, groups)
 }
 
+/// `open`, and writes to `slot` where the first error is: the slot, or `NO_SLOT`, the largest number, of an error of
+/// the header or length and with status 0. The cost does not depend on the number of slots.
+#[unsafe(no_mangle)]
+pub unsafe extern "C" fn odht_b16_u32_open_at(
+    bytes: *const u8,
+    bytes_len: usize,
+    slot: &mut usize,
+) -> u32 {
+    let bytes = unsafe { crate::lists::list(bytes, bytes_len) };
+    places::open_at::<Shape>(bytes, slot)
+}
+
+/// `check`, and writes to `slot` where the first error is: the slot of an error of an entry, a control byte or a key
+/// that is not reachable; of `MIRROR_MISMATCH` the index of the mirror's byte; or `NO_SLOT`, the largest number, of any
+/// other error and with status 0. The cost is that of `check`.
+#[unsafe(no_mangle)]
+pub unsafe extern "C" fn odht_b16_u32_check_at(
+    bytes: *const u8,
+    bytes_len: usize,
+    slot: &mut usize,
+) -> u32 {
+    let bytes = unsafe { crate::lists::list(bytes, bytes_len) };
+    places::check_at::<Shape>(bytes, slot)
+}
+
+/// `check_within`, and writes to `slot` where the first error is, as `check_at` does; of `SEARCH_TOO_LONG` the slot
+/// where the searches begin. The cost is that of `check_within`.
+#[unsafe(no_mangle)]
+pub unsafe extern "C" fn odht_b16_u32_check_within_at(
+    bytes: *const u8,
+    bytes_len: usize,
+    groups: usize,
+    slot: &mut usize,
+) -> u32 {
+    let bytes = unsafe { crate::lists::list(bytes, bytes_len) };
+    places::check_within_at::<Shape>(bytes, groups, slot)
+}
+
 /// Gives the key this value: status 0 where the key was new, `REPLACED` where it had a value, which is written to
 /// `former`. `FULL` at the maximum where the key is absent, or an error of the header or length; then nothing changes.
 /// A view of the bytes remains usable, whatever the status.
@@ -92,12 +130,14 @@ pub unsafe extern "C" fn odht_b16_u32_insert(
 pub unsafe extern "C" fn odht_b16_u32_insert_all(
     bytes: *mut u8,
     bytes_len: usize,
-    keys: &[[u8; 16]],
+    keys: *const [u8; 16],
+    keys_len: usize,
     values: *const u32,
     values_len: usize,
     accepted: &mut usize,
 ) -> u32 {
     let bytes = unsafe { crate::lists::list_mut(bytes, bytes_len) };
+    let keys = unsafe { crate::lists::list(keys, keys_len) };
     let values = unsafe { crate::lists::list(values, values_len) };
     if values.len() != keys.len() {
         return BAD_LENGTHS;
@@ -126,13 +166,15 @@ pub unsafe extern "C" fn odht_b16_u32_get(
 pub unsafe extern "C" fn odht_b16_u32_get_all(
     bytes: *const u8,
     bytes_len: usize,
-    keys: &[[u8; 16]],
+    keys: *const [u8; 16],
+    keys_len: usize,
     values: *mut u32,
     values_len: usize,
     found: *mut u8,
     found_len: usize,
 ) -> u32 {
     let bytes = unsafe { crate::lists::list(bytes, bytes_len) };
+    let keys = unsafe { crate::lists::list(keys, keys_len) };
     let values = unsafe { crate::lists::list_mut(values, values_len) };
     let found = unsafe { crate::lists::list_mut(found, found_len) };
     if values.len() != keys.len() || found.len() != keys.len() {
@@ -189,12 +231,14 @@ pub unsafe extern "C" fn odht_b16_u32_walk(
     bytes: *const u8,
     bytes_len: usize,
     cursor: &mut usize,
-    keys: &mut [[u8; 16]],
+    keys: *mut [u8; 16],
+    keys_len: usize,
     values: *mut u32,
     values_len: usize,
     item_count: &mut usize,
 ) -> u32 {
     let bytes = unsafe { crate::lists::list(bytes, bytes_len) };
+    let keys = unsafe { crate::lists::list_mut(keys, keys_len) };
     let values = unsafe { crate::lists::list_mut(values, values_len) };
     if values.len() != keys.len() {
         return BAD_LENGTHS;
@@ -231,12 +275,14 @@ pub unsafe extern "C" fn odht_b16_u32_view_get(
 #[unsafe(no_mangle)]
 pub unsafe extern "C" fn odht_b16_u32_view_get_all(
     view: &View<'_>,
-    keys: &[[u8; 16]],
+    keys: *const [u8; 16],
+    keys_len: usize,
     values: *mut u32,
     values_len: usize,
     found: *mut u8,
     found_len: usize,
 ) -> u32 {
+    let keys = unsafe { crate::lists::list(keys, keys_len) };
     let values = unsafe { crate::lists::list_mut(values, values_len) };
     let found = unsafe { crate::lists::list_mut(found, found_len) };
     if values.len() != keys.len() || found.len() != keys.len() {
@@ -299,7 +345,8 @@ pub unsafe extern "C" fn odht_b16_u32_grow(
 /// table `out` is unchanged. Allocates nothing. One pass over the bytes, then one insert for each pair.
 #[unsafe(no_mangle)]
 pub unsafe extern "C" fn odht_b16_u32_build(
-    keys: &[[u8; 16]],
+    keys: *const [u8; 16],
+    keys_len: usize,
     values: *const u32,
     values_len: usize,
     max_load_factor_percent: u8,
@@ -307,6 +354,7 @@ pub unsafe extern "C" fn odht_b16_u32_build(
     out_len: usize,
     len: &mut usize,
 ) -> u32 {
+    let keys = unsafe { crate::lists::list(keys, keys_len) };
     let values = unsafe { crate::lists::list(values, values_len) };
     let out = unsafe { crate::lists::list_mut(out, out_len) };
     if values.len() != keys.len() {
@@ -323,7 +371,8 @@ pub unsafe extern "C" fn odht_b16_u32_build(
 /// the growths, and one copy of the table.
 #[unsafe(no_mangle)]
 pub unsafe extern "C" fn odht_b16_u32_build_growing(
-    keys: &[[u8; 16]],
+    keys: *const [u8; 16],
+    keys_len: usize,
     values: *const u32,
     values_len: usize,
     out: *mut u8,
@@ -331,6 +380,7 @@ pub unsafe extern "C" fn odht_b16_u32_build_growing(
     len: &mut usize,
 ) -> u32 {
     let alloc = Global;
+    let keys = unsafe { crate::lists::list(keys, keys_len) };
     let values = unsafe { crate::lists::list(values, values_len) };
     let out = unsafe { crate::lists::list_mut(out, out_len) };
     if values.len() != keys.len() {

@@ -9,7 +9,7 @@
 
 use crate::erased::calls::status::BAD_LENGTHS;
 use crate::erased::calls::view::{self, View};
-use crate::erased::calls::{build, grow, order, read, walk, write};
+use crate::erased::calls::{build, grow, order, places, read, walk, write};
 use crate::proved::tables::bytes::BorrowedMut;
 use crate::proved::tables::configs::U64Set as Shape;
 use crate::shim::Global;
@@ -67,6 +67,44 @@ pub unsafe extern "C" fn odht_u64_check_within(
 ) -> u32 {
     let bytes = unsafe { crate::lists::list(bytes, bytes_len) };
     read::check_within::<Shape>(bytes, groups)
+}
+
+/// `open`, and writes to `slot` where the first error is: the slot, or `NO_SLOT`, the largest number, of an error of
+/// the header or length and with status 0. The cost does not depend on the number of slots.
+#[unsafe(no_mangle)]
+pub unsafe extern "C" fn odht_u64_open_at(
+    bytes: *const u8,
+    bytes_len: usize,
+    slot: &mut usize,
+) -> u32 {
+    let bytes = unsafe { crate::lists::list(bytes, bytes_len) };
+    places::open_at::<Shape>(bytes, slot)
+}
+
+/// `check`, and writes to `slot` where the first error is: the slot of an error of an entry, a control byte or a key
+/// that is not reachable; of `MIRROR_MISMATCH` the index of the mirror's byte; or `NO_SLOT`, the largest number, of any
+/// other error and with status 0. The cost is that of `check`.
+#[unsafe(no_mangle)]
+pub unsafe extern "C" fn odht_u64_check_at(
+    bytes: *const u8,
+    bytes_len: usize,
+    slot: &mut usize,
+) -> u32 {
+    let bytes = unsafe { crate::lists::list(bytes, bytes_len) };
+    places::check_at::<Shape>(bytes, slot)
+}
+
+/// `check_within`, and writes to `slot` where the first error is, as `check_at` does; of `SEARCH_TOO_LONG` the slot
+/// where the searches begin. The cost is that of `check_within`.
+#[unsafe(no_mangle)]
+pub unsafe extern "C" fn odht_u64_check_within_at(
+    bytes: *const u8,
+    bytes_len: usize,
+    groups: usize,
+    slot: &mut usize,
+) -> u32 {
+    let bytes = unsafe { crate::lists::list(bytes, bytes_len) };
+    places::check_within_at::<Shape>(bytes, groups, slot)
 }
 
 /// Gives the key this value: status 0 where the key was new, `REPLACED` where it had a value, which is written to
