@@ -1,4 +1,5 @@
 """What the program `odht` has of the list: the shapes with their definitions, and the way to each configuration."""
+import shape_list
 from shape_list import byte_count
 
 FOLDERS = []
@@ -132,6 +133,15 @@ ready shapes, by --key, --value and --hash; the first that fits is taken:
 """
 
 
+def version():
+    text = (shape_list.ROOT / "packaging/VERSION").read_text().strip()
+    return f"""//! The version: made of packaging/VERSION by tools/shapes; `make exports` makes it anew.
+
+/// The version of the program, which is that of the library.
+pub(super) const VERSION: &str = "{text}";
+"""
+
+
 def macro(shapes):
     arms = "".join(f"""            Shape::{it.configuration} => {{
                 $function::<odht::configs::{it.configuration}, $($more),*>($($argument),*)
@@ -168,6 +178,7 @@ def files(shapes):
     texts = {
         f"{CORE}/src/shapes/ready.rt": code(shapes),
         f"{CORE}/src/help/ready.rt": help_lines(shapes),
+        f"{CORE}/src/help/version.rt": version(),
         f"{CORE}/specs/ShapeList.antt": definitions(shapes),
         f"{TOOL}/src/shapes.rt": macro(shapes),
     }

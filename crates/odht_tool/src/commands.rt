@@ -1,14 +1,14 @@
 //! Runs the commands, each from its parsed words to the status of the program.
-use odht_tool_core::arguments::{Command, Keys, Reading, Request, Topic, parse};
+use odht_tool_core::arguments::{Command, Keys, Reading, Request, is_stream, parse};
 use odht_tool_core::failure::Failure;
-use odht_tool_core::files::read_file;
+use odht_tool_core::files::{read_file, read_input};
 use odht_tool_core::front::table_at;
-use odht_tool_core::help::{help_end, help_text};
+use odht_tool_core::help::{write_help, write_version};
 use odht_tool_core::info::info_file;
 use odht_tool_core::status::{Status, of_output};
 use odht_tool_core::targets::Target;
 use std::alloc::Global;
-use std::io::{self, BufRead, ErrorKind, Write};
+use std::io::{BufRead, ErrorKind, Write};
 use std::os::fd::AsFd;
 use std::rt::{Clock, Files};
 
@@ -34,6 +34,7 @@ where
     let alloc: Global = rt.alloc();
     match parse(alloc, words) {
         Ok(Request::Help(topic)) => { finish("help", of_output(write_help(topic, output)), errors) }
+        Ok(Request::Version) => finish("version", of_output(write_version(output)), errors),
         Ok(Request::Run { file, command }) => {
             let file = file.as_str();
             let done = run_command(rt, file, command, input, output, errors);
@@ -50,12 +51,6 @@ where
     }
 }
 
-// Writes the help text of a command, or of all.
-fn write_help<O: Write>(topic: Option<Topic>, output: &mut O) -> io::Result<()> {
-    output.write_all(help_text(topic).as_bytes())?;
-    output.write_all(help_end(topic).as_bytes())
-}
-
 fn run_command<R: Files + AllocGlobal + Clock, I: BufRead, O: Write, E: Write>(
     rt: &R,
     file: &str,
@@ -69,14 +64,14 @@ where
 {
     match command {
         Command::Read { at, reading } => {
-            let bytes = read_file(rt, file)?;
+            let bytes = read_bytes(rt, file, input)?;
             let table = match at {
                 Some(offset) => table_at(bytes.as_slice(), offset)?,
                 None => bytes.as_slice(),
             };
             run_reading(rt.alloc(), file, table, reading, input, output, errors)
         }
-        Command::Build(options) => build::build(rt, file, options, input, errors),
+        Command::Build(options) => build::build(rt, file, options, input, output, errors),
         Command::Put {
             hash,
             bound,
@@ -87,6 +82,19 @@ where
             let bytes = read_file(rt, target.path())?;
             build::put(rt, target, bytes, hash, bound, has_progress, input, errors)
         }
+    }
+}
+
+// All bytes of the file, or of standard input where the name stands for that.
+fn read_bytes<R: Files + AllocGlobal, I: BufRead>(
+    rt: &R,
+    file: &str,
+    input: &mut I,
+) -> Result<Vec<u8>, Failure> {
+    if is_stream(file) {
+        read_input(rt.alloc(), input)
+    } else {
+        read_file(rt, file)
     }
 }
 

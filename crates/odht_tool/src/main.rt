@@ -9,7 +9,7 @@ mod shapes;
 use odht_tool_core::status::Status;
 use std::alloc::Global;
 use std::env;
-use std::io::{self, BufReader, BufWriter};
+use std::io::{self, BufReader, BufWriter, ErrorKind};
 use std::process::ExitCode;
 
 /// How many bytes are read and written at once.
@@ -21,8 +21,17 @@ fn main(rt: HostRuntime) -> ExitCode {
         Err(error) => {
             // Where standard error cannot be written either, the exit status alone reports it.
             let _ = eprintln!(rt; "odht: {error}");
-            ExitCode::FAILURE
+            ExitCode::from(status_of(&error).code())
         }
+    }
+}
+
+// How the program ends by an error of the arguments, one of which is no text, or of memory.
+fn status_of(error: &io::Error) -> Status {
+    if error.kind() == ErrorKind::InvalidData {
+        Status::Misused
+    } else {
+        Status::NotDone
     }
 }
 

@@ -17,3 +17,5 @@ pub mod FoundShapes
 pub mod Finds
 -- which files are replaced, and what permissions the new one gets
 pub mod Replaced
+-- words that one slip makes of each other, commands and options
+pub mod Slips

@@ -31,3 +31,7 @@ pub mod Finds
 pub mod FoundShapes
 -- which files are replaced, and what permissions the new one gets
 pub mod Replaced
+-- the commands of the program and their options
+pub mod Commands
+-- words that one slip makes of each other
+pub mod Near

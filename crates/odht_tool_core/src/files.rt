@@ -29,6 +29,16 @@ fn read_bytes<R: Files + AllocGlobal>(rt: &R, path: &str) -> io::Result<Vec<u8>>
     Ok(bytes)
 }
 
+/// All bytes of an input.
+pub fn read_input<I: Read>(alloc: Global, input: &mut I) -> Result<Vec<u8>, Failure> {
+    let mut bytes = Vec::new(alloc);
+    match input.read_to_end(&mut bytes) {
+        Ok(_) => Ok(bytes),
+        Err(error) if error.kind() == io::ErrorKind::OutOfMemory => Err(Failure::Memory),
+        Err(error) => Err(Failure::Input(error)),
+    }
+}
+
 /// Writes a new file beside the target, whose name is that of the target with `.new` after it, and renames it to the
 /// target's name once all of it is stored. On a failure the target is unchanged, and the new file is removed.
 ///

@@ -1,44 +1,89 @@
-//! The texts of `--help`.
+//! The texts of `--help` and `--version`.
 use crate::arguments::Topic;
+use crate::arguments::topics::TOPICS;
+use std::io::{self, Write};
 
 mod ready;
+mod version;
 
 use ready::READY;
+use version::VERSION;
 
-/// What comes after the help text of a command, or of all: for `build` the ready shapes.
-pub fn help_end(topic: Option<Topic>) -> &'static str {
+/// How the program was made of its source: with the proofs of its contracts.
+const MADE: &str = "proved";
+
+/// Writes the version of the program, of the format of its files, and whether it is proved.
+pub fn write_version<W: Write>(output: &mut W) -> io::Result<()> {
+    writeln!(output, "odht {VERSION} ({MADE}), file format version 2")
+}
+
+/// Writes the help text of a command, or of all.
+pub fn write_help<W: Write>(topic: Option<Topic>, output: &mut W) -> io::Result<()> {
     match topic {
-        Some(Topic::Build) => READY,
+        Some(topic) => {
+            output.write_all(text_of(topic).as_bytes())?;
+            output.write_all(end_of(topic).as_bytes())
+        }
+        None => write_general(output),
+    }
+}
+
+fn write_general<W: Write>(output: &mut W) -> io::Result<()> {
+    for topic in TOPICS {
+        output.write_all(summary_of(topic).as_bytes())?;
+    }
+    output.write_all(GENERAL.as_bytes())
+}
+
+// The lines of a command in the help text of all.
+fn summary_of(topic: Topic) -> &'static str {
+    match topic {
+        Topic::Info =>
+            "odht info FILE       tells what a table file holds, of any key and value sizes\n",
+        Topic::Check => "odht check FILE      tells whether a file is a valid table\n",
+        Topic::Get =>
+            "odht get FILE KEY..  looks keys up; with - instead of keys, those of standard input\n",
+        Topic::Dump => "odht dump FILE       tells each pair\n",
+        Topic::Find => "odht find FILE       tells each table that is inside a file\n",
+        Topic::Build => {
+            "odht build FILE --key SHAPE --value SHAPE
+                     makes a table file of the lines of standard input\n"
+        }
+        Topic::Put => "odht put FILE        adds the lines of standard input to a table file\n",
+    }
+}
+
+// What comes after the help text of a command: for `build` the ready shapes.
+fn end_of(topic: Topic) -> &'static str {
+    match topic {
+        Topic::Build => READY,
         _ => "",
     }
 }
 
-/// The help text of a command, or of all.
-pub fn help_text(topic: Option<Topic>) -> &'static str {
+// The help text of a command.
+fn text_of(topic: Topic) -> &'static str {
     match topic {
-        None => GENERAL,
-        Some(Topic::Info) => INFO,
-        Some(Topic::Check) => CHECK,
-        Some(Topic::Get) => GET,
-        Some(Topic::Dump) => DUMP,
-        Some(Topic::Find) => FIND,
-        Some(Topic::Build) => BUILD,
-        Some(Topic::Put) => PUT,
+        Topic::Info => INFO,
+        Topic::Check => CHECK,
+        Topic::Get => GET,
+        Topic::Dump => DUMP,
+        Topic::Find => FIND,
+        Topic::Build => BUILD,
+        Topic::Put => PUT,
     }
 }
 
 const GENERAL: &str = "\
-odht info FILE       tells what a table file holds, of any key and value sizes
-odht check FILE      tells whether a file is a valid table
-odht get FILE KEY..  looks keys up; with - instead of keys, those of standard input
-odht dump FILE       tells each pair
-odht find FILE       tells each table that is inside a file
-odht build FILE --key SHAPE --value SHAPE
-                     makes a table file of the lines of standard input
-odht put FILE        adds the lines of standard input to a table file
+odht help COMMAND    is the help of a command, as odht COMMAND --help or -h is
+odht --version       is the version of the program and of the format; also -V
 
-Each has --help. Status 0: done; 1: refused, failed, or a key is absent;
-2: the words are not understood.
+With - as FILE a table is read from standard input, and build writes one to
+standard output. An option's value is the next word, or comes behind a =. Words
+that begin with a hyphen come after --, which ends the options.
+
+Status 0: done; 1: rejected, failed, or a key is absent; 2: the words are not
+understood.
 ";
 
 const INFO: &str = "\
@@ -92,8 +137,8 @@ const BUILD: &str = "\
 odht build FILE --key SHAPE --value SHAPE [--hash fx|unhash]
                 [--percent P] [--capacity N] [--progress] [--break-links]
     Makes a table of the lines of standard input, KEY, a tab and VALUE, and stores
-    it as FILE, in the place of an older one, which stays where something fails.
-    The last line of a key wins. Owner, group, permissions and symbolic links of an
+    it as FILE, in the place of an older one, which stays where something fails;
+    with - as FILE it goes to standard output. The last line of a key wins. Owner, group, permissions and symbolic links of an
     older file are kept; one with hard links is not replaced without --break-links.
     SHAPE          u32, u64, none (a value only), or hexN: N bytes as 2 N digits
     --percent      the load factor, 1 to 100, else 87

@@ -17,6 +17,7 @@ mod histogram;
 pub mod info;
 pub mod keys;
 pub mod lines;
+mod near;
 mod numbers;
 mod obstacles;
 pub mod places;

@@ -13,14 +13,14 @@ use crate::shapes::for_shape;
 use odht::HashTableOwned;
 use odht::config::{Coded, Config};
 use odht::load::Percent;
-use odht_tool_core::arguments::BuildOptions;
+use odht_tool_core::arguments::{BuildOptions, is_stream};
 use odht_tool_core::failure::Failure;
 use odht_tool_core::files::replace_file;
 use odht_tool_core::found::found_shape;
 use odht_tool_core::lines::read_pair;
 use odht_tool_core::progress::Progress;
 use odht_tool_core::shapes::{Hash, Shape};
-use odht_tool_core::status::Status;
+use odht_tool_core::status::{Status, of_output};
 use odht_tool_core::targets::Target;
 use odht_tool_core::text::Text;
 use std::alloc::Global;
@@ -31,25 +31,43 @@ use std::rt::{Clock, Files};
 /// How many pairs are inserted at once.
 const BATCH: usize = 1024;
 
-/// Makes a table from the lines, and stores it as the file.
-pub fn build<R: Files + AllocGlobal + Clock, I: BufRead, E: Write>(
+/// Makes a table from the lines, and stores it as the file; or writes it to `output`, where the name stands for that.
+pub fn build<R: Files + AllocGlobal + Clock, I: BufRead, O: Write, E: Write>(
     rt: &R,
     file: &str,
     options: BuildOptions,
     input: &mut I,
+    output: &mut O,
     errors: &mut E,
 ) -> Result<Status, Failure>
 where
     R::File: AsFd,
 {
-    let shape = Shape::of_parts(options.key, options.value, options.hash).ok_or(
-        Failure::NoShape {
-            key_size: options.key.size(),
-            value_size: options.value.size(),
-        },
-    )?;
-    let target = Target::find(rt, file, options.breaks_links)?;
-    for_shape!(shape, build_file[R, I, E](rt, target, options, input, errors))
+    let shape = options.shape;
+    if is_stream(file) {
+        for_shape!(shape, build_stream[R, I, O, E](rt, options, input, output, errors))
+    } else {
+        let target = Target::find(rt, file, options.breaks_links)?;
+        for_shape!(shape, build_file[R, I, E](rt, target, options, input, errors))
+    }
+}
+
+// Writes the table to `output`.
+fn build_stream<C: Config, R: AllocGlobal + Clock, I: BufRead, O: Write, E: Write>(
+    rt: &R,
+    options: BuildOptions,
+    input: &mut I,
+    output: &mut O,
+    errors: &mut E,
+) -> Result<Status, Failure>
+where
+    C::Key: Text,
+    C::Value: Text,
+{
+    let mut table = make_table::<C>(rt.alloc(), options.capacity, options.percent)?;
+    let progress = Progress::new(rt, options.has_progress);
+    fill(rt, &mut table, progress, input, errors)?;
+    of_output(output.write_all(table.raw_bytes()))
 }
 
 fn build_file<C: Config, R: Files + AllocGlobal + Clock, I: BufRead, E: Write>(

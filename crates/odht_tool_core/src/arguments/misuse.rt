@@ -1,5 +1,6 @@
 //! Why the arguments cannot be parsed.
-use super::Topic;
+use super::draft::name_and_value;
+use super::topics::{Setting, TOPICS, Topic};
 use crate::status::Status;
 use std::fmt;
 
@@ -8,59 +9,122 @@ use std::fmt;
 pub enum Misuse {
     /// There is no word.
     NoCommand,
-    /// The first word is no command.
+    /// A word is no command.
     UnknownCommand(String),
+    /// A word comes after `help` and a command.
+    InHelp(String),
     /// The words after a command cannot be parsed.
     InCommand(Topic, CommandMisuse),
-    /// A table is to be built, and its shape is not given.
-    NoParts,
-    /// An allocation failed.
-    Memory,
 }
 
 /// Why the words after a command cannot be parsed.
 #[derive(Debug, Drop)]
 pub enum CommandMisuse {
-    /// A word begins with two hyphens and is no option of the command.
+    /// A word begins with a hyphen and is no option of the command.
     UnknownOption(String),
     /// An option's value is missing.
-    NoValue(String),
+    NoValue(Setting),
+    /// An option takes no value, and has one.
+    NoValueTaken(Setting),
     /// An option has no such value.
-    WrongValue(String, String),
-    /// There are too few or too many words.
-    WrongCount,
+    WrongValue(Setting, String),
+    /// A word of this name, or an option, is missing.
+    Missing(&'static str),
+    /// There is a word too many.
+    ExtraWord(String),
+    /// The table and the keys are both to be read from standard input.
+    BothInput,
+    /// The file that is to be replaced would be a stream.
+    Replaced,
+    /// No shape is ready with these keys, values and hash function.
+    NoShape,
+    /// An allocation failed.
+    Memory,
 }
 
 impl CommandMisuse {
     // Writes what is wrong with the words of this command.
     fn write<W: fmt::Write>(&self, topic: Topic, f: &mut fmt::Formatter<W>) -> fmt::Result {
         match self {
-            CommandMisuse::UnknownOption(word) => write!(
+            CommandMisuse::UnknownOption(word) => {
+                write!(f, "`odht {topic}` has no option {word:?}")?;
+                write_nearest(topic, word.as_str(), f)
+            }
+            CommandMisuse::NoValue(option) => {
+                write!(f, "a value is wanted behind {}", option.name())?;
+                write_wanted(*option, f)
+            }
+            CommandMisuse::NoValueTaken(option) => write!(f, "{} takes no value", option.name()),
+            CommandMisuse::WrongValue(option, word) => {
+                write!(f, "{} cannot be {word:?}", option.name())?;
+                write_wanted(*option, f)
+            }
+            CommandMisuse::Missing(what) => write!(f, "{what} is missing"),
+            CommandMisuse::ExtraWord(word) => write!(f, "{word:?} is one word too many"),
+            CommandMisuse::BothInput => {
+                write!(f, "FILE and the keys cannot both be standard input")
+            }
+            CommandMisuse::Replaced => write!(f, "FILE is replaced, and so cannot be -"),
+            CommandMisuse::NoShape => write!(
                 f,
-                "`odht {topic}` has no option {word:?}"
+                "no ready shape has such keys and values under this hash"
             ),
-            CommandMisuse::NoValue(option) => write!(f, "a value is wanted behind {option}"),
-            CommandMisuse::WrongValue(option, word) => write!(f, "{option} cannot be {word:?}"),
-            CommandMisuse::WrongCount => write!(f, "too few or too many words"),
+            CommandMisuse::Memory => write!(f, "out of memory"),
         }
+    }
+}
+
+// Writes what the value of an option is to be.
+fn write_wanted<W: fmt::Write>(option: Setting, f: &mut fmt::Formatter<W>) -> fmt::Result {
+    match option.wanted() {
+        Some(wanted) => write!(f, ": {wanted}"),
+        None => Ok(()),
     }
 }
 
 impl fmt::Display for Misuse {
     fn fmt<W: fmt::Write>(&self, f: &mut fmt::Formatter<W>) -> fmt::Result {
         match self {
-            Misuse::NoCommand => write!(f, "a command is wanted; try `odht --help`"),
-            Misuse::UnknownCommand(word) => write!(
-                f,
-                "no command is named {word:?}; there are info, check, get, dump, find, build and put"
-            ),
+            Misuse::NoCommand => write!(f, "a command is missing; try `odht --help`"),
+            Misuse::UnknownCommand(word) => {
+                write!(f, "no command is named {word:?}")?;
+                match Topic::nearest(word.as_str()) {
+                    Some(topic) => write!(f, " (did you mean {topic}?); try `odht --help`"),
+                    None => write_commands(f),
+                }
+            }
+            Misuse::InHelp(word) => {
+                write!(f, "{word:?} is one word too many; try `odht --help`")
+            }
+            Misuse::InCommand(_, CommandMisuse::Memory) => write!(f, "out of memory"),
             Misuse::InCommand(topic, misuse) => {
                 misuse.write(*topic, f)?;
                 write!(f, "; try `odht {topic} --help`")
             }
-            Misuse::NoParts => write!(f, "--key and --value are wanted; try `odht build --help`"),
-            Misuse::Memory => write!(f, "out of memory"),
         }
+    }
+}
+
+// Writes the names of all commands.
+fn write_commands<W: fmt::Write>(f: &mut fmt::Formatter<W>) -> fmt::Result {
+    write!(f, "; there are help")?;
+    for topic in TOPICS {
+        write!(f, ", {topic}")?;
+    }
+    Ok(())
+}
+
+// Writes what was meant by a word that is no option, where one slip makes an option of it, or else how a word that
+// begins with a hyphen is passed.
+fn write_nearest<W: fmt::Write>(
+    topic: Topic,
+    word: &str,
+    f: &mut fmt::Formatter<W>,
+) -> fmt::Result {
+    let (name, _) = name_and_value(word);
+    match Setting::nearest(topic, name) {
+        Some(option) => write!(f, " (did you mean {}?)", option.name()),
+        None => write!(f, "; words that begin with a hyphen come after --"),
     }
 }
 
@@ -70,7 +134,7 @@ impl Misuse {
     /// How the program ends: where the words cannot be parsed for want of memory alone, they may be right.
     pub fn status(&self) -> Status {
         match self {
-            Misuse::Memory => Status::NotDone,
+            Misuse::InCommand(_, CommandMisuse::Memory) => Status::NotDone,
             _ => Status::Misused,
         }
     }

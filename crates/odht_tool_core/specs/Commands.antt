@@ -1,0 +1,44 @@
+-- The commands of the program and their options.
+--     command_name t       the name of the command t
+--     commands             all commands, in the order of the help text
+--     option_name s        the name of the option s
+--     options_of t         the options that the command t has
+use Rattle.std.specs.Prelude.{ℕ, List, [], ◌∷◌, codes}
+use Rattle.odht_tool_core.specs.declared.arguments.topics.Setting.{Setting}
+use Rattle.odht_tool_core.specs.declared.arguments.topics.Setting.TheVariants.{Help, Slots, Whole, Progress, BreakLinks, At, Hash, Key, Value, Percent, Capacity}
+use Rattle.odht_tool_core.specs.declared.arguments.topics.Topic.{Topic}
+use Rattle.odht_tool_core.specs.declared.arguments.topics.Topic.TheVariants.{Info, Check, Get, Dump, Find, Build, Put}
+
+abbrev pub command_name : Topic → List ℕ
+command_name Info = codes "info"
+command_name Check = codes "check"
+command_name Get = codes "get"
+command_name Dump = codes "dump"
+command_name Find = codes "find"
+command_name Build = codes "build"
+command_name Put = codes "put"
+
+abbrev pub commands : List Topic
+commands = Info ∷ Check ∷ Get ∷ Dump ∷ Find ∷ Build ∷ Put ∷ []
+
+abbrev pub option_name : Setting → List ℕ
+option_name Help = codes "--help"
+option_name Slots = codes "--slots"
+option_name Whole = codes "--whole"
+option_name Progress = codes "--progress"
+option_name BreakLinks = codes "--break-links"
+option_name At = codes "--at"
+option_name Hash = codes "--hash"
+option_name Key = codes "--key"
+option_name Value = codes "--value"
+option_name Percent = codes "--percent"
+option_name Capacity = codes "--capacity"
+
+abbrev pub options_of : Topic → List Setting
+options_of Info = Help ∷ Whole ∷ At ∷ []
+options_of Check = Help ∷ Whole ∷ Hash ∷ At ∷ []
+options_of Get = Help ∷ Hash ∷ At ∷ []
+options_of Dump = Help ∷ Slots ∷ Hash ∷ At ∷ []
+options_of Find = Help ∷ Whole ∷ []
+options_of Build = Help ∷ Key ∷ Value ∷ Hash ∷ Percent ∷ Capacity ∷ Progress ∷ BreakLinks ∷ []
+options_of Put = Help ∷ Whole ∷ Hash ∷ Progress ∷ BreakLinks ∷ []
