@@ -1,7 +1,7 @@
 // Made by `make rust` of crates/odht_raw/src/raw_table/check.rt.
 //! The whole check of the parts of a table: each slot, the mirror, and that the search for each key ends at its slot.
 
-use super::{tag_of, ProbeSeq, RawTable, Scan, FREE};
+use super::{is_empty_or_deleted, tag_of, ProbeSeq, RawTable, Scan, FREE};
 use crate::proved::raw::bytes::{is_zeros, ByteArray};
 use crate::proved::raw::error::Error;
 use crate::proved::raw::hash::HashFn;
