@@ -13,8 +13,10 @@ use crate::shim::Global;
 use crate::sizes::{percent_of, refused};
 use std::error::Error as AnyError;
 
+mod equality;
 mod inserts;
 mod making;
+mod room;
 mod traits;
 
 /// A table that owns its bytes, and grows where a new key is inserted at the maximum.

@@ -14,6 +14,7 @@ use std::borrow::Borrow;
 use std::error::Error as AnyError;
 use std::marker::PhantomData;
 
+mod equality;
 mod growth;
 mod prefix;
 mod traits;

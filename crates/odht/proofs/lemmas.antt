@@ -9,6 +9,10 @@ pub mod ViewInserts
 pub mod Growths
 -- the bytes of a growth
 pub mod GrownBytes
+-- a table whose pairs move to other slots
+pub mod Moves
+-- tables that are the same map
+pub mod SameMaps
 -- inserts in turn
 pub mod ListInserts
 -- keys and values that their bytes decode to

@@ -15,3 +15,7 @@ pub mod Growths
 pub mod Lookups
 -- what a lookup answers
 pub mod Gets
+-- a table that is given room for more items
+pub mod Reserves
+-- tables that are the same map
+pub mod Equality

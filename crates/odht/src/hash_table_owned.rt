@@ -26,16 +26,18 @@ use crate::memory_layout;
 use std::alloc::Global;
 use std::marker::Model;
 
+mod clear;
 mod dump;
 mod get_all;
 mod insert_order;
 mod lists;
+mod reserve;
 
 /// A table in memory of its own, which grows where an absent key is inserted at the maximum. Its bytes are always
 /// valid, and a contract speaks of it as of these bytes.
 #[derive(Drop)]
 pub struct HashTableOwned<C: Config> {
-    table: HashTable<C, OwnedBytes>,
+    pub(crate) table: HashTable<C, OwnedBytes>,
     alloc: Global,
 }
 

@@ -13,6 +13,7 @@ pub use odht_raw::config::{Config, Lossless};
 pub use odht_raw::{config, error, items, memory_layout, raw_table};
 
 pub mod configs;
+mod equality;
 mod growth;
 mod hash_table;
 mod hash_table_owned;

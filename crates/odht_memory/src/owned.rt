@@ -70,6 +70,21 @@ pub fn insert(alloc: Global, report: &mut Report) {
     report.table(&table);
 }
 
+/// Makes room in a full table for 0, 14 and `usize::MAX` more items: only the second asks for memory.
+pub fn reserve(alloc: Global, report: &mut Report) {
+    let Some(mut table) = full_table(alloc, report) else {
+        return;
+    };
+    let before = bytes_of(&table);
+    report.result("reserve of 0", &table.reserve(0));
+    report.result("reserve of the most", &table.reserve(usize::MAX));
+    tell_unchanged(report, &table, &before);
+    let reserved = table.reserve(14);
+    report.result("reserve of 14", &reserved);
+    tell_unchanged(report, &table, &before);
+    report.table(&table);
+}
+
 /// Inserts the keys 13 to 40 into a full table, which grows twice.
 pub fn insert_all(alloc: Global, report: &mut Report) {
     let Some(mut table) = full_table(alloc, report) else {

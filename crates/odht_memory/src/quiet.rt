@@ -47,6 +47,20 @@ fn tell_read(table: &Table, report: &mut Report) {
     tell_checked(table.raw_bytes(), report);
 }
 
+/// A full table that is emptied, and filled again in the memory that it has. Making it is one request.
+pub fn clear(alloc: Global, report: &mut Report) {
+    let made = Table::with_capacity(alloc, 13, 87);
+    report.result("with_capacity", &made);
+    let Ok(mut table) = made else {
+        return;
+    };
+    report.number("inserted", insert_thirteen(&mut table));
+    table.clear();
+    report.table(&table);
+    report.number("inserted", insert_thirteen(&mut table));
+    report.table(&table);
+}
+
 /// An order of inserts, of a table in which the key 31 waits for 15. Making it is one request.
 pub fn insert_order(alloc: Global, report: &mut Report) {
     let made = Table::with_capacity(alloc, 13, 87);

@@ -13,6 +13,7 @@ pub use hash_table_owned::HashTableOwned;
 pub use iter::{Iter, Slots};
 
 pub mod configs;
+mod equality;
 mod growth;
 mod hash_table;
 mod hash_table_owned;

@@ -28,10 +28,10 @@ pub const SAME_OF_NUMBERS: [&str; 2] = ["MAX", "from_le_bytes"];
 pub const NUMBERS: [&str; 6] = ["u8", "u16", "u32", "u64", "u128", "usize"];
 
 /// Methods of std that are the same. Those of `u8x16` are the shim's.
-pub const SAME_METHODS: &str = "all as_mut_slice as_slice checked_mul copy_from_slice div_ceil fill first_chunk \
-    first_chunk_mut get is_none is_ok is_power_of_two is_some iter last_chunk len max min next next_power_of_two \
-    partition_point push rotate_left saturating_add saturating_sub simd_eq simd_ge sort_unstable split_at \
-    split_at_mut split_first_chunk to_bitmask to_le_bytes trailing_zeros unwrap_or wrapping_mul wrapping_sub";
+pub const SAME_METHODS: &str = "all as_mut_slice as_slice checked_add checked_mul copy_from_slice div_ceil fill \
+    first_chunk first_chunk_mut get is_none is_ok is_power_of_two is_some iter last_chunk len max min next \
+    next_power_of_two partition_point push rotate_left saturating_add saturating_sub simd_eq simd_ge sort_unstable \
+    split_at split_at_mut split_first_chunk to_bitmask to_le_bytes trailing_zeros unwrap_or wrapping_mul wrapping_sub";
 
 /// Methods that allocate in Rust: in Rattle each takes an allocator, or returns that memory was refused. They are an
 /// error also where a function of this name is declared.

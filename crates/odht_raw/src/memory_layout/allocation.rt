@@ -17,6 +17,7 @@ use crate::error::Error;
 use crate::raw_table::RawTable;
 use std::marker::{Model, PhantomData};
 
+mod clearing;
 mod inserts;
 mod writing;
 

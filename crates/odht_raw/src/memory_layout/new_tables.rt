@@ -35,7 +35,7 @@ pub fn init_in_place<C: Config, M: ByteStoreMut>(
 }
 
 // `init_in_place` on the bytes themselves.
-fn init_bytes<C: Config>(
+pub(crate) fn init_bytes<C: Config>(
     bytes: &mut [u8],
     slot_count: usize,
     item_count: usize,

@@ -70,7 +70,7 @@ pub(crate) fn write_grown<C: Config, D: ByteStore>(
 
 // Writes the table of so many slots with the items of the walk into bytes whose entries are zeros. The new header gets
 // `item_count`, whatever the walk gives.
-fn write_walked<C: Config>(
+pub(crate) fn write_walked<C: Config>(
     bytes: &mut [u8],
     slot_count: usize,
     item_count: usize,

@@ -11,15 +11,17 @@ use crate::proved::tables::load::{slots_needed, Factor};
 use crate::proved::tables::memory_layout;
 use crate::shim::Global;
 
+mod clear;
 mod dump;
 mod get_all;
 mod insert_order;
 mod lists;
+mod reserve;
 
 /// A table in memory of its own, which grows where an absent key is inserted at the maximum. Its bytes are always
 /// valid, and a contract speaks of it as of these bytes.
 pub struct HashTableOwned<C: Config> {
-    table: HashTable<C, OwnedBytes>,
+    pub(crate) table: HashTable<C, OwnedBytes>,
     alloc: Global,
 }
 

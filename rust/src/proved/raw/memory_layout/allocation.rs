@@ -8,6 +8,7 @@ use crate::proved::raw::error::Error;
 use crate::proved::raw::raw_table::RawTable;
 use std::marker::PhantomData;
 
+mod clearing;
 mod inserts;
 mod writing;
 

@@ -1,4 +1,4 @@
-use Rattle.std.proofs.Common.{◌≡◌, ◌∙◌, ℕ, Option, Some, List, codes}
+use Rattle.std.proofs.Common.{◌≡◌, ℕ, Option, Some, List, codes}
 use Rattle.std.proofs.Output.{displays_on_ok_of_eq}
 use Rattle.std.specs.Fmt.{◌++?◌}
 use Rattle.odht_base.specs.Format.{Format, format_of}

@@ -1,0 +1,129 @@
+-- The pairs of a table, placed in slot order into other slots, and the table that has room for more.
+use Rattle.std.proofs.Common.{◌≡◌, ◌≤◌, ◌+◌, ◌*◌, ◌^◌, ◌∙◌, ◌++◌, ℕ, sym, ap, subst, refl, List, Some, arith, append-nil, IsPermutation, cond}
+use Rattle.std.proofs.lemmas.Bool.{le-leb, lt-leb}
+use Rattle.std.specs.Prelude.{option_and_then}
+use Rattle.std.specs.Option.{option_or}
+use Rattle.std.proofs.Math.Nat.{mul-le-mul_left}
+use Rattle.std.proofs.lemmas.List.Sorted.{length_permutation}
+use Rattle.odht_base.specs.Decoded.{header_slots, header_factor}
+use Rattle.odht_base.specs.Format.{Format}
+use Rattle.odht_base.specs.Image.{header_bytes, image, parts}
+use Rattle.odht_base.specs.Insert.{place}
+use Rattle.odht_base.specs.Load.{max_items, slots_for, IsSlotCount}
+use Rattle.odht_base.specs.Map.{map_of, last}
+use Rattle.odht_base.specs.Table.{Table, slot_count, count, empty, walk}
+use Rattle.odht_base.specs.Valid.{IsImage, IsPlaced, IsValid}
+use Rattle.odht_base.proofs.lemmas.DistinctKeys.{last-apart, walk-KeysApart, walk-IsPairOf}
+use Rattle.odht_base.proofs.lemmas.Fits.{IsSized-IsPlaced}
+use Rattle.odht_base.proofs.lemmas.FreeSlots.{slot_count-empty, count-empty, walk-empty, map_of-empty, empty-IsPlaced, empty-IsValid, max_items-lt, max_items-holds}
+use Rattle.odht_base.proofs.lemmas.Grown.{place-IsInsert, place_all-fits, slot_count-place_all, walk-place_all}
+use Rattle.odht_base.proofs.lemmas.Image.{header_slots-image}
+use Rattle.odht_base.proofs.lemmas.InsertRuns.{run-keeps, factor-run, map_of-run}
+use Rattle.odht_base.proofs.lemmas.Least.{slots_for-IsLeastSlots}
+use Rattle.odht_base.proofs.lemmas.Options.{option_or-none_right}
+use Rattle.odht_base.proofs.lemmas.SlotCounts.{slots_pos, few_slots}
+use Rattle.odht_header.specs.Refusals.{IsTooLarge}
+use Rattle.odht.specs.Reserves.{moved, reserved, LacksRoom, IsMovedImage, IsReserved}
+use Rattle.odht.proofs.lemmas.ViewInserts.{factor_header}
+
+-- Q is a valid table of s slots with the pairs of P
+pub record IsMoved (F : Format) (P : Table) (s : ℕ) (Q : Table) : Type 0 where
+  pub valid : IsValid F Q
+  pub slots : slot_count Q ≡ s
+  pub factor : Q.factor ≡ P.factor
+  pub counts : count Q ≡ count P
+  pub maps : (k : List ℕ) → map_of Q k ≡ map_of P k
+
+module _ (F : Format) (P : Table) (ok : IsValid F P) (s : ℕ) (is_count : IsSlotCount s) (room : count P ≤ max_items s P.factor) where
+  -- the slots take the pairs
+  pub moved-fits : (Q : Table) × (moved F P s ≡ Some Q)
+  moved-fits =
+      let below = max_items-lt s P.factor (slots_pos s is_count) ok.factor_high in
+      place_all-fits F (empty s P.factor) (walk P) (empty-IsPlaced s P.factor F is_count) (walk-IsPairOf F P ok.placed) (omega (arith, room, below, count-empty s P.factor, slot_count-empty s P.factor))
+
+  -- and have the same map
+  pub moved-IsMoved : (Q : Table) → moved F P s ≡ Some Q → IsMoved F P s Q
+  moved-IsMoved Q e =
+      let from = empty-IsPlaced s P.factor F is_count in
+      let fit = walk-IsPairOf F P ok.placed in
+      let apart = walk-KeysApart F P ok.placed in
+      let placed = run-keeps F (IsPlaced F) (place F) (place-IsInsert F) (empty s P.factor) Q (walk P) from fit e in
+      let factor : Q.factor ≡ P.factor = factor-run F (IsPlaced F) (place F) (place-IsInsert F) (empty s P.factor) Q (walk P) from fit e in
+      let slots : slot_count Q ≡ s = slot_count-place_all F (empty s P.factor) Q (walk P) from fit e ∙ slot_count-empty s P.factor in
+      let perm = walk-place_all F (empty s P.factor) Q (walk P) from fit apart (λ k v h. map_of-empty s P.factor k) e in
+      let walks : IsPermutation (walk Q) (walk P) = subst (λ xs. IsPermutation (walk Q) xs) (ap (λ xs. walk P ++ xs) (walk-empty s P.factor) ∙ append-nil (walk P)) perm in
+      let counts : count Q ≡ count P = sym (length_permutation (walk Q) (walk P) walks) in
+      let within : count Q ≤ max_items (slot_count Q) Q.factor = subst (λ n. count Q ≤ max_items n Q.factor) (sym slots) (subst (λ f. count Q ≤ max_items s f) (sym factor) (omega (arith, room, counts))) in
+      record {
+        valid = record { placed = placed; factor_low = omega (arith, ok.factor_low, factor); factor_high = omega (arith, ok.factor_high, factor); room = within };
+        slots = slots;
+        factor = factor;
+        counts = counts;
+        maps = λ k.
+            map_of-run F (IsPlaced F) (place F) (place-IsInsert F) (empty s P.factor) Q (walk P) from fit e k
+            ∙ ap (option_or (last (walk P) k)) (map_of-empty s P.factor k)
+            ∙ option_or-none_right (last (walk P) k)
+            ∙ last-apart (walk P) apart k;
+      }
+
+  -- with the header for as many pairs these are its bytes
+  pub moved-image : (Q : Table) → moved F P s ≡ Some Q → (B : List ℕ) → B ≡ header_bytes F s (count P) P.factor ++ parts F Q.cells → IsMovedImage F P s B
+  unfolding image
+  moved-image Q e B written =
+      let h = moved-IsMoved Q e in
+      (Q, e, record { valid = h.valid; bytes = written ∙ sym (λ i. header_bytes F (h.slots i) (h.counts i) (h.factor i) ++ parts F Q.cells) })
+
+module _ (F : Format) (P : Table) (ok : IsValid F P) (n : ℕ) where
+  -- a table with the room stays
+  pub reserved-stays : (B : List ℕ) → IsImage F P B → count P + n ≤ max_items (slot_count P) P.factor → IsReserved F P n B
+  unfolding reserved
+  reserved-stays B is enough = record {
+    table = P;
+    is = ap (λ b. cond b (Some P) (option_and_then (moved F P) (slots_for (count P + n) P.factor))) (le-leb _ _ enough);
+    image = is;
+    maps = λ k. refl;
+    room = enough;
+  }
+
+  -- another moves to the slots for as many and n more
+  pub reserved-moves : (s : ℕ) (B : List ℕ) → LacksRoom P n → slots_for (count P + n) P.factor ≡ Some s → IsMovedImage F P s B → IsReserved F P n B
+  unfolding reserved
+  reserved-moves s B lacks slots at =
+      let least = slots_for-IsLeastSlots _ _ s slots in
+      let holds : count P + n ≤ max_items s P.factor = max_items-holds (count P + n) s P.factor least.holds in
+      let h = moved-IsMoved F P ok s least.is_count (omega (arith, holds)) at.0 at.1 in
+      record {
+        table = at.0;
+        is = ap (λ b. cond b (Some P) (option_and_then (moved F P) (slots_for (count P + n) P.factor))) (lt-leb _ _ lacks) ∙ ap (option_and_then (moved F P)) slots ∙ at.1;
+        image = at.2;
+        maps = h.maps;
+        room = subst (λ c. c + n ≤ max_items (slot_count at.0) at.0.factor) (sym h.counts)
+            (subst (λ t. count P + n ≤ max_items t at.0.factor) (sym h.slots) (subst (λ f. count P + n ≤ max_items s f) (sym h.factor) holds));
+      }
+
+  -- where the sum passes 64 bits no slot count is enough
+  pub reserved-many : 2 ^ 64 ≤ count P + n → IsTooLarge F (count P + n) P.factor
+  reserved-many many = λ s e. (
+      let least = slots_for-IsLeastSlots _ _ s e in
+      let most : s * P.factor ≤ s * 65535 = mul-le-mul_left s ok.factor_high in
+      absurd (omega (arith, least.holds, most, few_slots s least.is_count, many)))
+
+-- slots for so many items take those that there are
+pub reserved-room : (P : Table) (n s : ℕ) → slots_for (count P + n) P.factor ≡ Some s → count P ≤ max_items s P.factor
+reserved-room P n s slots =
+    let holds : count P + n ≤ max_items s P.factor = max_items-holds (count P + n) s P.factor (slots_for-IsLeastSlots _ _ s slots).holds in
+    omega (arith, holds)
+
+-- ---- a table that is emptied
+-- the slot count of the header is that of the table
+pub slots_of_image : (F : Format) (P : Table) (B : List ℕ) → IsImage F P B → header_slots B ≡ slot_count P
+slots_of_image F P B is = ap header_slots is.bytes ∙ header_slots-image F P (IsSized-IsPlaced F P is.valid.placed)
+
+-- the empty table of the header's slot count and load factor is that of the table's
+pub cleared_image : (F : Format) (P : Table) (B : List ℕ) → IsImage F P B → (C : List ℕ) → C ≡ image F (empty (header_slots B) (header_factor B)) → IsImage F (empty (slot_count P) P.factor) C
+cleared_image F P B is C written =
+    let slots = slots_of_image F P B is in
+    record {
+      valid = empty-IsValid (slot_count P) P.factor F is.valid.placed.slots is.valid.factor_low is.valid.factor_high;
+      bytes = written ∙ (λ i. image F (empty (slots i) (factor_header F P B is i)));
+    }

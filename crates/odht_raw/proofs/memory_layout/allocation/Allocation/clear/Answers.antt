@@ -1,0 +1,54 @@
+use Rattle.std.proofs.Common.{◌≡◌, ◌∙◌, sym, ap, subst, length, arith}
+use Rattle.odht_base.specs.Decoded.{header_slots, header_factor}
+use Rattle.odht_base.specs.Format.{Format, format_of}
+use Rattle.odht_base.specs.Image.{image}
+use Rattle.odht_base.specs.Load.{IsSlotCount}
+use Rattle.odht_base.specs.Table.{empty}
+use Rattle.odht_raw.specs.Frame.{IsAccepted}
+use Rattle.odht_raw.proofs.lemmas.Accepted.{accepted_slots}
+use Rattle.odht_raw.proofs.lemmas.Borrows.{borrowed-bytes}
+use Rattle.odht_raw.proofs.lemmas.NewTables.{IsAccepted-new, with_count-new}
+use Rattle.odht_raw.proofs.memory_layout.allocation.Allocation.clear.Given.{Over}
+use Rattle.odht_raw.proofs.memory_layout.allocation.Allocation.clear.Goals.{After-bytes_mut, After-init_bytes}
+use Rattle.odht_raw.proofs.memory_layout.allocation.Allocation.clear.Goals as goal
+
+abbrev format : Over → Format
+format g = format_of g.C.EncodedKey.ByteArray.LEN g.C.EncodedValue.ByteArray.LEN g.C.H.HashFn.hash
+
+-- the slot count is that of the header
+slots : (g : Over) (c : After-bytes_mut g) → c.slot_count-slot_count.result ≡ header_slots (g.M.ByteStore.bytes c.args.self.now)
+slots g c = c.slot_count-slot_count.ensures ∙ ap header_slots c.header-header.ensures.bytes
+
+is_count : (g : Over) (c : After-bytes_mut g) → IsSlotCount c.slot_count-slot_count.result
+is_count g c = subst IsSlotCount (sym (slots g c)) (accepted_slots (format g) (g.M.ByteStore.bytes c.args.self.now) (subst (λ s. IsAccepted (format g) (g.M.ByteStore.bytes s)) c.self.view_is c.self.invariant.0))
+
+-- the store has the bytes that were written, as many as before
+long : (g : Over) (c : After-init_bytes g) → length c.init_bytes.new.bytes ≡ length (g.M.ByteStore.bytes c.self.inside.store)
+long g c = c.init_bytes.auto.bytes ∙ ap length c.bytes_mut.ensures.value
+
+same : (g : Over) (c : After-init_bytes g) → g.M.ByteStore.bytes (g.M.ByteStoreMut.after_borrow c.self.inside.store c.init_bytes.new.bytes) ≡ c.init_bytes.new.bytes
+same g c =
+    borrowed-bytes g.M.ByteStore.bytes g.M.ByteStoreMut.holding g.M.ByteStoreMut.after_borrow g.met.M.ByteStoreMut.held g.met.M.ByteStoreMut.after_borrow_fits c.self.inside.store c.init_bytes.new.bytes (long g c)
+
+pub init_bytes-requires-clause-slots : goal.init_bytes-requires-clause-slots
+init_bytes-requires-clause-slots g c κs within = is_count g c
+
+accepted : (g : Over) (c : After-init_bytes g) → IsAccepted (format g) (g.M.ByteStore.bytes (g.M.ByteStoreMut.after_borrow c.self.inside.store c.init_bytes.new.bytes))
+accepted g c =
+    subst (IsAccepted (format g)) (sym (same g c ∙ c.init_bytes.ensures)) (IsAccepted-new (format g) c.slot_count-slot_count.result 0 c.max_load_factor-factor.result.0 (is_count g c.before))
+
+pub invariant_of-self : goal.invariant_of-self
+invariant_of-self g c =
+    let at = (goal.at.invariant_of-self g c).After-init_bytes in
+    (accepted g at, omega (arith, ap length (same g at), long g at, c.self.invariant.1))
+
+pub returns-clause-bytes : goal.returns-clause-bytes
+returns-clause-bytes g c =
+    let at = (goal.at.returns-clause-bytes g c).After-init_bytes in
+    let s = c.slot_count-slot_count.result in
+    let f = c.max_load_factor-factor.result.0 in
+    let factor : f ≡ header_factor (g.M.ByteStore.bytes c.args.self.now) = c.max_load_factor-factor.ensures ∙ ap header_factor c.header-header.ensures.bytes in
+    same g at ∙ c.init_bytes.ensures ∙ with_count-new (format g) s 0 f (is_count g at.before) ∙ (λ i. image (format g) (empty (slots g at.before i) (factor i)))
+
+pub returns-clause-accepted : goal.returns-clause-accepted
+returns-clause-accepted g c = accepted g (goal.at.returns-clause-accepted g c).After-init_bytes

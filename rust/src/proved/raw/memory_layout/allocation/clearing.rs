@@ -1,0 +1,19 @@
+// Made by `make rust` of crates/odht_raw/src/memory_layout/allocation/clearing.rt.
+//! A table that is emptied where it is.
+
+use super::Allocation;
+use crate::proved::raw::bytes::ByteStoreMut;
+use crate::proved::raw::config::Config;
+use crate::proved::raw::memory_layout::new_tables::init_bytes;
+
+impl<C: Config, M: ByteStoreMut> Allocation<C, M> {
+    /// Makes each slot free: the bytes are then those of the empty table with the slot count and the load factor of the
+    /// header. Each byte is written.
+    pub fn clear(&mut self) {
+        let header = self.header();
+        let slot_count = header.slot_count();
+        let factor = header.max_load_factor();
+        let store = &mut self.store;
+        init_bytes::<C>(store.bytes_mut(), slot_count, 0, factor);
+    }
+}
