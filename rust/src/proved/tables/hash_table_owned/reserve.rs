@@ -5,7 +5,7 @@ use super::HashTableOwned;
 use crate::proved::tables::bytes::{ByteStore, OwnedBytes};
 use crate::proved::tables::config::Config;
 use crate::proved::tables::error::Error;
-use crate::proved::tables::growth::write_table;
+use crate::proved::tables::growth::write_walked;
 use crate::proved::tables::hash_table::HashTable;
 use crate::proved::tables::load::max_item_count_for;
 use crate::proved::tables::memory_layout::layout_for;
@@ -64,5 +64,5 @@ fn write_moved<C: Config, D: ByteStore>(
     let factor = header.max_load_factor();
     let (control, entries) = table.allocation.data_slices();
     let walk = RawIter::new(control, entries);
-    write_table::<C>(out, slot_count, item_count, factor, walk);
+    write_walked::<C>(out, slot_count, item_count, factor, walk);
 }
