@@ -13,7 +13,7 @@ use crate::bytes::{ByteStoreMut, write_slice};
 use crate::config::{Coded, Config};
 use crate::error::Error;
 use crate::items::{Items, encode_pair};
-use crate::load::{Factor, max_item_count_for};
+use crate::load::Factor;
 use crate::memory_layout::check::hold_bytes;
 use crate::memory_layout::{HEADER_SIZE, Header, entry_at};
 use crate::raw_table::{insert_at, insert_run, step_end};
@@ -42,7 +42,29 @@ impl<C: Config, M: ByteStoreMut> Allocation<C, M> {
         ensures accepted { IsAccepted ⟦<C as Coded>⟧.coding.format (M.bytes self.new) }
     {
         let store = &mut self.store;
-        insert_into_bytes::<C, Q>(store.bytes_mut(), key, value)
+        let bytes = store.bytes_mut();
+        hold_bytes(bytes);
+        let (key, value) = encode_pair::<C>(key, value);
+        let slots = Header::of(bytes).slot_count();
+        let (table, control) = bytes.split_at_mut(entry_at::<C>(slots));
+        let (front, entries) = table.split_at_mut(HEADER_SIZE);
+        let end = step_end::<C::EncodedKey, C::EncodedValue, C::H, Q>(
+            control, entries, slots, &key,
+        );
+        // Read after the search, which needs the registers.
+        let header = Header::of(front);
+        let count = header.item_count();
+        let room = room_for(slots, header.max_load_factor(), count);
+        match insert_at::<C::EncodedKey, C::EncodedValue, C::H>(
+            control, entries, slots, key, value, end, room,
+        ) {
+            Ok(Some(old)) => Ok(Some(C::decode_value(&old))),
+            Ok(None) => {
+                write_count(front, count + 1);
+                Ok(None)
+            }
+            Err(refused) => Err(refused),
+        }
     }
 
     /// Inserts the items from index `from` on in their order, up to the first for which `insert_by` returns `Full`, and
@@ -60,72 +82,18 @@ impl<C: Config, M: ByteStoreMut> Allocation<C, M> {
         ensures accepted { IsAccepted ⟦<C as Coded>⟧.coding.format (M.bytes self.new) }
     {
         let store = &mut self.store;
-        run_in_bytes::<C, I>(store.bytes_mut(), items, from)
+        let bytes = store.bytes_mut();
+        hold_bytes(bytes);
+        let header = Header::of(bytes);
+        let count = header.item_count();
+        let slots = header.slot_count();
+        let room = room_for(slots, header.max_load_factor(), count);
+        let (table, control) = bytes.split_at_mut(entry_at::<C>(slots));
+        let (front, entries) = table.split_at_mut(HEADER_SIZE);
+        let (end, added) = insert_run::<C, I>(control, entries, items, from, room);
+        write_count(front, count + added);
+        end
     }
-}
-
-// `insert_by` on the bytes themselves.
-#[inline(always)]
-fn insert_into_bytes<C: Config, Q: Group>(
-    bytes: &mut [u8],
-    key: &C::Key,
-    value: &C::Value,
-) -> Result<Option<C::Value>, Error>
-    requires { IsAccepted ⟦<C as Coded>⟧.coding.format bytes.old }
-    ensures placed { let c = ⟦<C as Coded>⟧.coding
-        in (P : Table)
-        → IsImage c.format P bytes.old
-        → IfOk result (λ old. IsOnePlaced c P key.now value.now old bytes.new) }
-    ensures framed { IsFramed ⟦<C as Coded>⟧.coding bytes.old key.now value.now result bytes.new }
-    ensures accepted { IsAccepted ⟦<C as Coded>⟧.coding.format bytes.new }
-    ensures len { length bytes.new ≡ length bytes.old }
-{
-    hold_bytes(bytes);
-    let (key, value) = encode_pair::<C>(key, value);
-    let slots = Header::of(bytes).slot_count();
-    let (table, control) = bytes.split_at_mut(entry_at::<C>(slots));
-    let (front, entries) = table.split_at_mut(HEADER_SIZE);
-    let end = step_end::<C::EncodedKey, C::EncodedValue, C::H, Q>(control, entries, slots, &key);
-    // Read after the search, which needs the registers.
-    let header = Header::of(front);
-    let count = header.item_count();
-    let room = room_for(slots, header.max_load_factor(), count);
-    match insert_at::<C::EncodedKey, C::EncodedValue, C::H>(
-        control, entries, slots, key, value, end, room,
-    ) {
-        Ok(Some(old)) => Ok(Some(C::decode_value(&old))),
-        Ok(None) => {
-            write_count(front, count + 1);
-            Ok(None)
-        }
-        Err(refused) => Err(refused),
-    }
-}
-
-// `insert_items` on the bytes themselves.
-#[inline(always)]
-fn run_in_bytes<C: Config, I: Items<C::Key, C::Value>>(
-    bytes: &mut [u8],
-    items: &I,
-    from: usize,
-) -> usize
-    requires accepted { IsAccepted ⟦<C as Coded>⟧.coding.format bytes.old }
-    requires from { from ≤ length (I.items items.now) }
-    ensures run { let c = ⟦<C as Coded>⟧.coding
-        in IsListRun c bytes.old (I.items items.now) from result bytes.new }
-    ensures accepted { IsAccepted ⟦<C as Coded>⟧.coding.format bytes.new }
-    ensures len { length bytes.new ≡ length bytes.old }
-{
-    hold_bytes(bytes);
-    let header = Header::of(bytes);
-    let count = header.item_count();
-    let slots = header.slot_count();
-    let room = room_for(slots, header.max_load_factor(), count);
-    let (table, control) = bytes.split_at_mut(entry_at::<C>(slots));
-    let (front, entries) = table.split_at_mut(HEADER_SIZE);
-    let (end, added) = insert_run::<C, I>(control, entries, items, from, room);
-    write_count(front, count + added);
-    end
 }
 
 // How many new entries there is room for: as many as the maximum item count exceeds the item count.
@@ -134,7 +102,7 @@ fn room_for(slot_count: usize, max_load_factor: Factor, item_count: usize) -> us
     ensures room { result ≡ max_items slot_count max_load_factor.0 - item_count }
     ensures maximum { max_items slot_count max_load_factor.0 ≤ usize.MAX }
 {
-    max_item_count_for(slot_count, max_load_factor).saturating_sub(item_count)
+    max_load_factor.apply(slot_count).saturating_sub(item_count)
 }
 
 // Writes the item count of a header.

@@ -8,7 +8,7 @@ use crate::proved::raw::bytes::{write_slice, ByteStoreMut};
 use crate::proved::raw::config::Config;
 use crate::proved::raw::error::Error;
 use crate::proved::raw::items::{encode_pair, Items};
-use crate::proved::raw::load::{max_item_count_for, Factor};
+use crate::proved::raw::load::Factor;
 use crate::proved::raw::memory_layout::check::hold_bytes;
 use crate::proved::raw::memory_layout::{entry_at, Header, HEADER_SIZE};
 use crate::proved::raw::raw_table::{insert_at, insert_run, step_end};
@@ -27,7 +27,28 @@ impl<C: Config, M: ByteStoreMut> Allocation<C, M> {
         value: &C::Value,
     ) -> Result<Option<C::Value>, Error> {
         let store = &mut self.store;
-        insert_into_bytes::<C, Q>(store.bytes_mut(), key, value)
+        let bytes = store.bytes_mut();
+        hold_bytes(bytes);
+        let (key, value) = encode_pair::<C>(key, value);
+        let slots = Header::of(bytes).slot_count();
+        let (table, control) = split_at_mut!(bytes, entry_at::<C>(slots));
+        let (front, entries) = split_at_mut!(table, HEADER_SIZE);
+        let end =
+            step_end::<C::EncodedKey, C::EncodedValue, C::H, Q>(control, entries, slots, &key);
+        // Read after the search, which needs the registers.
+        let header = Header::of(front);
+        let count = header.item_count();
+        let room = room_for(slots, header.max_load_factor(), count);
+        match insert_at::<C::EncodedKey, C::EncodedValue, C::H>(
+            control, entries, slots, key, value, end, room,
+        ) {
+            Ok(Some(old)) => Ok(Some(C::decode_value(&old))),
+            Ok(None) => {
+                write_count(front, count + 1);
+                Ok(None)
+            }
+            Err(refused) => Err(refused),
+        }
     }
 
     /// Inserts the items from index `from` on in their order, up to the first for which `insert_by` returns `Full`, and
@@ -39,62 +60,24 @@ impl<C: Config, M: ByteStoreMut> Allocation<C, M> {
     #[inline(always)]
     pub fn insert_items<I: Items<C::Key, C::Value>>(&mut self, items: &I, from: usize) -> usize {
         let store = &mut self.store;
-        run_in_bytes::<C, I>(store.bytes_mut(), items, from)
+        let bytes = store.bytes_mut();
+        hold_bytes(bytes);
+        let header = Header::of(bytes);
+        let count = header.item_count();
+        let slots = header.slot_count();
+        let room = room_for(slots, header.max_load_factor(), count);
+        let (table, control) = split_at_mut!(bytes, entry_at::<C>(slots));
+        let (front, entries) = split_at_mut!(table, HEADER_SIZE);
+        let (end, added) = insert_run::<C, I>(control, entries, items, from, room);
+        write_count(front, count + added);
+        end
     }
-}
-
-// `insert_by` on the bytes themselves.
-#[inline(always)]
-fn insert_into_bytes<C: Config, Q: Group>(
-    bytes: &mut [u8],
-    key: &C::Key,
-    value: &C::Value,
-) -> Result<Option<C::Value>, Error> {
-    hold_bytes(bytes);
-    let (key, value) = encode_pair::<C>(key, value);
-    let slots = Header::of(bytes).slot_count();
-    let (table, control) = split_at_mut!(bytes, entry_at::<C>(slots));
-    let (front, entries) = split_at_mut!(table, HEADER_SIZE);
-    let end = step_end::<C::EncodedKey, C::EncodedValue, C::H, Q>(control, entries, slots, &key);
-    // Read after the search, which needs the registers.
-    let header = Header::of(front);
-    let count = header.item_count();
-    let room = room_for(slots, header.max_load_factor(), count);
-    match insert_at::<C::EncodedKey, C::EncodedValue, C::H>(
-        control, entries, slots, key, value, end, room,
-    ) {
-        Ok(Some(old)) => Ok(Some(C::decode_value(&old))),
-        Ok(None) => {
-            write_count(front, count + 1);
-            Ok(None)
-        }
-        Err(refused) => Err(refused),
-    }
-}
-
-// `insert_items` on the bytes themselves.
-#[inline(always)]
-fn run_in_bytes<C: Config, I: Items<C::Key, C::Value>>(
-    bytes: &mut [u8],
-    items: &I,
-    from: usize,
-) -> usize {
-    hold_bytes(bytes);
-    let header = Header::of(bytes);
-    let count = header.item_count();
-    let slots = header.slot_count();
-    let room = room_for(slots, header.max_load_factor(), count);
-    let (table, control) = split_at_mut!(bytes, entry_at::<C>(slots));
-    let (front, entries) = split_at_mut!(table, HEADER_SIZE);
-    let (end, added) = insert_run::<C, I>(control, entries, items, from, room);
-    write_count(front, count + added);
-    end
 }
 
 // How many new entries there is room for: as many as the maximum item count exceeds the item count.
 #[inline(always)]
 fn room_for(slot_count: usize, max_load_factor: Factor, item_count: usize) -> usize {
-    max_item_count_for(slot_count, max_load_factor).saturating_sub(item_count)
+    max_load_factor.apply(slot_count).saturating_sub(item_count)
 }
 
 // Writes the item count of a header.
