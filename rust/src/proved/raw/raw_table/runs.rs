@@ -30,7 +30,38 @@ pub(crate) fn insert_run<C: Config, I: Items<C::Key, C::Value>>(
     if control.len() - REFERENCE_GROUP_SIZE >= LARGE {
         return insert_in_batches::<C, I>(control, entries, items, from, room);
     }
-    insert_range::<C, I>(control, entries, items, from, items.count() - from, room, None)
+    insert_in_turn::<C, I>(control, entries, items, from, room)
+}
+
+// `insert_run`, an item at a time.
+#[inline(always)]
+fn insert_in_turn<C: Config, I: Items<C::Key, C::Value>>(
+    control: &mut [EntryMetadata],
+    entries: &mut [u8],
+    items: &I,
+    from: usize,
+    room: usize,
+) -> (usize, usize) {
+    let to = items.count();
+    let mut added = 0;
+    for index in from..to {
+        let (key, value) = items.at(index);
+        let (key, value) = encode_pair::<C>(key, value);
+        let answer = insert_step::<C::EncodedKey, C::EncodedValue, C::H, GroupQuery>(
+            control,
+            entries,
+            key,
+            value,
+            room - added,
+        );
+        let Ok(former) = answer else {
+            return (index, added);
+        };
+        if former.is_none() {
+            added += 1;
+        }
+    }
+    (to, added)
 }
 
 // `insert_run`, in batches of eight items, and then the rest.
@@ -46,48 +77,42 @@ fn insert_in_batches<C: Config, I: Items<C::Key, C::Value>>(
     let mut index = from;
     let mut added = 0;
     while to - index >= BATCH {
-        let ahead = look_ahead::<C, I>(control, items, index);
-        let (end, more) =
-            insert_range::<C, I>(control, entries, items, index, BATCH, room - added, Some(&ahead));
+        let (end, more) = insert_batch::<C, I>(control, entries, items, index, room - added);
         added += more;
         if end < index + BATCH {
             return (end, added);
         }
         index = end;
     }
-    let (end, more) =
-        insert_range::<C, I>(control, entries, items, index, to - index, room - added, None);
+    let (end, more) = insert_in_turn::<C, I>(control, entries, items, index, room - added);
     (end, added + more)
 }
 
-// `insert_run` of `count` items: the one loop of a run. With `ahead`, which has what was looked up for these items before
-// the first of them is inserted, no search is made where the slot that was seen is still free.
+// `insert_run` of the eight items from `from` on. Their slots are looked up first, and no look-up depends on another
+// one.
 #[inline(always)]
-fn insert_range<C: Config, I: Items<C::Key, C::Value>>(
+fn insert_batch<C: Config, I: Items<C::Key, C::Value>>(
     control: &mut [EntryMetadata],
     entries: &mut [u8],
     items: &I,
     from: usize,
-    count: usize,
     room: usize,
-    ahead: Option<&[(u32, usize); 8]>,
 ) -> (usize, usize) {
+    let ahead = look_ahead::<C, I>(control, items, from);
     let mut added = 0;
-    for offset in 0..count {
+    for offset in 0..BATCH {
         let (key, value) = items.at(from + offset);
         let (key, value) = encode_pair::<C>(key, value);
-        let left = room - added;
-        let answer = match ahead {
-            None => insert_step::<C::EncodedKey, C::EncodedValue, C::H, GroupQuery>(
-                control, entries, key, value, left,
-            ),
-            Some(ahead) => {
-                let (hash, slot) = index!(ahead[offset]);
-                insert_ahead::<C::EncodedKey, C::EncodedValue, C::H>(
-                    control, entries, key, value, hash, slot, left,
-                )
-            }
-        };
+        let (hash, slot) = index!(ahead[offset]);
+        let answer = insert_ahead::<C::EncodedKey, C::EncodedValue, C::H>(
+            control,
+            entries,
+            key,
+            value,
+            hash,
+            slot,
+            room - added,
+        );
         let Ok(former) = answer else {
             return (from + offset, added);
         };
@@ -95,7 +120,7 @@ fn insert_range<C: Config, I: Items<C::Key, C::Value>>(
             added += 1;
         }
     }
-    (from + count, added)
+    (from + BATCH, added)
 }
 
 // The hashes of the keys of the eight items from `from` on, and the slots where their searches are expected to end.
