@@ -1,11 +1,7 @@
 //! The parts of a table, borrowed to be written.
 ghost use Rattle.std.specs.Prelude.{◌≡◌, ◌-◌, ◌*◌, ◌+◌, ◌≤◌, length};
 ghost use Rattle.odht_base.specs.Load.{IsSlotCount};
-ghost use Rattle.odht_base.specs.Format.{format_of};
-ghost use Rattle.odht_base.specs.Table.{Pair, Table};
-ghost use Rattle.odht_base.specs.Valid.{IsPartsOf};
 ghost use Rattle.odht_raw.specs.PartLengths.{ArePartLengths};
-ghost use Rattle.odht_raw.specs.PartsPlacings.{IsNewTo, IsNewPlacing, IsAddition};
 
 use super::free_search::first_free;
 use super::insert::{fill_slot, insert_step};
@@ -97,35 +93,15 @@ impl<'c, 'e, K: ByteArray, V: ByteArray, H: HashFn> RawTableMut<'c, 'e, K, V, H>
     pub fn place_by<Q: Group>(&mut self, key: K, value: V) -> Result<(), Error>
         ensures { IsMutPlacing self.old key value result self.new }
     {
-        place_parts::<K, V, H, Q>(self.control, self.entries, key, value)
+        let (control, entries) = (&mut *self.control, &mut *self.entries);
+        let hash = H::hash(key.as_slice());
+        let Some(slot) = first_free::<Q>(control, hash) else {
+            return Err(Error::Full);
+        };
+        let slots = control.len() - REFERENCE_GROUP_SIZE;
+        fill_slot::<K, V, H>(control, entries, slots, &key, &value, tag_of(hash), slot);
+        Ok(())
     }
-}
-
-// `place_by` on the slices themselves.
-#[inline(always)]
-fn place_parts<K: ByteArray, V: ByteArray, H: HashFn, Q: Group>(
-    control: &mut [EntryMetadata],
-    entries: &mut [u8],
-    key: K,
-    value: V,
-) -> Result<(), Error>
-    requires { ArePartLengths H.MIN_LEN K.LEN V.LEN (length entries.old) (length control.old) }
-    ensures placed { let p : Pair = record { key = K.bytes key; value = V.bytes value }
-        in (P : Table)
-        → IsPartsOf (format_of K.LEN V.LEN H.hash) P entries.old control.old
-        → IsNewTo P p
-        → IsNewPlacing (format_of K.LEN V.LEN H.hash) P p result entries.new control.new }
-    ensures any { let p : Pair = record { key = K.bytes key; value = V.bytes value }
-        in IsAddition (format_of K.LEN V.LEN H.hash) entries.old control.old p result entries.new
-        control.new }
-{
-    let hash = H::hash(key.as_slice());
-    let Some(slot) = first_free::<Q>(control, hash) else {
-        return Err(Error::Full);
-    };
-    let slots = control.len() - REFERENCE_GROUP_SIZE;
-    fill_slot::<K, V, H>(control, entries, slots, &key, &value, tag_of(hash), slot);
-    Ok(())
 }
 
 impl<'c, 'e, K: ByteArray, V: ByteArray, H: HashFn> fmt::Debug for RawTableMut<'c, 'e, K, V, H> {

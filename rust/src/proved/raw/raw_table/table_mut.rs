@@ -64,25 +64,15 @@ impl<'c, 'e, K: ByteArray, V: ByteArray, H: HashFn> RawTableMut<'c, 'e, K, V, H>
     /// searches leave the same parts.
     #[inline(always)]
     pub fn place_by<Q: Group>(&mut self, key: K, value: V) -> Result<(), Error> {
-        place_parts::<K, V, H, Q>(self.control, self.entries, key, value)
+        let (control, entries) = (&mut *self.control, &mut *self.entries);
+        let hash = H::hash(key.as_slice());
+        let Some(slot) = first_free::<Q>(control, hash) else {
+            return Err(Error::Full);
+        };
+        let slots = control.len() - REFERENCE_GROUP_SIZE;
+        fill_slot::<K, V, H>(control, entries, slots, &key, &value, tag_of(hash), slot);
+        Ok(())
     }
-}
-
-// `place_by` on the slices themselves.
-#[inline(always)]
-fn place_parts<K: ByteArray, V: ByteArray, H: HashFn, Q: Group>(
-    control: &mut [EntryMetadata],
-    entries: &mut [u8],
-    key: K,
-    value: V,
-) -> Result<(), Error> {
-    let hash = H::hash(key.as_slice());
-    let Some(slot) = first_free::<Q>(control, hash) else {
-        return Err(Error::Full);
-    };
-    let slots = control.len() - REFERENCE_GROUP_SIZE;
-    fill_slot::<K, V, H>(control, entries, slots, &key, &value, tag_of(hash), slot);
-    Ok(())
 }
 
 impl<'c, 'e, K: ByteArray, V: ByteArray, H: HashFn> fmt::Debug for RawTableMut<'c, 'e, K, V, H> {
