@@ -214,7 +214,7 @@ impl<C: Config, D: ByteStore> HashTable<C, D> {
         ensures accepted { IsAccepted ⟦<C as Coded>⟧.coding.format (D.bytes result) }
     {
         let HashTable { allocation } = self;
-        allocation.into_store()
+        allocation.into_data()
     }
 
     /// The raw table of these bytes. A caller that looks up many keys calls this once.
@@ -290,7 +290,7 @@ impl<C: Config, D: ByteStoreMut> HashTable<C, D> {
             return Err(Error::InitLength { found, expected });
         }
         let table = memory_layout::init_in_place::<C, &mut D>(store, slot_count, 0, factor);
-        let _store = table.into_store();
+        let _store = table.into_data();
         Ok(())
     }
 

@@ -1,5 +1,5 @@
 //! The bytes of a table in a store: opening and reading.
-ghost use Rattle.std.specs.Prelude.{◌≡◌, ◌+◌, ◌-◌, ◌<◌, ◌^◌, length, IfOk, IsOk};
+ghost use Rattle.std.specs.Prelude.{◌≡◌, ◌+◌, ◌-◌, ◌<◌, ◌^◌, All, length, IfOk, IsOk};
 ghost use Rattle.odht_base.specs.Load.{IsSlotCount};
 ghost use Rattle.odht_base.specs.Format.{format_of};
 ghost use Rattle.odht_base.specs.Table.{Table};
@@ -110,7 +110,7 @@ impl<C: Config, M: ByteStore> Allocation<C, M> {
 
     /// The store, with the bytes as they are now.
     #[inline]
-    pub fn into_store(self) -> M
+    pub fn into_data(self) -> M
         ensures store { result ≡ self }
         ensures accepted { IsAccepted ⟦<C as Coded>⟧.coding.format (M.bytes result) }
     {
@@ -158,3 +158,9 @@ impl<C: Config, M: ByteStore> Allocation<C, M> {
         )
     }
 }
+
+// Does nothing: its contract gives the proof that each item of a slice of bytes is below 256.
+#[inline(always)]
+pub(crate) fn hold_bytes(bytes: &[u8])
+    ensures { All (λ byte. byte < 256) bytes.now }
+{}

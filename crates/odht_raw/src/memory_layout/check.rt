@@ -1,12 +1,12 @@
 //! The whole check of the bytes of a table.
-ghost use Rattle.std.specs.Prelude.{◌≡◌, ◌<◌, ◌↔◌, All, IsOk, None, Some};
+ghost use Rattle.std.specs.Prelude.{◌≡◌, ◌↔◌, IsOk, None, Some};
 ghost use Rattle.odht_base.specs.Valid.{IsValidBytes};
 ghost use Rattle.odht_base.specs.Bounds.{first_longer};
 ghost use Rattle.odht_base.specs.Decoded.{controls_of};
 ghost use Rattle.odht_header.specs.Refusals.{checked, late_refusal, check_refusal};
 ghost use Rattle.odht_header.specs.Refusals.{late_refusal_by, check_refusal_by};
 
-use super::Allocation;
+use super::allocation::{Allocation, hold_bytes};
 use crate::bytes::{Borrowed, ByteStore};
 use crate::config::{Coded, Config};
 use crate::error::Error;
@@ -106,9 +106,3 @@ impl<C: Config, M: ByteStore> Allocation<C, M> {
         }
     }
 }
-
-// Does nothing: its contract gives the proof that each item of a slice of bytes is below 256.
-#[inline(always)]
-pub(crate) fn hold_bytes(bytes: &[u8])
-    ensures { All (λ byte. byte < 256) bytes.now }
-{}

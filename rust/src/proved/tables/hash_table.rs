@@ -136,7 +136,7 @@ impl<C: Config, D: ByteStore> HashTable<C, D> {
     #[inline]
     pub fn into_data(self) -> D {
         let HashTable { allocation } = self;
-        allocation.into_store()
+        allocation.into_data()
     }
 
     /// The raw table of these bytes. A caller that looks up many keys calls this once.
@@ -184,7 +184,7 @@ impl<C: Config, D: ByteStoreMut> HashTable<C, D> {
             return Err(Error::InitLength { found, expected });
         }
         let table = memory_layout::init_in_place::<C, &mut D>(store, slot_count, 0, factor);
-        let _store = table.into_store();
+        let _store = table.into_data();
         Ok(())
     }
 

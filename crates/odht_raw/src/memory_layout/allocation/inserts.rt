@@ -8,13 +8,12 @@ ghost use Rattle.odht_base.specs.Writes.{with_count};
 ghost use Rattle.odht_raw.specs.Frame.{IsAccepted, IsFramed};
 ghost use Rattle.odht_raw.specs.Runs.{IsListRun, IsOnePlaced};
 
-use super::Allocation;
+use super::{Allocation, hold_bytes};
 use crate::bytes::{ByteStoreMut, write_slice};
 use crate::config::{Coded, Config};
 use crate::error::Error;
 use crate::items::{Items, encode_pair};
 use crate::load::Factor;
-use crate::memory_layout::check::hold_bytes;
 use crate::memory_layout::{HEADER_SIZE, Header, entry_at};
 use crate::raw_table::{insert_at, insert_run, step_end};
 use crate::swisstable_group_query::Group;

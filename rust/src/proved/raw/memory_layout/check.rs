@@ -1,7 +1,7 @@
 // Made by `make rust` of crates/odht_raw/src/memory_layout/check.rt.
 //! The whole check of the bytes of a table.
 
-use super::Allocation;
+use super::allocation::{hold_bytes, Allocation};
 use crate::proved::raw::bytes::{Borrowed, ByteStore};
 use crate::proved::raw::config::Config;
 use crate::proved::raw::error::Error;
@@ -78,7 +78,3 @@ impl<C: Config, M: ByteStore> Allocation<C, M> {
         }
     }
 }
-
-// Does nothing: its contract gives the proof that each item of a slice of bytes is below 256.
-#[inline(always)]
-pub(crate) fn hold_bytes(bytes: &[u8]) {}

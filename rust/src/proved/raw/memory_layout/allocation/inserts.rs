@@ -2,14 +2,13 @@
 //! Inserts into the bytes of a table: the parts are written, and last the item count: by a single insert where it added
 //! an entry, by a list in any case.
 
-use super::Allocation;
+use super::{hold_bytes, Allocation};
 use crate::proved::header::header::ITEM_COUNT_AT;
 use crate::proved::raw::bytes::{write_slice, ByteStoreMut};
 use crate::proved::raw::config::Config;
 use crate::proved::raw::error::Error;
 use crate::proved::raw::items::{encode_pair, Items};
 use crate::proved::raw::load::Factor;
-use crate::proved::raw::memory_layout::check::hold_bytes;
 use crate::proved::raw::memory_layout::{entry_at, Header, HEADER_SIZE};
 use crate::proved::raw::raw_table::{insert_at, insert_run, step_end};
 use crate::proved::raw::swisstable_group_query::Group;
