@@ -5,7 +5,8 @@ use std::fs;
 use std::path::{Path, PathBuf};
 
 // Calls that are made for what they do, or whose result has a type that says it. The last two are the crate's own.
-const OTHERS: [&str; 4] = ["insert", "try_insert_all", "percent_of", "refused"];
+const OTHERS: [&str; 5] =
+    ["insert", "try_insert_all", "get_or_insert_with", "percent_of", "refused"];
 const WALKS: [&str; 4] = ["Iter<", "Keys<", "Values<", "Slots<"];
 
 fn sources(folder: &Path) -> Vec<PathBuf> {
@@ -49,6 +50,6 @@ fn answers_are_to_be_used() {
             count += usize::from(is_marked);
         }
     }
-    // 13 of the table that grows, 13 of views, and one more
-    assert_eq!(count, 27);
+    // 14 of the table that grows, 15 of views, and one more
+    assert_eq!(count, 30);
 }
