@@ -3,7 +3,7 @@ use crate::failure::Failure;
 use crate::targets::{Kept, Target};
 use std::alloc::Global;
 use std::fs::{self, OpenFile, OpenOptions};
-use std::io::{self, Read, Write};
+use std::io::{self, BufRead, Read, Write};
 use std::os::fd::AsFd;
 use std::os::unix::fs::OpenOptionsExt;
 use std::rt::Files;
@@ -30,13 +30,20 @@ fn read_bytes<R: Files + AllocGlobal>(rt: &R, path: &str) -> io::Result<Vec<u8>>
 }
 
 /// All bytes of an input.
-pub fn read_input<I: Read>(alloc: Global, input: &mut I) -> Result<Vec<u8>, Failure> {
+// By lines, as other commands read it: another way to read would keep the compiler from inlining theirs.
+pub fn read_input<I: BufRead>(alloc: Global, input: &mut I) -> Result<Vec<u8>, Failure> {
     let mut bytes = Vec::new(alloc);
-    match input.read_to_end(&mut bytes) {
-        Ok(_) => Ok(bytes),
-        Err(error) if error.kind() == io::ErrorKind::OutOfMemory => Err(Failure::Memory),
-        Err(error) => Err(Failure::Input(error)),
+    for _ in 0..u64::MAX {
+        match input.read_until(b'\n', &mut bytes) {
+            Ok(0) => break,
+            Ok(_) => {}
+            Err(error) if error.kind() == io::ErrorKind::OutOfMemory => {
+                return Err(Failure::Memory);
+            }
+            Err(error) => return Err(Failure::Input(error)),
+        }
     }
+    Ok(bytes)
 }
 
 /// Writes a new file beside the target, whose name is that of the target with `.new` after it, and renames it to the
