@@ -28,6 +28,7 @@ use std::marker::Model;
 
 mod clear;
 mod dump;
+mod extend;
 mod get_all;
 mod insert_order;
 mod lists;

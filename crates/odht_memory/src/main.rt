@@ -36,6 +36,7 @@ fn run(alloc: Global, call: &str, report: &mut Report) -> bool {
         "from_iterator" => owned::from_iterator(alloc, report),
         "insert" => owned::insert(alloc, report),
         "insert_all" => owned::insert_all(alloc, report),
+        "extend" => owned::extend(alloc, report),
         "reserve" => owned::reserve(alloc, report),
         "clear" => quiet::clear(alloc, report),
         "clone" => owned::clone(alloc, report),

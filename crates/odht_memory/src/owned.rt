@@ -102,6 +102,23 @@ pub fn insert_all(alloc: Global, report: &mut Report) {
     report.table(&table);
 }
 
+/// Inserts the keys 13 to 40 from an iterator into a full table, which grows twice after they were collected.
+pub fn extend(alloc: Global, report: &mut Report) {
+    let Some(mut table) = full_table(alloc, report) else {
+        return;
+    };
+    let before = bytes_of(&table);
+    let mut items = [(0, 0); 28];
+    for (item, key) in items.iter_mut().zip(13..41) {
+        *item = (key, value_of(key));
+    }
+    let (accepted, result) = table.extend(items.iter().copied());
+    report.result("extend", &result);
+    report.size("accepted", accepted);
+    tell_unchanged(report, &table, &before);
+    report.table(&table);
+}
+
 // Adds whether a copy was made, whether it has the bytes of its table, and the table.
 fn tell_copy(report: &mut Report, call: &'static str, copy: Result<Table, Error>, table: &Table) {
     report.result(call, &copy);

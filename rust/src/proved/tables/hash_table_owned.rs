@@ -13,6 +13,7 @@ use crate::shim::Global;
 
 mod clear;
 mod dump;
+mod extend;
 mod get_all;
 mod insert_order;
 mod lists;

@@ -1,0 +1,21 @@
+// Made by `make rust` of crates/odht/src/hash_table_owned/extend.rt.
+//! Inserts of what an iterator gives.
+
+use super::HashTableOwned;
+use crate::proved::tables::config::Config;
+use crate::proved::tables::error::Error;
+
+impl<C: Config> HashTableOwned<C> {
+    /// `insert_all` of the items of an iterator, which are collected first. Returns how many were accepted, and `Memory`
+    /// where there was none for the list, with nothing changed, or where an insert failed, as `insert_all` leaves it.
+    pub fn extend<I: Iterator<Item = (C::Key, C::Value)>>(
+        &mut self,
+        items: I,
+    ) -> (usize, Result<(), Error>) {
+        let collected: Result<Vec<(C::Key, C::Value)>, _> = crate::shim::collect(items, self.alloc);
+        let Ok(items) = collected else {
+            return (0, Err(Error::Memory));
+        };
+        self.insert_all(items.as_slice())
+    }
+}
