@@ -9,3 +9,7 @@ pub mod ListInserts
 pub mod LastValues
 -- items that make a table again
 pub mod Rebuilds
+-- a table that is given room for more items
+pub mod RoomForMore
+-- tables that are the same map
+pub mod SameMaps

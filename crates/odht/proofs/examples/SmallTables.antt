@@ -91,6 +91,10 @@ pub one_of_32_image : IsImage my_config (one_of_32 6 2) (bytes_of (one_of_32 6 2
 unfolding opened
 one_of_32_image = image_by (one_of_32 6 2) refl (lit≤ tt) refl refl (lit≤ tt) (lit≤ tt) (lit≤ tt)
 
+pub wide_image : IsImage my_config (one_of_32 87 2) (bytes_of (one_of_32 87 2))
+unfolding opened
+wide_image = image_by (one_of_32 87 2) refl (lit≤ tt) refl refl (lit≤ tt) (lit≤ tt) (lit≤ tt)
+
 -- bytes are those of the one table that they decode to
 my_format : IsFormat my_config
 my_format = record { key_short = lit≤ tt; value_short = lit≤ tt; hash_small = λ b h. fx-lt b }

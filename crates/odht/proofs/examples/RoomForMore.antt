@@ -1,0 +1,61 @@
+-- Worked examples: a table that is given room for more items. Sixteen slots at 87 percent take 13 items, 32 slots 27.
+use Rattle.std.proofs.Common.{◌≡◌, ◌∙◌, ◌^◌, ◌≤◌, ◌<◌, Bool, true, false, refl, sym, ap, lit≤, lit<, Option, Some, None, option_map, if◌then◌else◌, List, ℕ, bytes_eq}
+use Rattle.odht_base.specs.Map.{map_of}
+use Rattle.odht_base.specs.Numbers.{le_bytes}
+use Rattle.odht_base.specs.Table.{Pair, Table}
+use Rattle.odht_base.proofs.lemmas.Options.{some_same}
+use Rattle.odht_base.proofs.examples.Configs.{my_config, pair64}
+use Rattle.odht_header.proofs.examples.Apart.{unequal_lists}
+use Rattle.odht_header.proofs.examples.Opened.{opened}
+use Rattle.odht.specs.Reserves.{LacksRoom, has_room_for, moved, reserved, IsMovedImage, IsReserved}
+use Rattle.odht.proofs.examples.SmallTables.{one_pair, one_of_32, bytes_of, one_pair_image, wide_image}
+
+-- with one pair twelve more have room, and thirteen have not
+pub rooms : (has_room_for (one_pair 2) 12 ≡ true) × (has_room_for (one_pair 2) 13 ≡ false) × LacksRoom (one_pair 2) 13
+unfolding opened
+rooms = (refl, refl, lit< tt)
+
+-- with room the table stays; for 14 items it takes 32 slots, in which the key 1 has the home 21; for 2^63 and one no
+-- slot count is enough
+pub tables : (reserved my_config (one_pair 2) 12 ≡ Some (one_pair 2)) × (reserved my_config (one_pair 2) 13 ≡ Some (one_of_32 87 2))
+    × (moved my_config (one_pair 2) 32 ≡ Some (one_of_32 87 2)) × (reserved my_config (one_pair 2) (2 ^ 63) ≡ None)
+unfolding opened reserved
+tables = (refl, refl, refl, refl)
+
+-- the same map in both
+same : (k : List ℕ) → map_of (one_of_32 87 2) k ≡ map_of (one_pair 2) k
+unfolding opened
+same k = go (bytes_eq k (le_bytes 8 1))
+  where
+    go : (b : Bool)
+        → option_map (λ (p : Pair). p.value) (if b then Some (pair64 1 2) else None) ≡ option_map (λ (p : Pair). p.value) (if b then Some (pair64 1 2) else None)
+    go b = refl
+
+-- room for twelve more is there
+pub stays : IsReserved my_config (one_pair 2) 12 (bytes_of (one_pair 2))
+unfolding opened reserved
+stays = record { table = one_pair 2; is = refl; image = one_pair_image.0; maps = λ k. refl; room = lit≤ tt }
+
+-- for thirteen more the pair moves
+pub moves : IsReserved my_config (one_pair 2) 13 (bytes_of (one_of_32 87 2))
+unfolding opened reserved
+moves = record { table = one_of_32 87 2; is = refl; image = wide_image; maps = same; room = lit≤ tt }
+
+pub moved_image : IsMovedImage my_config (one_pair 2) 32 (bytes_of (one_of_32 87 2))
+unfolding opened
+moved_image = (one_of_32 87 2, refl, wide_image)
+
+-- no move where there is room
+pub too_wide : IsReserved my_config (one_pair 2) 12 (bytes_of (one_of_32 87 2)) → ⊥
+unfolding opened reserved
+too_wide h = unequal_lists _ _ refl (h.image.bytes ∙ ap bytes_of (sym (some_same (one_pair 2) h.table h.is)))
+
+-- a table without the room
+pub too_small : IsReserved my_config (one_pair 2) 13 (bytes_of (one_pair 2)) → ⊥
+unfolding opened reserved
+too_small h = unequal_lists _ _ refl (h.image.bytes ∙ ap bytes_of (sym (some_same (one_of_32 87 2) h.table h.is)))
+
+-- nor are these the bytes of the moved table
+pub not_moved : IsMovedImage my_config (one_pair 2) 32 (bytes_of (one_pair 2)) → ⊥
+unfolding opened
+not_moved h = unequal_lists _ _ refl (h.2.bytes ∙ ap bytes_of (sym (some_same (one_of_32 87 2) h.0 h.1)))
