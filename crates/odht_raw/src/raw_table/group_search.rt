@@ -1,11 +1,11 @@
 //! The search by groups of control bytes along the probe order.
-ghost use Rattle.std.specs.Prelude.{◌≡◌, ℕ, ◌+◌, ◌<◌, ◌≤◌, List, length, IfSome, IsNone};
+ghost use Rattle.std.specs.Prelude.{◌≡◌, ℕ, ◌+◌, ◌<◌, ◌≤◌, length, IfSome, IsNone};
 ghost use Rattle.odht_base.specs.Load.{IsSlotCount};
 ghost use Rattle.odht_base.specs.Format.{format_of};
 ghost use Rattle.odht_base.specs.Table.{Table};
 ghost use Rattle.odht_raw.specs.PartLengths.{ArePairLengths, AreSearchLengths};
 ghost use Rattle.odht_raw.specs.SearchEnds.{IsEndAmong, GoesOnAmong};
-ghost use Rattle.odht_raw.specs.SearchSteps.{IsGroupAt, IsLook, IsQuery, IsQueryOf, IsTag};
+ghost use Rattle.odht_raw.specs.SearchSteps.{IsGroupAt, IsLook, IsTag};
 ghost use Rattle.odht_raw.specs.Searches.{IsRest, IsSearch, IsSearchEnd, IsUnderWay, IsPassed};
 
 use super::{Entries, EntryMetadata, ProbeSeq, Scan, Search, tag_of};
@@ -217,36 +217,8 @@ fn look_at_piece<K: ByteArray, V: ByteArray, H: HashFn, Q: Group>(
         → IsGroupAt (format_of K.LEN V.LEN H.hash) P entries.now (K.bytes key.now) p start bytes.now
         → IsLook (format_of K.LEN V.LEN H.hash) P (K.bytes key.now) p Q.SIZE result }
 {
-    look_in::<K, V, H, Q>(Q::of(bytes, tag), start, entries, key)
-}
-
-/// Where a search ends among the slots from `start` on, modulo the slot count, of whose control bytes `group` is the
-/// query for the key's tag: at a match with the key, else at the first free slot; None where it goes on behind them.
-#[inline(always)]
-pub(super) fn look_in<K: ByteArray, V: ByteArray, H: HashFn, Q: Group>(
-    group: Q,
-    start: usize,
-    entries: &Entries<'_, K, V>,
-    key: &K,
-) -> Option<Search>
-    requires slots { IsSlotCount entries.now.slots }
-    requires start { start + Q.SIZE ≤ entries.now.slots + 16 }
-    requires lengths { ArePairLengths H.MIN_LEN K.LEN V.LEN }
-    requires query { IsQuery (format_of K.LEN V.LEN H.hash) (K.bytes key.now) Q.SIZE
-        (Q.matches group) (Q.free group) }
-    ensures slot { let F = format_of K.LEN V.LEN H.hash
-        in (bs : List ℕ) → IsQueryOf F (K.bytes key.now) Q.SIZE bs (Q.matches group) (Q.free group)
-        → IfSome result (IsEndAmong F entries.now bs start Q.SIZE (K.bytes key.now)) }
-    ensures none { let F = format_of K.LEN V.LEN H.hash
-        in (bs : List ℕ) → IsQueryOf F (K.bytes key.now) Q.SIZE bs (Q.matches group) (Q.free group)
-        → IsNone result → GoesOnAmong F entries.now bs start (K.bytes key.now) Q.SIZE }
-    ensures on_placed { let F = format_of K.LEN V.LEN H.hash
-        in (bs : List ℕ) → IsQueryOf F (K.bytes key.now) Q.SIZE bs (Q.matches group) (Q.free group)
-        → (P : Table) (p : ℕ) → IsGroupAt F P entries.now (K.bytes key.now) p start bs
-        → IsLook F P (K.bytes key.now) p Q.SIZE result }
-{
     let mask = entries.len() - 1;
-    let mut group = group;
+    let mut group = Q::of(bytes, tag);
     'matches: while let Some(index) = group.first_match() {
         let slot = (start + index) & mask;
         if entries.has_key(slot, key) {

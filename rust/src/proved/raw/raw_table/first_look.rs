@@ -2,8 +2,8 @@
 //! The first look of a search. To look up many keys, take the first looks of several keys before the first search ends:
 //! then their memory accesses overlap.
 
-use super::group_search::{late_search, look_in};
-use super::{tag_of, RawTable, Search};
+use super::group_search::late_search;
+use super::{tag_of, RawTable};
 use crate::proved::raw::bytes::ByteArray;
 use crate::proved::raw::hash::HashFn;
 use crate::proved::raw::swisstable_group_query::{lanes, Group, REFERENCE_GROUP_SIZE};
@@ -31,13 +31,22 @@ impl<'a, K: ByteArray, V: ByteArray, H: HashFn> RawTable<'a, K, V, H> {
     ///
     /// The matches of the look are compared in turn. Where none holds the key and the group has no free byte, the
     /// search goes on with the second group.
+    // The first group is not looked at by the function for later ones: keys in a near cache took up to a tenth longer.
     #[inline(always)]
     pub fn find_from(&self, look: FirstLook, key: &K) -> Option<V> {
-        let home = look.hash as usize & (self.entries.len() - 1);
-        let FirstLook { hash, group } = look;
-        match look_in::<K, V, H, lanes::GroupQuery>(group, home, &self.entries, key) {
-            Some(end) => self.value_at(end),
-            None => self.value_at(late_search::<K, V, H>(self.control, &self.entries, key, hash)),
+        let mask = self.entries.len() - 1;
+        let home = look.hash as usize & mask;
+        let FirstLook { hash, mut group } = look;
+        while let Some(index) = group.first_match() {
+            let slot = (home + index) & mask;
+            if self.entries.has_key(slot, key) {
+                return Some(self.entries.get(slot).value);
+            }
+            group.drop_match();
         }
+        if group.any_empty() {
+            return None;
+        }
+        self.value_at(late_search::<K, V, H>(self.control, &self.entries, key, hash))
     }
 }

@@ -143,20 +143,8 @@ fn look_at_piece<K: ByteArray, V: ByteArray, H: HashFn, Q: Group>(
     key: &K,
     tag: u8,
 ) -> Option<Search> {
-    look_in::<K, V, H, Q>(Q::of(bytes, tag), start, entries, key)
-}
-
-/// Where a search ends among the slots from `start` on, modulo the slot count, of whose control bytes `group` is the
-/// query for the key's tag: at a match with the key, else at the first free slot; None where it goes on behind them.
-#[inline(always)]
-pub(super) fn look_in<K: ByteArray, V: ByteArray, H: HashFn, Q: Group>(
-    group: Q,
-    start: usize,
-    entries: &Entries<'_, K, V>,
-    key: &K,
-) -> Option<Search> {
     let mask = entries.len() - 1;
-    let mut group = group;
+    let mut group = Q::of(bytes, tag);
     while let Some(index) = group.first_match() {
         let slot = (start + index) & mask;
         if entries.has_key(slot, key) {

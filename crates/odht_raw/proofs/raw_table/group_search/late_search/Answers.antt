@@ -1,4 +1,4 @@
-use Rattle.std.proofs.Common.{◌≡◌, ◌∙◌, ℕ, ◌+◌, ◌-◌, ◌%◌, ◌<◌, ◌≤◌, sym, ap, subst, arith, true≢false, List, length}
+use Rattle.std.proofs.Common.{◌≡◌, ◌∙◌, ℕ, ◌+◌, ◌-◌, ◌%◌, ◌<◌, sym, ap, subst, arith, true≢false, List, length}
 use Rattle.odht_base.specs.Format.{Format, format_of}
 use Rattle.odht_base.proofs.lemmas.SlotCounts.{sixteens}
 use Rattle.odht_raw.specs.Searches.{IsPassed}

@@ -1,4 +1,4 @@
-use Rattle.std.proofs.Common.{arith, refl, ◌≡◌, ◌∙◌, ℕ, ◌+◌, ◌-◌, ◌%◌, ◌/◌, ◌<◌, ◌≤◌, sym, ap, subst, true≢false, List, min}
+use Rattle.std.proofs.Common.{arith, refl, ◌≡◌, ◌∙◌, ℕ, ◌+◌, ◌-◌, ◌/◌, ◌<◌, ◌≤◌, sym, ap, subst, true≢false, List, min}
 use Rattle.odht_base.specs.Bytes.{bytes_at}
 use Rattle.odht_base.specs.Format.{Format, format_of, IsFormat}
 use Rattle.odht_base.specs.Load.{IsSlotCount}
@@ -6,7 +6,7 @@ use Rattle.odht_base.specs.Table.{Table}
 use Rattle.odht_base.specs.Valid.{IsPartsOf}
 use Rattle.odht_base.proofs.lemmas.SlotCounts.{sixteens}
 use Rattle.odht_base.specs.Probe.{probe_slot}
-use Rattle.odht_raw.specs.ControlBytes.{order_slot, GoesOnTo}
+use Rattle.odht_raw.specs.ControlBytes.{order_slot}
 use Rattle.odht_raw.specs.SearchEnds.{GoesOnAmong}
 use Rattle.odht_raw.specs.SearchSteps.{Passed, IsGroupAt}
 use Rattle.odht_raw.specs.Searches.{IsPassed}

@@ -3,7 +3,7 @@ use Rattle.std.specs.List.Sorted.{IsStrictlyIncreasing}
 use Rattle.odht_base.specs.Format.{format_of}
 use Rattle.odht_base.specs.Decoded.{slot_key}
 use Rattle.odht_raw.proofs.lemmas.GroupLooks.{IsTaken}
-use Rattle.odht_raw.proofs.raw_table.group_search.look_in.Given as goal
+use Rattle.odht_raw.proofs.raw_table.group_search.look_at_piece.Given as goal
 
 abbrev pub invariant-matches : goal.invariant-matches
 invariant-matches g l = record {
