@@ -239,16 +239,17 @@ def programs():
 
 def package():
     run([sys.executable, "tools/documents.py", "--check"])
+    # cargo would build what it packed over the crate's own files, which the tests of `examples` read meanwhile
+    files = {"CARGO_TARGET_DIR": f"{CARGO_FILES}-packed", "RUSTDOCFLAGS": "-D warnings"}
     # no host is known yet that has the repository, which is what this option leaves out
-    printed = run(["cargo", "package", "--offline", "--allow-dirty", "--no-metadata"], f"{TOP}/rust")
+    printed = run(["cargo", "package", "--offline", "--allow-dirty", "--no-metadata"], f"{TOP}/rust", **files)
     if "warning" in printed:
         raise Failed(printed)
     # what was packed has all that its documentation includes
     version = re.search(r"Verifying odht v(\S+)", printed)
     if not version:
         raise Failed(f"nothing was verified\n{printed}")
-    files = {"CARGO_TARGET_DIR": f"{CARGO_FILES}-packed", "RUSTDOCFLAGS": "-D warnings"}
-    folder = f"{CARGO_FILES}/package/odht-{version[1]}"
+    folder = f"{CARGO_FILES}-packed/package/odht-{version[1]}"
     run(["cargo", "doc", "--quiet", "--offline", "--no-deps"], folder, **files)
     return 3
 
