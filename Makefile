@@ -132,8 +132,9 @@ bench-peers: build/libodht.a
 .PHONY: bench-crate
 bench-crate: BENCH_RUST += $(if $(ALIGNED),-C llvm-args=-x86-branches-within-32B-boundaries)
 bench-crate: original
-	@$(BENCH_RUST) --edition 2021 --crate-type rlib --crate-name odht_default rust/src/lib.rs -o build/original/libodht_default.rlib
-	@$(BENCH_RUST) --edition 2021 --crate-type rlib --crate-name odht_fast --cfg 'feature="fast"' rust/src/lib.rs \
+	@$(BENCH_RUST) --edition 2021 --crate-type rlib --crate-name odht_default --cfg 'feature="std"' rust/src/lib.rs \
+	  -o build/original/libodht_default.rlib
+	@$(BENCH_RUST) --edition 2021 --crate-type rlib --crate-name odht_fast --cfg 'feature="std"' --cfg 'feature="fast"' rust/src/lib.rs \
 	  -o build/original/libodht_fast.rlib
 	@$(BENCH_RUST) --edition 2021 -D warnings bench/crate.rs -L dependency=build/original --extern odht=build/original/libodht.rlib \
 	  --extern odht_default=build/original/libodht_default.rlib --extern odht_fast=build/original/libodht_fast.rlib -o build/bench_crate
@@ -154,7 +155,8 @@ bounds: build/libodht.a original
 .PHONY: searches
 searches:
 	@mkdir -p build/searches
-	@$(BENCH_RUST) --edition 2021 --crate-type rlib --crate-name odht rust/src/lib.rs -o build/searches/libodht.rlib
+	@$(BENCH_RUST) --edition 2021 --crate-type rlib --crate-name odht --cfg 'feature="std"' rust/src/lib.rs \
+	  -o build/searches/libodht.rlib
 	@$(BENCH_RUST) --edition 2021 -D warnings bench/searches.rs --extern odht=build/searches/libodht.rlib -o build/searches/searches
 	@build/searches/searches $(SLOTS)
 

@@ -106,6 +106,7 @@ SHORTER = [
 ]
 # what was replaced: a pattern of the erased text, and what the source has
 UNDONE = {
+    "an import of lists": (r"^use alloc :: vec :: Vec ; ", ""),
     "a list of lanes": (r"\bcrate :: shim :: u8x16", "std :: simd :: prelude :: *"),
     "zeros": (r"crate :: shim :: zeroed_bytes \( ([\w. ]+?) , (\w+) \)", r"vec ! [ in \1 ; 0 ; \2 ]"),
     "room": (r"crate :: shim :: with_capacity", "Vec :: with_capacity"),

@@ -8,6 +8,8 @@
     erase      the tests of tools/erase
     crate      those of the crate; `examples`: those of its documentation
     fast       the same with the feature `fast`, which asserts each index there; `no_simd`: some of them with that feature
+    without_std  the crate without std builds, also with `fast`; a program without std answers over it; the library of
+               that program builds for each target without std that is installed; and some of the tests pass
     programs   the programs in rust/examples print what they have to, and that of rust/benches runs
     compat     code that is written for odht 0.3.1
     beside     the crate beside the library for C (in ODHT_LIB_DIR) and the Rust crate (in ODHT_RUST), where these are
@@ -96,6 +98,7 @@ def current():
 
 # faults of the erased text: what is replaced in a file, once
 FAULTS = [
+    ("src/proved/base/bytes/stores.rs", "use alloc::vec::Vec;", "use alloc::collections::VecDeque as Vec;"),
     ("src/proved/base/load.rs", "self.0 as u128 / 65536", "self.0 as u128 / 65535"),
     ("src/proved/base/hash.rs", "rotate_left(5) ^ value", "rotate_left(5)"),
     ("src/proved/raw/raw_table/scan.rs", "start + 16", "start"),
@@ -148,17 +151,50 @@ def user(folder, *words):
     return cargo(folder, "test", *words, CARGO_TARGET_DIR=f"{CARGO_FILES}-{os.path.basename(folder)}")
 
 
+NO_STD = ["--no-default-features"]
+# what the program in rust/without_std prints, worked out by hand: FORMAT.md has the table of the first three lines
+WITHOUT_STD = """in the program: [Some(2), Some(4), Some(6), None]
+cut: Err("Provided allocation has wrong size for slot count 16. The allocation's size is 255 but the expected size \
+is 256.")
+made: true
+grown: 1003 items, Some(4) Some(10990)
+"""
+
+
+def targets_without_std():
+    """Returns the installed targets of 64 bits that have no std."""
+    folder = run(["rustc", "--print", "sysroot"]).strip() + "/lib/rustlib"
+    return [it for it in sorted(os.listdir(folder)) if re.match(r"(x86_64|aarch64|riscv64).*-none\b", it)]
+
+
+def without_std():
+    # a program whose panics are its own: with std in what it is made of, there would be two that handle them
+    files = {"CARGO_TARGET_DIR": f"{CARGO_FILES}-without_std"}
+    done = 0
+    for words in ([], ["--features", "fast"]):
+        cargo("rust", "build", *NO_STD, *words)
+        printed = run(["cargo", "run", "--quiet", "--offline", *words], f"{TOP}/rust/without_std", **files)
+        if printed != WITHOUT_STD:
+            raise Failed(f"without_std printed\n{printed}and not\n{WITHOUT_STD}")
+        done += 2
+    for target in targets_without_std():
+        cargo("rust/without_std", "build", "--lib", "--target", target, **files)
+        done += 1
+    tests = [word for it in ("worked_bytes", "interface", "question_mark") for word in ("--test", it)]
+    return done + cargo("rust", "test", *NO_STD, *tests)
+
+
 def lints():
     done = 0
-    embedded = "rust/examples/embedded"
-    for folder in ("tools/erase", "rust", "rust/c", "rust/compat", "rust/beside", embedded):
+    embedded, no_std = "rust/examples/embedded", "rust/without_std"
+    for folder in ("tools/erase", "rust", "rust/c", "rust/compat", "rust/beside", no_std, embedded):
         run(["cargo", "fmt", "--check"], f"{TOP}/{folder}")
         done += 1
     if not has("cargo", "clippy", "--version"):
         return done
     fast = ["--features", "fast"]
-    users = ["rust/c"], ["rust/compat"], ["rust/beside"], [embedded]
-    for folder, *words in (["tools/erase"], ["rust"], ["rust", *fast], *users):
+    users = ["rust/c"], ["rust/compat"], ["rust/beside"], [no_std], [embedded]
+    for folder, *words in (["tools/erase"], ["rust"], ["rust", *fast], ["rust", *NO_STD], *users):
         cargo(folder, "clippy", "--all-targets", *words, "--", "-D", "warnings")
         done += 1
     cargo("rust", "doc", "--no-deps", RUSTDOCFLAGS="-D warnings")
@@ -203,16 +239,17 @@ def programs():
 
 def package():
     run([sys.executable, "tools/documents.py", "--check"])
+    # cargo would build what it packed over the crate's own files, which the tests of `examples` read meanwhile
+    files = {"CARGO_TARGET_DIR": f"{CARGO_FILES}-packed", "RUSTDOCFLAGS": "-D warnings"}
     # no host is known yet that has the repository, which is what this option leaves out
-    printed = run(["cargo", "package", "--offline", "--allow-dirty", "--no-metadata"], f"{TOP}/rust")
+    printed = run(["cargo", "package", "--offline", "--allow-dirty", "--no-metadata"], f"{TOP}/rust", **files)
     if "warning" in printed:
         raise Failed(printed)
     # what was packed has all that its documentation includes
     version = re.search(r"Verifying odht v(\S+)", printed)
     if not version:
         raise Failed(f"nothing was verified\n{printed}")
-    files = {"CARGO_TARGET_DIR": f"{CARGO_FILES}-packed", "RUSTDOCFLAGS": "-D warnings"}
-    folder = f"{CARGO_FILES}/package/odht-{version[1]}"
+    folder = f"{CARGO_FILES}-packed/package/odht-{version[1]}"
     run(["cargo", "doc", "--quiet", "--offline", "--no-deps"], folder, **files)
     return 3
 
@@ -248,6 +285,7 @@ TESTS = {
     "examples": lambda: cargo("rust", "test", "--doc"),
     "fast": lambda: cargo("rust", "test", "--lib", "--tests", "--features", "fast"),
     "no_simd": lambda: cargo("rust", "test", "--features", "no_simd", *NO_SIMD),
+    "without_std": without_std,
     "programs": programs,
     "compat": lambda: user("rust/compat"),
     "beside": lambda: user("rust/beside") + user("rust/beside", "--features", "fast"),

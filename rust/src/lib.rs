@@ -4,6 +4,12 @@
 //! [examples]: documents::examples
 #![doc = include_str!("../README.md")]
 #![deny(unsafe_code, missing_docs)]
+#![cfg_attr(not(any(feature = "std", test)), no_std)]
+
+extern crate alloc;
+// Without std a path of std is one of core: what is used of std and is not in core is in alloc, and is named by it.
+#[cfg(not(any(feature = "std", test)))]
+extern crate core as std;
 
 #[macro_use]
 mod shim;

@@ -11,6 +11,7 @@ use crate::proved::raw::memory_layout::Header;
 use crate::proved::tables;
 use crate::shim::Global;
 use crate::sizes::{percent_of, refused};
+use alloc::vec::Vec;
 use std::error::Error as AnyError;
 
 mod equality;

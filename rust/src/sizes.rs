@@ -3,7 +3,7 @@
 use crate::config::{Config, Proved};
 use crate::proved::header::error::Error;
 use crate::proved::{raw, tables};
-use std::alloc::{handle_alloc_error, Layout};
+use alloc::alloc::{handle_alloc_error, Layout};
 
 /// The length in bytes of a new table for so many items, to be given to [`HashTable::try_init_in_place`]. The load
 /// factor is in percent of the slots.

@@ -10,6 +10,7 @@ use crate::proved::base::load::max_item_count_for;
 use crate::proved::header::error::Error;
 use crate::proved::raw::memory_layout::Header;
 use crate::proved::tables;
+use alloc::boxed::Box;
 use std::borrow::Borrow;
 use std::error::Error as AnyError;
 use std::marker::PhantomData;

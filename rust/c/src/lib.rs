@@ -3,6 +3,8 @@
 //!
 //! `odht_calls` and `odht_c` are erased as the crates below them are; those are the files of the crate `odht`.
 
+extern crate alloc;
+
 #[macro_use]
 #[path = "../../src/shim/mod.rs"]
 mod shim;

@@ -3,6 +3,8 @@
 use super::{percent_of, refused, tables, AnyError, Config, Error, Global, HashTableOwned, Proved};
 use crate::opened::Opened;
 use crate::try_bytes_needed;
+use alloc::boxed::Box;
+use alloc::vec::Vec;
 
 impl<C: Config> HashTableOwned<C> {
     /// An empty table made for twelve items at a load factor of 87 percent, which has sixteen slots.

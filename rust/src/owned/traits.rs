@@ -4,6 +4,7 @@ use super::{refused, Config, HashTableOwned};
 use crate::iter::{IntoIter, Iter};
 use crate::opened::Opened;
 use crate::view::HashTable;
+use alloc::vec::Vec;
 use std::fmt;
 
 impl<C: Config> Default for HashTableOwned<C> {

@@ -1,6 +1,7 @@
 //! Lists whose memory may be refused.
 
-use std::alloc::{alloc_zeroed, Layout};
+use alloc::alloc::{alloc_zeroed, Layout};
+use alloc::vec::Vec;
 
 /// The allocator, which in Rattle is an argument.
 #[derive(Clone, Copy, PartialEq, Eq, Debug, Default)]

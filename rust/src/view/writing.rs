@@ -7,6 +7,7 @@ use crate::proved::base::bytes::BorrowedMut;
 use crate::proved::header::error::Error;
 use crate::proved::tables;
 use crate::sizes::{percent_of, refused};
+use alloc::boxed::Box;
 use std::borrow::{Borrow, BorrowMut};
 use std::error::Error as AnyError;
 use std::marker::PhantomData;

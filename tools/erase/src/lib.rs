@@ -83,5 +83,6 @@ pub fn erase(
     let mut eraser = rules::Eraser { source, plan, krate, path, declared, is_indexed };
     eraser.erase()?;
     eraser.check()?;
+    eraser.import_lists();
     Ok(eraser.source.erased())
 }

@@ -183,6 +183,21 @@ impl<'s> Source<'s> {
         self.replaced.push(Replaced { line, old, new: new.to_string() });
     }
 
+    /// Writes an item before the first one that is left, and before its comments.
+    pub fn begin_items(&mut self, item: &str) {
+        let Some(first) = (0..self.len()).find(|at| self.left(*at).is_some()) else { return };
+        let (mut i, mut start) = (self.code[first], self.code[first]);
+        while i > 0 && self.is_attached(i - 1) {
+            i -= 1;
+            if self.all[i].kind != Kind::Space && self.out[i].is_some() {
+                start = i;
+            }
+        }
+        let space = if self.left(first) == Some("use") { "\n" } else { "\n\n" };
+        let old = self.out[start].take().unwrap_or_default();
+        self.out[start] = Some(format!("{item}{space}{old}"));
+    }
+
     /// The text that is left. Where something was dropped between two spaces, the one with more line ends stays.
     pub fn erased(self) -> Erased {
         let (mut text, mut space) = (String::new(), "");

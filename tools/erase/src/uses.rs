@@ -1,4 +1,4 @@
-//! Paths, in `use` items and elsewhere.
+//! Paths, in `use` items and elsewhere, and the import that a file without std needs.
 
 use crate::known::{NUMBERS, SAME_OF_NUMBERS, SAME_PATHS, SHIM_PATHS};
 use crate::rules::Eraser;
@@ -83,6 +83,14 @@ impl Eraser<'_> {
             self.source.drop(at, at + 1);
         } else {
             self.source.drop(at - 1, at);
+        }
+    }
+
+    /// Where a `Vec` is left, it is imported: only std has it in its prelude.
+    pub fn import_lists(&mut self) {
+        let is_left = |at: &usize| self.source.left(*at) == Some("Vec");
+        if (0..self.source.len()).any(|at| is_left(&at)) {
+            self.source.begin_items("use alloc::vec::Vec;");
         }
     }
 

@@ -120,6 +120,29 @@ fn what_allocates_is_of_the_shim() {
 }
 
 #[test]
+fn a_vec_that_is_left_is_imported() {
+    all_leave(&[
+        (
+            "//! M.\n\nuse low::a;\nfn f(x: &Vec<u8>) {}",
+            "//! M. use alloc::vec::Vec; use crate::all::low::a; fn f(x: &Vec<u8>) {}",
+        ),
+        // before the comments of an item, and behind those of the file
+        (
+            "//! M.\n/// Bytes.\n#[repr(C)]\nstruct S(Vec<u8>, Vec<u8>);",
+            "//! M. use alloc::vec::Vec; /// Bytes. #[repr(C)] struct S(Vec<u8>, Vec<u8>);",
+        ),
+        // the first item is dropped
+        (
+            "use low::Coded;\n\nfn f() -> Vec<u8> { g() }",
+            "use alloc::vec::Vec; fn f() -> Vec<u8> { g() }",
+        ),
+        // no `Vec` is left
+        ("// Vec\nfn f() { \"Vec\" }", "// Vec fn f() { \"Vec\" }"),
+        ("fn f(x: Vec2) {} ghost use a.{Vec};", "fn f(x: Vec2) {}"),
+    ]);
+}
+
+#[test]
 fn a_formatter_has_a_lifetime() {
     all_leave(&[(
         "fn f<W: fmt::Write>(f: &mut fmt::Formatter<W>) {}",

@@ -10,6 +10,7 @@ use crate::proved::tables::iter::Iter;
 use crate::proved::tables::load::{slots_needed, Factor};
 use crate::proved::tables::memory_layout;
 use crate::shim::Global;
+use alloc::vec::Vec;
 
 mod clear;
 mod dump;

@@ -1,6 +1,8 @@
 // Made by `make rust` of crates/odht_base/src/bytes/stores.rt.
 //! Stores of bytes, which hold tables.
 
+use alloc::vec::Vec;
+
 /// A store of bytes.
 pub trait ByteStore {
     /// All of its bytes.

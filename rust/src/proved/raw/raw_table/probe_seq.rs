@@ -4,6 +4,7 @@
 use crate::proved::raw::error::Error;
 use crate::proved::raw::swisstable_group_query::REFERENCE_GROUP_SIZE;
 use crate::shim::Global;
+use alloc::vec::Vec;
 
 /// A position of the probe order of a table, from which the next `GROUP_SIZE` slots are searched. The order is that of
 /// docs/FORMAT.md, "Probe order".
