@@ -4,6 +4,7 @@
 use super::HashTableOwned;
 use crate::proved::tables::config::Config;
 use crate::proved::tables::error::Error;
+use alloc::vec::Vec;
 
 impl<C: Config> HashTableOwned<C> {
     /// `insert_all` of the items of an iterator, which are collected first. Returns how many were accepted, and `Memory`
