@@ -107,7 +107,8 @@ impl<C: Config, D: Borrow<[u8]> + BorrowMut<[u8]>> HashTable<C, D> {
     ///
     /// Where the table is at its maximum and the key is new; of bytes that are not those of a table also where no slot
     /// is free. Nothing has changed then.
-    #[inline]
+    // Always inlined: so the place of the call, which the panic tells, is no argument of the insert itself.
+    #[inline(always)]
     #[track_caller]
     pub fn insert(&mut self, key: &C::Key, value: &C::Value) -> Option<C::Value> {
         match self.try_insert(key, value) {
