@@ -9,7 +9,7 @@
     tool       the program for table files, by tests/tool     edits      each edit's text is where it says
     script     the program for scripts, by tests/script      generated  generated text is current
     runner     that the runner of cases reports faults       watch      what is done with parts that fail or hang
-    bench      the figures of bench/run
+    bench      the figures of bench/run                     manual     the manual page, and what completes words
     word       all vectors and the tests in Rattle once more, with the word search compiled in
 
 What a part needs is built first, by tools/unproved.py, into build/unproved/; what is current there is kept. For `word`
@@ -17,7 +17,7 @@ that is done of a copy of the sources, in a folder for temporary files: the gate
 
 What a part prints is in build/logs/PART.log too. A part that hangs, for 600 seconds or those that TEST_SECONDS gives
 (tools/watched.py), is ended: it counts as failed, and is told as ENDED. The parts `edits`, `runner`, `watch`, `bench`,
-`generated` and `rust` go without the kit of Rattle; `rust` then leaves out what is beside the library for C.
+`manual`, `generated` and `rust` go without the kit of Rattle; `rust` then leaves out what is beside the library for C.
 """
 import os
 import re
@@ -101,6 +101,7 @@ def limited(seconds, *words):
 def generated(part):
     ran = [
         part.run(sys.executable, "tools/shapes", "--check"),
+        part.run(sys.executable, "tools/manual.py", "--check"),
         part.run("sh", "crates/odht_c/exports/statuses.sh"),
         part.run("sh", "examples/quoted.sh"),
     ]
@@ -165,6 +166,7 @@ PARTS = {
     "runner": ([], script("tests/planted.py")),
     "watch": ([], script("tests/hangs.py")),
     "bench": ([], script("tests/figures.py")),
+    "manual": ([], script("tests/manual.py")),
     "generated": ([], generated),
 }
 

@@ -1,0 +1,32 @@
+# made by tools/manual.py of the program's help texts
+_odht() {
+    local word=${COMP_WORDS[COMP_CWORD]} before=${COMP_WORDS[COMP_CWORD-1]}
+    # --hash=fx is three words here
+    if [ "$word" = = ]; then word=; elif [ "$before" = = ]; then
+        before=${COMP_WORDS[COMP_CWORD-2]}
+    fi
+    if [ "$COMP_CWORD" = 1 ]; then
+        COMPREPLY=($(compgen -W 'info check get dump find build put help --help --version' -- "$word"))
+        return
+    fi
+    case $before in
+        help) COMPREPLY=($(compgen -W 'info check get dump find build put' -- "$word")); return;;
+        --at) COMPREPLY=(); return;;
+        --capacity) COMPREPLY=(); return;;
+        --hash) COMPREPLY=($(compgen -W 'fx unhash' -- "$word")); return;;
+        --key) COMPREPLY=(); return;;
+        --value) COMPREPLY=(); return;;
+        --percent) COMPREPLY=(); return;;
+    esac
+    case ${COMP_WORDS[1]}:$word in
+        info:-*) COMPREPLY=($(compgen -W '--help --whole --at' -- "$word"));;
+        check:-*) COMPREPLY=($(compgen -W '--help --whole --hash --at' -- "$word"));;
+        get:-*) COMPREPLY=($(compgen -W '--help --hash --at' -- "$word"));;
+        dump:-*) COMPREPLY=($(compgen -W '--help --slots --hash --at' -- "$word"));;
+        find:-*) COMPREPLY=($(compgen -W '--help --whole' -- "$word"));;
+        build:-*) COMPREPLY=($(compgen -W '--help --key --value --hash --percent --capacity --progress --break-links' -- "$word"));;
+        put:-*) COMPREPLY=($(compgen -W '--help --whole --hash --progress --break-links' -- "$word"));;
+        *) mapfile -t COMPREPLY < <(compgen -f -- "$word");;
+    esac
+}
+complete -o filenames -F _odht odht

@@ -1,0 +1,220 @@
+#!/usr/bin/env python3
+"""The manual page of the program `odht`, and what completes its words in bash, zsh and fish, made of its help texts and
+of its table of commands (crates/odht_tool_core/src/help.rt and arguments/topics.rt).
+
+  tools/manual.py           writes packaging/odht.1 and packaging/completions/
+  tools/manual.py --check   that these are current; status 1 where one is not
+"""
+import os
+import re
+import sys
+
+TOP = os.path.dirname(os.path.dirname(os.path.realpath(__file__)))
+CORE = f"{TOP}/crates/odht_tool_core/src"
+MADE = "made by tools/manual.py of the program's help texts"
+# how the values of an option are completed; of other options they are not
+VALUES = {"--hash": "fx unhash", "--duplicates": "error first last"}
+
+
+def read(path):
+    with open(path, encoding="utf-8") as it:
+        return it.read()
+
+
+def body_of(text, name):
+    """Returns the lines of the arms of the function of this name."""
+    found = re.search(rf"fn {name}\(.*?\n    \}}\n|fn {name}\(.*?\n}}\n", text, re.S)
+    return found.group(0)
+
+
+class Command:
+    """A command: its name, its line in the general help, its usage, its text, and its options."""
+
+    def __init__(self, name, summary, text, options):
+        self.name, self.summary, self.options = name, summary, options
+        lines = text.rstrip("\n").split("\n")
+        end = next(at for at, line in enumerate(lines) if at and not line.startswith("     ") and line.startswith("    "))
+        self.usage, self.text = lines[:end], [line[4:] for line in lines[end:]]
+
+    def paragraph(self):
+        """Returns the words of the text, without the lines that describe an option or a word each."""
+        return " ".join(line for line in self.text if not described(line))
+
+    def described(self):
+        return [found for found in map(described, self.text) if found]
+
+
+def described(line):
+    """Returns the option or word that a line describes, and what it says of it; None of any other line."""
+    found = re.match(r"(--[a-z-]+|[A-Z]+) {2,}(\S.*)", line)
+    return found and found.groups()
+
+
+def constants(text):
+    """Returns the texts of help.rt by the names of their constants."""
+    return dict(re.findall(r'^const ([A-Z]+): &str = "\\\n(.*?)";', text, re.S | re.M))
+
+
+def strings(text):
+    """Returns the text of each arm of a match by its variant."""
+    arms = re.findall(r"(?:Topic|Setting)::(\w+)\s*=>\s*\{?\s*\"(.*?)\"", text, re.S)
+    return {name: value.replace("\\n", "\n") for name, value in arms}
+
+
+def commands():
+    """Returns all commands, and the general text of the help."""
+    topics, helps = read(f"{CORE}/arguments/topics.rt"), read(f"{CORE}/help.rt")
+    order = re.findall(r"Topic::(\w+)", re.search(r"const TOPICS.*?\];", topics, re.S).group(0))
+    topic_part, setting_part = topics.split("pub enum Setting", 1)
+    names = strings(body_of(topic_part[topic_part.index("impl Topic"):], "name"))
+    settings = strings(body_of(setting_part, "name"))
+    wanted = strings_wanted(body_of(setting_part, "wanted"))
+    lists = re.findall(r"Topic::(\w+) => &\[(.*?)\]", body_of(topic_part, "options"), re.S)
+    options = {name: [settings[it] for it in re.findall(r"Setting::(\w+)", listed)] for name, listed in lists}
+    summaries = strings(body_of(helps, "summary_of"))
+    texts = constants(helps)
+    named = dict(re.findall(r"Topic::(\w+) => ([A-Z]+),", body_of(helps, "text_of")))
+    valued = {settings[it]: text for it, text in wanted.items()}
+    made = [Command(names[it], short(summaries[it]), texts[named[it]], options[it]) for it in order]
+    return made, texts["GENERAL"], valued
+
+
+def strings_wanted(text):
+    """Returns what the value of each option is that takes one."""
+    found = {}
+    for names, value in re.findall(r"((?:\s*\|?\s*Setting::\w+)+)\s*=>\s*Some\(\"(.*?)\"\)", text):
+        found |= {name: value for name in re.findall(r"Setting::(\w+)", names)}
+    return found
+
+
+def short(summary):
+    """Returns what a command does, of its lines in the general help."""
+    return re.split(r" {2,}|\n +", summary.strip(), maxsplit=1)[1]
+
+
+def roff(text):
+    """Returns a text with what is special in a manual page marked."""
+    text = text.replace("\\", "\\e").replace("-", "\\-")
+    return f"\\&{text}" if text[:1] in (".", "'") else text
+
+
+def page(made, general, _):
+    """Returns the manual page."""
+    lines = [f'.\\" {MADE}', ".TH ODHT 1", ".SH NAME", "odht \\- describes, checks, searches and makes table files"]
+    lines += [".SH SYNOPSIS", ".nf"]
+    lines += [roff(line) for it in made for line in it.usage]
+    lines += [".fi", ".SH DESCRIPTION"]
+    lines += [
+        "A table file holds keys and their values in the form in which they are used.",
+        "The commands describe such files, check them, look keys up in them, and make them.",
+    ]
+    for it in made:
+        lines += [f".SS {it.name}", roff(it.paragraph())]
+        for word, text in it.described():
+            lines += [".TP", f".B {roff(word)}", roff(text)]
+    first, *parts = general.rstrip("\n").split("\n\n")
+    status = next(part for part in parts if part.startswith("Status"))
+    lines += [".SH HELP AND WORDS", ".nf", *map(roff, first.split("\n")), ".fi"]
+    lines += [line for part in parts if part != status for line in (".PP", roff(in_a_line(part)))]
+    lines += [".SH EXIT STATUS", roff(in_a_line(status).removeprefix("Status "))]
+    return "\n".join(lines) + "\n"
+
+
+def in_a_line(text):
+    return " ".join(text.split())
+
+
+def bash(made, _, valued):
+    """Returns what completes words in bash."""
+    lines = [f"# {MADE}", "_odht() {", "    local word=${COMP_WORDS[COMP_CWORD]} before=${COMP_WORDS[COMP_CWORD-1]}"]
+    lines += ["    # --hash=fx is three words here", "    if [ \"$word\" = = ]; then word=; elif [ \"$before\" = = ]; then"]
+    lines += ["        before=${COMP_WORDS[COMP_CWORD-2]}", "    fi"]
+    names = " ".join(it.name for it in made)
+    lines += ["    if [ \"$COMP_CWORD\" = 1 ]; then"]
+    lines += [f"        COMPREPLY=($(compgen -W '{names} help --help --version' -- \"$word\"))", "        return", "    fi"]
+    lines += ["    case $before in"]
+    lines += [f"        help) COMPREPLY=($(compgen -W '{names}' -- \"$word\")); return;;"]
+    for option in valued:
+        values = f"($(compgen -W '{VALUES[option]}' -- \"$word\"))" if option in VALUES else "()"
+        lines += [f"        {option}) COMPREPLY={values}; return;;"]
+    lines += ["    esac", "    case ${COMP_WORDS[1]}:$word in"]
+    for it in made:
+        lines += [f"        {it.name}:-*) COMPREPLY=($(compgen -W '{' '.join(it.options)}' -- \"$word\"));;"]
+    lines += ["        *) mapfile -t COMPREPLY < <(compgen -f -- \"$word\");;", "    esac", "}"]
+    lines += ["complete -o filenames -F _odht odht"]
+    return "\n".join(lines) + "\n"
+
+
+def zsh(made, _, valued):
+    """Returns what completes words in zsh."""
+    lines = ["#compdef odht", f"# {MADE}", "_odht() {", "    local -a commands options"]
+    lines += ["    commands=("]
+    lines += [f"        '{it.name}:{quoted(it.summary)}'" for it in made]
+    lines += ["        'help:is the help of a command'", "    )", "    if (( CURRENT == 2 )); then"]
+    lines += ["        _describe command commands", "        return", "    fi", "    case $words[2] in"]
+    lines += ["        help) _describe command commands;;"]
+    for it in made:
+        specs = " ".join(f"'{option_in_zsh(option, valued)}'" for option in it.options)
+        lines += [f"        {it.name}) _arguments -S {specs} '*:file:_files';;"]
+    lines += ["    esac", "}", "_odht \"$@\""]
+    return "\n".join(lines) + "\n"
+
+
+def option_in_zsh(option, valued):
+    if option in VALUES:
+        return f"{option}=:{quoted(valued.get(option, 'value'))}:({VALUES[option]})"
+    if option in valued:
+        return f"{option}=:{quoted(valued[option])}: "
+    return option
+
+
+def fish(made, _, valued):
+    """Returns what completes words in fish."""
+    lines = [f"# {MADE}"]
+    for it in made:
+        lines += [f"complete -c odht -n __fish_use_subcommand -f -a {it.name} -d '{quoted(it.summary)}'"]
+    lines += ["complete -c odht -n __fish_use_subcommand -f -a help -d 'is the help of a command'"]
+    lines += [f"complete -c odht -n '__fish_seen_subcommand_from help' -f -a '{' '.join(it.name for it in made)}'"]
+    for it in made:
+        for option in it.options:
+            line = f"complete -c odht -n '__fish_seen_subcommand_from {it.name}' -l {option[2:]}"
+            if option in valued:
+                line += f" -x -a '{VALUES[option]}'" if option in VALUES else " -x"
+                line += f" -d '{quoted(valued[option])}'"
+            lines += [line]
+    return "\n".join(lines) + "\n"
+
+
+def quoted(text):
+    """Returns a text as a part of a word within single quotes."""
+    return text.replace("'", "").replace(":", " ")
+
+
+MADE_FILES = {
+    "packaging/odht.1": page,
+    "packaging/completions/odht.bash": bash,
+    "packaging/completions/_odht": zsh,
+    "packaging/completions/odht.fish": fish,
+}
+
+
+def main(words):
+    if words not in ([], ["--check"]):
+        sys.exit(__doc__)
+    read_commands = commands()
+    stale = []
+    for name, make in MADE_FILES.items():
+        path, text = f"{TOP}/{name}", make(*read_commands)
+        if not words:
+            os.makedirs(os.path.dirname(path), exist_ok=True)
+            with open(path, "w", encoding="utf-8") as it:
+                it.write(text)
+        elif not os.path.exists(path) or read(path) != text:
+            stale.append(name)
+    if stale:
+        print(f"not current, make them by tools/manual.py: {', '.join(stale)}")
+    return 1 if stale else 0
+
+
+if __name__ == "__main__":
+    sys.exit(main(sys.argv[1:]))
