@@ -77,7 +77,7 @@
 #if defined(__STRICT_ANSI__) && !defined(__cplusplus) \
     && (!defined(__STDC_VERSION__) || __STDC_VERSION__ < 199901L)
 #error "odht.h needs C99 or later, or C++11 or later"
-#endif
+#else /* up to the end, so that this error is not followed by thousands */
 
 #include <stddef.h>
 #include <stdint.h>
@@ -860,4 +860,5 @@ ODHT_DECLARE_SET(b32, ODHT_BYTES, 32)
 }
 #endif
 
+#endif /* C99 or later */
 #endif

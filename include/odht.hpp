@@ -31,7 +31,7 @@
 #include <vector>
 
 #if __cplusplus < 201703L && (!defined(_MSVC_LANG) || _MSVC_LANG < 201703L)
-#error "odht.hpp is for C++17 and later; odht.h is for all versions"
+#error "odht.hpp is for C++17 and later; odht.h is for C++11 and later"
 #endif
 
 #if __has_include(<span>)

@@ -160,6 +160,24 @@ tuples! {
 /// lines.insert(&(1, 4096), &(20, 7));
 /// assert_eq!(lines.get(&(1, 4096)), Some((20, 7)));
 /// ```
+///
+/// `String` is no `Fixed`, since its length varies. A short text is an array that is filled up with zeros; one that may
+/// be longer goes by its hash, as in the example `names`.
+///
+/// ```
+/// odht::config! { Names: [u8; 16] => u64, by Fx }
+///
+/// fn name(text: &str) -> Option<[u8; 16]> {
+///     let mut bytes = [0; 16];
+///     bytes.get_mut(..text.len())?.copy_from_slice(text.as_bytes());
+///     Some(bytes)
+/// }
+///
+/// let mut names = odht::HashTableOwned::<Names>::new();
+/// names.insert(&name("main").expect("a short name"), &4096);
+/// assert_eq!(names.get(&name("main").unwrap()), Some(4096));
+/// assert_eq!(name("a name of more than sixteen bytes"), None);
+/// ```
 #[macro_export]
 macro_rules! config {
     ($(

@@ -64,9 +64,11 @@ pub mod documents {
     #[doc = include_str!("../docs/FORMAT.md")]
     pub mod format {}
 
+    /// [FORMAT.md]: crate::documents::format
     #[doc = include_str!("../docs/DIFFERENCES.md")]
     pub mod differences {}
 
+    /// [docs/DIFFERENCES.md]: crate::documents::differences
     #[doc = include_str!("../CHANGELOG.md")]
     pub mod changes {}
 

@@ -150,11 +150,45 @@ fn a_list_is_inserted_up_to_the_growth_that_fails() {
     assert_eq!(granting(4, || table.try_insert_all(&all)), ((120, Ok(())), 4));
 }
 
+// Of 13 items a reserve of 14 makes 32 slots, and asks for these alone.
+#[test]
+fn room_that_is_refused_changes_nothing() {
+    let mut table = full();
+    let before = table.raw_bytes().to_vec();
+    assert_eq!(granting(0, || table.try_reserve(14)), (Err(Error::Memory), 1));
+    assert_eq!(table.raw_bytes(), before);
+    assert_eq!(granting(0, || table.try_reserve(usize::MAX)), (Err(Error::Capacity), 0));
+    assert_eq!(granting(0, || table.try_reserve(0)), (Ok(()), 0));
+    assert_eq!(table.raw_bytes(), before);
+    assert_eq!(granting(1, || table.try_reserve(14)), (Ok(()), 1));
+    assert_eq!((table.len(), table.raw_bytes().len()), (13, 464));
+    assert_eq!(granting(0, || table.try_reserve(14)), (Ok(()), 0));
+}
+
+// An iterator of known length asks for one list, and 14 new items for one growth.
+#[test]
+fn items_of_an_iterator_are_inserted_or_not() {
+    let new = || (13..27).map(|key| (key, 1));
+    let mut table = full();
+    let before = table.raw_bytes().to_vec();
+    assert_eq!(granting(0, || table.try_extend(new())).0, (0, Err(Error::Memory)));
+    assert_eq!(table.raw_bytes(), before);
+    assert_eq!(granting(1, || table.try_extend(new())), ((0, Err(Error::Memory)), 2));
+    assert_eq!(table.raw_bytes(), before);
+    assert_eq!(granting(2, || table.try_extend(new())), ((14, Ok(())), 2));
+    assert_eq!((table.len(), table.get(&26)), (27, Some(1)));
+    let mut table = full();
+    assert_eq!(granting(0, || table.try_get_or_insert_with(&12, || 1)), (Ok(84), 0));
+    assert_eq!(granting(0, || table.try_get_or_insert_with(&13, || 1)), (Err(Error::Memory), 1));
+    assert_eq!(table.raw_bytes(), before);
+    assert_eq!(granting(1, || table.try_get_or_insert_with(&13, || 1)), (Ok(1), 1));
+}
+
 #[test]
 fn the_other_calls_take_no_memory() {
     let (table, mut order, mut values) = (full(), [0; 13], [None; 3]);
     let last = table.iter().last().unwrap().1;
-    let (given_up, counted) = (full(), full());
+    let (given_up, counted, mut emptied) = (full(), full(), full());
     let mut place = vec![0; bytes_needed::<U64ToU32>(20, 87)];
     let (_, made) = granting(0, || {
         assert!(table.insert_order(&mut order) && table.contains_key(&3));
@@ -181,13 +215,19 @@ fn the_other_calls_take_no_memory() {
         assert_eq!(view.try_insert(&1, &2), Ok(None));
         assert_eq!(view.try_insert_all(&[(1, 3), (2, 4)]), (2, Ok(())));
         assert_eq!(counted.into_iter().count(), 13);
+        assert!(table == given_up && table.has_same_bytes(&given_up));
+        assert!(view.is_same_map(&view) && view.has_same_bytes(&view));
         assert_eq!(given_up.into_raw_bytes().len(), 256);
+        emptied.clear();
+        emptied.reserve(13);
+        emptied.extend(pairs_of(13));
+        assert_eq!((emptied.len(), emptied.get_or_insert_with(&3, || 1)), (13, 21));
     });
     assert_eq!((made, values), (0, [Some(7), Some(14), None]));
 }
 
 // The plain calls, each in a process of its own, and the bytes of the request that is refused.
-const PLAIN: [(&str, usize, fn()); 9] = [
+const PLAIN: [(&str, usize, fn()); 12] = [
     ("with_capacity", 1712, || drop(granting(0, || Owned::with_capacity(100, 87)))),
     ("default", 256, || drop(granting(0, Owned::default))),
     ("new", 256, || drop(granting(0, Owned::new))),
@@ -205,6 +245,18 @@ const PLAIN: [(&str, usize, fn()); 9] = [
     ("insert_all", 464, || {
         let mut table = full();
         granting(0, || table.insert_all(&[(12, 1), (13, 1)]));
+    }),
+    ("extend", 464, || {
+        let mut table = full();
+        granting(0, || table.extend([(12, 1), (13, 1)]));
+    }),
+    ("get_or_insert_with", 464, || {
+        let mut table = full();
+        granting(0, || table.get_or_insert_with(&13, || 1));
+    }),
+    ("reserve", 464, || {
+        let mut table = full();
+        granting(0, || table.reserve(14));
     }),
 ];
 

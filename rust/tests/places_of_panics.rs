@@ -51,6 +51,7 @@ fn panics_are_told_where_the_caller_is() {
         view.grow_into(&mut []);
         table.get_all(&[1], &mut []);
         table.insert_order(&mut []);
+        table.reserve(usize::MAX);
         UnHashFn::hash(&[1, 2, 3]);
         unsafe { View::from_raw_bytes_unchecked(&bytes[1..]) };
         unsafe { Owned::from_raw_bytes_unchecked(&bytes[1..]) };
@@ -59,6 +60,6 @@ fn panics_are_told_where_the_caller_is() {
     table.insert(&1, &2);
     for (line, call, (file, panicked)) in found {
         assert!(file.ends_with("places_of_panics.rs"), "{call}: {file}:{panicked}");
-        assert!(panicked >= line && panicked < line + 22, "{call}: line {panicked}");
+        assert!(panicked >= line && panicked < line + 23, "{call}: line {panicked}");
     }
 }

@@ -93,6 +93,7 @@ fn reads(owned: &HashTableOwned<Fickle>, random: &mut Random) {
     let mut order = vec![0; owned.len()];
     run(|| owned.insert_order(&mut order));
     run(|| (format!("{owned:?}").len(), owned.clone().len()));
+    run(|| (*owned == owned.clone(), owned.has_same_bytes(owned)));
     let view = run(|| HashTable::<Fickle, _>::try_from_raw_bytes(owned.raw_bytes()));
     if let Some(Ok(view)) = view {
         run(|| (view.check_all(), view.verify()));
@@ -122,6 +123,12 @@ fn writes(owned: &mut HashTableOwned<Fickle>, random: &mut Random) {
     let items = items(random);
     for (key, value) in &items {
         run(|| owned.try_insert(key, value));
+    }
+    run(|| owned.try_get_or_insert_with(&(random.number() as u32), || 7));
+    run(|| owned.try_reserve(random.below(100)));
+    run(|| owned.extend(items.iter().copied()));
+    if random.below(8) == 0 {
+        owned.clear();
     }
 }
 
@@ -172,6 +179,7 @@ fn a_panic_in_a_list_leaves_a_table() {
             with_wrong(0, [1, 5, 20][round % 3], || {
                 let items = items(&mut random);
                 run(|| owned.try_insert_all(&items));
+                run(|| owned.try_extend(items));
                 reads(&owned, &mut random);
             });
             let view = HashTable::<Fickle, _>::from_raw_bytes(owned.raw_bytes()).unwrap();

@@ -62,7 +62,7 @@
 #if defined(__STRICT_ANSI__) && !defined(__cplusplus) \
     && (!defined(__STDC_VERSION__) || __STDC_VERSION__ < 199901L)
 #error "odht.h needs C99 or later, or C++11 or later"
-#endif
+#else /* up to the end, so that this error is not followed by thousands */
 
 #include <stddef.h>
 #include <stdint.h>

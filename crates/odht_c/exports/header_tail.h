@@ -22,4 +22,5 @@
 }
 #endif
 
+#endif /* C99 or later */
 #endif

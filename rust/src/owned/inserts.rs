@@ -93,6 +93,30 @@ impl<C: Config> HashTableOwned<C> {
         done
     }
 
+    /// `insert_all` of the items of an iterator, which are collected first: `extend` with an error where memory is
+    /// refused. Returns how many were inserted.
+    ///
+    /// ```
+    /// # use odht::{configs::U64ToU32, HashTableOwned};
+    /// # let mut table = HashTableOwned::<U64ToU32>::default();
+    /// assert_eq!(table.try_extend([(1, 2), (3, 4), (1, 5)]), (3, Ok(())));
+    /// assert_eq!((table.len(), table.get(&1)), (2, Some(5)));
+    /// ```
+    ///
+    /// # Errors
+    ///
+    /// [`Error::Memory`] where memory for the list is refused, with nothing inserted, and as of
+    /// [`try_insert_all`](HashTableOwned::try_insert_all).
+    pub fn try_extend<I: IntoIterator<Item = (C::Key, C::Value)>>(
+        &mut self,
+        items: I,
+    ) -> (usize, Result<(), Error>) {
+        let list = List(self);
+        let done = list.0 .0.extend(items.into_iter());
+        std::mem::forget(list);
+        done
+    }
+
     // Ends an insert whose growth failed.
     #[cold]
     #[track_caller]

@@ -96,6 +96,33 @@ impl<C: Config> HashTableOwned<C> {
         self.insert(key, &value);
         value
     }
+
+    /// [`get_or_insert_with`](HashTableOwned::get_or_insert_with), with an error where memory is refused.
+    ///
+    /// ```
+    /// use odht::{configs::U64ToU32, HashTableOwned};
+    ///
+    /// let mut numbers = HashTableOwned::<U64ToU32>::new();
+    /// assert_eq!(numbers.try_get_or_insert_with(&70, || 1)?, 1);
+    /// assert_eq!(numbers.try_get_or_insert_with(&70, || 2)?, 1);
+    /// # Ok::<(), odht::Error>(())
+    /// ```
+    ///
+    /// # Errors
+    ///
+    /// As [`try_insert`](HashTableOwned::try_insert).
+    pub fn try_get_or_insert_with(
+        &mut self,
+        key: &C::Key,
+        make: impl FnOnce() -> C::Value,
+    ) -> Result<C::Value, Error> {
+        if let Some(value) = self.get(key) {
+            return Ok(value);
+        }
+        let value = make();
+        self.try_insert(key, &value)?;
+        Ok(value)
+    }
 }
 
 impl<C: Config> Extend<(C::Key, C::Value)> for HashTableOwned<C> {

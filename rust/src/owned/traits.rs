@@ -24,7 +24,8 @@ impl<C: Config> Clone for HashTableOwned<C> {
 }
 
 impl<C: Config> fmt::Debug for HashTableOwned<C> {
-    /// The numbers of the header on a line, then each slot on one.
+    /// The numbers of the header on a line, then each slot on one, as the original prints it. The pairs alone are
+    /// `table.iter().collect::<Vec<_>>()`.
     fn fmt(&self, f: &mut fmt::Formatter<'_>) -> fmt::Result {
         self.0.fmt(f)
     }
