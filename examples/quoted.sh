@@ -1,24 +1,33 @@
 #!/bin/sh
-# Each block of code in README is a run of whole lines of a file that is compiled: of Rattle of a test of odht_tests, of
-# C of c/readme.c, and of Rust of the example of rust/README.md, which is a test of its documentation.
+# Each block of code in README, and in rust/examples/README.md, is a run of whole lines of a file that is compiled: in
+# README of Rattle of a test of odht_tests, of C of c/readme.c, and of Rust of the example of rust/README.md, which is a
+# test of its documentation; in the other page of the two files of the example `embedded`.
 set -eu
 cd "$(dirname "$0")/.."
-awk '
+
+# quoted PAGE BLOCKS FILES: the blocks of code of a page, so many, each by the files of its language, which come in
+# pairs with it
+quoted() {
+  awk -v page="$1" -v wanted="$2" -v files="$3" '
   function lines(file,   line, all) { while ((getline line < file) > 0) all = all line "\n"; return all }
   BEGIN {
-    compiled["```rattle"] = lines("crates/odht_tests/src/tests/first_table.rt")
-    compiled["```c"] = lines("examples/c/readme.c")
-    compiled["```rust"] = lines("rust/README.md")
+    count = split(files, names, " ")
+    for (at = 1; at < count; at += 2) compiled["```" names[at]] = compiled["```" names[at]] lines(names[at + 1])
   }
   $0 in compiled { language = $0; block = ""; next }
   $0 == "```" && language != "" {
     blocks++
-    if (!index(compiled[language], "\n" block)) { printf "README: not in the file that is compiled:\n%s", block; wrong++ }
+    if (!index(compiled[language], "\n" block)) { printf "%s: not in the file that is compiled:\n%s", page, block; wrong++ }
     language = ""
     next
   }
   language != "" { block = block $0 "\n" }
   END {
-    if (blocks != 3) { printf "README: %d blocks of code and not 3\n", blocks; wrong++ }
+    if (blocks != wanted) { printf "%s: %d blocks of code and not %d\n", page, blocks, wanted; wrong++ }
     exit wrong > 0
-  }' README.md
+  }' "$1"
+}
+
+quoted README.md 3 "rattle crates/odht_tests/src/tests/first_table.rt c examples/c/readme.c rust rust/README.md"
+embedded=rust/examples/embedded
+quoted rust/examples/README.md 2 "rust,ignore $embedded/build.rs rust,ignore $embedded/src/main.rs"

@@ -126,7 +126,8 @@ impl<C: Config> HashTableOwned<C> {
 }
 
 impl<C: Config> Extend<(C::Key, C::Value)> for HashTableOwned<C> {
-    /// `insert` of the items in their order. A later item with the key of an earlier one overwrites its value.
+    /// `insert` of the items in their order. A later item with the key of an earlier one overwrites its value. Those of
+    /// a map by reference are `map.iter().map(|(key, value)| (*key, *value))`.
     ///
     /// No room is made before, so the bytes follow from the items alone, whatever the iterator says of its length.
     #[track_caller]

@@ -10,7 +10,8 @@ use crate::error::Error;
 
 impl<C: Config> HashTableOwned<C> {
     /// `insert_all` of the items of an iterator, which are collected first. Returns how many were accepted, and `Memory`
-    /// where there was none for the list, with nothing changed, or where an insert failed, as `insert_all` leaves it.
+    /// where there was none for the list, with none accepted and nothing changed, or where an insert failed, as
+    /// `insert_all` leaves it.
     pub fn extend<I: Iterator<Item = (C::Key, C::Value)> + Drop>(
         &mut self,
         items: I,
@@ -21,7 +22,7 @@ impl<C: Config> HashTableOwned<C> {
             in OnOk result.1
             (EndsAfter I.next_gives items (λ xs. IsOwnedList c self.old self.new xs result)) }
         ensures err { let c = ⟦<C as Coded>⟧.coding
-            in OnErr result.1 ((self.new ≡ self.old)
+            in OnErr result.1 (((self.new ≡ self.old) × (result.0 ≡ 0))
             ⊎ EndsAfter I.next_gives items (λ xs. IsOwnedList c self.old self.new xs result)) }
         ensures memory { OnErr result.1 (result.1 ≡ Err Error.Memory) }
     {
