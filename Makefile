@@ -12,6 +12,7 @@
 # make exports: include/odht.h and the exports of each shape of tables, of what is written once for all shapes
 # make rust: what is generated of the crate for Rust, rust/src/proved and rust/c/src/erased, of the proved crates, and its
 # copies of documents
+# make documents: docs/PROOFS.md, of its text in docs/parts and the contracts and definitions
 # make examples: all examples, compiled against an installed copy and compared with what they must print, and the tests
 # of the calls for C once more
 # make bench: the tables of speeds; QUICK=1 for a short run, ODHT_RUST=folder for the Rust crate beside it, CHECK=1 for
@@ -23,7 +24,7 @@
 # make bounds: loops that tell what bounds these speeds; ODHT_RUST=folder is needed
 # make searches: how long searches are in tables of random keys, by the crate for Rust; SLOTS=1048576 for no larger tables
 # `rt` is the command of the kit of Rattle. Without it go: test with PARTS='rust edits generated runner watch bench', rust,
-# exports, bench-crate, searches, install and uninstall; and, where build/ has the library already, lib
+# exports, documents, bench-crate, searches, install and uninstall; and, where build/ has the library already, lib
 SCRIPT ?= crates/odht_table/stdin
 PARTS ?=
 NAMES ?=
@@ -45,9 +46,9 @@ SLOTS ?=
 # the first line of each recipe that needs `rt`: where there is none, it ends make with one line
 NEEDS_KIT = $(if $(shell command -v rt),,$(error $@ needs rt, the command of the kit of Rattle (its compiler and \
   prover), and there is none here; without it go: $(WITHOUT_KIT)))
-WITHOUT_KIT = make test PARTS='rust edits generated runner watch bench', make rust, exports, bench-crate, searches, \
-  install (of what cargo makes)
-.PHONY: run test prove edits build archive lib rust exports exports_are_current install uninstall examples bench
+WITHOUT_KIT = make test PARTS='rust edits generated runner watch bench', make rust, exports, documents, \
+  bench-crate, searches, install (of what cargo makes)
+.PHONY: run test prove edits build archive lib rust exports exports_are_current documents install uninstall examples bench
 run:
 	@$(NEEDS_KIT)
 	@cd crates/odht_table && rt try < $(abspath $(SCRIPT))
@@ -97,6 +98,9 @@ rust:
 	@rm -rf rust/src/proved rust/c/src/erased
 	@cp -R build/erased/. rust/ && rm -rf build/erased
 	@python3 tools/documents.py
+
+documents:
+	@python3 tools/proofs
 
 LINK_RUST = -L native=build -l static=odht
 

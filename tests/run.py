@@ -101,6 +101,7 @@ def limited(seconds, *words):
 def generated(part):
     ran = [
         part.run(sys.executable, "tools/shapes", "--check"),
+        part.run(sys.executable, "tools/proofs", "--check"),
         part.run("sh", "crates/odht_c/exports/statuses.sh"),
         part.run("sh", "examples/quoted.sh"),
     ]
