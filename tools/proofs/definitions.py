@@ -1,5 +1,6 @@
 """Reads the definitions of the files below specs/: each file begins with its sentence and the list of its words."""
 import re
+from itertools import takewhile
 
 import source
 
@@ -7,15 +8,22 @@ USE = re.compile(r"(?:pub )?use Rattle\.(odht\w*)\.specs\.([\w.]+)\.\{(.*)\}")
 BEGINS = re.compile(r"^ *(?:pub )?(?:abbrev|unfoldable|record|data) (?:pub )?([\w-]+)")
 # a line of the list: five spaces, how a word is used, two spaces or more, what it says
 LISTED = re.compile(r"^ {5}(\S.*?) {2,}(\S.*)$")
-# one whose two halves one space parts
-TIGHT = re.compile(r"^ {5}(\w+(?: [A-Za-z](?:['s])?\b| \.\.)*) (.*)$")
+# what a definition takes: on the left of its equation, or as a record
+TAKES = re.compile(r"^ *([\w-]+)((?: [\w']+)*) =")
+PARAMETERS = re.compile(r"\(([\w' ]+) :")
+
+
+def is_argument(word):
+    """Returns whether a word may stand for an argument."""
+    return word in ("old", "new") or re.fullmatch(r"[A-Za-z]'?", word)
 
 
 class Definition:
-    """A definition: the comment above it, its fields where it is a record, and the words that it is made of."""
+    """A definition: the comment above it, its fields where it is a record, how many arguments it takes, its words."""
 
-    def __init__(self, comment):
+    def __init__(self, comment, head):
         self.comment, self.fields, self.words = comment, [], []
+        self.takes = sum(len(it.split()) for it in PARAMETERS.findall(head)) if " record " in f" {head}" else 0
 
 
 class SpecFile:
@@ -42,13 +50,17 @@ class SpecFile:
         for line in lines:
             begins = BEGINS.match(line)
             if begins:
-                current = self.definitions.setdefault(begins[1], Definition(" ".join(comment)))
+                current = self.definitions.setdefault(begins[1], Definition(" ".join(comment), line))
             field = re.match(r"^  +pub (\w+) :(.*)", line)
             if field and current:
                 current.fields.append((field[1], field[2]))
+            takes = TAKES.match(line)
+            if takes and takes[1] in self.definitions:
+                self.definitions[takes[1]].takes = len(takes[2].split())
             if current and not line.startswith("--"):
                 current.words += source.WORD.findall(line)
-            comment = [*comment, line[3:].strip()] if line.startswith("-- ") else []
+            # a comment that begins with dashes is a heading
+            comment = [*comment, line[3:].strip()] if line.startswith("-- ") and not line.startswith("-- -") else []
 
     def head(self, lines):
         """Returns the sentences that the file begins with, and its list."""
@@ -70,11 +82,12 @@ class SpecFile:
         it = LISTED.match(text)
         if it:
             return [it[1], it[2]]
-        it = TIGHT.match(text)
-        if it and self.defined_in(it[1]):
-            return [it[1], it[2]]
-        is_shape = self.defined_in(text.split()[0]) and not text.rstrip().endswith((":", "."))
-        return [text.strip(), ""] if is_shape else ["", text.strip()]
+        words = text.split()
+        if words[0] not in self.definitions or text.rstrip().endswith((":", ".")):
+            return ["", text.strip()]
+        takes = self.definitions[words[0]].takes or sum(1 for _ in takewhile(is_argument, words[1:]))
+        at = 1 + takes
+        return [" ".join(words[:at]), " ".join(words[at:])]
 
     def defined_in(self, shape):
         """Returns the definitions that are named in how a word is used."""
