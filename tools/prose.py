@@ -24,7 +24,7 @@ DROPPED = [
 # documents whose sentences are listed, and no fault yet
 LONG_STILL = {"docs/TOOL.md"}
 # headings and quotations that keep their words
-KEPT = ["What is refused, and in which order"]
+KEPT = [r"What is refused,\s+and\s+in\s+which\s+order"]
 # a part that tools/proofs makes begins here
 MADE = "\n## The calls\n"
 
@@ -42,7 +42,7 @@ def prose_of(text):
     text = re.sub(r"`[^`\n]*(?:\n[^`\n]+)?`", lambda it: "code" + "\n" * it[0].count("\n"), text)
     text = re.sub(r"\]\([^)\s]*\)", "]", text)
     for words in KEPT:
-        text = text.replace(words, "code")
+        text = re.sub(words, lambda it: "code" + "\n" * it[0].count("\n"), text)
     return text
 
 
