@@ -2,7 +2,7 @@
 """The longest sentences of the documents, and words that they do not use.
 
   tools/prose.py [FILE..]     lists sentences of more than 40 words, the longest first, and words that were dropped
-  tools/prose.py --check      status 1 where a document has a dropped word, or a sentence of more than 60 words
+  tools/prose.py --check      status 1 where a document has a dropped word, or a sentence of more than 50 words
 
 The parts of a sentence that semicolons part count by themselves; so do lines of a list and cells of a table. Blocks of
 code, code in a line and what scripts make are left out.
@@ -13,7 +13,7 @@ import re
 import sys
 
 TOP = os.path.dirname(os.path.dirname(os.path.realpath(__file__)))
-LONG, TOO_LONG = 40, 60
+LONG, TOO_LONG = 40, 50
 # the word, where it may stand, and what is written instead
 DROPPED = [
     (r"\brefus(?:e|es|ed|ing|al|als)\b", (), "reject, return"),
