@@ -175,7 +175,7 @@ def as_a_whole(lines, at, owner, names):
         return Call("", f"`{name}`", comment_of_type(lines, name.split("::")[-1]), always)
     # a name with a hyphen is that of a lemma: such a member proves a law
     given = [it for it in ghosts_of(lines, at, " =", names) if it.cites and "-" not in it.text] if trait else []
-    return Call("", f"`{name}` as `{trait}`", "The members that the calls of this trait go by.", given) if given else None
+    return Call("", f"`{name}` as `{trait}`", "The ghost members of this trait for this type.", given) if given else None
 
 
 def told_apart(owner, file):
