@@ -12,7 +12,7 @@
 # make exports: include/odht.h and the exports of each shape of tables, of what is written once for all shapes
 # make rust: what is generated of the crate for Rust, rust/src/proved and rust/c/src/erased, of the proved crates, and its
 # copies of documents
-# make documents: docs/PROOFS.md, of its text in docs/parts and the contracts and definitions
+# make documents: docs/PROOFS.md, of its text in docs/parts and the contracts and definitions, and docs/FILES.md
 # make examples: all examples, compiled against an installed copy and compared with what they must print, and the tests
 # of the calls for C once more
 # make bench: the tables of speeds; QUICK=1 for a short run, ODHT_RUST=folder for the Rust crate beside it, CHECK=1 for
@@ -101,6 +101,7 @@ rust:
 
 documents:
 	@python3 tools/proofs
+	@python3 tools/map.py
 
 LINK_RUST = -L native=build -l static=odht
 

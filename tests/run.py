@@ -102,7 +102,7 @@ def generated(part):
     ran = [
         part.run(sys.executable, "tools/shapes", "--check"),
         part.run(sys.executable, "tools/proofs", "--check"),
-        part.run(sys.executable, "tools/map.py"),
+        part.run(sys.executable, "tools/map.py", "--check"),
         part.run(sys.executable, "tools/prose.py", "--check"),
         part.run("sh", "crates/odht_c/exports/statuses.sh"),
         part.run("sh", "examples/quoted.sh"),

@@ -1,10 +1,11 @@
 #!/usr/bin/env python3
-"""Whether the map of the code, docs/ARCHITECTURE.md, names each crate, each folder and each file of crates/*/src.
+"""docs/FILES.md: the files of the code, each with the sentences that it begins with.
 
-  tools/map.py        lists what is not named; status 1 where there is something
+  tools/map.py            makes it
+  tools/map.py --check    sees that it is current, that each file begins with a sentence, and that the map of the code,
+                          docs/ARCHITECTURE.md, names each folder; status 1 where something is not so
 
-A file of a crate has to be named, as NAME.rt, in the section of the crate or in its line of "The other crates"; lib.rt
-needs no name. What tools/shapes makes has one name, that of its folder.
+What scripts make of the list of shapes is named once, by its folder.
 """
 import os
 import re
@@ -12,56 +13,102 @@ import subprocess
 import sys
 
 TOP = os.path.dirname(os.path.dirname(os.path.realpath(__file__)))
-# folders whose files are named one by one
-BY_FILE = ("tools", "tests")
-MADE = "crates/odht_c/src/shapes/"
+MADE = f"{TOP}/docs/FILES.md"
+HEAD = """<!-- Made by `make documents`, of the files. -->
+
+# The files
+
+Each file of the code with the sentences that it begins with. [ARCHITECTURE.md](ARCHITECTURE.md) is the map.
+"""
+CODE = (".rt", ".rs", ".py", ".c", ".h", ".hpp", ".sh")
+# what is generated, or no part of the library and its tests
+LEFT_OUT = (
+    "rust/src/proved/", "rust/src/configs/list.rs", "rust/c/src/erased/", "rust/examples/", "bindings/rust/src/shapes.rs",
+    "crates/odht_c/src/shapes/", "crates/odht_c/exports/", "examples/", "include/",
+)
+LINK = re.compile(r"\[(`?[^\]`]+`?)\](?:\([^)\s]*\))?")
 
 
 def tracked():
-    words = ["git", "-C", TOP, "ls-files"]
-    return subprocess.run(words, check=True, capture_output=True, text=True).stdout.split("\n")[:-1]
+    words = ["git", "-C", TOP, "ls-files", "--cached", "--others", "--exclude-standard"]
+    found = subprocess.run(words, check=True, capture_output=True, text=True).stdout.split("\n")
+    return sorted({it for it in found if it and os.path.exists(f"{TOP}/{it}")})
 
 
-def sections(text):
-    """Returns what the map has of each crate."""
-    found = {}
-    for part in re.split(r"^(?=#+ |- `odht)", text, flags=re.M):
-        crate = re.match(r"(?:### |- )`(odht\w*)`", part)
-        if crate:
-            found[crate[1]] = found.get(crate[1], "") + part
-    return found
-
-
-def missing_of_crates(files, by_crate):
-    for file in files:
-        it = re.fullmatch(r"crates/(\w+)/src/(.*?)(\w+\.rt)", file)
-        if not it or file.startswith(MADE) or it[3] == "lib.rt" or f"{it[2]}{it[3]}" == "tests.rt":
+def paragraph(lines, mark):
+    """Returns the first paragraph of the lines that begin with a mark."""
+    found = []
+    for line in lines:
+        if not line.startswith(mark):
+            if found or line.strip() and not line.startswith("#!"):
+                break
             continue
-        if not re.search(rf"(?<!\w){re.escape(it[3])}", by_crate.get(it[1], "")):
-            yield f"{file}: not in what the map has of {it[1]}"
+        text = line[len(mark) :].strip()
+        if found and not text:
+            break
+        found += [text] if text else []
+    return " ".join(found)
 
 
-def missing_beside(files, text):
-    named = set(re.findall(r"[\w.]+", text))
-    folders = {it.split("/")[0] for it in files if "/" in it} - {".ci", ".github"}
-    for folder in sorted(folders - named):
-        yield f"{folder}/: not in the map"
-    for parent in ("crates", "rust", *BY_FILE):
-        names = {it.split("/")[1] for it in files if it.startswith(f"{parent}/")}
-        wanted = {it for it in names if parent in BY_FILE or any(f.startswith(f"{parent}/{it}/") for f in files)}
-        for name in sorted(wanted - named - {"README.md"}):
-            yield f"{parent}/{name}: not in the map"
+def words_of(file):
+    """Returns the sentences that a file begins with: its first paragraph."""
+    with open(f"{TOP}/{file}", encoding="utf-8") as it:
+        text = it.read()
+    if file.endswith((".rt", ".rs")):
+        return LINK.sub(r"\1", paragraph(text.split("\n"), "//!"))
+    if file.endswith(".sh"):
+        return paragraph(text.split("\n"), "# ")
+    begins = re.match(r'(?:#![^\n]*\n)?"""(.*?)"""', text, re.S) if file.endswith(".py") else re.match(r"/\*(.*?)\*/", text, re.S)
+    lines = [it.strip().lstrip("*").strip() for it in begins[1].strip().split("\n")] if begins else []
+    return " ".join(lines[: lines.index("") if "" in lines else len(lines)])
+
+
+def folder_of(file):
+    """Returns the folder under which a file is listed: a crate, or two steps."""
+    parts = file.split("/")[:-1]
+    return "/".join(parts[:3] if parts[0] == "bindings" else parts[:2])
+
+
+def made(files):
+    """Returns the document, and the files that begin with no sentence."""
+    listed = [it for it in files if it.endswith(CODE) and not it.startswith(LEFT_OUT)]
+    text, silent = [HEAD], []
+    for folder in dict.fromkeys(map(folder_of, listed)):
+        rows = []
+        for file in (it for it in listed if folder_of(it) == folder):
+            words = words_of(file)
+            if not words and not file.endswith("lib.rs"):
+                silent.append(file)
+            rows.append(f"| `{file.removeprefix(folder).lstrip('/').removeprefix('src/')}` | {words.replace('|', chr(92) + '|')} |")
+        text.append(f"**{folder}**\n\n| file | |\n|---|---|\n" + "\n".join(rows) + "\n")
+    return "\n".join(text), silent
+
+
+def unnamed(files):
+    """Returns the folders that the map does not name."""
+    with open(f"{TOP}/docs/ARCHITECTURE.md", encoding="utf-8") as it:
+        named = set(re.findall(r"[\w.]+", it.read()))
+    folders = {it.split("/")[0] for it in files if "/" in it and not it.startswith(".")}
+    for parent in ("crates", "rust", "tools", "tests"):
+        folders |= {it.split("/")[1] for it in files if it.startswith(f"{parent}/") and it.count("/") > 1}
+    return sorted(folders - named)
 
 
 def main(*words):
-    if words:
+    if words not in ((), ("--check",)):
         sys.exit(__doc__)
-    with open(f"{TOP}/docs/ARCHITECTURE.md", encoding="utf-8") as it:
-        text = it.read()
     files = tracked()
-    missing = [*missing_of_crates(files, sections(text)), *missing_beside(files, text)]
-    print("".join(f"{it}\n" for it in missing), end="")
-    return 1 if missing else 0
+    text, silent = made(files)
+    if not words:
+        with open(MADE, "w", encoding="utf-8") as it:
+            it.write(text)
+        return 0
+    with open(MADE, encoding="utf-8") as it:
+        wrong = [] if it.read() == text else ["not current: docs/FILES.md: run `make documents`"]
+    wrong += [f"{it}: it begins with no sentence" for it in silent]
+    wrong += [f"{it}/: docs/ARCHITECTURE.md does not name it" for it in unnamed(files)]
+    print("".join(f"{it}\n" for it in wrong), end="")
+    return 1 if wrong else 0
 
 
 if __name__ == "__main__":

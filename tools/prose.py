@@ -31,7 +31,8 @@ MADE = "\n## The calls\n"
 
 def documents():
     names = ["README.md", "CONTRIBUTING.md", "rust/README.md", *glob.glob("docs/*.md", root_dir=TOP)]
-    return sorted({*names, *glob.glob("bench/*.md", root_dir=TOP)})
+    # tools/map.py makes docs/FILES.md of comments
+    return sorted({*names, *glob.glob("bench/*.md", root_dir=TOP)} - {"docs/FILES.md"})
 
 
 def prose_of(text):
