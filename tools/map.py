@@ -26,12 +26,18 @@ LEFT_OUT = (
     "rust/src/proved/", "rust/src/configs/list.rs", "rust/c/src/erased/", "rust/examples/", "bindings/rust/src/shapes.rs",
     "crates/odht_c/src/shapes/", "crates/odht_c/exports/", "examples/", "include/",
 )
+BUILT = {"build", "out", "target", "__pycache__"}
 LINK = re.compile(r"\[(`?[^\]`]+`?)\](?:\([^)\s]*\))?")
 
 
-def tracked():
+def files_here():
+    """Returns the files of the repository; where it is a copy without git, all that is not built."""
     words = ["git", "-C", TOP, "ls-files", "--cached", "--others", "--exclude-standard"]
-    found = subprocess.run(words, check=True, capture_output=True, text=True).stdout.split("\n")
+    if os.path.exists(f"{TOP}/.git"):
+        found = subprocess.run(words, check=True, capture_output=True, text=True).stdout.split("\n")
+    else:
+        walked = ((at, names) for at, _, names in os.walk(TOP) if not BUILT & set(at.split("/")))
+        found = [os.path.relpath(f"{at}/{name}", TOP) for at, names in walked for name in names]
     return sorted({it for it in found if it and os.path.exists(f"{TOP}/{it}")})
 
 
@@ -97,7 +103,7 @@ def unnamed(files):
 def main(*words):
     if words not in ((), ("--check",)):
         sys.exit(__doc__)
-    files = tracked()
+    files = files_here()
     text, silent = made(files)
     if not words:
         with open(MADE, "w", encoding="utf-8") as it:
