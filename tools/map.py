@@ -23,9 +23,11 @@ Each file of the code with the sentences that it begins with. [ARCHITECTURE.md](
 CODE = (".rt", ".rs", ".py", ".c", ".h", ".hpp", ".sh")
 # what is generated, or no part of the library and its tests
 LEFT_OUT = (
-    "rust/src/proved/", "rust/src/configs/list.rs", "rust/c/src/erased/", "rust/examples/", "bindings/rust/src/shapes.rs",
-    "crates/odht_c/src/shapes/", "crates/odht_c/exports/", "examples/", "include/",
+    "rust/src/proved/", "rust/src/configs/list.rs", "rust/c/src/erased/", "rust/examples/",
+    "bindings/rust/src/shapes.rs", "crates/odht_c/src/shapes/", "crates/odht_c/exports/", "examples/", "include/",
 )
+IN_PYTHON = re.compile(r'(?:#![^\n]*\n)?"""(.*?)"""', re.S)
+IN_C = re.compile(r"/\*(.*?)\*/", re.S)
 BUILT = {"build", "out", "target", "__pycache__"}
 LINK = re.compile(r"\[(`?[^\]`]+`?)\](?:\([^)\s]*\))?")
 
@@ -64,7 +66,7 @@ def words_of(file):
         return LINK.sub(r"\1", paragraph(text.split("\n"), "//!"))
     if file.endswith(".sh"):
         return paragraph(text.split("\n"), "# ")
-    begins = re.match(r'(?:#![^\n]*\n)?"""(.*?)"""', text, re.S) if file.endswith(".py") else re.match(r"/\*(.*?)\*/", text, re.S)
+    begins = (IN_PYTHON if file.endswith(".py") else IN_C).match(text)
     lines = [it.strip().lstrip("*").strip() for it in begins[1].strip().split("\n")] if begins else []
     return " ".join(lines[: lines.index("") if "" in lines else len(lines)])
 
@@ -85,7 +87,8 @@ def made(files):
             words = words_of(file)
             if not words and not file.endswith("lib.rs"):
                 silent.append(file)
-            rows.append(f"| `{file.removeprefix(folder).lstrip('/').removeprefix('src/')}` | {words.replace('|', chr(92) + '|')} |")
+            name = file.removeprefix(f"{folder}/").removeprefix("src/")
+            rows.append("| `{}` | {} |".format(name, words.replace("|", "\\|")))
         text.append(f"**{folder}**\n\n| file | |\n|---|---|\n" + "\n".join(rows) + "\n")
     return "\n".join(text), silent
 

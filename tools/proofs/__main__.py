@@ -90,7 +90,7 @@ class Proofs:
         if not named and len(clause.text) <= SHOWN:
             named = f"`{clause.text}`"
         kind = "requires " if clause.kind == "requires" else ""
-        return f"{kind}{clause.name}: {named}" if clause.name and named else kind + (clause.name or named or "its clause")
+        return kind + (": ".join(filter(None, (clause.name, named))) or "its clause")
 
     def row(self, call):
         name = call.name.replace("odht_u64_u32_", "odht_*_")
@@ -110,7 +110,8 @@ class Proofs:
                 calls = list(filter(self.has_answer, calls))
             places = ", ".join(f"`crates/{it.removesuffix('/')}`" for it in parts)
             rows = "\n".join(map(self.row, calls))
-            text.append(f"### {title}\n\nFrom {places}.\n\n| call | its comment | its clauses |\n|---|---|---|\n{rows}\n")
+            head = "| call | its comment | its clauses |\n|---|---|---|"
+            text.append(f"### {title}\n\nFrom {places}.\n\n{head}\n{rows}\n")
         return "\n".join(text)
 
     def definitions(self):

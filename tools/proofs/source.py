@@ -15,10 +15,11 @@ LINK = re.compile(r"\[(`?[^\]`]+`?)\](?:\([^)\s]*\))?")
 IS_LAW = re.compile("[≡≤<↔]")
 # sentences that speak of time, memory and how often something is done: no clause says these
 COSTS = re.compile(
-    r"^(It (?!fails)|Each byte|Each item|The check|The cost|The loads|Where it moves|In a pass|There are at most as many passes"
-    r"|Any other|At most|One pass|Constant|No group is read|No key is compared|Each key is encoded|The key is hashed"
-    r"|They are compared where|Up to 64 bytes)\b.*\b(costs?|time|memory|pass|passes|read|reads|written once|looked at once"
-    r"|hashed|compared|overlap|takes|copy of a short key|searches|step|does not depend)\b"
+    r"^(It (?!fails)|Each byte|Each item|The check|The cost|The loads|Where it moves|In a pass|Any other|At most"
+    r"|There are at most as many passes|One pass|Constant|No group is read|No key is compared|Each key is encoded"
+    r"|The key is hashed|They are compared where|Up to 64 bytes)\b.*"
+    r"\b(costs?|time|memory|pass|passes|read|reads|written once|looked at once|hashed|compared|overlap|takes"
+    r"|copy of a short key|searches|step|does not depend)\b"
 )
 
 
@@ -119,7 +120,7 @@ def balanced_from(lines, at):
 
 
 def owner_of(lines, at):
-    """Returns what the calls below a line at the margin belong to: its kind, the type, and the trait, if there is one."""
+    """Returns what the calls below a line at the margin belong to: its kind, the type, and the trait, if any."""
     text = " ".join(it.strip() for it in lines[at : at + 6]).split(" {")[0].split(" where")[0].removeprefix("pub ")
     kind = re.match(r"\w+", text)[0]
     rest = text[len(kind) :]
@@ -175,7 +176,8 @@ def as_a_whole(lines, at, owner, names):
         return Call("", f"`{name}`", comment_of_type(lines, name.split("::")[-1]), always)
     # a name with a hyphen is that of a lemma: such a member proves a law
     given = [it for it in ghosts_of(lines, at, " =", names) if it.cites and "-" not in it.text] if trait else []
-    return Call("", f"`{name}` as `{trait}`", "The ghost members of this trait for this type.", given) if given else None
+    words = "The ghost members of this trait for this type."
+    return Call("", f"`{name}` as `{trait}`", words, given) if given else None
 
 
 def told_apart(owner, file):
