@@ -13,6 +13,7 @@
 # make rust: what is generated of the crate for Rust, rust/src/proved and rust/c/src/erased, of the proved crates, and its
 # copies of documents
 # make manual: the manual page of the program `odht` and what completes its words, of its help texts
+# make documents: docs/PROOFS.md, of its text in docs/parts and the contracts and definitions, and docs/FILES.md
 # make examples: all examples, compiled against an installed copy and compared with what they must print, and the tests
 # of the calls for C once more
 # make bench: the tables of speeds; QUICK=1 for a short run, ODHT_RUST=folder for the Rust crate beside it, CHECK=1 for
@@ -23,8 +24,9 @@
 # ALIGNED=1 for branches that are kept within 32 bytes in all of them
 # make bounds: loops that tell what bounds these speeds; ODHT_RUST=folder is needed
 # make searches: how long searches are in tables of random keys, by the crate for Rust; SLOTS=1048576 for no larger tables
-# `rt` is the command of the kit of Rattle. Without it go: test with PARTS='rust edits generated runner watch bench manual', rust,
-# exports, bench-crate, searches, install and uninstall; and, where build/ has the library already, lib
+# `rt` is the command of the kit of Rattle. Without it go: test with PARTS='rust edits generated manual runner watch
+# bench', rust, exports, documents, manual, bench-crate, searches, install and uninstall; and, where build/ has the
+# library already, lib
 SCRIPT ?= crates/odht_table/stdin
 PARTS ?=
 NAMES ?=
@@ -46,9 +48,9 @@ SLOTS ?=
 # the first line of each recipe that needs `rt`: where there is none, it ends make with one line
 NEEDS_KIT = $(if $(shell command -v rt),,$(error $@ needs rt, the command of the kit of Rattle (its compiler and \
   prover), and there is none here; without it go: $(WITHOUT_KIT)))
-WITHOUT_KIT = make test PARTS='rust edits generated runner watch bench manual', make rust, exports, bench-crate, searches, \
-  install (of what cargo makes)
-.PHONY: run test prove edits build archive lib rust exports exports_are_current install uninstall examples bench
+WITHOUT_KIT = make test PARTS='rust edits generated manual runner watch bench', make rust, exports, documents, \
+  manual, bench-crate, searches, install (of what cargo makes)
+.PHONY: run test prove edits build archive lib rust exports exports_are_current documents install uninstall examples bench
 run:
 	@$(NEEDS_KIT)
 	@cd crates/odht_table && rt try < $(abspath $(SCRIPT))
@@ -98,6 +100,10 @@ rust:
 	@rm -rf rust/src/proved rust/c/src/erased
 	@cp -R build/erased/. rust/ && rm -rf build/erased
 	@python3 tools/documents.py
+
+documents:
+	@python3 tools/proofs
+	@python3 tools/map.py
 
 .PHONY: manual
 manual:

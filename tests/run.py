@@ -7,7 +7,7 @@
     rattle     the tests in Rattle                          ffi        the package odht-ffi (bindings/rust)
     memory     each request for memory fails in turn          vectors    all vectors
     tool       the program for table files, by tests/tool     edits      each edit's text is where it says
-    script     the program for scripts, by tests/script      generated  generated text is current
+    script     the program for scripts, by tests/script      generated  generated text is current, documents are well
     runner     that the runner of cases reports faults       watch      what is done with parts that fail or hang
     bench      the figures of bench/run                     manual     the manual page, and what completes words
     word       all vectors and the tests in Rattle once more, with the word search compiled in
@@ -102,6 +102,9 @@ def generated(part):
     ran = [
         part.run(sys.executable, "tools/shapes", "--check"),
         part.run(sys.executable, "tools/manual.py", "--check"),
+        part.run(sys.executable, "tools/proofs", "--check"),
+        part.run(sys.executable, "tools/map.py", "--check"),
+        part.run(sys.executable, "tools/prose.py", "--check"),
         part.run("sh", "crates/odht_c/exports/statuses.sh"),
         part.run("sh", "examples/quoted.sh"),
     ]

@@ -1,4 +1,4 @@
-//! Where the answers of lookups of many keys go: two arrays of a caller in C.
+//! Where the results of lookups of many keys go: two arrays of a caller in C.
 ghost use Rattle.std.specs.Prelude.{length, min, set};
 ghost use Rattle.odht_calls.specs.Lookups.{flag_of, with_found};
 

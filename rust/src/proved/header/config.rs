@@ -7,7 +7,7 @@ use crate::proved::header::hash::HashFn;
 /// The types of a table, and how they are encoded: all keys to one number of bytes, and all values to one, the same on
 /// every platform.
 ///
-/// In a contract the ghost member of the same name is what each of the four functions answers.
+/// In a contract the ghost member of the same name is what each of the four functions returns.
 pub trait Config {
     /// A key, as a user of the table has it.
     type Key;

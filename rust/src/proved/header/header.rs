@@ -59,7 +59,7 @@ impl<'a> Header<'a> {
         Header { bytes }
     }
 
-    /// Checks the header as that of a table of `raw_bytes_len` bytes, and answers the first error: `WrongTag`,
+    /// Checks the header as that of a table of `raw_bytes_len` bytes, and returns the first error: `WrongTag`,
     /// `WrongVersion`, `WrongSizeOf` of a control byte, key, value or header, `SlotCountNotPowerOfTwo`,
     /// `SlotCountTooSmall`, `WrongLength`.
     ///

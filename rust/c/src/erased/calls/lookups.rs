@@ -1,5 +1,5 @@
 // Made by `make rust` of crates/odht_calls/src/lookups.rt.
-//! Where the answers of lookups of many keys go: two arrays of a caller in C.
+//! Where the results of lookups of many keys go: two arrays of a caller in C.
 
 use crate::proved::tables::lookups::Answers;
 
