@@ -10,8 +10,11 @@
 # before it; where there is no kit, the library of erased source that cargo makes, as in rust/c
 # make archive: what `make lib` needs, over the libraries that `make prove` has just proved: `rt lib` would prove them again
 # make exports: include/odht.h and the exports of each shape of tables, of what is written once for all shapes
-# make rust: what is generated of the crate for Rust, rust/src/proved and rust/c/src/erased, of the proved crates, and its
-# copies of documents
+# make rust: what is generated of the crate for Rust, rust/src/proved, rust/c/src/erased and rust/cli/src/erased, of the
+# proved crates, and its copies of documents
+# make cli: the program for table files, `odht`, of erased source, by cargo alone
+# make install-tool, make uninstall-tool: this program below PREFIX, and below DESTDIR before it: with its proofs, where
+# `rt run` in crates/odht_tool has left it, else as `make cli` makes it
 # make examples: all examples, compiled against an installed copy and compared with what they must print, and the tests
 # of the calls for C once more
 # make bench: the tables of speeds; QUICK=1 for a short run, ODHT_RUST=folder for the Rust crate beside it, CHECK=1 for
@@ -22,8 +25,9 @@
 # ALIGNED=1 for branches that are kept within 32 bytes in all of them
 # make bounds: loops that tell what bounds these speeds; ODHT_RUST=folder is needed
 # make searches: how long searches are in tables of random keys, by the crate for Rust; SLOTS=1048576 for no larger tables
-# `rt` is the command of the kit of Rattle. Without it go: test with PARTS='rust edits generated runner watch bench', rust,
-# exports, bench-crate, searches, install and uninstall; and, where build/ has the library already, lib
+# `rt` is the command of the kit of Rattle. Without it go: test with PARTS='rust cli edits generated runner watch bench',
+# rust, cli, install-tool, uninstall-tool, exports, bench-crate, searches, install and uninstall; and, where build/ has the
+# library already, lib
 SCRIPT ?= crates/odht_table/stdin
 PARTS ?=
 NAMES ?=
@@ -45,8 +49,8 @@ SLOTS ?=
 # the first line of each recipe that needs `rt`: where there is none, it ends make with one line
 NEEDS_KIT = $(if $(shell command -v rt),,$(error $@ needs rt, the command of the kit of Rattle (its compiler and \
   prover), and there is none here; without it go: $(WITHOUT_KIT)))
-WITHOUT_KIT = make test PARTS='rust edits generated runner watch bench', make rust, exports, bench-crate, searches, \
-  install (of what cargo makes)
+WITHOUT_KIT = make test PARTS='rust cli edits generated runner watch bench', make rust, cli, install-tool, exports, \
+  bench-crate, searches, install (of what cargo makes)
 .PHONY: run test prove edits build archive lib rust exports exports_are_current install uninstall examples bench
 run:
 	@$(NEEDS_KIT)
@@ -94,9 +98,28 @@ ERASE = CARGO_TARGET_DIR=$(abspath build/cargo) cargo run --quiet --offline --ma
 rust:
 	@$(ERASE) crates build/erased
 	@find build/erased -name '*.rs' -exec rustfmt --edition 2021 --config-path rust/rustfmt.toml {} +
-	@rm -rf rust/src/proved rust/c/src/erased
+	@rm -rf rust/src/proved rust/c/src/erased rust/cli/src/erased
 	@cp -R build/erased/. rust/ && rm -rf build/erased
 	@python3 tools/documents.py
+
+# the program for table files: with its proofs, or of erased source
+PROVED_TOOL = crates/odht_tool/out/odht_tool
+ERASED_TOOL = build/cargo-cli/release/odht
+TOOL = $(firstword $(wildcard $(PROVED_TOOL)) $(ERASED_TOOL))
+BINDIR ?= $(PREFIX)/bin
+.PHONY: cli install-tool uninstall-tool
+cli:
+	@cargo build --quiet --release --offline --manifest-path rust/cli/Cargo.toml --target-dir build/cargo-cli
+	@echo $(ERASED_TOOL)
+
+# what `make cli` has made is installed as it is, so it can be made as one user and installed as another
+install-tool: $(if $(wildcard $(PROVED_TOOL) $(ERASED_TOOL)),,cli)
+	@install -d '$(DESTDIR)$(BINDIR)'
+	@install -m 755 $(TOOL) '$(DESTDIR)$(BINDIR)/odht'
+	@echo "$(BINDIR)/odht is $$($(TOOL) --version)"
+
+uninstall-tool:
+	@rm -f '$(DESTDIR)$(BINDIR)/odht'
 
 LINK_RUST = -L native=build -l static=odht
 
