@@ -193,3 +193,83 @@ pub trait BufReadCalls: BufRead {
 }
 
 impl<B: BufRead> BufReadCalls for B {}
+
+#[cfg(test)]
+mod tests {
+    use super::*;
+
+    // Reads and writes these pieces, one at each call: bytes, or an error.
+    struct Pieces(Vec<std::result::Result<&'static [u8], ErrorKind>>, Vec<Vec<u8>>);
+
+    impl Read for Pieces {
+        fn read(&mut self, bytes: &mut [u8]) -> Result<usize> {
+            if self.0.is_empty() {
+                return Ok(0);
+            }
+            let piece = self.0.remove(0).map_err(Error::from)?;
+            bytes[..piece.len()].copy_from_slice(piece);
+            Ok(piece.len())
+        }
+    }
+
+    impl Write for Pieces {
+        fn write(&mut self, bytes: &[u8]) -> Result<usize> {
+            let most = match self.0.is_empty() {
+                true => usize::MAX,
+                false => self.0.remove(0).map_err(Error::from)?.len(),
+            };
+            self.1.push(bytes[..bytes.len().min(most)].to_vec());
+            Ok(bytes.len().min(most))
+        }
+
+        fn flush(&mut self) -> Result<()> {
+            Ok(())
+        }
+    }
+
+    fn reader(pieces: &[std::result::Result<&'static [u8], ErrorKind>]) -> BufReader<Pieces> {
+        BufReader::with_capacity(Global, 8, Pieces(pieces.to_vec(), vec![])).unwrap()
+    }
+
+    #[test]
+    fn lines_are_read_over_pieces_and_interruptions() {
+        let mut input = reader(&[Ok(b"ab"), Err(ErrorKind::Interrupted), Ok(b"c\nd"), Ok(b"e")]);
+        let mut line = vec![];
+        assert_eq!(input.try_read_until(b'\n', &mut line).unwrap(), 4);
+        assert_eq!(input.try_read_until(b'\n', &mut line).unwrap(), 2);
+        assert_eq!(input.try_read_until(b'\n', &mut line).unwrap(), 0);
+        assert_eq!(line, b"abc\nde");
+    }
+
+    #[test]
+    fn what_was_read_before_an_error_is_there() {
+        let mut input = reader(&[Ok(b"ab"), Err(ErrorKind::Other), Ok(b"c\n")]);
+        let mut line = vec![];
+        let error = input.try_read_until(b'\n', &mut line).unwrap_err();
+        assert_eq!((error.kind(), &line[..]), (ErrorKind::Other, &b"ab"[..]));
+        assert_eq!(input.try_read_until(b'\n', &mut line).unwrap(), 2);
+        assert_eq!(line, b"abc\n");
+    }
+
+    #[test]
+    fn bytes_wait_until_the_buffer_is_full() {
+        let mut output =
+            BufWriter::with_capacity(Global, 8, Pieces(vec![Ok(b"123")], vec![])).unwrap();
+        for piece in [&b"abc"[..], b"def", b"gh", b"ijklmnopq", b"r"] {
+            output.write_all(piece).unwrap();
+        }
+        output.flush().unwrap();
+        let wanted = [&b"abc"[..], b"defgh", b"ijklmnopq", b"r"];
+        assert_eq!(output.inner.1, wanted);
+    }
+
+    #[test]
+    fn what_a_failed_write_leaves_is_written_by_the_next() {
+        let pieces = vec![Ok(&b"12"[..]), Err(ErrorKind::Interrupted), Err(ErrorKind::Other)];
+        let mut output = BufWriter::with_capacity(Global, 8, Pieces(pieces, vec![])).unwrap();
+        output.write_all(b"abcdef").unwrap();
+        assert_eq!(output.flush().unwrap_err().kind(), ErrorKind::Other);
+        output.flush().unwrap();
+        assert_eq!(output.inner.1, [&b"ab"[..], b"cdef"]);
+    }
+}
