@@ -17,5 +17,6 @@ pub mod prelude {
     pub use super::io::BufReadCalls;
     pub use super::lists::{IteratorCalls, ListCalls};
     pub use super::rt::{AllocGlobal, HostRuntime};
+    pub use std::fmt::Write as _;
     pub use std::io::Write as _;
 }
