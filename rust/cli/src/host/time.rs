@@ -20,3 +20,19 @@ impl Instant {
         self.0.duration_since(earlier.0)
     }
 }
+
+#[cfg(test)]
+mod tests {
+    use super::super::rt::HostRuntime;
+    use super::*;
+
+    #[test]
+    fn time_passes() {
+        let wait = Duration::from_millis(20);
+        let before = Instant::now(&HostRuntime).unwrap();
+        std::thread::sleep(wait);
+        let after = Instant::now(&HostRuntime).unwrap();
+        assert!(after.duration_since(before) >= wait);
+        assert_eq!(before.duration_since(after), Duration::ZERO);
+    }
+}
