@@ -10,10 +10,13 @@
 # before it; where there is no kit, the library of erased source that cargo makes, as in rust/c
 # make archive: what `make lib` needs, over the libraries that `make prove` has just proved: `rt lib` would prove them again
 # make exports: include/odht.h and the exports of each shape of tables, of what is written once for all shapes
-# make rust: what is generated of the crate for Rust, rust/src/proved and rust/c/src/erased, of the proved crates, and its
-# copies of documents
+# make rust: what is generated of the crate for Rust, rust/src/proved, rust/c/src/erased and rust/cli/src/erased, of the
+# proved crates, and its copies of documents
 # make manual: the manual page of the program `odht` and what completes its words, of its help texts
 # make documents: docs/PROOFS.md, of its text in docs/parts and the contracts and definitions, and docs/FILES.md
+# make cli: the program for table files, `odht`, of erased source, by cargo alone
+# make install-tool, make uninstall-tool: this program below PREFIX, and below DESTDIR before it: with its proofs, where
+# `rt run` in crates/odht_tool has left it, else as `make cli` makes it; with its manual page, and what completes its words
 # make examples: all examples, compiled against an installed copy and compared with what they must print, and the tests
 # of the calls for C once more
 # make bench: the tables of speeds; QUICK=1 for a short run, ODHT_RUST=folder for the Rust crate beside it, CHECK=1 for
@@ -24,8 +27,9 @@
 # ALIGNED=1 for branches that are kept within 32 bytes in all of them
 # make bounds: loops that tell what bounds these speeds; ODHT_RUST=folder is needed
 # make searches: how long searches are in tables of random keys, by the crate for Rust; SLOTS=1048576 for no larger tables
-# `rt` is the command of the kit of Rattle. Without it go: test with PARTS='rust edits generated manual runner watch
-# bench', rust, exports, documents, manual, bench-crate, searches, install and uninstall; and, where build/ has the
+# `rt` is the command of the kit of Rattle. Without it go: test with PARTS='rust cli edits generated manual runner watch
+# bench', rust, cli, install-tool, uninstall-tool, exports, documents, manual, bench-crate, searches, install and
+# uninstall; and, where build/ has the
 # library already, lib
 SCRIPT ?= crates/odht_table/stdin
 PARTS ?=
@@ -48,8 +52,8 @@ SLOTS ?=
 # the first line of each recipe that needs `rt`: where there is none, it ends make with one line
 NEEDS_KIT = $(if $(shell command -v rt),,$(error $@ needs rt, the command of the kit of Rattle (its compiler and \
   prover), and there is none here; without it go: $(WITHOUT_KIT)))
-WITHOUT_KIT = make test PARTS='rust edits generated manual runner watch bench', make rust, exports, documents, \
-  manual, bench-crate, searches, install (of what cargo makes)
+WITHOUT_KIT = make test PARTS='rust cli edits generated manual runner watch bench', make rust, cli, install-tool, \
+  exports, documents, manual, bench-crate, searches, install (of what cargo makes)
 .PHONY: run test prove edits build archive lib rust exports exports_are_current documents install uninstall examples bench
 run:
 	@$(NEEDS_KIT)
@@ -97,7 +101,7 @@ ERASE = CARGO_TARGET_DIR=$(abspath build/cargo) cargo run --quiet --offline --ma
 rust:
 	@$(ERASE) crates build/erased
 	@find build/erased -name '*.rs' -exec rustfmt --edition 2021 --config-path rust/rustfmt.toml {} +
-	@rm -rf rust/src/proved rust/c/src/erased
+	@rm -rf rust/src/proved rust/c/src/erased rust/cli/src/erased
 	@cp -R build/erased/. rust/ && rm -rf build/erased
 	@python3 tools/documents.py
 
@@ -108,6 +112,36 @@ documents:
 .PHONY: manual
 manual:
 	@python3 tools/manual.py
+
+# the program for table files: with its proofs, or of erased source
+PROVED_TOOL = crates/odht_tool/out/odht_tool
+ERASED_TOOL = build/cargo-cli/release/odht
+TOOL = $(firstword $(wildcard $(PROVED_TOOL)) $(ERASED_TOOL))
+BINDIR ?= $(PREFIX)/bin
+# where each shell looks for what completes the words of a program
+SHARED_DIR = $(DESTDIR)$(PREFIX)/share
+MANUAL = $(SHARED_DIR)/man/man1/odht.1
+IN_BASH = $(SHARED_DIR)/bash-completion/completions/odht
+IN_ZSH = $(SHARED_DIR)/zsh/site-functions/_odht
+IN_FISH = $(SHARED_DIR)/fish/vendor_completions.d/odht.fish
+BESIDE_TOOL = $(MANUAL) $(IN_BASH) $(IN_ZSH) $(IN_FISH)
+.PHONY: cli install-tool uninstall-tool
+cli:
+	@cargo build --quiet --release --offline --manifest-path rust/cli/Cargo.toml --target-dir build/cargo-cli
+	@echo $(ERASED_TOOL)
+
+# what `make cli` has made is installed as it is, so it can be made as one user and installed as another
+install-tool: $(if $(wildcard $(PROVED_TOOL) $(ERASED_TOOL)),,cli)
+	@install -d '$(DESTDIR)$(BINDIR)' $(foreach file,$(BESIDE_TOOL),'$(dir $(file))')
+	@install -m 755 $(TOOL) '$(DESTDIR)$(BINDIR)/odht'
+	@install -m 644 packaging/odht.1 '$(MANUAL)'
+	@install -m 644 packaging/completions/odht.bash '$(IN_BASH)'
+	@install -m 644 packaging/completions/_odht '$(IN_ZSH)'
+	@install -m 644 packaging/completions/odht.fish '$(IN_FISH)'
+	@echo "$(BINDIR)/odht is $$($(TOOL) --version)"
+
+uninstall-tool:
+	@rm -f '$(DESTDIR)$(BINDIR)/odht' $(foreach file,$(BESIDE_TOOL),'$(file)')
 
 LINK_RUST = -L native=build -l static=odht
 

@@ -268,10 +268,11 @@ def check_columns(block):
                 raise CaseError(f"{block.place}: nothing names {column!r}")
 
 
-def read_cases(path):
-    """The cases of a file, one for each row."""
+def read_cases(path, given=None):
+    """The cases of a file, one for each row. A given text stands for that of a line `let` of its name."""
     cases = []
     for block in read_blocks(path):
+        block.lets.update({name: text for name, text in (given or {}).items() if name in block.lets})
         check_columns(block)
         for rows in itertools.product(*block.tables):
             row = {column: value for part in rows for column, value in part.items()}

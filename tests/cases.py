@@ -1,14 +1,15 @@
 #!/usr/bin/env python3
 """Runs a program on cases, and tells which do not go as they must.
 
-    tests/cases.py PROGRAM FOLDER...     all files *.cases in the folders; or such a file itself
+    tests/cases.py PROGRAM [NAME=TEXT...] FOLDER...     all files *.cases in the folders; or such a file itself
 
-README.md beside this file describes the form of cases. A failing case has a line with its place and
-name, and below it what differs. Those that need the rights of root are skipped where this is another
+README.md beside this file describes the form of cases. A text that is given stands for that of their
+lines `let NAME: TEXT`. A failing case has a line with its place and name, and below it what differs. Those that need the rights of root are skipped where this is another
 user, which a line says. The last line is `N passed, N failed`; the status is 0 only where none failed and
 one passed. A run has 20 seconds of processor time, or those that CASE_SECONDS gives, and may use none for
 as long."""
 import os
+import re
 import shutil
 import sys
 import tempfile
@@ -30,6 +31,12 @@ def files_of(places):
             inner.sort()
             names = sorted(name for name in names if name.endswith(".cases"))
             yield from (os.path.join(folder, name) for name in names)
+
+
+def parted(words):
+    """The given texts by their names, and the other words."""
+    given = [word.split("=", 1) for word in words if re.match(r"\w+=", word)]
+    return dict(given), [word for word in words if not re.match(r"\w+=", word)]
 
 
 def passes(program, case):
@@ -62,7 +69,10 @@ def main(words):
         try:
             shutil.copyfile(words[0], program)
             os.chmod(program, 0o755)
-            cases = [case for path in files_of(words[1:]) for case in read_cases(path)]
+            given, places = parted(words[1:])
+            cases = [case for path in files_of(places) for case in read_cases(path, given)]
+            for name in given.keys() - {name for case in cases for name in case.names}:
+                raise CaseError(f"no text is named {name!r}")
             results = [passes(program, case) for case in told_skipped(cases)]
         except (CaseError, OSError) as error:
             print(f"FAILED {error}")

@@ -21,7 +21,10 @@ PLACES = {
     "odht": ("proved :: tables", "src/proved/tables"),
     "odht_calls": ("erased :: calls", "c/src/erased/calls"),
     "odht_c": ("erased :: exports", "c/src/erased/exports"),
+    "odht_tool_core": ("erased :: core", "cli/src/erased/core"),
+    "odht_tool": ("erased :: tool", "cli/src/erased/tool"),
 }
+ROOTS = {"lib.rt", "main.rt"}
 LAWS = {("odht_base", "laws.rt"), ("odht", "laws.rt")}
 CONTRACT_TRAITS = {"Model", "Coded", "Lossless"}
 PAIRS = {"(": ")", "[": "]", "{": "}"}
@@ -121,6 +124,21 @@ UNDONE = {
     "a written list for C": (r"(\w+) : \* mut ([\w() ]+?|\[ u8 ; \d+ \]) , \1_len : usize", r"\1 : & mut [ \2 ]"),
     "an open enum": (r"# \[ non_exhaustive \] (?=pub enum Error\b)", ""),
     "an export": (r"\bunsafe extern \"C\" fn", 'extern "C" fn'),
+    "an import of the host": (r"^use crate :: host :: prelude :: \* ; ", ""),
+    "a use of the host": (r"(?<=\buse )crate :: host(?= ::)", "std"),
+    "a new list": (r"\bcrate :: host :: lists :: empty\b", "Vec :: new"),
+    "equal items": (r"crate :: host :: lists :: filled \( (\w+) , (\w+) , (\w+) \)", r"vec ! [ in \1 ; \2 ; \3 ]"),
+    "a copied text": (r"\bcrate :: host :: texts :: copy_of\b", "String :: from_str"),
+    "a formatted text": (
+        r"crate :: host :: texts :: formatted \( (\w+) , format_args ! \( (\"[^\"]*\") \) \)", r"format ! ( in \1 ; \2 )"
+    ),
+    "an error line": (r"\bwriteln ! \( rt \. stderr \( \) ,", "eprintln ! ( rt ;"),
+    "an error of links": (
+        r"crate :: host :: io :: filesystem_loop \( \)", "io :: Error :: from ( ErrorKind :: FilesystemLoop )"
+    ),
+    "a call of the host": (r"\. try_(collect|extend_from_slice|push|read_until) \(", r". \1 ("),
+    "an entry": (r"\bpub fn main \( rt :", "fn main ( rt :"),
+    "a word of the version": (r'(\bconst MADE : & str = )"erased"', r'\1"proved"'),
 }
 INDEX = re.compile(r"\bindex(?:_mut)? ! \( ")
 
@@ -133,6 +151,21 @@ def without_labels(text):
     return text
 
 
+def without_chains(text):
+    """Writes each chain of conditions as one condition in the other."""
+    all = text.split()
+    while "& & let" in " ".join(all):
+        at = next(i for i in range(len(all)) if all[i : i + 3] == ["&", "&", "let"])
+        end = at
+        while all[end] != "{":
+            end = closed(all, end) if all[end] in PAIRS else end + 1
+        end = closed(all, end)
+        if all[end] in ("=", "else"):
+            raise ValueError("a chain of an unknown form")
+        all = all[:at] + ["{", "if"] + all[at + 2 : end] + ["}"] + all[end:]
+    return " ".join(all) + " "
+
+
 def source_left(text):
     """Returns what is left of a source."""
     left = " ".join(without_contracts(tokens(text))) + " "
@@ -141,7 +174,7 @@ def source_left(text):
     # C passes no allocator, and a list that is borrowed for a while loses the name of that while
     left = re.sub(r"(extern \"C\" fn \w+ \( )alloc : Global , ", r"\1", left)
     left = re.sub(r"(extern \"C\" fn \w+ < '\w+ > \( \w+ : & )'\w+ (\[)", r"\1\2", left)
-    return without_labels(left)
+    return without_labels(without_chains(left))
 
 
 def without_index(text):
@@ -190,7 +223,7 @@ def main(crates, made):
                 path = os.path.relpath(f"{folder}/{name}", f"{crates}/{crate}/src")
                 if (crate, path) in LAWS:
                     continue
-                inside = "" if path == "lib.rt" else f"/{path.removesuffix('.rt')}"
+                inside = "" if path in ROOTS else f"/{path.removesuffix('.rt')}"
                 erased = f"{made}/{place}{inside}.rs"
                 expected.add(os.path.relpath(erased, made))
                 told = list(differences(crate, path, f"{folder}/{name}", erased, counts))

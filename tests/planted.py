@@ -183,13 +183,13 @@ FAULTS_BY_ROOT = [
 ]
 
 
-def said(folder, program, cases):
-    """What the runner says of a program and of a file of cases, and its status."""
+def said(folder, program, cases, *given):
+    """What the runner says of a program and of a file of cases, with given texts, and its status."""
     for name, text in (("program", program), ("a.cases", cases)):
         with open(os.path.join(folder, name), "w") as file:
             file.write(text)
     runner, file = os.path.join(HERE, "cases.py"), os.path.join(folder, "program")
-    ended = subprocess.run([sys.executable, runner, file, folder], universal_newlines=True,
+    ended = subprocess.run([sys.executable, runner, file, *given, folder], universal_newlines=True,
                            stdout=subprocess.PIPE, stderr=subprocess.STDOUT,
                            env={**os.environ, "CASE_SECONDS": "1.5"})
     return ended.stdout, ended.returncode
@@ -211,11 +211,27 @@ def is_told(folder, fault):
     return False
 
 
+def are_given(folder):
+    """Whether a text that is given stands for the one of the cases, and one that nothing names is told."""
+    other = CASES.replace("let end: two", "let end: three").replace("    two\n    word", "    three\n    word")
+    wanted = [(CASES, (), "4 passed, 0 failed", 0), (CASES, ("end=three",), "standard output differs", 1),
+              (other, ("end=two",), "standard output differs", 1), (other, (), "4 passed, 0 failed", 0),
+              (CASES.replace("two\n    word", "\\{end}\n    word"), ("end=three=four",), "4 passed, 0 failed", 0),
+              (CASES, ("ned=two",), "no text is named 'ned'", 1)]
+    for cases, given, words, status in wanted:
+        text, found = said(folder, PROGRAM, cases, *given)
+        if words not in text or found != status:
+            print(f"FAILED given texts {given}: status {found}, and\n{text}")
+            return False
+    return True
+
+
 def main():
     watched.end_on_signals()
     with tempfile.TemporaryDirectory() as folder:
         wanted = "5 passed, 0 failed\n" if IS_ROOT else "4 passed, 0 failed\n"
         results = [said(folder, PROGRAM, CASES + (BY_ROOT if IS_ROOT else "")) == (wanted, 0)]
+        results.append(are_given(folder))
         results += [is_told(folder, fault) for fault in FAULTS + (FAULTS_BY_ROOT if IS_ROOT else [])]
     print(f"{sum(results)} passed, {len(results) - sum(results)} failed")
     return 0 if all(results) else 1

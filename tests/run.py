@@ -7,7 +7,8 @@
     rattle     the tests in Rattle                          ffi        the package odht-ffi (bindings/rust)
     memory     each request for memory fails in turn          vectors    all vectors
     tool       the program for table files, by tests/tool     edits      each edit's text is where it says
-    script     the program for scripts, by tests/script      generated  generated text is current, documents are well
+    cli        the same of erased source, by tests/cli.py     generated  generated text is current, documents are well
+    script     the program for scripts, by tests/script
     runner     that the runner of cases reports faults       watch      what is done with parts that fail or hang
     bench      the figures of bench/run                     manual     the manual page, and what completes words
     word       all vectors and the tests in Rattle once more, with the word search compiled in
@@ -17,7 +18,8 @@ that is done of a copy of the sources, in a folder for temporary files: the gate
 
 What a part prints is in build/logs/PART.log too. A part that hangs, for 600 seconds or those that TEST_SECONDS gives
 (tools/watched.py), is ended: it counts as failed, and is told as ENDED. The parts `edits`, `runner`, `watch`, `bench`,
-`manual`, `generated` and `rust` go without the kit of Rattle; `rust` then leaves out what is beside the library for C.
+`manual`, `generated`, `cli` and `rust` go without the kit of Rattle; `rust` then leaves out what is beside the library
+for C.
 """
 import os
 import re
@@ -164,6 +166,7 @@ PARTS = {
     "word": ([f"word/{it}" for it in [*IN_RATTLE, "odht_vectors"]], with_word_search),
     "memory": (["odht_memory", "odht_table", "odht_tool"], script("tests/memory.py", BUILT)),
     "tool": (["odht_tool"], script("tests/cases.py", f"{BUILT}/odht_tool", "tests/tool")),
+    "cli": ([], script("tests/cli.py")),
     "script": (["odht_table"], script("tests/cases.py", f"{BUILT}/odht_table", "tests/script")),
     "edits": ([], script("tools/edits.py", "check")),
     "runner": ([], script("tests/planted.py")),

@@ -19,6 +19,7 @@
     c          libodht of the erased exports has the calls of include/odht.h; the examples in C and C++ go over it, and
                over what `make install` there puts anywhere; and all of tests/c
 
+The program of erased source, in rust/cli, is tested by tests/cli.py; it is here in `current`, `planted` and `lints` alone.
 What the machine does not have is left out, with a word. The last line counts. There is no limit of time: where one
 cargo builds, others wait for it. What hangs is for tests/run.py.
 """
@@ -88,7 +89,7 @@ def current():
         read = run([sys.executable, "tests/erased.py", "crates", room])
         made = [f"{room}/{it}" for it in files_below(room)]
         run(["rustfmt", "--edition", "2021", "--config-path", "rust/rustfmt.toml", *made])
-        for part in ("src/proved", "c/src/erased"):
+        for part in ("src/proved", "c/src/erased", "cli/src/erased"):
             wanted, found = files_below(f"{room}/{part}"), files_below(f"{TOP}/rust/{part}")
             names = sorted(it for it in wanted.keys() | found.keys() if wanted.get(it) != found.get(it))
             if names:
@@ -113,6 +114,14 @@ FAULTS = [
     ("c/src/erased/exports/version.rs", "400", "401"),
     ("c/src/erased/exports/shapes/u64_u32.rs", "lists::list(keys, keys_len)", "lists::list(keys, values_len)"),
     ("c/src/erased/exports/shapes/u64_u32.rs", "let alloc = Global;", "let alloc = Other;"),
+    ("cli/src/erased/core/help.rs", "\"erased\"", "\"proven\""),
+    ("cli/src/erased/core/lines.rs", "try_extend_from_slice", "try_extend_from_within"),
+    ("cli/src/erased/core/targets.rs", "{ if let Some(obstacle)", "if let Some(obstacle)"),
+    ("cli/src/erased/core/targets.rs", "host::texts::formatted(alloc", "host::texts::formatted(rt.alloc()"),
+    ("cli/src/erased/core/histogram.rs", "filled( alloc, 0, MOST)", "filled( alloc, 1, MOST)"),
+    ("cli/src/erased/core/files.rs", "use crate::host::rt::Files", "use crate::host::fs::Files"),
+    ("cli/src/erased/tool.rs", "rt.stderr()", "rt.stdout()"),
+    ("cli/src/erased/tool/commands/build.rs", "pairs.clear();", ""),
 ]
 
 
@@ -187,13 +196,13 @@ def without_std():
 def lints():
     done = 0
     embedded, no_std = "rust/examples/embedded", "rust/without_std"
-    for folder in ("tools/erase", "rust", "rust/c", "rust/compat", "rust/beside", no_std, embedded):
+    for folder in ("tools/erase", "rust", "rust/c", "rust/cli", "rust/compat", "rust/beside", no_std, embedded):
         run(["cargo", "fmt", "--check"], f"{TOP}/{folder}")
         done += 1
     if not has("cargo", "clippy", "--version"):
         return done
     fast = ["--features", "fast"]
-    users = ["rust/c"], ["rust/compat"], ["rust/beside"], [no_std], [embedded]
+    users = ["rust/c"], ["rust/cli"], ["rust/cli", *fast], ["rust/compat"], ["rust/beside"], [no_std], [embedded]
     for folder, *words in (["tools/erase"], ["rust"], ["rust", *fast], ["rust", *NO_STD], *users):
         cargo(folder, "clippy", "--all-targets", *words, "--", "-D", "warnings")
         done += 1

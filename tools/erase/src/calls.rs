@@ -1,6 +1,6 @@
 //! Calls of std: what allocates is the shim's, since in Rattle the allocator is an argument and out of memory an error.
 
-use crate::known::{is_in, ALLOCATING_METHODS, SAME_MACROS, SAME_METHODS};
+use crate::known::{is_in, ALLOCATING_METHODS, METHODS_OF_PROGRAMS, SAME_MACROS, SAME_METHODS};
 use crate::rules::Eraser;
 use crate::source::Done;
 use crate::tokens::Kind;
@@ -42,6 +42,7 @@ impl Eraser<'_> {
                 return self.source.fail(at + 1, "a method that allocates");
             }
             name if is_in(name, SAME_METHODS) || self.declared.contains(name) => {}
+            name if self.krate.is_of_program && is_in(name, METHODS_OF_PROGRAMS) => {}
             _ => return self.source.fail(at + 1, "an unknown method"),
         }
         Ok(None)
@@ -65,7 +66,7 @@ impl Eraser<'_> {
             && self.source.is(at + 1, "!")
             && matches!(self.source.text(at + 2), "(" | "[" | "{")
             && self.source.touch(at, at + 1);
-        if is_call && !SAME_MACROS.contains(&word) {
+        if is_call && !SAME_MACROS.contains(&word) && !self.declared.contains(word) {
             return self.source.fail(at, "an unknown macro");
         }
         Ok(None)

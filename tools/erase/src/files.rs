@@ -22,16 +22,22 @@ pub struct Counts {
 /// was made. An error has its file and line.
 pub fn erase_all(plan: &Plan<'_>, crates: &Path, out: &Path) -> Result<Counts, String> {
     let mut all = BTreeMap::new();
+    // for libraries, and for programs: what a program declares says nothing of the methods in a library
+    let mut declared = [BTreeSet::new(), BTreeSet::new()];
     for krate in plan.crates {
         let root = crates.join(krate.name).join("src");
         for path in sources(&root, &root)? {
-            all.insert((krate.name, path.clone()), (krate, read(&root, &path)?));
+            let source = read(&root, &path)?;
+            for names in &mut declared[usize::from(krate.is_of_program)..] {
+                names.extend(declared_in(&source));
+            }
+            all.insert((krate.name, path), (krate, source));
         }
     }
-    let declared = all.values().flat_map(|(_, source)| declared_in(source)).collect();
     let mut counts = Counts::default();
     for ((_, path), (krate, source)) in &all {
-        if let Some(erased) = erase_file(plan, krate, path, &declared, source)? {
+        let declared = &declared[usize::from(krate.is_of_program)];
+        if let Some(erased) = erase_file(plan, krate, path, declared, source)? {
             write(krate, path, &out.join(file_of(krate, path)), &erased.text)?;
             counts.files += 1;
             counts.tokens += erased.tokens;
@@ -42,11 +48,13 @@ pub fn erase_all(plan: &Plan<'_>, crates: &Path, out: &Path) -> Result<Counts, S
     Ok(counts)
 }
 
-/// The names of the functions that a source declares.
+/// The names of the functions and the macros that a source declares.
 pub fn declared_in(source: &str) -> Vec<String> {
     let words: Vec<&str> = source.split(|c: char| !c.is_alphanumeric() && c != '_').collect();
-    let names = words.windows(2).filter(|pair| pair[0] == "fn" && !pair[1].is_empty());
-    names.map(|pair| pair[1].to_string()).collect()
+    let functions = words.windows(2).filter(|pair| pair[0] == "fn").map(|pair| pair[1]);
+    let macros = words.windows(3).filter(|it| it[0] == "macro_rules").map(|it| it[2]);
+    let names = functions.chain(macros).filter(|name| !name.is_empty());
+    names.map(str::to_string).collect()
 }
 
 // Erases one source, but none of a module of laws.
@@ -97,7 +105,7 @@ fn read(root: &Path, path: &str) -> Result<String, String> {
 // The file of a module: that of the root is the crate's.
 fn file_of(krate: &Crate<'_>, path: &str) -> String {
     match path {
-        "lib" => format!("{}.rs", krate.to),
+        "lib" | "main" => format!("{}.rs", krate.to),
         _ => format!("{}/{path}.rs", krate.to),
     }
 }

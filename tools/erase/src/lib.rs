@@ -11,6 +11,7 @@ mod files;
 mod ghosts;
 mod indexes;
 mod known;
+mod programs;
 mod rules;
 mod source;
 mod tokens;
@@ -33,6 +34,8 @@ pub struct Plan<'p> {
     pub indexed: &'p [&'p str],
     /// Enums that may get more variants: the file of each, as in `indexed`, and its name.
     pub open_enums: &'p [(&'p str, &'p str)],
+    /// Constants with another text in what is made: the file of each, as in `indexed`, its name, and the new text.
+    pub texts: &'p [(&'p str, &'p str, &'p str)],
 }
 
 /// A Rattle crate, and what becomes of it.
@@ -44,6 +47,9 @@ pub struct Crate<'p> {
     pub module: &'p str,
     /// The file of this module without its ending, and the folder of the modules in it.
     pub to: &'p str,
+    /// Whether it is of a program. Then it uses the system and allocates, by the module `host` of the Rust crate, which
+    /// has what differs from Rust's std.
+    pub is_of_program: bool,
 }
 
 /// The Rust of a source.
@@ -83,6 +89,10 @@ pub fn erase(
     let mut eraser = rules::Eraser { source, plan, krate, path, declared, is_indexed };
     eraser.erase()?;
     eraser.check()?;
-    eraser.import_lists();
+    if krate.is_of_program {
+        eraser.import_host();
+    } else {
+        eraser.import_lists();
+    }
     Ok(eraser.source.erased())
 }

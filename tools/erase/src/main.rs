@@ -6,12 +6,14 @@ use std::process::ExitCode;
 
 const PLAN: Plan<'static> = Plan {
     crates: &[
-        Crate { name: "odht_base", module: "proved::base", to: "src/proved/base" },
-        Crate { name: "odht_header", module: "proved::header", to: "src/proved/header" },
-        Crate { name: "odht_raw", module: "proved::raw", to: "src/proved/raw" },
-        Crate { name: "odht", module: "proved::tables", to: "src/proved/tables" },
-        Crate { name: "odht_calls", module: "erased::calls", to: "c/src/erased/calls" },
-        Crate { name: "odht_c", module: "erased::exports", to: "c/src/erased/exports" },
+        library("odht_base", "proved::base", "src/proved/base"),
+        library("odht_header", "proved::header", "src/proved/header"),
+        library("odht_raw", "proved::raw", "src/proved/raw"),
+        library("odht", "proved::tables", "src/proved/tables"),
+        library("odht_calls", "erased::calls", "c/src/erased/calls"),
+        library("odht_c", "erased::exports", "c/src/erased/exports"),
+        program("odht_tool_core", "erased::core", "cli/src/erased/core"),
+        program("odht_tool", "erased::tool", "cli/src/erased/tool"),
     ],
     dropped_traits: &["Model", "Coded", "Lossless"],
     dropped_modules: &["odht_base::laws", "odht::laws"],
@@ -36,7 +38,16 @@ const PLAN: Plan<'static> = Plan {
         "odht_raw/writes",
     ],
     open_enums: &[("odht_header/error", "Error")],
+    texts: &[("odht_tool_core/help", "MADE", "\"erased\"")],
 };
+
+const fn library<'p>(name: &'p str, module: &'p str, to: &'p str) -> Crate<'p> {
+    Crate { name, module, to, is_of_program: false }
+}
+
+const fn program<'p>(name: &'p str, module: &'p str, to: &'p str) -> Crate<'p> {
+    Crate { name, module, to, is_of_program: true }
+}
 
 fn main() -> ExitCode {
     let words: Vec<String> = std::env::args().collect();

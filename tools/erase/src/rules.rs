@@ -1,6 +1,6 @@
 //! The rules, in their order, and what must not be left.
 
-use crate::known::{is_in, OTHER_WORDS};
+use crate::known::{is_in, OTHER_WORDS, WORDS_OF_PROGRAMS};
 use crate::source::{Done, Source};
 use crate::tokens::Kind;
 use crate::{Crate, Plan};
@@ -26,7 +26,7 @@ pub struct Eraser<'e> {
 }
 
 impl<'e> Eraser<'e> {
-    const RULES: [Rule<'e>; 18] = [
+    const RULES: [Rule<'e>; 23] = [
         Self::ghost,
         Self::clause,
         Self::attribute,
@@ -41,6 +41,11 @@ impl<'e> Eraser<'e> {
         Self::drop_bound,
         Self::writer,
         Self::label,
+        Self::entry,
+        Self::chain,
+        Self::text_of_plan,
+        Self::host_call,
+        Self::host_method,
         Self::vector,
         Self::method,
         Self::macro_call,
@@ -82,7 +87,8 @@ impl<'e> Eraser<'e> {
             "extern" => !source.has(at, "extern \"C\" fn"),
             _ => false,
         };
-        if is_foreign || is_unsafe || is_in(text, OTHER_WORDS) {
+        let is_of_program = self.krate.is_of_program && is_in(text, WORDS_OF_PROGRAMS);
+        if is_foreign || is_unsafe || (is_in(text, OTHER_WORDS) && !is_of_program) {
             return source.fail(at, "left over");
         }
         Ok(())

@@ -1,6 +1,8 @@
 //! Paths, in `use` items and elsewhere, and the import that a file without std needs.
 
-use crate::known::{NUMBERS, SAME_OF_NUMBERS, SAME_PATHS, SHIM_PATHS};
+use crate::known::{
+    HOST_PATHS, NUMBERS, SAME_OF_NUMBERS, SAME_OF_PROGRAMS, SAME_PATHS, SHIM_PATHS,
+};
 use crate::rules::Eraser;
 use crate::source::Done;
 
@@ -43,14 +45,24 @@ impl Eraser<'_> {
         let path = |i: &usize| format!("{folder}{}", self.source.text(*i));
         let paths: Vec<String> = names.iter().filter(is_kept).map(path).collect();
         let is_of_shim = |path: &String| SHIM_PATHS.contains(&path.as_str());
-        if paths == ["std::simd::prelude::*"] {
+        let is_of_host = |path: &String| HOST_PATHS.contains(&path.as_str());
+        let is_known = |path: &String| is_of_host(path) || self.is_same(path);
+        if self.krate.is_of_program && paths.iter().any(is_of_host) && paths.iter().all(is_known) {
+            self.source.replace(at + 1, at + 1, "crate::host");
+        } else if paths == ["std::simd::prelude::*"] {
             self.source.replace(at + 1, names[0], "crate::shim::u8x16");
         } else if !paths.is_empty() && paths.iter().all(is_of_shim) {
             self.source.replace(at + 1, at + 4, "crate::shim");
-        } else if !paths.iter().all(|path| SAME_PATHS.contains(&path.as_str())) {
+        } else if !paths.iter().all(|path| self.is_same(path)) {
             return self.source.fail(at + 1, "an unknown path of std");
         }
         Ok(())
+    }
+
+    // Whether a path of std is the same in Rust.
+    fn is_same(&self, path: &str) -> bool {
+        let is_of_program = self.krate.is_of_program && SAME_OF_PROGRAMS.contains(&path);
+        is_of_program || SAME_PATHS.contains(&path)
     }
 
     fn is_dropped(&self, at: usize) -> bool {

@@ -1,0 +1,32 @@
+// Made by `make rust` of crates/odht_tool_core/src/lib.rt.
+//! `odht_tool_core`: what the program for table files, `odht_tool`, is made of that needs no table of `odht`: words,
+//! lines, keys and values as text, files, and the numbers of a table of any sizes.
+
+use crate::host::prelude::*;
+
+pub mod answers;
+pub mod arguments;
+mod digits;
+mod early;
+pub mod failure;
+pub mod files;
+pub mod find;
+pub mod found;
+pub mod front;
+mod groups;
+pub mod help;
+mod histogram;
+pub mod info;
+pub mod keys;
+pub mod lines;
+mod near;
+mod numbers;
+mod obstacles;
+pub mod places;
+pub mod progress;
+pub mod shapes;
+pub mod slots;
+pub mod status;
+mod stored;
+pub mod targets;
+pub mod text;

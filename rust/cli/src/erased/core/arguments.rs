@@ -1,0 +1,127 @@
+// Made by `make rust` of crates/odht_tool_core/src/arguments.rt.
+//! The arguments that the program is called with.
+
+use crate::erased::core::shapes::{Hash, Shape};
+use crate::host::prelude::*;
+use crate::proved::base::load::Percent;
+use crate::shim::Global;
+
+mod draft;
+mod misuse;
+pub(crate) mod topics;
+
+use draft::Draft;
+pub use misuse::{CommandMisuse, Misuse};
+pub use topics::{Setting, Topic};
+
+/// The options of `build`.
+#[derive(Clone, Copy)]
+pub struct BuildOptions {
+    pub shape: Shape,
+    /// For how many items room is made at first.
+    pub capacity: usize,
+    pub percent: Percent,
+    pub breaks_links: bool,
+    pub has_progress: bool,
+}
+
+/// Where the keys of a lookup are.
+pub enum Keys {
+    /// These words.
+    Words(Vec<String>),
+    /// The lines of standard input.
+    Lines,
+}
+
+impl Keys {
+    // The word `-` alone stands for the lines of standard input.
+    fn of_words(words: Vec<String>) -> Keys {
+        match words.as_slice() {
+            [word] if is_stream(word.as_str()) => Keys::Lines,
+            _ => Keys::Words(words),
+        }
+    }
+
+    fn are_lines(&self) -> bool {
+        match self {
+            Keys::Lines => true,
+            Keys::Words(_) => false,
+        }
+    }
+}
+
+/// A command, with all that it needs to know beside its file.
+pub enum Command {
+    /// One that reads the file alone, from the given byte on where there is one.
+    Read {
+        at: Option<usize>,
+        reading: Reading,
+    },
+    Build(BuildOptions),
+    Put {
+        hash: Option<Hash>,
+        bound: Option<usize>,
+        breaks_links: bool,
+        has_progress: bool,
+    },
+}
+
+/// A command that reads its file alone. A bound is one of searches, in groups; none with `--whole`.
+pub enum Reading {
+    Info { bound: Option<usize> },
+    Check { hash: Option<Hash>, bound: Option<usize> },
+    Get { hash: Option<Hash>, keys: Keys },
+    Dump { hash: Option<Hash>, is_slots: bool },
+    Find { bound: Option<usize> },
+}
+
+/// What the words ask for.
+pub enum Request {
+    /// The help text of a command, or of all.
+    Help(Option<Topic>),
+    /// The version of the program.
+    Version,
+    /// A command to run on a file.
+    Run { file: String, command: Command },
+}
+
+/// Whether the name of a file stands for standard input, or of one that is made for standard output.
+pub fn is_stream(file: &str) -> bool {
+    file == "-"
+}
+
+/// Parses the words after the program's name.
+pub fn parse(alloc: Global, words: Vec<String>) -> Result<Request, Misuse> {
+    let mut words = words.into_iter();
+    let Some(first) = words.next() else {
+        return Err(Misuse::NoCommand);
+    };
+    match first.as_str() {
+        "-h" | "--help" => return Ok(Request::Help(None)),
+        "-V" | "--version" => return Ok(Request::Version),
+        "help" => return parse_help(words.next(), words.next()),
+        _ => {}
+    }
+    let Some(topic) = Topic::named(first.as_str()) else {
+        return Err(Misuse::UnknownCommand(first));
+    };
+    let mut draft = Draft::new(alloc, topic);
+    for word in words {
+        draft.read(word).map_err(|misuse| Misuse::InCommand(topic, misuse))?;
+    }
+    draft.finish()
+}
+
+// `help`, and the two words after it, if there are so many.
+fn parse_help(command: Option<String>, more: Option<String>) -> Result<Request, Misuse> {
+    let Some(command) = command else {
+        return Ok(Request::Help(None));
+    };
+    let Some(topic) = Topic::named(command.as_str()) else {
+        return Err(Misuse::UnknownCommand(command));
+    };
+    match more {
+        None => Ok(Request::Help(Some(topic))),
+        Some(word) => Err(Misuse::InHelp(word)),
+    }
+}

@@ -1,0 +1,245 @@
+// Made by `make rust` of crates/odht_tool_core/src/arguments/draft.rt.
+//! A command of which some words are parsed.
+use super::topics::{Setting, Topic};
+use super::{is_stream, BuildOptions, Command, CommandMisuse, Keys, Misuse, Reading, Request};
+use crate::erased::core::digits::parse_number;
+use crate::erased::core::shapes::{Hash, Part, Shape};
+use crate::host::prelude::*;
+use crate::proved::base::load::Percent;
+use crate::proved::raw::memory_layout::DEFAULT_GROUPS;
+use crate::shim::Global;
+
+/// A command of which some words are parsed.
+pub(super) struct Draft {
+    alloc: Global,
+    topic: Topic,
+    // The file and those after it, without options.
+    words: Vec<String>,
+    // The option whose value is the next word.
+    waiting: Option<Setting>,
+    // Whether `--` was read, after which no word is an option.
+    is_ended: bool,
+    at: Option<usize>,
+    hash: Option<Hash>,
+    key: Option<Part>,
+    value: Option<Part>,
+    percent: Percent,
+    capacity: usize,
+    is_help: bool,
+    is_slots: bool,
+    is_whole: bool,
+    breaks_links: bool,
+    has_progress: bool,
+}
+
+impl Draft {
+    pub(super) fn new(alloc: Global, topic: Topic) -> Draft {
+        Draft {
+            alloc,
+            topic,
+            words: crate::host::lists::empty(alloc),
+            waiting: None,
+            is_ended: false,
+            at: None,
+            hash: None,
+            key: None,
+            value: None,
+            percent: Percent::new(87).unwrap(),
+            capacity: 12,
+            is_help: false,
+            is_slots: false,
+            is_whole: false,
+            breaks_links: false,
+            has_progress: false,
+        }
+    }
+
+    /// Parses the next word: the value of the option that waits for one, if one does.
+    pub(super) fn read(&mut self, word: String) -> Result<(), CommandMisuse> {
+        if let Some(setting) = self.waiting {
+            self.waiting = None;
+            return self.set(setting, word.as_str());
+        }
+        if self.is_ended || !is_option(word.as_str()) {
+            return self.words.try_push(word).or(Err(CommandMisuse::Memory));
+        }
+        match word.as_str() {
+            "--" => {
+                self.is_ended = true;
+                Ok(())
+            }
+            "-h" => {
+                self.is_help = true;
+                Ok(())
+            }
+            _ => self.read_option(word),
+        }
+    }
+
+    // Parses an option, with its value where that is in the same word.
+    fn read_option(&mut self, word: String) -> Result<(), CommandMisuse> {
+        let (name, value) = name_and_value(word.as_str());
+        let Some(setting) = Setting::named(self.topic, name) else {
+            return Err(CommandMisuse::UnknownOption(word));
+        };
+        match (setting.wanted(), value) {
+            (None, None) => self.switch(setting),
+            (None, Some(_)) => return Err(CommandMisuse::NoValueTaken(setting)),
+            (Some(_), None) => self.waiting = Some(setting),
+            (Some(_), Some(value)) => return self.set(setting, value),
+        }
+        Ok(())
+    }
+
+    // Switches on what an option without a value stands for.
+    fn switch(&mut self, setting: Setting) {
+        match setting {
+            Setting::Help => self.is_help = true,
+            Setting::Slots => self.is_slots = true,
+            Setting::Whole => self.is_whole = true,
+            Setting::Progress => self.has_progress = true,
+            Setting::BreakLinks => self.breaks_links = true,
+            _ => {}
+        }
+    }
+
+    // Sets an option to a value.
+    fn set(&mut self, setting: Setting, value: &str) -> Result<(), CommandMisuse> {
+        match self.set_to(setting, value) {
+            Some(()) => Ok(()),
+            None => match crate::host::texts::copy_of(self.alloc, value) {
+                Ok(word) => Err(CommandMisuse::WrongValue(setting, word)),
+                Err(_) => Err(CommandMisuse::Memory),
+            },
+        }
+    }
+
+    // Sets an option. None where it has no such value.
+    fn set_to(&mut self, setting: Setting, value: &str) -> Option<()> {
+        match setting {
+            Setting::At => self.at = Some(parse_number(value.as_bytes())? as usize),
+            Setting::Hash => self.hash = Some(Hash::named(value)?),
+            Setting::Key => self.key = Some(Part::named(value)?),
+            Setting::Value => self.value = Some(Part::named(value)?),
+            Setting::Percent => self.percent = parse_percent(value)?,
+            Setting::Capacity => self.capacity = parse_number(value.as_bytes())? as usize,
+            _ => return None,
+        }
+        Some(())
+    }
+
+    /// What all the words ask for. For `get`, and for no other command, some come after the file.
+    pub(super) fn finish(self) -> Result<Request, Misuse> {
+        let topic = self.topic;
+        if self.is_help {
+            return Ok(Request::Help(Some(topic)));
+        }
+        match self.request() {
+            Ok(request) => Ok(request),
+            Err(misuse) => Err(Misuse::InCommand(topic, misuse)),
+        }
+    }
+
+    fn request(mut self) -> Result<Request, CommandMisuse> {
+        if let Some(setting) = self.waiting {
+            return Err(CommandMisuse::NoValue(setting));
+        }
+        if self.words.is_empty() {
+            return Err(CommandMisuse::Missing("FILE"));
+        }
+        let file = self.words.remove(0);
+        if self.topic != Topic::Get && !self.words.is_empty() {
+            return Err(CommandMisuse::ExtraWord(self.words.remove(0)));
+        }
+        let command = self.command(is_stream(file.as_str()))?;
+        Ok(Request::Run { file, command })
+    }
+
+    // The command, of a file that is standard input or output, or is not.
+    fn command(self, is_stream: bool) -> Result<Command, CommandMisuse> {
+        match self.topic {
+            Topic::Build => self.build(),
+            Topic::Put if is_stream => Err(CommandMisuse::Replaced),
+            Topic::Put => Ok(Command::Put {
+                hash: self.hash,
+                bound: bound_of(self.is_whole),
+                breaks_links: self.breaks_links,
+                has_progress: self.has_progress,
+            }),
+            _ => {
+                let at = self.at;
+                let reading = self.reading(is_stream)?;
+                Ok(Command::Read { at, reading })
+            }
+        }
+    }
+
+    fn reading(self, is_stream: bool) -> Result<Reading, CommandMisuse> {
+        let (hash, bound) = (self.hash, bound_of(self.is_whole));
+        match self.topic {
+            Topic::Info => Ok(Reading::Info { bound }),
+            Topic::Check => Ok(Reading::Check { hash, bound }),
+            Topic::Dump => Ok(Reading::Dump { hash, is_slots: self.is_slots }),
+            Topic::Get => {
+                if self.words.is_empty() {
+                    return Err(CommandMisuse::Missing("KEY"));
+                }
+                let keys = Keys::of_words(self.words);
+                if is_stream && keys.are_lines() {
+                    return Err(CommandMisuse::BothInput);
+                }
+                Ok(Reading::Get { hash, keys })
+            }
+            _ => Ok(Reading::Find { bound }),
+        }
+    }
+
+    fn build(self) -> Result<Command, CommandMisuse> {
+        let Some(key) = self.key else {
+            return Err(CommandMisuse::Missing("--key"));
+        };
+        let Some(value) = self.value else {
+            return Err(CommandMisuse::Missing("--value"));
+        };
+        let Some(shape) = Shape::of_parts(key, value, self.hash) else {
+            return Err(CommandMisuse::NoShape);
+        };
+        Ok(Command::Build(BuildOptions {
+            shape,
+            capacity: self.capacity,
+            percent: self.percent,
+            breaks_links: self.breaks_links,
+            has_progress: self.has_progress,
+        }))
+    }
+}
+
+// Whether a word is an option: it begins with two hyphens, or with one and a letter.
+fn is_option(word: &str) -> bool {
+    match word.as_bytes() {
+        [b'-', second, ..] => *second == b'-' || second.is_ascii_alphabetic(),
+        _ => false,
+    }
+}
+
+/// The name of an option, and the value that comes behind a `=` in its word, if there is one.
+pub(super) fn name_and_value(word: &str) -> (&str, Option<&str>) {
+    match word.split_once('=') {
+        Some((name, value)) => (name, Some(value)),
+        None => (word, None),
+    }
+}
+
+// The bound of searches that a command has which is not to be made slow by its file: that of the library.
+fn bound_of(is_whole: bool) -> Option<usize> {
+    if is_whole {
+        None
+    } else {
+        Some(DEFAULT_GROUPS)
+    }
+}
+
+// The percentage of this text, a number from 1 to 100.
+fn parse_percent(text: &str) -> Option<Percent> {
+    Percent::new(u8::try_from(parse_number(text.as_bytes())?).ok()?)
+}

@@ -1,0 +1,146 @@
+// Made by `make rust` of crates/odht_tool_core/src/arguments/topics.rt.
+//! The commands and their options: the names, and which command has which option.
+
+use crate::erased::core::near::is_near;
+use crate::host::prelude::*;
+use std::fmt;
+
+/// A command.
+#[derive(Clone, Copy, Debug, PartialEq, Eq)]
+pub enum Topic {
+    Info,
+    Check,
+    Get,
+    Dump,
+    Find,
+    Build,
+    Put,
+}
+
+/// All commands, in the order of the help text.
+pub(crate) const TOPICS: [Topic; 7] =
+    [Topic::Info, Topic::Check, Topic::Get, Topic::Dump, Topic::Find, Topic::Build, Topic::Put];
+
+impl Topic {
+    /// The command of this name.
+    pub(crate) fn named(name: &str) -> Option<Topic> {
+        TOPICS.iter().copied().find(|topic| topic.name().as_bytes() == name.as_bytes())
+    }
+
+    /// The first command whose name one slip makes of the word.
+    pub(crate) fn nearest(word: &str) -> Option<Topic> {
+        TOPICS.iter().copied().find(|topic| is_near(topic.name().as_bytes(), word.as_bytes()))
+    }
+
+    /// Its name.
+    pub fn name(self) -> &'static str {
+        match self {
+            Topic::Info => "info",
+            Topic::Check => "check",
+            Topic::Get => "get",
+            Topic::Dump => "dump",
+            Topic::Find => "find",
+            Topic::Build => "build",
+            Topic::Put => "put",
+        }
+    }
+
+    /// Its options.
+    pub(crate) fn options(self) -> &'static [Setting] {
+        match self {
+            Topic::Info => &[Setting::Help, Setting::Whole, Setting::At],
+            Topic::Check => &[Setting::Help, Setting::Whole, Setting::Hash, Setting::At],
+            Topic::Get => &[Setting::Help, Setting::Hash, Setting::At],
+            Topic::Dump => &[Setting::Help, Setting::Slots, Setting::Hash, Setting::At],
+            Topic::Find => &[Setting::Help, Setting::Whole],
+            Topic::Build => &[
+                Setting::Help,
+                Setting::Key,
+                Setting::Value,
+                Setting::Hash,
+                Setting::Percent,
+                Setting::Capacity,
+                Setting::Progress,
+                Setting::BreakLinks,
+            ],
+            Topic::Put => &[
+                Setting::Help,
+                Setting::Whole,
+                Setting::Hash,
+                Setting::Progress,
+                Setting::BreakLinks,
+            ],
+        }
+    }
+}
+
+impl fmt::Display for Topic {
+    fn fmt(&self, f: &mut fmt::Formatter<'_>) -> fmt::Result {
+        f.write_str(self.name())
+    }
+}
+
+/// An option of a command.
+#[derive(Clone, Copy, Debug)]
+pub enum Setting {
+    Help,
+    Slots,
+    Whole,
+    Progress,
+    BreakLinks,
+    At,
+    Hash,
+    Key,
+    Value,
+    Percent,
+    Capacity,
+}
+
+impl Setting {
+    /// The option of this name that the command has.
+    pub(crate) fn named(topic: Topic, name: &str) -> Option<Setting> {
+        topic.options().iter().copied().find(|option| option.name().as_bytes() == name.as_bytes())
+    }
+
+    /// The first option of the command whose name one slip makes of the word.
+    pub(crate) fn nearest(topic: Topic, word: &str) -> Option<Setting> {
+        topic
+            .options()
+            .iter()
+            .copied()
+            .find(|option| is_near(option.name().as_bytes(), word.as_bytes()))
+    }
+
+    /// Its name.
+    pub(crate) fn name(self) -> &'static str {
+        match self {
+            Setting::Help => "--help",
+            Setting::Slots => "--slots",
+            Setting::Whole => "--whole",
+            Setting::Progress => "--progress",
+            Setting::BreakLinks => "--break-links",
+            Setting::At => "--at",
+            Setting::Hash => "--hash",
+            Setting::Key => "--key",
+            Setting::Value => "--value",
+            Setting::Percent => "--percent",
+            Setting::Capacity => "--capacity",
+        }
+    }
+
+    /// What its value is, in words, where it takes one.
+    pub(crate) fn wanted(self) -> Option<&'static str> {
+        match self {
+            Setting::Help
+            | Setting::Slots
+            | Setting::Whole
+            | Setting::Progress
+            | Setting::BreakLinks => None,
+            Setting::At | Setting::Capacity => Some("a number below 2^64"),
+            Setting::Hash => Some("fx or unhash"),
+            Setting::Key => Some("u32, u64 or hexN"),
+            Setting::Value => Some("u32, u64, none or hexN"),
+            Setting::Percent => Some("a number from 1 to 100"),
+        }
+    }
+}

@@ -1,0 +1,143 @@
+// Made by `make rust` of crates/odht_tool_core/src/failure.rt.
+//! Why a command stopped.
+
+use crate::erased::core::obstacles::Obstacle;
+use crate::host::prelude::*;
+use crate::proved::header::error::Error;
+use crate::shim::AllocError;
+use std::{fmt, io};
+
+/// Why a command stopped, as it is printed after the name of its file.
+#[derive(Debug)]
+pub enum Failure {
+    /// The file could not be read.
+    Read(io::Error),
+    /// The new file could not be written, or not be renamed.
+    Write(io::Error),
+    /// The file is not replaced, for this reason.
+    Obstacle(Obstacle),
+    /// There is a file of the name that the new one has until it is stored.
+    Beside(String),
+    /// The bytes are no table, or not one of this shape.
+    Refused(Error),
+    /// No ready shape has keys and values of so many bytes under the hash that was named.
+    NoShape { key_size: u8, value_size: u8 },
+    /// The control bytes are not the tags of the keys under any hash function of the ready shapes of these sizes.
+    NoHash { key_size: u8, value_size: u8 },
+    /// The file ends before this byte.
+    PastEnd { offset: usize, len: usize },
+    /// There are headers of tables that overlap, more than a file has that is not forged.
+    Forged,
+    /// Standard input could not be read.
+    Input(io::Error),
+    /// A line of standard input cannot be parsed.
+    Line { number: u64, fault: LineFault },
+    /// Standard output could not be written.
+    Output(io::Error),
+    /// An allocation failed.
+    Memory,
+    /// A word is no key of the table's shape.
+    Key(String),
+}
+
+/// What is wrong with a line of standard input.
+#[derive(Clone, Copy, Debug)]
+pub enum LineFault {
+    /// There is no tab between a key and a value.
+    NoTab,
+    /// The text before the tab is no key of the shape.
+    Key,
+    /// The text after the tab is no value of the shape.
+    Value,
+}
+
+impl fmt::Display for LineFault {
+    fn fmt(&self, f: &mut fmt::Formatter<'_>) -> fmt::Result {
+        match self {
+            LineFault::NoTab => write!(f, "no tab between key and value"),
+            LineFault::Key => write!(f, "not a key of the table's shape"),
+            LineFault::Value => write!(f, "not a value of the table's shape"),
+        }
+    }
+}
+
+impl fmt::Display for Failure {
+    fn fmt(&self, f: &mut fmt::Formatter<'_>) -> fmt::Result {
+        match self {
+            Failure::Read(error) => write!(f, "cannot be read: {error}"),
+            Failure::Write(error) => write!(f, "cannot be written: {error}"),
+            Failure::Obstacle(obstacle) => write!(f, "cannot be written: {obstacle}"),
+            Failure::Beside(name) => write!(
+                f,
+                "{name} is there: another run is at work, or was interrupted; remove it if none is"
+            ),
+            Failure::Refused(error) => {
+                let advice = advice_of(error);
+                write!(f, "{error}{advice}")
+            }
+            Failure::NoShape { key_size, value_size } => write_no_shape(*key_size, *value_size, f),
+            Failure::NoHash { key_size, value_size } => write_no_hash(*key_size, *value_size, f),
+            Failure::PastEnd { offset, len } => {
+                write!(f, "has {len} bytes, and so none at the offset {offset}")
+            }
+            Failure::Forged => {
+                write!(f, "is forged: it has headers that overlap, and no tables for them")
+            }
+            Failure::Input(error) => write!(f, "standard input cannot be read: {error}"),
+            Failure::Line { number, fault } => {
+                write!(f, "standard input, line {number}: {fault}")
+            }
+            Failure::Output(error) => write!(f, "standard output cannot be written: {error}"),
+            Failure::Memory => write!(f, "out of memory"),
+            Failure::Key(word) => write!(f, "{word:?} is not a key of the table's shape"),
+        }
+    }
+}
+
+fn write_no_shape(key_size: u8, value_size: u8, f: &mut fmt::Formatter<'_>) -> fmt::Result {
+    write!(
+        f,
+        "no ready shape has keys of {key_size} and values of {value_size} bytes under this hash; `odht info` takes any"
+    )
+}
+
+fn write_no_hash(key_size: u8, value_size: u8, f: &mut fmt::Formatter<'_>) -> fmt::Result {
+    write!(
+        f,
+        "the control bytes fit no hash function of ready shapes with keys of {key_size} and values of {value_size} bytes; `odht check` and `odht info` say more"
+    )
+}
+
+impl std::error::Error for Failure {}
+
+impl From<AllocError> for Failure {
+    fn from(_refused: AllocError) -> Failure {
+        Failure::Memory
+    }
+}
+
+/// What can be done about an error, as it follows its text: of a bound of searches, that there need be none.
+pub fn advice_of(error: &Error) -> &'static str {
+    match error {
+        Error::SearchTooLong { .. } => "; --whole checks without a bound",
+        _ => "",
+    }
+}
+
+impl Failure {
+    /// The failure for an error of a table: [`Error::Memory`] is [`Failure::Memory`].
+    pub fn of_table(error: Error) -> Failure {
+        match error {
+            Error::Memory => Failure::Memory,
+            _ => Failure::Refused(error),
+        }
+    }
+
+    /// The failure for an error of what comes before a file is written.
+    pub fn of_writing(error: io::Error) -> Failure {
+        match error.kind() {
+            io::ErrorKind::OutOfMemory => Failure::Memory,
+            _ => Failure::Write(error),
+        }
+    }
+}

@@ -1,0 +1,61 @@
+// Made by `make rust` of crates/odht_tool_core/src/found.rt.
+//! The shape of a file, where its hash function is found by its control bytes.
+
+use crate::erased::core::failure::Failure;
+use crate::erased::core::shapes::{shape_of, Hash, Shape, SHAPES};
+use crate::erased::core::stored::StoredTable;
+use crate::host::prelude::*;
+use crate::proved::header::header::Header;
+
+/// The ready shape of these bytes: as `shape_of` has it; but where header and length fit, the header counts items and
+/// no hash function is given, the first shape of the header's sizes with whose hash function all control bytes agree.
+/// `NoHash` where they agree with none.
+///
+/// It goes over the entries and the control bytes once for each shape of the sizes, up to the first that does not
+/// agree.
+pub fn found_shape(bytes: &[u8], hash: Option<Hash>) -> Result<Shape, Failure> {
+    let named = shape_of(bytes, hash)?;
+    match (hash, open_with_items(bytes)) {
+        (None, Some(table)) => fitting_shape_of(bytes, &table),
+        _ => Ok(named),
+    }
+}
+
+// The first shape of the header's sizes that fits the parts of the table.
+fn fitting_shape_of(bytes: &[u8], table: &StoredTable<'_>) -> Result<Shape, Failure> {
+    let header = Header::of(bytes);
+    let (key_size, value_size) = (header.key_size(), header.value_size());
+    fitting_shape(key_size, value_size, table).ok_or(Failure::NoHash { key_size, value_size })
+}
+
+// The first shape of these sizes with whose hash function all control bytes agree.
+fn fitting_shape(key_size: u8, value_size: u8, table: &StoredTable<'_>) -> Option<Shape> {
+    SHAPES.iter().copied().find(|shape| is_fitting(*shape, key_size, value_size, table))
+}
+
+// Whether a shape has these sizes, and all control bytes agree with its hash function.
+fn is_fitting(shape: Shape, key_size: u8, value_size: u8, table: &StoredTable<'_>) -> bool {
+    shape.is_of(key_size, value_size, None) && table.agrees(shape.hash())
+}
+
+// The parts of a table whose header and length fit, and whose header counts items.
+fn open_with_items(bytes: &[u8]) -> Option<StoredTable<'_>> {
+    let table = StoredTable::open(bytes).ok()?;
+    if Header::of(bytes).item_count() == 0 {
+        None
+    } else {
+        Some(table)
+    }
+}
+
+/// The hash function that is not that of the shape, where header and length fit, the header counts items and all
+/// control bytes agree with it: then the file may be read by it, though it is rejected under this shape.
+pub fn hinted_hash(bytes: &[u8], shape: Shape) -> Option<Hash> {
+    let other = shape.hash().other();
+    let table = open_with_items(bytes)?;
+    if table.agrees(other) {
+        Some(other)
+    } else {
+        None
+    }
+}

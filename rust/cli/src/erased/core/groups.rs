@@ -1,0 +1,75 @@
+// Made by `make rust` of crates/odht_tool_core/src/groups.rt.
+//! How many groups of control bytes a search reads, up to a bound.
+
+use crate::host::prelude::*;
+use crate::proved::base::swisstable_group_query::lanes::GroupQuery;
+use crate::proved::base::swisstable_group_query::{Group, REFERENCE_GROUP_SIZE};
+use crate::proved::raw::raw_table::ProbeSeq;
+
+/// The number of the group of a key's probe order that contains a slot, from 1 on: as many groups as a search for the
+/// key in that slot reads. Where that is above the bound, one more than the bound.
+///
+/// It goes over the groups of the probe order up to that one, or to the bound.
+pub fn groups_to(hash: u32, slot: usize, slot_count: usize, bound: Option<usize>) -> usize {
+    let mask = slot_count - 1;
+    let groups = slot_count / 16;
+    let most = most_groups(groups, bound);
+    let mut probe = ProbeSeq::<16>::new(hash as usize, mask);
+    for group in 0..most {
+        if steps_to(probe.index(), slot, slot_count) < 16 {
+            return group + 1;
+        }
+        if group + 1 < groups {
+            probe.advance(mask);
+        }
+    }
+    groups.min(most + 1)
+}
+
+/// How many groups a search from this home reads at most, for any key: up to the first with a control byte that counts
+/// as free, or all. Where that is above the bound, one more than the bound. The control bytes end with their mirror.
+///
+/// It reads these groups, up to the bound.
+pub fn groups_to_free(
+    control: &[u8],
+    home: usize,
+    slot_count: usize,
+    bound: Option<usize>,
+) -> usize {
+    let mask = slot_count - 1;
+    let groups = slot_count / 16;
+    let most = most_groups(groups, bound);
+    let mut probe = ProbeSeq::<16>::new(home, mask);
+    for group in 0..most {
+        if has_free(control, probe.index()) {
+            return group + 1;
+        }
+        if group + 1 < groups {
+            probe.advance(mask);
+        }
+    }
+    groups.min(most + 1)
+}
+
+// How many of so many groups are looked at, by the bound.
+fn most_groups(groups: usize, bound: Option<usize>) -> usize {
+    match bound {
+        None => groups,
+        Some(bound) => bound.min(groups),
+    }
+}
+
+// Whether one of the sixteen control bytes from `start` on counts as free.
+fn has_free(control: &[u8], start: usize) -> bool {
+    let group = &control[start..start + REFERENCE_GROUP_SIZE];
+    GroupQuery::of(group, 0).first_empty().is_some()
+}
+
+// How many slots a slot is behind another one, around the end.
+fn steps_to(start: usize, slot: usize, slot_count: usize) -> usize {
+    if start <= slot {
+        slot - start
+    } else {
+        slot + slot_count - start
+    }
+}

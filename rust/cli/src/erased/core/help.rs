@@ -1,0 +1,163 @@
+// Made by `make rust` of crates/odht_tool_core/src/help.rt.
+//! The texts of `--help` and `--version`.
+use crate::erased::core::arguments::topics::TOPICS;
+use crate::erased::core::arguments::Topic;
+use crate::host::prelude::*;
+use std::io::{self, Write};
+
+mod ready;
+mod version;
+
+use ready::READY;
+use version::VERSION;
+
+/// How the program was made of its source: with the proofs of its contracts.
+const MADE: &str = "erased";
+
+/// Writes the version of the program, of the format of its files, and whether it is proved.
+pub fn write_version<W: Write>(output: &mut W) -> io::Result<()> {
+    writeln!(output, "odht {VERSION} ({MADE}), file format version 2")
+}
+
+/// Writes the help text of a command, or of all.
+pub fn write_help<W: Write>(topic: Option<Topic>, output: &mut W) -> io::Result<()> {
+    match topic {
+        Some(topic) => {
+            output.write_all(text_of(topic).as_bytes())?;
+            output.write_all(end_of(topic).as_bytes())
+        }
+        None => write_general(output),
+    }
+}
+
+fn write_general<W: Write>(output: &mut W) -> io::Result<()> {
+    for topic in TOPICS {
+        output.write_all(summary_of(topic).as_bytes())?;
+    }
+    output.write_all(GENERAL.as_bytes())
+}
+
+// The lines of a command in the help text of all.
+fn summary_of(topic: Topic) -> &'static str {
+    match topic {
+        Topic::Info => {
+            "odht info FILE       tells what a table file holds, of any key and value sizes\n"
+        }
+        Topic::Check => "odht check FILE      tells whether a file is a valid table\n",
+        Topic::Get => {
+            "odht get FILE KEY..  looks keys up; with - instead of keys, those of standard input\n"
+        }
+        Topic::Dump => "odht dump FILE       tells each pair\n",
+        Topic::Find => "odht find FILE       tells each table that is inside a file\n",
+        Topic::Build => {
+            "odht build FILE --key SHAPE --value SHAPE
+                     makes a table file of the lines of standard input\n"
+        }
+        Topic::Put => "odht put FILE        adds the lines of standard input to a table file\n",
+    }
+}
+
+// What comes after the help text of a command: for `build` the ready shapes.
+fn end_of(topic: Topic) -> &'static str {
+    match topic {
+        Topic::Build => READY,
+        _ => "",
+    }
+}
+
+// The help text of a command.
+fn text_of(topic: Topic) -> &'static str {
+    match topic {
+        Topic::Info => INFO,
+        Topic::Check => CHECK,
+        Topic::Get => GET,
+        Topic::Dump => DUMP,
+        Topic::Find => FIND,
+        Topic::Build => BUILD,
+        Topic::Put => PUT,
+    }
+}
+
+const GENERAL: &str = "\
+odht help COMMAND    is the help of a command, as odht COMMAND --help or -h is
+odht --version       is the version of the program and of the format; also -V
+
+With - as FILE a table is read from standard input, and build writes one to
+standard output. An option's value is the next word, or comes behind a =. Words
+that begin with a hyphen come after --, which ends the options.
+
+Status 0: done; 1: rejected, failed, or a key is absent; 2: the words are not
+understood.
+";
+
+const INFO: &str = "\
+odht info FILE [--whole] [--at OFFSET]
+    Prints sizes, item and slot count, load factors, the hash function that the
+    control bytes agree with, how many items are found by reading one group of
+    control bytes, two, and so on, and how many groups the longest search reads
+    for a key that is there (hit) and for one that is not (miss). Above 128 groups
+    it does not count further, so that no file takes long; with --whole it does.
+    The file may have any key and value sizes. Only its header and its length are
+    checked. With --at the table begins at that byte of the file; bytes after its
+    end are not read.
+";
+
+const CHECK: &str = "\
+odht check FILE [--whole] [--hash fx|unhash] [--at OFFSET]
+    Prints that the file is valid, or the first rule of the format that it breaks,
+    and then ends with status 1. A search that may read more than 128 groups of
+    control bytes breaks a rule too, so that no file takes long to check; with
+    --whole it does not. The shape is the first of the file's key and value sizes,
+    and of the hash function that --hash names; `odht build --help` lists them.
+";
+
+const GET: &str = "\
+odht get FILE KEY.. [--hash fx|unhash] [--at OFFSET]
+    Writes a line for each key, in their order: KEY, a tab and VALUE; or KEY alone
+    where it is absent, and then ends with status 1. With the one word - the keys
+    are the lines of standard input. The hash function is the one that all control
+    bytes fit, unless --hash names it.
+";
+
+const DUMP: &str = "\
+odht dump FILE [--slots] [--hash fx|unhash] [--at OFFSET]
+    Writes a line for each pair, in slot order: KEY, a tab and VALUE. With --slots
+    the slot, the control byte and the number of groups that a search for the key
+    looks at stand before them, with tabs too. The hash function is the one that
+    all control bytes fit, unless --hash names it.
+";
+
+const FIND: &str = "\
+odht find FILE [--whole]
+    Prints each table that is inside a file, at whatever byte it begins: its offset,
+    for --at, its length, the sizes of keys and values, the item count, the slot
+    count, the load in percent, the hash function that the control bytes fit (fx,
+    unhash or both), and what the check finds: valid, rejected, long where a search
+    may read more than 128 groups of control bytes (not so with --whole), or - where
+    no ready shape has these sizes. Status 1 where there is none.
+";
+
+const BUILD: &str = "\
+odht build FILE --key SHAPE --value SHAPE [--hash fx|unhash]
+                [--percent P] [--capacity N] [--progress] [--break-links]
+    Makes a table of the lines of standard input, KEY, a tab and VALUE, and stores
+    it as FILE, in the place of an older one, which stays where something fails;
+    with - as FILE it goes to standard output. The last line of a key wins. Owner, group, permissions and symbolic links of an
+    older file are kept; one with hard links is not replaced without --break-links.
+    SHAPE          u32, u64, none (a value only), or hexN: N bytes as 2 N digits
+    --percent      the load factor, 1 to 100, else 87
+    --capacity     the number of items for which room is made at first, else 12
+    --progress     a line on standard error each second
+    --break-links  replaces this name of a file; its other names keep the old one
+";
+
+const PUT: &str = "\
+odht put FILE [--whole] [--hash fx|unhash] [--progress] [--break-links]
+    Adds the lines of standard input, KEY, a tab and VALUE, to the table in FILE,
+    which grows as needed, and stores it in the place of the older one, which
+    stays where something fails. The last line of a key wins. The file is checked
+    before, as by `odht check`; --whole is as there. The hash function is the one
+    that all control bytes fit, unless --hash names it. Owner, group, permissions
+    and symbolic links of the file are kept; one with hard links is not replaced
+    without --break-links, with which its other names keep the old file.
+";

@@ -1,0 +1,54 @@
+// Made by `make rust` of crates/odht_tool_core/src/keys.rt.
+//! Words of the command line, and lines of an input, that are read as keys.
+
+use crate::erased::core::failure::Failure;
+use crate::erased::core::lines::read_line;
+use crate::erased::core::text::Text;
+use crate::host::prelude::*;
+use crate::shim::Global;
+use std::io::{self, BufRead};
+
+/// The keys of the words, or the first word that is none.
+pub fn parse_keys<K: Text>(alloc: Global, words: &[String]) -> Result<Vec<K>, Failure> {
+    let mut keys = crate::host::lists::empty(alloc);
+    for word in words {
+        match K::parse(word.as_str().as_bytes()) {
+            Some(key) => push_key(&mut keys, key)?,
+            None => return Err(wrong_key(alloc, word.as_str())),
+        }
+    }
+    Ok(keys)
+}
+
+fn wrong_key(alloc: Global, word: &str) -> Failure {
+    match crate::host::texts::copy_of(alloc, word) {
+        Ok(word) => Failure::Key(word),
+        Err(_) => Failure::Memory,
+    }
+}
+
+/// Adds a key.
+pub fn push_key<K: Text>(keys: &mut Vec<K>, key: K) -> Result<(), Failure> {
+    keys.try_push(key).map_err(|_| Failure::Memory)
+}
+
+/// What the next line of an input is.
+pub enum NextKey<K> {
+    /// The text of this key.
+    Key(K),
+    /// The text of no key.
+    NoKey,
+    /// There is no line.
+    End,
+}
+
+/// Reads the next line, and parses its key. The bytes of `line` are replaced.
+pub fn next_key<K: Text, I: BufRead>(input: &mut I, line: &mut Vec<u8>) -> io::Result<NextKey<K>> {
+    if !read_line(input, line)? {
+        return Ok(NextKey::End);
+    }
+    match K::parse(line.as_slice()) {
+        Some(key) => Ok(NextKey::Key(key)),
+        None => Ok(NextKey::NoKey),
+    }
+}

@@ -1,0 +1,117 @@
+// Made by `make rust` of crates/odht_tool_core/src/lines.rt.
+//! The lines of standard input.
+
+use crate::erased::core::failure::{Failure, LineFault};
+use crate::erased::core::places::{cut_at, place_of};
+use crate::erased::core::text::Text;
+use crate::host::prelude::*;
+use std::io::{self, BufRead, ErrorKind};
+
+/// Reads the next line into `line`, without its end, `\n` or `\r\n`, and replaces what `line` held. False at the end of
+/// the input. A read that was interrupted is made again. After an error do not use the line.
+pub(crate) fn read_line<R: BufRead>(reader: &mut R, line: &mut Vec<u8>) -> io::Result<bool> {
+    line.clear();
+    if !read_through(reader, line)? {
+        return Ok(false);
+    }
+    drop_end(line);
+    Ok(true)
+}
+
+// Reads the next line with its end. False at the end of the input.
+#[inline(always)]
+fn read_through<R: BufRead>(reader: &mut R, line: &mut Vec<u8>) -> io::Result<bool> {
+    match take_buffered(reader, line)? {
+        Buffered::Line => Ok(true),
+        Buffered::Part => Ok(reader.try_read_until(b'\n', line)? > 0),
+        Buffered::End => Ok(false),
+    }
+}
+
+// What a reader has in its buffer: a line with its end, which is taken; a part of one at most, which is left there, as
+// where a read was interrupted; or nothing, at the end of the input.
+#[derive(Clone, Copy)]
+enum Buffered {
+    Line,
+    Part,
+    End,
+}
+
+// Most lines are in the buffer whole, and need one search and one copy.
+#[inline(always)]
+fn take_buffered<R: BufRead>(reader: &mut R, line: &mut Vec<u8>) -> io::Result<Buffered> {
+    let available = match reader.fill_buf() {
+        Ok(available) => available,
+        Err(error) => return buffered_after(error),
+    };
+    if available.is_empty() {
+        return Ok(Buffered::End);
+    }
+    let place = place_of(available, b'\n');
+    if place == available.len() {
+        return Ok(Buffered::Part);
+    }
+    line.try_extend_from_slice(&available[..place + 1])?;
+    reader.consume(place + 1);
+    Ok(Buffered::Line)
+}
+
+// What is done where this error came when the buffer was to be filled. Where the read was interrupted nothing was taken,
+// and it is tried again. Any other error is returned as it is.
+#[cold]
+fn buffered_after(refused: io::Error) -> io::Result<Buffered> {
+    if refused.kind() == ErrorKind::Interrupted {
+        Ok(Buffered::Part)
+    } else {
+        Err(refused)
+    }
+}
+
+// Drops the end of a line, `\n` or `\r\n`, if it has one.
+fn drop_end(line: &mut Vec<u8>) {
+    if drop_last(line, b'\n') {
+        let _ = drop_last(line, b'\r');
+    }
+}
+
+// Drops the last byte where it is this one. Returns whether it was.
+fn drop_last(line: &mut Vec<u8>, byte: u8) -> bool {
+    let count = line.len();
+    if count == 0 || line[count - 1] != byte {
+        return false;
+    }
+    let _ = line.pop();
+    true
+}
+
+/// Reads the pair of the line of this number, if there is such a line. The bytes of `line` are replaced.
+pub fn read_pair<K: Text, V: Text, I: BufRead>(
+    input: &mut I,
+    line: &mut Vec<u8>,
+    number: u64,
+) -> Result<Option<(K, V)>, Failure> {
+    if !read_line(input, line).map_err(Failure::Input)? {
+        return Ok(None);
+    }
+    match parse_pair(line.as_slice()) {
+        Ok(pair) => Ok(Some(pair)),
+        Err(fault) => Err(Failure::Line { number, fault }),
+    }
+}
+
+// The key and the value of a line: on either side of its first tab, or, where the text of a value is empty, of a line
+// without a tab.
+fn parse_pair<K: Text, V: Text>(line: &[u8]) -> Result<(K, V), LineFault> {
+    let (key, value) = match cut_at(line, b'\t') {
+        Some(parts) => parts,
+        None => {
+            if V::parse(b"").is_none() {
+                return Err(LineFault::NoTab);
+            }
+            (line, b"".as_slice())
+        }
+    };
+    let key = K::parse(key).ok_or(LineFault::Key)?;
+    let value = V::parse(value).ok_or(LineFault::Value)?;
+    Ok((key, value))
+}

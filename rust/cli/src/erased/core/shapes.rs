@@ -1,0 +1,144 @@
+// Made by `make rust` of crates/odht_tool_core/src/shapes.rt.
+//! The shapes of tables that the commands read and write: the types of keys and values, and the hash function.
+
+use crate::erased::core::early::check_first;
+use crate::erased::core::failure::Failure;
+use crate::host::prelude::*;
+use crate::proved::header::header::Header;
+
+mod ready;
+
+pub use ready::Shape;
+pub(crate) use ready::SHAPES;
+
+/// A hash function of keys.
+#[derive(Clone, Copy)]
+pub enum Hash {
+    /// `FxHashFn`.
+    Fx,
+    /// `UnHashFn`.
+    Unhash,
+}
+
+impl Hash {
+    /// The hash function of this name.
+    pub(crate) fn named(name: &str) -> Option<Hash> {
+        match name {
+            "fx" => Some(Hash::Fx),
+            "unhash" => Some(Hash::Unhash),
+            _ => None,
+        }
+    }
+
+    /// The other hash function.
+    pub(crate) fn other(self) -> Hash {
+        match self {
+            Hash::Fx => Hash::Unhash,
+            Hash::Unhash => Hash::Fx,
+        }
+    }
+
+    // Whether both are the same one.
+    fn is(self, other: Hash) -> bool {
+        match (self, other) {
+            (Hash::Fx, Hash::Fx) | (Hash::Unhash, Hash::Unhash) => true,
+            _ => false,
+        }
+    }
+}
+
+/// The type of a key or of a value.
+#[derive(Clone, Copy)]
+pub enum Part {
+    /// Nothing, in a table that is a set.
+    Nothing,
+    /// A number of 32 bits.
+    U32,
+    /// A number of 64 bits.
+    U64,
+    /// So many bytes.
+    Bytes(u8),
+}
+
+impl Part {
+    /// The type of this name: `u32`, `u64`, `none`, or `hex` and a number of bytes from 1 to 255.
+    pub(crate) fn named(name: &str) -> Option<Part> {
+        match name {
+            "none" => Some(Part::Nothing),
+            "u32" => Some(Part::U32),
+            "u64" => Some(Part::U64),
+            _ => {
+                let size = name.strip_prefix("hex")?.parse::<u8>().ok()?;
+                if size == 0 {
+                    None
+                } else {
+                    Some(Part::Bytes(size))
+                }
+            }
+        }
+    }
+
+    /// How many bytes it has in a table.
+    pub fn size(self) -> u8 {
+        match self {
+            Part::Nothing => 0,
+            Part::U32 => 4,
+            Part::U64 => 8,
+            Part::Bytes(size) => size,
+        }
+    }
+
+    // Whether both are the same type.
+    fn is(self, other: Part) -> bool {
+        match (self, other) {
+            (Part::Nothing, Part::Nothing) | (Part::U32, Part::U32) | (Part::U64, Part::U64) => {
+                true
+            }
+            (Part::Bytes(size), Part::Bytes(other)) => size == other,
+            _ => false,
+        }
+    }
+}
+
+impl Shape {
+    // The first ready shape of keys and values of so many bytes, and of the hash function, where one is given.
+    fn of_sizes(key_size: u8, value_size: u8, hash: Option<Hash>) -> Option<Shape> {
+        SHAPES.iter().copied().find(|shape| shape.is_of(key_size, value_size, hash))
+    }
+
+    /// Whether keys and values have so many bytes, and the hash function is this one, where one is given.
+    pub(crate) fn is_of(self, key_size: u8, value_size: u8, hash: Option<Hash>) -> bool {
+        self.key().size() == key_size
+            && self.value().size() == value_size
+            && self.is_hashed_by(hash)
+    }
+
+    /// The ready shape of these types of keys and values.
+    pub fn of_parts(key: Part, value: Part, hash: Option<Hash>) -> Option<Shape> {
+        SHAPES.iter().copied().find(|shape| shape.has_parts(key, value, hash))
+    }
+
+    // Whether keys and values are of these types, and the hash function is this one, where one is given.
+    fn has_parts(self, key: Part, value: Part, hash: Option<Hash>) -> bool {
+        self.key().is(key) && self.value().is(value) && self.is_hashed_by(hash)
+    }
+
+    // Whether the hash function is this one, where one is given.
+    fn is_hashed_by(self, hash: Option<Hash>) -> bool {
+        match hash {
+            Some(hash) => self.hash().is(hash),
+            None => true,
+        }
+    }
+}
+
+/// The ready shape of these bytes, by the key and value sizes in the header. Where the check fails before it comes to
+/// the sizes, some shape is returned: opening has the same error for each.
+pub fn shape_of(bytes: &[u8], hash: Option<Hash>) -> Result<Shape, Failure> {
+    if check_first(bytes).is_err() {
+        return Ok(Shape::U64ToU32);
+    }
+    let header = Header::of(bytes);
+    let (key_size, value_size) = (header.key_size(), header.value_size());
+    Shape::of_sizes(key_size, value_size, hash).ok_or(Failure::NoShape { key_size, value_size })
+}

@@ -1,0 +1,48 @@
+// Made by `make rust` of crates/odht_tool/src/main.rt.
+//! `odht`: prints what table files hold, checks them, makes them and adds to them.
+//!
+//! docs/TOOL.md describes each command.
+
+use crate::host::prelude::*;
+
+mod commands;
+mod shapes;
+
+use crate::erased::core::status::Status;
+use crate::host::env;
+use crate::host::io::{self, BufReader, BufWriter, ErrorKind};
+use crate::shim::Global;
+use std::process::ExitCode;
+
+/// How many bytes are read and written at once.
+const BUFFER_SIZE: usize = 1 << 16;
+
+pub fn main(rt: HostRuntime) -> ExitCode {
+    match run(&rt) {
+        Ok(status) => ExitCode::from(status.code()),
+        Err(error) => {
+            // Where standard error cannot be written either, the exit status alone reports it.
+            let _ = writeln!(rt.stderr(), "odht: {error}");
+            ExitCode::from(status_of(&error).code())
+        }
+    }
+}
+
+// How the program ends by an error of the arguments, one of which is no text, or of memory.
+fn status_of(error: &io::Error) -> Status {
+    if error.kind() == ErrorKind::InvalidData {
+        Status::Misused
+    } else {
+        Status::NotDone
+    }
+}
+
+// Runs the command that the arguments name. An error is one of the arguments or of memory.
+fn run(rt: &HostRuntime) -> io::Result<Status> {
+    let alloc: Global = rt.alloc();
+    let words: Vec<String> = env::args(rt)?.skip(1).try_collect(alloc)?;
+    let mut input = BufReader::with_capacity(alloc, BUFFER_SIZE, rt.stdin())?;
+    let mut output = BufWriter::with_capacity(alloc, BUFFER_SIZE, rt.stdout())?;
+    let mut errors = rt.stderr();
+    Ok(commands::run(rt, words, &mut input, &mut output, &mut errors))
+}

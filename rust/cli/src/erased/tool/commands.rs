@@ -1,0 +1,141 @@
+// Made by `make rust` of crates/odht_tool/src/commands.rt.
+//! Runs the commands, each from its parsed words to the status of the program.
+use crate::erased::core::arguments::{is_stream, parse, Command, Keys, Reading, Request};
+use crate::erased::core::failure::Failure;
+use crate::erased::core::files::{read_file, read_input};
+use crate::erased::core::front::table_at;
+use crate::erased::core::help::{write_help, write_version};
+use crate::erased::core::info::info_file;
+use crate::erased::core::status::{of_output, Status};
+use crate::erased::core::targets::Target;
+use crate::host::prelude::*;
+use crate::host::rt::{Clock, Files};
+use crate::shim::Global;
+use std::io::{BufRead, ErrorKind, Write};
+use std::os::fd::AsFd;
+
+mod build;
+mod check;
+mod dump;
+mod find;
+mod get;
+
+/// Does what the words ask for. Each failure is reported by a line on `errors`; where that cannot
+/// be written either, the status alone reports it. Where nobody reads `output` any more, nothing is
+/// reported.
+pub fn run<R: Files + AllocGlobal + Clock, I: BufRead, O: Write, E: Write>(
+    rt: &R,
+    words: Vec<String>,
+    input: &mut I,
+    output: &mut O,
+    errors: &mut E,
+) -> Status
+where
+    R::File: AsFd,
+{
+    let alloc: Global = rt.alloc();
+    match parse(alloc, words) {
+        Ok(Request::Help(topic)) => finish("help", of_output(write_help(topic, output)), errors),
+        Ok(Request::Version) => finish("version", of_output(write_version(output)), errors),
+        Ok(Request::Run { file, command }) => {
+            let file = file.as_str();
+            let done = run_command(rt, file, command, input, output, errors);
+            let done = match output.flush() {
+                Ok(()) => done,
+                Err(error) => done.and(Err(Failure::Output(error))),
+            };
+            finish(file, done, errors)
+        }
+        Err(misuse) => {
+            let _ = writeln!(errors, "odht: {misuse}");
+            misuse.status()
+        }
+    }
+}
+
+fn run_command<R: Files + AllocGlobal + Clock, I: BufRead, O: Write, E: Write>(
+    rt: &R,
+    file: &str,
+    command: Command,
+    input: &mut I,
+    output: &mut O,
+    errors: &mut E,
+) -> Result<Status, Failure>
+where
+    R::File: AsFd,
+{
+    match command {
+        Command::Read { at, reading } => {
+            let bytes = read_bytes(rt, file, input)?;
+            let table = match at {
+                Some(offset) => table_at(bytes.as_slice(), offset)?,
+                None => bytes.as_slice(),
+            };
+            run_reading(rt.alloc(), file, table, reading, input, output, errors)
+        }
+        Command::Build(options) => build::build(rt, file, options, input, output, errors),
+        Command::Put { hash, bound, breaks_links, has_progress } => {
+            let target = Target::find(rt, file, breaks_links)?;
+            let bytes = read_file(rt, target.path())?;
+            build::put(rt, target, bytes, hash, bound, has_progress, input, errors)
+        }
+    }
+}
+
+// All bytes of the file, or of standard input where the name stands for that.
+fn read_bytes<R: Files + AllocGlobal, I: BufRead>(
+    rt: &R,
+    file: &str,
+    input: &mut I,
+) -> Result<Vec<u8>, Failure> {
+    if is_stream(file) {
+        read_input(rt.alloc(), input)
+    } else {
+        read_file(rt, file)
+    }
+}
+
+// Runs a command that reads its file alone, which has these bytes.
+fn run_reading<I: BufRead, O: Write, E: Write>(
+    alloc: Global,
+    file: &str,
+    bytes: &[u8],
+    reading: Reading,
+    input: &mut I,
+    output: &mut O,
+    errors: &mut E,
+) -> Result<Status, Failure> {
+    match reading {
+        Reading::Info { bound } => info_file(alloc, bytes, bound, output),
+        Reading::Check { hash, bound } => {
+            let status = check::check_file(bytes, hash, bound, output)?;
+            if !status.is_done() {
+                if let Some(other) = check::hint_of(bytes, hash) {
+                    // A hint that cannot be written is no failure.
+                    let _ = check::write_hint(file, other, errors);
+                }
+            }
+            Ok(status)
+        }
+        Reading::Get { hash, keys: Keys::Words(words) } => {
+            get::get_file_words(alloc, bytes, hash, words.as_slice(), output)
+        }
+        Reading::Get { hash, keys: Keys::Lines } => {
+            get::get_file_lines(alloc, bytes, hash, input, output)
+        }
+        Reading::Find { bound } => find::find_file(alloc, bytes, bound, output),
+        Reading::Dump { hash, is_slots } => dump::dump_file(bytes, hash, is_slots, output),
+    }
+}
+
+// Reports a failure, after the file's name.
+fn finish<E: Write>(file: &str, done: Result<Status, Failure>, errors: &mut E) -> Status {
+    match done {
+        Ok(status) => status,
+        Err(Failure::Output(error)) if error.kind() == ErrorKind::BrokenPipe => Status::NotDone,
+        Err(failure) => {
+            let _ = writeln!(errors, "odht: {file}: {failure}");
+            Status::NotDone
+        }
+    }
+}

@@ -1,0 +1,200 @@
+// Made by `make rust` of crates/odht_tool/src/commands/build.rt.
+//! `odht build` and `odht put`: tables from the lines of standard input.
+
+use crate::erased::core::arguments::{is_stream, BuildOptions};
+use crate::erased::core::failure::Failure;
+use crate::erased::core::files::replace_file;
+use crate::erased::core::found::found_shape;
+use crate::erased::core::lines::read_pair;
+use crate::erased::core::progress::Progress;
+use crate::erased::core::shapes::{Hash, Shape};
+use crate::erased::core::status::{of_output, Status};
+use crate::erased::core::targets::Target;
+use crate::erased::core::text::Text;
+use crate::erased::tool::commands::check::check_bytes;
+use crate::erased::tool::shapes::for_shape;
+use crate::host::prelude::*;
+use crate::host::rt::{Clock, Files};
+use crate::proved::tables::config::Config;
+use crate::proved::tables::load::Percent;
+use crate::proved::tables::HashTableOwned;
+use crate::shim::Global;
+use std::io::{BufRead, Write};
+use std::os::fd::AsFd;
+
+/// How many pairs are inserted at once.
+const BATCH: usize = 1024;
+
+/// Makes a table from the lines, and stores it as the file; or writes it to `output`, where the name stands for that.
+pub fn build<R: Files + AllocGlobal + Clock, I: BufRead, O: Write, E: Write>(
+    rt: &R,
+    file: &str,
+    options: BuildOptions,
+    input: &mut I,
+    output: &mut O,
+    errors: &mut E,
+) -> Result<Status, Failure>
+where
+    R::File: AsFd,
+{
+    let shape = options.shape;
+    if is_stream(file) {
+        for_shape!(shape, build_stream[R, I, O, E](rt, options, input, output, errors))
+    } else {
+        let target = Target::find(rt, file, options.breaks_links)?;
+        for_shape!(shape, build_file[R, I, E](rt, target, options, input, errors))
+    }
+}
+
+// Writes the table to `output`.
+fn build_stream<C: Config, R: AllocGlobal + Clock, I: BufRead, O: Write, E: Write>(
+    rt: &R,
+    options: BuildOptions,
+    input: &mut I,
+    output: &mut O,
+    errors: &mut E,
+) -> Result<Status, Failure>
+where
+    C::Key: Text,
+    C::Value: Text,
+{
+    let mut table = make_table::<C>(rt.alloc(), options.capacity, options.percent)?;
+    let progress = Progress::new(rt, options.has_progress);
+    fill(rt, &mut table, progress, input, errors)?;
+    of_output(output.write_all(table.raw_bytes()))
+}
+
+fn build_file<C: Config, R: Files + AllocGlobal + Clock, I: BufRead, E: Write>(
+    rt: &R,
+    target: Target,
+    options: BuildOptions,
+    input: &mut I,
+    errors: &mut E,
+) -> Result<Status, Failure>
+where
+    C::Key: Text,
+    C::Value: Text,
+    R::File: AsFd,
+{
+    let table = make_table::<C>(rt.alloc(), options.capacity, options.percent)?;
+    insert_into_file(rt, target, table, options.has_progress, input, errors)
+}
+
+fn make_table<C: Config>(
+    alloc: Global,
+    capacity: usize,
+    percent: Percent,
+) -> Result<HashTableOwned<C>, Failure> {
+    HashTableOwned::with_capacity(alloc, capacity, percent.value()).map_err(Failure::of_table)
+}
+
+/// Adds the lines to the table of the target, which has these bytes. They are checked whole before, with the bound of
+/// searches where there is one.
+pub fn put<R: Files + AllocGlobal + Clock, I: BufRead, E: Write>(
+    rt: &R,
+    target: Target,
+    bytes: Vec<u8>,
+    hash: Option<Hash>,
+    bound: Option<usize>,
+    has_progress: bool,
+    input: &mut I,
+    errors: &mut E,
+) -> Result<Status, Failure>
+where
+    R::File: AsFd,
+{
+    let shape = found_shape(bytes.as_slice(), hash)?;
+    for_shape!(shape, put_file[R, I, E](rt, target, bytes, bound, has_progress, input, errors))
+}
+
+// The bytes are freed once the table has a copy.
+fn put_file<C: Config, R: Files + AllocGlobal + Clock, I: BufRead, E: Write>(
+    rt: &R,
+    target: Target,
+    bytes: Vec<u8>,
+    bound: Option<usize>,
+    has_progress: bool,
+    input: &mut I,
+    errors: &mut E,
+) -> Result<Status, Failure>
+where
+    C::Key: Text,
+    C::Value: Text,
+    R::File: AsFd,
+{
+    let table = copy_table::<C>(rt.alloc(), bytes, bound)?;
+    insert_into_file(rt, target, table, has_progress, input, errors)
+}
+
+fn copy_table<C: Config>(
+    alloc: Global,
+    bytes: Vec<u8>,
+    bound: Option<usize>,
+) -> Result<HashTableOwned<C>, Failure> {
+    let bytes = bytes.as_slice();
+    check_bytes::<C>(bytes, bound).map_err(Failure::Refused)?;
+    HashTableOwned::from_raw_bytes_unchecked(alloc, bytes).map_err(Failure::of_table)
+}
+
+// Adds the lines to the table, and stores it as the file.
+fn insert_into_file<C: Config, R: Files + AllocGlobal + Clock, I: BufRead, E: Write>(
+    rt: &R,
+    target: Target,
+    mut table: HashTableOwned<C>,
+    has_progress: bool,
+    input: &mut I,
+    errors: &mut E,
+) -> Result<Status, Failure>
+where
+    C::Key: Text,
+    C::Value: Text,
+    R::File: AsFd,
+{
+    let progress = Progress::new(rt, has_progress);
+    fill(rt, &mut table, progress, input, errors)?;
+    replace_file(rt, &target, table.raw_bytes())?;
+    Ok(Status::Done)
+}
+
+// Inserts the pairs of the lines, a batch at a time.
+fn fill<C: Config, R: AllocGlobal + Clock, I: BufRead, E: Write>(
+    rt: &R,
+    table: &mut HashTableOwned<C>,
+    mut progress: Progress,
+    input: &mut I,
+    errors: &mut E,
+) -> Result<(), Failure>
+where
+    C::Key: Text,
+    C::Value: Text,
+{
+    let alloc: Global = rt.alloc();
+    let mut pairs = crate::host::lists::empty(alloc);
+    let mut line = crate::host::lists::empty(alloc);
+    for number in 1..u64::MAX {
+        let read = read_pair::<C::Key, C::Value, I>(input, &mut line, number)?;
+        let Some(pair) = read else {
+            break;
+        };
+        pairs.try_push(pair).or(Err(Failure::Memory))?;
+        if pairs.len() >= BATCH {
+            insert_batch(table, &mut pairs)?;
+            // A progress line that cannot be written is no failure.
+            let _ = progress.report(rt, number, errors);
+        }
+    }
+    insert_batch(table, &mut pairs)
+}
+
+// Inserts the pairs, and drops them.
+fn insert_batch<C: Config>(
+    table: &mut HashTableOwned<C>,
+    pairs: &mut Vec<(C::Key, C::Value)>,
+) -> Result<(), Failure> {
+    let (_, inserted) = table.insert_all(pairs.as_slice());
+    pairs.clear();
+    match inserted {
+        Ok(()) => Ok(()),
+        Err(_) => Err(Failure::Memory),
+    }
+}

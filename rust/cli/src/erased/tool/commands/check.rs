@@ -1,0 +1,77 @@
+// Made by `make rust` of crates/odht_tool/src/commands/check.rt.
+//! `odht check`: whether a file is a valid table.
+
+use crate::erased::core::failure::{advice_of, Failure};
+use crate::erased::core::found::hinted_hash;
+use crate::erased::core::info::name_of;
+use crate::erased::core::shapes::{shape_of, Hash, Shape};
+use crate::erased::core::status::Status;
+use crate::erased::tool::shapes::for_shape;
+use crate::host::prelude::*;
+use crate::proved::tables::config::Config;
+use crate::proved::tables::error::Error;
+use crate::proved::tables::memory_layout::{check_all, check_all_within};
+use std::io::{self, Write};
+
+/// `odht check` of the bytes of a file: writes that they are valid, and with a bound that no search reads more groups;
+/// or the first rule that they break. With a bound it takes time in proportion to the bytes and the bound.
+pub fn check_file<O: Write>(
+    bytes: &[u8],
+    hash: Option<Hash>,
+    bound: Option<usize>,
+    output: &mut O,
+) -> Result<Status, Failure> {
+    let shape = shape_of(bytes, hash)?;
+    let checked = check_shape(shape, bytes, bound);
+    write_checked(&checked, bound, output).map_err(Failure::Output)?;
+    Ok(Status::of(checked.is_ok()))
+}
+
+/// The first rule that the bytes break, as a table of this shape, the bound of searches among them where there is one.
+pub fn check_shape(shape: Shape, bytes: &[u8], bound: Option<usize>) -> Result<(), Error> {
+    for_shape!(shape, check_bytes[](bytes, bound))
+}
+
+/// The same of a configuration. Bytes without an error are valid.
+pub fn check_bytes<C: Config>(bytes: &[u8], bound: Option<usize>) -> Result<(), Error> {
+    match bound {
+        Some(groups) => check_all_within::<C>(bytes, groups),
+        None => check_all::<C>(bytes),
+    }
+}
+
+// Writes a line with what the check found.
+fn write_checked<O: Write>(
+    checked: &Result<(), Error>,
+    bound: Option<usize>,
+    output: &mut O,
+) -> io::Result<()> {
+    match (checked, bound) {
+        (Ok(()), None) => writeln!(output, "valid"),
+        (Ok(()), Some(bound)) => {
+            writeln!(output, "valid, and no search reads more than {bound} groups")
+        }
+        (Err(refused), _) => {
+            let advice = advice_of(refused);
+            writeln!(output, "{refused}{advice}")
+        }
+    }
+}
+
+/// The hash function to name for bytes that were rejected where none was named: the other one than that of their shape,
+/// where all control bytes agree with it.
+pub fn hint_of(bytes: &[u8], hash: Option<Hash>) -> Option<Hash> {
+    match (hash, shape_of(bytes, None)) {
+        (None, Ok(shape)) => hinted_hash(bytes, shape),
+        _ => None,
+    }
+}
+
+/// Writes a line that tells of this hash function.
+pub fn write_hint<E: Write>(file: &str, hash: Hash, errors: &mut E) -> io::Result<()> {
+    let name = name_of(hash);
+    writeln!(
+        errors,
+        "odht: {file}: all control bytes fit {name}: try --hash {name}, or `odht info`"
+    )
+}

@@ -1,0 +1,62 @@
+// Made by `make rust` of crates/odht_tool/src/commands/find.rt.
+//! `odht find`: the tables inside a file.
+
+use crate::erased::core::failure::Failure;
+use crate::erased::core::find::{find_tables, write_row};
+use crate::erased::core::found::found_shape;
+use crate::erased::core::front::table_at;
+use crate::erased::core::status::Status;
+use crate::erased::tool::commands::check::check_shape;
+use crate::host::prelude::*;
+use crate::proved::tables::error::Error;
+use crate::shim::Global;
+use std::io::Write;
+
+/// `odht find` of the bytes of a file: writes a line for each table inside them. The status is `NotDone` where there is
+/// none. `Forged` where there are headers that overlap, as `find_tables` says.
+pub fn find_file<O: Write>(
+    alloc: Global,
+    bytes: &[u8],
+    bound: Option<usize>,
+    output: &mut O,
+) -> Result<Status, Failure> {
+    let tables = find_tables(alloc, bytes)?;
+    write_tables(bytes, tables.as_slice(), bound, output)?;
+    Ok(Status::of(tables.len() > 0))
+}
+
+// Writes the lines of the tables at these offsets.
+fn write_tables<O: Write>(
+    bytes: &[u8],
+    tables: &[usize],
+    bound: Option<usize>,
+    output: &mut O,
+) -> Result<(), Failure> {
+    for at in tables {
+        write_table(bytes, *at, bound, output)?;
+    }
+    Ok(())
+}
+
+// Writes the line of the table at this offset.
+fn write_table<O: Write>(
+    bytes: &[u8],
+    at: usize,
+    bound: Option<usize>,
+    output: &mut O,
+) -> Result<(), Failure> {
+    let table = table_at(bytes, at)?;
+    write_row(at, table, check_word(table, bound), output)
+}
+
+// What the check says of a table; `-` where it has no ready shape.
+fn check_word(table: &[u8], bound: Option<usize>) -> &'static str {
+    let Ok(shape) = found_shape(table, None) else {
+        return "-";
+    };
+    match check_shape(shape, table, bound) {
+        Ok(()) => "valid",
+        Err(Error::SearchTooLong { .. }) => "long",
+        Err(_) => "rejected",
+    }
+}

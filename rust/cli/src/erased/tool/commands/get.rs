@@ -1,0 +1,223 @@
+// Made by `make rust` of crates/odht_tool/src/commands/get.rt.
+//! `odht get`: lookups in a table file.
+
+use crate::erased::core::answers::{absent_values, are_found, write_answers};
+use crate::erased::core::failure::{Failure, LineFault};
+use crate::erased::core::found::found_shape;
+use crate::erased::core::keys::{next_key, parse_keys, push_key, NextKey};
+use crate::erased::core::shapes::{Hash, Shape};
+use crate::erased::core::status::Status;
+use crate::erased::core::text::Text;
+use crate::erased::tool::shapes::for_shape;
+use crate::host::prelude::*;
+use crate::proved::tables::bytes::Borrowed;
+use crate::proved::tables::config::Config;
+use crate::proved::tables::HashTable;
+use crate::shim::{AllocError, Global};
+use std::io::{BufRead, Write};
+
+/// How many keys are looked up at once.
+const BATCH: usize = 1024;
+
+/// `odht get` of the bytes of a file, for the words of the command line: writes a line for each
+/// key, with a tab and its value, or the key alone.
+pub fn get_file_words<O: Write>(
+    alloc: Global,
+    bytes: &[u8],
+    hash: Option<Hash>,
+    words: &[String],
+    output: &mut O,
+) -> Result<Status, Failure> {
+    let shape = found_shape(bytes, hash)?;
+    get_words_of(alloc, shape, bytes, words, output)
+}
+
+fn get_words_of<O: Write>(
+    alloc: Global,
+    shape: Shape,
+    bytes: &[u8],
+    words: &[String],
+    output: &mut O,
+) -> Result<Status, Failure> {
+    for_shape!(shape, get_words[O](alloc, bytes, words, output))
+}
+
+/// `odht get` of the bytes of a file, for the lines of an input.
+pub fn get_file_lines<I: BufRead, O: Write>(
+    alloc: Global,
+    bytes: &[u8],
+    hash: Option<Hash>,
+    input: &mut I,
+    output: &mut O,
+) -> Result<Status, Failure> {
+    let shape = found_shape(bytes, hash)?;
+    get_lines_of(alloc, shape, bytes, input, output)
+}
+
+fn get_lines_of<I: BufRead, O: Write>(
+    alloc: Global,
+    shape: Shape,
+    bytes: &[u8],
+    input: &mut I,
+    output: &mut O,
+) -> Result<Status, Failure> {
+    for_shape!(shape, get_lines[I, O](alloc, bytes, input, output))
+}
+
+// Looks up the keys of the words.
+fn get_words<C: Config, O: Write>(
+    alloc: Global,
+    bytes: &[u8],
+    words: &[String],
+    output: &mut O,
+) -> Result<Status, Failure>
+where
+    C::Key: Text,
+    C::Value: Text,
+{
+    let table = open::<C>(bytes)?;
+    let keys = parse_keys::<C::Key>(alloc, words)?;
+    let is_all_found = answer_keys(alloc, &table, keys.as_slice(), output)?;
+    Ok(Status::of(is_all_found))
+}
+
+// Looks up the keys of the lines, a batch at a time.
+fn get_lines<C: Config, I: BufRead, O: Write>(
+    alloc: Global,
+    bytes: &[u8],
+    input: &mut I,
+    output: &mut O,
+) -> Result<Status, Failure>
+where
+    C::Key: Text,
+    C::Value: Text,
+{
+    let table = open::<C>(bytes)?;
+    answer_lines(alloc, &table, input, output)
+}
+
+fn answer_lines<C: Config, I: BufRead, O: Write>(
+    alloc: Global,
+    table: &HashTable<C, Borrowed<'_>>,
+    input: &mut I,
+    output: &mut O,
+) -> Result<Status, Failure>
+where
+    C::Key: Text,
+    C::Value: Text,
+{
+    let mut keys = crate::host::lists::empty(alloc);
+    let mut line = crate::host::lists::empty(alloc);
+    let mut is_all_found = true;
+    for number in 1..u64::MAX {
+        let read = read_key(alloc, table, number, input, &mut line, keys.as_slice(), output)?;
+        match read {
+            Some(key) => {
+                is_all_found = take_key(alloc, table, &mut keys, key, is_all_found, output)?;
+            }
+            None => break,
+        }
+    }
+    let is_last_found = answer_keys(alloc, table, keys.as_slice(), output)?;
+    Ok(Status::of(is_last_found && is_all_found))
+}
+
+// Reads the key of the line of this number, if there is such a line. Where it is no key, the keys before it are
+// answered first.
+fn read_key<C: Config, I: BufRead, O: Write>(
+    alloc: Global,
+    table: &HashTable<C, Borrowed<'_>>,
+    number: u64,
+    input: &mut I,
+    line: &mut Vec<u8>,
+    keys: &[C::Key],
+    output: &mut O,
+) -> Result<Option<C::Key>, Failure>
+where
+    C::Key: Text,
+    C::Value: Text,
+{
+    match next_key(input, line) {
+        Ok(NextKey::Key(key)) => Ok(Some(key)),
+        Ok(NextKey::End) => Ok(None),
+        Ok(NextKey::NoKey) => {
+            answer_keys(alloc, table, keys, output)?;
+            let fault = LineFault::Key;
+            Err(Failure::Line { number, fault })
+        }
+        Err(error) => Err(Failure::Input(error)),
+    }
+}
+
+// Adds a key, and answers all where they are a batch. Returns whether each was found, and those before.
+fn take_key<C: Config, O: Write>(
+    alloc: Global,
+    table: &HashTable<C, Borrowed<'_>>,
+    keys: &mut Vec<C::Key>,
+    key: C::Key,
+    is_all_found: bool,
+    output: &mut O,
+) -> Result<bool, Failure>
+where
+    C::Key: Text,
+    C::Value: Text,
+{
+    push_key(keys, key)?;
+    answer_batch(alloc, table, keys, is_all_found, output)
+}
+
+// Answers the keys where they are a batch, and drops them. Returns whether each was found, and
+// those before.
+fn answer_batch<C: Config, O: Write>(
+    alloc: Global,
+    table: &HashTable<C, Borrowed<'_>>,
+    keys: &mut Vec<C::Key>,
+    is_all_found: bool,
+    output: &mut O,
+) -> Result<bool, Failure>
+where
+    C::Key: Text,
+    C::Value: Text,
+{
+    if keys.len() < BATCH {
+        return Ok(is_all_found);
+    }
+    let is_found = answer_keys(alloc, table, keys.as_slice(), output)?;
+    keys.clear();
+    Ok(is_found && is_all_found)
+}
+
+fn open<C: Config>(bytes: &[u8]) -> Result<HashTable<C, Borrowed<'_>>, Failure> {
+    HashTable::from_raw_bytes(Borrowed::new(bytes)).map_err(Failure::Refused)
+}
+
+// Looks the keys up, and writes a line for each. Returns whether each was found.
+fn answer_keys<C: Config, O: Write>(
+    alloc: Global,
+    table: &HashTable<C, Borrowed<'_>>,
+    keys: &[C::Key],
+    output: &mut O,
+) -> Result<bool, Failure>
+where
+    C::Key: Text,
+    C::Value: Text,
+{
+    let values = look_up::<C>(alloc, table, keys)?;
+    let values = values.as_slice();
+    write_answers(keys, values, output).map_err(Failure::Output)?;
+    Ok(are_found(values))
+}
+
+// The value of each key.
+fn look_up<C: Config>(
+    alloc: Global,
+    table: &HashTable<C, Borrowed<'_>>,
+    keys: &[C::Key],
+) -> Result<Vec<Option<C::Value>>, AllocError>
+where
+    C::Value: Text,
+{
+    let mut values = absent_values::<C::Value>(alloc, keys.len())?;
+    table.get_all(keys, values.as_mut_slice());
+    Ok(values)
+}

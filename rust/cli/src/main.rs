@@ -1,0 +1,53 @@
+//! `odht`, the program for table files: the proved source with its contracts taken out, compiled by rustc. It is not
+//! the machine code that was proved, and `odht --version` says so.
+//!
+//! `odht_tool_core` and `odht_tool` are erased as the crates below them are; those are the files of the crate `odht`.
+
+#![deny(unsafe_code, unsafe_op_in_unsafe_fn)]
+
+extern crate alloc;
+
+#[macro_use]
+#[allow(dead_code, unused_imports)]
+#[path = "../../src/shim/mod.rs"]
+mod shim;
+
+mod host;
+
+// The modules of the crate `odht`. They are whole, also where nothing here uses them.
+#[allow(dead_code, unused_imports, unused_variables)]
+#[allow(
+    clippy::collapsible_if,
+    clippy::manual_find,
+    clippy::manual_map,
+    clippy::manual_range_contains,
+    clippy::module_inception,
+    clippy::needless_range_loop,
+    clippy::question_mark
+)]
+#[cfg_attr(not(feature = "fast"), forbid(unsafe_code))]
+#[cfg_attr(feature = "fast", allow(unsafe_code))]
+#[path = "../../src/proved"]
+mod proved {
+    pub mod base;
+    pub mod header;
+    pub mod raw;
+    pub mod tables;
+}
+
+// The program, written as it could be proved.
+#[allow(dead_code, unused_imports, unused_variables, clippy::all)]
+#[forbid(unsafe_code)]
+mod erased {
+    pub mod core;
+    pub mod tool;
+}
+
+fn main() -> std::process::ExitCode {
+    erased::tool::main(host::rt::HostRuntime)
+}
+
+#[cfg(not(unix))]
+compile_error!("the program odht is for Unix; the crate odht is for every 64-bit platform");
+
+const _: () = assert!(usize::BITS == 64, "odht is for targets whose `usize` has 64 bits");

@@ -1,0 +1,159 @@
+#!/usr/bin/env python3
+"""Tests the program `odht` of erased source (rust/cli), which cargo builds and installs, without the kit of Rattle.
+
+  tests/cli.py [PROGRAM]     PROGRAM is one that is built already
+
+It has no warning and passes its own tests; `make install-tool` puts a program in place and `make uninstall-tool`
+removes it; all cases of tests/tool go on it; and each request for memory of some commands fails in turn, from the first
+buffer on: the program then says that it is out of memory, and returns 1, and the file is as it was. The last line
+counts.
+"""
+import os
+import re
+import resource
+import shutil
+import subprocess
+import sys
+import tempfile
+
+HERE = os.path.dirname(os.path.realpath(__file__))
+TOP = os.path.dirname(HERE)
+sys.path.insert(0, f"{TOP}/tools")
+import watched
+
+TABLES = f"{TOP}/crates/odht_tool/data"
+# lines of a table that grows twice, the keys in an order of their own
+LINES = "".join(f"{key * 7919 % 100003}\t{key}\n" for key in range(2000)).encode()
+# each command, and its input; the file is the table of two pairs, or is made
+COMMANDS = [
+    (["info", "table"], b""),
+    (["find", "table"], b""),
+    (["check", "table"], b""),
+    (["dump", "table"], b""),
+    (["dump", "-"], None),
+    (["get", "table", "3", "7"], b""),
+    (["get", "table", "x"], b""),
+    (["get", "table", "-"], LINES.replace(b"\t", b"\n")),
+    (["put", "table"], LINES),
+    (["build", "made", "--key", "u64", "--value", "u32"], LINES),
+    (["build", "-", "--key", "hex32", "--value", "none"], b"00" * 32 + b"\n"),
+]
+# more requests than any of these makes
+MOST = 60
+# of processor time, for one run
+SECONDS = 60
+
+
+class Failed(Exception):
+    """A test that failed, with what was printed."""
+
+
+def run(*words, **variables):
+    """Runs a command that must succeed, and returns what it printed."""
+    status, printed = watched.run(words, limit=None, cwd=TOP, env={**os.environ, **variables})
+    if status:
+        raise Failed(f"{' '.join(words)}\n{printed}")
+    return printed
+
+
+def installed(room):
+    """Builds and installs the program, and returns its file and how many tests passed."""
+    files = {"CARGO_TARGET_DIR": f"{TOP}/build/cargo-cli", "CARGO_TERM_COLOR": "never"}
+    words = ["--quiet", "--offline"]
+    tested = run("cargo", "test", *words, "--manifest-path", "rust/cli/Cargo.toml", **files)
+    printed = run("cargo", "install", *words, "--path", "rust/cli", "--root", room, **files)
+    if "warning" in tested + printed:
+        raise Failed(f"a warning:\n{tested}{printed}")
+    passed = sum(int(it) for it in re.findall(r"test result: ok\. (\d+) passed", tested))
+    return f"{room}/bin/odht", passed + 1 + put_in_place(room)
+
+
+def put_in_place(room):
+    """Returns how many tests passed of `make install-tool`, which takes the program that is there."""
+    if not shutil.which("make"):
+        print("SKIPPED there is no make here")
+        return 0
+    below = [f"DESTDIR={room}/packed", "PREFIX=/usr"]
+    run("make", "--silent", "install-tool", *below)
+    if not run(f"{room}/packed/usr/bin/odht", "--version").startswith("odht "):
+        raise Failed("what make install-tool put in place is another program")
+    run("make", "--silent", "uninstall-tool", *below)
+    if os.listdir(f"{room}/packed/usr/bin"):
+        raise Failed("make uninstall-tool left the program")
+    return 2
+
+
+def limit():
+    resource.setrlimit(resource.RLIMIT_CPU, (SECONDS, SECONDS))
+    resource.setrlimit(resource.RLIMIT_CORE, (0, 0))
+
+
+def files_in(room):
+    found = {}
+    for name in os.listdir(room):
+        with open(f"{room}/{name}", "rb") as it:
+            found[name] = it.read()
+    return found
+
+
+def run_failing(words, given, request, preloaded):
+    """Runs the program with its request of this number failing. Returns how it ended, and how many it made."""
+    with tempfile.TemporaryDirectory() as room:
+        os.mkdir(f"{room}/files")
+        shutil.copy(f"{TABLES}/u64_u32.odht", f"{room}/files/table")
+        before = files_in(f"{room}/files")
+        given = before["table"] if given is None else given
+        env = {**os.environ, "LD_PRELOAD": preloaded, "ODHT_FAIL_REQUEST": str(request)}
+        env["ODHT_REQUESTS"] = f"{room}/requests"
+        ran = subprocess.run(words, input=given, env=env, capture_output=True, cwd=f"{room}/files", preexec_fn=limit)
+        if not os.path.exists(f"{room}/requests"):
+            raise Failed(f"{' '.join(words)}: request {request} fails: status {ran.returncode}\n{ran.stderr.decode()}")
+        with open(f"{room}/requests", encoding="utf-8") as it:
+            made = int(it.read())
+        return (ran.returncode, ran.stderr.decode(), files_in(f"{room}/files") == before), made
+
+
+def memory(program, room):
+    """Returns how many requests failed as they must."""
+    if not shutil.which("cc"):
+        print("SKIPPED there is no cc here, so no request for memory fails")
+        return 0
+    preloaded = f"{room}/preloaded.so"
+    run("cc", "-shared", "-fPIC", "-O1", "-o", preloaded, "tests/memory/preloaded.c", "-ldl")
+    passed = 0
+    for command, given in COMMANDS:
+        for request in range(1, MOST):
+            (status, errors, is_kept), made = run_failing([program, *command], given, request, preloaded)
+            if made < request:
+                break
+            if status != 1 or not errors.endswith("out of memory\n") or not is_kept:
+                kept = "" if is_kept else ", and the files are others"
+                raise Failed(f"{' '.join(command)}: request {request} fails: status {status}{kept}\n{errors}")
+            passed += 1
+        if made < 2 or request == MOST - 1:
+            raise Failed(f"{' '.join(command)}: {made} requests")
+    return passed
+
+
+def main(*words):
+    watched.end_on_signals()
+    if not words and not shutil.which("cargo"):
+        print("there is no cargo here\n0 passed, 0 failed")
+        return 0
+    with tempfile.TemporaryDirectory(prefix="odht-cli-") as room:
+        try:
+            program, passed = (os.path.abspath(words[0]), 0) if words else installed(room)
+            passed += memory(program, room)
+        except Failed as what:
+            print(f"FAILED {what}\n0 passed, 1 failed")
+            return 1
+        cases = [sys.executable, "tests/cases.py", program, "made=erased", "tests/tool"]
+        status, printed = watched.run(cases, cwd=TOP)
+    print(printed[: printed.rindex("\n", 0, -1) + 1] if printed.count("\n") > 1 else "", end="")
+    found = re.search(r"(\d+) passed, (\d+) failed\n$", printed)
+    print(f"{passed + int(found[1])} passed, {found[2]} failed")
+    return status
+
+
+if __name__ == "__main__":
+    sys.exit(main(*sys.argv[1:]))
