@@ -42,14 +42,14 @@ cut g c =
     cut_accepted (format g) c.bytes_mut-bytes.result.now (accepted g c) c.entry_at.result (c.entry_at.ensures ∙ ap (λ s. 32 + s * entry_len (format g)) slots) _ _ _ _
     c.split_at_mut-table.ensures.front c.split_at_mut-table.ensures.back c.split_at_mut-front.ensures.front c.split_at_mut-front.ensures.back
 
-pub insert_run-end-requires-clause-parts : goal.insert_run-end-requires-clause-parts
-insert_run-end-requires-clause-parts g c κs within =
-    let cut = cut g (goal.at.insert_run-end-requires-clause-parts g c).After-split_at_mut-front in
+pub insert_run-end-requires-after_bounds : goal.insert_run-end-requires-after_bounds
+insert_run-end-requires-after_bounds g c κs within =
+    let cut = cut g (goal.at.insert_run-end-requires-after_bounds g c).After-split_at_mut-front in
     let slots : length c.split_at_mut-table.result.1.now - 16 ≡ header_slots c.bytes_mut-bytes.result.now = omega (arith, cut.mirrored, cut.slots) in
     record {
-      pair = record { hashes = g.met.C.Config.key_hashes; key = g.met.C.Config.key_fits; value = g.met.C.Config.value_fits };
-      slots = subst IsSlotCount (sym slots) (accepted_slots (format g) c.bytes_mut-bytes.result.now (accepted g (goal.at.insert_run-end-requires-clause-parts g c).After-split_at_mut-front));
+      slots = subst IsSlotCount (sym slots) (accepted_slots (format g) c.bytes_mut-bytes.result.now (accepted g (goal.at.insert_run-end-requires-after_bounds g c).After-split_at_mut-front));
       entries = cut.long ∙ ap (λ s. s * entry_len (format g)) (cut.slots ∙ sym slots);
+      within = c.requires;
     }
 
 -- the coding of the configuration
