@@ -73,14 +73,14 @@ module _ (g : Over) (c : After-write_count g)
   maximum_is : max_items c.slot_count-slots.result c.max_load_factor.result.0 ≡ header_maximum c.bytes_mut-bytes.result.now
   maximum_is = λ i. max_items ((c.slot_count-slots.ensures ∙ ap header_slots c.of-header.ensures) i) ((c.max_load_factor.ensures ∙ ap header_factor c.of-header.ensures) i)
 
-  room_is : c.room_for-room.result ≡ header_maximum c.bytes_mut-bytes.result.now - header_count c.bytes_mut-bytes.result.now
-  room_is = c.room_for-room.ensures.room ∙ (λ i. maximum_is i - count_is i)
+  room_is : c.saturating_sub-room.result ≡ header_maximum c.bytes_mut-bytes.result.now - header_count c.bytes_mut-bytes.result.now
+  room_is = c.saturating_sub-room.ensures ∙ (λ i. (c.apply.ensures ∙ maximum_is) i - count_is i)
 
   counted : header_count c.bytes_mut-bytes.result.now < 2 ^ 64
   counted = omega (arith, count_is)
 
   small : header_maximum c.bytes_mut-bytes.result.now < 2 ^ 64
-  small = omega (arith, c.room_for-room.ensures.maximum, maximum_is)
+  small = omega (arith, c.apply.ensures, maximum_is)
 
   written : c.write_count.new.header ≡ with_count c.split_at_mut-front.result.0.now (header_count c.bytes_mut-bytes.result.now + c.insert_run-end.result.1)
   written = c.write_count.ensures ∙ ap (λ m. with_count c.split_at_mut-front.result.0.now (m + c.insert_run-end.result.1)) count_is
