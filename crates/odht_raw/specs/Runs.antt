@@ -9,8 +9,12 @@
 --     IsRunTo c m es ctrl items from i n es' ctrl'  the items from index `from` up to i are inserted in turn, with room
 --                          for m new entries, of which n are used
 --     IsRefusedIn c m items i es ctrl  an insert of item i with room for m may answer Full on these parts
---     IsRun c m es ctrl items from to i n es' ctrl'  the same up to item `to`, or up to the first item i that may be
---                          answered with Full
+--     CanRun c t items i   t are the entries and the control bytes of some slot count, and i is an index of the items,
+--                          or behind the last
+--     IsRun c m t items from r t'  the items from index `from` on are inserted in turn into the entries and the control
+--                          bytes t, with room for m new entries, and leave t': up to item r.0, which is behind the last
+--                          or may be answered with Full; r.1 entries are added
+--     IsRunUpTo to c m t items from r t'  the same up to item `to`
 --     IsAllPlaced F P ps B  B is the bytes of the table P after the pairs ps, which are of F, are placed in turn
 --     IsOnePlaced c P k v o B  B is the bytes of the table P after the pair of k and v is placed, and o is the value
 --                          that k had in P
@@ -18,9 +22,10 @@
 --     IsListRun c B items from i B'  inserts of the items from index `from` on in turn turn the accepted bytes B into
 --                          B', up to item i, which is behind the last or may be answered with Full; the image of a
 --                          table is turned into that of the table with the pairs placed
-use Rattle.std.specs.Prelude.{◌≡◌, ℕ, ◌+◌, ◌-◌, ◌≤◌, ◌⊎◌, List, [], ◌∷◌, ◌++◌, length, map, All, Option, Some, None, Result, Ok, Err, slice_get}
+use Rattle.std.specs.Prelude.{◌≡◌, ℕ, ◌+◌, ◌-◌, ◌*◌, ◌≤◌, ◌⊎◌, List, [], ◌∷◌, ◌++◌, length, map, All, Option, Some, None, Result, Ok, Err, slice_get}
 use Rattle.std.specs.List.{slice_range}
-use Rattle.odht_base.specs.Format.{Format}
+use Rattle.odht_base.specs.Format.{Format, entry_len}
+use Rattle.odht_base.specs.Load.{IsSlotCount}
 use Rattle.odht_base.specs.Insert.{place_all}
 use Rattle.odht_base.specs.Table.{Pair, Table, count}
 use Rattle.odht_base.specs.Valid.{IsPairOf, IsPartsOf, IsImage}
@@ -66,10 +71,18 @@ pub record IsRefusedIn {K V : Type 0} (c : Coding K V) (m : ℕ) (items : List (
   pub at : slice_get items i ≡ Some item
   pub frame : StepFrame c.format m es ctrl (encoded c item.0 item.1) (Err Full) es ctrl
 
-pub record IsRun {K V : Type 0} (c : Coding K V) (m : ℕ) (es ctrl : List ℕ) (items : List (K × V)) (from to i n : ℕ) (es' ctrl' : List ℕ) : Type 0 where
-  pub within : i ≤ to
-  pub inserted : IsRunTo c m es ctrl items from i n es' ctrl'
-  pub stop : (i ≡ to) ⊎ IsRefusedIn c (m - n) items i es' ctrl'
+pub record CanRun {K V : Type 0} (c : Coding K V) (t : List ℕ × List ℕ) (items : List (K × V)) (i : ℕ) : Type 0 where
+  pub slots : IsSlotCount (length t.1 - 16)
+  pub entries : length t.0 ≡ (length t.1 - 16) * entry_len c.format
+  pub within : i ≤ length items
+
+pub record IsRunUpTo {K V : Type 0} (to : ℕ) (c : Coding K V) (m : ℕ) (t : List ℕ × List ℕ) (items : List (K × V)) (from : ℕ) (r : ℕ × ℕ) (t' : List ℕ × List ℕ) : Type 0 where
+  pub within : r.0 ≤ to
+  pub inserted : IsRunTo c m t.0 t.1 items from r.0 r.1 t'.0 t'.1
+  pub stop : (r.0 ≡ to) ⊎ IsRefusedIn c (m - r.1) items r.0 t'.0 t'.1
+
+abbrev pub IsRun : {K V : Type 0} → Coding K V → ℕ → List ℕ × List ℕ → List (K × V) → ℕ → ℕ × ℕ → List ℕ × List ℕ → Type 0
+IsRun c m t items from r t' = IsRunUpTo (length items) c m t items from r t'
 
 pub record IsAllPlaced (F : Format) (P : Table) (ps : List Pair) (B : List ℕ) : Type 0 where
   pub fits : All (IsPairOf F) ps

@@ -6,13 +6,18 @@
 --                          entry only where there is room
 --     IsStepFramed F f m es ctrl p r es' ctrl'  the same with the answer decoded by f
 --     IsStepChange F f m es ctrl p r es' ctrl'  this frame; Full is the only error and changes nothing
+--     IsStep F f m t p r t'  what an insert does to the entries and the control bytes t, and leaves, t': in those of a
+--                          placed table an Ok places p, and in any it does what IsStepChange says
+--     IsStepWhere A F f m t p r t'  the same, with the first only for placed tables P for which A P
 use Rattle.std.specs.Prelude.{◌≡◌, ℕ, ◌<◌, List, Option, option_map, None, Result, Ok, Err}
 use Rattle.std.specs.Result.{result_map_both}
 use Rattle.odht_base.specs.Format.{Format, tag as key_tag}
-use Rattle.odht_base.specs.Table.{Pair}
+use Rattle.odht_base.specs.Table.{Pair, Table}
+use Rattle.odht_base.specs.Valid.{IsPartsOf}
 use Rattle.odht_raw.specs.ControlBytes.{IsMissing}
 use Rattle.odht_raw.specs.Frame.{PartsFrame, IsOnlyFull}
 use Rattle.odht_raw.specs.Parts.{stored_in}
+use Rattle.odht_raw.specs.PartsInserts.{AnswersFormer}
 use Rattle.odht_raw.specs.SearchEnds.{IsEnd, IsAfter}
 use Rattle.odht_header.specs.declared.error.Error.{Error}
 use Rattle.odht_header.specs.declared.error.Error.TheVariants.{Full}
@@ -38,3 +43,11 @@ IsStepFramed F f m es ctrl p r es' ctrl' =
 pub record IsStepChange {V : Type 0} (F : Format) (f : List ℕ → V) (m : ℕ) (es ctrl : List ℕ) (p : Pair) (r : Result (Option V) Error) (es' ctrl' : List ℕ) : Type 0 where
   pub frame : IsStepFramed F f m es ctrl p r es' ctrl'
   pub errors : IsOnlyFull es ctrl r es' ctrl'
+
+pub record IsStepWhere {V : Type 0} (A : Table → Type 0) (F : Format) (f : List ℕ → V) (m : ℕ) (t : List ℕ × List ℕ) (p : Pair) (r : Result (Option V) Error) (t' : List ℕ × List ℕ) : Type 0 where
+  pub placed : (P : Table) → IsPartsOf F P t.0 t.1 → A P → AnswersFormer F f P p r t'.0 t'.1
+  pub any : IsStepChange F f m t.0 t.1 p r t'.0 t'.1
+
+pub record IsStep {V : Type 0} (F : Format) (f : List ℕ → V) (m : ℕ) (t : List ℕ × List ℕ) (p : Pair) (r : Result (Option V) Error) (t' : List ℕ × List ℕ) : Type 0 where
+  pub placed : (P : Table) → IsPartsOf F P t.0 t.1 → AnswersFormer F f P p r t'.0 t'.1
+  pub any : IsStepChange F f m t.0 t.1 p r t'.0 t'.1

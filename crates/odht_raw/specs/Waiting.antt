@@ -9,6 +9,7 @@
 --     WaitsWithin ns a b   one of the slots from a to before b waits
 --     WaitsBehind ns s b n   one of the n slots from b on waits, around the end of s slots
 --     IsLeft ns i m        of the slots below i, the last that waits is the one before m; where m is 0 none waits
+--     IsNext ns i m        slot i is the one that a pass looks at: it waits, the slots of ns rise, and m is as in IsLeft
 --     IsFrontier ns s h b p  the slot b is at position p of the probe order of the home h among s slots, where a group
 --                          begins, and none of the slots at earlier positions waits
 --     IsUnblocked ns h s i   slot i is at a position of the probe order of the home h among s slots, and none of the slots
@@ -60,6 +61,11 @@ pub record IsLeft (ns : List ℕ) (i m : ℕ) : Type 0 where
   pub low : m ≤ i
   pub last : 0 < m → Contains ns (waiting (m - 1))
   pub none : (j : ℕ) → m ≤ j → j < i → Contains ns (waiting j) → ⊥
+
+pub record IsNext (ns : List ℕ) (i m : ℕ) : Type 0 where
+  pub rising : AreRising ns
+  pub waits : Contains ns (waiting i)
+  pub left : IsLeft ns i m
 
 pub record IsFrontier (ns : List ℕ) (s h b p : ℕ) : Type 0 where
   pub home_within : h < s

@@ -7,8 +7,7 @@ ghost use Rattle.odht_base.specs.Valid.{IsPartsOf};
 ghost use Rattle.odht_raw.specs.SearchResults.{answer};
 ghost use Rattle.odht_raw.specs.Expected.{EndsIfFree, IsAhead};
 ghost use Rattle.odht_raw.specs.PartLengths.{ArePairLengths, ArePartLengths};
-ghost use Rattle.odht_raw.specs.PartsInserts.{AnswersFormer};
-ghost use Rattle.odht_raw.specs.Steps.{IsStepChange, IsStepEnd};
+ghost use Rattle.odht_raw.specs.Steps.{IsStepEnd, IsStepWhere};
 
 use super::group_search::whole_search;
 use super::insert::insert_at;
@@ -62,15 +61,10 @@ pub(crate) fn insert_ahead<K: ByteArray, V: ByteArray, H: HashFn>(
     requires lengths { ArePartLengths H.MIN_LEN K.LEN V.LEN (length entries.old)
         (length control.old) }
     requires hash { hash ≡ H.hash (K.bytes key) }
-    ensures placed { let F = format_of K.LEN V.LEN H.hash
+    ensures { let F = format_of K.LEN V.LEN H.hash
         in let p : Pair = record { key = K.bytes key; value = V.bytes value }
-        in (P : Table)
-        → IsPartsOf F P entries.old control.old
-        → EndsIfFree F P p.key slot
-        → AnswersFormer F V.of_bytes P p result entries.new control.new }
-    ensures any { let F = format_of K.LEN V.LEN H.hash
-        in let p : Pair = record { key = K.bytes key; value = V.bytes value }
-        in IsStepChange F V.of_bytes room entries.old control.old p result entries.new control.new }
+        in IsStepWhere (λ P. EndsIfFree F P p.key slot) F V.of_bytes room
+        (entries.old, control.old) p result (entries.new, control.new) }
 {
     let end = expected_end::<K, V, H>(control, entries, &key, hash, slot, room);
     let slots = control.len() - REFERENCE_GROUP_SIZE;

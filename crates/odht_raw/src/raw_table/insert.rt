@@ -6,15 +6,13 @@ ghost use Rattle.std.specs.Prelude.{◌≡◌, ◌-◌, ◌*◌, ◌<◌, ◌++�
 ghost use Rattle.odht_base.specs.Bytes.{overwritten_at};
 ghost use Rattle.odht_base.specs.Format.{format_of, entry_len, tag as key_tag};
 ghost use Rattle.odht_base.specs.Numbers.{IsBytes};
-ghost use Rattle.odht_base.specs.Table.{Pair, Table};
-ghost use Rattle.odht_base.specs.Valid.{IsPartsOf};
+ghost use Rattle.odht_base.specs.Table.{Pair};
 ghost use Rattle.odht_base.specs.Writes.{tagged};
 ghost use Rattle.odht_raw.specs.SearchResults.{answer};
 ghost use Rattle.odht_raw.specs.PartLengths.{ArePartLengths};
 ghost use Rattle.odht_raw.specs.Parts.{stored_in};
-ghost use Rattle.odht_raw.specs.PartsInserts.{AnswersFormer};
 ghost use Rattle.odht_raw.specs.Searches.{IsSearchEnd};
-ghost use Rattle.odht_raw.specs.Steps.{IsStepChange, IsTaggedEnd};
+ghost use Rattle.odht_raw.specs.Steps.{IsStep, IsStepWhere, IsTaggedEnd};
 
 use super::group_search::search_end;
 use super::{Entries, EntryMetadata, Search, tag_of};
@@ -37,14 +35,9 @@ pub(crate) fn insert_step<K: ByteArray, V: ByteArray, H: HashFn, Q: Group>(
     room: usize,
 ) -> Result<Option<V>, Error>
     requires { ArePartLengths H.MIN_LEN K.LEN V.LEN (length entries.old) (length control.old) }
-    ensures placed { let F = format_of K.LEN V.LEN H.hash
-        in let p : Pair = record { key = K.bytes key; value = V.bytes value }
-        in (P : Table)
-        → IsPartsOf F P entries.old control.old
-        → AnswersFormer F V.of_bytes P p result entries.new control.new }
-    ensures any { let F = format_of K.LEN V.LEN H.hash
-        in let p : Pair = record { key = K.bytes key; value = V.bytes value }
-        in IsStepChange F V.of_bytes room entries.old control.old p result entries.new control.new }
+    ensures { let p : Pair = record { key = K.bytes key; value = V.bytes value }
+        in IsStep (format_of K.LEN V.LEN H.hash) V.of_bytes room (entries.old, control.old) p result
+        (entries.new, control.new) }
 {
     let slots = control.len() - REFERENCE_GROUP_SIZE;
     let end = step_end::<K, V, H, Q>(control, entries, slots, &key);
@@ -90,13 +83,10 @@ pub(crate) fn insert_at<K: ByteArray, V: ByteArray, H: HashFn>(
     requires slots { slots ≡ length control.old - 16 }
     requires end { IsTaggedEnd (format_of K.LEN V.LEN H.hash) room entries.old control.old
         (K.bytes key) end }
-    ensures placed { let F = format_of K.LEN V.LEN H.hash
+    ensures { let F = format_of K.LEN V.LEN H.hash
         in let p : Pair = record { key = K.bytes key; value = V.bytes value }
-        in (P : Table) → IsPartsOf F P entries.old control.old → end.0 ≡ answer F P.cells p.key
-        → AnswersFormer F V.of_bytes P p result entries.new control.new }
-    ensures any { let p : Pair = record { key = K.bytes key; value = V.bytes value }
-        in IsStepChange (format_of K.LEN V.LEN H.hash) V.of_bytes room entries.old control.old p
-        result entries.new control.new }
+        in IsStepWhere (λ P. end.0 ≡ answer F P.cells p.key) F V.of_bytes room
+        (entries.old, control.old) p result (entries.new, control.new) }
 {
     let (end, tag) = end;
     match end {

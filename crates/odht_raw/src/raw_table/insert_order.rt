@@ -9,9 +9,9 @@ ghost use Rattle.odht_base.specs.Decoded.{slot_key};
 ghost use Rattle.odht_base.specs.Table.{Table, Pair};
 ghost use Rattle.odht_base.specs.Valid.{HoldsPair, IsPartsOf};
 ghost use Rattle.odht_raw.specs.Frontiers.{AreFrontiers};
-ghost use Rattle.odht_raw.specs.Waiting.{waiting, placed_of, IsWaiting, AreRising, IsPending};
+ghost use Rattle.odht_raw.specs.Waiting.{placed_of, IsWaiting, AreRising, IsPending};
 ghost use Rattle.odht_raw.specs.Waiting.{IsWhole, IsOrderAnswer, AreListed, IsBegun, IsFar, IsPass};
-ghost use Rattle.odht_raw.specs.Waiting.{IsLeft, IsFrontier, IsUnblocked, WaitsWithin, WaitsBehind};
+ghost use Rattle.odht_raw.specs.Waiting.{IsLeft, IsNext, IsFrontier, IsUnblocked, WaitsWithin, WaitsBehind};
 
 use super::RawTable;
 use super::waiting::{WAITING, list_occupied};
@@ -147,9 +147,7 @@ impl<'a, K: ByteArray, V: ByteArray, H: HashFn> RawTable<'a, K, V, H> {
         frontiers: &mut [Frontier; FRONTIERS],
     ) -> bool
         requires slot { slot < self.now.entries.slots }
-        requires rising { AreRising slots.now }
-        requires waits { Contains slots.now (waiting slot) }
-        requires left { IsLeft slots.now slot left }
+        requires next { IsNext slots.now slot left }
         requires frontiers { AreFrontiers slots.now self.now.entries.slots frontiers.old }
         ensures frontiers { AreFrontiers slots.now self.now.entries.slots frontiers.new }
         ensures ready { let F = format_of K.LEN V.LEN H.hash
@@ -216,9 +214,7 @@ fn is_unblocked_from(
     requires slots { IsSlotCount (mask + 1) }
     requires home { home < mask + 1 }
     requires slot { slot < mask + 1 }
-    requires rising { AreRising slots.now }
-    requires waits { Contains slots.now (waiting slot) }
-    requires left { IsLeft slots.now slot left }
+    requires next { IsNext slots.now slot left }
     requires frontiers { AreFrontiers slots.now (mask + 1) frontiers.old }
     ensures frontiers { AreFrontiers slots.now (mask + 1) frontiers.new }
     ensures unblocked { IsTrue result ↔ IsUnblocked slots.now home (mask + 1) slot }
@@ -244,9 +240,7 @@ fn is_unblocked(
 ) -> bool
     requires slots { IsSlotCount (mask + 1) }
     requires slot { slot < mask + 1 }
-    requires rising { AreRising slots.now }
-    requires waits { Contains slots.now (waiting slot) }
-    requires left { IsLeft slots.now slot left }
+    requires next { IsNext slots.now slot left }
     requires frontier { let f = frontier.old
         in IsFrontier slots.now (mask + 1) f.home f.base f.position }
     ensures frontier { let f = frontier.new

@@ -2,8 +2,7 @@
 ghost use Rattle.std.specs.Prelude.{◌+◌, ◌-◌, ◌≤◌, length};
 ghost use Rattle.odht_base.specs.Load.{IsSlotCount};
 ghost use Rattle.odht_raw.specs.Expected.{AreAhead};
-ghost use Rattle.odht_raw.specs.PartLengths.{ArePairLengths, ArePartLengths};
-ghost use Rattle.odht_raw.specs.Runs.{IsRun};
+ghost use Rattle.odht_raw.specs.Runs.{CanRun, IsRun, IsRunUpTo};
 
 use super::EntryMetadata;
 use super::ahead::{expected_slot, insert_ahead};
@@ -31,12 +30,9 @@ pub(crate) fn insert_run<C: Config, I: Items<C::Key, C::Value>>(
     from: usize,
     room: usize,
 ) -> (usize, usize)
-    requires parts { ArePartLengths C.H.MIN_LEN C.EncodedKey.LEN C.EncodedValue.LEN
-        (length entries.old) (length control.old) }
-    requires from { from ≤ length (I.items items.now) }
-    ensures { let xs = I.items items.now
-        in IsRun ⟦<C as Coded>⟧.coding room entries.old control.old xs from (length xs)
-        result.0 result.1 entries.new control.new }
+    requires { CanRun ⟦<C as Coded>⟧.coding (entries.old, control.old) (I.items items.now) from }
+    ensures { IsRun ⟦<C as Coded>⟧.coding room (entries.old, control.old) (I.items items.now) from
+        result (entries.new, control.new) }
 {
     if control.len() - REFERENCE_GROUP_SIZE >= LARGE {
         return insert_in_batches::<C, I>(control, entries, items, from, room);
@@ -53,12 +49,9 @@ fn insert_in_turn<C: Config, I: Items<C::Key, C::Value>>(
     from: usize,
     room: usize,
 ) -> (usize, usize)
-    requires parts { ArePartLengths C.H.MIN_LEN C.EncodedKey.LEN C.EncodedValue.LEN
-        (length entries.old) (length control.old) }
-    requires from { from ≤ length (I.items items.now) }
-    ensures { let xs = I.items items.now
-        in IsRun ⟦<C as Coded>⟧.coding room entries.old control.old xs from (length xs)
-        result.0 result.1 entries.new control.new }
+    requires { CanRun ⟦<C as Coded>⟧.coding (entries.old, control.old) (I.items items.now) from }
+    ensures { IsRun ⟦<C as Coded>⟧.coding room (entries.old, control.old) (I.items items.now) from
+        result (entries.new, control.new) }
 {
     let to = items.count();
     let mut added = 0;
@@ -91,12 +84,9 @@ fn insert_in_batches<C: Config, I: Items<C::Key, C::Value>>(
     from: usize,
     room: usize,
 ) -> (usize, usize)
-    requires parts { ArePartLengths C.H.MIN_LEN C.EncodedKey.LEN C.EncodedValue.LEN
-        (length entries.old) (length control.old) }
-    requires from { from ≤ length (I.items items.now) }
-    ensures { let xs = I.items items.now
-        in IsRun ⟦<C as Coded>⟧.coding room entries.old control.old xs from (length xs)
-        result.0 result.1 entries.new control.new }
+    requires { CanRun ⟦<C as Coded>⟧.coding (entries.old, control.old) (I.items items.now) from }
+    ensures { IsRun ⟦<C as Coded>⟧.coding room (entries.old, control.old) (I.items items.now) from
+        result (entries.new, control.new) }
 {
     let to = items.count();
     let mut index = from;
@@ -123,13 +113,11 @@ fn insert_batch<C: Config, I: Items<C::Key, C::Value>>(
     from: usize,
     room: usize,
 ) -> (usize, usize)
-    requires parts { ArePartLengths C.H.MIN_LEN C.EncodedKey.LEN C.EncodedValue.LEN
-        (length entries.old) (length control.old) }
+    requires can { CanRun ⟦<C as Coded>⟧.coding (entries.old, control.old) (I.items items.now)
+        (from + 8) }
     requires end { from + 8 ≤ usize.MAX }
-    requires within { from + 8 ≤ length (I.items items.now) }
-    ensures { let xs = I.items items.now
-        in IsRun ⟦<C as Coded>⟧.coding room entries.old control.old xs from (from + 8)
-        result.0 result.1 entries.new control.new }
+    ensures { IsRunUpTo (from + 8) ⟦<C as Coded>⟧.coding room (entries.old, control.old)
+        (I.items items.now) from result (entries.new, control.new) }
 {
     let ahead = look_ahead::<C, I>(control, items, from);
     let mut added = 0;
@@ -164,7 +152,6 @@ fn look_ahead<C: Config, I: Items<C::Key, C::Value>>(
     from: usize,
 ) -> [(u32, usize); 8]
     requires slots { IsSlotCount (length control.now - 16) }
-    requires lengths { ArePairLengths C.H.MIN_LEN C.EncodedKey.LEN C.EncodedValue.LEN }
     requires end { from + 8 ≤ usize.MAX }
     requires within { from + 8 ≤ length (I.items items.now) }
     ensures { AreAhead ⟦<C as Coded>⟧.coding control.now (I.items items.now) from result }

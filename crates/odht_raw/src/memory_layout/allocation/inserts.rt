@@ -1,7 +1,6 @@
 //! Inserts into the bytes of a table: the parts are written, and last the item count: by a single insert where it added
 //! an entry, by a list in any case.
 ghost use Rattle.std.specs.Prelude.{◌≡◌, ◌-◌, ◌≤◌, length, IfOk};
-ghost use Rattle.odht_base.specs.Load.{max_items};
 ghost use Rattle.odht_base.specs.Table.{Table};
 ghost use Rattle.odht_base.specs.Valid.{IsImage};
 ghost use Rattle.odht_base.specs.Writes.{with_count};
@@ -13,7 +12,6 @@ use crate::bytes::{ByteStoreMut, write_slice};
 use crate::config::{Coded, Config};
 use crate::error::Error;
 use crate::items::{Items, encode_pair};
-use crate::load::Factor;
 use crate::memory_layout::{HEADER_SIZE, Header, entry_at};
 use crate::raw_table::{insert_at, insert_run, step_end};
 use crate::swisstable_group_query::Group;
@@ -50,10 +48,10 @@ impl<C: Config, M: ByteStoreMut> Allocation<C, M> {
         let end = step_end::<C::EncodedKey, C::EncodedValue, C::H, Q>(
             control, entries, slots, &key,
         );
-        // Read after the search, which needs the registers.
+        // Read after the search, which needs the registers. The room is that up to the maximum item count.
         let header = Header::of(front);
         let count = header.item_count();
-        let room = room_for(slots, header.max_load_factor(), count);
+        let room = header.max_load_factor().apply(slots).saturating_sub(count);
         match insert_at::<C::EncodedKey, C::EncodedValue, C::H>(
             control, entries, slots, key, value, end, room,
         ) {
@@ -86,22 +84,13 @@ impl<C: Config, M: ByteStoreMut> Allocation<C, M> {
         let header = Header::of(bytes);
         let count = header.item_count();
         let slots = header.slot_count();
-        let room = room_for(slots, header.max_load_factor(), count);
+        let room = header.max_load_factor().apply(slots).saturating_sub(count);
         let (table, control) = bytes.split_at_mut(entry_at::<C>(slots));
         let (front, entries) = table.split_at_mut(HEADER_SIZE);
         let (end, added) = insert_run::<C, I>(control, entries, items, from, room);
         write_count(front, count + added);
         end
     }
-}
-
-// How many new entries there is room for: as many as the maximum item count exceeds the item count.
-#[inline(always)]
-fn room_for(slot_count: usize, max_load_factor: Factor, item_count: usize) -> usize
-    ensures room { result ≡ max_items slot_count max_load_factor.0 - item_count }
-    ensures maximum { max_items slot_count max_load_factor.0 ≤ usize.MAX }
-{
-    max_load_factor.apply(slot_count).saturating_sub(item_count)
 }
 
 // Writes the item count of a header.

@@ -30,10 +30,10 @@ returns-then-is_near-clause-ready g c P done p parts h holds =
     let near = c.is_near.ensures.0 c.if-is_near.true in
     let after = subst (λ b. b ≤ i) is near.0 in
     let below = subst (λ b. i < b + 16) is near.1 in (
-      λ t. near_ready (format g) (fits g T v) T v.slots v.mirrored ns small i c.requires.waits P done p parts h holds c.args.left c.requires.left c.requires.slot after below
+      λ t. near_ready (format g) (fits g T v) T v.slots v.mirrored ns small i c.requires.next.waits P done p parts h holds c.args.left c.requires.next.left c.requires.slot after below
           (subst (λ b. c.args.left ≤ b) is (leb-true c.args.left c.home_of-home.result t)),
       λ r. le-leb c.args.left c.home_of-home.result (subst (λ b. c.args.left ≤ b) (sym is)
-          (near_free (format g) (fits g T v) T v.slots v.mirrored ns small i c.requires.waits P done p parts h holds c.args.left c.requires.left c.requires.slot after below r)),
+          (near_free (format g) (fits g T v) T v.slots v.mirrored ns small i c.requires.next.waits P done p parts h holds c.args.left c.requires.next.left c.requires.slot after below r)),
     )
 
 pub returns-else-is_near-clause-ready : goal.returns-else-is_near-clause-ready
@@ -47,6 +47,6 @@ returns-else-is_near-clause-ready g c P done p parts h holds =
     let mask : c.len.result - 1 + 1 ≡ T.entries.slots = omega (arith, slots, v.slots.least) in
     let unblocked = subst (λ b. IsTrue c.is_unblocked_from.result ↔ IsUnblocked ns b T.entries.slots i) c.home_of-home.ensures
     (subst (λ s. IsTrue c.is_unblocked_from.result ↔ IsUnblocked ns c.home_of-home.result s i) mask c.is_unblocked_from.ensures.unblocked) in (
-      λ t. ready_if_free (format g) (fits g T v) T v.slots v.mirrored ns small i c.requires.waits P done p parts h holds (unblocked.0 t),
-      λ r. unblocked.1 (free_if_ready (format g) (fits g T v) T v.slots v.mirrored ns small i c.requires.waits P done p parts h holds r),
+      λ t. ready_if_free (format g) (fits g T v) T v.slots v.mirrored ns small i c.requires.next.waits P done p parts h holds (unblocked.0 t),
+      λ r. unblocked.1 (free_if_ready (format g) (fits g T v) T v.slots v.mirrored ns small i c.requires.next.waits P done p parts h holds r),
     )

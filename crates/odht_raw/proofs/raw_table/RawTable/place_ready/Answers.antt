@@ -40,17 +40,14 @@ pub is_ready-requires-clause-slot : goal.is_ready-requires-clause-slot
 is_ready-requires-clause-slot g c κs within =
     let at = (goal.at.is_ready-requires-clause-slot g c).In-loop-at in (next_waits c.loop-at.invariant.0 (inside g at)).1
 
-pub is_ready-requires-clause-rising : goal.is_ready-requires-clause-rising
-is_ready-requires-clause-rising g c κs within =
-    let at = (goal.at.is_ready-requires-clause-rising g c).In-loop-at in rising g at
-
-pub is_ready-requires-clause-waits : goal.is_ready-requires-clause-waits
-is_ready-requires-clause-waits g c κs within =
-    let at = (goal.at.is_ready-requires-clause-waits g c).In-loop-at in next_listed _ (rising g at) _ _ c.loop-at.invariant.1 (fit g at) (inside g at) (high g at)
-
-pub is_ready-requires-clause-left : goal.is_ready-requires-clause-left
-is_ready-requires-clause-left g c κs within =
-    let at = (goal.at.is_ready-requires-clause-left g c).In-loop-at in left_below _ (rising g at) _ _ c.loop-at.invariant.1 (fit g at) (inside g at) (high g at)
+pub is_ready-requires-clause-next : goal.is_ready-requires-clause-next
+is_ready-requires-clause-next g c κs within =
+    let at = (goal.at.is_ready-requires-clause-next g c).In-loop-at in
+    record {
+      rising = rising g at;
+      waits = next_listed _ (rising g at) _ _ c.loop-at.invariant.1 (fit g at) (inside g at) (high g at);
+      left = left_below _ (rising g at) _ _ c.loop-at.invariant.1 (fit g at) (inside g at) (high g at);
+    }
 
 pub is_ready-requires-clause-frontiers : goal.is_ready-requires-clause-frontiers
 is_ready-requires-clause-frontiers g c κs within = c.loop-at.invariant.2

@@ -65,80 +65,86 @@ fill_slot-requires-clause-slot g c κs within =
     let F : Format = format_of g.K.ByteArray.LEN g.V.ByteArray.LEN g.H.HashFn.hash in
     free_low F c.args.entries.now c.args.control.now (g.K.ByteArray.bytes c.args.key) c.args.end.0 c.in-Free.slot c.in-Free.is c.requires.end.end.slot
 
-pub returns-in-Found-clause-placed : goal.returns-in-Found-clause-placed
-returns-in-Found-clause-placed g c P h e =
-    let F : Format = format_of g.K.ByteArray.LEN g.V.ByteArray.LEN g.H.HashFn.hash in
-    let p : Pair = record { key = g.K.ByteArray.bytes c.args.key; value = g.V.ByteArray.bytes c.args.value } in
-    let old = rw c.new-stored.ensures at c.get-old.ensures.value in
-    let at = answer-Found F P p.key h.placed c.in-Found.slot (sym c.in-Found.is ∙ e) in
-    let fits : IsPairOf F p = record { key = found_key F P _ _ h p.key _ at; value = c.as_slice.ensures.bytes } in
-    let bytes : c.write_slice.new.all ≡ overwritten_at c.args.entries.now (c.in-Found.slot * entry_len F + F.key_len) p.value =
-    c.write_slice.ensures ∙ (λ i. overwritten_at c.args.entries.now (c.in-Found.slot * (c.LEN.ensures i + c.LEN-in-Found.ensures i) + c.LEN-in-Found-2.ensures i) (c.as_slice.ensures.value i)) in
-    let parts : IsPartsOf F (written P c.in-Found.slot p) c.write_slice.new.all c.args.control.now =
-    subst (λ (es : List ℕ). IsPartsOf F (written P c.in-Found.slot p) es c.args.control.now) (sym bytes) (found_parts F P _ _ h p.key c.in-Found.slot p refl fits at) in
-    let former = ap Some (old ∙ ap g.V.ByteArray.of_bytes (found_value F P _ _ h p.key c.in-Found.slot at)) ∙ sym (ap (option_map g.V.ByteArray.of_bytes) at.value) in
-    (former, (written P c.in-Found.slot p, at.places p refl, subst (λ (es : List ℕ). IsPartsOf F (written P c.in-Found.slot p) es c.args.control.now) (search rules) parts))
+pub returns-in-Found : goal.returns-in-Found
+returns-in-Found g c = record {
+  placed = λ P h e. (
+      let F : Format = format_of g.K.ByteArray.LEN g.V.ByteArray.LEN g.H.HashFn.hash in
+      let p : Pair = record { key = g.K.ByteArray.bytes c.args.key; value = g.V.ByteArray.bytes c.args.value } in
+      let old = rw c.new-stored.ensures at c.get-old.ensures.value in
+      let at = answer-Found F P p.key h.placed c.in-Found.slot (sym c.in-Found.is ∙ e) in
+      let fits : IsPairOf F p = record { key = found_key F P _ _ h p.key _ at; value = c.as_slice.ensures.bytes } in
+      let bytes : c.write_slice.new.all ≡ overwritten_at c.args.entries.now (c.in-Found.slot * entry_len F + F.key_len) p.value =
+      c.write_slice.ensures ∙ (λ i. overwritten_at c.args.entries.now (c.in-Found.slot * (c.LEN.ensures i + c.LEN-in-Found.ensures i) + c.LEN-in-Found-2.ensures i) (c.as_slice.ensures.value i)) in
+      let parts : IsPartsOf F (written P c.in-Found.slot p) c.write_slice.new.all c.args.control.now =
+      subst (λ (es : List ℕ). IsPartsOf F (written P c.in-Found.slot p) es c.args.control.now) (sym bytes) (found_parts F P _ _ h p.key c.in-Found.slot p refl fits at) in
+      let former = ap Some (old ∙ ap g.V.ByteArray.of_bytes (found_value F P _ _ h p.key c.in-Found.slot at)) ∙ sym (ap (option_map g.V.ByteArray.of_bytes) at.value) in
+      (former, (written P c.in-Found.slot p, at.places p refl, subst (λ (es : List ℕ). IsPartsOf F (written P c.in-Found.slot p) es c.args.control.now) (search rules) parts)));
+  any =
+      let F : Format = format_of g.K.ByteArray.LEN g.V.ByteArray.LEN g.H.HashFn.hash in
+      let p : Pair = record { key = g.K.ByteArray.bytes c.args.key; value = g.V.ByteArray.bytes c.args.value } in
+      let es = c.args.entries.now in
+      let ctrl = c.args.control.now in
+      let slot = c.in-Found.slot in
+      let known = subst (IsEnd F (stored_in es ctrl) ctrl p.key) c.in-Found.is c.requires.end.end.slot in
+      let old = rw c.new-stored.ensures at c.get-old.ensures.value in
+      let bytes : c.write_slice.new.all ≡ overwritten_at es (slot * entry_len F + F.key_len) p.value =
+      c.write_slice.ensures ∙ (λ i. overwritten_at es (slot * (c.LEN.ensures i + c.LEN-in-Found.ensures i) + c.LEN-in-Found-2.ensures i) (c.as_slice.ensures.value i)) in
+      let answer : Result (Option (List ℕ)) Error = Ok (Some (slot_value F es slot)) in
+      let framed : StepFrame F c.args.room es ctrl p answer c.write_slice.new.all ctrl =
+      subst (λ (new : List ℕ). StepFrame F c.args.room es ctrl p answer new ctrl) (sym bytes)
+      (StepFrame.framed answer (overwritten_at es (slot * entry_len F + F.key_len) p.value) ctrl (λ d. cc) (PartsFrame.overwrote slot known.0 known.1)) in
+      record {
+        frame = (answer, ap (λ o. Ok (Some o)) old, subst (λ (new : List ℕ). StepFrame F c.args.room es ctrl p answer new ctrl) (search rules) framed);
+        errors = record { only_full = tt; refused_control = tt; refused_entries = tt };
+      };
+}
 
-pub returns-else-room-eq0-clause-placed : goal.returns-else-room-eq0-clause-placed
-returns-else-room-eq0-clause-placed g c P h e =
-    let F : Format = format_of g.K.ByteArray.LEN g.V.ByteArray.LEN g.H.HashFn.hash in
-    let p : Pair = record { key = g.K.ByteArray.bytes c.args.key; value = g.V.ByteArray.bytes c.args.value } in
-    let at = answer-Free F P p.key h.placed c.in-Free.slot (sym c.in-Free.is ∙ e) in
-    let fits : IsPairOf F p = record { key = c.fill_slot.ensures.key; value = c.fill_slot.ensures.value } in
-    let parts : IsPartsOf F (written P c.in-Free.slot p) c.fill_slot.new.entries c.fill_slot.new.control =
-    rw (c.fill_slot.ensures.control, c.fill_slot.ensures.entries) (free_parts F P _ _ h p.key c.in-Free.slot p refl fits at) in
-    (sym (ap (option_map g.V.ByteArray.of_bytes) at.value), (written P c.in-Free.slot p, at.places p refl, parts))
-
-pub returns-in-Found-clause-any : goal.returns-in-Found-clause-any
-returns-in-Found-clause-any g c =
-    let F : Format = format_of g.K.ByteArray.LEN g.V.ByteArray.LEN g.H.HashFn.hash in
-    let p : Pair = record { key = g.K.ByteArray.bytes c.args.key; value = g.V.ByteArray.bytes c.args.value } in
-    let es = c.args.entries.now in
-    let ctrl = c.args.control.now in
-    let slot = c.in-Found.slot in
-    let known = subst (IsEnd F (stored_in es ctrl) ctrl p.key) c.in-Found.is c.requires.end.end.slot in
-    let old = rw c.new-stored.ensures at c.get-old.ensures.value in
-    let bytes : c.write_slice.new.all ≡ overwritten_at es (slot * entry_len F + F.key_len) p.value =
-    c.write_slice.ensures ∙ (λ i. overwritten_at es (slot * (c.LEN.ensures i + c.LEN-in-Found.ensures i) + c.LEN-in-Found-2.ensures i) (c.as_slice.ensures.value i)) in
-    let answer : Result (Option (List ℕ)) Error = Ok (Some (slot_value F es slot)) in
-    let framed : StepFrame F c.args.room es ctrl p answer c.write_slice.new.all ctrl =
-    subst (λ (new : List ℕ). StepFrame F c.args.room es ctrl p answer new ctrl) (sym bytes)
-    (StepFrame.framed answer (overwritten_at es (slot * entry_len F + F.key_len) p.value) ctrl (λ d. cc) (PartsFrame.overwrote slot known.0 known.1)) in
-    record {
-      frame = (answer, ap (λ o. Ok (Some o)) old, subst (λ (new : List ℕ). StepFrame F c.args.room es ctrl p answer new ctrl) (search rules) framed);
-      errors = record { only_full = tt; refused_control = tt; refused_entries = tt };
-    }
+pub returns-else-room-eq0 : goal.returns-else-room-eq0
+returns-else-room-eq0 g c = record {
+  placed = λ P h e. (
+      let F : Format = format_of g.K.ByteArray.LEN g.V.ByteArray.LEN g.H.HashFn.hash in
+      let p : Pair = record { key = g.K.ByteArray.bytes c.args.key; value = g.V.ByteArray.bytes c.args.value } in
+      let at = answer-Free F P p.key h.placed c.in-Free.slot (sym c.in-Free.is ∙ e) in
+      let fits : IsPairOf F p = record { key = c.fill_slot.ensures.key; value = c.fill_slot.ensures.value } in
+      let parts : IsPartsOf F (written P c.in-Free.slot p) c.fill_slot.new.entries c.fill_slot.new.control =
+      rw (c.fill_slot.ensures.control, c.fill_slot.ensures.entries) (free_parts F P _ _ h p.key c.in-Free.slot p refl fits at) in
+      (sym (ap (option_map g.V.ByteArray.of_bytes) at.value), (written P c.in-Free.slot p, at.places p refl, parts)));
+  any =
+      let F : Format = format_of g.K.ByteArray.LEN g.V.ByteArray.LEN g.H.HashFn.hash in
+      let p : Pair = record { key = g.K.ByteArray.bytes c.args.key; value = g.V.ByteArray.bytes c.args.value } in
+      let es = c.args.entries.now in
+      let ctrl = c.args.control.now in
+      let slot = c.in-Free.slot in
+      let known = subst (IsEnd F (stored_in es ctrl) ctrl p.key) c.in-Free.is c.requires.end.end.slot in
+      let some : 0 < c.args.room = omega (arith, c.if-room-eq0.false) in
+      let framed : StepFrame F c.args.room es ctrl p (Ok None) c.fill_slot.new.entries c.fill_slot.new.control =
+      StepFrame.framed (Ok None) c.fill_slot.new.entries c.fill_slot.new.control (λ e. some) (rw (c.fill_slot.ensures.control, c.fill_slot.ensures.entries) (PartsFrame.added slot known.0 known.1)) in
+      record { frame = (Ok None, refl, framed); errors = record { only_full = tt; refused_control = tt; refused_entries = tt } };
+}
 
 -- without room the search says what comes before its end
-pub returns-then-room-eq0-clause-any : goal.returns-then-room-eq0-clause-any
-returns-then-room-eq0-clause-any g c =
-    let F : Format = format_of g.K.ByteArray.LEN g.V.ByteArray.LEN g.H.HashFn.hash in
-    let k : List ℕ = g.K.ByteArray.bytes c.args.key in
-    let stored = stored_in c.args.entries.now c.args.control.now in
-    let ctrl = c.args.control.now in
-    let known = subst (IsEnd F stored ctrl k) c.in-Free.is c.requires.end.end.slot in
-    let earlier = subst (IsAfter F stored ctrl k) c.in-Free.is (c.requires.end.end.earlier c.if-room-eq0.true) in
-    record { frame = (Err Full, refl, StepFrame.no_room c.if-room-eq0.true (missing-free F stored ctrl k c.in-Free.slot known earlier)); errors = record { only_full = refl; refused_control = refl; refused_entries = refl } }
+pub returns-then-room-eq0 : goal.returns-then-room-eq0
+returns-then-room-eq0 g c = record {
+  placed = λ P h e. tt;
+  any =
+      let F : Format = format_of g.K.ByteArray.LEN g.V.ByteArray.LEN g.H.HashFn.hash in
+      let k : List ℕ = g.K.ByteArray.bytes c.args.key in
+      let stored = stored_in c.args.entries.now c.args.control.now in
+      let ctrl = c.args.control.now in
+      let known = subst (IsEnd F stored ctrl k) c.in-Free.is c.requires.end.end.slot in
+      let earlier = subst (IsAfter F stored ctrl k) c.in-Free.is (c.requires.end.end.earlier c.if-room-eq0.true) in
+      record { frame = (Err Full, refl, StepFrame.no_room c.if-room-eq0.true (missing-free F stored ctrl k c.in-Free.slot known earlier)); errors = record { only_full = refl; refused_control = refl; refused_entries = refl } };
+}
 
-pub returns-else-room-eq0-clause-any : goal.returns-else-room-eq0-clause-any
-returns-else-room-eq0-clause-any g c =
-    let F : Format = format_of g.K.ByteArray.LEN g.V.ByteArray.LEN g.H.HashFn.hash in
-    let p : Pair = record { key = g.K.ByteArray.bytes c.args.key; value = g.V.ByteArray.bytes c.args.value } in
-    let es = c.args.entries.now in
-    let ctrl = c.args.control.now in
-    let slot = c.in-Free.slot in
-    let known = subst (IsEnd F (stored_in es ctrl) ctrl p.key) c.in-Free.is c.requires.end.end.slot in
-    let some : 0 < c.args.room = omega (arith, c.if-room-eq0.false) in
-    let framed : StepFrame F c.args.room es ctrl p (Ok None) c.fill_slot.new.entries c.fill_slot.new.control =
-    StepFrame.framed (Ok None) c.fill_slot.new.entries c.fill_slot.new.control (λ e. some) (rw (c.fill_slot.ensures.control, c.fill_slot.ensures.entries) (PartsFrame.added slot known.0 known.1)) in
-    record { frame = (Ok None, refl, framed); errors = record { only_full = tt; refused_control = tt; refused_entries = tt } }
-
-pub returns-in-Neither-clause-any : goal.returns-in-Neither-clause-any
-returns-in-Neither-clause-any g c =
-    let F : Format = format_of g.K.ByteArray.LEN g.V.ByteArray.LEN g.H.HashFn.hash in
-    let k : List ℕ = g.K.ByteArray.bytes c.args.key in
-    let es = c.args.entries.now in
-    let ctrl = c.args.control.now in
-    let known = subst (IsEnd F (stored_in es ctrl) ctrl k) c.in-Neither.is c.requires.end.end.slot in
-    let frame = StepFrame.framed (Err Full) es ctrl (λ e. cc) (PartsFrame.no_slot known.0 (missing-neither F (stored_in es ctrl) ctrl k known.1)) in
-    record { frame = (Err Full, refl, frame); errors = record { only_full = refl; refused_control = refl; refused_entries = refl } }
+pub returns-in-Neither : goal.returns-in-Neither
+returns-in-Neither g c = record {
+  placed = λ P h e. tt;
+  any =
+      let F : Format = format_of g.K.ByteArray.LEN g.V.ByteArray.LEN g.H.HashFn.hash in
+      let k : List ℕ = g.K.ByteArray.bytes c.args.key in
+      let es = c.args.entries.now in
+      let ctrl = c.args.control.now in
+      let known = subst (IsEnd F (stored_in es ctrl) ctrl k) c.in-Neither.is c.requires.end.end.slot in
+      let frame = StepFrame.framed (Err Full) es ctrl (λ e. cc) (PartsFrame.no_slot known.0 (missing-neither F (stored_in es ctrl) ctrl k known.1)) in
+      record { frame = (Err Full, refl, frame); errors = record { only_full = refl; refused_control = refl; refused_entries = refl } };
+}

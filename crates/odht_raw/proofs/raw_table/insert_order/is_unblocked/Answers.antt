@@ -24,7 +24,7 @@ returns-then-is_any_waiting-clause-unblocked c =
     let few : n ≤ 16 = omega (arith, c.min-count.ensures) in
     let near : n ≤ (c.args.slot + (c.args.mask + 1) - c.groups.frontier.base) % (c.args.mask + 1) = omega (arith, c.min-count.ensures, behind_is at) in (
       λ t. absurd (true≢false (sym t)),
-      λ u. absurd (blocked v.frontier c.requires.slots c.args.slot c.requires.slot c.requires.waits n few near (c.is_any_waiting.ensures.0 c.if-is_any_waiting.true)
+      λ u. absurd (blocked v.frontier c.requires.slots c.args.slot c.requires.slot c.requires.next.waits n few near (c.is_any_waiting.ensures.0 c.if-is_any_waiting.true)
           (subst (λ h. IsUnblocked c.args.slots.now h (c.args.mask + 1) c.args.slot) (sym v.home) u)),
     )
 
@@ -38,7 +38,7 @@ returns-then-before-lt-REFERENCE_GROUP_SIZE-clause-unblocked c =
     let near : (c.args.slot + s - b) % s < 16 = omega (arith, c.if-before-lt-REFERENCE_GROUP_SIZE.true, behind_is at) in
     let is : c.min-count.result ≡ (c.args.slot + s - b) % s = omega (arith, c.min-count.ensures, near, behind_is at) in (
       λ t. subst (λ h. IsUnblocked ns h s c.args.slot) v.home
-          (unblocked v.frontier c.requires.slots c.args.slot c.requires.slot c.requires.waits near
+          (unblocked v.frontier c.requires.slots c.args.slot c.requires.slot c.requires.next.waits near
           (λ w. true≢false (sym (c.is_any_waiting.ensures.1 (subst (WaitsBehind ns s b) (sym is) w)) ∙ c.if-is_any_waiting.false))),
       λ u. refl,
     )
@@ -61,7 +61,7 @@ groups-preserved c =
     let far : (c.args.slot + s - b) % s < 16 → ⊥ = λ near. omega (arith, near, c.if-before-lt-REFERENCE_GROUP_SIZE.false, behind_is at) in
     let is : c.min-count.result ≡ 16 = omega (arith, c.min-count.ensures, c.if-before-lt-REFERENCE_GROUP_SIZE.false) in
     record {
-      frontier = frontier_next v.frontier c.requires.slots c.args.slot c.requires.slot c.requires.waits far
+      frontier = frontier_next v.frontier c.requires.slots c.args.slot c.requires.slot c.requires.next.waits far
           (λ w. true≢false (sym (c.is_any_waiting.ensures.1 (subst (WaitsBehind ns s b) (sym is) w)) ∙ c.if-is_any_waiting.false))
           (bit_and (b + (p + 16)) c.args.mask) (bit_and-mask (b + (p + 16)) c.args.mask c.requires.slots);
       home = v.home;

@@ -14,7 +14,7 @@ coding g =
 
 pub loop-index-init : goal.loop-index-init
 loop-index-init g c = record {
-  within = c.requires.from;
+  within = c.requires.within;
   inserted = run_to_none (coding g) c.args.room c.args.entries.now c.args.control.now (g.I.Items.items c.args.items.now) c.args.from;
 }
 

@@ -86,7 +86,7 @@ pub returns : goal.returns
 returns g c =
     let items = g.I.Items.items c.args.items.now in
     let all : c.count-to.result ≡ length items = c.count-to.ensures in
-    let end : c.loop-index.index ≡ c.count-to.result = omega (arith, all, c.requires.from) in
+    let end : c.loop-index.index ≡ c.count-to.result = omega (arith, all, c.requires.within) in
     record {
       within = omega (arith, all);
       inserted = subst (λ (x : ℕ). IsRunTo (coding g) c.args.room c.args.entries.now c.args.control.now items c.args.from x c.loop-index.added c.loop-index.entries c.loop-index.control) end c.loop-index.invariant;

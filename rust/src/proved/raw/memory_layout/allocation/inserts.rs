@@ -8,7 +8,6 @@ use crate::proved::raw::bytes::{write_slice, ByteStoreMut};
 use crate::proved::raw::config::Config;
 use crate::proved::raw::error::Error;
 use crate::proved::raw::items::{encode_pair, Items};
-use crate::proved::raw::load::Factor;
 use crate::proved::raw::memory_layout::{entry_at, Header, HEADER_SIZE};
 use crate::proved::raw::raw_table::{insert_at, insert_run, step_end};
 use crate::proved::raw::swisstable_group_query::Group;
@@ -34,10 +33,10 @@ impl<C: Config, M: ByteStoreMut> Allocation<C, M> {
         let (front, entries) = split_at_mut!(table, HEADER_SIZE);
         let end =
             step_end::<C::EncodedKey, C::EncodedValue, C::H, Q>(control, entries, slots, &key);
-        // Read after the search, which needs the registers.
+        // Read after the search, which needs the registers. The room is that up to the maximum item count.
         let header = Header::of(front);
         let count = header.item_count();
-        let room = room_for(slots, header.max_load_factor(), count);
+        let room = header.max_load_factor().apply(slots).saturating_sub(count);
         match insert_at::<C::EncodedKey, C::EncodedValue, C::H>(
             control, entries, slots, key, value, end, room,
         ) {
@@ -64,19 +63,13 @@ impl<C: Config, M: ByteStoreMut> Allocation<C, M> {
         let header = Header::of(bytes);
         let count = header.item_count();
         let slots = header.slot_count();
-        let room = room_for(slots, header.max_load_factor(), count);
+        let room = header.max_load_factor().apply(slots).saturating_sub(count);
         let (table, control) = split_at_mut!(bytes, entry_at::<C>(slots));
         let (front, entries) = split_at_mut!(table, HEADER_SIZE);
         let (end, added) = insert_run::<C, I>(control, entries, items, from, room);
         write_count(front, count + added);
         end
     }
-}
-
-// How many new entries there is room for: as many as the maximum item count exceeds the item count.
-#[inline(always)]
-fn room_for(slot_count: usize, max_load_factor: Factor, item_count: usize) -> usize {
-    max_load_factor.apply(slot_count).saturating_sub(item_count)
 }
 
 // Writes the item count of a header.

@@ -109,14 +109,14 @@ module _ (g : Over) (c : After-insert_at g)
   maximum_is : max_items c.slot_count-slots.result c.max_load_factor.result.0 ≡ header_maximum c.bytes_mut-bytes.result.now
   maximum_is = λ i. max_items ((c.slot_count-slots.ensures ∙ ap header_slots c.of.ensures) i) ((c.max_load_factor.ensures ∙ ap header_factor c.of-header.ensures ∙ cut.factor) i)
 
-  room_is : c.room_for-room.result ≡ header_maximum c.bytes_mut-bytes.result.now - header_count c.bytes_mut-bytes.result.now
-  room_is = c.room_for-room.ensures.room ∙ (λ i. maximum_is i - count_is i)
+  room_is : c.saturating_sub-room.result ≡ header_maximum c.bytes_mut-bytes.result.now - header_count c.bytes_mut-bytes.result.now
+  room_is = c.saturating_sub-room.ensures ∙ (λ i. (c.apply.ensures ∙ maximum_is) i - count_is i)
 
   counted : header_count c.bytes_mut-bytes.result.now < 2 ^ 64
   counted = omega (arith, count_is)
 
   small : header_maximum c.bytes_mut-bytes.result.now < 2 ^ 64
-  small = omega (arith, c.room_for-room.ensures.maximum, maximum_is)
+  small = omega (arith, c.apply.ensures, maximum_is)
 
   -- the pair is that of key and value
   same : let p : Pair = record { key = g.C.EncodedKey.ByteArray.bytes c.encode_pair-key.result.0; value = g.C.EncodedValue.ByteArray.bytes c.encode_pair-key.result.1 } in
@@ -131,7 +131,7 @@ module _ (g : Over) (c : After-insert_at g)
   framed =
       subst (λ m. IsStepFramed (format g) value_of m c.split_at_mut-front.result.1.now c.split_at_mut-table.result.1.now (encoded (coding g) c.args.key.now c.args.value.now)
       c.insert_at.result c.insert_at.new.entries c.insert_at.new.control) room_is
-      (subst (λ (p : Pair). IsStepFramed (format g) value_of c.room_for-room.result c.split_at_mut-front.result.1.now c.split_at_mut-table.result.1.now p
+      (subst (λ (p : Pair). IsStepFramed (format g) value_of c.saturating_sub-room.result c.split_at_mut-front.result.1.now c.split_at_mut-table.result.1.now p
       c.insert_at.result c.insert_at.new.entries c.insert_at.new.control) same c.insert_at.ensures.any.frame)
 
   answers : (P : Table) → IsImage (format g) P c.bytes_mut-bytes.result.now

@@ -42,14 +42,14 @@ cut g c =
     cut_accepted (format g) c.bytes_mut-bytes.result.now (accepted g c) c.entry_at.result (c.entry_at.ensures ∙ ap (λ s. 32 + s * entry_len (format g)) slots) _ _ _ _
     c.split_at_mut-table.ensures.front c.split_at_mut-table.ensures.back c.split_at_mut-front.ensures.front c.split_at_mut-front.ensures.back
 
-pub insert_run-end-requires-clause-parts : goal.insert_run-end-requires-clause-parts
-insert_run-end-requires-clause-parts g c κs within =
-    let cut = cut g (goal.at.insert_run-end-requires-clause-parts g c).After-split_at_mut-front in
+pub insert_run-end-requires-after_bounds : goal.insert_run-end-requires-after_bounds
+insert_run-end-requires-after_bounds g c κs within =
+    let cut = cut g (goal.at.insert_run-end-requires-after_bounds g c).After-split_at_mut-front in
     let slots : length c.split_at_mut-table.result.1.now - 16 ≡ header_slots c.bytes_mut-bytes.result.now = omega (arith, cut.mirrored, cut.slots) in
     record {
-      pair = record { hashes = g.met.C.Config.key_hashes; key = g.met.C.Config.key_fits; value = g.met.C.Config.value_fits };
-      slots = subst IsSlotCount (sym slots) (accepted_slots (format g) c.bytes_mut-bytes.result.now (accepted g (goal.at.insert_run-end-requires-clause-parts g c).After-split_at_mut-front));
+      slots = subst IsSlotCount (sym slots) (accepted_slots (format g) c.bytes_mut-bytes.result.now (accepted g (goal.at.insert_run-end-requires-after_bounds g c).After-split_at_mut-front));
       entries = cut.long ∙ ap (λ s. s * entry_len (format g)) (cut.slots ∙ sym slots);
+      within = c.requires;
     }
 
 -- the coding of the configuration
@@ -73,14 +73,14 @@ module _ (g : Over) (c : After-write_count g)
   maximum_is : max_items c.slot_count-slots.result c.max_load_factor.result.0 ≡ header_maximum c.bytes_mut-bytes.result.now
   maximum_is = λ i. max_items ((c.slot_count-slots.ensures ∙ ap header_slots c.of-header.ensures) i) ((c.max_load_factor.ensures ∙ ap header_factor c.of-header.ensures) i)
 
-  room_is : c.room_for-room.result ≡ header_maximum c.bytes_mut-bytes.result.now - header_count c.bytes_mut-bytes.result.now
-  room_is = c.room_for-room.ensures.room ∙ (λ i. maximum_is i - count_is i)
+  room_is : c.saturating_sub-room.result ≡ header_maximum c.bytes_mut-bytes.result.now - header_count c.bytes_mut-bytes.result.now
+  room_is = c.saturating_sub-room.ensures ∙ (λ i. (c.apply.ensures ∙ maximum_is) i - count_is i)
 
   counted : header_count c.bytes_mut-bytes.result.now < 2 ^ 64
   counted = omega (arith, count_is)
 
   small : header_maximum c.bytes_mut-bytes.result.now < 2 ^ 64
-  small = omega (arith, c.room_for-room.ensures.maximum, maximum_is)
+  small = omega (arith, c.apply.ensures, maximum_is)
 
   written : c.write_count.new.header ≡ with_count c.split_at_mut-front.result.0.now (header_count c.bytes_mut-bytes.result.now + c.insert_run-end.result.1)
   written = c.write_count.ensures ∙ ap (λ m. with_count c.split_at_mut-front.result.0.now (m + c.insert_run-end.result.1)) count_is
