@@ -26,6 +26,7 @@ mod probe_seq;
 mod runs;
 mod scan;
 mod search_result;
+mod slot_keys;
 mod table_mut;
 mod waiting;
 mod walk;
@@ -39,6 +40,7 @@ pub use probe_seq::{probe_order, ProbeSeq};
 pub(crate) use runs::insert_run;
 pub use scan::Scan;
 pub use search_result::Search;
+pub(crate) use slot_keys::SlotKeys;
 pub use table_mut::RawTableMut;
 pub use walk::{RawIter, RawSlots};
 

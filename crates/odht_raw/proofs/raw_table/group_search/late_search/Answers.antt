@@ -23,7 +23,7 @@ returns-then-is_last_of g c =
 
 -- the search is at the second group
 pub search_from-requires-clause-at : goal.search_from-requires-clause-at
-search_from-requires-clause-at g c κs within =
+search_from-requires-clause-at g c =
     let F : Format = format_of g.K.ByteArray.LEN g.V.ByteArray.LEN g.H.HashFn.hash in
     let k : List ℕ = g.K.ByteArray.bytes c.args.key.now in
     let E = c.args.entries.now in

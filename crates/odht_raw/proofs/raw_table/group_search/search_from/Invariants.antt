@@ -1,5 +1,5 @@
 use Rattle.std.proofs.Common.{◌≡◌, ◌+◌, ◌-◌, ◌/◌, ◌≤◌, min}
-use Rattle.odht_base.specs.Format.{format_of}
+use Rattle.odht_raw.specs.Parts.{hashed_by}
 use Rattle.odht_raw.specs.Searches.{IsUnderWay}
 use Rattle.odht_raw.proofs.raw_table.group_search.search_from.Given as goal
 
@@ -10,8 +10,8 @@ invariant-groups g l = record {
   from : l.initial.probe.position ≤ l.probe.position;
   read_so_far : min l.scan.groups 18446744073709551615 ≡ min (l.fn.scan.groups + (l.probe.position - l.initial.probe.position) / 16) 18446744073709551615;
   few : l.scan.groups ≤ l.fn.scan.groups + (l.probe.position - l.initial.probe.position) / 16;
-  at : IsUnderWay (format_of g.K.ByteArray.LEN g.V.ByteArray.LEN g.H.HashFn.hash) l.entries l.fn.scan.control (g.K.ByteArray.bytes l.key) l.probe;
+  at : IsUnderWay (hashed_by g.H.HashFn.hash (g.E.SlotKeys.format l.keys)) (g.E.SlotKeys.entries l.keys) l.fn.scan.control (g.E.SlotKeys.key_bytes l.key) l.probe;
 }
 
 abbrev pub decreases-groups : goal.decreases-groups
-decreases-groups g l = l.entries.slots - l.probe.position
+decreases-groups g l = (g.E.SlotKeys.entries l.keys).slots - l.probe.position
