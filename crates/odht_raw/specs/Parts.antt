@@ -1,6 +1,7 @@
 -- The parts of a table as code reads them.
 --     EntryBytes           a number of slots, and the bytes of their entries
 --     entry_format kl vl   a format of these lengths, where the hash does not matter
+--     hashed_by h F        the format with the lengths of F and the hash of a key by h
 --     IsEntries kl vl E    E has the length of its slot count, and key and value have at most 255 bytes
 --     stored_in es ctrl    the entries es of as many slots as ctrl has control bytes without the mirror
 --     TableParts           control bytes with their mirror, and entries
@@ -18,6 +19,9 @@ pub record EntryBytes : Type 0 where
 
 abbrev pub entry_format : ℕ → ℕ → Format
 entry_format key_len value_len = format_of key_len value_len (λ b. 0)
+
+abbrev pub hashed_by : (List ℕ → ℕ) → Format → Format
+hashed_by hash F = format_of F.key_len F.value_len hash
 
 pub record IsEntries (key_len value_len : ℕ) (E : EntryBytes) : Type 0 where
   pub key_short : key_len ≤ 255

@@ -1,14 +1,15 @@
 //! The search by groups of control bytes along the probe order.
 ghost use Rattle.std.specs.Prelude.{◌≡◌, ℕ, ◌+◌, ◌<◌, ◌≤◌, length, IfSome, IsNone};
 ghost use Rattle.odht_base.specs.Load.{IsSlotCount};
-ghost use Rattle.odht_base.specs.Format.{format_of};
+ghost use Rattle.odht_base.specs.Format.{IsFormat, format_of};
 ghost use Rattle.odht_base.specs.Table.{Table};
-ghost use Rattle.odht_raw.specs.PartLengths.{ArePairLengths, AreSearchLengths};
+ghost use Rattle.odht_raw.specs.PartLengths.{AreSearchLengths};
+ghost use Rattle.odht_raw.specs.Parts.{hashed_by};
 ghost use Rattle.odht_raw.specs.SearchEnds.{IsEndAmong, GoesOnAmong};
 ghost use Rattle.odht_raw.specs.SearchSteps.{IsGroupAt, IsLook, IsTag};
 ghost use Rattle.odht_raw.specs.Searches.{IsRest, IsSearch, IsSearchEnd, IsUnderWay, IsPassed};
 
-use super::{Entries, EntryMetadata, ProbeSeq, Scan, Search, tag_of};
+use super::{Entries, EntryMetadata, GroupProbe, Scan, Search, SlotKeys, tag_of};
 use crate::bytes::ByteArray;
 use crate::hash::HashFn;
 use crate::swisstable_group_query::{Group, GroupQuery, REFERENCE_GROUP_SIZE};
@@ -50,64 +51,43 @@ pub fn search_hashed<K: ByteArray, V: ByteArray, H: HashFn, Q: Group>(
     ensures { IsSearch (format_of K.LEN V.LEN H.hash) entries.now (K.bytes key.now)
         scan.old scan.new result }
 {
-    let mask = scan.slots() - 1;
-    let probe = ProbeSeq::<REFERENCE_GROUP_SIZE>::new(hash as usize, mask);
-    search_from::<K, V, H, Q>(scan, probe, entries, key, tag_of(hash))
+    let mut probe = GroupProbe::over(scan.copy(), hash as usize);
+    let end = search_from::<Entries<'_, K, V>, H, Q>(&mut probe, entries, key, tag_of(hash));
+    *scan = probe.into_scan();
+    end
 }
 
-// The rest of a search that is under way, from the group at the probe on.
+// The rest of a search that is under way, from the group of the probe on.
 #[inline(always)]
-fn search_from<K: ByteArray, V: ByteArray, H: HashFn, Q: Group>(
-    scan: &mut Scan<'_>,
-    probe: ProbeSeq<REFERENCE_GROUP_SIZE>,
-    entries: &Entries<'_, K, V>,
-    key: &K,
+fn search_from<E: SlotKeys, H: HashFn, Q: Group>(
+    probe: &mut GroupProbe<'_>,
+    keys: &E,
+    key: &E::Key,
     tag: u8,
 ) -> Search
-    requires lengths { AreSearchLengths H.MIN_LEN K.LEN V.LEN entries.now.slots
-        (length scan.old.control) }
-    requires tag { IsTag (format_of K.LEN V.LEN H.hash) (K.bytes key.now) tag }
-    requires at { IsUnderWay (format_of K.LEN V.LEN H.hash) entries.now scan.old.control
-        (K.bytes key.now) probe }
-    ensures { IsRest (format_of K.LEN V.LEN H.hash) entries.now (K.bytes key.now) probe.position
-        scan.old scan.new result }
+    requires format { IsFormat (hashed_by H.hash (E.format keys.now)) }
+    requires mirrored { length probe.old.control ≡ (E.entries keys.now).slots + 16 }
+    requires tag { IsTag (hashed_by H.hash (E.format keys.now)) (E.key_bytes key.now) tag }
+    requires at { let F = hashed_by H.hash (E.format keys.now)
+        in IsUnderWay F (E.entries keys.now) (E.key_bytes key.now) probe.old }
+    ensures { let F = hashed_by H.hash (E.format keys.now)
+        in IsRest F (E.entries keys.now) (E.key_bytes key.now) probe.old probe.new result }
 {
-    let mask = scan.slots() - 1;
-    let mut probe = probe;
     'groups: loop {
-        let start = probe.index();
-        let bytes = scan.group(start);
-        if let Some(end) = look_at_group::<K, V, H, Q>(bytes, start, entries, key, tag) {
+        let start = probe.start();
+        let bytes = probe.read();
+        if let Some(end) = look_at_group::<E, H, Q>(bytes, start, keys, key, tag) {
             return end;
         }
-        if probe.is_last_of(mask) {
+        if probe.is_last() {
             return Search::Neither;
         }
-        probe.advance(mask);
+        probe.advance();
     }
 }
 
-/// Where the search for a key with this hash ends, for callers that do not ask how many groups it reads.
-#[inline(always)]
-pub(super) fn search_end<K: ByteArray, V: ByteArray, H: HashFn, Q: Group>(
-    control: &[EntryMetadata],
-    entries: &Entries<'_, K, V>,
-    key: &K,
-    hash: u32,
-) -> Search
-    requires slots { IsSlotCount entries.now.slots }
-    requires lengths { AreSearchLengths H.MIN_LEN K.LEN V.LEN entries.now.slots
-        (length control.now) }
-    requires hash { hash ≡ H.hash (K.bytes key.now) }
-    ensures { IsSearchEnd (format_of K.LEN V.LEN H.hash) entries.now control.now
-        (K.bytes key.now) result }
-{
-    let mut scan = Scan::new(control, entries.len());
-    search_hashed::<K, V, H, Q>(&mut scan, entries, key, hash)
-}
-
-/// `search_end` for callers that looked at the first group already, or cannot use that look. It is not inlined: where
-/// a first look ends the search, this is not called.
+/// Where the search for a key with this hash ends, for callers that looked at the first group already, or cannot use
+/// that look. It is not inlined: where a first look ends the search, this is not called.
 #[inline(never)]
 pub(super) fn whole_search<K: ByteArray, V: ByteArray, H: HashFn>(
     control: &[EntryMetadata],
@@ -122,7 +102,8 @@ pub(super) fn whole_search<K: ByteArray, V: ByteArray, H: HashFn>(
     ensures { IsSearchEnd (format_of K.LEN V.LEN H.hash) entries.now control.now
         (K.bytes key.now) result }
 {
-    search_end::<K, V, H, GroupQuery>(control, entries, key, hash)
+    let mut scan = Scan::new(control, entries.len());
+    search_hashed::<K, V, H, GroupQuery>(&mut scan, entries, key, hash)
 }
 
 /// The rest of a search whose first group neither holds the key nor has a free byte. It is not inlined: where a first
@@ -143,51 +124,47 @@ pub(super) fn late_search<K: ByteArray, V: ByteArray, H: HashFn>(
     ensures { IsSearchEnd (format_of K.LEN V.LEN H.hash) entries.now control.now
         (K.bytes key.now) result }
 {
-    let mut scan = Scan::new(control, entries.len());
-    let mask = scan.slots() - 1;
-    let mut probe = ProbeSeq::<REFERENCE_GROUP_SIZE>::new(hash as usize, mask);
-    if probe.is_last_of(mask) {
+    let mut probe = GroupProbe::new(control, entries.len(), hash as usize);
+    if probe.is_last() {
         return Search::Neither;
     }
-    probe.advance(mask);
-    search_from::<K, V, H, GroupQuery>(&mut scan, probe, entries, key, tag_of(hash))
+    probe.advance();
+    search_from::<Entries<'_, K, V>, H, GroupQuery>(&mut probe, entries, key, tag_of(hash))
 }
 
 // Searches the sixteen slots from `start` on, whose control bytes are `bytes`, in pieces of the group search's size.
 #[inline(always)]
-fn look_at_group<K: ByteArray, V: ByteArray, H: HashFn, Q: Group>(
+fn look_at_group<E: SlotKeys, H: HashFn, Q: Group>(
     bytes: &[EntryMetadata],
     start: usize,
-    entries: &Entries<'_, K, V>,
-    key: &K,
+    keys: &E,
+    key: &E::Key,
     tag: u8,
 ) -> Option<Search>
     requires len { length bytes.now ≡ 16 }
-    requires slots { IsSlotCount entries.now.slots }
-    requires start { start < entries.now.slots }
-    requires tag { IsTag (format_of K.LEN V.LEN H.hash) (K.bytes key.now) tag }
-    requires lengths { ArePairLengths H.MIN_LEN K.LEN V.LEN }
-    ensures slot { let F = format_of K.LEN V.LEN H.hash
-        in IfSome result (IsEndAmong F entries.now bytes.now start 16 (K.bytes key.now)) }
-    ensures none { let F = format_of K.LEN V.LEN H.hash
-        in IsNone result → GoesOnAmong F entries.now bytes.now start (K.bytes key.now) 16 }
-    ensures on_placed { (P : Table) (p : ℕ)
-        → IsGroupAt (format_of K.LEN V.LEN H.hash) P entries.now (K.bytes key.now) p start bytes.now
-        → IsLook (format_of K.LEN V.LEN H.hash) P (K.bytes key.now) p 16 result }
+    requires slots { IsSlotCount (E.entries keys.now).slots }
+    requires start { start < (E.entries keys.now).slots }
+    requires tag { IsTag (hashed_by H.hash (E.format keys.now)) (E.key_bytes key.now) tag }
+    requires format { IsFormat (hashed_by H.hash (E.format keys.now)) }
+    ensures slot { let F = hashed_by H.hash (E.format keys.now)
+        in let k = E.key_bytes key.now
+        in IfSome result (IsEndAmong F (E.entries keys.now) bytes.now start 16 k) }
+    ensures none { let F = hashed_by H.hash (E.format keys.now)
+        in let k = E.key_bytes key.now
+        in IsNone result → GoesOnAmong F (E.entries keys.now) bytes.now start k 16 }
+    ensures on_placed { let F = hashed_by H.hash (E.format keys.now)
+        in let k = E.key_bytes key.now
+        in (P : Table) (p : ℕ)
+        → IsGroupAt F P (E.entries keys.now) k p start bytes.now
+        → IsLook F P k p 16 result }
 {
     // One piece is told apart here, not by a loop of one turn: so the compiler knows early that a match ends the search.
     if Q::SIZE == REFERENCE_GROUP_SIZE {
-        return look_at_piece::<K, V, H, Q>(bytes, start, entries, key, tag);
+        return look_at_piece::<E, H, Q>(bytes, start, keys, key, tag);
     }
     for piece in 0..REFERENCE_GROUP_SIZE / Q::SIZE {
         let at = piece * Q::SIZE;
-        let end = look_at_piece::<K, V, H, Q>(
-            &bytes[at..at + Q::SIZE],
-            start + at,
-            entries,
-            key,
-            tag,
-        );
+        let end = look_at_piece::<E, H, Q>(&bytes[at..at + Q::SIZE], start + at, keys, key, tag);
         if end.is_some() {
             return end;
         }
@@ -197,31 +174,35 @@ fn look_at_group<K: ByteArray, V: ByteArray, H: HashFn, Q: Group>(
 
 // Searches the slots from `start` on, modulo the slot count, whose control bytes are `bytes`.
 #[inline(always)]
-fn look_at_piece<K: ByteArray, V: ByteArray, H: HashFn, Q: Group>(
+fn look_at_piece<E: SlotKeys, H: HashFn, Q: Group>(
     bytes: &[EntryMetadata],
     start: usize,
-    entries: &Entries<'_, K, V>,
-    key: &K,
+    keys: &E,
+    key: &E::Key,
     tag: u8,
 ) -> Option<Search>
     requires len { length bytes.now ≡ Q.SIZE }
-    requires slots { IsSlotCount entries.now.slots }
-    requires start { start + Q.SIZE ≤ entries.now.slots + 16 }
-    requires tag { IsTag (format_of K.LEN V.LEN H.hash) (K.bytes key.now) tag }
-    requires lengths { ArePairLengths H.MIN_LEN K.LEN V.LEN }
-    ensures slot { let F = format_of K.LEN V.LEN H.hash
-        in IfSome result (IsEndAmong F entries.now bytes.now start Q.SIZE (K.bytes key.now)) }
-    ensures none { let F = format_of K.LEN V.LEN H.hash
-        in IsNone result → GoesOnAmong F entries.now bytes.now start (K.bytes key.now) Q.SIZE }
-    ensures on_placed { (P : Table) (p : ℕ)
-        → IsGroupAt (format_of K.LEN V.LEN H.hash) P entries.now (K.bytes key.now) p start bytes.now
-        → IsLook (format_of K.LEN V.LEN H.hash) P (K.bytes key.now) p Q.SIZE result }
+    requires slots { IsSlotCount (E.entries keys.now).slots }
+    requires start { start + Q.SIZE ≤ (E.entries keys.now).slots + 16 }
+    requires tag { IsTag (hashed_by H.hash (E.format keys.now)) (E.key_bytes key.now) tag }
+    requires format { IsFormat (hashed_by H.hash (E.format keys.now)) }
+    ensures slot { let F = hashed_by H.hash (E.format keys.now)
+        in let k = E.key_bytes key.now
+        in IfSome result (IsEndAmong F (E.entries keys.now) bytes.now start Q.SIZE k) }
+    ensures none { let F = hashed_by H.hash (E.format keys.now)
+        in let k = E.key_bytes key.now
+        in IsNone result → GoesOnAmong F (E.entries keys.now) bytes.now start k Q.SIZE }
+    ensures on_placed { let F = hashed_by H.hash (E.format keys.now)
+        in let k = E.key_bytes key.now
+        in (P : Table) (p : ℕ)
+        → IsGroupAt F P (E.entries keys.now) k p start bytes.now
+        → IsLook F P k p Q.SIZE result }
 {
-    let mask = entries.len() - 1;
+    let mask = keys.slots() - 1;
     let mut group = Q::of(bytes, tag);
     'matches: while let Some(index) = group.first_match() {
         let slot = (start + index) & mask;
-        if entries.has_key(slot, key) {
+        if keys.is_at(slot, key) {
             return Some(Search::Found(slot));
         }
         group.drop_match();

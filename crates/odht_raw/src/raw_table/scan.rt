@@ -44,6 +44,18 @@ impl<'a> Scan<'a> {
         }
     }
 
+    // A second scan of the same control bytes, of which as many groups were read.
+    #[inline(always)]
+    pub(crate) fn copy(&self) -> Scan<'a>
+        ensures { result ≡ self.now }
+    {
+        Scan {
+            control: self.control,
+            slots: self.slots,
+            groups: self.groups,
+        }
+    }
+
     /// How many slots there are.
     #[inline]
     pub fn slots(&self) -> usize
