@@ -4,10 +4,10 @@
     tests/cases.py PROGRAM [NAME=TEXT...] FOLDER...     all files *.cases in the folders; or such a file itself
 
 README.md beside this file describes the form of cases. A text that is given stands for that of their
-lines `let NAME: TEXT`. A failing case has a line with its place and name, and below it what differs. Those that need the rights of root are skipped where this is another
-user, which a line says. The last line is `N passed, N failed`; the status is 0 only where none failed and
-one passed. A run has 20 seconds of processor time, or those that CASE_SECONDS gives, and may use none for
-as long."""
+lines `let NAME: TEXT`. A failing case has a line with its place and name, and below it what differs. Those
+that need the rights of root are skipped where this is another user, which a line says. The last line is `N
+passed, N failed`; the status is 0 only where none failed and one passed. A run has 20 seconds of processor
+time, or those that CASE_SECONDS gives, and may use none for as long."""
 import os
 import re
 import shutil

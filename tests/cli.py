@@ -5,8 +5,8 @@
 
 It has no warning and passes its own tests; `make install-tool` puts a program in place and `make uninstall-tool`
 removes it; all cases of tests/tool go on it; and each request for memory of some commands fails in turn, from the first
-buffer on: the program then says that it is out of memory, and returns 1, and the file is as it was. The last line
-counts.
+buffer on: the program then says that it is out of memory, and returns 1, and the file is as it was. Where ODHT_TOOL
+names the program as the kit compiles it, tests/beside.py runs both. The last line counts.
 """
 import os
 import re
@@ -147,12 +147,18 @@ def main(*words):
         except Failed as what:
             print(f"FAILED {what}\n0 passed, 1 failed")
             return 1
-        cases = [sys.executable, "tests/cases.py", program, "made=erased", "tests/tool"]
-        status, printed = watched.run(cases, cwd=TOP)
-    print(printed[: printed.rindex("\n", 0, -1) + 1] if printed.count("\n") > 1 else "", end="")
-    found = re.search(r"(\d+) passed, (\d+) failed\n$", printed)
-    print(f"{passed + int(found[1])} passed, {found[2]} failed")
-    return status
+        runs = [["tests/cases.py", program, "made=erased", "tests/tool"]]
+        if os.environ.get("ODHT_TOOL"):
+            runs.append(["tests/beside.py", os.environ["ODHT_TOOL"], program])
+        failed = 0
+        for words in runs:
+            status, printed = watched.run([sys.executable, *words], cwd=TOP)
+            found = re.search(r"(\d+) passed, (\d+) failed\n$", printed)
+            print(printed[: found.start()] if found else printed, end="")
+            passed += int(found[1]) if found else 0
+            failed += max(int(found[2]) if found else 1, int(status != 0))
+    print(f"{passed} passed, {failed} failed")
+    return 1 if failed else 0
 
 
 if __name__ == "__main__":

@@ -130,7 +130,8 @@ UNDONE = {
     "equal items": (r"crate :: host :: lists :: filled \( (\w+) , (\w+) , (\w+) \)", r"vec ! [ in \1 ; \2 ; \3 ]"),
     "a copied text": (r"\bcrate :: host :: texts :: copy_of\b", "String :: from_str"),
     "a formatted text": (
-        r"crate :: host :: texts :: formatted \( (\w+) , format_args ! \( (\"[^\"]*\") \) \)", r"format ! ( in \1 ; \2 )"
+        r"crate :: host :: texts :: formatted \( (\w+) , format_args ! \( (\"[^\"]*\") \) \)",
+        r"format ! ( in \1 ; \2 )",
     ),
     "an error line": (r"\bwriteln ! \( rt \. stderr \( \) ,", "eprintln ! ( rt ;"),
     "an error of links": (

@@ -19,7 +19,7 @@ that is done of a copy of the sources, in a folder for temporary files: the gate
 What a part prints is in build/logs/PART.log too. A part that hangs, for 600 seconds or those that TEST_SECONDS gives
 (tools/watched.py), is ended: it counts as failed, and is told as ENDED. The parts `edits`, `runner`, `watch`, `bench`,
 `manual`, `generated`, `cli` and `rust` go without the kit of Rattle; `rust` then leaves out what is beside the library
-for C.
+for C, and `cli` the program that the kit compiles.
 """
 import os
 import re
@@ -147,6 +147,11 @@ def crate_for_rust(part):
     return part.counted(sys.executable, "tests/rust.py", env={**os.environ, "ODHT_LIB_DIR": BUILT})
 
 
+def program_of_erased_source(part):
+    tool = f"{BUILT}/odht_tool" if unproved.KIT else ""
+    return part.counted(sys.executable, "tests/cli.py", env={**os.environ, "ODHT_TOOL": tool})
+
+
 def package_over_the_archive(part):
     status, _ = part.run("cargo", "--version")
     if status:
@@ -166,7 +171,7 @@ PARTS = {
     "word": ([f"word/{it}" for it in [*IN_RATTLE, "odht_vectors"]], with_word_search),
     "memory": (["odht_memory", "odht_table", "odht_tool"], script("tests/memory.py", BUILT)),
     "tool": (["odht_tool"], script("tests/cases.py", f"{BUILT}/odht_tool", "tests/tool")),
-    "cli": ([], script("tests/cli.py")),
+    "cli": (["odht_tool"] if unproved.KIT else [], program_of_erased_source),
     "script": (["odht_table"], script("tests/cases.py", f"{BUILT}/odht_table", "tests/script")),
     "edits": ([], script("tools/edits.py", "check")),
     "runner": ([], script("tests/planted.py")),

@@ -19,9 +19,9 @@
     c          libodht of the erased exports has the calls of include/odht.h; the examples in C and C++ go over it, and
                over what `make install` there puts anywhere; and all of tests/c
 
-The program of erased source, in rust/cli, is tested by tests/cli.py; it is here in `current`, `planted` and `lints` alone.
-What the machine does not have is left out, with a word. The last line counts. There is no limit of time: where one
-cargo builds, others wait for it. What hangs is for tests/run.py.
+The program of erased source, in rust/cli, is tested by tests/cli.py, and here in `current`, `planted` and `lints`. What
+the machine does not have is left out, with a word. The last line counts. There is no limit of time: where one cargo
+builds, others wait for it. What hangs is for tests/run.py.
 """
 import os
 import re

@@ -36,7 +36,7 @@ mod proved {
 }
 
 // The program, written as it could be proved.
-#[allow(dead_code, unused_imports, unused_variables, clippy::all)]
+#[allow(dead_code, unused_imports, unused_variables, clippy::complexity, clippy::style)]
 #[forbid(unsafe_code)]
 mod erased {
     pub mod core;
