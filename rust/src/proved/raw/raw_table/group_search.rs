@@ -60,19 +60,6 @@ fn search_from<E: SlotKeys, H: HashFn, Q: Group>(
     }
 }
 
-/// Where the search for a key with this hash ends, for callers that looked at the first group already, or cannot use
-/// that look. It is not inlined: where a first look ends the search, this is not called.
-#[inline(never)]
-pub(super) fn whole_search<K: ByteArray, V: ByteArray, H: HashFn>(
-    control: &[EntryMetadata],
-    entries: &Entries<'_, K, V>,
-    key: &K,
-    hash: u32,
-) -> Search {
-    let mut scan = Scan::new(control, entries.len());
-    search_hashed::<K, V, H, GroupQuery>(&mut scan, entries, key, hash)
-}
-
 /// The rest of a search whose first group neither holds the key nor has a free byte. It is not inlined: where a first
 /// look ends the search, this is not called.
 #[inline(never)]
