@@ -30,10 +30,10 @@ const PLAN: Plan<'static> = Plan {
         "odht_raw/raw_table/first_look",
         "odht_raw/raw_table/free_search",
         "odht_raw/raw_table/group_search",
+        "odht_raw/raw_table/insert",
         "odht_raw/raw_table/runs",
         "odht_raw/raw_table/scan",
         "odht_raw/raw_table/walk",
-        "odht_raw/writes",
     ],
     open_enums: &[("odht_header/error", "Error")],
 };
