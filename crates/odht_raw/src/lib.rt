@@ -8,4 +8,3 @@ pub use odht_header::{config, error};
 pub mod items;
 pub mod memory_layout;
 pub mod raw_table;
-mod writes;

@@ -48,7 +48,7 @@ pub use entries::{Entries, Entry};
 pub use first_look::FirstLook;
 pub(crate) use group_probe::GroupProbe;
 pub use group_search::{search, search_hashed};
-pub(crate) use insert::{insert_at, step_end};
+pub(crate) use insert::{fill_slot, insert_at, step_end};
 pub use plain::{plain_find, plain_insert};
 pub use probe_seq::{ProbeSeq, probe_order};
 pub(crate) use runs::insert_run;

@@ -166,7 +166,7 @@ fn serve<W: Write>(table: &mut Table, request: Request, output: &mut W) -> io::R
     match request {
         Request::Put { key, value } => put(table, key, value, output),
         Request::Get { key } => write_value(table.get(&key), output),
-        Request::Len => write_number(table.len() as u64, output),
+        Request::Len => write_number_line(table.len() as u64, output),
         Request::Walk => write_walk(table.iter(), output),
         Request::Hex => write_hex(table.raw_bytes(), output),
         Request::Dump => write!(output, "{table:?}"),
@@ -280,7 +280,7 @@ fn write_former<W: Write>(former: u32, output: &mut W) -> io::Result<()>
         (line_of (codes "was " ++ decimal former))) }
 {
     output.write_all(b"was ")?;
-    write_number(u64::from(former), output)
+    write_number_line(u64::from(former), output)
 }
 
 fn write_value<W: Write>(value: Option<u32>, output: &mut W) -> io::Result<()>
@@ -289,12 +289,12 @@ fn write_value<W: Write>(value: Option<u32>, output: &mut W) -> io::Result<()>
 {
     match value {
         None => output.write_all(b"none\n"),
-        Some(value) => write_number(u64::from(value), output),
+        Some(value) => write_number_line(u64::from(value), output),
     }
 }
 
 // The number on a line.
-fn write_number<W: Write>(number: u64, output: &mut W) -> io::Result<()>
+fn write_number_line<W: Write>(number: u64, output: &mut W) -> io::Result<()>
     ensures { OnOk result (Appends (W.contents output.old) (W.contents output.new)
         (line_of (decimal number))) }
 {
@@ -308,18 +308,18 @@ fn write_walk<W: Write>(walk: Iter<'_, U64ToU32>, output: &mut W) -> io::Result<
         (walk_text walk.entry)) }
 {
     for (key, value) in walk {
-        write_pair(key, value, output)?;
+        write_pair_line(key, value, output)?;
     }
     output.write_all(b"end\n")
 }
 
-fn write_pair<W: Write>(key: u64, value: u32, output: &mut W) -> io::Result<()>
+fn write_pair_line<W: Write>(key: u64, value: u32, output: &mut W) -> io::Result<()>
     ensures { OnOk result (Appends (W.contents output.old) (W.contents output.new)
         (pair_line (key, value))) }
 {
     key.write(output)?;
     output.write_all(b" ")?;
-    write_number(u64::from(value), output)
+    write_number_line(u64::from(value), output)
 }
 
 // Two lower-case digits for each byte, on one line.

@@ -19,7 +19,6 @@ use crate::bytes::{ByteArray, write_slice};
 use crate::error::Error;
 use crate::hash::HashFn;
 use crate::swisstable_group_query::{Group, REFERENCE_GROUP_SIZE};
-use crate::writes::{write_pair, write_tag};
 
 /// Searches for the key once. Overwrites the value that is stored with it; or, where it is new and `room`, the number
 /// of entries that may be added, is not zero, writes the pair into the first free slot of the key's probe order.
@@ -107,7 +106,7 @@ pub(crate) fn insert_at<K: ByteArray, V: ByteArray, H: HashFn>(
     }
 }
 
-/// Writes the pair into a slot, its tag into the slot's control byte, and for a slot below 16 the tag into the mirror.
+/// Writes the pair into a slot, the tag into the slot's control byte, and for a slot below 16 the tag into the mirror.
 #[inline(always)]
 pub(crate) fn fill_slot<K: ByteArray, V: ByteArray, H: HashFn>(
     control: &mut [EntryMetadata],
@@ -122,14 +121,17 @@ pub(crate) fn fill_slot<K: ByteArray, V: ByteArray, H: HashFn>(
         (length control.old) }
     requires slots { slots ≡ length control.old - 16 }
     requires slot { slot < length control.old - 16 }
-    requires tag { tag ≡ key_tag (format_of K.LEN V.LEN H.hash) (K.bytes key.now) }
     ensures entries { let at = slot * entry_len (format_of K.LEN V.LEN H.hash)
         in entries.new ≡ overwritten_at entries.old at (K.bytes key.now ++ V.bytes value.now) }
-    ensures control { let t = key_tag (format_of K.LEN V.LEN H.hash) (K.bytes key.now)
-        in control.new ≡ tagged control.old slot t }
+    ensures control { control.new ≡ tagged control.old slot tag }
     ensures key { IsBytes K.LEN (K.bytes key.now) }
     ensures value { IsBytes V.LEN (V.bytes value.now) }
 {
-    write_pair(entries, slot * (K::LEN + V::LEN), key, value);
-    write_tag(control, 0, slots, slot, tag);
+    let at = slot * (K::LEN + V::LEN);
+    write_slice(entries, at, key.as_slice());
+    write_slice(entries, at + K::LEN, value.as_slice());
+    control[slot] = tag;
+    if slot < REFERENCE_GROUP_SIZE {
+        control[slots + slot] = tag;
+    }
 }

@@ -47,19 +47,19 @@ pub fn parse(line: &[u8]) -> Option<Command>
     };
     match parse_verb(name)? {
         Verb::Make => {
-            let (max_item_count, percent) = parse_pair(numbers)?;
+            let (max_item_count, percent) = parse_two_numbers(numbers)?;
             Some(Command::New {
                 max_item_count: max_item_count as usize,
                 percent,
             })
         }
         Verb::Insert => {
-            let (key, value) = parse_pair(numbers)?;
+            let (key, value) = parse_two_numbers(numbers)?;
             let value = u32::try_from(value).ok()?;
             Some(Command::OnTable(Request::Put { key, value }))
         }
         Verb::Find => {
-            let key = parse_number(numbers)?;
+            let key = parse_numeral(numbers)?;
             Some(Command::OnTable(Request::Get { key }))
         }
     }
@@ -101,18 +101,18 @@ fn parse_word(word: &[u8]) -> Option<Request>
 }
 
 // The two numbers of two words.
-fn parse_pair(words: &[u8]) -> Option<(u64, u64)>
+fn parse_two_numbers(words: &[u8]) -> Option<(u64, u64)>
     ensures reads { IfSome result (λ pair. IsPairText words.now pair.0 pair.1) }
     ensures misses_none { (m n : ℕ) → IsPairText words.now m n → result ≡ Some (m, n) }
 {
     let (first, second) = cut_at(words, b' ')?;
-    let first = parse_number(first)?;
-    let second = parse_number(second)?;
+    let first = parse_numeral(first)?;
+    let second = parse_numeral(second)?;
     Some((first, second))
 }
 
 // The number that a word of digits writes. A sign is no digit.
-fn parse_number(word: &[u8]) -> Option<u64>
+fn parse_numeral(word: &[u8]) -> Option<u64>
     ensures { SomeIff result (IsNumeral 10 word.now × (digits_value 10 word.now < 2 ^ 64))
         (digits_value 10 word.now) }
 {

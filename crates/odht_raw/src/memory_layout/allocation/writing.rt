@@ -10,8 +10,8 @@ ghost use Rattle.odht_raw.specs.Frame.{IsAccepted};
 use super::Allocation;
 use crate::bytes::{ByteArray, ByteStoreMut};
 use crate::config::{Coded, Config};
-use crate::memory_layout::{EntryMetadata, entry_at};
-use crate::writes;
+use crate::memory_layout::{EntryMetadata, HEADER_SIZE, Header, entry_at};
+use crate::raw_table::fill_slot;
 use odht_header::header::ITEM_COUNT_AT;
 
 impl<C: Config, M: ByteStoreMut> Allocation<C, M> {
@@ -49,10 +49,14 @@ impl<C: Config, M: ByteStoreMut> Allocation<C, M> {
         ensures pair { IsPairOf ⟦<C as Coded>⟧.coding.format
             (record { key = C.EncodedKey.bytes key.now; value = C.EncodedValue.bytes value.now }) }
     {
-        let slots = self.header().slot_count();
         let store = &mut self.store;
-        writes::write_pair(store.bytes_mut(), entry_at::<C>(slot), key, value);
-        writes::write_tag(store.bytes_mut(), entry_at::<C>(slots), slots, slot, tag);
+        let bytes = store.bytes_mut();
+        let slots = Header::of(bytes).slot_count();
+        let (table, control) = bytes.split_at_mut(entry_at::<C>(slots));
+        let (_, entries) = table.split_at_mut(HEADER_SIZE);
+        fill_slot::<C::EncodedKey, C::EncodedValue, C::H>(
+            control, entries, slots, key, value, tag, slot,
+        );
     }
 
     /// Writes the value alone into the entry of a slot. No other byte changes. The clause `value` says that it has the

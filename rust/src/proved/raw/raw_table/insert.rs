@@ -9,7 +9,6 @@ use crate::proved::raw::bytes::{write_slice, ByteArray};
 use crate::proved::raw::error::Error;
 use crate::proved::raw::hash::HashFn;
 use crate::proved::raw::swisstable_group_query::{Group, REFERENCE_GROUP_SIZE};
-use crate::proved::raw::writes::{write_pair, write_tag};
 
 /// Searches for the key once. Overwrites the value that is stored with it; or, where it is new and `room`, the number
 /// of entries that may be added, is not zero, writes the pair into the first free slot of the key's probe order.
@@ -75,7 +74,7 @@ pub(crate) fn insert_at<K: ByteArray, V: ByteArray, H: HashFn>(
     }
 }
 
-/// Writes the pair into a slot, its tag into the slot's control byte, and for a slot below 16 the tag into the mirror.
+/// Writes the pair into a slot, the tag into the slot's control byte, and for a slot below 16 the tag into the mirror.
 #[inline(always)]
 pub(crate) fn fill_slot<K: ByteArray, V: ByteArray, H: HashFn>(
     control: &mut [EntryMetadata],
@@ -86,6 +85,11 @@ pub(crate) fn fill_slot<K: ByteArray, V: ByteArray, H: HashFn>(
     tag: u8,
     slot: usize,
 ) {
-    write_pair(entries, slot * (K::LEN + V::LEN), key, value);
-    write_tag(control, 0, slots, slot, tag);
+    let at = slot * (K::LEN + V::LEN);
+    write_slice(entries, at, key.as_slice());
+    write_slice(entries, at + K::LEN, value.as_slice());
+    index_mut!(control[slot]) = tag;
+    if slot < REFERENCE_GROUP_SIZE {
+        index_mut!(control[slots + slot]) = tag;
+    }
 }

@@ -107,7 +107,7 @@ returns-else-room-eq0 g c = record {
       let at = answer-Free F P p.key h.placed c.in-Free.slot (sym c.in-Free.is ∙ e) in
       let fits : IsPairOf F p = record { key = c.fill_slot.ensures.key; value = c.fill_slot.ensures.value } in
       let parts : IsPartsOf F (written P c.in-Free.slot p) c.fill_slot.new.entries c.fill_slot.new.control =
-      rw (c.fill_slot.ensures.control, c.fill_slot.ensures.entries) (free_parts F P _ _ h p.key c.in-Free.slot p refl fits at) in
+      rw (c.fill_slot.ensures.control, c.fill_slot.ensures.entries, c.requires.end.tag) (free_parts F P _ _ h p.key c.in-Free.slot p refl fits at) in
       (sym (ap (option_map g.V.ByteArray.of_bytes) at.value), (written P c.in-Free.slot p, at.places p refl, parts)));
   any =
       let F : Format = format_of g.K.ByteArray.LEN g.V.ByteArray.LEN g.H.HashFn.hash in
@@ -118,7 +118,7 @@ returns-else-room-eq0 g c = record {
       let known = subst (IsEnd F (stored_in es ctrl) ctrl p.key) c.in-Free.is c.requires.end.end.slot in
       let some : 0 < c.args.room = omega (arith, c.if-room-eq0.false) in
       let framed : StepFrame F c.args.room es ctrl p (Ok None) c.fill_slot.new.entries c.fill_slot.new.control =
-      StepFrame.framed (Ok None) c.fill_slot.new.entries c.fill_slot.new.control (λ e. some) (rw (c.fill_slot.ensures.control, c.fill_slot.ensures.entries) (PartsFrame.added slot known.0 known.1)) in
+      StepFrame.framed (Ok None) c.fill_slot.new.entries c.fill_slot.new.control (λ e. some) (rw (c.fill_slot.ensures.control, c.fill_slot.ensures.entries, c.requires.end.tag) (PartsFrame.added slot known.0 known.1)) in
       record { frame = (Ok None, refl, framed); errors = record { only_full = tt; refused_control = tt; refused_entries = tt } };
 }
 

@@ -5,8 +5,8 @@ use super::Allocation;
 use crate::proved::header::header::ITEM_COUNT_AT;
 use crate::proved::raw::bytes::{ByteArray, ByteStoreMut};
 use crate::proved::raw::config::Config;
-use crate::proved::raw::memory_layout::{entry_at, EntryMetadata};
-use crate::proved::raw::writes;
+use crate::proved::raw::memory_layout::{entry_at, EntryMetadata, Header, HEADER_SIZE};
+use crate::proved::raw::raw_table::fill_slot;
 
 impl<C: Config, M: ByteStoreMut> Allocation<C, M> {
     /// Writes the header's item count. No other byte changes.
@@ -26,10 +26,14 @@ impl<C: Config, M: ByteStoreMut> Allocation<C, M> {
         value: &C::EncodedValue,
         tag: EntryMetadata,
     ) {
-        let slots = self.header().slot_count();
         let store = &mut self.store;
-        writes::write_pair(store.bytes_mut(), entry_at::<C>(slot), key, value);
-        writes::write_tag(store.bytes_mut(), entry_at::<C>(slots), slots, slot, tag);
+        let bytes = store.bytes_mut();
+        let slots = Header::of(bytes).slot_count();
+        let (table, control) = bytes.split_at_mut(entry_at::<C>(slots));
+        let (_, entries) = table.split_at_mut(HEADER_SIZE);
+        fill_slot::<C::EncodedKey, C::EncodedValue, C::H>(
+            control, entries, slots, key, value, tag, slot,
+        );
     }
 
     /// Writes the value alone into the entry of a slot. No other byte changes. The clause `value` says that it has the

@@ -1,63 +1,164 @@
-use Rattle.std.proofs.Common.{◌≡◌, ◌+◌, ◌*◌, ◌≤◌, ◌∙◌, ◌++◌, ap, sym, subst, arith, length, length-append}
+use Rattle.std.proofs.Common.{◌≡◌, ◌+◌, ◌-◌, ◌*◌, ◌≤◌, ◌∙◌, ◌++◌, List, ℕ, ap, sym, subst, arith, length, length-append, append_assoc}
 use Rattle.odht_base.specs.Bytes.{overwritten_at}
-use Rattle.odht_base.specs.Format.{format_of, entry_len}
 use Rattle.odht_base.specs.Decoded.{header_slots}
-use Rattle.odht_base.specs.Writes.{tagged_at}
+use Rattle.odht_base.specs.Format.{Format, format_of, entry_len}
+use Rattle.odht_base.specs.Load.{IsSlotCount}
+use Rattle.odht_base.specs.Table.{Pair}
+use Rattle.odht_base.specs.Writes.{with_entry, with_tag}
 use Rattle.odht_base.proofs.lemmas.ByteRanges.{length-overwritten_at}
+use Rattle.odht_base.proofs.lemmas.Writes.{with_entry-append, with_tag-append}
 use Rattle.odht_raw.specs.Frame.{IsAccepted}
-use Rattle.odht_raw.proofs.lemmas.Borrows.{borrowed-bytes}
-use Rattle.odht_raw.proofs.lemmas.Accepted.{accepted_entry, accepted_control, accepted_mirror, IsAccepted-overwritten_at, IsAccepted-tagged_at}
+use Rattle.odht_raw.proofs.lemmas.Accepted.{accepted_opening, accepted_len, accepted_slots, accepted_entry, accepted_control, accepted_mirror, IsAccepted-overwritten_at, IsAccepted-tagged_at}
+use Rattle.odht_raw.proofs.lemmas.Borrows.{borrowed-bytes, borrowed-same}
+use Rattle.odht_raw.proofs.lemmas.ListWrites.{IsCut, cut_accepted}
 use Rattle.odht_raw.proofs.memory_layout.allocation.Allocation.write_entry.Given.{Over}
-use Rattle.odht_raw.proofs.memory_layout.allocation.Allocation.write_entry.Goals.{After-write_tag}
 use Rattle.odht_raw.proofs.memory_layout.allocation.Allocation.write_entry.Goals as goal
+use Rattle.odht_raw.proofs.memory_layout.allocation.Allocation.write_entry.Goals.{After-split_at_mut-entries, After-fill_slot}
+
+abbrev format : Over → Format
+format g = format_of g.C.EncodedKey.ByteArray.LEN g.C.EncodedValue.ByteArray.LEN g.C.H.HashFn.hash
+
+pub of-requires : goal.of-requires
+of-requires g c = (accepted_opening (format g) c.bytes_mut-bytes.result.now (subst (IsAccepted (format g)) (sym c.bytes_mut-bytes.ensures.value) c.self.invariant.0)).long
 
 pub entry_at-requires-after_bounds : goal.entry_at-requires-after_bounds
 entry_at-requires-after_bounds g c κs within =
-    let F = format_of g.C.EncodedKey.ByteArray.LEN g.C.EncodedValue.ByteArray.LEN g.C.H.HashFn.hash in
-    let entry = accepted_entry F (g.M.ByteStore.bytes c.args.self.now) c.header.ensures.accepted c.args.slot c.requires in
-    let long = ap (λ s. length (g.M.ByteStore.bytes s)) c.self.view_is in
-    omega (arith, entry, long, c.self.invariant.1)
+    let slots : c.slot_count-slots.result ≡ header_slots c.bytes_mut-bytes.result.now = c.slot_count-slots.ensures ∙ ap header_slots c.of.ensures in
+    rw slots (omega (arith, accepted_len (format g) c.bytes_mut-bytes.result.now (subst (IsAccepted (format g)) (sym c.bytes_mut-bytes.ensures.value) c.self.invariant.0)))
 
--- the store with the entry, and its bytes
-abbrev with_pair : (g : Over) → After-write_tag g → g.row.M.Denot
-with_pair g c = g.M.ByteStoreMut.after_borrow c.self.inside.store c.write_pair.new.bytes
+pub split_at_mut-table-requires : goal.split_at_mut-table-requires
+split_at_mut-table-requires g c =
+    let slots : c.slot_count-slots.result ≡ header_slots c.bytes_mut-bytes.result.now = c.slot_count-slots.ensures ∙ ap header_slots c.of.ensures in
+    rw (c.entry_at.ensures, slots) (omega (arith, accepted_len (format g) c.bytes_mut-bytes.result.now (subst (IsAccepted (format g)) (sym c.bytes_mut-bytes.ensures.value) c.self.invariant.0)))
 
-paired : (g : Over) (c : After-write_tag g) → g.M.ByteStore.bytes (with_pair g c) ≡ c.write_pair.new.bytes
-paired g c =
-    borrowed-bytes g.M.ByteStore.bytes g.M.ByteStoreMut.holding g.M.ByteStoreMut.after_borrow g.met.M.ByteStoreMut.held g.met.M.ByteStoreMut.after_borrow_fits c.self.inside.store c.write_pair.new.bytes
-    (c.write_pair.auto.bytes ∙ ap length c.bytes_mut.ensures.value)
+-- the bytes of the store are accepted
+accepted : (g : Over) (c : After-split_at_mut-entries g) → IsAccepted (format g) c.bytes_mut-bytes.result.now
+accepted g c = subst (IsAccepted (format g)) (sym c.bytes_mut-bytes.ensures.value) c.self.invariant.0
 
--- and with the tag
-tagged : (g : Over) (c : After-write_tag g) → g.M.ByteStore.bytes (g.M.ByteStoreMut.after_borrow (with_pair g c) c.write_tag.new.bytes) ≡ c.write_tag.new.bytes
-tagged g c =
-    borrowed-bytes g.M.ByteStore.bytes g.M.ByteStoreMut.holding g.M.ByteStoreMut.after_borrow g.met.M.ByteStoreMut.held g.met.M.ByteStoreMut.after_borrow_fits (with_pair g c) c.write_tag.new.bytes
-    (c.write_tag.auto.bytes ∙ ap length c.bytes_mut-2.ensures.value)
+-- header, entries and control bytes are those of the bytes
+cut : (g : Over) (c : After-split_at_mut-entries g) → IsCut (format g) c.bytes_mut-bytes.result.now c.split_at_mut-entries.result.0.now c.split_at_mut-entries.result.1.now c.split_at_mut-table.result.1.now
+cut g c =
+    let slots : c.slot_count-slots.result ≡ header_slots c.bytes_mut-bytes.result.now = c.slot_count-slots.ensures ∙ ap header_slots c.of.ensures in
+    cut_accepted (format g) c.bytes_mut-bytes.result.now (accepted g c) c.entry_at.result (c.entry_at.ensures ∙ ap (λ s. 32 + s * entry_len (format g)) slots) _ _ _ _
+    c.split_at_mut-table.ensures.front c.split_at_mut-table.ensures.back c.split_at_mut-entries.ensures.front c.split_at_mut-entries.ensures.back
 
--- these bytes are accepted
-accepted : (g : Over) (c : After-write_tag g) → IsAccepted (format_of g.C.EncodedKey.ByteArray.LEN g.C.EncodedValue.ByteArray.LEN g.C.H.HashFn.hash) (g.M.ByteStore.bytes (g.M.ByteStoreMut.after_borrow (with_pair g c) c.write_tag.new.bytes))
-accepted g c =
-    let F = format_of g.C.EncodedKey.ByteArray.LEN g.C.EncodedValue.ByteArray.LEN g.C.H.HashFn.hash in
-    let B = g.M.ByteStore.bytes c.args.self.now in
-    let is : IsAccepted F B = c.header.ensures.accepted in
-    let slot = c.args.slot in
-    let d = g.C.EncodedKey.ByteArray.bytes c.args.key.now ++ g.C.EncodedValue.ByteArray.bytes c.args.value.now in
-    let long = length-append (g.C.EncodedKey.ByteArray.bytes c.args.key.now) (g.C.EncodedValue.ByteArray.bytes c.args.value.now) in
-    let slots : c.slot_count-slots.result ≡ header_slots B = c.slot_count-slots.ensures ∙ ap header_slots c.header.ensures.bytes in
-    let fits : 32 + slot * entry_len F + length d ≤ length B = omega (arith, accepted_entry F B is slot c.requires, long, c.write_pair.ensures.key.len, c.write_pair.ensures.value.len) in
-    let D = overwritten_at B (32 + slot * entry_len F) d in
-    let same : length D ≡ length B = length-overwritten_at B (32 + slot * entry_len F) d fits in
-    let before : c.bytes_mut.result.now ≡ B = c.bytes_mut.ensures.value ∙ ap g.M.ByteStore.bytes c.self.view_is in
-    let entry : c.bytes_mut-2.result.now ≡ D = c.bytes_mut-2.ensures.value ∙ paired g c ∙ c.write_pair.ensures.bytes ∙ (λ i. overwritten_at (before i) (c.entry_at.ensures i) d) in
-    let tag : g.M.ByteStore.bytes (g.M.ByteStoreMut.after_borrow (with_pair g c) c.write_tag.new.bytes) ≡ tagged_at D (32 + header_slots B * entry_len F + slot) (header_slots B) slot c.args.tag =
-    tagged g c ∙ c.write_tag.ensures ∙ (λ i. tagged_at (entry i) ((c.entry_at-2.ensures ∙ ap (λ n. 32 + n * entry_len F) slots) i + slot) (slots i) slot c.args.tag) in
-    subst (IsAccepted F) (sym tag)
-    (IsAccepted-tagged_at F D (IsAccepted-overwritten_at F B is (32 + slot * entry_len F) d (omega arith) fits) (32 + header_slots B * entry_len F + slot) (header_slots B) slot c.args.tag
-    (omega arith) (accepted_control F B is D slot same c.requires) (accepted_mirror F B is D slot same))
+-- the control bytes are those of as many slots as the header says
+behind : (g : Over) (c : After-split_at_mut-entries g) → length c.split_at_mut-table.result.1.now - 16 ≡ header_slots c.bytes_mut-bytes.result.now
+behind g c = let cut = cut g c in omega (arith, cut.mirrored, cut.slots)
+
+pub fill_slot-requires-clause-lengths : goal.fill_slot-requires-clause-lengths
+fill_slot-requires-clause-lengths g c κs within =
+    let at = (goal.at.fill_slot-requires-clause-lengths g c).After-split_at_mut-entries in
+    let cut = cut g at in
+    record {
+      pair = record { hashes = g.met.C.Config.key_hashes; key = g.met.C.Config.key_fits; value = g.met.C.Config.value_fits };
+      slots = subst IsSlotCount (sym (behind g at)) (accepted_slots (format g) c.bytes_mut-bytes.result.now (accepted g at));
+      entries = cut.long ∙ ap (λ s. s * entry_len (format g)) (cut.slots ∙ sym (behind g at));
+    }
+
+pub fill_slot-requires-clause-slots : goal.fill_slot-requires-clause-slots
+fill_slot-requires-clause-slots g c κs within =
+    c.slot_count-slots.ensures ∙ ap header_slots c.of.ensures ∙ sym (behind g (goal.at.fill_slot-requires-clause-slots g c).After-split_at_mut-entries)
+
+pub fill_slot-requires-clause-slot : goal.fill_slot-requires-clause-slot
+fill_slot-requires-clause-slot g c κs within =
+    let same : c.bytes_mut-bytes.result.now ≡ g.M.ByteStore.bytes c.args.self.now = c.bytes_mut-bytes.ensures.value ∙ ap g.M.ByteStore.bytes c.self.view_is in
+    omega (arith, behind g (goal.at.fill_slot-requires-clause-slot g c).After-split_at_mut-entries, ap header_slots same, c.requires)
+
+-- what was written
+module _ (g : Over) (c : After-fill_slot g)
+    (cut : IsCut (format g) c.bytes_mut-bytes.result.now c.split_at_mut-entries.result.0.now c.split_at_mut-entries.result.1.now c.split_at_mut-table.result.1.now) where
+  abbrev B : List ℕ
+  B = g.M.ByteStore.bytes c.args.self.now
+
+  before : c.bytes_mut-bytes.result.now ≡ B
+  before = c.bytes_mut-bytes.ensures.value ∙ ap g.M.ByteStore.bytes c.self.view_is
+
+  abbrev pair : Pair
+  pair = record { key = g.C.EncodedKey.ByteArray.bytes c.args.key.now; value = g.C.EncodedValue.ByteArray.bytes c.args.value.now }
+
+  -- the bytes that are left
+  abbrev joined : List ℕ
+  joined = c.split_at_mut-entries.result.0.now ++ c.fill_slot.new.entries ++ c.fill_slot.new.control
+
+  written : joined ≡ with_tag (format g) (header_slots B) (with_entry (format g) B c.args.slot pair) c.args.slot c.args.tag
+  written =
+      let F = format g in
+      let H = c.split_at_mut-entries.result.0.now in
+      let es = c.split_at_mut-entries.result.1.now in
+      let ctrl = c.split_at_mut-table.result.1.now in
+      let s = header_slots B in
+      let slots : header_slots H ≡ s = cut.slots ∙ ap header_slots before in
+      let long : length es ≡ s * entry_len F = cut.long ∙ ap (λ n. n * entry_len F) slots in
+      let mirrored : length ctrl ≡ s + 16 = omega (arith, cut.mirrored, slots) in
+      let es' = overwritten_at es (c.args.slot * entry_len F) (pair.key ++ pair.value) in
+      let within = c.requires in
+      let long' : length es' ≡ s * entry_len F = sym (ap length c.fill_slot.ensures.entries) ∙ c.fill_slot.auto.entries ∙ long in
+      let entry : with_entry F B c.args.slot pair ≡ H ++ (es' ++ ctrl) =
+      ap (λ D. with_entry F D c.args.slot pair) (sym before ∙ cut.whole) ∙ with_entry-append F s H es ctrl c.args.slot pair cut.head long within c.fill_slot.ensures.key.len c.fill_slot.ensures.value.len in
+      append_assoc H c.fill_slot.new.entries c.fill_slot.new.control
+      ∙ (λ i. H ++ (c.fill_slot.ensures.entries i ++ c.fill_slot.ensures.control i))
+      ∙ sym (with_tag-append F s H es' ctrl c.args.slot c.args.tag cut.head long' mirrored)
+      ∙ ap (λ D. with_tag F s D c.args.slot c.args.tag) (sym entry)
+
+  same_length : length (c.split_at_mut-entries.result.0.now ++ c.fill_slot.new.entries ++ c.fill_slot.new.control) ≡ length c.bytes_mut-bytes.result.now
+  same_length =
+      let H = c.split_at_mut-entries.result.0.now in
+      let new = length-append H c.fill_slot.new.entries in
+      let old = length-append c.split_at_mut-entries.result.1.now c.split_at_mut-table.result.1.now in
+      omega (
+        arith,
+        length-append (H ++ c.fill_slot.new.entries) c.fill_slot.new.control,
+        new,
+        length-append H (c.split_at_mut-entries.result.1.now ++ c.split_at_mut-table.result.1.now),
+        old,
+        ap length cut.whole,
+        c.fill_slot.auto.entries,
+        c.fill_slot.auto.control,
+      )
+
+  -- the store has them
+  same : g.M.ByteStore.bytes (g.M.ByteStoreMut.after_borrow c.self.inside.store joined) ≡ joined
+  same =
+      borrowed-bytes g.M.ByteStore.bytes g.M.ByteStoreMut.holding g.M.ByteStoreMut.after_borrow g.met.M.ByteStoreMut.held g.met.M.ByteStoreMut.after_borrow_fits c.self.inside.store joined
+      (same_length ∙ ap length c.bytes_mut-bytes.ensures.value)
+
+  -- and they are accepted
+  fits : IsAccepted (format g) joined
+  fits =
+      let F = format g in
+      let is : IsAccepted F B = subst (IsAccepted F) before cut.accepted in
+      let slot = c.args.slot in
+      let d = pair.key ++ pair.value in
+      let long = length-append pair.key pair.value in
+      let room : 32 + slot * entry_len F + length d ≤ length B = omega (arith, accepted_entry F B is slot c.requires, long, c.fill_slot.ensures.key.len, c.fill_slot.ensures.value.len) in
+      let D = overwritten_at B (32 + slot * entry_len F) d in
+      let same : length D ≡ length B = length-overwritten_at B (32 + slot * entry_len F) d room in
+      subst (IsAccepted F) (sym written)
+      (IsAccepted-tagged_at F D (IsAccepted-overwritten_at F B is (32 + slot * entry_len F) d (omega arith) room) (32 + header_slots B * entry_len F + slot) (header_slots B) slot c.args.tag
+      (omega arith) (accepted_control F B is D slot same c.requires) (accepted_mirror F B is D slot same))
+
+pub returns-clause-bytes : goal.returns-clause-bytes
+returns-clause-bytes g c =
+    let at = (goal.at.returns-clause-bytes g c).After-fill_slot in
+    let cut = cut g (goal.at.returns-clause-bytes g c).After-split_at_mut-entries in
+    same g at cut ∙ written g at cut
+
+pub returns-clause-accepted : goal.returns-clause-accepted
+returns-clause-accepted g c =
+    let at = (goal.at.returns-clause-accepted g c).After-fill_slot in
+    let cut = cut g (goal.at.returns-clause-accepted g c).After-split_at_mut-entries in
+    rw (same g at cut) (fits g at cut)
 
 pub invariant_of-self : goal.invariant_of-self
 invariant_of-self g c =
-    let at = (goal.at.invariant_of-self g c).After-write_tag in
-    (accepted g at, omega (arith, ap length (tagged g at), c.write_tag.auto.bytes, c.bytes_mut-2.type_inv.0))
+    let at = (goal.at.invariant_of-self g c).After-fill_slot in
+    let cut = cut g (goal.at.invariant_of-self g c).After-split_at_mut-entries in
+    (rw (same g at cut) (fits g at cut), omega (arith, ap length (same g at cut), same_length g at cut, c.bytes_mut-bytes.type_inv.0))
 
-pub returns-clause-accepted : goal.returns-clause-accepted
-returns-clause-accepted g c = accepted g (goal.at.returns-clause-accepted g c).After-write_tag
+pub returns-clause-same_store : goal.returns-clause-same_store
+returns-clause-same_store g c =
+    let at = (goal.at.returns-clause-same_store g c).After-fill_slot in
+    let cut = cut g (goal.at.returns-clause-same_store g c).After-split_at_mut-entries in
+    subst (λ s. g.M.ByteStoreMut.after_borrow c.self.inside.store (joined g at cut) ≡ g.M.ByteStoreMut.holding s (g.M.ByteStore.bytes (g.M.ByteStoreMut.after_borrow c.self.inside.store (joined g at cut)))) c.self.view_is
+    (borrowed-same g.M.ByteStore.bytes g.M.ByteStoreMut.holding g.M.ByteStoreMut.after_borrow g.met.M.ByteStoreMut.held g.met.M.ByteStoreMut.after_borrow_fits c.self.inside.store (joined g at cut) (same_length g at cut ∙ ap length c.bytes_mut-bytes.ensures.value))

@@ -1,6 +1,6 @@
-use Rattle.std.proofs.Common.{arith, ◌-◌, ◌∙◌, ℕ, sym, ap, subst, refl, length, Ok, Err}
+use Rattle.std.proofs.Common.{arith, ◌-◌, ◌/◌, ◌^◌, ◌≡◌, ◌∙◌, ℕ, sym, ap, subst, refl, length, Ok, Err}
 use Rattle.std.proofs.lemmas.Option.{none-some}
-use Rattle.odht_base.specs.Format.{Format, format_of}
+use Rattle.odht_base.specs.Format.{Format, format_of, tag as key_tag}
 use Rattle.odht_base.specs.Table.{Pair, Table}
 use Rattle.odht_base.specs.Valid.{IsPairOf, IsPartsOf}
 use Rattle.odht_base.proofs.lemmas.Places.{written, place-None}
@@ -43,14 +43,15 @@ returns g c =
     let ctrl = t.control.now in
     let few = t.slots.least in
     let hash = c.hash-hash.ensures ∙ ap g.H.HashFn.hash c.as_slice.ensures.value in
+    let tag : c.tag_of.result ≡ key_tag F p.key = c.tag_of.ensures ∙ ap (λ h. h / 2 ^ 25) hash in
     let first = subst (λ (x : ℕ). IsFirstFree ctrl x (length ctrl - 16) c.in-Some.slot) hash c.in-Some.ensures in
     let fits : IsPairOf F p = record { key = c.fill_slot.ensures.key; value = c.fill_slot.ensures.value } in
     let framed : PlacingFrame F es ctrl p (Ok tt) c.fill_slot.new.entries c.fill_slot.new.control =
-    rw (c.fill_slot.ensures.control, c.fill_slot.ensures.entries) (PlacingFrame.added c.in-Some.slot first) in
+    rw (c.fill_slot.ensures.control, c.fill_slot.ensures.entries, tag) (PlacingFrame.added c.in-Some.slot first) in
     let placing : (P : Table) → IsPartsOf F P es ctrl → IsNewTo P p → IsNewPlacing F P p (Ok tt) c.fill_slot.new.entries c.fill_slot.new.control = (λ P h new.
     let at = answer-Free F P p.key h.placed c.in-Some.slot (first_free-answer F P p.key es ctrl f h (length ctrl - 16) (omega arith) new c.in-Some.slot first) in
     let parts : IsPartsOf F (written P c.in-Some.slot p) c.fill_slot.new.entries c.fill_slot.new.control =
-    rw (c.fill_slot.ensures.control, c.fill_slot.ensures.entries) (free_parts F P es ctrl h p.key c.in-Some.slot p refl fits at) in
+    rw (c.fill_slot.ensures.control, c.fill_slot.ensures.entries, tag) (free_parts F P es ctrl h p.key c.in-Some.slot p refl fits at) in
     let some = at.places p refl in
     record {
       ok = (written P c.in-Some.slot p, some, parts);

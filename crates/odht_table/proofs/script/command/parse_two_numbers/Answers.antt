@@ -1,7 +1,7 @@
 use Rattle.std.proofs.Common.{refl, Some, None}
 use Rattle.std.proofs.lemmas.Option.{none-some, same_Some}
 use Rattle.odht_table.proofs.CommandTexts.{number_found, pair_cut}
-use Rattle.odht_table.proofs.script.command.parse_pair.Goals as goal
+use Rattle.odht_table.proofs.script.command.parse_two_numbers.Goals as goal
 
 pub returns-in_err-first-clause-misses_none : goal.returns-in_err-first-clause-misses_none
 returns-in_err-first-clause-misses_none c m n h =
