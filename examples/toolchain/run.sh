@@ -37,7 +37,7 @@ found() {
 # compiler does, in a table that grows.
 remake() {
     "$odht" dump "$1" --at "$2" > pairs
-    "$odht" check "$1" --at "$2" --hash unhash > answer && grep -q "^valid, and no search reads more than" answer || fail "odht check: $(cat answer)"
+    "$odht" check "$1" --at "$2" --hash unhash > answer && grep -q ": valid, and no search reads more than" answer || fail "odht check: $(cat answer)"
     cut -f 1 pairs | "$odht" get "$1" --at "$2" - | cmp pairs - || fail 'odht get finds other values'
     rm -f again.odht
     sort -n -k 2 pairs | "$odht" build again.odht --key hex8 --value u32

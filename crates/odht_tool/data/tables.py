@@ -181,6 +181,7 @@ class Case:
         slot, expected, found = next(misfits(self.table, other))
         rule = f"Control byte does not match hash value for entry {slot}. Expected {expected}, found {found}.\n"
         file = f"{self.name}.odht"
+        rule = f"{file}: {rule}"
         hint = f"odht: {file}: all control bytes fit {name}: try --hash {name}, or `odht info`\n"
         runs = [("check without --hash", f"check {file}", hint), ("check under another", f"check {file} --hash {other_name}", "")]
         return "".join(
@@ -192,8 +193,8 @@ class Case:
         file, hash = f"{self.name}.odht", self.hash_words
         text = HEAD + self.run_text("info", f"info {file}", "", self.info)
         if self.words:
-            text += self.run_text("check", f"check {file}{hash}", "", VALID)
-            text += self.run_text("check --whole", f"check --whole {file}{hash}", "", "valid\n")
+            text += self.run_text("check", f"check {file}{hash}", "", f"{file}: {VALID}")
+            text += self.run_text("check --whole", f"check --whole {file}{hash}", "", f"{file}: valid\n")
             if hash:
                 text += self.rejected_text(fx, "fx", "unhash")
             text += self.run_text("dump", f"dump {file}", "", self.dump)
@@ -308,7 +309,7 @@ def write_find_cases():
         at = f"inside.bin --at {places[name]}"
         text += case(f"info of {name} inside a file", f"info {at}", made[name].info)
         if made[name].words:
-            text += case(f"check of {name}", f"check {at}{made[name].hash_words}", VALID)
+            text += case(f"check of {name}", f"check {at}{made[name].hash_words}", f"inside.bin: {VALID}")
             text += case(f"dump of {name}", f"dump {at}", made[name].dump)
             text += case(f"dump --slots of {name}", f"dump --slots {at}", made[name].slots)
             key, value = made[name].dump.split("\n")[1].split("\t")
@@ -323,8 +324,8 @@ def write_bound_cases():
     made.write_file()
     slots = len(made.table.cells)
     home = next(it for it in range(slots) if made.table.groups_to_free(it) > BOUND)
-    long = f"Searches from slot {home} may read more than 128 groups; --whole checks without a bound\n"
-    failure = block("stderr", f"odht: one_home.odht: {long}") + "status: 1\n\n"
+    long = f"one_home.odht: Searches from slot {home} may read more than 128 groups; --whole checks without a bound\n"
+    failure = block("stderr", f"odht: {long}") + "status: 1\n\n"
     columns = [0, len(made.table.image()), 4, 4, 2064, slots, 2064 * 100 // slots, "unhash"]
     row = "\t".join(str(it) for it in columns)
 
@@ -334,7 +335,7 @@ def write_bound_cases():
     text = HEAD + case("info", "info one_home.odht", made.info)
     text += case("info --whole", "info --whole one_home.odht", info_text(made.table, 87, None))
     text += case("check", "check one_home.odht --hash unhash", long).rstrip("\n") + "\nstatus: 1\n\n"
-    text += case("check --whole", "check one_home.odht --hash unhash --whole", "valid\n")
+    text += case("check --whole", "check one_home.odht --hash unhash --whole", "one_home.odht: valid\n")
     text += case("find", "find one_home.odht", f"{row}\tlong\n")
     text += case("find --whole", "find one_home.odht --whole", f"{row}\tvalid\n")
     text += case("get", "get one_home.odht 8450048", "8450048\t0\n")

@@ -1,11 +1,12 @@
 -- What `find` writes and returns, of the bytes B of a file, where o is the bound of searches, or there is none.
 --     table_text B o at    the line of the table at the offset `at`
 --     tables_text B o ts   those of the tables at the offsets ts
+--     none_text file       the line on standard error where there is none
 --     AreTablesWritten B o old new s    the lines of all tables in B were written, which took the writer from the bytes old
 --                          to new, and the status s says whether there is one
 --     AreFound B o old new r   a call that took a writer from the bytes old to new and returned r did that; only the writer,
 --                          memory, or headers that overlap may have kept it from that
-use Rattle.std.specs.Prelude.{◌≡◌, ℕ, List, drop, length, ◌≤◌, nat_lt, flat_map, Option, None, Result, Ok, Err, if◌then◌else◌}
+use Rattle.std.specs.Prelude.{◌≡◌, ℕ, List, drop, length, ◌≤◌, nat_lt, flat_map, codes, ◌++◌, Option, None, Result, Ok, Err, if◌then◌else◌}
 use Rattle.std.specs.Io.KnownBytes.{Appends, Keeps}
 use Rattle.odht_tool.specs.Outcomes.{check_word}
 use Rattle.odht_tool_core.specs.Finds.{AreTables, IsFindFailure, false_slots, row_text}
@@ -23,6 +24,9 @@ table_text B o at =
 
 abbrev pub tables_text : List ℕ → Option ℕ → List ℕ → List ℕ
 tables_text B o ts = flat_map (table_text B o) ts
+
+abbrev pub none_text : List ℕ → List ℕ
+none_text file = codes "odht: " ++ (file ++ codes ": no table is in it\n")
 
 pub record AreTablesWritten (B : List ℕ) (o : Option ℕ) (old new : Option (List ℕ)) (status : Status) : Type 0 where
   pub tables : List ℕ

@@ -1,7 +1,7 @@
 -- What `check` and `dump` do with the bytes of a file.
 --     by_shape r f             what f says of a shape, where r is one; else the failure
---     check_outcome B h o      of `check`, where the hash function h, or none, is named, and o is the bound of searches, or
---                              there is none
+--     check_outcome name B h o of `check` of the file of this name, where the hash function h, or none, is named, and o is
+--                              the bound of searches, or there is none
 --     hint_of B h              the hash function to name for bytes that were rejected, where none was named
 --     hint_text file h         the line of that
 --     check_word o B r         what `find` says of the check, by the bound o, of the table B, which is of the shape r, if
@@ -28,7 +28,8 @@ use Rattle.odht_tool_core.specs.InfoTexts.{hash_name}
 use Rattle.odht_tool_core.specs.ReadyShapes.{shape_format, shape_coding, typed_text}
 use Rattle.odht_tool_core.specs.ShapeList.{key_part, value_part}
 use Rattle.odht_tool_core.specs.Slots.{slots_outcome}
-use Rattle.odht_tool_core.specs.Texts.{checked_text, pairs_text}
+use Rattle.odht_tool_core.specs.Refusals.{checked_text}
+use Rattle.odht_tool_core.specs.Texts.{pairs_text}
 use Rattle.odht_tool_core.specs.declared.failure.Failure.{Failure}
 use Rattle.odht_tool_core.specs.declared.failure.Failure.TheVariants.{Refused, Memory}
 use Rattle.odht_tool_core.specs.declared.shapes.Hash.{Hash}
@@ -40,13 +41,13 @@ by_shape (Ok s) f = f s
 by_shape (Err failure) f = fails failure
 
 -- ---- check
-abbrev pub check_of_shape : List ℕ → Option ℕ → Shape → Outcome
-check_of_shape B o s =
+abbrev pub check_of_shape : List ℕ → List ℕ → Option ℕ → Shape → Outcome
+check_of_shape name B o s =
     let r = checked (check_refusal_by (shape_format s) o B) in
-    writes (checked_text o r) (if is_ok r then Done else NotDone)
+    writes (checked_text name o r) (if is_ok r then Done else NotDone)
 
-abbrev pub check_outcome : List ℕ → Option Hash → Option ℕ → Outcome
-check_outcome B h o = by_shape (named_shape B h) (check_of_shape B o)
+abbrev pub check_outcome : List ℕ → List ℕ → Option Hash → Option ℕ → Outcome
+check_outcome name B h o = by_shape (named_shape B h) (check_of_shape name B o)
 
 abbrev pub hint_of : List ℕ → Option Hash → Option Hash
 hint_of B h = if is_none h then option_and_then (hinted_hash B) (result_ok (named_shape B None)) else None

@@ -35,3 +35,9 @@ pub mod Replaced
 pub mod Commands
 -- words that one slip makes of each other
 pub mod Near
+-- bytes as they are shown
+pub mod Shown
+-- the errors of tables as they are written
+pub mod Refusals
+-- the first table inside of other bytes
+pub mod Insides

@@ -8,9 +8,6 @@
 --     pairs_text f g xs       the line of each pair in turn
 --     answer_line f g x       the same of a value that may be absent: then the key alone
 --     answers_text f g ks os  the line of each key and its value in turn
---     valid_line o            `valid`; where there is a bound of searches o, that it is kept too
---     advice_text e           what can be done about the error e, where that is known
---     checked_text o r        that line, or the text of an error on a line
 -- A tab is the byte 9, the end of a line the byte 10. A sign is no digit; digits may begin with zeros.
 use Rattle.std.specs.Prelude.{Result, Ok, Err, codes, decimal, ◌≡◌, ℕ, ◌*◌, ◌/◌, ◌%◌, ◌<◌, false, List, [], ◌∷◌, ◌++◌, Option, Some, None, length}
 use Rattle.std.specs.Char.{is_ascii_hexdigit}
@@ -51,15 +48,3 @@ abbrev pub answers_text : {K V : Type 0} → (K → List ℕ) → (V → List �
 answers_text f g [] values = []
 answers_text f g (key ∷ keys) [] = []
 answers_text f g (key ∷ keys) (value ∷ values) = answer_line f g (key, value) ++ answers_text f g keys values
-
-abbrev pub valid_line : Option ℕ → List ℕ
-valid_line None = codes "valid\n"
-valid_line (Some bound) = codes "valid, and no search reads more than " ++ (decimal bound ++ codes " groups\n")
-
-abbrev pub advice_text : Error → List ℕ
-advice_text (SearchTooLong home groups) = codes "; --whole checks without a bound"
-advice_text _ = []
-
-abbrev pub checked_text : {X : Type 0} → Option ℕ → Result X Error → List ℕ
-checked_text o (Ok x) = valid_line o
-checked_text o (Err error) = error_text error ++ (advice_text error ++ (10 ∷ []))

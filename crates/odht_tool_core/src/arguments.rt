@@ -89,6 +89,16 @@ pub enum Reading {
     },
 }
 
+impl Reading {
+    /// Whether it looks for tables at every byte of the file.
+    pub fn is_search(&self) -> bool {
+        match self {
+            Reading::Find { .. } => true,
+            _ => false,
+        }
+    }
+}
+
 /// What the words ask for.
 #[derive(Drop)]
 pub enum Request {

@@ -1,9 +1,9 @@
 //! Why a command stopped.
 ghost use Rattle.std.specs.Prelude.{◌≡◌};
 ghost use Rattle.odht_tool_core.specs.Endings.{failure_of};
-ghost use Rattle.odht_tool_core.specs.Texts.{advice_text};
 
 use crate::obstacles::Obstacle;
+use crate::refusal::Refusal;
 use odht_header::error::Error;
 use std::alloc::AllocError;
 use std::{fmt, io};
@@ -73,8 +73,8 @@ impl fmt::Display for Failure {
                 "{name} is there: another run is at work, or was interrupted; remove it if none is"
             ),
             Failure::Refused(error) => {
-                let advice = advice_of(error);
-                write!(f, "{error}{advice}")
+                let refusal = Refusal(*error);
+                write!(f, "{refusal}")
             }
             Failure::NoShape {
                 key_size,
@@ -134,16 +134,6 @@ impl From<AllocError> for Failure {
 
     fn from(_refused: AllocError) -> Failure {
         Failure::Memory
-    }
-}
-
-/// What can be done about an error, as it follows its text: of a bound of searches, that there need be none.
-pub fn advice_of(error: &Error) -> &'static str
-    ensures { result.now ≡ advice_text error.now }
-{
-    match error {
-        Error::SearchTooLong { .. } => "; --whole checks without a bound",
-        _ => "",
     }
 }
 

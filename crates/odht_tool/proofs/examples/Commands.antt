@@ -19,28 +19,33 @@ use Rattle.odht_tool_core.proofs.examples.Shapes.{one_bytes}
 
 -- ---- check
 -- a valid table, also with a bound of searches that it keeps
-pub valid : (check_outcome one_bytes (Some Unhash) None ≡ writes (codes "valid\n") Done)
-    × (check_outcome one_bytes (Some Unhash) (Some 128) ≡ writes (codes "valid, and no search reads more than 128 groups\n") Done)
+pub valid : (check_outcome (codes "a") one_bytes (Some Unhash) None ≡ writes (codes "a: valid\n") Done)
+    × (check_outcome (codes "a") one_bytes (Some Unhash) (Some 128) ≡ writes (codes "a: valid, and no search reads more than 128 groups\n") Done)
 unfolding opened first_longer digits
 valid = (refl, refl)
 
 -- and with one that no table keeps
-pub too_long : check_outcome one_bytes (Some Unhash) (Some 0) ≡ writes (codes "Searches from slot 0 may read more than 0 groups; --whole checks without a bound\n") NotDone
+pub too_long : check_outcome (codes "a") one_bytes (Some Unhash) (Some 0) ≡ writes (codes "a: Searches from slot 0 may read more than 0 groups; --whole checks without a bound\n") NotDone
 unfolding opened first_longer digits
 too_long = refl
 
 -- two bytes
-pub too_short : check_outcome (79 ∷ 68 ∷ []) None None ≡ writes (codes "Provided data has 2 bytes but the header needs 32\n") NotDone
+pub too_short : check_outcome (codes "a") (79 ∷ 68 ∷ []) None None ≡ writes (codes "a: Provided data has 2 bytes but the header needs 32\n") NotDone
 unfolding opened digits
 too_short = refl
 
+-- another first byte, a tab, and one that is not printed
+pub foreign : check_outcome (codes "a") (overwritten_at one_bytes 0 (9 ∷ 0x7F ∷ [])) None None ≡ writes (codes "a: not an odht table: it begins with 09 7f 48 54, \"\\t\\x7fHT\"\n") NotDone
+unfolding opened digits
+foreign = refl
+
 -- a count of one item more, which is an earlier error than that of a bound
-pub miscounted : check_outcome (overwritten_at one_bytes 8 (2 ∷ [])) (Some Unhash) (Some 0) ≡ writes (codes "Header states 2 items but 1 were found\n") NotDone
+pub miscounted : check_outcome (codes "a") (overwritten_at one_bytes 8 (2 ∷ [])) (Some Unhash) (Some 0) ≡ writes (codes "a: Header states 2 items but 1 were found\n") NotDone
 unfolding opened digits
 miscounted = refl
 
 -- keys of nine bytes
-pub no_shape : check_outcome (overwritten_at one_bytes 5 (9 ∷ [])) None (Some 128) ≡ fails (NoShape 9 4)
+pub no_shape : check_outcome (codes "a") (overwritten_at one_bytes 5 (9 ∷ [])) None (Some 128) ≡ fails (NoShape 9 4)
 unfolding opened
 no_shape = refl
 

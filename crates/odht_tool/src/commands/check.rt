@@ -6,33 +6,36 @@ ghost use Rattle.odht_header.specs.Refusals.{checked, check_refusal_by};
 ghost use Rattle.odht_tool.specs.Outcomes.{check_outcome, hint_of, hint_text};
 ghost use Rattle.odht_tool_core.specs.Endings.{IsDone};
 ghost use Rattle.odht_tool_core.specs.ReadyShapes.{shape_format};
-ghost use Rattle.odht_tool_core.specs.Texts.{checked_text};
+ghost use Rattle.odht_tool_core.specs.Refusals.{checked_text};
 
 use crate::shapes::for_shape;
 use odht::config::{Coded, Config};
 use odht::error::Error;
 use odht::memory_layout::{check_all, check_all_within};
-use odht_tool_core::failure::{Failure, advice_of};
+use odht_tool_core::failure::Failure;
 use odht_tool_core::found::hinted_hash;
 use odht_tool_core::info::name_of;
+use odht_tool_core::refusal::Refusal;
 use odht_tool_core::shapes::{Hash, Shape, shape_of};
 use odht_tool_core::status::Status;
 use std::io::{self, Write};
 
-/// `odht check` of the bytes of a file: writes that they are valid, and with a bound that no search reads more groups;
-/// or the first rule that they break. With a bound it takes time in proportion to the bytes and the bound.
+/// `odht check` of the bytes of the file of this name: writes the name, and that they are valid, and with a bound that
+/// no search reads more groups; or the first rule that they break. With a bound it takes time in proportion to the
+/// bytes and the bound.
 pub fn check_file<O: Write>(
+    file: &str,
     bytes: &[u8],
     hash: Option<Hash>,
     bound: Option<usize>,
     output: &mut O,
 ) -> Result<Status, Failure>
-    ensures { IsDone (check_outcome bytes.now hash bound)
+    ensures { IsDone (check_outcome file.now bytes.now hash bound)
         (O.contents output.old) (O.contents output.new) result }
 {
     let shape = shape_of(bytes, hash)?;
     let checked = check_shape(shape, bytes, bound);
-    write_checked(&checked, bound, output).map_err(Failure::Output)?;
+    write_checked(file, &checked, bound, output).map_err(Failure::Output)?;
     Ok(Status::of(checked.is_ok()))
 }
 
@@ -55,26 +58,27 @@ pub fn check_bytes<C: Config>(bytes: &[u8], bound: Option<usize>) -> Result<(), 
     }
 }
 
-// Writes a line with what the check found.
+// Writes a line with the file's name and what the check found.
 fn write_checked<O: Write>(
+    file: &str,
     checked: &Result<(), Error>,
     bound: Option<usize>,
     output: &mut O,
 ) -> io::Result<()>
-    ensures { OnOk result
-        (Appends (O.contents output.old) (O.contents output.new) (checked_text bound checked.now)) }
+    ensures { OnOk result (Appends (O.contents output.old) (O.contents output.new)
+        (checked_text file.now bound checked.now)) }
 {
     match (checked, bound) {
-        (Ok(()), None) => writeln!(output, "valid"),
+        (Ok(()), None) => writeln!(output, "{file}: valid"),
         (Ok(()), Some(bound)) => {
             writeln!(
                 output,
-                "valid, and no search reads more than {bound} groups"
+                "{file}: valid, and no search reads more than {bound} groups"
             )
         }
-        (Err(refused), _) => {
-            let advice = advice_of(refused);
-            writeln!(output, "{refused}{advice}")
+        (Err(error), _) => {
+            let refusal = Refusal(*error);
+            writeln!(output, "{file}: {refusal}")
         }
     }
 }

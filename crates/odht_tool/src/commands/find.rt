@@ -1,7 +1,7 @@
 //! `odht find`: the tables inside a file.
 ghost use Rattle.std.specs.Prelude.{◌≡◌, ℕ, true, drop, None, IfErr, OnOk};
 ghost use Rattle.std.specs.Io.KnownBytes.{Appends};
-ghost use Rattle.odht_tool.specs.FindLines.{table_text, tables_text, AreFound};
+ghost use Rattle.odht_tool.specs.FindLines.{table_text, tables_text, none_text, AreFound};
 ghost use Rattle.odht_tool.specs.Outcomes.{check_word};
 ghost use Rattle.odht_tool_core.specs.Endings.{IsOutputFailure};
 ghost use Rattle.odht_tool_core.specs.Finds.{AreTables, is_table};
@@ -15,7 +15,7 @@ use odht_tool_core::found::found_shape;
 use odht_tool_core::front::table_at;
 use odht_tool_core::status::Status;
 use std::alloc::Global;
-use std::io::Write;
+use std::io::{self, Write};
 
 /// `odht find` of the bytes of a file: writes a line for each table inside them. The status is `NotDone` where there is
 /// none. `Forged` where there are headers that overlap, as `find_tables` says.
@@ -30,6 +30,14 @@ pub fn find_file<O: Write>(
     let tables = find_tables(alloc, bytes)?;
     write_tables(bytes, tables.as_slice(), bound, output)?;
     Ok(Status::of(tables.len() > 0))
+}
+
+/// Writes a line that tells that no table is in a file.
+pub fn write_none<E: Write>(file: &str, errors: &mut E) -> io::Result<()>
+    ensures { OnOk result
+        (Appends (E.contents errors.old) (E.contents errors.new) (none_text file.now)) }
+{
+    writeln!(errors, "odht: {file}: no table is in it")
 }
 
 // Writes the lines of the tables at these offsets.

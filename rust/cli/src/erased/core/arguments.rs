@@ -75,6 +75,16 @@ pub enum Reading {
     Find { bound: Option<usize> },
 }
 
+impl Reading {
+    /// Whether it looks for tables at every byte of the file.
+    pub fn is_search(&self) -> bool {
+        match self {
+            Reading::Find { .. } => true,
+            _ => false,
+        }
+    }
+}
+
 /// What the words ask for.
 pub enum Request {
     /// The help text of a command, or of all.

@@ -2,6 +2,7 @@
 //! Why a command stopped.
 
 use crate::erased::core::obstacles::Obstacle;
+use crate::erased::core::refusal::Refusal;
 use crate::host::prelude::*;
 use crate::proved::header::error::Error;
 use crate::shim::AllocError;
@@ -72,8 +73,8 @@ impl fmt::Display for Failure {
                 "{name} is there: another run is at work, or was interrupted; remove it if none is"
             ),
             Failure::Refused(error) => {
-                let advice = advice_of(error);
-                write!(f, "{error}{advice}")
+                let refusal = Refusal(*error);
+                write!(f, "{refusal}")
             }
             Failure::NoShape { key_size, value_size } => write_no_shape(*key_size, *value_size, f),
             Failure::NoHash { key_size, value_size } => write_no_hash(*key_size, *value_size, f),
@@ -113,14 +114,6 @@ impl std::error::Error for Failure {}
 impl From<AllocError> for Failure {
     fn from(_refused: AllocError) -> Failure {
         Failure::Memory
-    }
-}
-
-/// What can be done about an error, as it follows its text: of a bound of searches, that there need be none.
-pub fn advice_of(error: &Error) -> &'static str {
-    match error {
-        Error::SearchTooLong { .. } => "; --whole checks without a bound",
-        _ => "",
     }
 }
 

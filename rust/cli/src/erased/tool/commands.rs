@@ -6,6 +6,7 @@ use crate::erased::core::files::{read_file, read_input};
 use crate::erased::core::front::table_at;
 use crate::erased::core::help::{write_help, write_version};
 use crate::erased::core::info::info_file;
+use crate::erased::core::inside::{first_inside, write_inside};
 use crate::erased::core::status::{of_output, Status};
 use crate::erased::core::targets::Target;
 use crate::host::prelude::*;
@@ -67,11 +68,17 @@ where
     match command {
         Command::Read { at, reading } => {
             let bytes = read_bytes(rt, file, input)?;
-            let table = match at {
-                Some(offset) => table_at(bytes.as_slice(), offset)?,
-                None => bytes.as_slice(),
+            let (table, offset) = match at {
+                Some(offset) => (table_at(bytes.as_slice(), offset)?, offset),
+                None => (bytes.as_slice(), 0),
             };
-            run_reading(rt.alloc(), file, table, reading, input, output, errors)
+            let is_search = reading.is_search();
+            let done = run_reading(rt.alloc(), file, table, reading, input, output, errors);
+            if is_search {
+                done
+            } else {
+                with_hint(rt.alloc(), file, table, offset, done, errors)
+            }
         }
         Command::Build(options) => build::build(rt, file, options, input, output, errors),
         Command::Put { hash, bound, breaks_links, has_progress } => {
@@ -80,6 +87,25 @@ where
             build::put(rt, target, bytes, hash, bound, has_progress, input, errors)
         }
     }
+}
+
+// Where these bytes, at this offset of a file, are no table, and one is further on: reports the failure, and tells where.
+fn with_hint<E: Write>(
+    alloc: Global,
+    file: &str,
+    bytes: &[u8],
+    offset: usize,
+    done: Result<Status, Failure>,
+    errors: &mut E,
+) -> Result<Status, Failure> {
+    // Where memory is short, or headers overlap, there is no hint.
+    let Ok(Some(inside)) = first_inside(alloc, bytes) else {
+        return done;
+    };
+    let status = finish(file, done, errors);
+    // A hint that cannot be written is no failure.
+    let _ = write_inside(file, offset.saturating_add(inside), errors);
+    Ok(status)
 }
 
 // All bytes of the file, or of standard input where the name stands for that.
@@ -108,7 +134,7 @@ fn run_reading<I: BufRead, O: Write, E: Write>(
     match reading {
         Reading::Info { bound } => info_file(alloc, bytes, bound, output),
         Reading::Check { hash, bound } => {
-            let status = check::check_file(bytes, hash, bound, output)?;
+            let status = check::check_file(file, bytes, hash, bound, output)?;
             if !status.is_done() {
                 if let Some(other) = check::hint_of(bytes, hash) {
                     // A hint that cannot be written is no failure.
@@ -123,7 +149,14 @@ fn run_reading<I: BufRead, O: Write, E: Write>(
         Reading::Get { hash, keys: Keys::Lines } => {
             get::get_file_lines(alloc, bytes, hash, input, output)
         }
-        Reading::Find { bound } => find::find_file(alloc, bytes, bound, output),
+        Reading::Find { bound } => {
+            let status = find::find_file(alloc, bytes, bound, output)?;
+            if !status.is_done() {
+                // A line that cannot be written is no failure.
+                let _ = find::write_none(file, errors);
+            }
+            Ok(status)
+        }
         Reading::Dump { hash, is_slots } => dump::dump_file(bytes, hash, is_slots, output),
     }
 }

@@ -2,7 +2,7 @@ use Rattle.std.proofs.Common.{rules, ◌≡◌, ◌∙◌, Err, sym, ap, if◌th
 use Rattle.std.specs.Io.KnownBytes.{Appends}
 use Rattle.odht_tool.specs.Outcomes.{check_of_shape}
 use Rattle.odht_tool_core.specs.FoundShapes.{named_shape}
-use Rattle.odht_tool_core.specs.Texts.{checked_text}
+use Rattle.odht_tool_core.specs.Refusals.{checked_text}
 use Rattle.odht_tool_core.specs.declared.status.Status.TheVariants.{Done, NotDone}
 use Rattle.odht_tool.proofs.Shaped.{without_shape, with_shape, failed_output}
 use Rattle.odht_tool.proofs.commands.check.check_file.Goals as goal
@@ -13,7 +13,7 @@ returns-in_err-shape g c =
     let x = c.in_err-shape.field-0.0 in
     let old = g.O.Write.contents c.args.output.now in
     let failed : c.from_residual.result ≡ Err x = search rules in
-    rw failed (without_shape (named_shape B c.args.hash) (check_of_shape B c.args.bound) old x (sym c.in_err-shape.was ∙ c.shape_of.ensures))
+    rw failed (without_shape (named_shape B c.args.hash) (check_of_shape c.args.file.now B c.args.bound) old x (sym c.in_err-shape.was ∙ c.shape_of.ensures))
 
 pub returns : goal.returns
 returns g c =
@@ -21,8 +21,8 @@ returns g c =
     let old = g.O.Write.contents c.args.output.now in
     let new = g.O.Write.contents c.write_checked.new.output in
     let status = c.of.ensures ∙ ap (λ b. if b then Done else NotDone) c.is_ok.ensures.value in
-    let written : Appends old new (checked_text c.args.bound c.check_shape-checked.result) = search rules in
-    with_shape (named_shape B c.args.hash) (check_of_shape B c.args.bound) c.in_ok-shape.shape old new _
+    let written : Appends old new (checked_text c.args.file.now c.args.bound c.check_shape-checked.result) = search rules in
+    with_shape (named_shape B c.args.hash) (check_of_shape c.args.file.now B c.args.bound) c.in_ok-shape.shape old new _
     (sym c.in_ok-shape.was ∙ c.shape_of.ensures)
     (rw (← c.check_shape-checked.ensures) (status, written))
 
@@ -31,6 +31,6 @@ returns-in_err-map_err g c =
     let B = c.args.bytes.now in
     let old = g.O.Write.contents c.args.output.now in
     let new = g.O.Write.contents c.write_checked.new.output in
-    with_shape (named_shape B c.args.hash) (check_of_shape B c.args.bound) c.in_ok-shape.shape old new _
+    with_shape (named_shape B c.args.hash) (check_of_shape c.args.file.now B c.args.bound) c.in_ok-shape.shape old new _
     (sym c.in_ok-shape.was ∙ c.shape_of.ensures)
     (failed_output _ c.from_residual-in_err-map_err.result (search rules))

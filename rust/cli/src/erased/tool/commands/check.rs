@@ -1,9 +1,10 @@
 // Made by `make rust` of crates/odht_tool/src/commands/check.rt.
 //! `odht check`: whether a file is a valid table.
 
-use crate::erased::core::failure::{advice_of, Failure};
+use crate::erased::core::failure::Failure;
 use crate::erased::core::found::hinted_hash;
 use crate::erased::core::info::name_of;
+use crate::erased::core::refusal::Refusal;
 use crate::erased::core::shapes::{shape_of, Hash, Shape};
 use crate::erased::core::status::Status;
 use crate::erased::tool::shapes::for_shape;
@@ -13,9 +14,11 @@ use crate::proved::tables::error::Error;
 use crate::proved::tables::memory_layout::{check_all, check_all_within};
 use std::io::{self, Write};
 
-/// `odht check` of the bytes of a file: writes that they are valid, and with a bound that no search reads more groups;
-/// or the first rule that they break. With a bound it takes time in proportion to the bytes and the bound.
+/// `odht check` of the bytes of the file of this name: writes the name, and that they are valid, and with a bound that
+/// no search reads more groups; or the first rule that they break. With a bound it takes time in proportion to the
+/// bytes and the bound.
 pub fn check_file<O: Write>(
+    file: &str,
     bytes: &[u8],
     hash: Option<Hash>,
     bound: Option<usize>,
@@ -23,7 +26,7 @@ pub fn check_file<O: Write>(
 ) -> Result<Status, Failure> {
     let shape = shape_of(bytes, hash)?;
     let checked = check_shape(shape, bytes, bound);
-    write_checked(&checked, bound, output).map_err(Failure::Output)?;
+    write_checked(file, &checked, bound, output).map_err(Failure::Output)?;
     Ok(Status::of(checked.is_ok()))
 }
 
@@ -40,20 +43,21 @@ pub fn check_bytes<C: Config>(bytes: &[u8], bound: Option<usize>) -> Result<(), 
     }
 }
 
-// Writes a line with what the check found.
+// Writes a line with the file's name and what the check found.
 fn write_checked<O: Write>(
+    file: &str,
     checked: &Result<(), Error>,
     bound: Option<usize>,
     output: &mut O,
 ) -> io::Result<()> {
     match (checked, bound) {
-        (Ok(()), None) => writeln!(output, "valid"),
+        (Ok(()), None) => writeln!(output, "{file}: valid"),
         (Ok(()), Some(bound)) => {
-            writeln!(output, "valid, and no search reads more than {bound} groups")
+            writeln!(output, "{file}: valid, and no search reads more than {bound} groups")
         }
-        (Err(refused), _) => {
-            let advice = advice_of(refused);
-            writeln!(output, "{refused}{advice}")
+        (Err(error), _) => {
+            let refusal = Refusal(*error);
+            writeln!(output, "{file}: {refusal}")
         }
     }
 }

@@ -10,7 +10,7 @@ use crate::erased::tool::commands::check::check_shape;
 use crate::host::prelude::*;
 use crate::proved::tables::error::Error;
 use crate::shim::Global;
-use std::io::Write;
+use std::io::{self, Write};
 
 /// `odht find` of the bytes of a file: writes a line for each table inside them. The status is `NotDone` where there is
 /// none. `Forged` where there are headers that overlap, as `find_tables` says.
@@ -23,6 +23,11 @@ pub fn find_file<O: Write>(
     let tables = find_tables(alloc, bytes)?;
     write_tables(bytes, tables.as_slice(), bound, output)?;
     Ok(Status::of(tables.len() > 0))
+}
+
+/// Writes a line that tells that no table is in a file.
+pub fn write_none<E: Write>(file: &str, errors: &mut E) -> io::Result<()> {
+    writeln!(errors, "odht: {file}: no table is in it")
 }
 
 // Writes the lines of the tables at these offsets.
