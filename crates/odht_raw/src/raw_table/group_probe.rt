@@ -71,13 +71,12 @@ impl<'a> GroupProbe<'a> {
         }
     }
 
-    /// The scan, with how many groups were read.
+    /// How many groups were read.
     #[inline(always)]
-    pub(crate) fn into_scan(self) -> Scan<'a>
-        ensures { result
-            ≡ record { control = self.entry.control; groups = self.entry.groups } }
+    pub(crate) fn groups(&self) -> usize
+        ensures { result ≡ self.now.groups }
     {
-        self.scan
+        self.scan.groups()
     }
 
     /// The first slot of the group.

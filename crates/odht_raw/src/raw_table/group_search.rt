@@ -53,7 +53,7 @@ pub fn search_hashed<K: ByteArray, V: ByteArray, H: HashFn, Q: Group>(
 {
     let mut probe = GroupProbe::over(scan.copy(), hash as usize);
     let end = search_from::<Entries<'_, K, V>, H, Q>(&mut probe, entries, key, tag_of(hash));
-    *scan = probe.into_scan();
+    scan.set_groups(probe.groups());
     end
 }
 

@@ -56,6 +56,14 @@ impl<'a> Scan<'a> {
         }
     }
 
+    // Says how many groups were read, by a copy.
+    #[inline(always)]
+    pub(crate) fn set_groups(&mut self, groups: usize)
+        ensures { self.new ≡ record { control = self.old.control; groups = groups } }
+    {
+        self.groups = groups;
+    }
+
     /// How many slots there are.
     #[inline]
     pub fn slots(&self) -> usize

@@ -27,10 +27,10 @@ impl<'a> GroupProbe<'a> {
         GroupProbe { scan, probe: ProbeSeq::new(hash, mask) }
     }
 
-    /// The scan, with how many groups were read.
+    /// How many groups were read.
     #[inline(always)]
-    pub(crate) fn into_scan(self) -> Scan<'a> {
-        self.scan
+    pub(crate) fn groups(&self) -> usize {
+        self.scan.groups()
     }
 
     /// The first slot of the group.

@@ -26,6 +26,12 @@ impl<'a> Scan<'a> {
         Scan { control: self.control, slots: self.slots, groups: self.groups }
     }
 
+    // Says how many groups were read, by a copy.
+    #[inline(always)]
+    pub(crate) fn set_groups(&mut self, groups: usize) {
+        self.groups = groups;
+    }
+
     /// How many slots there are.
     #[inline]
     pub fn slots(&self) -> usize {

@@ -15,12 +15,12 @@ returns g c =
     let first : c.over-probe.result.position ≡ 0 = ap (λ q. q.position) c.over-probe.ensures in
     let read : c.over-probe.result.groups ≡ c.args.scan.now.groups = ap (λ q. q.groups) c.over-probe.ensures ∙ ap (λ s. s.groups) c.copy.ensures in
     let control : c.over-probe.result.control ≡ c.args.scan.now.control = ap (λ q. q.control) c.over-probe.ensures ∙ ap (λ s. s.control) c.copy.ensures in
-    let left : c.into_scan.result.groups ≡ c.search_from-end.new.probe.groups = ap (λ s. s.groups) c.into_scan.ensures in
+    let left = ap (λ s. s.groups) c.set_groups.ensures ∙ c.groups.ensures in
     let end = subst (λ b. IsSearchEnd F E b k c.search_from-end.result) control rest.end in
     record {
       end = end;
       placing = λ P h. answer-IsWherePlaced F P k h.placed c.search_from-end.result (end.on_placed P h);
       groups = λ P h. omega (arith, rest.groups P (subst (IsPartsOf F P E.bytes) (sym control) h), first, read, left);
       few = omega (arith, rest.few, first, read, left);
-      control = ap (λ s. s.control) c.into_scan.ensures ∙ rest.control ∙ control;
+      control = ap (λ s. s.control) c.set_groups.ensures;
     }
