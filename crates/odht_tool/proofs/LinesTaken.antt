@@ -1,6 +1,6 @@
 -- The lines that a loop has taken of an input, and the answers that it has written.
 use Rattle.std.proofs.Common.{◌≡◌, ◌∙◌, ◌⊎◌, inl, inr, ℕ, ◌+◌, ◌-◌, ◌*◌, ◌^◌, ◌<◌, ◌≤◌, Bool, true, ◌&&◌, List, [], ◌∷◌, ◌++◌, Option, Some, None, IfSome, length, take, is_some, sym, ap, refl, subst, arith, length-append, take_all}
-use Rattle.std.specs.Prelude.{Err}
+use Rattle.std.specs.Prelude.{Err, string_bytes}
 use Rattle.std.specs.Io.KnownBytes.{Appends, Keeps, IsAtEnd}
 use Rattle.std.specs.List.{AllZip, list_all}
 use Rattle.std.specs.Str.Lines.{lines}
@@ -10,14 +10,16 @@ use Rattle.std.proofs.Math.Seq.{take-append_seam}
 use Rattle.std.proofs.lemmas.List.{append_assoc, append-nil}
 use Rattle.odht_header.specs.Coding.{Coding}
 use Rattle.odht_tool.specs.GetLines.{lines_read, AreFirstAnswered, IsLineFault, AreLinesAnswered}
-use Rattle.odht_tool.specs.GetParts.{AreKeysAnswered, IsKeysFailure, IsFlushed, IsLineFailure}
+use Rattle.odht_tool.specs.GetParts.{AreKeysAnswered, AreFaultAnswered, IsKeysFailure, IsFlushed, IsLineFailure}
 use Rattle.odht_tool.specs.Gets.{AreAnswers, IsAnswered, answered_status, found_status}
 use Rattle.odht_tool_core.specs.InputLines.{IsNextLine}
+use Rattle.odht_tool_core.specs.Misreads.{misread_text}
 use Rattle.odht_tool_core.specs.Texts.{answers_text}
-use Rattle.odht_tool_core.specs.declared.keys.NextKey.TheVariants.{Key as is_key, NoKey}
+use Rattle.odht_tool_core.specs.declared.misread.Wanted.{Wanted}
+use Rattle.odht_tool_core.specs.declared.keys.NextKey.TheVariants.{Key as is_key}
 use Rattle.odht_tool.specs.declared.commands.get.TheConstants.{BATCH}
 use Rattle.odht_tool_core.specs.declared.failure.Failure.{Failure}
-use Rattle.odht_tool_core.specs.declared.failure.Failure.TheVariants.{Memory, Input, Line, Output}
+use Rattle.odht_tool_core.specs.declared.failure.Failure.TheVariants.{Memory, Input, Misread, Output}
 use Rattle.odht_tool_core.specs.declared.failure.LineFault.TheVariants.{Key}
 use Rattle.odht_tool.proofs.AnswerLists.{AllZip-length, IsFront, front_of, appended_kept, are_answers_append, written_append, found_append}
 use Rattle.odht_tool.proofs.KeyAnswers.{no_answers}
@@ -172,22 +174,22 @@ module _ {K V : Type 0} (c : Coding K V) (f : K → List ℕ) (g : V → List �
             ap (take (2 ^ 64 - 2)) r.place ∙ ap (λ n. take n (r.words ++ lines r.rest)) (limit r.counted e) ∙ take-append_seam r.words (lines r.rest)
 
     -- where the next line is no key, these are the answers to all before it
-    line_fault : (every : Bool) (then : Option (List ℕ)) → IsNextKey R now then NoKey → AreKeysAnswered c f g B pending new last every
-        → IfSome input (λ bytes. IsLineFault c f g R B (lines bytes) number old last)
-    line_fault every then next s = if_some input _ _ fault h.read
+    line_fault : (p : Wanted) (text : List ℕ) → AreFaultAnswered c f g R p B pending number now new last text
+        → IfSome input (λ bytes. IsLineFault c f g R p B (lines bytes) text old last)
+    line_fault p text a = if_some input _ _ fault h.read
       where
-        fault : (bytes : List ℕ) → AreRead R bytes now number (h.done ++ pending) → IsLineFault c f g R B (lines bytes) number old last
+        fault : (bytes : List ℕ) → AreRead R bytes now number (h.done ++ pending) → IsLineFault c f g R p B (lines bytes) text old last
         fault bytes r =
-            let n = next_of now then r.rest next.0 r.left next.1 in
+            let n = next_of now a.then r.rest a.line r.left a.next in
             record {
               before = r.words;
-              word = next.0;
+              word = a.line;
               after = lines n.0;
               place = r.place ∙ ap (λ ls. r.words ++ ls) n.2;
-              counted = r.counted;
-              fault = next.2;
-              status = found_status (every && all);
-              answered = all_answered every r.words r.texts s;
+              fault = a.fault;
+              told = a.told ∙ ap (λ k. misread_text (Some k) Key p a.line) r.counted;
+              status = found_status (a.every && all);
+              answered = all_answered a.every r.words r.texts a.answered;
             }
 
     -- where no more is said, answers to some first lines were written
@@ -213,15 +215,15 @@ module _ {K V : Type 0} (c : Coding K V) (f : K → List ℕ) (g : V → List �
         }
 
     -- so with a failure of the keys that are left
-    pub keys_failed : (failure : Failure) → IsKeysFailure new last failure → AreLinesAnswered c f g R B input old last (Err failure)
-    keys_failed Memory k = first_answered k
-    keys_failed (Output error) k = tt
-    keys_failed _ k = absurd k
+    pub keys_failed : (p : Wanted) (failure : Failure) → IsKeysFailure new last failure → AreLinesAnswered c f g R p B input old last (Err failure)
+    keys_failed p Memory k = first_answered k
+    keys_failed p (Output error) k = tt
+    keys_failed p _ k = absurd k
 
     -- and with one of the next line
-    pub line_failed : (failure : Failure) → IsLineFailure c f g R B pending number now new last failure → AreLinesAnswered c f g R B input old last (Err failure)
-    line_failed (Line n Key) h = subst (λ m. IfSome input (λ bytes. IsLineFault c f g R B (lines bytes) m old last)) (sym h.0) (line_fault h.1.every h.1.then h.1.fault h.1.answered)
-    line_failed (Input error) k = first_answered k
-    line_failed Memory k = first_answered k
-    line_failed (Output error) k = tt
-    line_failed _ k = absurd k
+    pub line_failed : (p : Wanted) (failure : Failure) → IsLineFailure c f g R p B pending number now new last failure → AreLinesAnswered c f g R p B input old last (Err failure)
+    line_failed p (Misread message) k = line_fault p (string_bytes message) k
+    line_failed p (Input error) k = first_answered k
+    line_failed p Memory k = first_answered k
+    line_failed p (Output error) k = tt
+    line_failed p _ k = absurd k

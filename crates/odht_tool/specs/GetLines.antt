@@ -3,26 +3,29 @@
 --     AreFirstAnswered c f g R B ws old new   the answers to some first lines of ws, as many as some batches have and all
 --                          of them texts of keys, were written, which took the writer from the bytes old to new; f and g
 --                          are the texts of keys and of values
---     IsLineFault c f g R B ws n old new      line n of ws, counted from 1, is the first that is a text of no key, and
---                          the answers to those before it were written
---     AreLinesAnswered c f g R B input old new r   what is returned, r, and written once the table is opened, where the
+--     IsLineFault c f g R p B ws t old new    one of the lines ws is the first that is a text of no key, where p is wanted,
+--                          the text t tells it with its number, counted from 1, and the answers to those before it were
+--                          written
+--     AreLinesAnswered c f g R p B input old new r   what is returned, r, and written once the table is opened, where the
 --                          input has these bytes, which may be known
---     AreLinesGot c f g R B input old new r   the same of opening too
+--     AreLinesGot c f g R p B input old new r the same of opening too
 --     AreFileLinesGot B h input old new r     the same of the bytes of a file, where the hash function h, or none, is named
 -- Nothing is said of answers where the bytes of the input are not known.
-use Rattle.std.specs.Prelude.{◌≡◌, ℕ, ◌+◌, ◌-◌, ◌*◌, ◌^◌, List, ◌∷◌, ◌++◌, length, take, Option, None, Some, IfSome, Result, Ok, Err, ⊤}
+use Rattle.std.specs.Prelude.{◌≡◌, ℕ, ◌+◌, ◌-◌, ◌*◌, ◌^◌, List, ◌∷◌, ◌++◌, length, take, Option, None, Some, IfSome, Result, Ok, Err, string_bytes, ⊤}
 use Rattle.std.specs.Io.KnownBytes.{Keeps}
 use Rattle.std.specs.Str.Lines.{lines}
 use Rattle.odht_header.specs.Coding.{Coding}
 use Rattle.odht_header.specs.Refusals.{view_refusal}
 use Rattle.odht_tool.specs.Gets.{IsAnswered, IsTextOf, by_shape}
 use Rattle.odht_tool_core.specs.Keys.{IsTextOfNone}
+use Rattle.odht_tool_core.specs.Misreads.{misread_text, typed_wanted}
 use Rattle.odht_tool_core.specs.ReadyShapes.{typed_text, shape_coding}
 use Rattle.odht_tool_core.specs.ShapeList.{key_part, value_part}
 use Rattle.odht_tool.specs.declared.commands.get.TheConstants.{BATCH}
 use Rattle.odht_tool_core.specs.declared.failure.Failure.{Failure}
-use Rattle.odht_tool_core.specs.declared.failure.Failure.TheVariants.{Refused, Input, Line, Output, Memory}
+use Rattle.odht_tool_core.specs.declared.failure.Failure.TheVariants.{Refused, Input, Misread, Output, Memory}
 use Rattle.odht_tool_core.specs.declared.failure.LineFault.TheVariants.{Key}
+use Rattle.odht_tool_core.specs.declared.misread.Wanted.{Wanted}
 use Rattle.odht_tool_core.specs.declared.shapes.Hash.{Hash}
 use Rattle.odht_tool_core.specs.declared.shapes.ready.Shape.{Shape}
 use Rattle.odht_tool_core.specs.declared.status.Status.{Status}
@@ -39,20 +42,20 @@ pub record AreFirstAnswered {K V : Type 0} (c : Coding K V) (f : K → List ℕ)
   pub status : Status
   pub answered : IsAnswered c f g R B before old new status
 
-pub record IsLineFault {K V : Type 0} (c : Coding K V) (f : K → List ℕ) (g : V → List ℕ) (R : List ℕ → K → Type 0) (B : List ℕ) (ws : List (List ℕ)) (number : ℕ) (old new : Option (List ℕ)) : Type 0 where
+pub record IsLineFault {K V : Type 0} (c : Coding K V) (f : K → List ℕ) (g : V → List ℕ) (R : List ℕ → K → Type 0) (p : Wanted) (B : List ℕ) (ws : List (List ℕ)) (text : List ℕ) (old new : Option (List ℕ)) : Type 0 where
   pub before : List (List ℕ)
   pub word : List ℕ
   pub after : List (List ℕ)
   pub place : ws ≡ before ++ (word ∷ after)
-  pub counted : number ≡ length before + 1
   pub fault : IsTextOfNone R word
+  pub told : text ≡ misread_text (Some (length before + 1)) Key p word
   pub status : Status
   pub answered : IsAnswered c f g R B before old new status
 
-module _ {K V : Type 0} (c : Coding K V) (f : K → List ℕ) (g : V → List ℕ) (R : List ℕ → K → Type 0) (B : List ℕ) where
+module _ {K V : Type 0} (c : Coding K V) (f : K → List ℕ) (g : V → List ℕ) (R : List ℕ → K → Type 0) (p : Wanted) (B : List ℕ) where
   abbrev pub AreLinesAnswered : Option (List ℕ) → Option (List ℕ) → Option (List ℕ) → Result Status Failure → Type 0
   AreLinesAnswered input old new (Ok status) = IfSome input (λ bytes. IsAnswered c f g R B (lines_read bytes) old new status)
-  AreLinesAnswered input old new (Err (Line number Key)) = IfSome input (λ bytes. IsLineFault c f g R B (lines bytes) number old new)
+  AreLinesAnswered input old new (Err (Misread message)) = IfSome input (λ bytes. IsLineFault c f g R p B (lines bytes) (string_bytes message) old new)
   AreLinesAnswered input old new (Err Memory) = IfSome input (λ bytes. AreFirstAnswered c f g R B (lines bytes) old new)
   AreLinesAnswered input old new (Err (Input error)) = IfSome input (λ bytes. AreFirstAnswered c f g R B (lines bytes) old new)
   AreLinesAnswered input old new (Err (Output error)) = ⊤
@@ -65,7 +68,7 @@ module _ {K V : Type 0} (c : Coding K V) (f : K → List ℕ) (g : V → List �
 -- ---- of a file
 abbrev pub lines_of_shape : List ℕ → Option (List ℕ) → Option (List ℕ) → Option (List ℕ) → Result Status Failure → Shape → Type 0
 lines_of_shape B input old new r s =
-    AreLinesGot (shape_coding s) (typed_text (key_part s)) (typed_text (value_part s)) (IsTextOf (key_part s)) B input old new r
+    AreLinesGot (shape_coding s) (typed_text (key_part s)) (typed_text (value_part s)) (IsTextOf (key_part s)) (typed_wanted (key_part s)) B input old new r
 
 abbrev pub AreFileLinesGot : List ℕ → Option Hash → Option (List ℕ) → Option (List ℕ) → Option (List ℕ) → Result Status Failure → Type 0
 AreFileLinesGot B h input old new r = by_shape B h old new r (lines_of_shape B input old new r)

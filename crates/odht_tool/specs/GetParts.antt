@@ -7,23 +7,26 @@
 --                          answered: all where they are a batch, and else none; `all` says whether each has a value, and
 --                          `was` holds
 --     IsReadKey R o o' k   k is the key of the next line of the bytes o, and o' are those after it; or there is no line
---     AreFaultAnswered c f g R B ks o old new   the next line of the bytes o is a text of no key, and the answers to the
---                          keys ks were written
---     IsLineFailure c f g R B ks n o old new f   f is this fault of line n, with these answers; or no memory, or the
+--     AreFaultAnswered c f g R p B ks n o old new t   the next line of the bytes o, which is line n, is a text of no key,
+--                          where p is wanted, the text t tells that, and the answers to the keys ks were written
+--     IsLineFailure c f g R p B ks n o old new f   f tells this fault of line n, with these answers; or no memory, or the
 --                          reader failed, and nothing was written; or the writer failed
-use Rattle.std.specs.Prelude.{◌≡◌, ⊤, ℕ, ◌<◌, ◌≤◌, Bool, ◌&&◌, List, [], ◌++◌, length, is_some, Option, Some, None}
+use Rattle.std.specs.Prelude.{◌≡◌, ⊤, ℕ, ◌<◌, ◌≤◌, Bool, ◌&&◌, List, [], ◌++◌, length, is_some, Option, Some, None, string_bytes}
 use Rattle.std.specs.Io.KnownBytes.{Appends, Keeps}
 use Rattle.std.specs.List.{list_all}
 use Rattle.odht_header.specs.Coding.{Coding}
 use Rattle.odht_header.specs.declared.error.Error.{Error}
 use Rattle.odht_tool.specs.Gets.{AreAnswers}
-use Rattle.odht_tool_core.specs.Keys.{IsNextKey}
+use Rattle.odht_tool_core.specs.InputLines.{IsNextLine}
+use Rattle.odht_tool_core.specs.Keys.{IsNextKey, IsTextOfNone}
+use Rattle.odht_tool_core.specs.Misreads.{misread_text}
 use Rattle.odht_tool_core.specs.Texts.{answers_text}
 use Rattle.odht_tool.specs.declared.commands.get.TheConstants.{BATCH}
 use Rattle.odht_tool_core.specs.declared.failure.Failure.{Failure}
-use Rattle.odht_tool_core.specs.declared.failure.Failure.TheVariants.{Refused, Input, Line, Output, Memory}
+use Rattle.odht_tool_core.specs.declared.failure.Failure.TheVariants.{Refused, Input, Misread, Output, Memory}
 use Rattle.odht_tool_core.specs.declared.failure.LineFault.TheVariants.{Key}
-use Rattle.odht_tool_core.specs.declared.keys.NextKey.TheVariants.{Key as is_key, NoKey, End}
+use Rattle.odht_tool_core.specs.declared.keys.NextKey.TheVariants.{Key as is_key, End}
+use Rattle.odht_tool_core.specs.declared.misread.Wanted.{Wanted}
 
 abbrev pub IsOpenFailure : Option Error → Failure → Type 0
 IsOpenFailure o (Refused error) = o ≡ Some error
@@ -54,15 +57,18 @@ abbrev pub IsReadKey : {K : Type 0} → (List ℕ → K → Type 0) → Option (
 IsReadKey R old new (Some key) = IsNextKey R old new (is_key key)
 IsReadKey R old new None = IsNextKey R old new End
 
-module _ {K V : Type 0} (c : Coding K V) (f : K → List ℕ) (g : V → List ℕ) (R : List ℕ → K → Type 0) (B : List ℕ) where
+module _ {K V : Type 0} (c : Coding K V) (f : K → List ℕ) (g : V → List ℕ) (R : List ℕ → K → Type 0) (p : Wanted) (B : List ℕ) where
   -- where the line after those of the keys `ks` is no key
-  pub record AreFaultAnswered (ks : List K) (bytes old new : Option (List ℕ)) : Type 0 where
+  pub record AreFaultAnswered (ks : List K) (number : ℕ) (bytes old new : Option (List ℕ)) (text : List ℕ) : Type 0 where
     pub then : Option (List ℕ)
-    pub fault : IsNextKey R bytes then NoKey
+    pub line : List ℕ
+    pub next : IsNextLine bytes then line
+    pub fault : IsTextOfNone R line
+    pub told : text ≡ misread_text (Some number) Key p line
     pub every : Bool
     pub answered : AreKeysAnswered c f g B ks old new every
 
   abbrev pub IsLineFailure : List K → ℕ → Option (List ℕ) → Option (List ℕ) → Option (List ℕ) → Failure → Type 0
-  IsLineFailure ks number bytes old new (Line n Key) = (n ≡ number) × AreFaultAnswered ks bytes old new
+  IsLineFailure ks number bytes old new (Misread message) = AreFaultAnswered ks number bytes old new (string_bytes message)
   IsLineFailure ks number bytes old new (Input error) = Keeps old new
   IsLineFailure ks number bytes old new failure = IsKeysFailure old new failure

@@ -6,9 +6,9 @@
 --     answered_status os   the status where these are the values
 --     IsAnswered c f g R B ws old new status   the answers to the words ws were written, which took the writer from the
 --                          bytes old to new; f and g are the texts of keys and of values
---     AreWordsGot c f g R B ws old new r   what `get` returns, r, and writes for the words ws
+--     AreWordsGot c f g R p B ws old new r what `get` returns, r, and writes for the words ws, where p is wanted of keys
 --     AreFileWordsGot B h ws old new r     the same of the bytes of a file, where the hash function h, or none, is named
-use Rattle.std.specs.Prelude.{◌≡◌, Bool, ℕ, List, length, map, is_some, Option, Some, None, Result, Ok, Err, MatchResult, string_bytes, if◌then◌else◌}
+use Rattle.std.specs.Prelude.{◌≡◌, Bool, ℕ, List, length, map, is_some, Option, Some, None, Result, Ok, Err, MatchResult, if◌then◌else◌}
 use Rattle.std.specs.Io.KnownBytes.{Appends, Keeps}
 use Rattle.std.specs.List.{list_all, AllZip}
 use Rattle.odht.specs.Lookups.{HaveStored}
@@ -17,12 +17,14 @@ use Rattle.odht_base.specs.Valid.{IsImage}
 use Rattle.odht_header.specs.Coding.{Coding, value_for}
 use Rattle.odht_header.specs.Refusals.{view_refusal}
 use Rattle.odht_tool_core.specs.FoundShapes.{found_shape}
-use Rattle.odht_tool_core.specs.Keys.{IsReadAs, IsFirstFault}
+use Rattle.odht_tool_core.specs.Keys.{IsReadAs, TellsFault}
 use Rattle.odht_tool_core.specs.ReadyShapes.{Typed, IsTypedWord, StandsFor, typed_text, shape_coding}
 use Rattle.odht_tool_core.specs.ShapeList.{key_part, value_part}
+use Rattle.odht_tool_core.specs.Misreads.{typed_wanted}
 use Rattle.odht_tool_core.specs.Texts.{answers_text}
 use Rattle.odht_tool_core.specs.declared.failure.Failure.{Failure}
-use Rattle.odht_tool_core.specs.declared.failure.Failure.TheVariants.{Refused, Output, Memory, Key}
+use Rattle.odht_tool_core.specs.declared.failure.Failure.TheVariants.{Refused, Output, Memory, Misread}
+use Rattle.odht_tool_core.specs.declared.misread.Wanted.{Wanted}
 use Rattle.odht_tool_core.specs.declared.shapes.Hash.{Hash}
 use Rattle.odht_tool_core.specs.declared.shapes.Part.{Part}
 use Rattle.odht_tool_core.specs.declared.shapes.ready.Shape.{Shape}
@@ -52,11 +54,11 @@ pub record IsAnswered {K V : Type 0} (c : Coding K V) (f : K → List ℕ) (g : 
   pub written : Appends old new (answers_text f g keys values)
   pub status : returned ≡ answered_status values
 
-module _ {K V : Type 0} (c : Coding K V) (f : K → List ℕ) (g : V → List ℕ) (R : List ℕ → K → Type 0) (B : List ℕ) where
+module _ {K V : Type 0} (c : Coding K V) (f : K → List ℕ) (g : V → List ℕ) (R : List ℕ → K → Type 0) (p : Wanted) (B : List ℕ) where
   abbrev pub AreWordsGot : List (List ℕ) → Option (List ℕ) → Option (List ℕ) → Result Status Failure → Type 0
   AreWordsGot ws old new (Ok status) = (view_refusal c.format B ≡ None) × IsAnswered c f g R B ws old new status
   AreWordsGot ws old new (Err (Refused error)) = (view_refusal c.format B ≡ Some error) × Keeps old new
-  AreWordsGot ws old new (Err (Key word)) = (view_refusal c.format B ≡ None) × IsFirstFault R ws (string_bytes word) × Keeps old new
+  AreWordsGot ws old new (Err (Misread message)) = (view_refusal c.format B ≡ None) × TellsFault R p ws (Misread message) × Keeps old new
   AreWordsGot ws old new (Err Memory) = (view_refusal c.format B ≡ None) × Keeps old new
   AreWordsGot ws old new (Err (Output error)) = (view_refusal c.format B ≡ None) × ((keys : List K) × AllZip R ws keys)
   AreWordsGot ws old new (Err _) = ⊥
@@ -64,7 +66,7 @@ module _ {K V : Type 0} (c : Coding K V) (f : K → List ℕ) (g : V → List �
 -- ---- of a file
 abbrev pub words_of_shape : List ℕ → List (List ℕ) → Option (List ℕ) → Option (List ℕ) → Result Status Failure → Shape → Type 0
 words_of_shape B ws old new r s =
-    AreWordsGot (shape_coding s) (typed_text (key_part s)) (typed_text (value_part s)) (IsTextOf (key_part s)) B ws old new r
+    AreWordsGot (shape_coding s) (typed_text (key_part s)) (typed_text (value_part s)) (IsTextOf (key_part s)) (typed_wanted (key_part s)) B ws old new r
 
 -- with no shape there is its failure
 abbrev pub by_shape : List ℕ → Option Hash → Option (List ℕ) → Option (List ℕ) → Result Status Failure → (Shape → Type 0) → Type 0

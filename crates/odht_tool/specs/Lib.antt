@@ -9,3 +9,5 @@ pub mod GetParts
 pub mod GetLines
 -- what a command writes and returns: `find`
 pub mod FindLines
+-- lines of which no pair is read
+pub mod Faults

@@ -3,9 +3,10 @@ use Rattle.std.proofs.Common.{◌≡◌, ◌∙◌, ℕ, suc, ◌+◌, ◌<◌, 
 use Rattle.std.specs.List.{AllZip}
 use Rattle.std.proofs.lemmas.Grind.{take_at_read}
 use Rattle.std.proofs.lemmas.List.{map-append}
-use Rattle.odht_tool_core.specs.Keys.{IsTextOfNone, IsFirstFault, NamesWord, NamesFault}
+use Rattle.odht_tool_core.specs.Keys.{IsTextOfNone, IsFirstFault, TellsWord, TellsFault}
 use Rattle.odht_tool_core.specs.declared.failure.Failure.{Failure}
-use Rattle.odht_tool_core.specs.declared.failure.Failure.TheVariants.{Memory, Key}
+use Rattle.odht_tool_core.specs.declared.failure.Failure.TheVariants.{Memory, Misread}
+use Rattle.odht_tool_core.specs.declared.misread.Wanted.{Wanted}
 
 -- one text more, of one key more
 pub AllZip-one_more : {X Y : Type 0} (R : X → Y → Type 0) (xs : List X) (ys : List Y) (x : X) (y : Y) → AllZip R xs ys → R x y → AllZip R (xs ++ (x ∷ [])) (ys ++ (y ∷ []))
@@ -34,8 +35,8 @@ module _ {X K : Type 0} (R : List ℕ → K → Type 0) (f : X → List ℕ) (xs
     fault = none;
   }
 
--- a failure that names it
-pub names_fault : {K : Type 0} (R : List ℕ → K → Type 0) (ws : List (List ℕ)) (word : List ℕ) (failure : Failure) → IsFirstFault R ws word → NamesWord word failure → NamesFault R ws failure
-names_fault R ws word (Key name) first h = subst (IsFirstFault R ws) (sym h) first
-names_fault R ws word Memory first h = tt
-names_fault R ws word _ first h = absurd h
+-- a failure that tells it
+pub tells_fault : {K : Type 0} (R : List ℕ → K → Type 0) (p : Wanted) (ws : List (List ℕ)) (word : List ℕ) (failure : Failure) → IsFirstFault R ws word → TellsWord p word failure → TellsFault R p ws failure
+tells_fault R p ws word (Misread message) first h = (word, first, h)
+tells_fault R p ws word Memory first h = tt
+tells_fault R p ws word _ first h = absurd h

@@ -41,3 +41,5 @@ pub mod Shown
 pub mod Refusals
 -- the first table inside of other bytes
 pub mod Insides
+-- texts that are no key or no value
+pub mod Misreads

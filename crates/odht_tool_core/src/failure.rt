@@ -31,14 +31,14 @@ pub enum Failure {
     Forged,
     /// Standard input could not be read.
     Input(io::Error),
-    /// A line of standard input cannot be parsed.
+    /// A line of standard input cannot be parsed. Its text is told by [`crate::misread::Misread`].
     Line { number: u64, fault: LineFault },
     /// Standard output could not be written.
     Output(io::Error),
     /// An allocation failed.
     Memory,
-    /// A word is no key of the table's shape.
-    Key(String),
+    /// A word, or the text of a line of standard input, is no key or no value: what is said of it.
+    Misread(String),
 }
 
 /// What is wrong with a line of standard input.
@@ -97,7 +97,7 @@ impl fmt::Display for Failure {
             }
             Failure::Output(error) => write!(f, "standard output cannot be written: {error}"),
             Failure::Memory => write!(f, "out of memory"),
-            Failure::Key(word) => write!(f, "{word:?} is not a key of the table's shape"),
+            Failure::Misread(message) => write!(f, "{message}"),
         }
     }
 }

@@ -100,11 +100,12 @@ odht info FILE [--whole] [--at OFFSET]
 
 const CHECK: &str = "\
 odht check FILE [--whole] [--hash fx|unhash] [--at OFFSET]
-    Prints that the file is valid, or the first rule of the format that it breaks,
-    and then ends with status 1. A search that may read more than 128 groups of
-    control bytes breaks a rule too, so that no file takes long to check; with
-    --whole it does not. The shape is the first of the file's key and value sizes,
-    and of the hash function that --hash names; `odht build --help` lists them.
+    Prints the file's name, and that it is valid, or the first rule of the format
+    that it breaks, and then ends with status 1. A search that may read more than
+    128 groups of control bytes breaks a rule too, so that no file takes long to
+    check; with --whole it does not. The shape is the first of the file's key and
+    value sizes, and of the hash function that --hash names; `odht build --help`
+    lists them.
 ";
 
 const GET: &str = "\

@@ -1,10 +1,12 @@
 //! Words of the command line, and lines of an input, that are read as keys.
-ghost use Rattle.std.specs.Prelude.{◌≡◌, [], ◌∷◌, ◌++◌, IfOk, IfErr, OnOk, map, string_bytes};
+ghost use Rattle.std.specs.Prelude.{◌≡◌, [], ◌∷◌, ◌++◌, Ok, IfOk, IfErr, OnOk, map, string_bytes};
 ghost use Rattle.std.specs.List.{AllZip};
-ghost use Rattle.odht_tool_core.specs.Keys.{IsReadAs, NamesWord, NamesFault, IsNextKey};
+ghost use Rattle.odht_tool_core.specs.Keys.{IsReadAs, IsTextOfNone, TellsWord, TellsFault, IsNextKey};
+ghost use Rattle.odht_tool_core.specs.InputLines.{IsNextLine};
 
-use crate::failure::Failure;
+use crate::failure::{Failure, LineFault};
 use crate::lines::read_line;
+use crate::misread::Misread;
 use crate::text::Text;
 use std::alloc::Global;
 use std::io::{self, BufRead};
@@ -14,23 +16,29 @@ pub fn parse_keys<K: Text>(alloc: Global, words: &[String]) -> Result<Vec<K>, Fa
     ensures keys { IfOk result
         (λ keys. AllZip (IsReadAs K.is_word K.stands_for) (map string_bytes words.now) keys.items) }
     ensures fault { IfErr result
-        (NamesFault (IsReadAs K.is_word K.stands_for) (map string_bytes words.now)) }
+        (TellsFault (IsReadAs K.is_word K.stands_for) K.wants (map string_bytes words.now)) }
 {
     let mut keys = Vec::new(alloc);
     for word in words {
         match K::parse(word.as_str().as_bytes()) {
             Some(key) => push_key(&mut keys, key)?,
-            None => return Err(wrong_key(alloc, word.as_str())),
+            None => return Err(wrong_key::<K>(alloc, word.as_str())),
         }
     }
     Ok(keys)
 }
 
-fn wrong_key(alloc: Global, word: &str) -> Failure
-    ensures { NamesWord word.now result }
+fn wrong_key<K: Text>(alloc: Global, word: &str) -> Failure
+    ensures { TellsWord K.wants word.now result }
 {
-    match String::from_str(alloc, word) {
-        Ok(word) => Failure::Key(word),
+    let misread = Misread {
+        line: None,
+        fault: LineFault::Key,
+        wanted: K::wanted(),
+        text: word.as_bytes(),
+    };
+    match misread.message(alloc) {
+        Ok(message) => Failure::Misread(message),
         Err(_) => Failure::Memory,
     }
 }
@@ -56,8 +64,12 @@ pub enum NextKey<K> {
 
 /// Reads the next line, and parses its key. The bytes of `line` are replaced.
 pub fn next_key<K: Text, I: BufRead>(input: &mut I, line: &mut Vec<u8>) -> io::Result<NextKey<K>>
-    ensures { IfOk result (IsNextKey (IsReadAs K.is_word K.stands_for)
+    ensures next { IfOk result (IsNextKey (IsReadAs K.is_word K.stands_for)
         (I.remaining input.old) (I.remaining input.new)) }
+    ensures line { result ≡ Ok NextKey.NoKey
+        → IsNextLine (I.remaining input.old) (I.remaining input.new) line.new.items }
+    ensures none { result ≡ Ok NextKey.NoKey
+        → IsTextOfNone (IsReadAs K.is_word K.stands_for) line.new.items }
 {
     if !read_line(input, line)? {
         return Ok(NextKey::End);

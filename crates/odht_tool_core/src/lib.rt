@@ -18,6 +18,7 @@ pub mod info;
 pub mod inside;
 pub mod keys;
 pub mod lines;
+pub mod misread;
 mod near;
 mod numbers;
 mod obstacles;

@@ -9,9 +9,13 @@ ghost use Rattle.std.specs.List.{AllPass};
 ghost use Rattle.std.specs.Io.KnownBytes.{Appends};
 ghost use Rattle.std.specs.Str.Parse.{digits_value};
 ghost use Rattle.odht_tool_core.specs.Digits.{IsValueOf};
+ghost use Rattle.odht_tool_core.specs.Misreads.{IsWanted};
+ghost use Rattle.odht_tool_core.specs.declared.misread.Wanted.{Wanted};
+ghost use Rattle.odht_tool_core.specs.declared.misread.Wanted.TheVariants.{Nothing, U32, U64, Bytes};
 ghost use Rattle.odht_tool_core.specs.Texts.{IsNumberWord, IsHexWord, WritesBytes, hex_text};
 
 use crate::digits::{parse_number, write_number};
+use crate::misread::Wanted;
 use std::io::{self, Write};
 
 /// A key or a value that has a text.
@@ -21,6 +25,13 @@ pub trait Text: Copy {
     ghost is_word: { List ℕ → Type 0 };
 
     ghost stands_for: { List ℕ → Self → Type 0 };
+
+    ghost wants: { Wanted };
+
+    /// What its texts are.
+    fn wanted() -> Wanted
+        ensures is { result ≡ wants }
+        ensures word { (word : List ℕ) → is_word word ↔ IsWanted result word };
 
     /// The value of which the word is the text. None where it is the text of no such value.
     fn parse(word: &[u8]) -> Option<Self>
@@ -40,6 +51,12 @@ impl Text for u32 {
 
     ghost stands_for = { λ word n. digits_value 10 word ≡ n };
 
+    ghost wants = { U32 };
+
+    fn wanted() -> Wanted {
+        Wanted::U32
+    }
+
     fn parse(word: &[u8]) -> Option<u32> {
         u32::try_from(parse_number(word)?).ok()
     }
@@ -55,6 +72,12 @@ impl Text for u64 {
     ghost is_word = { IsNumberWord (2 ^ 64) };
 
     ghost stands_for = { λ word n. digits_value 10 word ≡ n };
+
+    ghost wants = { U64 };
+
+    fn wanted() -> Wanted {
+        Wanted::U64
+    }
 
     fn parse(word: &[u8]) -> Option<u64> {
         parse_number(word)
@@ -72,6 +95,12 @@ impl Text for () {
 
     ghost stands_for = { λ word u. word ≡ [] };
 
+    ghost wants = { Nothing };
+
+    fn wanted() -> Wanted {
+        Wanted::Nothing
+    }
+
     fn parse(word: &[u8]) -> Option<()> {
         if word.is_empty() { Some(()) } else { None }
     }
@@ -87,6 +116,12 @@ impl<const N: usize> Text for [u8; N] {
     ghost is_word = { IsHexWord N };
 
     ghost stands_for = { WritesBytes };
+
+    ghost wants = { Bytes N };
+
+    fn wanted() -> Wanted {
+        Wanted::Bytes(N)
+    }
 
     fn parse(word: &[u8]) -> Option<[u8; N]> {
         parse_bytes(word)

@@ -1,8 +1,8 @@
 -- Worked examples: what `get -` writes and returns.
 --     C, f              the coding of the direct shape, and the text of its keys and values
---     R                 which word is a text of which key
+--     R, a_number       which word is a text of which key, and what is wanted of keys
 use Rattle.std.proofs.Common.{◌≡◌, ◌∙◌, Bool, true, ◌+◌, ◌*◌, ◌≤◌, ℕ, zero, suc, refl, sym, ap, subst, arith, lit<, lit≤, map, length, length-append, List, [], ◌∷◌, ◌++◌, Option, Some, None, Ok, Err, slice_get}
-use Rattle.std.specs.Prelude.{codes}
+use Rattle.std.specs.Prelude.{codes, string_bytes}
 use Rattle.std.specs.Fmt.{digits}
 use Rattle.std.specs.Io.KnownBytes.{Appends}
 use Rattle.std.specs.List.{AllZip}
@@ -22,10 +22,12 @@ use Rattle.odht_header.proofs.examples.Opened.{opened}
 use Rattle.odht_tool.specs.GetLines.{lines_read, AreFirstAnswered, IsLineFault, AreFileLinesGot, lines_of_shape}
 use Rattle.odht_tool.specs.GetParts.{IsFlushed, IsLineFailure}
 use Rattle.odht_tool.specs.Gets.{AreAnswers, IsAnswered, IsTextOf, answered_status}
+use Rattle.odht_tool_core.specs.Misreads.{misread_text, typed_wanted}
 use Rattle.odht_tool_core.specs.ReadyShapes.{shape_coding, typed_text}
+use Rattle.odht_tool_core.specs.declared.misread.Wanted.{Wanted}
 use Rattle.odht_tool_core.specs.Texts.{answers_text}
-use Rattle.odht_tool_core.specs.declared.failure.Failure.TheVariants.{Refused, NoShape, Input, Line, Output, Memory}
-use Rattle.odht_tool_core.specs.declared.failure.LineFault.TheVariants.{NoTab, Key}
+use Rattle.odht_tool_core.specs.declared.failure.Failure.TheVariants.{Refused, NoShape, Input, Misread, Output, Memory}
+use Rattle.odht_tool_core.specs.declared.failure.LineFault.TheVariants.{Key}
 use Rattle.odht_tool_core.specs.declared.shapes.Hash.TheVariants.{Unhash}
 use Rattle.odht_tool_core.specs.declared.shapes.Part.TheVariants.{U32}
 use Rattle.odht_tool_core.specs.declared.shapes.ready.Shape.TheVariants.{DirectU32ToU32}
@@ -44,6 +46,9 @@ f = typed_text U32
 
 abbrev R : List ℕ → ℕ → Type 0
 R = IsTextOf U32
+
+abbrev a_number : Wanted
+a_number = typed_wanted U32
 
 -- ---- the answers to keys
 -- the bytes are those of this table alone
@@ -174,39 +179,43 @@ unknown = (no_refusal, tt)
 
 -- ---- a line that is no key
 -- the second
-pub second : lines_of_shape one_bytes (Some (codes "5\nx\n6")) (Some (codes "a")) (Some (codes "a5\t7\n")) (Err (Line 2 Key)) DirectU32ToU32
+abbrev second_text : List ℕ
+second_text = codes "standard input, line 2: the key \"x\" is not a number below 2^32"
+
+pub second : (message : _) → string_bytes message ≡ second_text → lines_of_shape one_bytes (Some (codes "5\nx\n6")) (Some (codes "a")) (Some (codes "a5\t7\n")) (Err (Misread message)) DirectU32ToU32
 unfolding digits
-second = (
+second message told = (
   no_refusal,
   record {
     before = codes "5" ∷ [];
     word = codes "x";
     after = codes "6" ∷ [];
     place = refl;
-    counted = refl;
     fault = no_key;
+    told = told;
     status = Done;
     answered = record { keys = 5 ∷ []; texts = (five, tt); values = Some 7 ∷ []; answers = five_answered; written = refl; status = refl };
   },
 )
 
-only_second : (old new : Option (List ℕ)) (n : ℕ) → IsLineFault C f f R one_bytes (codes "5" ∷ codes "x" ∷ codes "6" ∷ []) n old new → (n ≡ 2) × Appends old new (codes "5\t7\n")
+only_second : (old new : Option (List ℕ)) (text : List ℕ) → IsLineFault C f f R a_number one_bytes (codes "5" ∷ codes "x" ∷ codes "6" ∷ []) text old new → (text ≡ second_text) × Appends old new (codes "5\t7\n")
 unfolding digits opened
-only_second old new n h = go h.before h.place h.counted h.answered
+only_second old new text h = go h.before h.place h.told h.answered
   where
-    go : (before : List (List ℕ)) → codes "5" ∷ codes "x" ∷ codes "6" ∷ [] ≡ before ++ (h.word ∷ h.after) → n ≡ length before + 1 → IsAnswered C f f R one_bytes before old new h.status
-        → (n ≡ 2) × Appends old new (codes "5\t7\n")
-    go [] place counted answered =
+    go : (before : List (List ℕ)) → codes "5" ∷ codes "x" ∷ codes "6" ∷ [] ≡ before ++ (h.word ∷ h.after) → text ≡ misread_text (Some (length before + 1)) Key a_number h.word
+        → IsAnswered C f f R one_bytes before old new h.status → (text ≡ second_text) × Appends old new (codes "5\t7\n")
+    go [] place told answered =
         let word : codes "5" ≡ h.word = cc in
         absurd (h.fault 5 (subst (λ w. R w 5) word five))
-    go (a ∷ []) place counted answered =
+    go (a ∷ []) place told answered =
         let word : codes "5" ≡ a = cc in
+        let wrong : h.word ≡ codes "x" = cc in
         let keys = of_five answered.keys (subst (λ w. AllZip R (w ∷ []) answered.keys) (sym word) answered.texts) in
         let values : answered.values ≡ Some 7 ∷ [] = of_keys answered.keys answered.values answered.answers ∙ ap (map (value_for C one_item)) keys in (
-          counted,
+          told ∙ ap (misread_text (Some 2) Key a_number) wrong,
           subst (Appends old new) (ap (λ ks. answers_text f f ks answered.values) keys ∙ ap (answers_text f f (5 ∷ [])) values) answered.written,
         )
-    go (a ∷ b ∷ rest) place counted answered =
+    go (a ∷ b ∷ rest) place told answered =
         let word : codes "x" ≡ b = cc in
         absurd (second_key answered.keys (subst (λ w. AllZip R (a ∷ w ∷ rest) answered.keys) (sym word) answered.texts))
       where
@@ -215,15 +224,25 @@ only_second old new n h = go h.before h.place h.counted h.answered
         second_key (k ∷ []) t = t.1
         second_key (k ∷ l ∷ ks) t = no_key l t.1.0
 
--- counted from 0; the answer before it not written; another fault
-pub from_zero : (new : Option (List ℕ)) → lines_of_shape one_bytes (Some (codes "5\nx\n6")) (Some []) new (Err (Line 1 Key)) DirectU32ToU32 → ⊥
-from_zero new h = omega (arith, (only_second (Some []) new 1 h.1).0)
+-- counted from 0; the answer before it not written; another fault; another text
+told_else : (message : _) (new : Option (List ℕ)) (text : List ℕ) → string_bytes message ≡ text → lines_of_shape one_bytes (Some (codes "5\nx\n6")) (Some []) new (Err (Misread message)) DirectU32ToU32
+    → text ≡ second_text
+told_else message new text e h = sym e ∙ (only_second (Some []) new (string_bytes message) h.1).0
 
-pub unwritten : lines_of_shape one_bytes (Some (codes "5\nx\n6")) (Some []) (Some []) (Err (Line 2 Key)) DirectU32ToU32 → ⊥
-unwritten h = unequal_lists [] (codes "5\t7\n") refl (only_second (Some []) (Some []) 2 h.1).1
+pub from_zero : (message : _) (new : Option (List ℕ)) → string_bytes message ≡ codes "standard input, line 1: the key \"x\" is not a number below 2^32"
+    → lines_of_shape one_bytes (Some (codes "5\nx\n6")) (Some []) new (Err (Misread message)) DirectU32ToU32 → ⊥
+from_zero message new e h = unequal_lists (codes "standard input, line 1: the key \"x\" is not a number below 2^32") second_text refl (told_else message new _ e h)
 
-pub no_tab : (old new : Option (List ℕ)) → lines_of_shape one_bytes (Some (codes "5\nx\n6")) old new (Err (Line 2 NoTab)) DirectU32ToU32 → ⊥
-no_tab old new h = h.1
+pub unwritten : (message : _) → lines_of_shape one_bytes (Some (codes "5\nx\n6")) (Some []) (Some []) (Err (Misread message)) DirectU32ToU32 → ⊥
+unwritten message h = unequal_lists [] (codes "5\t7\n") refl (only_second (Some []) (Some []) (string_bytes message) h.1).1
+
+pub no_tab : (message : _) (new : Option (List ℕ)) → string_bytes message ≡ codes "standard input, line 2: \"x\" has no tab between key and value"
+    → lines_of_shape one_bytes (Some (codes "5\nx\n6")) (Some []) new (Err (Misread message)) DirectU32ToU32 → ⊥
+no_tab message new e h = unequal_lists (codes "standard input, line 2: \"x\" has no tab between key and value") second_text refl (told_else message new _ e h)
+
+pub other_text : (message : _) (new : Option (List ℕ)) → string_bytes message ≡ codes "standard input, line 2: the key \"6\" is not a number below 2^32"
+    → lines_of_shape one_bytes (Some (codes "5\nx\n6")) (Some []) new (Err (Misread message)) DirectU32ToU32 → ⊥
+other_text message new e h = unequal_lists (codes "standard input, line 2: the key \"6\" is not a number below 2^32") second_text refl (told_else message new _ e h)
 
 -- ---- other failures
 -- without memory, or where the input cannot be read, what is written are the answers to whole batches: here to none
@@ -286,20 +305,17 @@ shape_missed input old new h = h.1
 
 -- ---- the next line
 -- it is the second and no key, and the answer before it is written; counted from 0
-pub faulty : IsLineFailure C f f R one_bytes (5 ∷ []) 2 (Some (codes "x\n6")) (Some (codes "a")) (Some (codes "a5\t7\n")) (Line 2 Key)
+pub faulty : (message : _) → string_bytes message ≡ second_text → IsLineFailure C f f R a_number one_bytes (5 ∷ []) 2 (Some (codes "x\n6")) (Some (codes "a")) (Some (codes "a5\t7\n")) (Misread message)
 unfolding digits
-faulty = (
-  refl,
-  record {
-    then = Some (codes "6");
-    fault = (codes "x", (codes "6", refl, refl), no_key);
-    every = true;
-    answered = record { values = Some 7 ∷ []; answers = five_answered; written = refl; found = refl };
-  },
-)
-
-pub faulty_from_zero : (old new : Option (List ℕ)) → IsLineFailure C f f R one_bytes (5 ∷ []) 2 (Some (codes "x\n6")) old new (Line 1 Key) → ⊥
-faulty_from_zero old new h = omega (arith, h.0)
+faulty message told = record {
+  then = Some (codes "6");
+  line = codes "x";
+  next = (codes "6", refl, refl);
+  fault = no_key;
+  told = told;
+  every = true;
+  answered = record { values = Some 7 ∷ []; answers = five_answered; written = refl; found = refl };
+}
 
 -- ---- a batch
 -- one key is none, so it is not answered yet; and a batch is answered

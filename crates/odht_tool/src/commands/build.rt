@@ -2,6 +2,7 @@
 ghost use Rattle.std.specs.Prelude.{◌≡◌, None, OnOk, IfErr, IfOk, length};
 ghost use Rattle.odht_base.specs.Table.{Table};
 ghost use Rattle.odht_header.specs.Refusals.{check_refusal_by};
+ghost use Rattle.odht_tool.specs.Faults.{IsTold};
 ghost use Rattle.odht_tool.specs.Outcomes.{copy_failure};
 ghost use Rattle.odht_base.specs.Insert.{insert_owned};
 ghost use Rattle.odht_base.specs.Valid.{IsImage};
@@ -18,6 +19,7 @@ use odht_tool_core::failure::Failure;
 use odht_tool_core::files::replace_file;
 use odht_tool_core::found::found_shape;
 use odht_tool_core::lines::read_pair;
+use odht_tool_core::misread::Misread;
 use odht_tool_core::progress::Progress;
 use odht_tool_core::shapes::{Hash, Shape};
 use odht_tool_core::status::{Status, of_output};
@@ -186,9 +188,10 @@ where
     let mut pairs = Vec::new(alloc);
     let mut line = Vec::new(alloc);
     for number in 1..u64::MAX {
-        let read = read_pair::<C::Key, C::Value, I>(input, &mut line, number)?;
-        let Some(pair) = read else {
-            break;
+        let pair = match read_pair::<C::Key, C::Value, I>(input, &mut line, number) {
+            Ok(Some(pair)) => pair,
+            Ok(None) => break,
+            Err(failure) => return Err(told::<C::Key, C::Value>(alloc, failure, line.as_slice())),
         };
         pairs.push(pair).or(Err(Failure::Memory))?;
         if pairs.len() >= BATCH {
@@ -198,6 +201,24 @@ where
         }
     }
     insert_batch(table, &mut pairs)
+}
+
+// The failure with what is said of this line, where the line cannot be parsed.
+#[cold]
+#[inline(never)]
+fn told<K: Text, V: Text>(alloc: Global, failure: Failure, line: &[u8]) -> Failure
+    ensures { IsTold K.wants V.wants line.now failure result }
+{
+    match failure {
+        Failure::Line { number, fault } => {
+            let wanted = (K::wanted(), V::wanted());
+            match Misread::of_line(number, fault, wanted, line).message(alloc) {
+                Ok(message) => Failure::Misread(message),
+                Err(_) => Failure::Memory,
+            }
+        }
+        _ => failure,
+    }
 }
 
 // Inserts the pairs, and drops them.

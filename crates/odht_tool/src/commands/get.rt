@@ -1,5 +1,5 @@
 //! `odht get`: lookups in a table file.
-ghost use Rattle.std.specs.Prelude.{◌≡◌, None, [], ◌∷◌, ◌++◌, IfOk, IfErr, OnOk, map, string_bytes};
+ghost use Rattle.std.specs.Prelude.{◌≡◌, Some, None, [], ◌∷◌, ◌++◌, IfOk, IfErr, OnOk, map, string_bytes};
 ghost use Rattle.odht_header.specs.Refusals.{view_refusal};
 ghost use Rattle.odht_tool.specs.Gets.{AreAnswers, AreWordsGot, AreFileWordsGot, words_of_shape};
 ghost use Rattle.odht_tool.specs.GetParts.{IsOpenFailure, AreKeysAnswered};
@@ -7,6 +7,7 @@ ghost use Rattle.odht_tool.specs.GetParts.{IsKeysFailure, IsFlushed, IsReadKey, 
 ghost use Rattle.odht_tool.specs.GetLines.{AreLinesAnswered, AreLinesGot, AreFileLinesGot};
 ghost use Rattle.odht_tool.specs.GetLines.{lines_of_shape};
 ghost use Rattle.odht_tool_core.specs.Keys.{IsReadAs};
+ghost use Rattle.odht_tool_core.specs.Misreads.{misread_text};
 
 use crate::shapes::for_shape;
 use odht::HashTable;
@@ -16,6 +17,7 @@ use odht_tool_core::answers::{absent_values, are_found, write_answers};
 use odht_tool_core::failure::{Failure, LineFault};
 use odht_tool_core::found::found_shape;
 use odht_tool_core::keys::{NextKey, next_key, parse_keys, push_key};
+use odht_tool_core::misread::Misread;
 use odht_tool_core::shapes::{Hash, Shape};
 use odht_tool_core::status::Status;
 use odht_tool_core::text::Text;
@@ -93,7 +95,7 @@ where
     C::Key: Text,
     C::Value: Text,
     ensures { AreWordsGot ⟦<C as Coded>⟧.coding C.Key.text C.Value.text
-        (IsReadAs C.Key.is_word C.Key.stands_for) bytes.now (map string_bytes words.now)
+        (IsReadAs C.Key.is_word C.Key.stands_for) C.Key.wants bytes.now (map string_bytes words.now)
         (O.contents output.old) (O.contents output.new) result }
 {
     let table = open::<C>(bytes)?;
@@ -113,7 +115,7 @@ where
     C::Key: Text,
     C::Value: Text,
     ensures { AreLinesGot ⟦<C as Coded>⟧.coding C.Key.text C.Value.text
-        (IsReadAs C.Key.is_word C.Key.stands_for) bytes.now (I.remaining input.old)
+        (IsReadAs C.Key.is_word C.Key.stands_for) C.Key.wants bytes.now (I.remaining input.old)
         (O.contents output.old) (O.contents output.new) result }
 {
     let table = open::<C>(bytes)?;
@@ -130,7 +132,7 @@ where
     C::Key: Text,
     C::Value: Text,
     ensures { AreLinesAnswered ⟦<C as Coded>⟧.coding C.Key.text C.Value.text
-        (IsReadAs C.Key.is_word C.Key.stands_for) table.now.0.now (I.remaining input.old)
+        (IsReadAs C.Key.is_word C.Key.stands_for) C.Key.wants table.now.0.now (I.remaining input.old)
         (O.contents output.old) (O.contents output.new) result }
 {
     let mut keys = Vec::new(alloc);
@@ -175,19 +177,33 @@ where
         (I.remaining input.old) (I.remaining input.new)) }
     ensures kept { OnOk result (O.contents output.new ≡ O.contents output.old) }
     ensures err { IfErr result (IsLineFailure ⟦<C as Coded>⟧.coding C.Key.text C.Value.text
-        (IsReadAs C.Key.is_word C.Key.stands_for) table.now.0.now keys.now number
+        (IsReadAs C.Key.is_word C.Key.stands_for) C.Key.wants table.now.0.now keys.now number
         (I.remaining input.old) (O.contents output.old) (O.contents output.new)) }
 {
     match next_key(input, line) {
         Ok(NextKey::Key(key)) => Ok(Some(key)),
         Ok(NextKey::End) => Ok(None),
         Ok(NextKey::NoKey) => {
+            let message = wrong_line::<C::Key>(alloc, number, line.as_slice())?;
             answer_keys(alloc, table, keys, output)?;
-            let fault = LineFault::Key;
-            Err(Failure::Line { number, fault })
+            Err(Failure::Misread(message))
         }
         Err(error) => Err(Failure::Input(error)),
     }
+}
+
+// What is said of a line that is no key.
+fn wrong_line<K: Text>(alloc: Global, number: u64, line: &[u8]) -> Result<String, AllocError>
+    ensures { IfOk result
+        (λ s. string_bytes s ≡ misread_text (Some number) LineFault.Key K.wants line.now) }
+{
+    let misread = Misread {
+        line: Some(number),
+        fault: LineFault::Key,
+        wanted: K::wanted(),
+        text: line,
+    };
+    misread.message(alloc)
 }
 
 // Adds a key, and answers all where they are a batch. Returns whether each was found, and those before.

@@ -1,9 +1,9 @@
 use Rattle.std.proofs.Common.{◌∙◌, ◌+◌, sym, subst, refl, map, take}
 use Rattle.std.specs.List.{AllZip}
 use Rattle.std.specs.Prelude.{string_bytes}
-use Rattle.odht_tool_core.specs.Keys.{NamesWord}
+use Rattle.odht_tool_core.specs.Keys.{TellsWord}
 use Rattle.odht_tool_core.specs.Keys.{IsReadAs, IsTextOfNone}
-use Rattle.odht_tool_core.proofs.KeyWords.{words_more, first_fault, names_fault}
+use Rattle.odht_tool_core.proofs.KeyWords.{words_more, first_fault, tells_fault}
 use Rattle.odht_tool_core.proofs.keys.parse_keys.Goals as goal
 
 pub loop-word-preserved : goal.loop-word-preserved
@@ -20,7 +20,7 @@ returns-in-None-clause-fault g c =
     let R = IsReadAs g.K.Text.is_word g.K.Text.stands_for in
     let word = c.as_bytes.ensures.value ∙ c.as_str.ensures.value in
     let none : IsTextOfNone R c.as_bytes.result.now = λ k r. let no = c.in-None.ensures.some.1 r.0 in cc in
-    names_fault R (map string_bytes c.args.words.now) (string_bytes c.word-item.result) c.wrong_key.result
+    tells_fault R g.K.Text.wants (map string_bytes c.args.words.now) (string_bytes c.word-item.result) c.wrong_key.result
     (first_fault R string_bytes c.args.words.now c.loop-word.word-index c.word-item.result c.loop-word.keys.items c.loop-word-test.true c.word-item.is c.loop-word.invariant
     (subst (IsTextOfNone R) word none))
-    (subst (λ w. NamesWord w c.wrong_key.result) c.as_str-in-None.ensures.value c.wrong_key.ensures)
+    (subst (λ w. TellsWord g.K.Text.wants w c.wrong_key.result) c.as_str-in-None.ensures.value c.wrong_key.ensures)

@@ -1,8 +1,9 @@
 // Made by `make rust` of crates/odht_tool_core/src/keys.rt.
 //! Words of the command line, and lines of an input, that are read as keys.
 
-use crate::erased::core::failure::Failure;
+use crate::erased::core::failure::{Failure, LineFault};
 use crate::erased::core::lines::read_line;
+use crate::erased::core::misread::Misread;
 use crate::erased::core::text::Text;
 use crate::host::prelude::*;
 use crate::shim::Global;
@@ -14,15 +15,17 @@ pub fn parse_keys<K: Text>(alloc: Global, words: &[String]) -> Result<Vec<K>, Fa
     for word in words {
         match K::parse(word.as_str().as_bytes()) {
             Some(key) => push_key(&mut keys, key)?,
-            None => return Err(wrong_key(alloc, word.as_str())),
+            None => return Err(wrong_key::<K>(alloc, word.as_str())),
         }
     }
     Ok(keys)
 }
 
-fn wrong_key(alloc: Global, word: &str) -> Failure {
-    match crate::host::texts::copy_of(alloc, word) {
-        Ok(word) => Failure::Key(word),
+fn wrong_key<K: Text>(alloc: Global, word: &str) -> Failure {
+    let misread =
+        Misread { line: None, fault: LineFault::Key, wanted: K::wanted(), text: word.as_bytes() };
+    match misread.message(alloc) {
+        Ok(message) => Failure::Misread(message),
         Err(_) => Failure::Memory,
     }
 }

@@ -2,11 +2,15 @@
 //! Keys and values as text: a number in decimal digits, bytes in hexadecimal digits, and nothing at all.
 
 use crate::erased::core::digits::{parse_number, write_number};
+use crate::erased::core::misread::Wanted;
 use crate::host::prelude::*;
 use std::io::{self, Write};
 
 /// A key or a value that has a text.
 pub trait Text: Copy {
+    /// What its texts are.
+    fn wanted() -> Wanted;
+
     /// The value of which the word is the text. None where it is the text of no such value.
     fn parse(word: &[u8]) -> Option<Self>;
 
@@ -15,6 +19,10 @@ pub trait Text: Copy {
 }
 
 impl Text for u32 {
+    fn wanted() -> Wanted {
+        Wanted::U32
+    }
+
     fn parse(word: &[u8]) -> Option<u32> {
         u32::try_from(parse_number(word)?).ok()
     }
@@ -25,6 +33,10 @@ impl Text for u32 {
 }
 
 impl Text for u64 {
+    fn wanted() -> Wanted {
+        Wanted::U64
+    }
+
     fn parse(word: &[u8]) -> Option<u64> {
         parse_number(word)
     }
@@ -35,6 +47,10 @@ impl Text for u64 {
 }
 
 impl Text for () {
+    fn wanted() -> Wanted {
+        Wanted::Nothing
+    }
+
     fn parse(word: &[u8]) -> Option<()> {
         if word.is_empty() {
             Some(())
@@ -49,6 +65,10 @@ impl Text for () {
 }
 
 impl<const N: usize> Text for [u8; N] {
+    fn wanted() -> Wanted {
+        Wanted::Bytes(N)
+    }
+
     fn parse(word: &[u8]) -> Option<[u8; N]> {
         parse_bytes(word)
     }

@@ -16,6 +16,7 @@ loop-number-init g c =
     let f = g.C.Key.Text.text in
     let h = g.C.Value.Text.text in
     let R = IsReadAs g.C.Key.Text.is_word g.C.Key.Text.stands_for in
+    let p = g.C.Key.Text.wants in
     let B = c.args.table.now.0.now in
     let input = g.I.Read.remaining c.args.input.now in
     let old = g.O.Write.contents c.args.output.now in
@@ -29,6 +30,7 @@ returns-in_err-read g c =
     let f = g.C.Key.Text.text in
     let h = g.C.Value.Text.text in
     let R = IsReadAs g.C.Key.Text.is_word g.C.Key.Text.stands_for in
+    let p = g.C.Key.Text.wants in
     let B = c.args.table.now.0.now in
     let input = g.I.Read.remaining c.args.input.now in
     let old = g.O.Write.contents c.args.output.now in
@@ -39,9 +41,9 @@ returns-in_err-read g c =
     let last = g.O.Write.contents c.read_key.new.output in
     let x = c.in_err-read.field-0.0 in
     let failed : c.from_residual.result ≡ Err x = search rules in
-    let why = subst (λ ks. IsLineFailure C f h R B ks c.loop-number.number now new last x) c.as_slice.ensures.value c.in_err-read.ensures.err in
-    subst (AreLinesAnswered C f h R B input old last) (sym failed)
-    (line_failed C f h R B input now old new c.loop-number.number keys all last c.loop-number.invariant.0 x why)
+    let why = subst (λ ks. IsLineFailure C f h R p B ks c.loop-number.number now new last x) c.as_slice.ensures.value c.in_err-read.ensures.err in
+    subst (AreLinesAnswered C f h R p B input old last) (sym failed)
+    (line_failed C f h R B input now old new c.loop-number.number keys all last c.loop-number.invariant.0 p x why)
 
 pub returns-in_err-is_all_found-in-Some : goal.returns-in_err-is_all_found-in-Some
 returns-in_err-is_all_found-in-Some g c =
@@ -51,6 +53,7 @@ returns-in_err-is_all_found-in-Some g c =
     let f = g.C.Key.Text.text in
     let h = g.C.Value.Text.text in
     let R = IsReadAs g.C.Key.Text.is_word g.C.Key.Text.stands_for in
+    let p = g.C.Key.Text.wants in
     let B = c.args.table.now.0.now in
     let input = g.I.Read.remaining c.args.input.now in
     let old = g.O.Write.contents c.args.output.now in
@@ -66,8 +69,8 @@ returns-in_err-is_all_found-in-Some g c =
     let x = c.in_err-is_all_found-in-Some.field-0.0 in
     let failed : c.from_residual-in_err-is_all_found-in-Some.result ≡ Err x = search rules in
     let why = subst (λ o. IsKeysFailure o last x) c.in_ok-read.ensures.kept c.in_err-is_all_found-in-Some.ensures.err in
-    subst (AreLinesAnswered C f h R B input old last) (sym failed)
-    (keys_failed C f h R B input then old new (c.loop-number.number + 1) (keys ++ (key ∷ [])) all last taken x why)
+    subst (AreLinesAnswered C f h R p B input old last) (sym failed)
+    (keys_failed C f h R B input then old new (c.loop-number.number + 1) (keys ++ (key ∷ [])) all last taken p x why)
 
 pub loop-number-preserved : goal.loop-number-preserved
 loop-number-preserved g c =
@@ -77,6 +80,7 @@ loop-number-preserved g c =
     let f = g.C.Key.Text.text in
     let h = g.C.Value.Text.text in
     let R = IsReadAs g.C.Key.Text.is_word g.C.Key.Text.stands_for in
+    let p = g.C.Key.Text.wants in
     let B = c.args.table.now.0.now in
     let input = g.I.Read.remaining c.args.input.now in
     let old = g.O.Write.contents c.args.output.now in
@@ -103,6 +107,7 @@ returns-in_err-is_last_found g c =
     let f = g.C.Key.Text.text in
     let h = g.C.Value.Text.text in
     let R = IsReadAs g.C.Key.Text.is_word g.C.Key.Text.stands_for in
+    let p = g.C.Key.Text.wants in
     let B = c.args.table.now.0.now in
     let input = g.I.Read.remaining c.args.input.now in
     let old = g.O.Write.contents c.args.output.now in
@@ -117,8 +122,8 @@ returns-in_err-is_last_found g c =
     ] in
     let x = c.in_err-is_last_found.field-0.0 in
     let failed : c.from_residual-in_err-is_last_found.result ≡ Err x = search rules in
-    subst (AreLinesAnswered C f h R B input old last) (sym failed)
-    (keys_failed C f h R B input now old new c.loop-number.number keys all last c.loop-number.invariant.0 x (subst (λ o. IsKeysFailure o last x) same c.in_err-is_last_found.ensures.err))
+    subst (AreLinesAnswered C f h R p B input old last) (sym failed)
+    (keys_failed C f h R B input now old new c.loop-number.number keys all last c.loop-number.invariant.0 p x (subst (λ o. IsKeysFailure o last x) same c.in_err-is_last_found.ensures.err))
 
 pub returns : goal.returns
 returns g c =
@@ -128,6 +133,7 @@ returns g c =
     let f = g.C.Key.Text.text in
     let h = g.C.Value.Text.text in
     let R = IsReadAs g.C.Key.Text.is_word g.C.Key.Text.stands_for in
+    let p = g.C.Key.Text.wants in
     let B = c.args.table.now.0.now in
     let input = g.I.Read.remaining c.args.input.now in
     let old = g.O.Write.contents c.args.output.now in
@@ -151,4 +157,4 @@ returns g c =
       | else-loop-number-test w ↦ inr (omega (arith, c.loop-number.auto.number-end, w.loop-number-test.false))
       | then-loop-number-test+in_ok-read+in-None w ↦ inl (subst (IsReadKey R now (g.I.Read.remaining w.read_key.new.input)) w.in-None.is w.in_ok-read.ensures.key, omega (arith, c.loop-number.auto.number-end))
     ]) answered in
-    subst (λ status. AreLinesAnswered C f h R B input old last (Ok status)) (sym (c.of.ensures ∙ ap found_status both)) lines
+    subst (λ status. AreLinesAnswered C f h R p B input old last (Ok status)) (sym (c.of.ensures ∙ ap found_status both)) lines

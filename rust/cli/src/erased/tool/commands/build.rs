@@ -6,6 +6,7 @@ use crate::erased::core::failure::Failure;
 use crate::erased::core::files::replace_file;
 use crate::erased::core::found::found_shape;
 use crate::erased::core::lines::read_pair;
+use crate::erased::core::misread::Misread;
 use crate::erased::core::progress::Progress;
 use crate::erased::core::shapes::{Hash, Shape};
 use crate::erased::core::status::{of_output, Status};
@@ -172,9 +173,10 @@ where
     let mut pairs = crate::host::lists::empty(alloc);
     let mut line = crate::host::lists::empty(alloc);
     for number in 1..u64::MAX {
-        let read = read_pair::<C::Key, C::Value, I>(input, &mut line, number)?;
-        let Some(pair) = read else {
-            break;
+        let pair = match read_pair::<C::Key, C::Value, I>(input, &mut line, number) {
+            Ok(Some(pair)) => pair,
+            Ok(None) => break,
+            Err(failure) => return Err(told::<C::Key, C::Value>(alloc, failure, line.as_slice())),
         };
         pairs.try_push(pair).or(Err(Failure::Memory))?;
         if pairs.len() >= BATCH {
@@ -184,6 +186,22 @@ where
         }
     }
     insert_batch(table, &mut pairs)
+}
+
+// The failure with what is said of this line, where the line cannot be parsed.
+#[cold]
+#[inline(never)]
+fn told<K: Text, V: Text>(alloc: Global, failure: Failure, line: &[u8]) -> Failure {
+    match failure {
+        Failure::Line { number, fault } => {
+            let wanted = (K::wanted(), V::wanted());
+            match Misread::of_line(number, fault, wanted, line).message(alloc) {
+                Ok(message) => Failure::Misread(message),
+                Err(_) => Failure::Memory,
+            }
+        }
+        _ => failure,
+    }
 }
 
 // Inserts the pairs, and drops them.

@@ -5,6 +5,7 @@ use crate::erased::core::answers::{absent_values, are_found, write_answers};
 use crate::erased::core::failure::{Failure, LineFault};
 use crate::erased::core::found::found_shape;
 use crate::erased::core::keys::{next_key, parse_keys, push_key, NextKey};
+use crate::erased::core::misread::Misread;
 use crate::erased::core::shapes::{Hash, Shape};
 use crate::erased::core::status::Status;
 use crate::erased::core::text::Text;
@@ -141,12 +142,19 @@ where
         Ok(NextKey::Key(key)) => Ok(Some(key)),
         Ok(NextKey::End) => Ok(None),
         Ok(NextKey::NoKey) => {
+            let message = wrong_line::<C::Key>(alloc, number, line.as_slice())?;
             answer_keys(alloc, table, keys, output)?;
-            let fault = LineFault::Key;
-            Err(Failure::Line { number, fault })
+            Err(Failure::Misread(message))
         }
         Err(error) => Err(Failure::Input(error)),
     }
+}
+
+// What is said of a line that is no key.
+fn wrong_line<K: Text>(alloc: Global, number: u64, line: &[u8]) -> Result<String, AllocError> {
+    let misread =
+        Misread { line: Some(number), fault: LineFault::Key, wanted: K::wanted(), text: line };
+    misread.message(alloc)
 }
 
 // Adds a key, and answers all where they are a batch. Returns whether each was found, and those before.

@@ -1,0 +1,61 @@
+-- Texts that are no key or no value, as messages tell of them.
+--     IsWanted w word      the word is what is wanted, w: nothing, a number, or hexadecimal digits
+--     typed_wanted p       what is wanted of keys or values of the type p
+--     wanted_text w        this in words
+--     place_text n         the number of a line of standard input, where there is one
+--     misread_text n f w t what is said of the text t, in line n of standard input where there is one, by its fault f, where
+--                          w is wanted
+--     part_of f line       the part of a line in which the fault f is: what comes before its first tab, what comes after it,
+--                          or all
+--     wanted_by f w v      what is wanted there, where w is wanted of keys and v of values
+use Rattle.std.specs.Prelude.{◌≡◌, ℕ, ◌+◌, ◌*◌, ◌^◌, ◌==◌, List, [], ◌++◌, codes, decimal, take, drop, Option, Some, None}
+use Rattle.std.specs.List.{position_or_len}
+use Rattle.odht_tool_core.specs.Shown.{shown_text}
+use Rattle.odht_tool_core.specs.Texts.{IsNumberWord, IsHexWord}
+use Rattle.odht_tool_core.specs.declared.failure.LineFault.{LineFault}
+use Rattle.odht_tool_core.specs.declared.failure.LineFault.TheVariants.{NoTab, Key, Value}
+use Rattle.odht_tool_core.specs.declared.misread.Wanted.{Wanted}
+use Rattle.odht_tool_core.specs.declared.misread.Wanted.TheVariants.{Nothing, U32, U64, Bytes}
+use Rattle.odht_tool_core.specs.declared.shapes.Part.{Part}
+use Rattle.odht_tool_core.specs.declared.shapes.Part.TheVariants.{Nothing as NoPart, U32 as P32, U64 as P64, Bytes as PBytes}
+
+abbrev pub IsWanted : Wanted → List ℕ → Type 0
+IsWanted Nothing word = word ≡ []
+IsWanted U32 word = IsNumberWord (2 ^ 32) word
+IsWanted U64 word = IsNumberWord (2 ^ 64) word
+IsWanted (Bytes n) word = IsHexWord n word
+
+abbrev pub typed_wanted : Part → Wanted
+typed_wanted NoPart = Nothing
+typed_wanted P32 = U32
+typed_wanted P64 = U64
+typed_wanted (PBytes n) = Bytes n
+
+abbrev pub wanted_text : Wanted → List ℕ
+wanted_text Nothing = codes "empty"
+wanted_text U32 = codes "a number below 2^32"
+wanted_text U64 = codes "a number below 2^64"
+wanted_text (Bytes n) = decimal (2 * n) ++ codes " hexadecimal digits"
+
+abbrev pub place_text : Option ℕ → List ℕ
+place_text None = []
+place_text (Some number) = codes "standard input, line " ++ decimal number ++ codes ": "
+
+abbrev pub fault_text : LineFault → Wanted → List ℕ → List ℕ
+fault_text NoTab w text = shown_text text ++ codes " has no tab between key and value"
+fault_text Key w text = codes "the key " ++ shown_text text ++ codes " is not " ++ wanted_text w
+fault_text Value w text = codes "the value " ++ shown_text text ++ codes " is not " ++ wanted_text w
+
+abbrev pub misread_text : Option ℕ → LineFault → Wanted → List ℕ → List ℕ
+misread_text number fault w text = place_text number ++ fault_text fault w text
+
+-- ---- of a line
+abbrev pub part_of : LineFault → List ℕ → List ℕ
+part_of NoTab line = line
+part_of Key line = take (position_or_len (λ x. x == 9) line) line
+part_of Value line = drop (position_or_len (λ x. x == 9) line + 1) line
+
+abbrev pub wanted_by : LineFault → Wanted → Wanted → Wanted
+wanted_by NoTab key value = key
+wanted_by Key key value = key
+wanted_by Value key value = value

@@ -1,0 +1,116 @@
+// Made by `make rust` of crates/odht_tool_core/src/misread.rt.
+//! Texts that are no key or no value, as messages tell of them.
+
+use crate::erased::core::failure::LineFault;
+use crate::erased::core::places::place_of;
+use crate::erased::core::shown::Shown;
+use crate::host::prelude::*;
+use crate::shim::{AllocError, Global};
+use std::fmt;
+
+/// What a text has to be.
+#[derive(Clone, Copy, Debug)]
+pub enum Wanted {
+    /// Nothing at all.
+    Nothing,
+    /// The decimal digits of a number of 32 bits.
+    U32,
+    /// Those of a number of 64 bits.
+    U64,
+    /// Two hexadecimal digits for each of so many bytes.
+    Bytes(usize),
+}
+
+impl fmt::Display for Wanted {
+    fn fmt(&self, f: &mut fmt::Formatter<'_>) -> fmt::Result {
+        match *self {
+            Wanted::Nothing => write!(f, "empty"),
+            Wanted::U32 => write!(f, "a number below 2^32"),
+            Wanted::U64 => write!(f, "a number below 2^64"),
+            Wanted::Bytes(count) => {
+                let digits = 2 * count as u128;
+                write!(f, "{digits} hexadecimal digits")
+            }
+        }
+    }
+}
+
+/// A text that is no key or no value.
+#[derive(Clone, Copy)]
+pub struct Misread<'a> {
+    /// The number of its line of standard input; none of a word of the command line.
+    pub line: Option<u64>,
+    /// What is wrong with it.
+    pub fault: LineFault,
+    /// What it should be, where it is that of a key or a value.
+    pub wanted: Wanted,
+    /// The text.
+    pub text: &'a [u8],
+}
+
+impl<'a> Misread<'a> {
+    /// The same of a line, by what is wrong with it and what its key and its value should be.
+    pub fn of_line(
+        number: u64,
+        fault: LineFault,
+        wanted: (Wanted, Wanted),
+        line: &'a [u8],
+    ) -> Misread<'a> {
+        let (of_key, of_value) = wanted;
+        let (wanted, text) = match fault {
+            LineFault::NoTab => (of_key, line),
+            LineFault::Key => (of_key, front_of(line)),
+            LineFault::Value => (of_value, back_of(line)),
+        };
+        Misread { line: Some(number), fault, wanted, text }
+    }
+
+    /// What is said of it.
+    pub fn message(&self, alloc: Global) -> Result<String, AllocError> {
+        crate::host::texts::formatted(alloc, format_args!("{self}"))
+    }
+}
+
+// What comes before the first tab of a line.
+fn front_of(line: &[u8]) -> &[u8] {
+    &line[..place_of(line, b'\t')]
+}
+
+// What comes after it.
+fn back_of(line: &[u8]) -> &[u8] {
+    let at = place_of(line, b'\t');
+    if at < line.len() {
+        &line[at + 1..]
+    } else {
+        b""
+    }
+}
+
+impl<'a> fmt::Display for Misread<'a> {
+    fn fmt(&self, f: &mut fmt::Formatter<'_>) -> fmt::Result {
+        write_place(self.line, f)?;
+        write_fault(self.fault, self.wanted, self.text, f)
+    }
+}
+
+// Writes the number of the line, where there is one.
+fn write_place(line: Option<u64>, f: &mut fmt::Formatter<'_>) -> fmt::Result {
+    match line {
+        Some(number) => write!(f, "standard input, line {number}: "),
+        None => Ok(()),
+    }
+}
+
+fn write_fault(
+    fault: LineFault,
+    wanted: Wanted,
+    text: &[u8],
+    f: &mut fmt::Formatter<'_>,
+) -> fmt::Result {
+    let text = Shown(text);
+    match fault {
+        LineFault::NoTab => write!(f, "{text} has no tab between key and value"),
+        LineFault::Key => write!(f, "the key {text} is not {wanted}"),
+        LineFault::Value => write!(f, "the value {text} is not {wanted}"),
+    }
+}
