@@ -40,10 +40,12 @@ fn summary_of(topic: Topic) -> &'static str {
     match topic {
         Topic::Info =>
             "odht info FILE       tells what a table file holds, of any key and value sizes\n",
-        Topic::Check => "odht check FILE      tells whether a file is a valid table\n",
+        Topic::Check => "odht check FILE..    tells whether each file is a valid table\n",
+        Topic::Count => "odht count FILE..    tells how many items each table has\n",
         Topic::Get =>
             "odht get FILE KEY..  looks keys up; with - instead of keys, those of standard input\n",
         Topic::Dump => "odht dump FILE       tells each pair\n",
+        Topic::Keys => "odht keys FILE       tells each key\n",
         Topic::Find => "odht find FILE       tells each table that is inside a file\n",
         Topic::Build => {
             "odht build FILE --key SHAPE --value SHAPE
@@ -66,8 +68,10 @@ fn text_of(topic: Topic) -> &'static str {
     match topic {
         Topic::Info => INFO,
         Topic::Check => CHECK,
+        Topic::Count => COUNT,
         Topic::Get => GET,
         Topic::Dump => DUMP,
+        Topic::Keys => KEYS,
         Topic::Find => FIND,
         Topic::Build => BUILD,
         Topic::Put => PUT,
@@ -99,13 +103,21 @@ odht info FILE [--whole] [--at OFFSET]
 ";
 
 const CHECK: &str = "\
-odht check FILE [--whole] [--hash fx|unhash] [--at OFFSET]
-    Prints the file's name, and that it is valid, or the first rule of the format
-    that it breaks, and then ends with status 1. A search that may read more than
+odht check FILE.. [--whole] [--hash fx|unhash] [--at OFFSET]
+    Prints the name of each file, and that it is valid, or the first rule of the
+    format that it breaks, and then ends with status 1. A search that may read more than
     128 groups of control bytes breaks a rule too, so that no file takes long to
     check; with --whole it does not. The shape is the first of the file's key and
     value sizes, and of the hash function that --hash names; `odht build --help`
     lists them.
+";
+
+const COUNT: &str = "\
+odht count FILE.. [--whole] [--hash fx|unhash] [--at OFFSET]
+    Prints how many items the table in the file has, after the file's name and a tab
+    where there are more files. Each is checked before, as by `odht check`; where
+    one is not valid the others are still counted, and the status is 1. The hash
+    function is the one that all control bytes fit, unless --hash names it.
 ";
 
 const GET: &str = "\
@@ -122,6 +134,12 @@ odht dump FILE [--slots] [--hash fx|unhash] [--at OFFSET]
     the slot, the control byte and the number of groups that a search for the key
     looks at stand before them, with tabs too. The hash function is the one that
     all control bytes fit, unless --hash names it.
+";
+
+const KEYS: &str = "\
+odht keys FILE [--hash fx|unhash] [--at OFFSET]
+    Writes each key on a line, in slot order. The hash function is the one that all
+    control bytes fit, unless --hash names it.
 ";
 
 const FIND: &str = "\

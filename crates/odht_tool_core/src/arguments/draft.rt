@@ -6,6 +6,7 @@ use crate::shapes::{Hash, Part, Shape};
 use odht_base::load::Percent;
 use odht_raw::memory_layout::DEFAULT_GROUPS;
 use std::alloc::Global;
+use std::mem;
 
 /// A command of which some words are parsed.
 #[derive(Drop)]
@@ -127,7 +128,7 @@ impl Draft {
         Some(())
     }
 
-    /// What all the words ask for. For `get`, and for no other command, some come after the file.
+    /// What all the words ask for. After the file more files may come, or for `get` keys.
     pub(super) fn finish(self) -> Result<Request, Misuse> {
         let topic = self.topic;
         if self.is_help {
@@ -147,15 +148,23 @@ impl Draft {
             return Err(CommandMisuse::Missing("FILE"));
         }
         let file = self.words.remove(0);
-        if self.topic != Topic::Get && !self.words.is_empty() {
+        if !self.topic.takes_words() && !self.words.is_empty() {
             return Err(CommandMisuse::ExtraWord(self.words.remove(0)));
         }
         let command = self.command(is_stream(file.as_str()))?;
         Ok(Request::Run { file, command })
     }
 
+    // The files after the first, which leave no words.
+    fn others(&mut self) -> Vec<String> {
+        if self.topic == Topic::Get {
+            return Vec::new(self.alloc);
+        }
+        mem::replace(&mut self.words, Vec::new(self.alloc))
+    }
+
     // The command, of a file that is standard input or output, or is not.
-    fn command(self, is_stream: bool) -> Result<Command, CommandMisuse> {
+    fn command(mut self, is_stream: bool) -> Result<Command, CommandMisuse> {
         match self.topic {
             Topic::Build => self.build(),
             Topic::Put if is_stream => Err(CommandMisuse::Replaced),
@@ -167,8 +176,13 @@ impl Draft {
             }),
             _ => {
                 let at = self.at;
+                let others = self.others();
                 let reading = self.reading(is_stream)?;
-                Ok(Command::Read { at, reading })
+                Ok(Command::Read {
+                    others,
+                    at,
+                    reading,
+                })
             }
         }
     }
@@ -178,10 +192,12 @@ impl Draft {
         match self.topic {
             Topic::Info => Ok(Reading::Info { bound }),
             Topic::Check => Ok(Reading::Check { hash, bound }),
+            Topic::Count => Ok(Reading::Count { hash, bound }),
             Topic::Dump => Ok(Reading::Dump {
                 hash,
                 is_slots: self.is_slots,
             }),
+            Topic::Keys => Ok(Reading::Keys { hash }),
             Topic::Get => {
                 if self.words.is_empty() {
                     return Err(CommandMisuse::Missing("KEY"));
