@@ -79,8 +79,8 @@ impl<const LEN: usize> ByteArray for [u8; LEN] {
         as_bytes(self)
     }
 
-    // Arrays of one to four words are compared a word at a time, with no loop; those of 20 bytes, and of 64 by halves, as
-    // the compiler compares lists of a known length, which takes fewer instructions there.
+    // Arrays of one to four words are compared a word at a time, with no loop; those of 20 bytes as the compiler compares
+    // lists of a known length, which takes fewer instructions there.
     #[inline]
     fn equals(&self, other: &Self) -> bool {
         let (left, right): (&[u8], &[u8]) = (self, other);
@@ -90,7 +90,6 @@ impl<const LEN: usize> ByteArray for [u8; LEN] {
             24 => is_same_pair(left, right, 0) && is_same_word(left, right, 16),
             32 => is_same_pair(left, right, 0) && is_same_pair(left, right, 16),
             20 => is_same_list(left, right),
-            64 => is_same_run(left, right, 0) && is_same_run(left, right, 32),
             _ => is_same_bytes(left, right),
         }
     }
@@ -210,14 +209,4 @@ fn is_same_pair(left: &[u8], right: &[u8], at: usize) -> bool
     ensures { IsTrue result ↔ (bytes_at left.now at 16 ≡ bytes_at right.now at 16) }
 {
     is_same_word(left, right, at) && is_same_word(left, right, at + 8)
-}
-
-// Whether the 32 bytes from `at` on are equal. The compiler compares lists of this length in two vectors.
-#[inline]
-fn is_same_run(left: &[u8], right: &[u8], at: usize) -> bool
-    requires left { at + 32 ≤ length left.now }
-    requires right { at + 32 ≤ length right.now }
-    ensures { IsTrue result ↔ (bytes_at left.now at 32 ≡ bytes_at right.now at 32) }
-{
-    is_same_list(&left[at..at + 32], &right[at..at + 32])
 }

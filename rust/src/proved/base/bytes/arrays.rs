@@ -46,8 +46,8 @@ impl<const LEN: usize> ByteArray for [u8; LEN] {
         as_bytes(self)
     }
 
-    // Arrays of one to four words are compared a word at a time, with no loop; those of 20 bytes, and of 64 by halves, as
-    // the compiler compares lists of a known length, which takes fewer instructions there.
+    // Arrays of one to four words are compared a word at a time, with no loop; those of 20 bytes as the compiler compares
+    // lists of a known length, which takes fewer instructions there.
     #[inline]
     fn equals(&self, other: &Self) -> bool {
         let (left, right): (&[u8], &[u8]) = (self, other);
@@ -57,7 +57,6 @@ impl<const LEN: usize> ByteArray for [u8; LEN] {
             24 => is_same_pair(left, right, 0) && is_same_word(left, right, 16),
             32 => is_same_pair(left, right, 0) && is_same_pair(left, right, 16),
             20 => is_same_list(left, right),
-            64 => is_same_run(left, right, 0) && is_same_run(left, right, 32),
             _ => is_same_bytes(left, right),
         }
     }
@@ -145,10 +144,4 @@ fn is_same_half(left: &[u8], right: &[u8], at: usize) -> bool {
 #[inline]
 fn is_same_pair(left: &[u8], right: &[u8], at: usize) -> bool {
     is_same_word(left, right, at) && is_same_word(left, right, at + 8)
-}
-
-// Whether the 32 bytes from `at` on are equal. The compiler compares lists of this length in two vectors.
-#[inline]
-fn is_same_run(left: &[u8], right: &[u8], at: usize) -> bool {
-    is_same_list(&index!(left[at..at + 32]), &index!(right[at..at + 32]))
 }

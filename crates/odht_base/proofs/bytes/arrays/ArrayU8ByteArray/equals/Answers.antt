@@ -14,8 +14,3 @@ pub returns-then-is_same_pair-2 : goal.returns-then-is_same_pair-2
 returns-then-is_same_pair-2 g c =
     whole_decides c.args.self.now c.args.other.now 32 _ (c.told-self ∙ c.in-32.is) (c.told-other ∙ c.in-32.is)
     (pair_decides c.args.self.now c.args.other.now 0 16 16 _ (c.is_same_pair-in-32.ensures.0 c.if-is_same_pair-2.true) c.is_same_pair-then-is_same_pair-2.ensures)
-
-pub returns-then-is_same_run : goal.returns-then-is_same_run
-returns-then-is_same_run g c =
-    whole_decides c.args.self.now c.args.other.now 64 _ (c.told-self ∙ c.in-64.is) (c.told-other ∙ c.in-64.is)
-    (pair_decides c.args.self.now c.args.other.now 0 32 32 _ (c.is_same_run.ensures.0 c.if-is_same_run.true) c.is_same_run-then-is_same_run.ensures)
