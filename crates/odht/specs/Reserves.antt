@@ -5,7 +5,6 @@
 --     reserved F P n       P where it has room for n more items; otherwise its pairs in the slots for as many as it
 --                          has and n more
 --     IsMovedImage F P s B    B is the image of moved F P s
---     IsMovedFor F P n B   the same for the slots s that n items need
 --     IsReserved F P n B   B is the image of reserved F P n, a table with the map of P and with room for n more items
 use Rattle.std.specs.Prelude.{◌≡◌, ℕ, ◌+◌, ◌<◌, ◌≤◌, nat_le, Bool, List, Option, Some, option_and_then, if◌then◌else◌}
 use Rattle.odht_base.specs.Format.{Format}
@@ -29,9 +28,6 @@ reserved F P n = if has_room_for P n then Some P else option_and_then (moved F P
 
 abbrev pub IsMovedImage : Format → Table → ℕ → List ℕ → Type 0
 IsMovedImage F P s B = (Q : Table) × (moved F P s ≡ Some Q) × IsImage F Q B
-
-abbrev pub IsMovedFor : Format → Table → ℕ → List ℕ → Type 0
-IsMovedFor F P n B = (s : ℕ) × (slots_for n P.factor ≡ Some s) × IsMovedImage F P s B
 
 pub record IsReserved (F : Format) (P : Table) (n : ℕ) (B : List ℕ) : Type 0 where
   pub table : Table

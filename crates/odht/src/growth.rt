@@ -12,12 +12,11 @@ ghost use Rattle.odht_base.specs.Table.{Table};
 ghost use Rattle.odht_base.specs.Valid.{IsImage, IsPartsOf};
 ghost use Rattle.odht_raw.specs.Frame.{IsAccepted};
 ghost use Rattle.odht_header.specs.Layouts.{IsLayout};
-ghost use Rattle.odht_header.specs.Refusals.{IsTooLarge};
 ghost use Rattle.odht_raw.specs.PartsPlacings.{IsNewTo};
 ghost use Rattle.odht_raw.specs.PartLengths.{ArePartLengths};
 ghost use Rattle.odht_raw.specs.Parts.{IsZeros};
 ghost use Rattle.odht_raw.specs.Walks.{stored};
-ghost use Rattle.odht.specs.Growths.{grown_len, table_len};
+ghost use Rattle.odht.specs.Growths.{grown_len, grown_slots_of, table_len};
 ghost use Rattle.odht.specs.Growths.{IsGrownImage, IsWritten};
 
 use crate::bytes::{ByteArray, ByteStore};
@@ -25,7 +24,7 @@ use crate::config::{Coded, Config};
 use crate::hash::HashFn;
 use crate::hash_table::HashTable;
 use crate::load::Factor;
-use crate::memory_layout::{self, HEADER_SIZE};
+use crate::memory_layout::{self, HEADER_SIZE, Header};
 use crate::raw_table::{RawIter, RawTableMut};
 
 impl<C: Config, D: ByteStore> HashTable<C, D> {
@@ -42,8 +41,7 @@ impl<C: Config, D: ByteStore> HashTable<C, D> {
             → IsImage F P (D.bytes self.now)
             → result ≡ table_len F (grown_slots P) }
     {
-        let header = self.allocation.header();
-        match grown_layout::<C>(header.item_count(), header.max_load_factor()) {
+        match grown_layout::<C>(&self.allocation.header()) {
             Some((_, len)) => Some(len),
             None => None,
         }
@@ -68,28 +66,25 @@ impl<C: Config, D: ByteStore> HashTable<C, D> {
         ensures count { header_count out.new ≡ header_count (D.bytes self.now) }
         ensures factor { header_factor out.new ≡ header_factor (D.bytes self.now) }
     {
-        let header = self.allocation.header();
-        let item_count = header.item_count();
-        let factor = header.max_load_factor();
-        let Some((slot_count, _)) = grown_layout::<C>(item_count, factor) else {
+        let Some((slot_count, _)) = grown_layout::<C>(&self.allocation.header()) else {
             // `out` has the length of the grown table.
             unreachable!()
         };
         memory_layout::clear_entries::<C>(out, slot_count);
-        let (control, entries) = self.allocation.data_slices();
-        let walk = RawIter::new(control, entries);
-        write_walked::<C>(out, slot_count, item_count, factor, walk);
+        write_grown(self, slot_count, out);
     }
 }
 
-// The slot count and the length in bytes of the table that one with this item count and this load factor grows into.
-// None exactly where no slot count is enough, or the length passes `usize`.
-fn grown_layout<C: Config>(item_count: usize, factor: Factor) -> Option<(usize, usize)>
+/// The slot count and the length in bytes of the table that the one with this header grows into. None exactly where no
+/// slot count is enough, or the length passes `usize`.
+pub(crate) fn grown_layout<C: Config>(header: &Header<'_>) -> Option<(usize, usize)>
     ensures { let F = ⟦<C as Coded>⟧.coding.format
-        in MatchOption result (IsTooLarge F (max 1 (2 * item_count)) factor.0)
-        (λ l. IsLayout F (max 1 (2 * item_count)) factor.0 l.0 l.1) }
+        in let B = header.now
+        in MatchOption result (grown_len F B ≡ None)
+        (λ l. IsLayout F (max 1 (2 * header_count B)) (header_factor B) l.0 l.1) }
 {
-    let Some(twice) = item_count.checked_mul(2) else {
+    let factor = header.max_load_factor();
+    let Some(twice) = header.item_count().checked_mul(2) else {
         return None;
     };
     if factor.0 == 0 {
@@ -98,8 +93,34 @@ fn grown_layout<C: Config>(item_count: usize, factor: Factor) -> Option<(usize, 
     memory_layout::layout_for::<C>(twice.max(1), factor)
 }
 
-/// Writes the table of so many slots with the items of the walk into bytes whose entries are zeros. The new header gets
-/// `item_count`, whatever the walk gives.
+/// Writes the grown table with so many slots into bytes whose entries are zeros.
+pub(crate) fn write_grown<C: Config, D: ByteStore>(
+    table: &HashTable<C, D>,
+    slot_count: usize,
+    out: &mut [u8],
+)
+    requires slots { grown_slots_of (D.bytes table.now) ≡ Some slot_count }
+    requires len { length out.old ≡ image_len ⟦<C as Coded>⟧.coding.format slot_count }
+    requires zeros { IsZeros (slot_count * entry_len ⟦<C as Coded>⟧.coding.format)
+        (bytes_at out.old 32 (slot_count * entry_len ⟦<C as Coded>⟧.coding.format)) }
+    ensures on_valid { let F = ⟦<C as Coded>⟧.coding.format
+        in (P : Table)
+        → IsImage F P (D.bytes table.now)
+        → IsGrownImage F P out.new }
+    ensures accepted { IsAccepted ⟦<C as Coded>⟧.coding.format out.new }
+    ensures count { header_count out.new ≡ header_count (D.bytes table.now) }
+    ensures factor { header_factor out.new ≡ header_factor (D.bytes table.now) }
+{
+    let header = table.allocation.header();
+    let item_count = header.item_count();
+    let factor = header.max_load_factor();
+    let (control, entries) = table.allocation.data_slices();
+    let walk = RawIter::new(control, entries);
+    write_walked::<C>(out, slot_count, item_count, factor, walk);
+}
+
+// Writes the table of so many slots with the items of the walk into bytes whose entries are zeros. The new header gets
+// `item_count`, whatever the walk gives.
 pub(crate) fn write_walked<C: Config>(
     bytes: &mut [u8],
     slot_count: usize,

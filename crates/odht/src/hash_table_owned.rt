@@ -8,7 +8,7 @@ ghost use Rattle.odht_base.specs.Search.{groups_read};
 ghost use Rattle.odht_base.specs.Insert.{insert_owned, IsFullFor};
 ghost use Rattle.odht_base.specs.Valid.{IsImage, IsValidBytes};
 ghost use Rattle.odht_header.specs.Coding.{value_for};
-ghost use Rattle.odht.specs.Reserves.{IsMovedFor};
+ghost use Rattle.odht.specs.Growths.{IsGrownImage};
 ghost use Rattle.odht.specs.Lists.{EndsAfter, IsFreshAfterInserts};
 ghost use Rattle.odht.specs.Inserts.{IsFresh, IsInserted};
 ghost use Rattle.odht_raw.specs.Walks.{decoded_all};
@@ -18,12 +18,11 @@ ghost use Rattle.odht_header.specs.Refusals.{IsTooLarge, check_refusal, check_re
 use crate::bytes::OwnedBytes;
 use crate::config::{Coded, Config};
 use crate::error::Error;
-use crate::growth::write_walked;
+use crate::growth::{grown_layout, write_grown};
 use crate::hash_table::HashTable;
 use crate::iter::Iter;
 use crate::load::{Factor, slots_needed};
 use crate::memory_layout;
-use crate::raw_table::RawIter;
 use std::alloc::Global;
 use std::marker::Model;
 
@@ -299,7 +298,7 @@ impl<C: Config> HashTableOwned<C> {
         ensures memory { OnErr result (result ≡ Err Error.Memory) }
         ensures refused { OnErr result (self.new ≡ self.old) }
     {
-        let Ok(mut grown) = self.moved((2 * self.len()).max(1)) else {
+        let Ok(mut grown) = self.grown_table() else {
             return Err(Error::Memory);
         };
         let Ok(old) = grown.insert(key, value) else {
@@ -310,34 +309,23 @@ impl<C: Config> HashTableOwned<C> {
         Ok(old)
     }
 
-    // The pairs of this table, placed in slot order into the slots for so many items, in new memory: a growth, and the
-    // move to where there is room.
+    // The pairs of this table, placed in slot order into a table with the slots for twice as many, and for one at
+    // least.
     #[inline(never)]
-    fn moved(&self, max_item_count: usize) -> Result<HashTable<C, OwnedBytes>, Error>
+    fn grown_table(&self) -> Result<HashTable<C, OwnedBytes>, Error>
         ensures ok { let F = ⟦<C as Coded>⟧.coding.format
             in (P : Table)
             → IsImage F P self.now
-            → count P ≤ max_item_count
-            → IfOk result (IsMovedFor F P max_item_count) }
-        ensures capacity { (P : Table)
-            → IsImage ⟦<C as Coded>⟧.coding.format P self.now
-            → (result ≡ Err Error.Capacity)
-            ↔ IsTooLarge ⟦<C as Coded>⟧.coding.format max_item_count P.factor }
-        ensures memory { OnErr result
-            ((result ≡ Err Error.Capacity) ⊎ (result ≡ Err Error.Memory)) }
+            → IfOk result (IsGrownImage F P) }
+        ensures memory { OnErr result (result ≡ Err Error.Memory) }
     {
-        let header = self.table.allocation.header();
-        let item_count = header.item_count();
-        let factor = header.max_load_factor();
-        let Some((slot_count, len)) = memory_layout::layout_for::<C>(max_item_count, factor) else {
-            return Err(Error::Capacity);
+        let Some((slot_count, len)) = grown_layout::<C>(&self.table.allocation.header()) else {
+            return Err(Error::Memory);
         };
         let Ok(mut bytes) = vec![in self.alloc; 0; len] else {
             return Err(Error::Memory);
         };
-        let (control, entries) = self.table.allocation.data_slices();
-        let walk = RawIter::new(control, entries);
-        write_walked::<C>(bytes.as_mut_slice(), slot_count, item_count, factor, walk);
+        write_grown(&self.table, slot_count, bytes.as_mut_slice());
         Ok(HashTable::from_raw_bytes_unchecked(OwnedBytes::new(bytes)))
     }
 }

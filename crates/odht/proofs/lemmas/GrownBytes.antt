@@ -42,35 +42,26 @@ grown_len-large F B large = go (grown_slots_of B) refl
     go None e = refl
     go (Some s) e = ap (λ t. then_some t (image_len F s)) (le-ltb (image_len F s) (2 ^ 64) (large s e))
 
--- ---- the layout for twice so many items
--- the result of a call for it
-pub asked_layout : (F : Format) (n m f : ℕ) → m ≡ max 1 (2 * n)
-    → (r : Option (ℕ × ℕ)) → IfSome r (λ l. IsLayout F m f l.0 l.1) → (IsNone r → IsTooLarge F m f)
-    → MatchOption r (IsTooLarge F (max 1 (2 * n)) f) (λ l. IsLayout F (max 1 (2 * n)) f l.0 l.1)
-asked_layout F n m f twice (Some l) some none = subst (λ x. IsLayout F x f l.0 l.1) twice some
-asked_layout F n m f twice None some none = subst (λ x. IsTooLarge F x f) twice (none refl)
+-- the result of a call for the layout for so many items
+pub asked_layout : (F : Format) (B : List ℕ) (n f : ℕ) → n ≡ max 1 (2 * header_count B) → f ≡ header_factor B
+    → (r : Option (ℕ × ℕ)) → IfSome r (λ l. IsLayout F n f l.0 l.1) → (IsNone r → IsTooLarge F n f)
+    → MatchOption r (grown_len F B ≡ None) (λ l. IsLayout F (max 1 (2 * header_count B)) (header_factor B) l.0 l.1)
+asked_layout F B n f items factor (Some l) some none = subst (λ m. IsLayout F m (header_factor B) l.0 l.1) items (subst (λ t. IsLayout F n t l.0 l.1) factor some)
+asked_layout F B n f items factor None some none = grown_len-large F B (subst (λ m. IsTooLarge F m (header_factor B)) items (subst (IsTooLarge F n) factor (none refl)))
 
 -- at the load factor 0 there is none
-pub large_at_zero : (F : Format) (n f : ℕ) → f ≡ 0 → IsTooLarge F (max 1 (2 * n)) f
-large_at_zero F n f zero s e =
+pub none_at_zero : (F : Format) (B : List ℕ) → header_factor B ≡ 0 → grown_len F B ≡ None
+none_at_zero F B zero = grown_len-large F B (λ s e. (
     let least = slots_for-IsLeastSlots _ _ s e in
-    let holds : 65536 * max 1 (2 * n) ≤ s * 0 = subst (λ t. 65536 * max 1 (2 * n) ≤ s * t) zero least.holds in
-    absurd (omega (arith, holds, le-max_left 1 (2 * n)))
+    let holds : 65536 * max 1 (2 * header_count B) ≤ s * 0 = subst (λ f. 65536 * max 1 (2 * header_count B) ≤ s * f) zero least.holds in
+    absurd (omega (arith, holds, le-max_left 1 (2 * header_count B)))))
 
--- there is none where twice the number passes 64 bits
-pub large_of_many : (F : Format) (n f : ℕ) → f ≤ 65535 → 2 ^ 64 ≤ 2 * n → IsTooLarge F (max 1 (2 * n)) f
-large_of_many F n f few many s e =
+-- there is none where twice the count passes 64 bits
+pub none_of_many : (F : Format) (B : List ℕ) → header_factor B ≤ 65535 → 2 ^ 64 ≤ 2 * header_count B → grown_len F B ≡ None
+none_of_many F B few many = grown_len-large F B (λ s e. (
     let least = slots_for-IsLeastSlots _ _ s e in
-    let most : s * f ≤ s * 65535 = mul-le-mul_left s few in
-    absurd (omega (arith, least.holds, most, few_slots s least.is_count, le-max_right 1 (2 * n), many))
-
--- that for the numbers of a header
-module _ (F : Format) (B : List ℕ) (n f : ℕ) (count : n ≡ header_count B) (factor : f ≡ header_factor B) where
-  pub header_layout : (s len : ℕ) → IsLayout F (max 1 (2 * n)) f s len → IsLayout F (max 1 (2 * header_count B)) (header_factor B) s len
-  header_layout s len there = subst (λ m. IsLayout F (max 1 (2 * m)) (header_factor B) s len) count (subst (λ t. IsLayout F (max 1 (2 * n)) t s len) factor there)
-
-  pub header_large : IsTooLarge F (max 1 (2 * n)) f → IsTooLarge F (max 1 (2 * header_count B)) (header_factor B)
-  header_large large = subst (λ m. IsTooLarge F (max 1 (2 * m)) (header_factor B)) count (subst (IsTooLarge F (max 1 (2 * n))) factor large)
+    let most : s * header_factor B ≤ s * 65535 = mul-le-mul_left s few in
+    absurd (omega (arith, least.holds, most, few_slots s least.is_count, le-max_right 1 (2 * header_count B), many))))
 
 -- of a valid table's bytes the slots are those of the table
 pub grown_header : (F : Format) (P : Table) (B : List ℕ) → IsImage F P B → grown_slots_of B ≡ grown_slots P

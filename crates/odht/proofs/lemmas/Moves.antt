@@ -1,14 +1,14 @@
 -- The pairs of a table, placed in slot order into other slots, and the table that has room for more.
 use Rattle.std.proofs.Common.{◌≡◌, ◌≤◌, ◌+◌, ◌*◌, ◌^◌, ◌∙◌, ◌++◌, ℕ, sym, ap, subst, refl, List, Some, arith, append-nil, IsPermutation, cond}
 use Rattle.std.proofs.lemmas.Bool.{le-leb, lt-leb}
-use Rattle.std.specs.Prelude.{option_and_then, max}
+use Rattle.std.specs.Prelude.{option_and_then}
 use Rattle.std.specs.Option.{option_or}
 use Rattle.std.proofs.Math.Nat.{mul-le-mul_left}
 use Rattle.std.proofs.lemmas.List.Sorted.{length_permutation}
 use Rattle.odht_base.specs.Decoded.{header_slots, header_factor}
 use Rattle.odht_base.specs.Format.{Format}
 use Rattle.odht_base.specs.Image.{header_bytes, image, parts}
-use Rattle.odht_base.specs.Insert.{place, place_all, grown}
+use Rattle.odht_base.specs.Insert.{place}
 use Rattle.odht_base.specs.Load.{max_items, slots_for, IsSlotCount}
 use Rattle.odht_base.specs.Map.{map_of, last}
 use Rattle.odht_base.specs.Table.{Table, slot_count, count, empty, walk}
@@ -23,8 +23,7 @@ use Rattle.odht_base.proofs.lemmas.Least.{slots_for-IsLeastSlots}
 use Rattle.odht_base.proofs.lemmas.Options.{option_or-none_right}
 use Rattle.odht_base.proofs.lemmas.SlotCounts.{slots_pos, few_slots}
 use Rattle.odht_header.specs.Refusals.{IsTooLarge}
-use Rattle.odht.specs.Growths.{IsGrownImage}
-use Rattle.odht.specs.Reserves.{moved, reserved, LacksRoom, IsMovedImage, IsMovedFor, IsReserved}
+use Rattle.odht.specs.Reserves.{moved, reserved, LacksRoom, IsMovedImage, IsReserved}
 use Rattle.odht.proofs.lemmas.ViewInserts.{factor_header}
 
 -- Q is a valid table of s slots with the pairs of P
@@ -109,12 +108,11 @@ module _ (F : Format) (P : Table) (ok : IsValid F P) (n : ℕ) where
       let most : s * P.factor ≤ s * 65535 = mul-le-mul_left s ok.factor_high in
       absurd (omega (arith, least.holds, most, few_slots s least.is_count, many)))
 
--- the pairs in the slots for twice as many are the grown table
-pub moved-grown : (F : Format) (P : Table) (n : ℕ) (B : List ℕ) → n ≡ max 1 (2 * count P) → IsMovedFor F P n B → IsGrownImage F P B
-unfolding grown
-moved-grown F P n B twice at =
-    let slots : slots_for (max 1 (2 * count P)) P.factor ≡ Some at.0 = ap (λ m. slots_for m P.factor) (sym twice) ∙ at.1 in
-    (at.2.0, ap (option_and_then (λ t. place_all F (empty t P.factor) (walk P))) slots ∙ at.2.1, at.2.2)
+-- slots for so many items take those that there are
+pub reserved-room : (P : Table) (n s : ℕ) → slots_for (count P + n) P.factor ≡ Some s → count P ≤ max_items s P.factor
+reserved-room P n s slots =
+    let holds : count P + n ≤ max_items s P.factor = max_items-holds (count P + n) s P.factor (slots_for-IsLeastSlots _ _ s slots).holds in
+    omega (arith, holds)
 
 -- ---- a table that is emptied
 -- the slot count of the header is that of the table

@@ -1,14 +1,25 @@
 //! Room for items that are still to come.
-ghost use Rattle.std.specs.Prelude.{◌≡◌, ◌+◌, ◌↔◌, ◌⊎◌, OnErr, OnOk};
+ghost use Rattle.std.specs.Prelude.{◌≡◌, ◌+◌, ◌≤◌, ◌^◌, ◌<◌, ◌↔◌, ◌⊎◌, ◌*◌, length, IfOk, OnErr, OnOk};
+ghost use Rattle.odht_base.specs.Bytes.{bytes_at};
+ghost use Rattle.odht_base.specs.Format.{entry_len};
+ghost use Rattle.odht_base.specs.Image.{image_len};
+ghost use Rattle.odht_base.specs.Load.{max_items, IsSlotCount};
 ghost use Rattle.odht_base.specs.Table.{Table, count};
 ghost use Rattle.odht_base.specs.Valid.{IsImage};
 ghost use Rattle.odht_header.specs.Refusals.{IsTooLarge};
-ghost use Rattle.odht.specs.Reserves.{IsReserved, LacksRoom};
+ghost use Rattle.odht_raw.specs.Frame.{IsAccepted};
+ghost use Rattle.odht_raw.specs.Parts.{IsZeros};
+ghost use Rattle.odht.specs.Reserves.{IsMovedImage, IsReserved, LacksRoom};
 
 use super::HashTableOwned;
+use crate::bytes::{ByteStore, OwnedBytes};
 use crate::config::{Coded, Config};
 use crate::error::Error;
+use crate::growth::write_walked;
+use crate::hash_table::HashTable;
 use crate::load::max_item_count_for;
+use crate::memory_layout::layout_for;
+use crate::raw_table::RawIter;
 
 impl<C: Config> HashTableOwned<C> {
     /// Makes room for `additional` more items: so many new keys can be inserted before the table grows. Where it has
@@ -39,19 +50,61 @@ impl<C: Config> HashTableOwned<C> {
     {
         let header = self.table.allocation.header();
         let item_count = header.item_count();
-        let most = max_item_count_for(header.slot_count(), header.max_load_factor());
+        let factor = header.max_load_factor();
+        let most = max_item_count_for(header.slot_count(), factor);
         if additional <= most.saturating_sub(item_count) {
             return Ok(());
         }
         let Some(wanted) = item_count.checked_add(additional) else {
             return Err(Error::Capacity);
         };
-        match self.moved(wanted) {
-            Ok(moved) => {
-                self.table = moved;
-                Ok(())
-            }
-            Err(refused) => Err(refused),
-        }
+        let Some((slot_count, len)) = layout_for::<C>(wanted, factor) else {
+            return Err(Error::Capacity);
+        };
+        let Ok(moved) = self.moved(slot_count, len) else {
+            return Err(Error::Memory);
+        };
+        self.table = moved;
+        Ok(())
     }
+
+    // The pairs of this table, placed in slot order into so many slots in new memory. `len` is the length for them.
+    #[inline(never)]
+    fn moved(&self, slot_count: usize, len: usize) -> Result<HashTable<C, OwnedBytes>, Error>
+        requires slots { IsSlotCount slot_count }
+        requires len { len ≡ image_len ⟦<C as Coded>⟧.coding.format slot_count }
+        ensures ok { let F = ⟦<C as Coded>⟧.coding.format
+            in (P : Table)
+            → IsImage F P self.now
+            → count P ≤ max_items slot_count P.factor
+            → IfOk result (IsMovedImage F P slot_count) }
+        ensures memory { OnErr result (result ≡ Err Error.Memory) }
+    {
+        let Ok(mut bytes) = vec![in self.alloc; 0; len] else {
+            return Err(Error::Memory);
+        };
+        write_moved(&self.table, slot_count, bytes.as_mut_slice());
+        Ok(HashTable::from_raw_bytes_unchecked(OwnedBytes::new(bytes)))
+    }
+}
+
+// Writes the pairs of a table, placed in slot order into so many slots, into bytes whose entries are zeros.
+fn write_moved<C: Config, D: ByteStore>(table: &HashTable<C, D>, slot_count: usize, out: &mut [u8])
+    requires slots { IsSlotCount slot_count }
+    requires len { length out.old ≡ image_len ⟦<C as Coded>⟧.coding.format slot_count }
+    requires zeros { IsZeros (slot_count * entry_len ⟦<C as Coded>⟧.coding.format)
+        (bytes_at out.old 32 (slot_count * entry_len ⟦<C as Coded>⟧.coding.format)) }
+    ensures on_valid { let F = ⟦<C as Coded>⟧.coding.format
+        in (P : Table)
+        → IsImage F P (D.bytes table.now)
+        → count P ≤ max_items slot_count P.factor
+        → IsMovedImage F P slot_count out.new }
+    ensures accepted { IsAccepted ⟦<C as Coded>⟧.coding.format out.new }
+{
+    let header = table.allocation.header();
+    let item_count = header.item_count();
+    let factor = header.max_load_factor();
+    let (control, entries) = table.allocation.data_slices();
+    let walk = RawIter::new(control, entries);
+    write_walked::<C>(out, slot_count, item_count, factor, walk);
 }

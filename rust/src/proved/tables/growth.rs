@@ -6,7 +6,7 @@ use crate::proved::tables::config::Config;
 use crate::proved::tables::hash::HashFn;
 use crate::proved::tables::hash_table::HashTable;
 use crate::proved::tables::load::Factor;
-use crate::proved::tables::memory_layout::{self, HEADER_SIZE};
+use crate::proved::tables::memory_layout::{self, Header, HEADER_SIZE};
 use crate::proved::tables::raw_table::{RawIter, RawTableMut};
 
 impl<C: Config, D: ByteStore> HashTable<C, D> {
@@ -17,8 +17,7 @@ impl<C: Config, D: ByteStore> HashTable<C, D> {
     /// The load factor of valid bytes is at least 655 65536ths of the slots, one percent rounded down. A smaller one is
     /// taken as it is: for 0 no slot count is enough, so the result is None.
     pub fn grown_len(&self) -> Option<usize> {
-        let header = self.allocation.header();
-        match grown_layout::<C>(header.item_count(), header.max_load_factor()) {
+        match grown_layout::<C>(&self.allocation.header()) {
             Some((_, len)) => Some(len),
             None => None,
         }
@@ -33,24 +32,20 @@ impl<C: Config, D: ByteStore> HashTable<C, D> {
     /// On any bytes the new header has the item count and the load factor of this one. The pairs of the walk are then
     /// placed as long as a slot is free, which no clause says.
     pub fn grow_into(&self, out: &mut [u8]) {
-        let header = self.allocation.header();
-        let item_count = header.item_count();
-        let factor = header.max_load_factor();
-        let Some((slot_count, _)) = grown_layout::<C>(item_count, factor) else {
+        let Some((slot_count, _)) = grown_layout::<C>(&self.allocation.header()) else {
             // `out` has the length of the grown table.
             unreachable!()
         };
         memory_layout::clear_entries::<C>(out, slot_count);
-        let (control, entries) = self.allocation.data_slices();
-        let walk = RawIter::new(control, entries);
-        write_walked::<C>(out, slot_count, item_count, factor, walk);
+        write_grown(self, slot_count, out);
     }
 }
 
-// The slot count and the length in bytes of the table that one with this item count and this load factor grows into.
-// None exactly where no slot count is enough, or the length passes `usize`.
-fn grown_layout<C: Config>(item_count: usize, factor: Factor) -> Option<(usize, usize)> {
-    let Some(twice) = item_count.checked_mul(2) else {
+/// The slot count and the length in bytes of the table that the one with this header grows into. None exactly where no
+/// slot count is enough, or the length passes `usize`.
+pub(crate) fn grown_layout<C: Config>(header: &Header<'_>) -> Option<(usize, usize)> {
+    let factor = header.max_load_factor();
+    let Some(twice) = header.item_count().checked_mul(2) else {
         return None;
     };
     if factor.0 == 0 {
@@ -59,8 +54,22 @@ fn grown_layout<C: Config>(item_count: usize, factor: Factor) -> Option<(usize, 
     memory_layout::layout_for::<C>(twice.max(1), factor)
 }
 
-/// Writes the table of so many slots with the items of the walk into bytes whose entries are zeros. The new header gets
-/// `item_count`, whatever the walk gives.
+/// Writes the grown table with so many slots into bytes whose entries are zeros.
+pub(crate) fn write_grown<C: Config, D: ByteStore>(
+    table: &HashTable<C, D>,
+    slot_count: usize,
+    out: &mut [u8],
+) {
+    let header = table.allocation.header();
+    let item_count = header.item_count();
+    let factor = header.max_load_factor();
+    let (control, entries) = table.allocation.data_slices();
+    let walk = RawIter::new(control, entries);
+    write_walked::<C>(out, slot_count, item_count, factor, walk);
+}
+
+// Writes the table of so many slots with the items of the walk into bytes whose entries are zeros. The new header gets
+// `item_count`, whatever the walk gives.
 pub(crate) fn write_walked<C: Config>(
     bytes: &mut [u8],
     slot_count: usize,

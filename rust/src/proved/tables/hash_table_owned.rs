@@ -4,12 +4,11 @@
 use crate::proved::tables::bytes::OwnedBytes;
 use crate::proved::tables::config::Config;
 use crate::proved::tables::error::Error;
-use crate::proved::tables::growth::write_walked;
+use crate::proved::tables::growth::{grown_layout, write_grown};
 use crate::proved::tables::hash_table::HashTable;
 use crate::proved::tables::iter::Iter;
 use crate::proved::tables::load::{slots_needed, Factor};
 use crate::proved::tables::memory_layout;
-use crate::proved::tables::raw_table::RawIter;
 use crate::shim::Global;
 use alloc::vec::Vec;
 
@@ -177,7 +176,7 @@ impl<C: Config> HashTableOwned<C> {
     // `insert` of an absent key at the maximum: into the grown table.
     #[inline(never)]
     fn insert_grown(&mut self, key: &C::Key, value: &C::Value) -> Result<Option<C::Value>, Error> {
-        let Ok(mut grown) = self.moved((2 * self.len()).max(1)) else {
+        let Ok(mut grown) = self.grown_table() else {
             return Err(Error::Memory);
         };
         let Ok(old) = grown.insert(key, value) else {
@@ -188,22 +187,17 @@ impl<C: Config> HashTableOwned<C> {
         Ok(old)
     }
 
-    // The pairs of this table, placed in slot order into the slots for so many items, in new memory: a growth, and the
-    // move to where there is room.
+    // The pairs of this table, placed in slot order into a table with the slots for twice as many, and for one at
+    // least.
     #[inline(never)]
-    fn moved(&self, max_item_count: usize) -> Result<HashTable<C, OwnedBytes>, Error> {
-        let header = self.table.allocation.header();
-        let item_count = header.item_count();
-        let factor = header.max_load_factor();
-        let Some((slot_count, len)) = memory_layout::layout_for::<C>(max_item_count, factor) else {
-            return Err(Error::Capacity);
+    fn grown_table(&self) -> Result<HashTable<C, OwnedBytes>, Error> {
+        let Some((slot_count, len)) = grown_layout::<C>(&self.table.allocation.header()) else {
+            return Err(Error::Memory);
         };
         let Ok(mut bytes) = crate::shim::zeroed_bytes(self.alloc, len) else {
             return Err(Error::Memory);
         };
-        let (control, entries) = self.table.allocation.data_slices();
-        let walk = RawIter::new(control, entries);
-        write_walked::<C>(bytes.as_mut_slice(), slot_count, item_count, factor, walk);
+        write_grown(&self.table, slot_count, bytes.as_mut_slice());
         Ok(HashTable::from_raw_bytes_unchecked(OwnedBytes::new(bytes)))
     }
 }

@@ -1,13 +1,14 @@
 use Rattle.std.proofs.Common.{◌≡◌, ◌<◌, ◌+◌, ◌^◌, ◌∙◌, sym, ap, subst, refl, arith, ℕ}
 use Rattle.odht_base.specs.Decoded.{header_count, header_factor, header_slots}
 use Rattle.odht_base.specs.Format.{Format, format_of}
-use Rattle.odht_base.specs.Load.{max_items, slots_for}
+use Rattle.odht_base.specs.Load.{max_items}
 use Rattle.odht_base.specs.Table.{Table, count, slot_count}
 use Rattle.odht_base.specs.Valid.{IsImage}
+use Rattle.odht_header.specs.Layouts.{IsLayout}
 use Rattle.odht_header.specs.Refusals.{IsTooLarge}
 use Rattle.odht.specs.Reserves.{LacksRoom}
-use Rattle.odht.proofs.lemmas.Moves.{slots_of_image, reserved-stays, reserved-moves, reserved-many}
-use Rattle.odht.proofs.lemmas.NewRefusals.{not_ok, passed_on}
+use Rattle.odht.proofs.lemmas.Moves.{slots_of_image, reserved-stays, reserved-moves, reserved-many, reserved-room}
+use Rattle.odht.proofs.lemmas.NewRefusals.{not_both, not_ok}
 use Rattle.odht.proofs.lemmas.ViewInserts.{count_header, factor_header}
 use Rattle.odht.proofs.hash_table_owned.HashTableOwned.reserve.Given.{Over}
 use Rattle.odht.proofs.hash_table_owned.HashTableOwned.reserve.Goals.{After-saturating_sub}
@@ -19,6 +20,7 @@ format g = format_of g.C.EncodedKey.ByteArray.LEN g.C.EncodedValue.ByteArray.LEN
 -- what the header says of the table P
 record AreRead (g : Over) (c : After-saturating_sub g) (P : Table) : Type 0 where
   items : c.item_count-item_count.result ≡ count P
+  factor : c.max_load_factor-factor.result.0 ≡ P.factor
   most : c.max_item_count_for-most.result ≡ max_items (slot_count P) P.factor
 
 read : (g : Over) (c : After-saturating_sub g) (P : Table) → IsImage (format g) P c.args.self.now → AreRead g c P
@@ -27,9 +29,10 @@ read g c P is =
     let B = c.args.self.now in
     let header = c.header-header.ensures.bytes ∙ ap (λ s. s.table) c.self-inside.view_is ∙ c.self.view_is in
     let slots = c.slot_count.ensures ∙ ap header_slots header ∙ slots_of_image F P B is in
-    let factor = c.max_load_factor.ensures ∙ ap header_factor header ∙ factor_header F P B is in
+    let factor = c.max_load_factor-factor.ensures ∙ ap header_factor header ∙ factor_header F P B is in
     record {
       items = c.item_count-item_count.ensures ∙ ap header_count header ∙ count_header F P B is;
+      factor = factor;
       most = c.max_item_count_for-most.ensures.value ∙ (λ i. max_items (slots i) (factor i));
     }
 
@@ -58,41 +61,60 @@ pub returns-in_default-clause-lacking : goal.returns-in_default-clause-lacking
 returns-in_default-clause-lacking g c P is =
     lacks g (goal.at.returns-in_default-clause-lacking g c).After-saturating_sub P is c.if-additional-saturating_sub.false
 
--- the items wanted are those of P and so many more
-wanted_is : (g : Over) (c : After-saturating_sub g) (P : Table) → IsImage (format g) P c.args.self.now → (n : ℕ) → n ≡ c.item_count-item_count.result + c.args.additional → n ≡ count P + c.args.additional
-wanted_is g c P is n sum = let at = read g c P is in omega (arith, sum, at.items)
+pub layout_for-requires-after_bounds : goal.layout_for-requires-after_bounds
+layout_for-requires-after_bounds g c κs within =
+    let P = c.self.invariant.0 in
+    let is = c.self.invariant.1 in
+    let at = read g (goal.at.layout_for-requires-after_bounds g c).After-saturating_sub P (record { valid = is.valid; bytes = sym c.self.view_is ∙ is.bytes }) in
+    omega (arith, at.factor, is.valid.factor_low)
 
-pub returns-in-Err-clause-capacity : goal.returns-in-Err-clause-capacity
-returns-in-Err-clause-capacity g c P is =
-    let after = (goal.at.returns-in-Err-clause-capacity g c).After-saturating_sub in
-    let wanted = wanted_is g after P is c.in-Some.wanted c.in-Some.ensures.1 in
-    let capacity = c.in-Err.ensures.capacity P is in (
-      λ e. (lacks g after P is c.if-additional-saturating_sub.false, subst (λ n. IsTooLarge (format g) n P.factor) wanted (capacity.0 (passed_on _ _ refl refl refl e))),
-      λ h. passed_on _ _ refl refl refl (capacity.1 (subst (λ n. IsTooLarge (format g) n P.factor) (sym wanted) h.1)),
-    )
+pub returns-in_default-layout_for-clause-capacity : goal.returns-in_default-layout_for-clause-capacity
+returns-in_default-layout_for-clause-capacity g c P is =
+    let after = (goal.at.returns-in_default-layout_for-clause-capacity g c).After-saturating_sub in
+    let at = read g after P is in
+    let wanted : c.in-Some.wanted ≡ count P + c.args.additional = omega (arith, c.in-Some.ensures.1, at.items) in
+    let large : IsTooLarge (format g) c.in-Some.wanted c.max_load_factor-factor.result.0 = c.in_default-layout_for.ensures.none.0 refl in
+    (λ e. (lacks g after P is c.if-additional-saturating_sub.false, subst (λ n. IsTooLarge (format g) n P.factor) wanted (subst (IsTooLarge (format g) c.in-Some.wanted) at.factor large)), λ h. refl)
 
-pub returns-in-Err-clause-lacking : goal.returns-in-Err-clause-lacking
-returns-in-Err-clause-lacking g c P is =
-    lacks g (goal.at.returns-in-Err-clause-lacking g c).After-saturating_sub P is c.if-additional-saturating_sub.false
+pub returns-in_default-layout_for-clause-lacking : goal.returns-in_default-layout_for-clause-lacking
+returns-in_default-layout_for-clause-lacking g c P is =
+    lacks g (goal.at.returns-in_default-layout_for-clause-lacking g c).After-saturating_sub P is c.if-additional-saturating_sub.false
 
-pub returns-in-Ok-clause-ok : goal.returns-in-Ok-clause-ok
-returns-in-Ok-clause-ok g c P is =
-    let after = (goal.at.returns-in-Ok-clause-ok g c).After-saturating_sub in
-    let wanted = wanted_is g after P is c.in-Some.wanted c.in-Some.ensures.1 in
-    let moved = c.in-Ok.ensures.ok P is (omega (arith, wanted)) in
-    reserved-moves (format g) P is.valid c.args.additional moved.0 c.in-Ok.moved (lacks g after P is c.if-additional-saturating_sub.false) (ap (λ n. slots_for n P.factor) (sym wanted) ∙ moved.1) moved.2
+-- the layout is that for as many items as P has and so many more
+layout : (g : Over) (c : After-saturating_sub g) (P : Table) → IsImage (format g) P c.args.self.now → (n s len : ℕ) → n ≡ c.item_count-item_count.result + c.args.additional
+    → IsLayout (format g) n c.max_load_factor-factor.result.0 s len → IsLayout (format g) (count P + c.args.additional) P.factor s len
+layout g c P is n s len sum there =
+    let at = read g c P is in
+    let wanted : n ≡ count P + c.args.additional = omega (arith, sum, at.items) in
+    subst (λ m. IsLayout (format g) m P.factor s len) wanted (subst (λ f. IsLayout (format g) n f s len) at.factor there)
 
-pub returns-in-Ok-clause-capacity : goal.returns-in-Ok-clause-capacity
-returns-in-Ok-clause-capacity g c P is =
-    let wanted = wanted_is g (goal.at.returns-in-Ok-clause-capacity g c).After-saturating_sub P is c.in-Some.wanted c.in-Some.ensures.1 in (
-      λ e. absurd (not_ok _ refl e),
-      λ h. absurd (not_ok _ refl ((c.in-Ok.ensures.capacity P is).1 (subst (λ n. IsTooLarge (format g) n P.factor) (sym wanted) h.1))),
-    )
+pub returns-in_default-moved-clause-capacity : goal.returns-in_default-moved-clause-capacity
+returns-in_default-moved-clause-capacity g c P is =
+    let there = layout g (goal.at.returns-in_default-moved-clause-capacity g c).After-saturating_sub P is c.in-Some.wanted c.in-Some-layout_for.slot_count c.in-Some-layout_for.len c.in-Some.ensures.1 c.in-Some-layout_for.ensures.some in
+    (λ e. absurd (not_both _ e refl), λ h. absurd (omega (arith, h.1 c.in-Some-layout_for.slot_count there.slots, there.long, there.fits)))
+
+pub returns-in_default-moved-clause-lacking : goal.returns-in_default-moved-clause-lacking
+returns-in_default-moved-clause-lacking g c P is =
+    lacks g (goal.at.returns-in_default-moved-clause-lacking g c).After-saturating_sub P is c.if-additional-saturating_sub.false
+
+pub returns-clause-ok : goal.returns-clause-ok
+returns-clause-ok g c P is =
+    let after = (goal.at.returns-clause-ok g c).After-saturating_sub in
+    let s = c.in-Some-layout_for.slot_count in
+    let there = layout g after P is c.in-Some.wanted s c.in-Some-layout_for.len c.in-Some.ensures.1 c.in-Some-layout_for.ensures.some in
+    let moved = c.in-Ok.ensures.ok P is (reserved-room P c.args.additional s there.slots) in
+    reserved-moves (format g) P is.valid c.args.additional s c.in-Ok.moved (lacks g after P is c.if-additional-saturating_sub.false) there.slots moved
+
+pub returns-clause-capacity : goal.returns-clause-capacity
+returns-clause-capacity g c P is =
+    let there = layout g (goal.at.returns-clause-capacity g c).After-saturating_sub P is c.in-Some.wanted c.in-Some-layout_for.slot_count c.in-Some-layout_for.len c.in-Some.ensures.1 c.in-Some-layout_for.ensures.some in
+    (λ e. absurd (not_ok _ refl e), λ h. absurd (omega (arith, h.1 c.in-Some-layout_for.slot_count there.slots, there.long, there.fits)))
 
 pub invariant_of-self : goal.invariant_of-self
 invariant_of-self g c =
     let P = c.self.invariant.0 in
     let is : IsImage (format g) P c.args.self.now = record { valid = c.self.invariant.1.valid; bytes = sym c.self.view_is ∙ c.self.invariant.1.bytes } in
-    let wanted = wanted_is g (goal.at.invariant_of-self g c).After-saturating_sub P is c.in-Some.wanted c.in-Some.ensures.1 in
-    let moved = c.in-Ok.ensures.ok P is (omega (arith, wanted)) in
-    (moved.2.0, moved.2.2)
+    let s = c.in-Some-layout_for.slot_count in
+    let there = layout g (goal.at.invariant_of-self g c).After-saturating_sub P is c.in-Some.wanted s c.in-Some-layout_for.len c.in-Some.ensures.1 c.in-Some-layout_for.ensures.some in
+    let moved = c.in-Ok.ensures.ok P is (reserved-room P c.args.additional s there.slots) in
+    (moved.0, moved.2)

@@ -1,0 +1,68 @@
+use Rattle.std.proofs.Common.{◌++◌, map, filter_map, ◌∙◌, ◌≡◌, Some, sym, ap, subst, arith}
+use Rattle.odht_base.specs.Format.{Format, format_of}
+use Rattle.odht_base.specs.Image.{header_bytes, parts}
+use Rattle.odht_base.specs.Insert.{grown_slots, place_all}
+use Rattle.odht_base.specs.Map.{KeysApart}
+use Rattle.odht_base.specs.Decoded.{decoded_cells, header_count, header_factor}
+use Rattle.odht_base.specs.Table.{walk, count, empty}
+use Rattle.odht_base.proofs.lemmas.DistinctKeys.{walk-KeysApart}
+use Rattle.odht_base.proofs.lemmas.Least.{slots_for-IsLeastSlots}
+use Rattle.odht_header.proofs.lemmas.Formats.{IsFormat-format_of}
+use Rattle.odht_raw.specs.Walks.{stored}
+use Rattle.odht_raw.proofs.lemmas.Walks.{stored-walk, decoded_pairs-image}
+use Rattle.odht.proofs.lemmas.GrownBytes.{grown_header, headed_accepted, headed_count, headed_factor}
+use Rattle.odht.proofs.lemmas.Growths.{grown_placed, grown_image}
+use Rattle.odht.proofs.lemmas.ViewInserts.{count_header, factor_header}
+use Rattle.odht.proofs.growth.write_grown.Goals as goal
+
+pub write_walked-requires-clause-slots : goal.write_walked-requires-clause-slots
+write_walked-requires-clause-slots g c κs within = (slots_for-IsLeastSlots _ _ _ c.requires.slots).is_count
+
+-- the written bytes are those of the grown table
+pub returns-clause-on_valid : goal.returns-clause-on_valid
+returns-clause-on_valid g c P is =
+    let key = g.C.EncodedKey.ByteArray in
+    let value = g.C.EncodedValue.ByteArray in
+    let F : Format = format_of key.LEN value.LEN g.C.H.HashFn.hash in
+    let f = IsFormat-format_of _ _ _ _ g.met.C.Config.key_fits g.met.C.Config.value_fits g.met.C.Config.key_hashes g.met.C.H.HashFn.fits in
+    let B = g.D.ByteStore.bytes c.args.table.now in
+    let s = c.args.slot_count in
+    let header = c.header-header.ensures.bytes ∙ ap g.D.ByteStore.bytes c.table.view_is in
+    let items = c.item_count-item_count.ensures ∙ ap header_count header ∙ count_header F P B is in
+    let factor = c.max_load_factor-factor.ensures ∙ ap header_factor header ∙ factor_header F P B is in
+    let enough : grown_slots P ≡ Some s = sym (grown_header F P B is) ∙ c.requires.slots in
+    let split = c.data_slices-entries.ensures in
+    let decodes = (λ j. filter_map (λ x. x) (decoded_cells F (split.entries j) (split.control j)))
+    ∙ decoded_pairs-image F P _ f (record { valid = is.valid; bytes = ap g.D.ByteStore.bytes c.table.view_is ∙ is.bytes }) in
+    let pairs : map (stored key.bytes value.bytes) c.new-walk.result ≡ walk P =
+    ap (map (stored key.bytes value.bytes)) c.new-walk.ensures.items
+    ∙ stored-walk key.bytes value.bytes key.of_bytes value.of_bytes key.LEN value.LEN g.C.H.HashFn.hash g.met.C.EncodedKey.ByteArray.kept g.met.C.EncodedValue.ByteArray.kept P
+    (record { control = c.data_slices-entries.result.0.now; entries = c.data_slices-entries.result.1 }) is.valid.placed split.len decodes in
+    let q = grown_placed F P is.valid s enough in
+    let placed : place_all F (empty s c.max_load_factor-factor.result.0) (map (stored key.bytes value.bytes) c.new-walk.result) ≡ Some q.0 = (λ i. place_all F (empty s (factor i)) (pairs i)) ∙ q.1 in
+    let apart : KeysApart (map (stored key.bytes value.bytes) c.new-walk.result) = subst KeysApart (sym pairs) (walk-KeysApart F P is.valid.placed) in
+    let bytes : c.write_walked.new.bytes ≡ header_bytes F s (count P) P.factor ++ parts F q.0.cells =
+    c.write_walked.ensures.placed q.0 apart placed ∙ (λ i. header_bytes F s (items i) (factor i) ++ parts F q.0.cells) in
+    let is_grown = grown_image F P is.valid s enough q.0 q.1 c.write_walked.new.bytes bytes in
+    (q.0, is_grown.0, is_grown.1)
+
+-- the new header has the item count and the load factor of the old one
+pub returns-clause-accepted : goal.returns-clause-accepted
+returns-clause-accepted g c =
+    let F : Format = format_of g.C.EncodedKey.ByteArray.LEN g.C.EncodedValue.ByteArray.LEN g.C.H.HashFn.hash in
+    headed_accepted F c.write_walked.new.bytes c.args.slot_count c.item_count-item_count.result c.max_load_factor-factor.result.0 c.write_walked.ensures.header
+    (slots_for-IsLeastSlots _ _ _ c.requires.slots).is_count (omega (arith, c.write_walked.auto.bytes, c.requires.len))
+
+pub returns-clause-count : goal.returns-clause-count
+returns-clause-count g c =
+    let F : Format = format_of g.C.EncodedKey.ByteArray.LEN g.C.EncodedValue.ByteArray.LEN g.C.H.HashFn.hash in
+    let header = c.header-header.ensures.bytes ∙ ap g.D.ByteStore.bytes c.table.view_is in
+    headed_count F c.write_walked.new.bytes c.args.slot_count c.item_count-item_count.result c.max_load_factor-factor.result.0 c.write_walked.ensures.header c.item_count-item_count.type_inv
+    ∙ c.item_count-item_count.ensures ∙ ap header_count header
+
+pub returns-clause-factor : goal.returns-clause-factor
+returns-clause-factor g c =
+    let F : Format = format_of g.C.EncodedKey.ByteArray.LEN g.C.EncodedValue.ByteArray.LEN g.C.H.HashFn.hash in
+    let header = c.header-header.ensures.bytes ∙ ap g.D.ByteStore.bytes c.table.view_is in
+    headed_factor F c.write_walked.new.bytes c.args.slot_count c.item_count-item_count.result c.max_load_factor-factor.result.0 c.write_walked.ensures.header c.max_load_factor-factor.type_inv.1.1.0.1
+    ∙ c.max_load_factor-factor.ensures ∙ ap header_factor header

@@ -1,0 +1,33 @@
+use Rattle.std.proofs.Common.{◌≡◌, ◌*◌, ◌∙◌, sym, ap, subst, arith, length, replicate, take_at}
+use Rattle.odht_base.specs.Bytes.{bytes_at}
+use Rattle.odht_base.specs.Format.{Format, format_of, entry_len}
+use Rattle.odht_raw.specs.Frame.{IsAccepted}
+use Rattle.odht_raw.proofs.lemmas.NewTables.{bytes_at-zeros}
+use Rattle.odht.proofs.hash_table_owned.HashTableOwned.grown_table.Given.{Over}
+use Rattle.odht.proofs.hash_table_owned.HashTableOwned.grown_table.Goals as goal
+use Rattle.odht.proofs.hash_table_owned.HashTableOwned.grown_table.Goals.{After-new}
+
+pub write_grown-requires-clause-zeros : goal.write_grown-requires-clause-zeros
+write_grown-requires-clause-zeros g c κs within =
+    let F : Format = format_of g.C.EncodedKey.ByteArray.LEN g.C.EncodedValue.ByteArray.LEN g.C.H.HashFn.hash in
+    let n = c.in-Some.slot_count * entry_len F in
+    let zeros : c.as_mut_slice.result.now ≡ replicate c.in-Some.len 0 = c.as_mut_slice.ensures.value ∙ c.in-Ok.ensures.items_if_clones_equal (λ y e. e) in
+    ap (λ B. bytes_at B 32 n) zeros ∙ bytes_at-zeros c.in-Some.len 32 n (omega (arith, c.in-Some.ensures.long))
+
+-- the bytes are those that were written
+all : (g : Over) (c : goal.After-new g) → c.new.result ≡ c.write_grown.new.out
+all g c =
+    let long : length c.write_grown.new.out ≡ c.in-Ok.bytes.len = omega (arith, c.write_grown.auto.out, c.as_mut_slice.ensures.len) in
+    c.new.ensures ∙ take_at c.write_grown.new.out _ c.in-Ok.bytes.len long
+
+pub from_raw_bytes_unchecked-requires-after_bounds :
+    goal.from_raw_bytes_unchecked-requires-after_bounds
+from_raw_bytes_unchecked-requires-after_bounds g c κs within =
+    let F : Format = format_of g.C.EncodedKey.ByteArray.LEN g.C.EncodedValue.ByteArray.LEN g.C.H.HashFn.hash in
+    subst (IsAccepted F) (sym (all g c)) c.write_grown.ensures.accepted
+
+pub returns-clause-ok : goal.returns-clause-ok
+returns-clause-ok g c P is =
+    let F : Format = format_of g.C.EncodedKey.ByteArray.LEN g.C.EncodedValue.ByteArray.LEN g.C.H.HashFn.hash in
+    let q = c.write_grown.ensures.on_valid P (record { valid = is.valid; bytes = c.self.view_is ∙ is.bytes }) in
+    (q.0, q.1, record { valid = q.2.valid; bytes = c.from_raw_bytes_unchecked.ensures ∙ all g (goal.at.returns-clause-ok g c).After-new ∙ q.2.bytes })
