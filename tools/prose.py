@@ -1,5 +1,5 @@
 #!/usr/bin/env python3
-"""The longest sentences of the documents, and words that they do not use.
+"""The longest sentences of the documents, and words that they and the library's comments do not use.
 
   tools/prose.py [FILE..]     lists sentences of more than 40 words, the longest first, and words that were dropped
   tools/prose.py --check      status 1 where a document has a dropped word, or a sentence of more than 50 words
@@ -23,8 +23,8 @@ DROPPED = [
 ]
 # documents whose sentences are listed, and no fault yet
 LONG_STILL = {"docs/TOOL.md"}
-# headings and quotations that keep their words
-KEPT = [r"What is refused,\s+and\s+in\s+which\s+order"]
+# crates of which the comments are read for dropped words too
+LIBRARIES = ("odht_base", "odht_header", "odht_raw", "odht", "odht_index")
 # a part that tools/proofs makes begins here
 MADE = "\n## The calls\n"
 
@@ -35,6 +35,17 @@ def documents():
     return sorted({*names, *glob.glob("bench/*.md", root_dir=TOP)} - {"docs/FILES.md"})
 
 
+def sources():
+    return sorted(name for crate in LIBRARIES
+                  for name in glob.glob(f"crates/{crate}/src/**/*.rt", root_dir=TOP, recursive=True))
+
+
+def comments_of(text):
+    """Returns the comments of a source file without the code in them; lines stay where they are."""
+    lines = ((line if line.lstrip().startswith("//") else "") for line in text.split("\n"))
+    return re.sub(r"`[^`\n]*`", "code", "\n".join(lines))
+
+
 def prose_of(text):
     """Returns the text with what is no prose blanked; lines stay where they are."""
     text = text.split(MADE)[0]
@@ -42,8 +53,6 @@ def prose_of(text):
     text = re.sub(r"^    .*$", "", text, flags=re.M)
     text = re.sub(r"`[^`\n]*(?:\n[^`\n]+)?`", lambda it: "code" + "\n" * it[0].count("\n"), text)
     text = re.sub(r"\]\([^)\s]*\)", "]", text)
-    for words in KEPT:
-        text = re.sub(words, lambda it: "code" + "\n" * it[0].count("\n"), text)
     return text
 
 
@@ -60,22 +69,28 @@ def sentences(text):
         at += block.count("\n")
 
 
+def dropped_of(name, text):
+    """Returns the dropped words of a text, each with its place."""
+    return [f"{name}:{number}: {it}: {instead}"
+            for number, line in enumerate(text.split("\n"), 1)
+            for pattern, allowed, instead in DROPPED if name not in allowed
+            for it in re.findall(pattern, line, re.I)]
+
+
 def found_in(name):
-    """Returns what is long and what was dropped in a document."""
+    """Returns what is long, in a document alone, and what was dropped."""
     with open(f"{TOP}/{name}", encoding="utf-8") as it:
-        text = prose_of(it.read())
+        text = it.read()
+    if name.endswith(".rt"):
+        return [], dropped_of(name, comments_of(text))
+    text = prose_of(text)
     long = [(len(words), f"{name}:{line}", " ".join(words)) for line, words in sentences(text) if len(words) > LONG]
-    dropped = []
-    for number, line in enumerate(text.split("\n"), 1):
-        for pattern, allowed, instead in DROPPED:
-            for it in re.findall(pattern, line, re.I) if name not in allowed else ():
-                dropped.append(f"{name}:{number}: {it}: {instead}")
-    return long, dropped
+    return long, dropped_of(name, text)
 
 
 def main(*words):
     is_check = words == ("--check",)
-    found = [found_in(name) for name in (documents() if is_check or not words else words)]
+    found = [found_in(name) for name in (documents() + sources() if is_check or not words else words)]
     long = sorted((it for part, _ in found for it in part), reverse=True)
     dropped = [it for _, part in found for it in part]
     if is_check:

@@ -66,7 +66,7 @@ impl<C: Config, D: ByteStore> Model for HashTable<C, D> {
 
 impl<C: Config, D: ByteStore> HashTable<C, D> {
     /// Opens bytes as a table, or returns the first error: of too few bytes, of the header, of the length, of the first
-    /// ten slots. On an error the store is dropped. docs/FORMAT.md, "What is refused, and in which order", has the
+    /// ten slots. On an error the store is dropped. docs/FORMAT.md, "What is rejected, and in which order", has the
     /// order.
     ///
     /// Nothing else is checked. A view of bytes that are accepted and not valid is safe to use, but its calls keep only
@@ -86,7 +86,7 @@ impl<C: Config, D: ByteStore> HashTable<C, D> {
     }
 
     /// Opens bytes as a table by their header and their length alone, or returns the first error: of too few bytes, of
-    /// the header, of the length. On an error the store is dropped. docs/FORMAT.md, "What is refused, and in which
+    /// the header, of the length. On an error the store is dropped. docs/FORMAT.md, "What is rejected, and in which
     /// order", has the order.
     ///
     /// No slot is checked. A view of bytes that are not valid is safe to use, but its calls keep only what their

@@ -1,7 +1,6 @@
 //! Laws of whole tables that are the contract of no single call: a table of a `Lossless` configuration is a map of the
 //! keys to the values themselves, valid bytes are accepted, and an order of inserts makes its table again. Each
-//! function is a few calls at most, and its contract is the law. docs/PROOFS.md lists them in "Configurations",
-//! "Opening bytes" and "Orders of inserts".
+//! function is a few calls at most, and its contract is the law. docs/PROOFS.md lists them in "Laws of whole tables".
 ghost use Rattle.std.specs.Prelude.{◌≡◌, ℕ, List, ◌↔◌, ◌⊎◌, length, IfOk, OnErr};
 ghost use Rattle.odht_base.specs.Load.{factor_of, IsPercent};
 ghost use Rattle.odht.specs.LastValues.{IsLastValue, HasLastValues};

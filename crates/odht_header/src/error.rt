@@ -1,6 +1,6 @@
 //! The errors of opening and checking bytes, and of calls.
 //!
-//! The conditions and their order are those of docs/FORMAT.md, "What is refused, and in which order".
+//! The conditions and their order are those of docs/FORMAT.md, "What is rejected, and in which order".
 ghost use Rattle.std.specs.Prelude.{◌≡◌, Some};
 ghost use Rattle.std.specs.Fmt.{WritesOnOk};
 ghost use Rattle.odht_header.specs.declared.error.Error.TheVariants.{Memory};

@@ -124,7 +124,7 @@ impl<'a> Model for Index<'a> {
 impl<'a> Index<'a> {
     /// Opens the bytes, which are checked and not copied, or returns the first error: of too few bytes, of the header,
     /// of the length, of the first ten slots. Nothing else is checked. The bytes of a valid table, as [`build`] returns
-    /// them, are never rejected. docs/FORMAT.md, "What is refused, and in which order", has the order.
+    /// them, are never rejected. docs/FORMAT.md, "What is rejected, and in which order", has the order.
     #[inline]
     pub fn open(bytes: &'a [u8]) -> Result<Self, Error>
         ensures ok { IfOk result (λ index. index ≡ bytes.now) }

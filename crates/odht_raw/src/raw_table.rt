@@ -111,7 +111,7 @@ impl<'a, K: ByteArray, V: ByteArray, H: HashFn> RawTable<'a, K, V, H> {
 
     /// The value stored with the key, searched for group by group along the probe order (docs/FORMAT.md, "Search").
     ///
-    /// On the parts of a table whose keys are all reached it is the map's answer. On any parts it is a value that is
+    /// On the parts of a table whose keys are all reached it is the map's result. On any parts it is a value that is
     /// stored with an equal key. `find_counted` says how many groups that takes.
     #[inline(always)]
     pub fn find(&self, key: &K) -> Option<V>
@@ -170,7 +170,7 @@ impl<'a, K: ByteArray, V: ByteArray, H: HashFn> RawTable<'a, K, V, H> {
         RawIter::new(self.control, self.entries.copy())
     }
 
-    /// Checks the first `slots_to_check` slots, or all where there are fewer, and answers the first error:
+    /// Checks the first `slots_to_check` slots, or all where there are fewer, and returns the first error:
     /// `NonZeroEmpty` of a slot that counts as free, `ControlMismatch` of any other.
     ///
     /// A mismatch can mean that the bytes were written with another hash function.
@@ -187,7 +187,7 @@ impl<'a, K: ByteArray, V: ByteArray, H: HashFn> RawTable<'a, K, V, H> {
         Ok(())
     }
 
-    // What opening checks of one slot. Answers the hash of the key where the slot does not count as free.
+    // What opening checks of one slot. Returns the hash of the key where the slot does not count as free.
     #[inline(always)]
     fn check_slot(&self, slot: usize) -> Result<Option<u32>, Error>
         requires { slot < self.now.entries.slots }

@@ -17,10 +17,10 @@ use crate::raw_table::RawTable;
 /// may exceed it.
 pub const DEFAULT_GROUPS: usize = 128;
 
-/// Checks all of the bytes, and answers the first error: first those of [`Allocation::from_raw_bytes`], then those of
+/// Checks all of the bytes, and returns the first error: first those of [`Allocation::from_raw_bytes`], then those of
 /// [`Allocation::check_rest`]. Ok exactly for valid bytes.
 ///
-/// The rules and their order are those of docs/FORMAT.md, "What is refused, and in which order". It allocates nothing.
+/// The rules and their order are those of docs/FORMAT.md, "What is rejected, and in which order". It allocates nothing.
 /// Where hashes vary its time is linear in the bytes. At worst, where all keys of `s` slots have one hash, it reads
 /// about `s*s/32` groups and makes `s*s/2` comparisons of keys: over an hour for 2^20 slots. For bytes of strangers there
 /// is [`check_all_within`].
@@ -37,8 +37,8 @@ pub fn check_all<C: Config>(bytes: &[u8]) -> Result<(), Error>
 /// of which no search, of a present or an absent key, reads more.
 ///
 /// For bytes of strangers: whatever they are, for `s` slots it reads at most `2 * s * groups` groups and makes at most
-/// `16 * s * groups` comparisons of keys. It allocates nothing. With `groups` of `s / 16` or more it answers as
-/// `check_all`.
+/// `16 * s * groups` comparisons of keys. It allocates nothing. With `groups` of `s / 16` or more it returns what
+/// `check_all` returns.
 pub fn check_all_within<C: Config>(bytes: &[u8], groups: usize) -> Result<(), Error>
     ensures first { let F = ⟦<C as Coded>⟧.coding.format
         in result ≡ checked (check_refusal_by F (Some groups) bytes.now) }
@@ -51,13 +51,13 @@ pub fn check_all_within<C: Config>(bytes: &[u8], groups: usize) -> Result<(), Er
 }
 
 impl<C: Config, M: ByteStore> Allocation<C, M> {
-    /// Checks what opening leaves out, and answers the first error: `LoadFactorTooSmall`, `NonZeroPadding`; of the
+    /// Checks what opening leaves out, and returns the first error: `LoadFactorTooSmall`, `NonZeroPadding`; of the
     /// slots in order `NonZeroEmpty`, `BadFreeControl` or `ControlMismatch`; `MirrorMismatch`, `WrongItemCount`,
     /// `TooManyItems`; and `Unreachable` of the first occupied slot at which a search slot by slot for its key does not
     /// end. Ok exactly for valid bytes.
     ///
     /// Slots are read in their order, up to 64 together and of these the free ones first, once where no free one is
-    /// refused; and for each occupied slot the control bytes of its key's probe order up to it, sixteen at a time. A
+    /// rejected; and for each occupied slot the control bytes of its key's probe order up to it, sixteen at a time. A
     /// key is compared only with keys at earlier positions that have its tag.
     pub fn check_rest(&self) -> Result<(), Error>
         ensures first { result

@@ -16,9 +16,9 @@ use crate::swisstable_group_query::{Group, GroupQuery, REFERENCE_GROUP_SIZE};
 
 /// Searches for the key group by group along its probe order, and stops at the first slot that is free or holds it.
 ///
-/// On the parts of a table whose keys are all reached the answer is the slot where a search slot by slot ends, which is
+/// On the parts of a table whose keys are all reached the result is the slot where a search slot by slot ends, which is
 /// where a pair with the key is placed, and exactly the groups up to this slot are read. On any parts `Found` is a slot
-/// whose entry has an equal key, `Free` is a slot that counts as free, `Neither` is answered only where each slot
+/// whose entry has an equal key, `Free` is a slot that counts as free, `Neither` is returned only where each slot
 /// counts as occupied, by its control byte or its mirror. No slot before it in the probe order has this key with its
 /// tag; and none before a `Free`, none in a group before that of a `Found`, and none at all on `Neither`, counts as
 /// free: each by its control byte or its mirror. No more groups are read than there are. All this holds for every group

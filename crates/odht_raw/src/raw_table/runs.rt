@@ -18,7 +18,7 @@ const BATCH: usize = 8;
 const LARGE: usize = 1 << 20;
 
 /// Inserts the items from index `from` on in turn, with room for `room` new entries, and stops at the first item that
-/// is answered with `Full`. Answers the index after the last item that was inserted, and how many entries were added.
+/// is rejected with `Full`. Returns the index after the last item that was inserted, and how many entries were added.
 ///
 /// Each item costs a search. In tables of 2^20 slots and more the group at the home slot may be read ahead, for eight
 /// keys in turn: these keys are encoded twice, and a new key whose slot was seen free then needs no further search.

@@ -1,4 +1,4 @@
-//! What a search answers.
+//! What a search returns.
 
 /// The slot where a search ended.
 #[derive(Clone, Copy, PartialEq, Eq, Debug)]

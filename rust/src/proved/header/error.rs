@@ -1,7 +1,7 @@
 // Made by `make rust` of crates/odht_header/src/error.rt.
 //! The errors of opening and checking bytes, and of calls.
 //!
-//! The conditions and their order are those of docs/FORMAT.md, "What is refused, and in which order".
+//! The conditions and their order are those of docs/FORMAT.md, "What is rejected, and in which order".
 
 use crate::shim::AllocError;
 use std::fmt;

@@ -8,16 +8,16 @@ use crate::proved::tables::raw_table::{FirstLook, RawTable};
 // How many first looks are taken before the searches go on, in keys.
 const BATCH: usize = 8;
 
-/// Where the answers of many lookups go, each to a place with a number.
+/// Where the results of many lookups go, each to a place with a number.
 ///
-/// In a contract the ghost member `places` is how many places there are, and `after_put` what there is after an answer
-/// was put at one of them. [`get_all`] puts one answer for each key, in the order of the keys.
+/// In a contract the ghost member `places` is how many places there are, and `after_put` what there is after a result
+/// was put at one of them. [`get_all`] puts one result for each key, in the order of the keys.
 pub trait Answers<T> {
-    /// Puts an answer at an index.
+    /// Puts a result at an index.
     fn put(&mut self, index: usize, answer: T);
 }
 
-/// A slice, in which an answer replaces what was at its index.
+/// A slice, in which a result replaces what was at its index.
 pub(crate) struct InSlice<'a, T> {
     pub(crate) answers: &'a mut [T],
 }
@@ -29,7 +29,7 @@ impl<'a, T> Answers<T> for InSlice<'a, T> {
     }
 }
 
-/// Looks up the keys, eight at a time and then the rest one by one, and puts the answer of each key at its index.
+/// Looks up the keys, eight at a time and then the rest one by one, and puts the result of each key at its index.
 ///
 /// Each key is encoded twice, and hashed once. No group is read twice.
 #[inline(always)]
@@ -45,7 +45,7 @@ pub fn get_all<C: Config, A: Answers<Option<C::Value>>>(
     }
 }
 
-// Puts the answers of the keys of the full batches, and returns how many keys these are.
+// Puts the results of the keys of the full batches, and returns how many keys these are.
 #[inline(always)]
 fn get_batches<C: Config, A: Answers<Option<C::Value>>>(
     raw: &RawTable<'_, C::EncodedKey, C::EncodedValue, C::H>,
@@ -59,7 +59,7 @@ fn get_batches<C: Config, A: Answers<Option<C::Value>>>(
     batches * BATCH
 }
 
-// Puts the answers of the eight keys from an index on. It has no loop, so that the first looks stay in registers.
+// Puts the results of the eight keys from an index on. It has no loop, so that the first looks stay in registers.
 #[inline(always)]
 fn get_eight<C: Config, A: Answers<Option<C::Value>>>(
     raw: &RawTable<'_, C::EncodedKey, C::EncodedValue, C::H>,
@@ -85,7 +85,7 @@ fn get_eight<C: Config, A: Answers<Option<C::Value>>>(
     get_one::<C, A>(raw, eighth, keys, from + 7, answers);
 }
 
-// Puts the answer of the key at an index, from its first look.
+// Puts the result of the key at an index, from its first look.
 #[inline(always)]
 fn get_one<C: Config, A: Answers<Option<C::Value>>>(
     raw: &RawTable<'_, C::EncodedKey, C::EncodedValue, C::H>,

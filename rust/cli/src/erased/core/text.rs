@@ -197,7 +197,7 @@ fn is_written<W: Write>(pair: &[u8; 2], output: &mut W, fault: &mut Option<io::E
 
 // Whether this went well. Where it did not, `fault` becomes its error.
 //
-// The error is put where it stays. As a part of the answer it would be copied for each two digits, and zeros in its
+// The error is put where it stays. As a part of the result it would be copied for each two digits, and zeros in its
 // place where there is none.
 #[inline(always)]
 fn went_well(written: io::Result<()>, fault: &mut Option<io::Error>) -> bool {

@@ -22,7 +22,7 @@ pub struct Allocation<C: Config, M: ByteStore> {
 }
 
 impl<C: Config, M: ByteStore> Allocation<C, M> {
-    /// Opens the bytes as those of a table. The answer is the first error, if any: `TooShort`, then those of
+    /// Opens the bytes as those of a table. The result is the first error, if any: `TooShort`, then those of
     /// [`Header::sanity_check`], then those of [`RawTable::sanity_check_hashes`] on the first ten slots. On an error
     /// the data is dropped. Valid bytes are always opened; bytes that are opened need not be valid.
     #[inline(always)]
@@ -35,7 +35,7 @@ impl<C: Config, M: ByteStore> Allocation<C, M> {
         Ok(allocation)
     }
 
-    /// Opens the bytes as those of a table by their header and length alone. The answer is the first error, if any:
+    /// Opens the bytes as those of a table by their header and length alone. The result is the first error, if any:
     /// `TooShort`, then those of [`Header::sanity_check`]. No slot is read. On an error the data is dropped.
     #[inline(always)]
     pub fn from_raw_bytes_by_header(data: M) -> Result<Self, Error> {

@@ -20,7 +20,7 @@ pub(crate) struct SlotSummary {
 }
 
 impl<'a, K: ByteArray, V: ByteArray, H: HashFn> RawTable<'a, K, V, H> {
-    /// Checks all slots, and answers the first error in slot order: `NonZeroEmpty`, then `BadFreeControl`, of a slot
+    /// Checks all slots, and returns the first error in slot order: `NonZeroEmpty`, then `BadFreeControl`, of a slot
     /// that counts as free, `ControlMismatch` of any other.
     ///
     /// `unreachable` is what its comment says only where searches are made, no slot gives an error, and the mirror has no

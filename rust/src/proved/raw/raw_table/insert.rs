@@ -13,7 +13,7 @@ use crate::proved::raw::swisstable_group_query::{Group, REFERENCE_GROUP_SIZE};
 
 /// Searches for the key once. Overwrites the value that is stored with it; or, where it is new and `room`, the number
 /// of entries that may be added, is not zero, writes the pair into the first free slot of the key's probe order.
-/// Answers the former value; or `Full`, with nothing changed, where the key is new and there is no room or no free
+/// Returns the former value; or `Full`, with nothing changed, where the key is new and there is no room or no free
 /// slot.
 #[inline(always)]
 pub(crate) fn insert_step<K: ByteArray, V: ByteArray, H: HashFn, Q: Group>(
@@ -43,7 +43,7 @@ pub(crate) fn step_end<K: ByteArray, V: ByteArray, H: HashFn, Q: Group>(
 }
 
 /// Writes a pair where the search for its key ended, which comes with the key's tag: the value alone into the slot
-/// that holds the key, or, where there is room, the entry with its tag into the free slot. Answers the former value; or
+/// that holds the key, or, where there is room, the entry with its tag into the free slot. Returns the former value; or
 /// `Full`, with nothing changed, where there is no room for a new entry, or the search met neither slot.
 #[inline(always)]
 pub(crate) fn insert_at<K: ByteArray, V: ByteArray, H: HashFn>(

@@ -45,7 +45,7 @@ impl<'a, K: ByteArray, V: ByteArray, H: HashFn> RawTable<'a, K, V, H> {
     }
 
     // Places slots in their order, as long as each is near its home. None that waits is before it in the probe order of
-    // its key then, so that it is ready. Answers how many were placed.
+    // its key then, so that it is ready. Returns how many were placed.
     fn place_near(&self, slots: &mut [usize]) -> usize {
         // Its invariant is used: the slots are a slot count, and have control bytes and a mirror.
         let _ = &self.control;
@@ -79,7 +79,7 @@ impl<'a, K: ByteArray, V: ByteArray, H: HashFn> RawTable<'a, K, V, H> {
     }
 
     // Goes once through the slots that wait, and places each that is ready by then. At the end the placed slots come
-    // first, in slot order, and after them the others. Answers how many were placed.
+    // first, in slot order, and after them the others. Returns how many were placed.
     fn place_ready(&self, slots: &mut [usize], frontiers: &mut [Frontier; FRONTIERS]) -> usize {
         let mut placed = 0;
         // One more than the last slot that was left to wait, or 0.

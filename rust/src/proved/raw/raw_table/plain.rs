@@ -11,7 +11,7 @@ use crate::proved::raw::swisstable_group_query::REFERENCE_GROUP_SIZE;
 
 /// The value stored with the key, searched for slot by slot along the probe order.
 ///
-/// On the parts of a table whose keys are all reached it is the map's answer. On any parts it is a value that is stored
+/// On the parts of a table whose keys are all reached it is the map's result. On any parts it is a value that is stored
 /// with an equal key.
 pub fn plain_find<K: ByteArray, V: ByteArray, H: HashFn>(
     control: &[EntryMetadata],
@@ -27,12 +27,12 @@ pub fn plain_find<K: ByteArray, V: ByteArray, H: HashFn>(
 }
 
 /// Overwrites the value stored with the key, or writes the pair into the first free slot of the key's probe order:
-/// entry, tag, and for a slot below 16 the mirror. Answers the former value.
+/// entry, tag, and for a slot below 16 the mirror. Returns the former value.
 ///
 /// On the parts of a table whose keys are all reached it leaves the parts of the table with the pair placed, and
-/// answers `Full`, with nothing changed, exactly where each slot is occupied and none has the key. On any parts either
+/// returns `Full`, with nothing changed, exactly where each slot is occupied and none has the key. On any parts either
 /// one value stored with an equal key is overwritten, or one entry is written with its tag into a slot that counted as
-/// free, and no other byte changes; `Full` is answered only where each slot counts as occupied and a search slot by
+/// free, and no other byte changes; `Full` is returned only where each slot counts as occupied and a search slot by
 /// slot can end without the key.
 pub fn plain_insert<K: ByteArray, V: ByteArray, H: HashFn>(
     control: &mut [EntryMetadata],

@@ -1,5 +1,5 @@
 // Made by `make rust` of crates/odht_raw/src/raw_table/search_result.rt.
-//! What a search answers.
+//! What a search returns.
 
 /// The slot where a search ended.
 #[derive(Clone, Copy, PartialEq, Eq, Debug)]
