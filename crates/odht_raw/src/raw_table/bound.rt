@@ -7,11 +7,11 @@ ghost use Rattle.odht_base.specs.Valid.{IsPartsOf};
 ghost use Rattle.odht_header.specs.Refusals.{longer_refusal};
 ghost use Rattle.odht_base.specs.Bounds.{ends_within, first_longer, AreWithin};
 
-use super::{GroupProbe, RawTable};
+use super::{ProbeSeq, RawTable};
 use crate::bytes::ByteArray;
 use crate::error::Error;
 use crate::hash::HashFn;
-use crate::swisstable_group_query::late_free;
+use crate::swisstable_group_query::{REFERENCE_GROUP_SIZE, late_free};
 
 impl<'a, K: ByteArray, V: ByteArray, H: HashFn> RawTable<'a, K, V, H> {
     /// `SearchTooLong` of the least home from which a search may read more groups than the bound; None without a bound.
@@ -68,19 +68,19 @@ impl<'a, K: ByteArray, V: ByteArray, H: HashFn> RawTable<'a, K, V, H> {
         ensures within { IfSome result (AreWithin self.now.control groups home) }
         ensures longer { result ≡ None → ends_within self.now.control groups home ≡ false }
     {
-        let slots = self.entries.len();
-        let mask = slots - 1;
-        let mut probe = GroupProbe::new(self.control, slots, home);
+        let mask = self.entries.len() - 1;
+        let mut probe = ProbeSeq::<REFERENCE_GROUP_SIZE>::new(home, mask);
         let mut left = groups;
         'groups: while left > 0 {
-            let start = probe.start();
-            if let Some(index) = late_free(probe.read()) {
+            let start = probe.index();
+            let control = self.control;
+            if let Some(index) = late_free(&control[start..start + REFERENCE_GROUP_SIZE]) {
                 return Some(index.min(mask - start) + 1);
             }
             if probe.is_last() {
                 return None;
             }
-            probe.advance();
+            probe.advance(mask);
             left -= 1;
         }
         None

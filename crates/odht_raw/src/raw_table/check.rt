@@ -212,7 +212,7 @@ impl<'a, K: ByteArray, V: ByteArray, H: HashFn> RawTable<'a, K, V, H> {
         let mut group = first;
         'groups: loop {
             let start = probe.start();
-            let before = (slot + slots - start) & mask;
+            let before = slot.wrapping_sub(start) & mask;
             if before < REFERENCE_GROUP_SIZE {
                 return self.are_passed(group, start, before, slot);
             }

@@ -1,11 +1,11 @@
 // Made by `make rust` of crates/odht_raw/src/raw_table/bound.rt.
 //! How many groups a search may read, told from control bytes alone.
 
-use super::{GroupProbe, RawTable};
+use super::{ProbeSeq, RawTable};
 use crate::proved::raw::bytes::ByteArray;
 use crate::proved::raw::error::Error;
 use crate::proved::raw::hash::HashFn;
-use crate::proved::raw::swisstable_group_query::late_free;
+use crate::proved::raw::swisstable_group_query::{late_free, REFERENCE_GROUP_SIZE};
 
 impl<'a, K: ByteArray, V: ByteArray, H: HashFn> RawTable<'a, K, V, H> {
     /// `SearchTooLong` of the least home from which a search may read more groups than the bound; None without a bound.
@@ -49,19 +49,19 @@ impl<'a, K: ByteArray, V: ByteArray, H: HashFn> RawTable<'a, K, V, H> {
     // up to it have it too; but not behind the last slot, where the mirror may differ from what it mirrors.
     #[inline]
     fn homes_within(&self, home: usize, groups: usize) -> Option<usize> {
-        let slots = self.entries.len();
-        let mask = slots - 1;
-        let mut probe = GroupProbe::new(self.control, slots, home);
+        let mask = self.entries.len() - 1;
+        let mut probe = ProbeSeq::<REFERENCE_GROUP_SIZE>::new(home, mask);
         let mut left = groups;
         while left > 0 {
-            let start = probe.start();
-            if let Some(index) = late_free(probe.read()) {
+            let start = probe.index();
+            let control = self.control;
+            if let Some(index) = late_free(&control[start..start + REFERENCE_GROUP_SIZE]) {
                 return Some(index.min(mask - start) + 1);
             }
             if probe.is_last() {
                 return None;
             }
-            probe.advance();
+            probe.advance(mask);
             left -= 1;
         }
         None

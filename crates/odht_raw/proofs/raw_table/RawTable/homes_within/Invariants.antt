@@ -1,12 +1,14 @@
-use Rattle.std.proofs.Common.{◌≡◌, ◌<◌, ◌+◌, ◌*◌, ℕ, false}
+use Rattle.std.proofs.Common.{◌≡◌, ◌<◌, ◌≤◌, ◌+◌, ◌*◌, ◌%◌, ℕ, false}
 use Rattle.odht_raw.proofs.lemmas.Bounds.{has_free}
 use Rattle.odht_raw.proofs.raw_table.RawTable.homes_within.Given as goal
 
--- the groups before the probe have no free byte
+-- the probe is at the first position of a group, and the groups before it have no free byte
 abbrev pub invariant-groups : goal.invariant-groups
 invariant-groups g l = record {
-  control : l.probe.control ≡ l.self.control;
   home : l.probe.home ≡ l.fn.home;
+  mask : l.probe.mask + 1 ≡ l.self.entries.slots;
+  aligned : l.probe.position % 16 ≡ 0;
+  within : l.probe.position + 16 ≤ l.self.entries.slots;
   left : l.probe.position + 16 * l.left ≡ 16 * l.fn.groups;
   occupied : (j : ℕ) → 16 * j < l.probe.position → has_free l.self.control l.fn.groups l.fn.home j ≡ false;
 }

@@ -5,12 +5,11 @@ use Rattle.odht_base.specs.Load.{IsSlotCount}
 use Rattle.odht_base.specs.Probe.{probe_slot}
 use Rattle.odht_base.specs.Search.{stops_at}
 use Rattle.odht_base.specs.Decoded.{slot_key}
-use Rattle.odht_base.proofs.lemmas.SlotCounts.{bit_and-slots}
 use Rattle.std.proofs.lemmas.Bool.{cases_lt}
 use Rattle.odht_raw.specs.Checks.{cells_of, IsLookAt}
 use Rattle.odht_raw.specs.Parts.{TableParts}
 use Rattle.odht_raw.proofs.lemmas.KeyPasses.{slots_decoded, stops_key}
-use Rattle.odht_raw.proofs.lemmas.KeyPositions.{home_position, later_position, not_in_group, passes_more, ends_here, ends_earlier}
+use Rattle.odht_raw.proofs.lemmas.KeyPositions.{home_position, distance, later_position, not_in_group, passes_more, ends_here, ends_earlier}
 use Rattle.odht_raw.proofs.raw_table.RawTable.is_reached_late.Given.{Over}
 use Rattle.odht_raw.proofs.raw_table.RawTable.is_reached_late.Goals.{After-start-start}
 use Rattle.odht_raw.proofs.raw_table.RawTable.is_reached_late.Goals as goal
@@ -32,12 +31,15 @@ module _ (g : Over) (c : After-start-start g) where
   slots : c.len-slots.result ≡ s
   slots = c.len-slots.ensures ∙ ap (λ (t : TableParts). t.entries.slots) c.self.view_is
 
-  -- the slot's distance behind the group's first slot
-  behind_is : bit_and (c.args.slot + c.len-slots.result - c.start-start.result) (c.len-slots.result - 1) ≡ (c.args.slot + s - c.start-start.result) % s
-  behind_is = ap (λ n. bit_and (c.args.slot + n - c.start-start.result) (n - 1)) slots ∙ bit_and-slots (c.args.slot + s - c.start-start.result) s count
-
   probed : length c.groups.probe.control - 16 ≡ s
   probed = omega (arith, ap length c.groups.invariant.control, mirrored)
+
+  low : c.start-start.result < s
+  low = omega (arith, c.start-start.ensures.below, probed)
+
+  -- the slot's distance behind the group's first slot
+  behind_is : bit_and ((c.args.slot + (2 ^ 64 - c.start-start.result)) % 2 ^ 64) (c.len-slots.result - 1) ≡ (c.args.slot + s - c.start-start.result) % s
+  behind_is = ap (λ n. bit_and ((c.args.slot + (2 ^ 64 - c.start-start.result)) % 2 ^ 64) (n - 1)) slots ∙ distance c.args.slot c.start-start.result s count low
 
   within : c.groups.probe.position + 16 ≤ s
   within = omega (arith, c.start-start.ensures.within, probed)
@@ -50,10 +52,10 @@ module _ (g : Over) (c : After-start-start g) where
   cells = slots_decoded (format g) c.args.self.now.entries.bytes c.args.self.now.control s mirrored
 
   -- a slot that is not in the group is behind it
-  far : 16 ≤ bit_and (c.args.slot + c.len-slots.result - c.start-start.result) (c.len-slots.result - 1) → (c.args.slot + s - c.start-start.result) % s < 16 → ⊥
+  far : 16 ≤ bit_and ((c.args.slot + (2 ^ 64 - c.start-start.result)) % 2 ^ 64) (c.len-slots.result - 1) → (c.args.slot + s - c.start-start.result) % s < 16 → ⊥
   far h l = omega (arith, l, behind_is, h)
 
-  own_later : 16 ≤ bit_and (c.args.slot + c.len-slots.result - c.start-start.result) (c.len-slots.result - 1) → (n : ℕ) × (n < s) × (probe_slot (c.args.hash % s) s n ≡ c.args.slot) × (c.groups.probe.position + 16 ≤ n)
+  own_later : 16 ≤ bit_and ((c.args.slot + (2 ^ 64 - c.start-start.result)) % 2 ^ 64) (c.len-slots.result - 1) → (n : ℕ) × (n < s) × (probe_slot (c.args.hash % s) s n ≡ c.args.slot) × (c.groups.probe.position + 16 ≤ n)
   own_later h =
       let v = c.groups.invariant in
       later_position c.args.hash s c.start-start.result c.groups.probe.position c.args.slot count c.start-start.ensures.aligned within first_is c.requires.slot (far h) v.others
