@@ -3,7 +3,9 @@
 --     IsProbe g h m p i b c s   slot i is at position p of the order from h among m + 1 slots; p is a multiple of g, c
 --                            is how many positions of its group of sixteen are before it, b is the first slot of that
 --                            group, and s is how many slots b is after the first slot of the group before
-use Rattle.std.specs.Prelude.{◌≡◌, ℕ, ◌+◌, ◌*◌, ◌/◌, ◌%◌, ◌<◌}
+--     GroupPlace             the control bytes with their mirror, how many groups of sixteen of them were read, a home
+--                            slot, and a position of its order
+use Rattle.std.specs.Prelude.{◌≡◌, ℕ, ◌+◌, ◌*◌, ◌/◌, ◌%◌, ◌<◌, List}
 use Rattle.odht_base.specs.Load.{IsSlotCount}
 use Rattle.odht_base.specs.Probe.{probe_slot}
 
@@ -22,3 +24,9 @@ pub record IsProbe (g h m p i b c s : ℕ) : Type 0 where
   pub base_is : b ≡ probe_slot h (m + 1) (16 * (p / 16))
   pub chunk_is : c ≡ p % 16
   pub stride_is : s ≡ 16 * (p / 16)
+
+pub record GroupPlace : Type 0 where
+  pub control : List ℕ
+  pub groups : ℕ
+  pub home : ℕ
+  pub position : ℕ

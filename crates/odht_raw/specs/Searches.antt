@@ -6,8 +6,8 @@
 --                                    exactly the groups up to the end are read (`groups`); on any parts no more than
 --                                    there are (`few`); no control byte changes (`control`)
 --     IsPassed F E ctrl k p          the search passes each position of the probe order before p
---     IsUnderWay F E ctrl k q        it passed those before the position q, the first one of a group of sixteen
---     IsRest F E k p before after r  the same as IsSearch of the rest of a search, from the position p on
+--     IsUnderWay F E k q             it passed those before the place q, the first one of a group of sixteen
+--     IsRest F E k before after r    the same as IsSearch of the rest of a search, from the place `before` on
 use Rattle.std.specs.Prelude.{◌≡◌, ℕ, ◌+◌, ◌-◌, ◌/◌, ◌%◌, ◌≤◌, List, min}
 use Rattle.odht_base.specs.Format.{Format, home}
 use Rattle.odht_base.specs.Table.{Table}
@@ -15,7 +15,7 @@ use Rattle.odht_base.specs.Search.{groups_read}
 use Rattle.odht_base.specs.Valid.{IsPartsOf}
 use Rattle.odht_raw.specs.ControlBytes.{GoesOnTo}
 use Rattle.odht_raw.specs.Parts.{EntryBytes, ReadGroups}
-use Rattle.odht_raw.specs.ProbeSeqs.{ProbePosition}
+use Rattle.odht_raw.specs.ProbeSeqs.{GroupPlace}
 use Rattle.odht_raw.specs.SearchEnds.{IsEnd, IsAfter}
 use Rattle.odht_raw.specs.SearchResults.{answer, IsWherePlaced}
 use Rattle.odht_raw.specs.SearchSteps.{Passed}
@@ -37,15 +37,13 @@ pub record IsPassed (F : Format) (E : EntryBytes) (ctrl k : List ℕ) (p : ℕ) 
   pub on : GoesOnTo F E ctrl k p
   pub on_placed : (P : Table) → IsPartsOf F P E.bytes ctrl → Passed F P k p
 
-pub record IsUnderWay (F : Format) (E : EntryBytes) (ctrl k : List ℕ) (q : ProbePosition) : Type 0 where
+pub record IsUnderWay (F : Format) (E : EntryBytes) (k : List ℕ) (q : GroupPlace) : Type 0 where
   pub home : q.home ≡ home F k E.slots
-  pub mask : q.mask + 1 ≡ E.slots
   pub aligned : q.position % 16 ≡ 0
-  pub within : q.position + 16 ≤ E.slots
-  pub passed : IsPassed F E ctrl k q.position
+  pub passed : IsPassed F E q.control k q.position
 
-pub record IsRest (F : Format) (E : EntryBytes) (k : List ℕ) (p : ℕ) (before after : ReadGroups) (r : Search) : Type 0 where
+pub record IsRest (F : Format) (E : EntryBytes) (k : List ℕ) (before after : GroupPlace) (r : Search) : Type 0 where
   pub end : IsSearchEnd F E before.control k r
-  pub groups : (P : Table) → IsPartsOf F P E.bytes before.control → after.groups ≡ min (before.groups + (groups_read F P.cells k - p / 16)) 18446744073709551615
-  pub few : after.groups ≤ before.groups + (E.slots - p) / 16
+  pub groups : (P : Table) → IsPartsOf F P E.bytes before.control → after.groups ≡ min (before.groups + (groups_read F P.cells k - before.position / 16)) 18446744073709551615
+  pub few : after.groups ≤ before.groups + (E.slots - before.position) / 16
   pub control : after.control ≡ before.control

@@ -107,14 +107,6 @@ module _ (F : Format) (P : Table) (E : EntryBytes) (ctrl k : List ℕ) (f : IsFo
             ∙ ap (λ x. control_byte F (cell_at P.cells x)) (step i (omega arith));
       }
 
-  -- the same from what is known of the probe and the scan
-  pub IsGroupAt-probe : (start hash b m p : ℕ) (bs ctrl' : List ℕ) → p % 16 ≡ 0 → p + 16 ≤ E.slots → start ≡ probe_slot b (m + 1) p → b ≡ hash % E.slots → m + 1 ≡ E.slots → hash ≡ F.hash k
-      → bs ≡ bytes_at ctrl' start 16 → ctrl' ≡ ctrl → Passed F P k p → IsGroupAt F P E k p start bs
-  IsGroupAt-probe start hash b m p bs ctrl' aligned l es eb em eh ebs ec passed =
-      let first : b ≡ home F k E.slots = eb ∙ ap (λ x. x % E.slots) eh in
-      let is : start ≡ probe_slot (home F k E.slots) E.slots p = es ∙ ap (λ x. probe_slot x (m + 1) p) first ∙ ap (λ n. probe_slot (home F k E.slots) n p) em in
-      subst (IsGroupAt F P E k p start) (sym (ebs ∙ ap (λ c. bytes_at c start 16) ec)) (IsGroupAt-group p start aligned l is passed)
-
   -- one that ends in the group of position p reads the groups up to it
   pub reads-to : (p : ℕ) → p % 16 ≡ 0 → EndsWithin F P k p 16 → groups_read F P.cells k ≡ p / 16 + 1
   reads-to p aligned e = let same : e.0 / 16 + 1 ≡ p / 16 + 1 = omega (arith, e.1, e.2) in rw e.3 same

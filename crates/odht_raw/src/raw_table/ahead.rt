@@ -6,16 +6,16 @@ ghost use Rattle.odht_base.specs.Table.{Pair, Table};
 ghost use Rattle.odht_base.specs.Valid.{IsPartsOf};
 ghost use Rattle.odht_raw.specs.SearchResults.{answer};
 ghost use Rattle.odht_raw.specs.Expected.{EndsIfFree, IsAhead};
-ghost use Rattle.odht_raw.specs.PartLengths.{ArePairLengths, ArePartLengths};
+ghost use Rattle.odht_raw.specs.PartLengths.{ArePairLengths, ArePartLengths, AreSearchLengths};
+ghost use Rattle.odht_raw.specs.Searches.{IsSearchEnd};
 ghost use Rattle.odht_raw.specs.Steps.{IsStepEnd, IsStepWhere};
 
-use super::group_search::whole_search;
 use super::insert::insert_at;
-use super::{Entries, EntryMetadata, Search, is_empty_or_deleted, tag_of};
+use super::{Entries, EntryMetadata, Scan, Search, is_empty_or_deleted, search_hashed, tag_of};
 use crate::bytes::ByteArray;
 use crate::error::Error;
 use crate::hash::HashFn;
-use crate::swisstable_group_query::{Group, REFERENCE_GROUP_SIZE};
+use crate::swisstable_group_query::{Group, GroupQuery, REFERENCE_GROUP_SIZE};
 
 /// The hash of a key, and the slot where a pair with the key is placed, where the first group search at its home slot
 /// finds it; else the slot count: where a key may have to be compared, or where none of these control bytes counts as
@@ -106,4 +106,24 @@ fn expected_end<K: ByteArray, V: ByteArray, H: HashFn>(
         return Search::Free(slot);
     }
     whole_search::<K, V, H>(control, &Entries::new(entries, slots), key, hash)
+}
+
+// Where the search for a key with this hash ends. It is not inlined: where a key is placed as expected, this is not
+// called.
+#[inline(never)]
+fn whole_search<K: ByteArray, V: ByteArray, H: HashFn>(
+    control: &[EntryMetadata],
+    entries: &Entries<'_, K, V>,
+    key: &K,
+    hash: u32,
+) -> Search
+    requires slots { IsSlotCount entries.now.slots }
+    requires lengths { AreSearchLengths H.MIN_LEN K.LEN V.LEN entries.now.slots
+        (length control.now) }
+    requires hash { hash ≡ H.hash (K.bytes key.now) }
+    ensures { IsSearchEnd (format_of K.LEN V.LEN H.hash) entries.now control.now
+        (K.bytes key.now) result }
+{
+    let mut scan = Scan::new(control, entries.len());
+    search_hashed::<K, V, H, GroupQuery>(&mut scan, entries, key, hash)
 }

@@ -13,7 +13,7 @@ ghost use Rattle.odht_raw.specs.Summaries.{IsFreeSlot};
 ghost use Rattle.odht_header.specs.Refusals.{checked, bad_free_control, slots_refusal};
 ghost use Rattle.odht_header.specs.Refusals.{mirror_refusal, reach_refusal};
 
-use super::{FREE, ProbeSeq, RawTable, Scan, is_empty_or_deleted, tag_of};
+use super::{FREE, GroupProbe, RawTable, is_empty_or_deleted, tag_of};
 use crate::bytes::{ByteArray, is_zeros};
 use crate::error::Error;
 use crate::hash::HashFn;
@@ -181,10 +181,10 @@ impl<'a, K: ByteArray, V: ByteArray, H: HashFn> RawTable<'a, K, V, H> {
         requires hash { IsHashAt (format_of K.LEN V.LEN H.hash) self.now slot hash }
         ensures { IsReachAnswer (format_of K.LEN V.LEN H.hash) self.now slot result }
     {
-        let mask = self.entries.len() - 1;
-        let home = hash as usize & mask;
-        let before = slot.wrapping_sub(home) & mask;
-        let group = self.query_at(home, tag_of(hash));
+        let slots = self.entries.len();
+        let mut probe = GroupProbe::new(self.control, slots, hash as usize);
+        let before = slot.wrapping_sub(probe.start()) & (slots - 1);
+        let group = GroupQuery::of(probe.read(), tag_of(hash));
         if before < REFERENCE_GROUP_SIZE
             && group.first_empty().unwrap_or(REFERENCE_GROUP_SIZE) >= before
             && group.first_match().unwrap_or(REFERENCE_GROUP_SIZE) >= before
@@ -208,31 +208,20 @@ impl<'a, K: ByteArray, V: ByteArray, H: HashFn> RawTable<'a, K, V, H> {
         let slots = self.entries.len();
         let mask = slots - 1;
         let tag = tag_of(hash);
-        let mut probe = ProbeSeq::<REFERENCE_GROUP_SIZE>::new(hash as usize, mask);
+        let mut probe = GroupProbe::new(self.control, slots, hash as usize);
         let mut group = first;
         'groups: loop {
-            let start = probe.index();
-            let before = (slot + slots - start) & mask;
+            let start = probe.start();
+            let before = slot.wrapping_sub(start) & mask;
             if before < REFERENCE_GROUP_SIZE {
                 return self.are_passed(group, start, before, slot);
             }
             if !self.are_passed(group, start, REFERENCE_GROUP_SIZE, slot) {
                 return false;
             }
-            probe.advance(mask);
-            group = self.query_at(probe.index(), tag);
+            probe.advance();
+            group = GroupQuery::of(probe.read(), tag);
         }
-    }
-
-    // The search for a tag in the group of sixteen control bytes from that of slot `start` on.
-    #[inline]
-    fn query_at(&self, start: usize, tag: u8) -> GroupQuery
-        requires start { start < self.now.entries.slots }
-        requires tag { tag < 128 }
-        ensures { IsLookAt (bytes_at self.now.control start 16) tag result }
-    {
-        let mut scan = Scan::new(self.control, self.entries.len());
-        GroupQuery::of(scan.group(start), tag)
     }
 
     // Whether each of the `count` slots from `start` on, modulo the slot count, is occupied by another key than that of

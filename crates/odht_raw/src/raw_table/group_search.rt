@@ -9,7 +9,7 @@ ghost use Rattle.odht_raw.specs.SearchEnds.{IsEndAmong, GoesOnAmong};
 ghost use Rattle.odht_raw.specs.SearchSteps.{IsGroupAt, IsLook, IsTag};
 ghost use Rattle.odht_raw.specs.Searches.{IsRest, IsSearch, IsSearchEnd, IsUnderWay, IsPassed};
 
-use super::{Entries, EntryMetadata, ProbeSeq, Scan, Search, SlotKeys, tag_of};
+use super::{Entries, EntryMetadata, GroupProbe, Scan, Search, SlotKeys, tag_of};
 use crate::bytes::ByteArray;
 use crate::hash::HashFn;
 use crate::swisstable_group_query::{Group, GroupQuery, REFERENCE_GROUP_SIZE};
@@ -51,80 +51,39 @@ pub fn search_hashed<K: ByteArray, V: ByteArray, H: HashFn, Q: Group>(
     ensures { IsSearch (format_of K.LEN V.LEN H.hash) entries.now (K.bytes key.now)
         scan.old scan.new result }
 {
-    let mask = scan.slots() - 1;
-    let probe = ProbeSeq::<REFERENCE_GROUP_SIZE>::new(hash as usize, mask);
-    search_from::<Entries<'_, K, V>, H, Q>(scan, probe, entries, key, tag_of(hash))
+    let mut probe = GroupProbe::over(scan.copy(), hash as usize);
+    let end = search_from::<Entries<'_, K, V>, H, Q>(&mut probe, entries, key, tag_of(hash));
+    scan.set_groups(probe.groups());
+    end
 }
 
-// The rest of a search that is under way, from the group at the probe on.
+// The rest of a search that is under way, from the group of the probe on.
 #[inline(always)]
 fn search_from<E: SlotKeys, H: HashFn, Q: Group>(
-    scan: &mut Scan<'_>,
-    probe: ProbeSeq<REFERENCE_GROUP_SIZE>,
+    probe: &mut GroupProbe<'_>,
     keys: &E,
     key: &E::Key,
     tag: u8,
 ) -> Search
     requires format { IsFormat (hashed_by H.hash (E.format keys.now)) }
-    requires mirrored { length scan.old.control ≡ (E.entries keys.now).slots + 16 }
+    requires mirrored { length probe.old.control ≡ (E.entries keys.now).slots + 16 }
     requires tag { IsTag (hashed_by H.hash (E.format keys.now)) (E.key_bytes key.now) tag }
     requires at { let F = hashed_by H.hash (E.format keys.now)
-        in IsUnderWay F (E.entries keys.now) scan.old.control (E.key_bytes key.now) probe }
+        in IsUnderWay F (E.entries keys.now) (E.key_bytes key.now) probe.old }
     ensures { let F = hashed_by H.hash (E.format keys.now)
-        in IsRest F (E.entries keys.now) (E.key_bytes key.now) probe.position scan.old scan.new
-        result }
+        in IsRest F (E.entries keys.now) (E.key_bytes key.now) probe.old probe.new result }
 {
-    let mask = scan.slots() - 1;
-    let mut probe = probe;
     'groups: loop {
-        let start = probe.index();
-        let bytes = scan.group(start);
+        let start = probe.start();
+        let bytes = probe.read();
         if let Some(end) = look_at_group::<E, H, Q>(bytes, start, keys, key, tag) {
             return end;
         }
-        if probe.is_last_of(mask) {
+        if probe.is_last() {
             return Search::Neither;
         }
-        probe.advance(mask);
+        probe.advance();
     }
-}
-
-/// Where the search for a key with this hash ends, for callers that do not ask how many groups it reads.
-#[inline(always)]
-pub(super) fn search_end<K: ByteArray, V: ByteArray, H: HashFn, Q: Group>(
-    control: &[EntryMetadata],
-    entries: &Entries<'_, K, V>,
-    key: &K,
-    hash: u32,
-) -> Search
-    requires slots { IsSlotCount entries.now.slots }
-    requires lengths { AreSearchLengths H.MIN_LEN K.LEN V.LEN entries.now.slots
-        (length control.now) }
-    requires hash { hash ≡ H.hash (K.bytes key.now) }
-    ensures { IsSearchEnd (format_of K.LEN V.LEN H.hash) entries.now control.now
-        (K.bytes key.now) result }
-{
-    let mut scan = Scan::new(control, entries.len());
-    search_hashed::<K, V, H, Q>(&mut scan, entries, key, hash)
-}
-
-/// `search_end` for callers that looked at the first group already, or cannot use that look. It is not inlined: where
-/// a first look ends the search, this is not called.
-#[inline(never)]
-pub(super) fn whole_search<K: ByteArray, V: ByteArray, H: HashFn>(
-    control: &[EntryMetadata],
-    entries: &Entries<'_, K, V>,
-    key: &K,
-    hash: u32,
-) -> Search
-    requires slots { IsSlotCount entries.now.slots }
-    requires lengths { AreSearchLengths H.MIN_LEN K.LEN V.LEN entries.now.slots
-        (length control.now) }
-    requires hash { hash ≡ H.hash (K.bytes key.now) }
-    ensures { IsSearchEnd (format_of K.LEN V.LEN H.hash) entries.now control.now
-        (K.bytes key.now) result }
-{
-    search_end::<K, V, H, GroupQuery>(control, entries, key, hash)
 }
 
 /// The rest of a search whose first group neither holds the key nor has a free byte. It is not inlined: where a first
@@ -145,14 +104,12 @@ pub(super) fn late_search<K: ByteArray, V: ByteArray, H: HashFn>(
     ensures { IsSearchEnd (format_of K.LEN V.LEN H.hash) entries.now control.now
         (K.bytes key.now) result }
 {
-    let mut scan = Scan::new(control, entries.len());
-    let mask = scan.slots() - 1;
-    let mut probe = ProbeSeq::<REFERENCE_GROUP_SIZE>::new(hash as usize, mask);
-    if probe.is_last_of(mask) {
+    let mut probe = GroupProbe::new(control, entries.len(), hash as usize);
+    if probe.is_last() {
         return Search::Neither;
     }
-    probe.advance(mask);
-    search_from::<Entries<'_, K, V>, H, GroupQuery>(&mut scan, probe, entries, key, tag_of(hash))
+    probe.advance();
+    search_from::<Entries<'_, K, V>, H, GroupQuery>(&mut probe, entries, key, tag_of(hash))
 }
 
 // Searches the sixteen slots from `start` on, whose control bytes are `bytes`, in pieces of the group search's size.

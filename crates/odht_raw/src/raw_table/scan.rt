@@ -44,6 +44,26 @@ impl<'a> Scan<'a> {
         }
     }
 
+    // A second scan of the same control bytes, of which as many groups were read.
+    #[inline(always)]
+    pub(crate) fn copy(&self) -> Scan<'a>
+        ensures { result ≡ self.now }
+    {
+        Scan {
+            control: self.control,
+            slots: self.slots,
+            groups: self.groups,
+        }
+    }
+
+    // Says how many groups were read, by a copy.
+    #[inline(always)]
+    pub(crate) fn set_groups(&mut self, groups: usize)
+        ensures { self.new ≡ record { control = self.old.control; groups = groups } }
+    {
+        self.groups = groups;
+    }
+
     /// How many slots there are.
     #[inline]
     pub fn slots(&self) -> usize

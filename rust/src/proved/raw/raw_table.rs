@@ -18,6 +18,7 @@ mod dump;
 mod entries;
 mod first_look;
 mod free_search;
+mod group_probe;
 mod group_search;
 mod insert;
 mod insert_order;
@@ -33,6 +34,7 @@ mod walk;
 
 pub use entries::{Entries, Entry};
 pub use first_look::FirstLook;
+pub(crate) use group_probe::GroupProbe;
 pub use group_search::{search, search_hashed};
 pub(crate) use insert::{fill_slot, insert_at, step_end};
 pub use plain::{plain_find, plain_insert};

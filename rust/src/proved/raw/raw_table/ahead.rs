@@ -1,13 +1,12 @@
 // Made by `make rust` of crates/odht_raw/src/raw_table/ahead.rt.
 //! Inserts of several keys whose slots are looked up ahead, so that the memory accesses to their control bytes overlap.
 
-use super::group_search::whole_search;
 use super::insert::insert_at;
-use super::{is_empty_or_deleted, tag_of, Entries, EntryMetadata, Search};
+use super::{is_empty_or_deleted, search_hashed, tag_of, Entries, EntryMetadata, Scan, Search};
 use crate::proved::raw::bytes::ByteArray;
 use crate::proved::raw::error::Error;
 use crate::proved::raw::hash::HashFn;
-use crate::proved::raw::swisstable_group_query::{Group, REFERENCE_GROUP_SIZE};
+use crate::proved::raw::swisstable_group_query::{Group, GroupQuery, REFERENCE_GROUP_SIZE};
 
 /// The hash of a key, and the slot where a pair with the key is placed, where the first group search at its home slot
 /// finds it; else the slot count: where a key may have to be compared, or where none of these control bytes counts as
@@ -67,4 +66,17 @@ fn expected_end<K: ByteArray, V: ByteArray, H: HashFn>(
         return Search::Free(slot);
     }
     whole_search::<K, V, H>(control, &Entries::new(entries, slots), key, hash)
+}
+
+// Where the search for a key with this hash ends. It is not inlined: where a key is placed as expected, this is not
+// called.
+#[inline(never)]
+fn whole_search<K: ByteArray, V: ByteArray, H: HashFn>(
+    control: &[EntryMetadata],
+    entries: &Entries<'_, K, V>,
+    key: &K,
+    hash: u32,
+) -> Search {
+    let mut scan = Scan::new(control, entries.len());
+    search_hashed::<K, V, H, GroupQuery>(&mut scan, entries, key, hash)
 }

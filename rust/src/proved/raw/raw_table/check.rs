@@ -1,7 +1,7 @@
 // Made by `make rust` of crates/odht_raw/src/raw_table/check.rt.
 //! The whole check of the parts of a table: each slot, the mirror, and that the search for each key ends at its slot.
 
-use super::{is_empty_or_deleted, tag_of, ProbeSeq, RawTable, Scan, FREE};
+use super::{is_empty_or_deleted, tag_of, GroupProbe, RawTable, FREE};
 use crate::proved::raw::bytes::{is_zeros, ByteArray};
 use crate::proved::raw::error::Error;
 use crate::proved::raw::hash::HashFn;
@@ -127,10 +127,10 @@ impl<'a, K: ByteArray, V: ByteArray, H: HashFn> RawTable<'a, K, V, H> {
     // Most keys are in the group of their home, with no free byte and no match before them: then this is all.
     #[inline]
     fn is_reached(&self, slot: usize, hash: u32) -> bool {
-        let mask = self.entries.len() - 1;
-        let home = hash as usize & mask;
-        let before = slot.wrapping_sub(home) & mask;
-        let group = self.query_at(home, tag_of(hash));
+        let slots = self.entries.len();
+        let mut probe = GroupProbe::new(self.control, slots, hash as usize);
+        let before = slot.wrapping_sub(probe.start()) & (slots - 1);
+        let group = GroupQuery::of(probe.read(), tag_of(hash));
         if before < REFERENCE_GROUP_SIZE
             && group.first_empty().unwrap_or(REFERENCE_GROUP_SIZE) >= before
             && group.first_match().unwrap_or(REFERENCE_GROUP_SIZE) >= before
@@ -148,27 +148,20 @@ impl<'a, K: ByteArray, V: ByteArray, H: HashFn> RawTable<'a, K, V, H> {
         let slots = self.entries.len();
         let mask = slots - 1;
         let tag = tag_of(hash);
-        let mut probe = ProbeSeq::<REFERENCE_GROUP_SIZE>::new(hash as usize, mask);
+        let mut probe = GroupProbe::new(self.control, slots, hash as usize);
         let mut group = first;
         loop {
-            let start = probe.index();
-            let before = (slot + slots - start) & mask;
+            let start = probe.start();
+            let before = slot.wrapping_sub(start) & mask;
             if before < REFERENCE_GROUP_SIZE {
                 return self.are_passed(group, start, before, slot);
             }
             if !self.are_passed(group, start, REFERENCE_GROUP_SIZE, slot) {
                 return false;
             }
-            probe.advance(mask);
-            group = self.query_at(probe.index(), tag);
+            probe.advance();
+            group = GroupQuery::of(probe.read(), tag);
         }
-    }
-
-    // The search for a tag in the group of sixteen control bytes from that of slot `start` on.
-    #[inline]
-    fn query_at(&self, start: usize, tag: u8) -> GroupQuery {
-        let mut scan = Scan::new(self.control, self.entries.len());
-        GroupQuery::of(scan.group(start), tag)
     }
 
     // Whether each of the `count` slots from `start` on, modulo the slot count, is occupied by another key than that of

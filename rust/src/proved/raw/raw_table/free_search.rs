@@ -1,7 +1,7 @@
 // Made by `make rust` of crates/odht_raw/src/raw_table/free_search.rt.
 //! The search for the first slot of a probe order that counts as free.
 
-use super::{is_empty_or_deleted, tag_of, EntryMetadata, ProbeSeq};
+use super::{is_empty_or_deleted, tag_of, EntryMetadata, GroupProbe};
 use crate::proved::raw::swisstable_group_query::{Group, REFERENCE_GROUP_SIZE};
 
 /// The first slot of the probe order of a hash that counts as free, by its control byte or its mirror; None where each
@@ -20,6 +20,8 @@ pub(super) fn first_free<Q: Group>(control: &[EntryMetadata], hash: u32) -> Opti
 }
 
 // `first_free` group by group. The mask is the slot count less one.
+//
+// In one function with the look at the home slot, tables that grow took up to a hundredth more instructions.
 #[inline]
 fn first_free_by_groups<Q: Group>(
     control: &[EntryMetadata],
@@ -27,17 +29,16 @@ fn first_free_by_groups<Q: Group>(
     mask: usize,
 ) -> Option<usize> {
     let tag = tag_of(hash);
-    let mut probe = ProbeSeq::<REFERENCE_GROUP_SIZE>::new(hash as usize, mask);
+    let mut probe = GroupProbe::new(control, mask + 1, hash as usize);
     loop {
-        let start = probe.index();
-        let bytes = &index!(control[start..start + REFERENCE_GROUP_SIZE]);
-        if let Some(index) = first_free_of_group::<Q>(bytes, tag) {
+        let start = probe.start();
+        if let Some(index) = first_free_of_group::<Q>(probe.read(), tag) {
             return Some((start + index) & mask);
         }
-        if probe.is_last_of(mask) {
+        if probe.is_last() {
             return None;
         }
-        probe.advance(mask);
+        probe.advance();
     }
 }
 

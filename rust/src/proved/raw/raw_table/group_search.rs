@@ -1,7 +1,7 @@
 // Made by `make rust` of crates/odht_raw/src/raw_table/group_search.rt.
 //! The search by groups of control bytes along the probe order.
 
-use super::{tag_of, Entries, EntryMetadata, ProbeSeq, Scan, Search, SlotKeys};
+use super::{tag_of, Entries, EntryMetadata, GroupProbe, Scan, Search, SlotKeys};
 use crate::proved::raw::bytes::ByteArray;
 use crate::proved::raw::hash::HashFn;
 use crate::proved::raw::swisstable_group_query::{Group, GroupQuery, REFERENCE_GROUP_SIZE};
@@ -33,57 +33,31 @@ pub fn search_hashed<K: ByteArray, V: ByteArray, H: HashFn, Q: Group>(
     key: &K,
     hash: u32,
 ) -> Search {
-    let mask = scan.slots() - 1;
-    let probe = ProbeSeq::<REFERENCE_GROUP_SIZE>::new(hash as usize, mask);
-    search_from::<Entries<'_, K, V>, H, Q>(scan, probe, entries, key, tag_of(hash))
+    let mut probe = GroupProbe::over(scan.copy(), hash as usize);
+    let end = search_from::<Entries<'_, K, V>, H, Q>(&mut probe, entries, key, tag_of(hash));
+    scan.set_groups(probe.groups());
+    end
 }
 
-// The rest of a search that is under way, from the group at the probe on.
+// The rest of a search that is under way, from the group of the probe on.
 #[inline(always)]
 fn search_from<E: SlotKeys, H: HashFn, Q: Group>(
-    scan: &mut Scan<'_>,
-    probe: ProbeSeq<REFERENCE_GROUP_SIZE>,
+    probe: &mut GroupProbe<'_>,
     keys: &E,
     key: &E::Key,
     tag: u8,
 ) -> Search {
-    let mask = scan.slots() - 1;
-    let mut probe = probe;
     loop {
-        let start = probe.index();
-        let bytes = scan.group(start);
+        let start = probe.start();
+        let bytes = probe.read();
         if let Some(end) = look_at_group::<E, H, Q>(bytes, start, keys, key, tag) {
             return end;
         }
-        if probe.is_last_of(mask) {
+        if probe.is_last() {
             return Search::Neither;
         }
-        probe.advance(mask);
+        probe.advance();
     }
-}
-
-/// Where the search for a key with this hash ends, for callers that do not ask how many groups it reads.
-#[inline(always)]
-pub(super) fn search_end<K: ByteArray, V: ByteArray, H: HashFn, Q: Group>(
-    control: &[EntryMetadata],
-    entries: &Entries<'_, K, V>,
-    key: &K,
-    hash: u32,
-) -> Search {
-    let mut scan = Scan::new(control, entries.len());
-    search_hashed::<K, V, H, Q>(&mut scan, entries, key, hash)
-}
-
-/// `search_end` for callers that looked at the first group already, or cannot use that look. It is not inlined: where
-/// a first look ends the search, this is not called.
-#[inline(never)]
-pub(super) fn whole_search<K: ByteArray, V: ByteArray, H: HashFn>(
-    control: &[EntryMetadata],
-    entries: &Entries<'_, K, V>,
-    key: &K,
-    hash: u32,
-) -> Search {
-    search_end::<K, V, H, GroupQuery>(control, entries, key, hash)
 }
 
 /// The rest of a search whose first group neither holds the key nor has a free byte. It is not inlined: where a first
@@ -95,14 +69,12 @@ pub(super) fn late_search<K: ByteArray, V: ByteArray, H: HashFn>(
     key: &K,
     hash: u32,
 ) -> Search {
-    let mut scan = Scan::new(control, entries.len());
-    let mask = scan.slots() - 1;
-    let mut probe = ProbeSeq::<REFERENCE_GROUP_SIZE>::new(hash as usize, mask);
-    if probe.is_last_of(mask) {
+    let mut probe = GroupProbe::new(control, entries.len(), hash as usize);
+    if probe.is_last() {
         return Search::Neither;
     }
-    probe.advance(mask);
-    search_from::<Entries<'_, K, V>, H, GroupQuery>(&mut scan, probe, entries, key, tag_of(hash))
+    probe.advance();
+    search_from::<Entries<'_, K, V>, H, GroupQuery>(&mut probe, entries, key, tag_of(hash))
 }
 
 // Searches the sixteen slots from `start` on, whose control bytes are `bytes`, in pieces of the group search's size.

@@ -20,6 +20,18 @@ impl<'a> Scan<'a> {
         Scan { control, slots, groups: 0 }
     }
 
+    // A second scan of the same control bytes, of which as many groups were read.
+    #[inline(always)]
+    pub(crate) fn copy(&self) -> Scan<'a> {
+        Scan { control: self.control, slots: self.slots, groups: self.groups }
+    }
+
+    // Says how many groups were read, by a copy.
+    #[inline(always)]
+    pub(crate) fn set_groups(&mut self, groups: usize) {
+        self.groups = groups;
+    }
+
     /// How many slots there are.
     #[inline]
     pub fn slots(&self) -> usize {

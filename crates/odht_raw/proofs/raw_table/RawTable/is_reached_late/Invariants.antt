@@ -1,4 +1,4 @@
-use Rattle.std.proofs.Common.{◌≡◌, ◌<◌, ◌≤◌, ◌+◌, ◌-◌, ◌/◌, ◌^◌, ◌%◌, ℕ}
+use Rattle.std.proofs.Common.{◌≡◌, ◌<◌, ◌-◌, ◌/◌, ◌^◌, ◌%◌, ℕ}
 use Rattle.std.specs.Prelude.{IsFalse}
 use Rattle.odht_base.specs.Bytes.{bytes_at}
 use Rattle.odht_base.specs.Format.{format_of}
@@ -8,17 +8,14 @@ use Rattle.odht_base.specs.Decoded.{slot_key}
 use Rattle.odht_raw.specs.Checks.{cells_of, IsFitting, IsLookAt}
 use Rattle.odht_raw.proofs.raw_table.RawTable.is_reached_late.Given as goal
 
--- the probe is at the first position of a group, which was looked at, and each position before it is passed and is not
--- the slot's own
+-- the probe's group was looked at, and each position before it is passed and is not the slot's own
 abbrev pub invariant-groups : goal.invariant-groups
 invariant-groups g l =
     let F = format_of g.K.ByteArray.LEN g.V.ByteArray.LEN g.H.HashFn.hash in
     let s = l.self.entries.slots in
     record {
+      control : l.probe.control ≡ l.self.control;
       home : l.probe.home ≡ l.hash % s;
-      mask : l.probe.mask + 1 ≡ s;
-      aligned : l.probe.position % 16 ≡ 0;
-      within : l.probe.position + 16 ≤ s;
       looked : IsLookAt (bytes_at l.self.control (probe_slot (l.hash % s) s l.probe.position) 16) (l.hash / 2 ^ 25) l.group;
       others : (q : ℕ) → q < l.probe.position → probe_slot (l.hash % s) s q ≡ l.fn.slot → ⊥;
       passed : IsFitting F l.self → (q : ℕ) → q < l.probe.position

@@ -1,7 +1,6 @@
-use Rattle.std.proofs.Common.{◌≡◌, ◌+◌, ◌%◌, ◌<◌, ◌∙◌, sym, ap, subst, refl, arith, true≢false}
+use Rattle.std.proofs.Common.{◌≡◌, ◌∙◌, ℕ, ◌+◌, ◌-◌, ◌%◌, sym, ap, subst, arith, List, length}
 use Rattle.odht_base.specs.Bytes.{bytes_at}
 use Rattle.odht_base.specs.Probe.{probe_slot}
-use Rattle.odht_base.proofs.lemmas.SlotCounts.{sixteens}
 use Rattle.odht_raw.specs.Frame.{HasNoFree}
 use Rattle.odht_raw.proofs.lemmas.FreeSearches.{first_in_group}
 use Rattle.odht_raw.proofs.lemmas.GroupSearches.{OccupiedBefore, occupied-more, occupied-all}
@@ -10,41 +9,49 @@ use Rattle.odht_raw.proofs.raw_table.free_search.first_free_by_groups.Given.{Ove
 use Rattle.odht_raw.proofs.raw_table.free_search.first_free_by_groups.Goals as goal
 use Rattle.odht_raw.proofs.raw_table.free_search.first_free_by_groups.Goals.{After-first_free_of_group}
 
--- the group begins at the slot of the probe's position
-start : (g : Over) (c : After-first_free_of_group g) → c.index-start.result ≡ probe_slot (c.args.hash % (c.args.mask + 1)) (c.args.mask + 1) c.groups.probe.position
-start g c = let v = c.groups.invariant in c.index-start.ensures.slot ∙ (λ i. probe_slot (v.home i) (v.mask i + 1) c.groups.probe.position)
+-- what is known of the group that is read
+module _ (g : Over) (c : After-first_free_of_group g) where
+  abbrev ctrl : List ℕ
+  ctrl = c.args.control.now
 
--- without a free byte in it, the slots up to its end count as occupied
-passed_group : (g : Over) (c : After-first_free_of_group g) → HasNoFree (bytes_at c.args.control.now c.index-start.result 16) 16
-    → OccupiedBefore c.args.control.now (c.args.hash % (c.args.mask + 1)) (c.args.mask + 1) (c.groups.probe.position + 16)
-passed_group g c none =
-    let v = c.groups.invariant in
-    occupied-more c.args.control.now _ (c.args.hash % (c.args.mask + 1)) (c.args.mask + 1) c.index-start.result c.groups.probe.position c.requires.control c.requires.slots.least v.aligned (start g c) refl none v.occupied
+  abbrev s : ℕ
+  s = c.args.mask + 1
+
+  slots : length c.groups.probe.control - 16 ≡ s
+  slots = omega (arith, c.requires.control, ap length c.groups.invariant.control)
+
+  -- it begins at the slot of the probe's position
+  start : c.start-start.result ≡ probe_slot (c.args.hash % s) s c.groups.probe.position
+  start = c.start-start.ensures.slot ∙ (λ i. probe_slot (c.groups.invariant.home i) (slots i) c.groups.probe.position)
+
+  -- and is of these control bytes
+  read : c.read.result.now ≡ bytes_at ctrl c.start-start.result 16
+  read = c.read.ensures.bytes ∙ (λ i. bytes_at (c.groups.invariant.control i) (sym c.start-start.ensures.slot i) 16)
+
+  -- without a free byte in it, the slots up to its end count as occupied
+  passed_group : HasNoFree c.read.result.now 16 → OccupiedBefore ctrl (c.args.hash % s) s (c.groups.probe.position + 16)
+  passed_group none = occupied-more ctrl c.read.result.now (c.args.hash % s) s c.start-start.result c.groups.probe.position c.requires.control c.requires.slots.least c.start-start.ensures.aligned start read none c.groups.invariant.occupied
 
 pub returns-in-Some : goal.returns-in-Some
 returns-in-Some g c =
-    let v = c.groups.invariant in
-    rw (bit_and-mask (c.index-start.result + c.in-Some.index) c.args.mask c.requires.slots)
-    (first_in_group c.args.control.now _ c.args.hash (c.args.mask + 1) c.index-start.result c.groups.probe.position c.in-Some.index c.requires.control c.requires.slots.least v.aligned v.within
-    (start g (goal.at.returns-in-Some g c).After-first_free_of_group) refl v.occupied c.in-Some.ensures)
+    let at = (goal.at.returns-in-Some g c).After-first_free_of_group in
+    rw (bit_and-mask (c.start-start.result + c.in-Some.index) c.args.mask c.requires.slots)
+    (first_in_group (ctrl g at) c.read.result.now c.args.hash (s g at) c.start-start.result c.groups.probe.position c.in-Some.index c.requires.control c.requires.slots.least c.start-start.ensures.aligned
+    (omega (arith, slots g at, c.start-start.ensures.within)) (start g at) (read g at) c.groups.invariant.occupied c.in-Some.ensures)
 
-pub returns-then-is_last_of : goal.returns-then-is_last_of
-returns-then-is_last_of g c =
-    let v = c.groups.invariant in
-    let all : c.groups.probe.position + 16 ≡ c.args.mask + 1 = omega (arith, v.within, v.mask, c.is_last_of.ensures.0 c.if-is_last_of.true) in
-    let before = passed_group g (goal.at.returns-then-is_last_of g c).After-first_free_of_group c.in_default.ensures in
-    occupied-all c.args.control.now _ (c.args.mask + 1) c.requires.slots (subst (OccupiedBefore _ _ _) all before)
+pub returns-then-is_last : goal.returns-then-is_last
+returns-then-is_last g c =
+    let at = (goal.at.returns-then-is_last g c).After-first_free_of_group in
+    let all : c.groups.probe.position + 16 ≡ s g at =
+    omega (arith, c.is_last.ensures.0 c.if-is_last.true, ap (λ q. q.position) c.read.ensures.counted, ap (λ q. length q.control) c.read.ensures.counted, slots g at) in
+    occupied-all (ctrl g at) _ (s g at) c.requires.slots (subst (OccupiedBefore _ _ _) all (passed_group g at c.in_default.ensures))
 
 pub groups-preserved : goal.groups-preserved
 groups-preserved g c =
-    let v = c.groups.invariant in
-    let place : c.advance.new.self.position ≡ c.groups.probe.position + 16 = ap (λ q. q.position) c.advance.ensures in
-    let sixteen = sixteens (c.args.mask + 1) c.requires.slots in
-    let more : c.groups.probe.mask < c.groups.probe.position + 16 → ⊥ = λ l. true≢false (sym (c.is_last_of.ensures.1 l) ∙ c.if-is_last_of.false) in
+    let at = (goal.at.groups-preserved g c).After-first_free_of_group in
+    let place : c.advance.new.self.position ≡ c.groups.probe.position + 16 = ap (λ q. q.position) c.advance.ensures ∙ ap (λ q. q.position + 16) c.read.ensures.counted in
     record {
-      home = ap (λ q. q.home) c.advance.ensures ∙ v.home;
-      mask = ap (λ q. q.mask) c.advance.ensures ∙ v.mask;
-      aligned = omega (arith, place, v.aligned);
-      within = omega (arith, place, v.aligned, v.mask, sixteen.2, more);
-      occupied = subst (OccupiedBefore _ _ _) (sym place) (passed_group g (goal.at.groups-preserved g c).After-first_free_of_group c.in_default.ensures);
+      control = ap (λ q. q.control) c.advance.ensures ∙ ap (λ q. q.control) c.read.ensures.counted ∙ c.groups.invariant.control;
+      home = ap (λ q. q.home) c.advance.ensures ∙ ap (λ q. q.home) c.read.ensures.counted ∙ c.groups.invariant.home;
+      occupied = subst (OccupiedBefore _ _ _) (sym place) (passed_group g at c.in_default.ensures);
     }

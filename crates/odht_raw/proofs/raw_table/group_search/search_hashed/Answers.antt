@@ -1,5 +1,7 @@
-use Rattle.std.proofs.Common.{◌≡◌, ap, arith, List, ℕ}
+use Rattle.std.proofs.Common.{◌≡◌, ◌∙◌, sym, ap, subst, arith, List, ℕ}
 use Rattle.odht_base.specs.Format.{Format, format_of}
+use Rattle.odht_base.specs.Valid.{IsPartsOf}
+use Rattle.odht_raw.specs.Searches.{IsSearchEnd}
 use Rattle.odht_raw.proofs.lemmas.Lookups.{answer-IsWherePlaced}
 use Rattle.odht_raw.proofs.raw_table.group_search.search_hashed.Goals as goal
 
@@ -7,13 +9,18 @@ use Rattle.odht_raw.proofs.raw_table.group_search.search_hashed.Goals as goal
 pub returns : goal.returns
 returns g c =
     let F : Format = format_of g.K.ByteArray.LEN g.V.ByteArray.LEN g.H.HashFn.hash in
+    let E = c.args.entries.now in
     let k : List ℕ = g.K.ByteArray.bytes c.args.key.now in
-    let rest = c.search_from.ensures in
-    let first : c.new-probe.result.position ≡ 0 = ap (λ q. q.position) c.new-probe.ensures in
+    let rest = c.search_from-end.ensures in
+    let first : c.over-probe.result.position ≡ 0 = ap (λ q. q.position) c.over-probe.ensures in
+    let read : c.over-probe.result.groups ≡ c.args.scan.now.groups = ap (λ q. q.groups) c.over-probe.ensures ∙ ap (λ s. s.groups) c.copy.ensures in
+    let control : c.over-probe.result.control ≡ c.args.scan.now.control = ap (λ q. q.control) c.over-probe.ensures ∙ ap (λ s. s.control) c.copy.ensures in
+    let left = ap (λ s. s.groups) c.set_groups.ensures ∙ c.groups.ensures in
+    let end = subst (λ b. IsSearchEnd F E b k c.search_from-end.result) control rest.end in
     record {
-      end = rest.end;
-      placing = λ P h. answer-IsWherePlaced F P k h.placed c.search_from.result (rest.end.on_placed P h);
-      groups = λ P h. omega (arith, rest.groups P h, first);
-      few = omega (arith, rest.few, first);
-      control = rest.control;
+      end = end;
+      placing = λ P h. answer-IsWherePlaced F P k h.placed c.search_from-end.result (end.on_placed P h);
+      groups = λ P h. omega (arith, rest.groups P (subst (IsPartsOf F P E.bytes) (sym control) h), first, read, left);
+      few = omega (arith, rest.few, first, read, left);
+      control = ap (λ s. s.control) c.set_groups.ensures;
     }
