@@ -1,5 +1,5 @@
 //! Loops that do only what a job cannot do without, beside the job by this library and by the original: nanoseconds for
-//! each item, the best of many rounds. README.md, "What is not faster, and what bounds it", is about them.
+//! each item, the best of many rounds. README.md, "What bounds it", is about them.
 #![allow(dead_code)]
 
 mod keys;

@@ -1,6 +1,6 @@
 /*
  * What the calls may return and leave on bytes whose header and length fit, valid or not: docs/FORMAT.md, "What is
- * refused, and in which order", at "Accepted but invalid bytes". Each assertion is made by the second reading.
+ * rejected, and in which order", at "Accepted but invalid bytes". Each assertion is made by the second reading.
  */
 #ifndef FRAME_H
 #define FRAME_H
