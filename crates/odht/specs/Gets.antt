@@ -8,20 +8,19 @@ use Rattle.std.specs.Prelude.{◌≡◌, ℕ, ◌/◌, ◌≤◌, ◌↔◌, Boo
 use Rattle.odht_base.specs.Decoded.{header_slots, HoldsKey}
 use Rattle.odht_base.specs.Map.{map_of}
 use Rattle.odht_base.specs.Search.{groups_read}
-use Rattle.odht_base.specs.Table.{Table}
-use Rattle.odht_base.specs.Valid.{IsImage}
 use Rattle.odht_header.specs.Coding.{Coding, value_for, HasStored}
+use Rattle.odht.specs.Tables.{OfTable}
 
 pub record IsGet {K V : Type 0} (c : Coding K V) (B : List ℕ) (k : K) (o : Option V) : Type 0 where
-  pub on_valid : (P : Table) → IsImage c.format P B → o ≡ value_for c P k
+  pub on_valid : OfTable c.format B (λ P. o ≡ value_for c P k)
   pub on_any : IfSome o (λ v. HasStored c B k v)
 
 pub record IsCountedGet {K V : Type 0} (c : Coding K V) (B : List ℕ) (k : K) (r : Option V × ℕ) : Type 0 where
-  pub on_valid : (P : Table) → IsImage c.format P B → r.0 ≡ value_for c P k
-  pub groups : (P : Table) → IsImage c.format P B → r.1 ≡ groups_read c.format P.cells (c.key_bytes k)
+  pub on_valid : OfTable c.format B (λ P. r.0 ≡ value_for c P k)
+  pub groups : OfTable c.format B (λ P. r.1 ≡ groups_read c.format P.cells (c.key_bytes k))
   pub on_any : IfSome r.0 (λ v. HasStored c B k v)
   pub few : r.1 ≤ header_slots B / 16
 
 pub record IsKnown {K V : Type 0} (c : Coding K V) (B : List ℕ) (k : K) (b : Bool) : Type 0 where
-  pub on_valid : (P : Table) → IsImage c.format P B → IsTrue b ↔ IsSome (map_of P (c.key_bytes k))
+  pub on_valid : OfTable c.format B (λ P. IsTrue b ↔ IsSome (map_of P (c.key_bytes k)))
   pub on_any : IsTrue b → HoldsKey c.format B (c.key_bytes k)

@@ -1,4 +1,6 @@
 -- The definitions of lists of items; those of tables are in `odht_base`, those of their bytes in `odht_raw`.
+-- what holds of the table that bytes stand for
+pub mod Tables
 -- what a new table is, and what an insert leaves
 pub mod Inserts
 -- lists of keys and values that are inserted in turn

@@ -7,12 +7,14 @@ ghost use Rattle.odht_base.specs.Image.{image_len};
 ghost use Rattle.odht_base.specs.Table.{Table, walk, count};
 ghost use Rattle.odht_base.specs.Decoded.{header_count, header_slots, entries_of, controls_of};
 ghost use Rattle.odht_base.specs.Decoded.{decoded_pairs};
+ghost use Rattle.odht_base.specs.Insert.{insert_view, IsFullFor};
 ghost use Rattle.odht_base.specs.Valid.{IsImage, IsPartsOf, IsValidBytes};
-ghost use Rattle.odht_header.specs.Coding.{value_for};
+ghost use Rattle.odht_header.specs.Coding.{encoded, value_for};
 ghost use Rattle.odht.specs.Gets.{IsGet, IsCountedGet, IsKnown};
-ghost use Rattle.odht.specs.Inserts.{IsFresh, IsViewInsert};
+ghost use Rattle.odht.specs.Inserts.{IsFresh, IsInserted};
 ghost use Rattle.odht.specs.Lookups.{HaveStored};
-ghost use Rattle.odht_raw.specs.Frame.{IsAccepted};
+ghost use Rattle.odht.specs.Tables.{OfTable};
+ghost use Rattle.odht_raw.specs.Frame.{IsAccepted, IsFramed};
 ghost use Rattle.odht_raw.specs.Walks.{decoded_all};
 ghost use Rattle.odht_header.specs.Refusals.{IsTooLarge, new_refusal, opening_refusal};
 ghost use Rattle.odht_header.specs.Refusals.{view_refusal};
@@ -130,9 +132,9 @@ impl<C: Config, D: ByteStore> HashTable<C, D> {
     #[inline]
     pub fn get_all(&self, keys: &[C::Key], values: &mut [Option<C::Value>])
         requires { length values.old ≡ length keys.now }
-        ensures on_valid { (P : Table)
-            → IsImage ⟦<C as Coded>⟧.coding.format P (D.bytes self.now)
-            → values.new ≡ map (value_for ⟦<C as Coded>⟧.coding P) keys.now }
+        ensures on_valid { let c = ⟦<C as Coded>⟧.coding
+            in OfTable c.format (D.bytes self.now)
+            (λ P. values.new ≡ map (value_for c P) keys.now) }
         ensures on_any { HaveStored ⟦<C as Coded>⟧.coding (D.bytes self.now) keys.now values.new }
     {
         let mut answers = InSlice { answers: values };
@@ -161,9 +163,8 @@ impl<C: Config, D: ByteStore> HashTable<C, D> {
     /// the table once.
     #[inline]
     pub fn iter(&self) -> Iter<'_, C>
-        ensures on_valid { (P : Table)
-            → IsImage ⟦<C as Coded>⟧.coding.format P (D.bytes self.now)
-            → result ≡ decoded_all ⟦<C as Coded>⟧.coding (walk P) }
+        ensures on_valid { let c = ⟦<C as Coded>⟧.coding
+            in OfTable c.format (D.bytes self.now) (λ P. result ≡ decoded_all c (walk P)) }
         ensures on_any { let c = ⟦<C as Coded>⟧.coding
             in result ≡ decoded_all c (decoded_pairs c.format (D.bytes self.now)) }
         ensures few { length result ≤ usize.MAX }
@@ -178,9 +179,8 @@ impl<C: Config, D: ByteStore> HashTable<C, D> {
     #[inline]
     pub fn len(&self) -> usize
         ensures by_header { result ≡ header_count (D.bytes self.now) }
-        ensures on_valid { (P : Table)
-            → IsImage ⟦<C as Coded>⟧.coding.format P (D.bytes self.now)
-            → result ≡ count P }
+        ensures on_valid { let F = ⟦<C as Coded>⟧.coding.format
+            in OfTable F (D.bytes self.now) (λ P. result ≡ count P) }
     {
         self.allocation.header().item_count()
     }
@@ -309,8 +309,25 @@ impl<C: Config, D: ByteStoreMut> HashTable<C, D> {
     /// The key is hashed once. [`HashTable::get_counted`] says how many groups the search reads.
     #[inline(always)]
     pub fn insert(&mut self, key: &C::Key, value: &C::Value) -> Result<Option<C::Value>, Error>
-        ensures { IsViewInsert ⟦<C as Coded>⟧.coding D.bytes D.holding self.old self.new
-            key.now value.now result }
+        // On success, on the bytes of a valid table.
+        ensures former { let c = ⟦<C as Coded>⟧.coding
+            in OfTable c.format (D.bytes self.old)
+            (λ P. IfOk result (λ former. former ≡ value_for c P key.now)) }
+        ensures inserted { let c = ⟦<C as Coded>⟧.coding
+            in let p = encoded c key.now value.now
+            in OfTable c.format (D.bytes self.old) (λ P. OnOk result
+            (IsInserted c.format (insert_view c.format) P p (D.bytes self.new))) }
+        // On failure.
+        ensures full { let c = ⟦<C as Coded>⟧.coding
+            in OfTable c.format (D.bytes self.old)
+            (λ P. (result ≡ Err Error.Full) ↔ IsFullFor P (c.key_bytes key.now)) }
+        ensures only_full { OnErr result (result ≡ Err Error.Full) }
+        ensures refused { OnErr result (self.new ≡ self.old) }
+        // On any bytes.
+        ensures frame { IsFramed ⟦<C as Coded>⟧.coding
+            (D.bytes self.old) key.now value.now result (D.bytes self.new) }
+        ensures same_store { self.new ≡ D.holding self.old (D.bytes self.new) }
+        ensures accepted { IsAccepted ⟦<C as Coded>⟧.coding.format (D.bytes self.new) }
     {
         self.insert_by::<GroupQuery>(key, value)
     }

@@ -1,16 +1,17 @@
 //! The table that owns its bytes, and grows.
 ghost use Rattle.std.specs.Prelude.{◌≡◌, ℕ, List, ◌≤◌, ◌↔◌, ◌⊎◌, None, Some, length, IfOk, IsSome};
-ghost use Rattle.std.specs.Prelude.{IsTrue, IsErrOf, OnErr};
+ghost use Rattle.std.specs.Prelude.{IsTrue, IsErrOf, OnErr, OnOk};
 ghost use Rattle.odht_base.specs.Load.{factor_of, slots_for, IsPercent};
 ghost use Rattle.odht_base.specs.Table.{Table, walk, count, empty};
 ghost use Rattle.odht_base.specs.Map.{map_of};
 ghost use Rattle.odht_base.specs.Search.{groups_read};
 ghost use Rattle.odht_base.specs.Insert.{insert_owned, IsFullFor};
 ghost use Rattle.odht_base.specs.Valid.{IsImage, IsValidBytes};
-ghost use Rattle.odht_header.specs.Coding.{value_for};
+ghost use Rattle.odht_header.specs.Coding.{encoded, value_for};
 ghost use Rattle.odht.specs.Growths.{IsGrownImage};
 ghost use Rattle.odht.specs.Lists.{EndsAfter, IsFreshAfterInserts};
 ghost use Rattle.odht.specs.Inserts.{IsFresh, IsInserted};
+ghost use Rattle.odht.specs.Tables.{OfTable};
 ghost use Rattle.odht_raw.specs.Walks.{decoded_all};
 ghost use Rattle.std.specs.Iterator.{IsFinite};
 ghost use Rattle.odht_header.specs.Refusals.{IsTooLarge, check_refusal, check_refusal_by};
@@ -122,9 +123,8 @@ impl<C: Config> HashTableOwned<C> {
     /// search reads.
     #[inline]
     pub fn get(&self, key: &C::Key) -> Option<C::Value>
-        ensures { (P : Table)
-            → IsImage ⟦<C as Coded>⟧.coding.format P self.now
-            → result ≡ value_for ⟦<C as Coded>⟧.coding P key.now }
+        ensures { let c = ⟦<C as Coded>⟧.coding
+            in OfTable c.format self.now (λ P. result ≡ value_for c P key.now) }
     {
         self.table.get(key)
     }
@@ -133,13 +133,11 @@ impl<C: Config> HashTableOwned<C> {
     /// free or holds the key. docs/FORMAT.md, "Search", counts them.
     #[inline]
     pub fn get_counted(&self, key: &C::Key) -> (Option<C::Value>, usize)
-        ensures value { (P : Table)
-            → IsImage ⟦<C as Coded>⟧.coding.format P self.now
-            → result.0 ≡ value_for ⟦<C as Coded>⟧.coding P key.now }
+        ensures value { let c = ⟦<C as Coded>⟧.coding
+            in OfTable c.format self.now (λ P. result.0 ≡ value_for c P key.now) }
         ensures groups { let c = ⟦<C as Coded>⟧.coding
-            in (P : Table)
-            → IsImage c.format P self.now
-            → result.1 ≡ groups_read c.format P.cells (c.key_bytes key.now) }
+            in OfTable c.format self.now
+            (λ P. result.1 ≡ groups_read c.format P.cells (c.key_bytes key.now)) }
     {
         self.table.get_counted(key)
     }
@@ -147,9 +145,9 @@ impl<C: Config> HashTableOwned<C> {
     /// Whether the key has a value.
     #[inline]
     pub fn contains_key(&self, key: &C::Key) -> bool
-        ensures { (P : Table)
-            → IsImage ⟦<C as Coded>⟧.coding.format P self.now
-            → IsTrue result ↔ IsSome (map_of P (⟦<C as Coded>⟧.coding.key_bytes key.now)) }
+        ensures { let c = ⟦<C as Coded>⟧.coding
+            in OfTable c.format self.now
+            (λ P. IsTrue result ↔ IsSome (map_of P (c.key_bytes key.now))) }
     {
         self.table.contains_key(key)
     }
@@ -157,9 +155,8 @@ impl<C: Config> HashTableOwned<C> {
     /// The keys and values, each pair once, in slot order.
     #[inline]
     pub fn iter(&self) -> Iter<'_, C>
-        ensures pairs { (P : Table)
-            → IsImage ⟦<C as Coded>⟧.coding.format P self.now
-            → result ≡ decoded_all ⟦<C as Coded>⟧.coding (walk P) }
+        ensures pairs { let c = ⟦<C as Coded>⟧.coding
+            in OfTable c.format self.now (λ P. result ≡ decoded_all c (walk P)) }
         ensures few { length result ≤ usize.MAX }
     {
         self.table.iter()
@@ -168,7 +165,7 @@ impl<C: Config> HashTableOwned<C> {
     /// How many items there are.
     #[inline]
     pub fn len(&self) -> usize
-        ensures { (P : Table) → IsImage ⟦<C as Coded>⟧.coding.format P self.now → result ≡ count P }
+        ensures { OfTable ⟦<C as Coded>⟧.coding.format self.now (λ P. result ≡ count P) }
     {
         self.table.len()
     }
@@ -267,15 +264,18 @@ impl<C: Config> HashTableOwned<C> {
     /// The key is hashed once, and once more at a growth, which hashes and places each item again.
     #[inline(always)]
     pub fn insert(&mut self, key: &C::Key, value: &C::Value) -> Result<Option<C::Value>, Error>
-        ensures ok { let c = ⟦<C as Coded>⟧.coding
-            in (P : Table)
-            → IsImage c.format P self.old
-            → IfOk result
-            (λ old. IsInserted c (insert_owned c.format) P key.now value.now old self.new) }
+        // On success.
+        ensures former { let c = ⟦<C as Coded>⟧.coding
+            in OfTable c.format self.old
+            (λ P. IfOk result (λ former. former ≡ value_for c P key.now)) }
+        ensures inserted { let c = ⟦<C as Coded>⟧.coding
+            in let p = encoded c key.now value.now
+            in OfTable c.format self.old
+            (λ P. OnOk result (IsInserted c.format (insert_owned c.format) P p self.new)) }
+        // On failure.
         ensures at_maximum { let c = ⟦<C as Coded>⟧.coding
-            in (P : Table)
-            → IsImage c.format P self.old
-            → OnErr result (IsFullFor P (c.key_bytes key.now)) }
+            in OfTable c.format self.old
+            (λ P. OnErr result (IsFullFor P (c.key_bytes key.now))) }
         ensures memory { OnErr result (result ≡ Err Error.Memory) }
         ensures refused { OnErr result (self.new ≡ self.old) }
     {
@@ -289,12 +289,13 @@ impl<C: Config> HashTableOwned<C> {
     // `insert` of an absent key at the maximum: into the grown table.
     #[inline(never)]
     fn insert_grown(&mut self, key: &C::Key, value: &C::Value) -> Result<Option<C::Value>, Error>
-        ensures ok { let c = ⟦<C as Coded>⟧.coding
-            in (P : Table)
-            → IsImage c.format P self.old
-            → IsFullFor P (c.key_bytes key.now)
-            → IfOk result
-            (λ old. IsInserted c (insert_owned c.format) P key.now value.now old self.new) }
+        ensures former { let c = ⟦<C as Coded>⟧.coding
+            in OfTable c.format self.old (λ P. IsFullFor P (c.key_bytes key.now)
+            → IfOk result (λ former. former ≡ value_for c P key.now)) }
+        ensures inserted { let c = ⟦<C as Coded>⟧.coding
+            in let p = encoded c key.now value.now
+            in OfTable c.format self.old (λ P. IsFullFor P p.key
+            → OnOk result (IsInserted c.format (insert_owned c.format) P p self.new)) }
         ensures memory { OnErr result (result ≡ Err Error.Memory) }
         ensures refused { OnErr result (self.new ≡ self.old) }
     {

@@ -1,7 +1,7 @@
 //! Lookups of many keys. A first look hashes a key and reads the group of control bytes at its home. The first looks of
 //! eight keys are taken before any of their searches goes on, so that the loads from memory overlap.
 ghost use Rattle.std.specs.Prelude.{◌≡◌, ◌+◌, ◌≤◌, ◌<◌, ℕ, length, set, slice_get, Some};
-ghost use Rattle.odht.specs.Lookups.{IsLookAt, IsLookup, ArePut};
+ghost use Rattle.odht.specs.Lookups.{IsLookAt, IsLookup, lookups_of, ArePut};
 
 use crate::config::{Coded, Config};
 use crate::raw_table::{FirstLook, RawTable};
@@ -55,7 +55,8 @@ pub fn get_all<C: Config, A: Answers<Option<C::Value>>>(
 )
     requires { length keys.now ≤ A.places answers.old }
     ensures { let c = ⟦<C as Coded>⟧.coding
-        in ArePut c raw.now keys.now A.after_put answers.old answers.new (length keys.now) }
+        in let all = lookups_of c raw.now keys.now A.after_put
+        in ArePut all answers.old answers.new (length keys.now) }
 {
     let from = get_batches::<C, A>(raw, keys, answers);
     for index in from..keys.len() {
@@ -74,7 +75,8 @@ fn get_batches<C: Config, A: Answers<Option<C::Value>>>(
     requires { length keys.now ≤ A.places answers.old }
     ensures within { result ≤ length keys.now }
     ensures answers { let c = ⟦<C as Coded>⟧.coding
-        in ArePut c raw.now keys.now A.after_put answers.old answers.new result }
+        in let all = lookups_of c raw.now keys.now A.after_put
+        in ArePut all answers.old answers.new result }
     ensures places { A.places answers.new ≡ A.places answers.old }
 {
     let batches = keys.len() / BATCH;
@@ -95,9 +97,10 @@ fn get_eight<C: Config, A: Answers<Option<C::Value>>>(
     requires within { from + 8 ≤ length keys.now }
     requires places { length keys.now ≤ A.places answers.old }
     ensures answers { let c = ⟦<C as Coded>⟧.coding
+        in let all = lookups_of c raw.now keys.now A.after_put
         in (first : A)
-        → ArePut c raw.now keys.now A.after_put first answers.old from
-        → ArePut c raw.now keys.now A.after_put first answers.new (from + 8) }
+        → ArePut all first answers.old from
+        → ArePut all first answers.new (from + 8) }
     ensures places { A.places answers.new ≡ A.places answers.old }
 {
     let first = first_look_at::<C>(raw, keys, from);
@@ -131,9 +134,10 @@ fn get_one<C: Config, A: Answers<Option<C::Value>>>(
     requires places { length keys.now ≤ A.places answers.old }
     requires look { IsLookAt ⟦<C as Coded>⟧.coding raw.now keys.now index look }
     ensures answers { let c = ⟦<C as Coded>⟧.coding
+        in let all = lookups_of c raw.now keys.now A.after_put
         in (first : A)
-        → ArePut c raw.now keys.now A.after_put first answers.old index
-        → ArePut c raw.now keys.now A.after_put first answers.new (index + 1) }
+        → ArePut all first answers.old index
+        → ArePut all first answers.new (index + 1) }
     ensures places { A.places answers.new ≡ A.places answers.old }
 {
     answers.put(index, find_at::<C>(raw, look, keys, index));

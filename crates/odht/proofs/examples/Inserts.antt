@@ -8,6 +8,7 @@ use Rattle.odht_base.specs.Numbers.{le_bytes}
 use Rattle.odht_base.specs.Table.{Pair, Table, empty}
 use Rattle.odht_base.proofs.lemmas.Options.{some_same}
 use Rattle.odht_base.proofs.examples.Configs.{my_config, pair64}
+use Rattle.odht_header.specs.Coding.{value_for}
 use Rattle.odht_header.proofs.examples.Opened.{opened}
 use Rattle.odht.specs.Inserts.{IsFresh, IsInserted}
 use Rattle.odht_header.proofs.examples.Apart.{unequal_lists, some_unequal_lists}
@@ -37,10 +38,9 @@ no_percent h =
 
 -- ---- inserts
 -- a new key
-pub a_new_key : IsInserted number_coding (insert_owned my_config) no_pairs 1 2 None (bytes_of (one_pair 2))
+pub a_new_key : IsInserted my_config (insert_owned my_config) no_pairs (pair64 1 2) (bytes_of (one_pair 2))
 unfolding opened
 a_new_key = record {
-  former = refl;
   table = one_pair 2;
   inserted = refl;
   image = one_pair_image.0;
@@ -53,10 +53,9 @@ a_new_key = record {
     go false = refl
 
 -- a present key
-pub an_old_key : IsInserted number_coding (insert_owned my_config) (one_pair 2) 1 3 (Some 2) (bytes_of (one_pair 3))
+pub an_old_key : IsInserted my_config (insert_owned my_config) (one_pair 2) (pair64 1 3) (bytes_of (one_pair 3))
 unfolding opened
 an_old_key = record {
-  former = refl;
   table = one_pair 3;
   inserted = refl;
   image = one_pair_image.1;
@@ -70,34 +69,43 @@ an_old_key = record {
     go true = refl
     go false = refl
 
+-- the former value of a new key, and of a present one
+pub new_former : value_for number_coding no_pairs 1 ≡ None
+unfolding opened
+new_former = refl
+
+pub old_former : value_for number_coding (one_pair 2) 1 ≡ Some 2
+unfolding opened
+old_former = refl
+
 -- another former value
-pub other_former : IsInserted number_coding (insert_owned my_config) (one_pair 2) 1 3 (Some 3) (bytes_of (one_pair 3)) → ⊥
-other_former h = omega (arith, some_same 3 2 h.former)
+pub other_former : Some 3 ≡ value_for number_coding (one_pair 2) 1 → ⊥
+other_former h = omega (arith, some_same 3 2 h)
 
 -- no former value
-pub no_former : IsInserted number_coding (insert_owned my_config) (one_pair 2) 1 3 None (bytes_of (one_pair 3)) → ⊥
-no_former h = none-some 2 h.former
+pub no_former : None ≡ value_for number_coding (one_pair 2) 1 → ⊥
+no_former h = none-some 2 h
 
 -- the bytes of another table with the same map
-pub not_inserted : IsInserted number_coding (insert_owned my_config) no_pairs 1 2 None (bytes_of (one_of_32 87 2)) → ⊥
+pub not_inserted : IsInserted my_config (insert_owned my_config) no_pairs (pair64 1 2) (bytes_of (one_of_32 87 2)) → ⊥
 unfolding opened
 not_inserted h = unequal_lists _ _ refl (h.image.bytes ∙ ap bytes_of (sym (some_same (one_pair 2) h.table h.inserted)))
 
 -- an insert that fails
-pub refused : IsInserted number_coding (λ P p. None) no_pairs 1 2 None (bytes_of (one_pair 2)) → ⊥
+pub refused : IsInserted my_config (λ P p. None) no_pairs (pair64 1 2) (bytes_of (one_pair 2)) → ⊥
 refused h = none-some h.table h.inserted
 
 -- no bytes of a table
-pub no_image : IsInserted number_coding (insert_owned my_config) no_pairs 1 2 None [] → ⊥
+pub no_image : IsInserted my_config (insert_owned my_config) no_pairs (pair64 1 2) [] → ⊥
 unfolding opened
 no_image h = unequal_lists _ _ refl (h.image.bytes ∙ ap bytes_of (sym (some_same (one_pair 2) h.table h.inserted)))
 
 -- an insert of another value
-pub other_value : IsInserted number_coding (λ P p. Some (one_pair 3)) no_pairs 1 2 None (bytes_of (one_pair 3)) → ⊥
+pub other_value : IsInserted my_config (λ P p. Some (one_pair 3)) no_pairs (pair64 1 2) (bytes_of (one_pair 3)) → ⊥
 other_value h =
     some_unequal_lists _ _ refl (ap (λ T. map_of T (le_bytes 8 1)) (some_same (one_pair 3) h.table h.inserted) ∙ h.maps (le_bytes 8 1))
 
 -- one that loses the other keys
-pub other_key_lost : IsInserted number_coding (λ P p. Some other_pair) (one_pair 2) 3 4 None (bytes_of other_pair) → ⊥
+pub other_key_lost : IsInserted my_config (λ P p. Some other_pair) (one_pair 2) (pair64 3 4) (bytes_of other_pair) → ⊥
 other_key_lost h =
     none-some _ (ap (λ T. map_of T (le_bytes 8 1)) (some_same other_pair h.table h.inserted) ∙ h.maps (le_bytes 8 1))

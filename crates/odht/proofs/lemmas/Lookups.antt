@@ -13,7 +13,7 @@ use Rattle.odht_header.specs.Coding.{Coding, value_for}
 use Rattle.odht_raw.specs.Parts.{EntryBytes, TableParts}
 use Rattle.odht_raw.specs.SearchEnds.{IsBesideKey}
 use Rattle.odht.specs.declared.lookups.InSlice.{InSlice}
-use Rattle.odht.specs.Lookups.{IsLookup, ArePut, HaveStored}
+use Rattle.odht.specs.Lookups.{IsLookup, lookups_of, ArePut, HaveStored}
 
 -- what is written can be read
 pub slice_get-set_same : {X : Type 0} (xs : List X) (i : ℕ) (a : X) → i < length xs → slice_get (set xs i a) i ≡ Some a
@@ -51,7 +51,7 @@ stored_beside F f B k E v es s h = (
 -- answers that were put, of the lookups of keys among the parts of a table
 module _ {K V S : Type 0} (c : Coding K V) (T : TableParts) (ks : List K) (put : S → ℕ → Option V → S) where
   -- what no put changes
-  pub puts-same : {X : Type 0} (f : S → X) → ((s : S) (i : ℕ) (o : Option V) → f (put s i o) ≡ f s) → (s s' : S) (n : ℕ) → ArePut c T ks put s s' n → f s' ≡ f s
+  pub puts-same : {X : Type 0} (f : S → X) → ((s : S) (i : ℕ) (o : Option V) → f (put s i o) ≡ f s) → (s s' : S) (n : ℕ) → ArePut (lookups_of c T ks put) s s' n → f s' ≡ f s
   puts-same f same s s' zero all = ap f all
   puts-same f same s s' (suc n) (r, o, before, this, is) = ap f is ∙ same r n o ∙ puts-same f same s r n before
 
@@ -59,12 +59,12 @@ module _ {K V S : Type 0} (c : Coding K V) (T : TableParts) (ks : List K) (put :
   module _ {E : Type 0} (places : S → ℕ) (at : S → ℕ → E) (g : Option V → E → E) (fits : (s : S) (i : ℕ) (o : Option V) → places (put s i o) ≡ places s)
       (here : (s : S) (i : ℕ) (o : Option V) → i < places s → at (put s i o) i ≡ g o (at s i)) (there : (s : S) (i j : ℕ) (o : Option V) → (j ≡ i → ⊥) → at (put s i o) j ≡ at s j) where
     -- past the answers nothing changes
-    puts-rest : (s s' : S) (n j : ℕ) → ArePut c T ks put s s' n → n ≤ j → at s' j ≡ at s j
+    puts-rest : (s s' : S) (n j : ℕ) → ArePut (lookups_of c T ks put) s s' n → n ≤ j → at s' j ≡ at s j
     puts-rest s s' zero j all l = ap (λ x. at x j) all
     puts-rest s s' (suc n) j (r, o, before, this, is) l = ap (λ x. at x j) is ∙ there r n j o (λ e. omega (arith, e, l)) ∙ puts-rest s r n j before (omega (arith, l))
 
     -- and the answer at the index of a key is the result of its lookup
-    pub puts-at : (s s' : S) (n j : ℕ) (k : K) → ArePut c T ks put s s' n → n ≤ places s → j < n → slice_get ks j ≡ Some k → (o : Option V) × (at s' j ≡ g o (at s j)) × IsLookup c T k o
+    pub puts-at : (s s' : S) (n j : ℕ) (k : K) → ArePut (lookups_of c T ks put) s s' n → n ≤ places s → j < n → slice_get ks j ≡ Some k → (o : Option V) × (at s' j ≡ g o (at s j)) × IsLookup c T k o
     puts-at s s' zero j k all fit l key = absurd (omega (arith, l))
     puts-at s s' (suc n) j k (r, o, before, this, is) fit l key =
         let low : n < places r = (let same = puts-same places fits s r n before in omega (arith, fit, same)) in
@@ -80,7 +80,7 @@ abbrev put : {V : Type 0} → InSlice (Option V) → ℕ → Option V → InSlic
 put s i o = record s { answers = record s.answers { now = set s.answers.now i o } }
 
 -- the answers of all keys were put in a slice
-pub puts-listed : {K V : Type 0} (c : Coding K V) (T : TableParts) (ks : List K) (s s' : InSlice (Option V)) → ArePut c T ks put s s' (length ks) → length ks ≤ length s.answers.now
+pub puts-listed : {K V : Type 0} (c : Coding K V) (T : TableParts) (ks : List K) (s s' : InSlice (Option V)) → ArePut (lookups_of c T ks put) s s' (length ks) → length ks ≤ length s.answers.now
     → (i : ℕ) (k : K) → slice_get ks i ≡ Some k → (o : Option V) × (slice_get s'.answers.now i ≡ Some o) × IsLookup c T k o
 puts-listed c T ks s s' all fit i k key =
     puts-at c T ks put (λ s. length s.answers.now) (λ s. slice_get s.answers.now) (λ o x. Some o) (λ s. length-set s.answers.now) (λ s. slice_get-set_same s.answers.now)
@@ -107,7 +107,7 @@ pub record AreAnswered {K V : Type 0} (c : Coding K V) (T : TableParts) (ks : Li
   pub values : (P : Table) → IsPartsOf c.format P T.entries.bytes T.control → s'.answers.now ≡ map (value_for c P) ks
   pub stored : (B : List ℕ) → T.entries.bytes ≡ entries_of c.format B → T.entries.slots ≡ header_slots B → HaveStored c B ks s'.answers.now
 
-pub puts-answered : {K V : Type 0} (c : Coding K V) (T : TableParts) (ks : List K) (s s' : InSlice (Option V)) → ArePut c T ks put s s' (length ks) → length s.answers.now ≡ length ks
+pub puts-answered : {K V : Type 0} (c : Coding K V) (T : TableParts) (ks : List K) (s s' : InSlice (Option V)) → ArePut (lookups_of c T ks put) s s' (length ks) → length s.answers.now ≡ length ks
     → AreAnswered c T ks s s'
 puts-answered c T ks s s' all fit =
     let long = puts-same c T ks put (λ s. length s.answers.now) (λ s. length-set s.answers.now) s s' (length ks) all ∙ fit in

@@ -1,13 +1,13 @@
 -- An insert into the bytes of a table that cannot grow: what it leaves of a plain table, and when it is an error.
 use Rattle.std.proofs.Common.{◌≡◌, ◌∙◌, ◌+◌, ◌-◌, ℕ, sym, ap, refl, subst, arith, List, [], ◌∷◌, length, Option, Some, None, Result, Ok, Err}
-use Rattle.std.specs.Prelude.{option_map, option_and_then, IfOk, OnErr}
+use Rattle.std.specs.Prelude.{option_map, option_and_then, IfOk, OnErr, OnOk}
 use Rattle.std.specs.Result.{result_map_both}
 use Rattle.std.proofs.lemmas.Option.{none-some}
 use Rattle.odht_base.specs.Format.{Format, IsFormat}
 use Rattle.odht_base.specs.Insert.{insert_view, IsFullFor}
 use Rattle.odht_base.specs.Load.{max_items}
 use Rattle.odht_base.specs.Map.{map_of}
-use Rattle.odht_base.specs.Table.{Table, count, slot_count}
+use Rattle.odht_base.specs.Table.{Pair, Table, count, slot_count}
 use Rattle.odht_base.specs.Valid.{IsImage, IsPartsOf}
 use Rattle.odht_base.specs.Decoded.{header_slots, header_count, header_factor, entries_of, controls_of, value_at}
 use Rattle.odht_base.proofs.lemmas.Fits.{IsSized-IsPlaced}
@@ -16,13 +16,14 @@ use Rattle.odht_base.proofs.lemmas.Image.{header_count-image, header_slots-image
 use Rattle.odht_base.proofs.lemmas.Parts.{length-controls}
 use Rattle.odht_base.proofs.lemmas.SlotCounts.{slots_pos}
 use Rattle.odht_base.proofs.lemmas.TableInserts.{insert_view-IsInsert, insert_view-None}
-use Rattle.odht_header.specs.Coding.{Coding, encoded}
+use Rattle.odht_header.specs.Coding.{Coding, encoded, value_for}
 use Rattle.odht_header.specs.declared.error.Error.{Error}
 use Rattle.odht_header.specs.declared.error.Error.TheVariants.{Full}
 use Rattle.odht_raw.specs.Frame.{HasNoFreeSlot, IsAbsent, IsMissing, InsertFrame, IsFramed}
 use Rattle.odht_raw.specs.Runs.{IsOnePlaced}
 use Rattle.odht_raw.proofs.lemmas.Steps.{missing-absent, has_free_slot}
 use Rattle.odht.specs.Inserts.{IsInserted}
+use Rattle.odht.specs.Tables.{OfTable}
 use Rattle.odht.proofs.lemmas.FittingRuns.{run-fitting, insert_view-PlacesTaken}
 
 -- ---- what the bytes of a valid table say of it
@@ -73,20 +74,26 @@ first_of_one : (o : Option Table) (Q : Table) → option_and_then (λ R. Some R)
 first_of_one None Q e = e
 first_of_one (Some R) Q e = e
 
--- returns the former value, and leaves the bytes of the table after the insert
+-- leaves the bytes of the table after the insert
 pub one_inserted : {K V : Type 0} (c : Coding K V) (P : Table) (B : List ℕ) (k : K) (v : V) (old : Option V) (B' : List ℕ) → IsImage c.format P B → IsOnePlaced c P k v old B'
-    → IsInserted c (insert_view c.format) P k v old B'
+    → IsInserted c.format (insert_view c.format) P (encoded c k v) B'
 one_inserted c P B k v old B' is (former, placed) =
     let Q = placed.table in
     let inserted = first_of_one (insert_view c.format P (encoded c k v)) Q
     (run-fitting c.format (insert_view c.format) (insert_view-PlacesTaken c.format) P (encoded c k v ∷ []) Q is.valid placed.fits placed.placed placed.image.valid) in
-    record { former = former; table = Q; inserted = inserted; image = placed.image; maps = (insert_view-IsInsert c.format).maps P Q (encoded c k v) is.valid inserted }
+    record { table = Q; inserted = inserted; image = placed.image; maps = (insert_view-IsInsert c.format).maps P Q (encoded c k v) is.valid inserted }
 
 -- the same, whatever the result
 pub if_inserted : {K V : Type 0} (c : Coding K V) (P : Table) (B : List ℕ) (k : K) (v : V) (r : Result (Option V) Error) (B' : List ℕ) → IsImage c.format P B → IfOk r (λ old. IsOnePlaced c P k v old B')
-    → IfOk r (λ old. IsInserted c (insert_view c.format) P k v old B')
+    → OnOk r (IsInserted c.format (insert_view c.format) P (encoded c k v) B')
 if_inserted c P B k v (Ok old) B' is placed = one_inserted c P B k v old B' is placed
 if_inserted c P B k v (Err e) B' is placed = tt
+
+-- and it returns the former value
+pub if_former : {K V : Type 0} (c : Coding K V) (P : Table) (k : K) (v : V) (r : Result (Option V) Error) (B' : List ℕ) → IfOk r (λ old. IsOnePlaced c P k v old B')
+    → IfOk r (λ former. former ≡ value_for c P k)
+if_former c P k v (Ok old) B' placed = placed.0
+if_former c P k v (Err e) B' placed = tt
 
 -- ---- an insert that fails
 module _ {K V : Type 0} (c : Coding K V) (B : List ℕ) (k : K) (v : V) where
@@ -134,3 +141,10 @@ module _ {K V : Type 0} (c : Coding K V) (B : List ℕ) (k : K) (v : V) where
 -- a store that holds the bytes it had is as it was
 pub held_same_bytes : {S : Type 0} (holding : S → List ℕ → S) (bytes : S → List ℕ) (held_same : (s : S) → holding s (bytes s) ≡ s) (s t : S) → t ≡ holding s (bytes t) → bytes t ≡ bytes s → t ≡ s
 held_same_bytes holding bytes held_same s t same kept = same ∙ ap (holding s) kept ∙ held_same s
+
+-- of each table that the bytes stand for an insert says its former value and what it leaves together
+pub insert_said : {K V : Type 0} (c : Coding K V) (insert : Table → Pair → Option Table) (k : K) (v : V) (r : Result (Option V) Error) (B B' : List ℕ)
+    → OfTable c.format B (λ P. IfOk r (λ former. former ≡ value_for c P k)) → OfTable c.format B (λ P. OnOk r (IsInserted c.format insert P (encoded c k v) B'))
+    → (P : Table) → IsImage c.format P B → IfOk r (λ former. (former ≡ value_for c P k) × IsInserted c.format insert P (encoded c k v) B')
+insert_said c insert k v (Ok former) B B' was leaves P is = (was P is, leaves P is)
+insert_said c insert k v (Err e) B B' was leaves P is = tt

@@ -1,7 +1,12 @@
 //! Lookups and inserts by a group search of the caller's choice. The calls without `_by` take the one that is compiled
 //! in.
+ghost use Rattle.std.specs.Prelude.{◌≡◌, ◌↔◌, IfOk, OnErr, OnOk};
+ghost use Rattle.odht_base.specs.Insert.{insert_view, IsFullFor};
+ghost use Rattle.odht_header.specs.Coding.{encoded, value_for};
+ghost use Rattle.odht_raw.specs.Frame.{IsAccepted, IsFramed};
 ghost use Rattle.odht.specs.Gets.{IsGet, IsCountedGet, IsKnown};
-ghost use Rattle.odht.specs.Inserts.{IsViewInsert};
+ghost use Rattle.odht.specs.Inserts.{IsInserted};
+ghost use Rattle.odht.specs.Tables.{OfTable};
 
 use super::HashTable;
 use crate::bytes::{ByteStore, ByteStoreMut};
@@ -56,8 +61,25 @@ impl<C: Config, D: ByteStoreMut> HashTable<C, D> {
         key: &C::Key,
         value: &C::Value,
     ) -> Result<Option<C::Value>, Error>
-        ensures { IsViewInsert ⟦<C as Coded>⟧.coding D.bytes D.holding self.old self.new
-            key.now value.now result }
+        // On success, on the bytes of a valid table.
+        ensures former { let c = ⟦<C as Coded>⟧.coding
+            in OfTable c.format (D.bytes self.old)
+            (λ P. IfOk result (λ former. former ≡ value_for c P key.now)) }
+        ensures inserted { let c = ⟦<C as Coded>⟧.coding
+            in let p = encoded c key.now value.now
+            in OfTable c.format (D.bytes self.old) (λ P. OnOk result
+            (IsInserted c.format (insert_view c.format) P p (D.bytes self.new))) }
+        // On failure.
+        ensures full { let c = ⟦<C as Coded>⟧.coding
+            in OfTable c.format (D.bytes self.old)
+            (λ P. (result ≡ Err Error.Full) ↔ IsFullFor P (c.key_bytes key.now)) }
+        ensures only_full { OnErr result (result ≡ Err Error.Full) }
+        ensures refused { OnErr result (self.new ≡ self.old) }
+        // On any bytes.
+        ensures frame { IsFramed ⟦<C as Coded>⟧.coding
+            (D.bytes self.old) key.now value.now result (D.bytes self.new) }
+        ensures same_store { self.new ≡ D.holding self.old (D.bytes self.new) }
+        ensures accepted { IsAccepted ⟦<C as Coded>⟧.coding.format (D.bytes self.new) }
     {
         self.allocation.insert_by::<Q>(key, value)
     }

@@ -1,8 +1,7 @@
 //! Lookups of many keys in a table that grows.
 ghost use Rattle.std.specs.Prelude.{◌≡◌, length, map};
-ghost use Rattle.odht_base.specs.Table.{Table};
-ghost use Rattle.odht_base.specs.Valid.{IsImage};
 ghost use Rattle.odht_header.specs.Coding.{value_for};
+ghost use Rattle.odht.specs.Tables.{OfTable};
 
 use super::HashTableOwned;
 use crate::config::{Coded, Config};
@@ -13,9 +12,8 @@ impl<C: Config> HashTableOwned<C> {
     #[inline]
     pub fn get_all(&self, keys: &[C::Key], values: &mut [Option<C::Value>])
         requires { length values.old ≡ length keys.now }
-        ensures { (P : Table)
-            → IsImage ⟦<C as Coded>⟧.coding.format P self.now
-            → values.new ≡ map (value_for ⟦<C as Coded>⟧.coding P) keys.now }
+        ensures { let c = ⟦<C as Coded>⟧.coding
+            in OfTable c.format self.now (λ P. values.new ≡ map (value_for c P) keys.now) }
     {
         self.table.get_all(keys, values);
     }

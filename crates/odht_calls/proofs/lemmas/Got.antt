@@ -10,7 +10,7 @@ use Rattle.odht_base.specs.Valid.{IsImage, IsPartsOf}
 use Rattle.odht_header.specs.Coding.{Coding}
 use Rattle.odht_raw.specs.Parts.{EntryBytes, TableParts}
 use Rattle.odht_raw.specs.SearchEnds.{IsBesideKey}
-use Rattle.odht.specs.Lookups.{IsLookup, ArePut}
+use Rattle.odht.specs.Lookups.{IsLookup, lookups_of, ArePut}
 use Rattle.odht.proofs.lemmas.Lookups.{slice_get-set_same, slice_get-set_other, stored_beside, puts-at}
 use Rattle.odht_calls.specs.declared.lookups.Arrays.{Arrays}
 use Rattle.odht_calls.specs.Lookups.{flag_of, with_found}
@@ -60,7 +60,7 @@ abbrev pub put : {V : Type 0} → Arrays V → ℕ → Option V → Arrays V
 put s i o = record s { values = record s.values { now = with_found s.values.now i o }; found = record s.found { now = set s.found.now i (flag_of o) } }
 
 -- the answers of all keys were put
-pub puts-got : {K V : Type 0} (c : Coding K V) (T : TableParts) (ks : List K) (s s' : Arrays V) → ArePut c T ks put s s' (length ks)
+pub puts-got : {K V : Type 0} (c : Coding K V) (T : TableParts) (ks : List K) (s s' : Arrays V) → ArePut (lookups_of c T ks put) s s' (length ks)
     → length ks ≤ length s.values.now → length ks ≤ length s.found.now → (i : ℕ) (k : K) → slice_get ks i ≡ Some k
     → (o : Option V) × IsGotAt o (slice_get s.values.now i) (slice_get s'.found.now i) (slice_get s'.values.now i) × IsLookup c T k o
 puts-got c T ks s s' all lv lf i k key =
@@ -69,7 +69,7 @@ puts-got c T ks s s' all lv lf i k key =
     (known.0, got known.0 s.values.now s'.values.now s.found.now s'.found.now i known.1, known.2)
 
 -- so that is what the call answers, of the parts T of the bytes B
-pub got_all : {K V : Type 0} (c : Coding K V) (B : List ℕ) (T : TableParts) (ks : List K) (s s' : Arrays V) → ArePut c T ks put s s' (length ks)
+pub got_all : {K V : Type 0} (c : Coding K V) (B : List ℕ) (T : TableParts) (ks : List K) (s s' : Arrays V) → ArePut (lookups_of c T ks put) s s' (length ks)
     → length s.values.now ≡ length ks → length s.found.now ≡ length ks
     → ((P : Table) → IsImage c.format P B → IsPartsOf c.format P T.entries.bytes T.control) → T.entries.bytes ≡ entries_of c.format B → T.entries.slots ≡ header_slots B
     → ViewGetAllAnswers c B ks s.values.now s.found.now done s'.values.now s'.found.now

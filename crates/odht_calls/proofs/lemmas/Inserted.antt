@@ -4,13 +4,14 @@ use Rattle.odht_base.specs.Insert.{insert_view, IsFullFor}
 use Rattle.odht_base.specs.Table.{Table}
 use Rattle.odht_base.specs.Valid.{IsImage}
 use Rattle.odht_base.proofs.lemmas.TableInserts.{insert_view-None}
-use Rattle.odht_header.specs.Coding.{Coding, encoded}
+use Rattle.odht_header.specs.Coding.{Coding, encoded, value_for}
 use Rattle.odht_raw.specs.Frame.{IsFramed}
 use Rattle.odht_header.specs.Refusals.{opening_refusal}
 use Rattle.odht_header.specs.declared.error.Error.{Error}
 use Rattle.odht_header.specs.declared.error.Error.TheVariants.{Full}
 use Rattle.odht.specs.Inserts.{IsInserted}
 use Rattle.odht.specs.Lists.{encoded_all, IsAfterInserts, IsFramedRun, IsRefusedAt, IsStoppedAt}
+use Rattle.odht.specs.Tables.{OfTable}
 use Rattle.odht_calls.specs.Statuses.{done, status_of}
 use Rattle.odht_calls.specs.Writes.{IsFormer, InsertAnswers, InsertAllAnswers}
 use Rattle.odht_calls.proofs.lemmas.Refused.{not_none}
@@ -26,12 +27,13 @@ module _ {K V : Type 0} (c : Coding K V) (B S T C : List ℕ) (k : K) (v old : V
 
   -- the key has this value now
   pub accepted_insert : (o : Option V) → IsFormer o old s new
-      → ((P : Table) → IsImage c.format P S → IsInserted c (insert_view c.format) P k v o T) → IsFramed c S k v (Ok o) T → InsertAnswers c B k v old s C new
-  accepted_insert o former tells frame = record {
+      → OfTable c.format S (λ P. o ≡ value_for c P k) → OfTable c.format S (λ P. IsInserted c.format (insert_view c.format) P (encoded c k v) T)
+      → IsFramed c S k v (Ok o) T → InsertAnswers c B k v old s C new
+  accepted_insert o former was tells frame = record {
     refused = λ e is. not_none _ e is (sym accepted);
     on_valid = λ P is. (
         let insert = tells P (image P is) in
-        rw insert.inserted (subst (IsImage c.format insert.table) (sym left) insert.image, subst (λ o. IsFormer o old s new) insert.former former));
+        rw insert.inserted (subst (IsImage c.format insert.table) (sym left) insert.image, subst (λ o. IsFormer o old s new) (was P (image P is)) former));
     on_any = λ none. (Ok o, former, framed (Ok o) frame);
   }
 

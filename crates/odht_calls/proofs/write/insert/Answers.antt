@@ -20,7 +20,7 @@ returns-in-Ok-Some-clause-answer g c =
     let accepted : None ≡ opening_refusal F (bytes c.args.store.now) = sym (c.is_accepted.ensures.0 c.if-not-is_accepted.false) ∙ ap (opening_refusal F) c.bytes.ensures in
     let reads : bytes c.from_raw_bytes_unchecked-table.result.now ≡ bytes c.args.store.now = ap (λ s. bytes s.now) c.from_raw_bytes_unchecked-table.ensures in
     accepted_insert _ _ _ _ _ _ _ _ _ _ accepted reads (ap bytes (search (rules, c.into_data-store.ensures.data, c.insert-answer.ensures.same_store, c.from_raw_bytes_unchecked-table.ensures)))
-    c.in-Ok-Some.field-0 (rw c.in-Ok-Some.field-0-is (refl, refl)) c.in-Ok-Some.ensures.ok c.in-Ok-Some.ensures.frame
+    c.in-Ok-Some.field-0 (rw c.in-Ok-Some.field-0-is (refl, refl)) c.in-Ok-Some.ensures.former c.in-Ok-Some.ensures.inserted c.in-Ok-Some.ensures.frame
 
 pub returns-in-Ok-None-clause-answer : goal.returns-in-Ok-None-clause-answer
 returns-in-Ok-None-clause-answer g c =
@@ -29,7 +29,7 @@ returns-in-Ok-None-clause-answer g c =
     let accepted : None ≡ opening_refusal F (bytes c.args.store.now) = sym (c.is_accepted.ensures.0 c.if-not-is_accepted.false) ∙ ap (opening_refusal F) c.bytes.ensures in
     let reads : bytes c.from_raw_bytes_unchecked-table.result.now ≡ bytes c.args.store.now = ap (λ s. bytes s.now) c.from_raw_bytes_unchecked-table.ensures in
     accepted_insert _ _ _ _ _ _ _ _ _ _ accepted reads (ap bytes (search (rules, c.into_data-store.ensures.data, c.insert-answer.ensures.same_store, c.from_raw_bytes_unchecked-table.ensures)))
-    c.in-Ok-None.field-0 (rw c.in-Ok-None.field-0-is (refl, refl)) c.in-Ok-None.ensures.ok c.in-Ok-None.ensures.frame
+    c.in-Ok-None.field-0 (rw c.in-Ok-None.field-0-is (refl, refl)) c.in-Ok-None.ensures.former c.in-Ok-None.ensures.inserted c.in-Ok-None.ensures.frame
 
 pub returns-in-Err-clause-answer : goal.returns-in-Err-clause-answer
 returns-in-Err-clause-answer g c =

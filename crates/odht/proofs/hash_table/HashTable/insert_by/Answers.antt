@@ -8,7 +8,7 @@ use Rattle.odht_header.specs.Coding.{Coding, coding_of}
 use Rattle.odht_header.proofs.lemmas.Formats.{IsFormat-format_of}
 use Rattle.odht_raw.specs.Frame.{IsFramed}
 use Rattle.odht_raw.specs.Runs.{IsOnePlaced}
-use Rattle.odht.proofs.lemmas.ViewInserts.{if_inserted, framed-full, full-framed, framed-only_full, framed-refused, held_same_bytes}
+use Rattle.odht.proofs.lemmas.ViewInserts.{if_inserted, if_former, framed-full, full-framed, framed-only_full, framed-refused, held_same_bytes}
 use Rattle.odht.proofs.hash_table.HashTable.insert_by.Given.{Over}
 use Rattle.odht.proofs.hash_table.HashTable.insert_by.Goals as goal
 use Rattle.odht.proofs.hash_table.HashTable.insert_by.Goals.{After-insert_by}
@@ -35,21 +35,44 @@ framed : (g : Over) (c : After-insert_by g) → IsFramed (coding g) (g.D.ByteSto
 framed g c =
     subst (λ s. IsFramed (coding g) (g.D.ByteStore.bytes s) c.args.key.now c.args.value.now c.insert_by.result (g.D.ByteStore.bytes c.insert_by.new.self)) c.self.view_is c.insert_by.ensures.framed
 
-pub returns : goal.returns
-returns g c =
+pub returns-clause-former : goal.returns-clause-former
+returns-clause-former g c P is =
+    let at = (goal.at.returns-clause-former g c).After-insert_by in
+    if_former (coding g) P c.args.key.now c.args.value.now c.insert_by.result _ (placed g at P is)
+
+pub returns-clause-inserted : goal.returns-clause-inserted
+returns-clause-inserted g c P is =
+    let at = (goal.at.returns-clause-inserted g c).After-insert_by in
+    if_inserted (coding g) P _ c.args.key.now c.args.value.now c.insert_by.result _ is (placed g at P is)
+
+pub returns-clause-full : goal.returns-clause-full
+returns-clause-full g c P is =
     let K = coding g in
     let k = c.args.key.now in
     let v = c.args.value.now in
     let r = c.insert_by.result in
-    let at = (goal.at.returns g c).After-insert_by in
+    let at = (goal.at.returns-clause-full g c).After-insert_by in
     let one = framed g at in
-    let same : c.insert_by.new.self ≡ g.D.ByteStoreMut.holding c.args.self.now (g.D.ByteStore.bytes c.insert_by.new.self) = rw (← c.self.view_is) c.insert_by.ensures.same_store in
-    record {
-      ok = λ P is. if_inserted K P _ k v r _ is (placed g at P is);
-      full = λ P is. (λ e. framed-full K _ k v (fits g) P is r _ e one, λ full. full-framed K _ k v (fits g) P is r _ (placed g at P is) one full);
-      frame = one;
-      only_full = framed-only_full K _ k v r _ one;
-      refused = on_err_weaker r (λ kept. held_same_bytes g.D.ByteStoreMut.holding g.D.ByteStore.bytes g.met.D.ByteStoreMut.held_same c.args.self.now c.insert_by.new.self same kept) (framed-refused K _ k v r _ one);
-      same_store = same;
-      accepted = c.insert_by.ensures.accepted;
-    }
+    (λ e. framed-full K _ k v (fits g) P is r _ e one, λ full. full-framed K _ k v (fits g) P is r _ (placed g at P is) one full)
+
+pub returns-clause-frame : goal.returns-clause-frame
+returns-clause-frame g c = framed g (goal.at.returns-clause-frame g c).After-insert_by
+
+pub returns-clause-only_full : goal.returns-clause-only_full
+returns-clause-only_full g c =
+    let one = framed g (goal.at.returns-clause-only_full g c).After-insert_by in
+    framed-only_full (coding g) _ c.args.key.now c.args.value.now c.insert_by.result _ one
+
+-- it is the same store
+same : (g : Over) (c : After-insert_by g) → c.insert_by.new.self ≡ g.D.ByteStoreMut.holding c.args.self.now (g.D.ByteStore.bytes c.insert_by.new.self)
+same g c = rw (← c.self.view_is) c.insert_by.ensures.same_store
+
+pub returns-clause-same_store : goal.returns-clause-same_store
+returns-clause-same_store g c = same g (goal.at.returns-clause-same_store g c).After-insert_by
+
+pub returns-clause-refused : goal.returns-clause-refused
+returns-clause-refused g c =
+    let at = (goal.at.returns-clause-refused g c).After-insert_by in
+    let kept = framed-refused (coding g) _ c.args.key.now c.args.value.now c.insert_by.result _ (framed g at) in
+    on_err_weaker c.insert_by.result
+    (λ kept. held_same_bytes g.D.ByteStoreMut.holding g.D.ByteStore.bytes g.met.D.ByteStoreMut.held_same c.args.self.now c.insert_by.new.self (same g at) kept) kept

@@ -19,18 +19,25 @@ invariant_of-self g c =
     let P = c.self.invariant.0 in
     let is = c.self.invariant.1 in
     let grown = c.in-Ok.ensures.ok P (record { valid = is.valid; bytes = sym c.self.view_is ∙ is.bytes }) in
-    let insert = c.in-Ok-insert.ensures.ok grown.0 grown.2 in
+    let insert = c.in-Ok-insert.ensures.inserted grown.0 grown.2 in
     (insert.table, insert.image)
 
-pub returns-clause-ok : goal.returns-clause-ok
-returns-clause-ok g c P is full =
+pub returns-clause-former : goal.returns-clause-former
+returns-clause-former g c P is full =
     let F : Format = format_of g.C.EncodedKey.ByteArray.LEN g.C.EncodedValue.ByteArray.LEN g.C.H.HashFn.hash in
     let p : Pair = record { key = g.C.EncodedKey.ByteArray.bytes (g.C.Config.encode_key c.args.key.now); value = g.C.EncodedValue.ByteArray.bytes (g.C.Config.encode_value c.args.value.now) } in
     let grown = c.in-Ok.ensures.ok P is in
-    let insert = c.in-Ok-insert.ensures.ok grown.0 grown.2 in
+    let maps = grown_maps F P p is.valid grown.0 grown.1 in
+    c.in-Ok-insert.ensures.former grown.0 grown.2 ∙ ap (option_map (λ b. g.C.Config.decode_value (g.C.EncodedValue.ByteArray.of_bytes b))) (maps p.key)
+
+pub returns-clause-inserted : goal.returns-clause-inserted
+returns-clause-inserted g c P is full =
+    let F : Format = format_of g.C.EncodedKey.ByteArray.LEN g.C.EncodedValue.ByteArray.LEN g.C.H.HashFn.hash in
+    let p : Pair = record { key = g.C.EncodedKey.ByteArray.bytes (g.C.Config.encode_key c.args.key.now); value = g.C.EncodedValue.ByteArray.bytes (g.C.Config.encode_value c.args.value.now) } in
+    let grown = c.in-Ok.ensures.ok P is in
+    let insert = c.in-Ok-insert.ensures.inserted grown.0 grown.2 in
     let maps = grown_maps F P p is.valid grown.0 grown.1 in
     record {
-      former = insert.former ∙ ap (option_map (λ b. g.C.Config.decode_value (g.C.EncodedValue.ByteArray.of_bytes b))) (maps p.key);
       table = insert.table;
       inserted = insert_owned-grown F P p is.valid grown.0 full grown.1 ∙ insert.inserted;
       image = insert.image;
