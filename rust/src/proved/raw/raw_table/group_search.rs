@@ -33,9 +33,20 @@ pub fn search_hashed<K: ByteArray, V: ByteArray, H: HashFn, Q: Group>(
     key: &K,
     hash: u32,
 ) -> Search {
+    search_keys::<Entries<'_, K, V>, H, Q>(scan, entries, key, hash)
+}
+
+/// `search` of a key whose hash is known, among the keys of whatever holds them.
+#[inline(always)]
+pub(super) fn search_keys<E: SlotKeys, H: HashFn, Q: Group>(
+    scan: &mut Scan<'_>,
+    keys: &E,
+    key: &E::Key,
+    hash: u32,
+) -> Search {
     let mask = scan.slots() - 1;
     let probe = ProbeSeq::<REFERENCE_GROUP_SIZE>::new(hash as usize, mask);
-    search_from::<Entries<'_, K, V>, H, Q>(scan, probe, entries, key, tag_of(hash))
+    search_from::<E, H, Q>(scan, probe, keys, key, tag_of(hash))
 }
 
 // The rest of a search that is under way, from the group at the probe on.
