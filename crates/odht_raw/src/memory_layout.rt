@@ -7,6 +7,7 @@ mod check;
 mod new_tables;
 mod prefix;
 mod sized;
+mod sized_check;
 
 pub use crate::raw_table::{Entries, EntryMetadata};
 pub use allocation::Allocation;
@@ -16,3 +17,4 @@ pub use odht_header::header::{HEADER_SIZE, Header, LEAST_FACTOR, is_accepted, wr
 pub use odht_header::sizes::{bytes_needed, entry_at, layout_for};
 pub use prefix::table_len;
 pub use sized::{check_by_header, check_opening, sized_parts};
+pub use sized_check::check_sized;

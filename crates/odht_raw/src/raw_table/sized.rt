@@ -272,7 +272,7 @@ impl<'a, H: HashFn> SizedTable<'a, H> {
 
     // What opening checks of one slot. Answers the hash of the key where the slot does not count as free.
     #[inline(always)]
-    fn check_slot(&self, slot: usize) -> Result<Option<u32>, Error>
+    pub(super) fn check_slot(&self, slot: usize) -> Result<Option<u32>, Error>
         requires { slot < self.now.parts.entries.slots }
         ensures err { let F = sized_format self.now H.hash
             in result_err result
