@@ -16,6 +16,7 @@ mod shim;
 
 mod config;
 pub mod configs;
+pub mod dynamic;
 mod fixed;
 mod iter;
 mod opened;

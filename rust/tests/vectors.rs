@@ -6,6 +6,7 @@ mod common;
 mod vector_files;
 
 use common::configs::Plain;
+use odht::dynamic::{DynTable, Layout};
 use odht::{
     check_all_within, try_bytes_needed, Error, FxHashFn, HashFn, HashTable, HashTableOwned,
     UnHashFn,
@@ -88,6 +89,13 @@ fn check<const K: usize, const V: usize, H: HashFn>(table: &View<K, V, H>) -> An
     Answer::of(found)
 }
 
+// The same table, whose lengths are numbers.
+fn by_numbers<const K: usize, const V: usize, H: HashFn>(
+    table: &View<K, V, H>,
+) -> DynTable<H, &[u8]> {
+    DynTable::open_as_stated(table.raw_bytes()).expect("the bytes of a view")
+}
+
 // A call on a view, which is opened.
 fn look<const K: usize, const V: usize, H: HashFn>(
     case: &Case<'_>,
@@ -95,13 +103,22 @@ fn look<const K: usize, const V: usize, H: HashFn>(
 ) -> Option<Answer> {
     let value_or = |value: Option<[u8; V]>| value.map_or("none".to_string(), |it| written(&it));
     Some(match case.call {
-        "open" => Answer::word("ok"),
+        "open" => {
+            assert_eq!(by_numbers(table).layout(), Layout::of::<Plain<K, V, H>>());
+            Answer::word("ok")
+        }
         "check" => check(table),
         "verify" => Answer::word(table.verify()),
-        "len" => Answer::word(table.len()),
+        "len" => {
+            assert_eq!(by_numbers(table).len(), table.len());
+            Answer::word(table.len())
+        }
         "walk" => {
             let pair = |(key, value): ([u8; K], [u8; V])| written(&key) + ":" + &written(&value);
             let pairs: Vec<String> = table.iter().map(pair).collect();
+            let stored = by_numbers(table);
+            let stored = stored.iter().map(|(key, value)| written(key) + ":" + &written(value));
+            assert!(stored.eq(pairs.iter().cloned()));
             if pairs.is_empty() {
                 Answer::word("none")
             } else {
@@ -113,6 +130,8 @@ fn look<const K: usize, const V: usize, H: HashFn>(
             let (value, groups) = table.get_counted(&key);
             assert_eq!(table.get(&key), value);
             assert_eq!(table.contains_key(&key), value.is_some());
+            let counted = (value.as_ref().map(|it| &it[..]), groups);
+            assert_eq!(by_numbers(table).get_counted(&key), counted);
             Answer::words([value_or(value), groups.to_string()])
         }
         _ => return None,
@@ -151,7 +170,12 @@ fn run_in<const K: usize, const V: usize, H: HashFn>(case: &Case<'_>) -> bool {
     let answer = if VIEW_CALLS.contains(&case.call) {
         match View::<K, V, H>::from_raw_bytes(case.bytes(0)) {
             Ok(table) => look(case, &table).or_else(|| insert(case, table)),
-            Err(error) => Some(Answer::word(error)),
+            Err(error) => {
+                let layout = Layout::of::<Plain<K, V, H>>();
+                let opened = DynTable::<H, _>::open(layout, case.bytes(0));
+                assert_eq!(opened.err().map(|it| it.to_string()), Some(error.to_string()));
+                Some(Answer::word(error))
+            }
         }
     } else {
         make::<K, V, H>(case)

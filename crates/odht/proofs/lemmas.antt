@@ -21,3 +21,7 @@ pub mod LosslessPairs
 pub mod Rebuilding
 -- lookups of many keys
 pub mod Lookups
+-- lookups of keys that are lists of bytes
+pub mod DynLookups
+-- valid bytes, opened with the lengths that their header states
+pub mod DynOpens

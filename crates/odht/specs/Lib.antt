@@ -21,3 +21,5 @@ pub mod Gets
 pub mod Reserves
 -- tables that are the same map
 pub mod Equality
+-- tables whose lengths of keys and values are known at run time alone
+pub mod Dynamic

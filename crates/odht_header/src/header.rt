@@ -1,7 +1,9 @@
 //! The header of a table: its fields at their offsets, how it is written, and how it is checked.
 //!
 //! The fields are those of docs/FORMAT.md, "Layout".
-ghost use Rattle.std.specs.Prelude.{◌≡◌, ◌+◌, ◌-◌, ◌*◌, ◌<◌, ◌≤◌, length, slice_index, IfOk};
+ghost use Rattle.std.specs.Prelude.{◌≡◌, ◌+◌, ◌-◌, ◌*◌, ◌<◌, ◌≤◌, ℕ, List, length, slice_index};
+ghost use Rattle.std.specs.Prelude.{IfOk};
+ghost use Rattle.odht_base.specs.Format.{format_of};
 ghost use Rattle.odht_base.specs.Bytes.{bytes_at};
 ghost use Rattle.odht_base.specs.Image.{header_bytes, image_len};
 ghost use Rattle.odht_base.specs.Decoded.{header_count, header_slots, header_factor};
@@ -13,11 +15,11 @@ ghost use Rattle.odht_header.specs.Refusals.{field_refusal, header_refusal, fron
 ghost use Rattle.odht_header.specs.Refusals.{factor_refusal, padding_refusal};
 ghost use Rattle.odht_header.specs.Refusals.{count_refusal, room_refusal};
 
-use crate::bytes::{ByteArray, read_u64, write_slice};
+use crate::bytes::{read_u64, write_slice};
 use crate::config::{Coded, Config};
 use crate::error::{Error, Part};
+use crate::layout::Layout;
 use crate::load::{Factor, max_item_count_for};
-use crate::sizes::len_of_slots;
 use crate::swisstable_group_query::REFERENCE_GROUP_SIZE;
 use std::marker::Model;
 
@@ -95,8 +97,18 @@ impl<'a> Header<'a> {
         ensures { result
             ≡ checked (header_refusal ⟦<C as Coded>⟧.coding.format raw_bytes_len self.now) }
     {
-        self.check_fields::<C>()?;
-        self.check_length::<C>(raw_bytes_len)
+        self.check_layout(Layout::of::<C>(), raw_bytes_len)
+    }
+
+    /// [`Header::sanity_check`] as that of a table of these lengths. The hash function does not matter.
+    #[inline(always)]
+    pub fn check_layout(&self, layout: Layout, raw_bytes_len: usize) -> Result<(), Error>
+        ensures { (hash : List ℕ → ℕ)
+            → result ≡ checked (header_refusal
+            (format_of layout.key_len layout.value_len hash) raw_bytes_len self.now) }
+    {
+        self.check_fields(layout)?;
+        self.check_length(layout, raw_bytes_len)
     }
 
     /// How many bytes a table with this header has, that is at the front of `found` bytes; what follows is not the
@@ -111,9 +123,10 @@ impl<'a> Header<'a> {
         ensures err { result_err result
             ≡ front_header_refusal ⟦<C as Coded>⟧.coding.format found self.now }
     {
-        self.check_fields::<C>()?;
+        let layout = Layout::of::<C>();
+        self.check_fields(layout)?;
         let slot_count = self.slot_count();
-        let expected = len_of_slots::<C>(slot_count);
+        let expected = layout.len_of_slots(slot_count);
         if (found as u128) < expected {
             return Err(Error::WrongLength {
                 slot_count,
@@ -126,14 +139,16 @@ impl<'a> Header<'a> {
 
     // The first error of the fields: those of `sanity_check` but `WrongLength`.
     #[inline(always)]
-    fn check_fields<C: Config>(&self) -> Result<(), Error>
-        ensures { result ≡ checked (field_refusal ⟦<C as Coded>⟧.coding.format self.now) }
+    fn check_fields(&self, layout: Layout) -> Result<(), Error>
+        ensures { (hash : List ℕ → ℕ)
+            → result ≡ checked (field_refusal
+            (format_of layout.key_len layout.value_len hash) self.now) }
     {
         self.check_tag()?;
         self.check_version()?;
         self.check_metadata_size()?;
-        self.check_expected_size(KEY_SIZE_AT, Part::EncodedKey, C::EncodedKey::LEN)?;
-        self.check_expected_size(VALUE_SIZE_AT, Part::EncodedValue, C::EncodedValue::LEN)?;
+        self.check_expected_size(KEY_SIZE_AT, Part::EncodedKey, layout.key_len as usize)?;
+        self.check_expected_size(VALUE_SIZE_AT, Part::EncodedValue, layout.value_len as usize)?;
         self.check_header_size()?;
         self.check_slot_count()
     }
@@ -228,11 +243,13 @@ impl<'a> Header<'a> {
 
     // Whether a table of the header's slot count has so many bytes; else `WrongLength`.
     #[inline(always)]
-    fn check_length<C: Config>(&self, found: usize) -> Result<(), Error>
-        ensures { result ≡ checked (length_refusal ⟦<C as Coded>⟧.coding.format found self.now) }
+    fn check_length(&self, layout: Layout, found: usize) -> Result<(), Error>
+        ensures { (hash : List ℕ → ℕ)
+            → result ≡ checked (length_refusal
+            (format_of layout.key_len layout.value_len hash) found self.now) }
     {
         let slot_count = self.slot_count();
-        let expected = len_of_slots::<C>(slot_count);
+        let expected = layout.len_of_slots(slot_count);
         if found as u128 == expected {
             Ok(())
         } else {
@@ -343,17 +360,35 @@ pub fn write_header<C: Config>(
     ensures { header.new
         ≡ header_bytes ⟦<C as Coded>⟧.coding.format slot_count item_count max_load_factor.0 }
 {
-    let sizes = [
-        METADATA_SIZE as u8,
-        C::EncodedKey::LEN as u8,
-        C::EncodedValue::LEN as u8,
-        HEADER_SIZE as u8,
-    ];
-    write_slice(header, TAG_AT, &HEADER_TAG);
-    write_slice(header, METADATA_SIZE_AT, &sizes);
-    write_slice(header, ITEM_COUNT_AT, &(item_count as u64).to_le_bytes());
-    write_slice(header, SLOT_COUNT_AT, &(slot_count as u64).to_le_bytes());
-    write_slice(header, VERSION_AT, &CURRENT_FILE_FORMAT_VERSION);
-    write_slice(header, LOAD_FACTOR_AT, &max_load_factor.0.to_le_bytes());
-    write_slice(header, PADDING_AT, &[0, 0]);
+    Layout::of::<C>().write_header(header, slot_count, item_count, max_load_factor);
+}
+
+impl Layout {
+    /// [`write_header`] of a table of these lengths.
+    pub fn write_header(
+        self,
+        header: &mut [u8],
+        slot_count: usize,
+        item_count: usize,
+        max_load_factor: Factor,
+    )
+        requires { length header.old ≡ 32 }
+        ensures { (hash : List ℕ → ℕ)
+            → header.new ≡ header_bytes (format_of self.key_len self.value_len hash)
+            slot_count item_count max_load_factor.0 }
+    {
+        let sizes = [
+            METADATA_SIZE as u8,
+            self.key_len,
+            self.value_len,
+            HEADER_SIZE as u8,
+        ];
+        write_slice(header, TAG_AT, &HEADER_TAG);
+        write_slice(header, METADATA_SIZE_AT, &sizes);
+        write_slice(header, ITEM_COUNT_AT, &(item_count as u64).to_le_bytes());
+        write_slice(header, SLOT_COUNT_AT, &(slot_count as u64).to_le_bytes());
+        write_slice(header, VERSION_AT, &CURRENT_FILE_FORMAT_VERSION);
+        write_slice(header, LOAD_FACTOR_AT, &max_load_factor.0.to_le_bytes());
+        write_slice(header, PADDING_AT, &[0, 0]);
+    }
 }

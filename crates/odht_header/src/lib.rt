@@ -7,4 +7,5 @@ pub use odht_base::{bytes, hash, load, swisstable_group_query};
 pub mod config;
 pub mod error;
 pub mod header;
+pub mod layout;
 pub mod sizes;

@@ -50,3 +50,5 @@ pub mod Waiting
 pub mod Frontiers
 -- where a search is expected to end
 pub mod Expected
+-- the parts of a table whose lengths of keys and values are numbers
+pub mod Sized

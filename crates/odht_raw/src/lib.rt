@@ -3,7 +3,7 @@
 #![tactic(auto)]
 
 pub use odht_base::{bytes, hash, load, swisstable_group_query};
-pub use odht_header::{config, error};
+pub use odht_header::{config, error, layout};
 
 pub mod items;
 pub mod memory_layout;

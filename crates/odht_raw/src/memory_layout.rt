@@ -6,6 +6,8 @@ mod allocation;
 mod check;
 mod new_tables;
 mod prefix;
+mod sized;
+mod sized_check;
 
 pub use crate::raw_table::{Entries, EntryMetadata};
 pub use allocation::Allocation;
@@ -14,3 +16,5 @@ pub use new_tables::{allocate, clear_entries, init_in_place, write_empty};
 pub use odht_header::header::{HEADER_SIZE, Header, LEAST_FACTOR, is_accepted, write_header};
 pub use odht_header::sizes::{bytes_needed, entry_at, layout_for};
 pub use prefix::table_len;
+pub use sized::{check_by_header, check_opening, sized_parts};
+pub use sized_check::check_sized;

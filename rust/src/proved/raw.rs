@@ -3,7 +3,7 @@
 //! them.
 
 pub use crate::proved::base::{bytes, hash, load, swisstable_group_query};
-pub use crate::proved::header::{config, error};
+pub use crate::proved::header::{config, error, layout};
 
 pub mod items;
 pub mod memory_layout;

@@ -4,6 +4,7 @@
 use super::configs::Plain;
 use super::random::Random;
 use super::reading::{Format, Hash, Reading};
+use odht::dynamic::{DynError, DynTable, Layout};
 use odht::{check_all, check_all_within, table_len, Error, FxHashFn};
 use odht::{HashFn, HashTable, HashTableOwned, UnHashFn};
 
@@ -44,6 +45,7 @@ pub fn calls_stay_in_frame<const K: usize, const V: usize, H: Named>(
     assert_eq!(text(View::<K, V, H>::try_from_raw_bytes(bytes)), opening);
     assert_eq!(text(check_all::<Plain<K, V, H>>(bytes)), whole);
     fronts_are_read::<K, V, H>(&reading);
+    lengths_as_numbers::<K, V, H>(&reading, random);
     let owned = HashTableOwned::<Plain<K, V, H>>::from_raw_bytes(bytes);
     assert_eq!(text(owned.as_ref()), whole);
     if let Ok(owned) = owned {
@@ -58,6 +60,35 @@ pub fn calls_stay_in_frame<const K: usize, const V: usize, H: Named>(
         grows(&view, &reading);
     }
     whole
+}
+
+// A table whose lengths are numbers is opened where the view is, with the same error, and returns what that returns.
+fn lengths_as_numbers<const K: usize, const V: usize, H: Named>(
+    reading: &Reading<'_>,
+    random: &mut Random,
+) {
+    let layout = Layout { key_len: K as u8, value_len: V as u8 };
+    let opened = DynTable::<H, _>::open(layout, reading.bytes);
+    let stated = DynTable::<H, _>::open_as_stated(reading.bytes);
+    let (table, view) = match (opened, View::<K, V, H>::try_from_raw_bytes(reading.bytes)) {
+        (Ok(table), Ok(view)) => (table, view),
+        (opened, view) => {
+            assert_eq!(opened.err(), view.err().map(DynError::Rejected));
+            assert!(stated.map_or(true, |table| table.layout() != layout));
+            return;
+        }
+    };
+    assert_eq!(stated.unwrap().layout(), layout);
+    assert_eq!(table.len(), view.len());
+    let typed: Vec<_> = view.iter_from(0).collect();
+    let typed = typed.iter().map(|(slot, (key, value))| (*slot, (&key[..], &value[..])));
+    assert!(table.iter_from(0).eq(typed));
+    for _ in 0..10 {
+        let key: [u8; K] = some_key(reading, random);
+        let (value, groups) = view.get_counted(&key);
+        assert_eq!(table.get_counted(&key), (value.as_ref().map(|it| &it[..]), groups));
+        assert_eq!(table.get_counted(&[&key[..], &[0]].concat()), (None, 0));
+    }
 }
 
 // Compares what the calls with a bound of searches say of the bytes, and of the view, if there is one, with the second

@@ -37,7 +37,7 @@ const PLAN: Plan<'static> = Plan {
         "odht_raw/raw_table/scan",
         "odht_raw/raw_table/walk",
     ],
-    open_enums: &[("odht_header/error", "Error")],
+    open_enums: &[("odht/dynamic", "DynError"), ("odht_header/error", "Error")],
     texts: &[("odht_tool_core/help", "MADE", "\"erased\"")],
 };
 

@@ -41,11 +41,11 @@ range-append a (suc m) n =
     let z : suc m + n ≡ suc (m + n) = omega arith in
     rw z (ap (λ xs. a ∷ xs) (range-append (a + 1) m n ∙ ap (λ b. range_with_len (a + 1) m ++ range_with_len b n) e))
 
-zero_add : (i : ℕ) → 0 + i ≡ i
+pub zero_add : (i : ℕ) → 0 + i ≡ i
 zero_add i = omega arith
 
 -- a range without its first numbers
-drop-range : (m a n : ℕ) → drop m (range_with_len a n) ≡ range_with_len (a + m) (n - m)
+pub drop-range : (m a n : ℕ) → drop m (range_with_len a n) ≡ range_with_len (a + m) (n - m)
 drop-range zero a n = let start : a ≡ a + 0 = omega arith in let all : n ≡ n - 0 = omega arith in λ i. range_with_len (start i) (all i)
 drop-range (suc m) a zero = let none : 0 - suc m ≡ 0 = omega arith in rw none refl
 drop-range (suc m) a (suc n) =

@@ -51,8 +51,25 @@ pub fn search_hashed<K: ByteArray, V: ByteArray, H: HashFn, Q: Group>(
     ensures { IsSearch (format_of K.LEN V.LEN H.hash) entries.now (K.bytes key.now)
         scan.old scan.new result }
 {
+    search_keys::<Entries<'_, K, V>, H, Q>(scan, entries, key, hash)
+}
+
+/// `search` of a key whose hash is known, among the keys of whatever holds them.
+#[inline(always)]
+pub(super) fn search_keys<E: SlotKeys, H: HashFn, Q: Group>(
+    scan: &mut Scan<'_>,
+    keys: &E,
+    key: &E::Key,
+    hash: u32,
+) -> Search
+    requires format { IsFormat (hashed_by H.hash (E.format keys.now)) }
+    requires mirrored { length scan.old.control ≡ (E.entries keys.now).slots + 16 }
+    requires hash { hash ≡ H.hash (E.key_bytes key.now) }
+    ensures { let F = hashed_by H.hash (E.format keys.now)
+        in IsSearch F (E.entries keys.now) (E.key_bytes key.now) scan.old scan.new result }
+{
     let mut probe = GroupProbe::over(scan.copy(), hash as usize);
-    let end = search_from::<Entries<'_, K, V>, H, Q>(&mut probe, entries, key, tag_of(hash));
+    let end = search_from::<E, H, Q>(&mut probe, keys, key, tag_of(hash));
     scan.set_groups(probe.groups());
     end
 }

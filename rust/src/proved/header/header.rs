@@ -3,11 +3,11 @@
 //!
 //! The fields are those of docs/FORMAT.md, "Layout".
 
-use crate::proved::header::bytes::{read_u64, write_slice, ByteArray};
+use crate::proved::header::bytes::{read_u64, write_slice};
 use crate::proved::header::config::Config;
 use crate::proved::header::error::{Error, Part};
+use crate::proved::header::layout::Layout;
 use crate::proved::header::load::{max_item_count_for, Factor};
-use crate::proved::header::sizes::len_of_slots;
 use crate::proved::header::swisstable_group_query::REFERENCE_GROUP_SIZE;
 
 mod words;
@@ -67,8 +67,14 @@ impl<'a> Header<'a> {
     /// wrap.
     #[inline(always)]
     pub fn sanity_check<C: Config>(&self, raw_bytes_len: usize) -> Result<(), Error> {
-        self.check_fields::<C>()?;
-        self.check_length::<C>(raw_bytes_len)
+        self.check_layout(Layout::of::<C>(), raw_bytes_len)
+    }
+
+    /// [`Header::sanity_check`] as that of a table of these lengths. The hash function does not matter.
+    #[inline(always)]
+    pub fn check_layout(&self, layout: Layout, raw_bytes_len: usize) -> Result<(), Error> {
+        self.check_fields(layout)?;
+        self.check_length(layout, raw_bytes_len)
     }
 
     /// How many bytes a table with this header has, that is at the front of `found` bytes; what follows is not the
@@ -78,9 +84,10 @@ impl<'a> Header<'a> {
     /// The length is computed in 128 bits, so a forged slot count cannot make it wrap. Constant time.
     #[inline]
     pub fn table_len<C: Config>(&self, found: usize) -> Result<usize, Error> {
-        self.check_fields::<C>()?;
+        let layout = Layout::of::<C>();
+        self.check_fields(layout)?;
         let slot_count = self.slot_count();
-        let expected = len_of_slots::<C>(slot_count);
+        let expected = layout.len_of_slots(slot_count);
         if (found as u128) < expected {
             return Err(Error::WrongLength { slot_count, found, expected });
         }
@@ -89,12 +96,12 @@ impl<'a> Header<'a> {
 
     // The first error of the fields: those of `sanity_check` but `WrongLength`.
     #[inline(always)]
-    fn check_fields<C: Config>(&self) -> Result<(), Error> {
+    fn check_fields(&self, layout: Layout) -> Result<(), Error> {
         self.check_tag()?;
         self.check_version()?;
         self.check_metadata_size()?;
-        self.check_expected_size(KEY_SIZE_AT, Part::EncodedKey, C::EncodedKey::LEN)?;
-        self.check_expected_size(VALUE_SIZE_AT, Part::EncodedValue, C::EncodedValue::LEN)?;
+        self.check_expected_size(KEY_SIZE_AT, Part::EncodedKey, layout.key_len as usize)?;
+        self.check_expected_size(VALUE_SIZE_AT, Part::EncodedValue, layout.value_len as usize)?;
         self.check_header_size()?;
         self.check_slot_count()
     }
@@ -168,9 +175,9 @@ impl<'a> Header<'a> {
 
     // Whether a table of the header's slot count has so many bytes; else `WrongLength`.
     #[inline(always)]
-    fn check_length<C: Config>(&self, found: usize) -> Result<(), Error> {
+    fn check_length(&self, layout: Layout, found: usize) -> Result<(), Error> {
         let slot_count = self.slot_count();
-        let expected = len_of_slots::<C>(slot_count);
+        let expected = layout.len_of_slots(slot_count);
         if found as u128 == expected {
             Ok(())
         } else {
@@ -259,17 +266,25 @@ pub fn write_header<C: Config>(
     item_count: usize,
     max_load_factor: Factor,
 ) {
-    let sizes = [
-        METADATA_SIZE as u8,
-        C::EncodedKey::LEN as u8,
-        C::EncodedValue::LEN as u8,
-        HEADER_SIZE as u8,
-    ];
-    write_slice(header, TAG_AT, &HEADER_TAG);
-    write_slice(header, METADATA_SIZE_AT, &sizes);
-    write_slice(header, ITEM_COUNT_AT, &(item_count as u64).to_le_bytes());
-    write_slice(header, SLOT_COUNT_AT, &(slot_count as u64).to_le_bytes());
-    write_slice(header, VERSION_AT, &CURRENT_FILE_FORMAT_VERSION);
-    write_slice(header, LOAD_FACTOR_AT, &max_load_factor.0.to_le_bytes());
-    write_slice(header, PADDING_AT, &[0, 0]);
+    Layout::of::<C>().write_header(header, slot_count, item_count, max_load_factor);
+}
+
+impl Layout {
+    /// [`write_header`] of a table of these lengths.
+    pub fn write_header(
+        self,
+        header: &mut [u8],
+        slot_count: usize,
+        item_count: usize,
+        max_load_factor: Factor,
+    ) {
+        let sizes = [METADATA_SIZE as u8, self.key_len, self.value_len, HEADER_SIZE as u8];
+        write_slice(header, TAG_AT, &HEADER_TAG);
+        write_slice(header, METADATA_SIZE_AT, &sizes);
+        write_slice(header, ITEM_COUNT_AT, &(item_count as u64).to_le_bytes());
+        write_slice(header, SLOT_COUNT_AT, &(slot_count as u64).to_le_bytes());
+        write_slice(header, VERSION_AT, &CURRENT_FILE_FORMAT_VERSION);
+        write_slice(header, LOAD_FACTOR_AT, &max_load_factor.0.to_le_bytes());
+        write_slice(header, PADDING_AT, &[0, 0]);
+    }
 }

@@ -4,17 +4,14 @@
 use crate::proved::header::bytes::ByteArray;
 use crate::proved::header::config::Config;
 use crate::proved::header::header::HEADER_SIZE;
+use crate::proved::header::layout::Layout;
 use crate::proved::header::load::{slots_needed, Factor};
 use crate::proved::header::swisstable_group_query::REFERENCE_GROUP_SIZE;
 
 /// How many bytes a table of `slot_count` slots has. None exactly where that passes `usize::MAX`.
 #[inline]
 pub fn bytes_needed<C: Config>(slot_count: usize) -> Option<usize> {
-    let len = len_of_slots::<C>(slot_count);
-    if len > usize::MAX as u128 {
-        return None;
-    }
-    Some(len as usize)
+    Layout::of::<C>().bytes_needed(slot_count)
 }
 
 /// The slot count of a new table for `max_item_count` items, and its length in bytes. None exactly where no slot count
@@ -23,9 +20,44 @@ pub fn layout_for<C: Config>(
     max_item_count: usize,
     max_load_factor: Factor,
 ) -> Option<(usize, usize)> {
-    let slot_count = slots_needed(max_item_count, max_load_factor)?;
-    let len = bytes_needed::<C>(slot_count)?;
-    Some((slot_count, len))
+    Layout::of::<C>().table_for(max_item_count, max_load_factor)
+}
+
+impl Layout {
+    /// [`bytes_needed`] of a table of these lengths.
+    #[inline]
+    pub fn bytes_needed(self, slot_count: usize) -> Option<usize> {
+        let len = self.len_of_slots(slot_count);
+        if len > usize::MAX as u128 {
+            return None;
+        }
+        Some(len as usize)
+    }
+
+    /// [`layout_for`] of a table of these lengths.
+    pub fn table_for(
+        self,
+        max_item_count: usize,
+        max_load_factor: Factor,
+    ) -> Option<(usize, usize)> {
+        let slot_count = slots_needed(max_item_count, max_load_factor)?;
+        let len = self.bytes_needed(slot_count)?;
+        Some((slot_count, len))
+    }
+
+    // How many bytes a table of `slot_count` slots has.
+    #[inline(always)]
+    pub(crate) fn len_of_slots(self, slot_count: usize) -> u128 {
+        let entry = self.entry_len() as u128;
+        let slots = slot_count as u128;
+        HEADER_SIZE as u128 + slots * entry + slots + REFERENCE_GROUP_SIZE as u128
+    }
+
+    /// Where the entry of a slot begins in the bytes of a table; for the number of slots, where the control bytes begin.
+    #[inline(always)]
+    pub fn entry_at(self, slot: usize) -> usize {
+        HEADER_SIZE + slot * self.entry_len()
+    }
 }
 
 /// Where the entry of a slot begins in the bytes of a table; for the number of slots, where the control bytes begin.
@@ -35,9 +67,7 @@ pub fn entry_at<C: Config>(slot: usize) -> usize {
 }
 
 // How many bytes a table of `slot_count` slots has.
-#[inline]
+#[inline(always)]
 pub(crate) fn len_of_slots<C: Config>(slot_count: usize) -> u128 {
-    let entry = C::EncodedKey::LEN as u128 + C::EncodedValue::LEN as u128;
-    let slots = slot_count as u128;
-    HEADER_SIZE as u128 + slots * entry + slots + REFERENCE_GROUP_SIZE as u128
+    Layout::of::<C>().len_of_slots(slot_count)
 }

@@ -13,7 +13,7 @@ mod inserts;
 mod writing;
 
 // How many slots are checked when a view is opened.
-const SLOTS_TO_CHECK: usize = 10;
+pub(super) const SLOTS_TO_CHECK: usize = 10;
 
 /// A store of the bytes of a table, whose header and length fit. In a contract it is the store.
 pub struct Allocation<C: Config, M: ByteStore> {

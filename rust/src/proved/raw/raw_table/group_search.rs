@@ -33,8 +33,19 @@ pub fn search_hashed<K: ByteArray, V: ByteArray, H: HashFn, Q: Group>(
     key: &K,
     hash: u32,
 ) -> Search {
+    search_keys::<Entries<'_, K, V>, H, Q>(scan, entries, key, hash)
+}
+
+/// `search` of a key whose hash is known, among the keys of whatever holds them.
+#[inline(always)]
+pub(super) fn search_keys<E: SlotKeys, H: HashFn, Q: Group>(
+    scan: &mut Scan<'_>,
+    keys: &E,
+    key: &E::Key,
+    hash: u32,
+) -> Search {
     let mut probe = GroupProbe::over(scan.copy(), hash as usize);
-    let end = search_from::<Entries<'_, K, V>, H, Q>(&mut probe, entries, key, tag_of(hash));
+    let end = search_from::<E, H, Q>(&mut probe, keys, key, tag_of(hash));
     scan.set_groups(probe.groups());
     end
 }

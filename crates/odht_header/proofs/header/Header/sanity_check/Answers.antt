@@ -1,19 +1,10 @@
-use Rattle.std.proofs.Common.{rules, ◌≡◌, ◌∙◌, sym, ap, Err}
-use Rattle.odht_base.specs.Format.{Format, format_of}
-use Rattle.odht_header.specs.Refusals.{checked}
-use Rattle.odht_header.proofs.lemmas.FirstErrors.{option_or-first, option_or-second, Ok-checked, Err-checked}
-use Rattle.odht_header.proofs.lemmas.HeaderChecks.{header_refusal-fields}
+use Rattle.std.proofs.Common.{◌∙◌}
+use Rattle.odht_base.specs.Format.{format_of}
+use Rattle.odht_header.specs.Refusals.{checked, header_refusal}
 use Rattle.odht_header.proofs.header.Header.sanity_check.Goals as goal
-
-pub returns-in_err-check_fields : goal.returns-in_err-check_fields
-returns-in_err-check_fields g c =
-    let F : Format = format_of g.C.EncodedKey.ByteArray.LEN g.C.EncodedValue.ByteArray.LEN g.C.H.HashFn.hash in
-    let x = c.in_err-check_fields.field-0.0 in
-    let refusal : c.from_residual.result ≡ Err x = search rules in
-    refusal ∙ sym (ap checked (header_refusal-fields F c.args.raw_bytes_len c.args.self.now ∙ option_or-first _ _ x (Err-checked _ x (sym c.in_err-check_fields.was ∙ c.check_fields.ensures))))
 
 pub returns : goal.returns
 returns g c =
-    let F : Format = format_of g.C.EncodedKey.ByteArray.LEN g.C.EncodedValue.ByteArray.LEN g.C.H.HashFn.hash in
-    let passed = Ok-checked _ (sym c.in_ok-check_fields.was ∙ c.check_fields.ensures) in
-    c.check_length.ensures ∙ sym (ap checked (header_refusal-fields F c.args.raw_bytes_len c.args.self.now ∙ option_or-second _ _ passed))
+    let hash = g.C.H.HashFn.hash in
+    c.check_layout.ensures hash
+    ∙ (λ i. checked (header_refusal (format_of (c.of.ensures.key i) (c.of.ensures.value i) hash) c.args.raw_bytes_len c.args.self.now))

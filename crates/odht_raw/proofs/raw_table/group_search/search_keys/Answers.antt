@@ -1,16 +1,17 @@
 use Rattle.std.proofs.Common.{◌≡◌, ◌∙◌, sym, ap, subst, arith, List, ℕ}
-use Rattle.odht_base.specs.Format.{Format, format_of}
+use Rattle.odht_base.specs.Format.{Format}
 use Rattle.odht_base.specs.Valid.{IsPartsOf}
+use Rattle.odht_raw.specs.Parts.{hashed_by}
 use Rattle.odht_raw.specs.Searches.{IsSearchEnd}
 use Rattle.odht_raw.proofs.lemmas.Lookups.{answer-IsWherePlaced}
-use Rattle.odht_raw.proofs.raw_table.group_search.search_hashed.Goals as goal
+use Rattle.odht_raw.proofs.raw_table.group_search.search_keys.Goals as goal
 
 -- the rest of a search from its first position is the search
 pub returns : goal.returns
 returns g c =
-    let F : Format = format_of g.K.ByteArray.LEN g.V.ByteArray.LEN g.H.HashFn.hash in
-    let E = c.args.entries.now in
-    let k : List ℕ = g.K.ByteArray.bytes c.args.key.now in
+    let F : Format = hashed_by g.H.HashFn.hash (g.E.SlotKeys.format c.args.keys.now) in
+    let E = g.E.SlotKeys.entries c.args.keys.now in
+    let k : List ℕ = g.E.SlotKeys.key_bytes c.args.key.now in
     let rest = c.search_from-end.ensures in
     let first : c.over-probe.result.position ≡ 0 = ap (λ q. q.position) c.over-probe.ensures in
     let read : c.over-probe.result.groups ≡ c.args.scan.now.groups = ap (λ q. q.groups) c.over-probe.ensures ∙ ap (λ s. s.groups) c.copy.ensures in

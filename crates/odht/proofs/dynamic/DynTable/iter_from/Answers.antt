@@ -1,0 +1,14 @@
+use Rattle.std.proofs.Common.{◌∙◌, ap, drop}
+use Rattle.odht_base.specs.SlotWalks.{numbered}
+use Rattle.odht_raw.specs.Checks.{cells_of}
+use Rattle.odht_raw.specs.Sized.{SizedParts, sized_format}
+use Rattle.odht_raw.proofs.lemmas.Walks.{slots-image}
+use Rattle.odht.specs.Dynamic.{dyn_format}
+use Rattle.odht.proofs.dynamic.DynTable.iter_from.Goals as goal
+
+pub returns-clause-on_any : goal.returns-clause-on_any
+returns-clause-on_any g c =
+    c.iter_from.ensures.items ∙ ap (λ (S : SizedParts). numbered c.args.from (drop c.args.from (cells_of (sized_format S g.H.HashFn.hash) S.parts))) c.as_sized.ensures.parts
+
+pub returns-clause-on_valid : goal.returns-clause-on_valid
+returns-clause-on_valid g c P is = returns-clause-on_any g c ∙ slots-image (dyn_format c.args.self.now g.H.HashFn.hash) P _ c.args.from c.as_sized.ensures.format is

@@ -1,0 +1,47 @@
+-- Tables whose lengths of keys and values are known at run time alone. Their keys and values are lists of bytes.
+--     DynStore D           a table's lengths, and its store
+--     dyn_format t h       the format of these lengths and of the hash h
+--     dyn_coding t h       the coding of this format that leaves lists of bytes as they are
+--     IsOpened ml h bytes t  header and length of the table's bytes fit, and its keys are long enough for the hash h, which
+--                          needs ml bytes; `bytes` has the bytes of a store
+--     dyn_refusal ml F B   the error of opening: a key length below ml, then those of opening a view
+--     stated_format h B    the format of the lengths that the header of B states, and of the hash h
+--     stated_refusal ml h B  the error of opening bytes as a table of these lengths: those of header and length, then a
+--                          key length below ml, then those of the first slots
+use Rattle.std.specs.Prelude.{ℕ, ◌<◌, ◌≤◌, ◌^◌, nat_lt, List, length, slice_index, Option, option_map}
+use Rattle.std.specs.Bool.{then_some}
+use Rattle.std.specs.Option.{option_or}
+use Rattle.odht_base.specs.Format.{Format, format_of}
+use Rattle.odht_header.specs.Coding.{Coding}
+use Rattle.odht_header.specs.Refusals.{opening_refusal, view_refusal}
+use Rattle.odht_raw.specs.Frame.{IsAccepted}
+use Rattle.odht_raw.specs.Sized.{bytes_coding}
+use Rattle.odht.specs.declared.dynamic.DynError.{DynError}
+use Rattle.odht.specs.declared.dynamic.DynError.TheVariants.{KeyTooShort, Rejected}
+
+pub record DynStore (D : Type 0) : Type 0 where
+  pub key_len : ℕ
+  pub value_len : ℕ
+  pub store : D
+
+abbrev pub dyn_format : {D : Type 0} → DynStore D → (List ℕ → ℕ) → Format
+dyn_format t h = format_of t.key_len t.value_len h
+
+abbrev pub dyn_coding : {D : Type 0} → DynStore D → (List ℕ → ℕ) → Coding (List ℕ) (List ℕ)
+dyn_coding t h = bytes_coding (dyn_format t h)
+
+pub record IsOpened {D : Type 0} (ml : ℕ) (h : List ℕ → ℕ) (bytes : D → List ℕ) (t : DynStore D) : Type 0 where
+  pub hashes : ml ≤ t.key_len
+  pub key_short : t.key_len ≤ 255
+  pub value_short : t.value_len ≤ 255
+  pub accepted : IsAccepted (dyn_format t h) (bytes t.store)
+  pub fits : length (bytes t.store) < 2 ^ 64
+
+abbrev pub dyn_refusal : ℕ → Format → List ℕ → Option DynError
+dyn_refusal ml F B = option_or (then_some (nat_lt F.key_len ml) (KeyTooShort F.key_len ml)) (option_map Rejected (view_refusal F B))
+
+abbrev pub stated_format : (List ℕ → ℕ) → List ℕ → Format
+stated_format h B = format_of (slice_index B 5) (slice_index B 6) h
+
+abbrev pub stated_refusal : ℕ → (List ℕ → ℕ) → List ℕ → Option DynError
+stated_refusal ml h B = option_or (option_map Rejected (opening_refusal (stated_format h B) B)) (dyn_refusal ml (stated_format h B) B)

@@ -1,0 +1,269 @@
+//! Tables whose lengths of keys and values are known at run time alone, such as those of a file.
+ghost use Rattle.std.specs.Prelude.{◌≡◌, ◌≢◌, ◌≤◌, ◌↔◌, ℕ, None, All, length, slice_index};
+ghost use Rattle.std.specs.Prelude.{IfOk, IsOk, IsTrue};
+ghost use Rattle.std.specs.Option.{option_copied};
+ghost use Rattle.std.specs.Result.{result_err};
+ghost use Rattle.odht_base.specs.Decoded.{header_count, entries_of, controls_of};
+ghost use Rattle.odht_base.specs.Decoded.{decoded_pairs, decoded_table};
+ghost use Rattle.odht_base.specs.Format.{format_of, IsFormat};
+ghost use Rattle.odht_base.specs.SlotWalks.{slots_from};
+ghost use Rattle.odht_base.specs.Table.{Table, count, walk};
+ghost use Rattle.odht_base.specs.Valid.{IsImage, IsPartsOf};
+ghost use Rattle.odht_raw.specs.Dumps.{parts_of};
+ghost use Rattle.odht_raw.specs.Frame.{IsAccepted};
+ghost use Rattle.odht_raw.specs.Sized.{HasLengthsOf};
+ghost use Rattle.odht.specs.Dynamic.{dyn_coding, dyn_format, dyn_refusal, stated_refusal};
+ghost use Rattle.odht.specs.Gets.{IsGet, IsCountedGet, IsKnown};
+
+use crate::bytes::ByteStore;
+use crate::error::Error;
+use crate::hash::HashFn;
+pub use crate::layout::Layout;
+use crate::memory_layout::{HEADER_SIZE, Header, check_by_header, check_opening, sized_parts};
+use crate::raw_table::{SizedIter, SizedSlots, SizedTable};
+use std::marker::{Model, PhantomData};
+
+/// Why bytes are not opened as a table whose lengths are known at run time alone.
+#[derive(Debug, PartialEq, Eq, Drop)]
+pub enum DynError {
+    /// The keys are shorter than the hash function needs.
+    KeyTooShort {
+        /// The length of a key, in bytes.
+        key_len: u8,
+        /// How many bytes the hash function needs at least.
+        least: usize,
+    },
+    /// The error of a table of a configuration with these lengths.
+    Rejected(Error),
+}
+
+/// A table in the bytes of a store, of keys and values of the lengths that were given when it was opened. It cannot grow.
+///
+/// A contract speaks of it as of these lengths and the store.
+#[derive(Drop)]
+pub struct DynTable<H: HashFn, D: ByteStore> {
+    store: D,
+    layout: Layout,
+    hash: PhantomData<H>,
+}
+
+impl<H: HashFn, D: ByteStore> Model for DynTable<H, D> {
+    ghost use Rattle.odht.specs.Dynamic.{DynStore, IsOpened};
+
+    ghost Value = { DynStore D };
+
+    ghost view = { λ t. record {
+      key_len = t.layout.key_len;
+      value_len = t.layout.value_len;
+      store = t.store;
+    } };
+
+    ghost invariant = { λ t. IsOpened H.MIN_LEN H.hash D.bytes
+        (record {
+          key_len = t.layout.key_len;
+          value_len = t.layout.value_len;
+          store = t.store;
+        }) };
+}
+
+impl<H: HashFn, D: ByteStore> DynTable<H, D> {
+    /// Opens bytes as a table of these lengths, or returns the first error: `KeyTooShort` where the hash function needs
+    /// longer keys; then `Rejected` with that of too few bytes, of the header, of the length, of the first ten slots, as
+    /// [`HashTable::from_raw_bytes`](crate::hash_table::HashTable::from_raw_bytes) returns it. On an error the store is
+    /// dropped.
+    ///
+    /// Nothing else is checked. A table of bytes that are accepted and not valid is safe to use, but its calls keep only
+    /// what their clauses say of any bytes.
+    pub fn open(layout: Layout, data: D) -> Result<Self, DynError>
+        ensures ok { IfOk result (λ t. t ≡ record {
+          key_len = layout.key_len;
+          value_len = layout.value_len;
+          store = «data»;
+        }) }
+        ensures err { let F = format_of layout.key_len layout.value_len H.hash
+            in result_err result ≡ dyn_refusal H.MIN_LEN F (D.bytes «data») }
+        ensures valid { let F = format_of layout.key_len layout.value_len H.hash
+            in (P : Table) → H.MIN_LEN ≤ layout.key_len → IsImage F P (D.bytes «data»)
+            → IsOk result }
+    {
+        if (layout.key_len as usize) < H::MIN_LEN {
+            return Err(DynError::KeyTooShort {
+                key_len: layout.key_len,
+                least: H::MIN_LEN,
+            });
+        }
+        match check_opening::<H>(data.bytes(), layout) {
+            Ok(()) => Ok(DynTable {
+                store: data,
+                layout,
+                hash: PhantomData,
+            }),
+            Err(rejected) => Err(DynError::Rejected(rejected)),
+        }
+    }
+
+    /// [`DynTable::open`] with the lengths that the header states; [`DynTable::layout`] tells them.
+    ///
+    /// The first error: `Rejected` with that of too few bytes, of the header, of the length; then `KeyTooShort`; then
+    /// `Rejected` with that of the first ten slots. On an error the store is dropped. A header states no hash function:
+    /// a table of another one is rejected where one of the first ten slots is occupied and has another tag.
+    pub fn open_as_stated(data: D) -> Result<Self, DynError>
+        ensures ok { IfOk result (λ t. t ≡ record {
+          key_len = slice_index (D.bytes «data») 5;
+          value_len = slice_index (D.bytes «data») 6;
+          store = «data»;
+        }) }
+        ensures err { result_err result ≡ stated_refusal H.MIN_LEN H.hash (D.bytes «data») }
+        ensures valid { (key_len value_len : ℕ) (P : Table) → H.MIN_LEN ≤ key_len
+            → IsImage (format_of key_len value_len H.hash) P (D.bytes «data»)
+            → IsOk result }
+    {
+        let bytes = data.bytes();
+        let found = bytes.len();
+        if found < HEADER_SIZE {
+            return Err(DynError::Rejected(Error::TooShort { found }));
+        }
+        let header = Header::of(bytes);
+        let layout = Layout {
+            key_len: header.key_size(),
+            value_len: header.value_size(),
+        };
+        match check_by_header(bytes, layout) {
+            Ok(()) => DynTable::open(layout, data),
+            Err(rejected) => Err(DynError::Rejected(rejected)),
+        }
+    }
+
+    /// The lengths of keys and values.
+    #[inline]
+    pub fn layout(&self) -> Layout
+        ensures key { result.key_len ≡ self.now.key_len }
+        ensures value { result.value_len ≡ self.now.value_len }
+        ensures hashes { H.MIN_LEN ≤ result.key_len }
+    {
+        self.layout
+    }
+
+    /// The value of a key, or None. On valid bytes it is the value of the key's last insert; on any bytes it is one
+    /// that is stored with this very key. A key of another length has no value. [`DynTable::get_counted`] says how many
+    /// groups the search reads.
+    pub fn get(&self, key: &[u8]) -> Option<&[u8]>
+        ensures { IsGet (dyn_coding self.now H.hash) (D.bytes self.now.store) key.now
+            (option_copied result) }
+    {
+        if !self.takes(key) {
+            return None;
+        }
+        self.as_sized().find(key)
+    }
+
+    /// `get`, and how many groups of control bytes it read: on valid bytes those up to the first slot of the key's
+    /// probe order that is free or holds the key, and on any bytes at most one for sixteen slots. docs/FORMAT.md,
+    /// "Search", counts them. For a key of another length no group is read.
+    pub fn get_counted(&self, key: &[u8]) -> (Option<&[u8]>, usize)
+        ensures counted { length key.now ≡ self.now.key_len
+            → IsCountedGet (dyn_coding self.now H.hash) (D.bytes self.now.store) key.now
+            (option_copied result.0, result.1) }
+        ensures other { length key.now ≢ self.now.key_len → result ≡ (None, 0) }
+    {
+        if !self.takes(key) {
+            return (None, 0);
+        }
+        self.as_sized().find_counted(key)
+    }
+
+    // Whether the key has the length of the table's keys.
+    #[inline]
+    fn takes(&self, key: &[u8]) -> bool
+        ensures { IsTrue result ↔ (length key.now ≡ self.now.key_len) }
+    {
+        key.len() == self.layout.key_len as usize
+    }
+
+    /// Whether the key has a value. On any bytes it is true only where the entry of some slot holds this very key.
+    pub fn contains_key(&self, key: &[u8]) -> bool
+        ensures { IsKnown (dyn_coding self.now H.hash) (D.bytes self.now.store) key.now result }
+    {
+        self.get(key).is_some()
+    }
+
+    /// The keys and values of the slots whose own control byte is below 128, in slot order: on valid bytes each pair of
+    /// the table once.
+    pub fn iter(&self) -> SizedIter<'_, H>
+        ensures on_valid { (P : Table)
+            → IsImage (dyn_format self.now H.hash) P (D.bytes self.now.store)
+            → result ≡ walk P }
+        ensures on_any { result
+            ≡ decoded_pairs (dyn_format self.now H.hash) (D.bytes self.now.store) }
+        ensures lengths { All (HasLengthsOf self.now.key_len self.now.value_len) result }
+        ensures few { length result ≤ usize.MAX }
+    {
+        self.as_sized().iter()
+    }
+
+    /// The slots from slot `from` on whose own control byte is below 128, in slot order, each with its key and value:
+    /// on valid bytes each pair in these slots once. Nothing where `from` is past the last slot.
+    pub fn iter_from(&self, from: usize) -> SizedSlots<'_, H>
+        ensures on_valid { (P : Table)
+            → IsImage (dyn_format self.now H.hash) P (D.bytes self.now.store)
+            → result ≡ slots_from P from }
+        ensures on_any { result
+            ≡ slots_from (decoded_table (dyn_format self.now H.hash) (D.bytes self.now.store)) from }
+        ensures few { length result ≤ usize.MAX }
+    {
+        self.as_sized().iter_from(from)
+    }
+
+    /// The item count of the header. On valid bytes it is the number of items.
+    #[inline]
+    pub fn len(&self) -> usize
+        ensures by_header { result ≡ header_count (D.bytes self.now.store) }
+        ensures on_valid { (P : Table)
+            → IsImage (dyn_format self.now H.hash) P (D.bytes self.now.store)
+            → result ≡ count P }
+    {
+        Header::of(self.raw_bytes()).item_count()
+    }
+
+    /// All bytes. Their header and length fit.
+    #[inline]
+    pub fn raw_bytes(&self) -> &[u8]
+        ensures bytes { result.now ≡ D.bytes self.now.store }
+        ensures accepted { IsAccepted (dyn_format self.now H.hash) (D.bytes self.now.store) }
+        ensures long { 32 ≤ length result.now }
+    {
+        self.store.bytes()
+    }
+
+    /// The store, with the bytes as they are now. Their header and length fit.
+    #[inline]
+    pub fn into_data(self) -> D
+        ensures { result ≡ self.store }
+    {
+        let DynTable {
+            store,
+            layout: _,
+            hash: _,
+        } = self;
+        store
+    }
+
+    /// The parts of the table. A caller that looks up many keys calls this once.
+    #[inline]
+    pub fn as_sized(&self) -> SizedTable<'_, H>
+        ensures parts { let F = dyn_format self.now H.hash
+            in result ≡ record {
+              key_len = self.now.key_len;
+              value_len = self.now.value_len;
+              parts = parts_of F (D.bytes self.now.store);
+            } }
+        ensures on_valid { let F = dyn_format self.now H.hash
+            in let B = D.bytes self.now.store
+            in (P : Table) → IsImage F P B
+            → IsPartsOf F P (entries_of F B) (controls_of F B) }
+        ensures format { IsFormat (dyn_format self.now H.hash) }
+        ensures few { result.parts.entries.slots ≤ usize.MAX }
+    {
+        sized_parts::<H>(self.store.bytes(), self.layout)
+    }
+}

@@ -1,0 +1,148 @@
+// Made by `make rust` of crates/odht/src/dynamic.rt.
+//! Tables whose lengths of keys and values are known at run time alone, such as those of a file.
+
+use crate::proved::tables::bytes::ByteStore;
+use crate::proved::tables::error::Error;
+use crate::proved::tables::hash::HashFn;
+pub use crate::proved::tables::layout::Layout;
+use crate::proved::tables::memory_layout::{
+    check_by_header, check_opening, sized_parts, Header, HEADER_SIZE,
+};
+use crate::proved::tables::raw_table::{SizedIter, SizedSlots, SizedTable};
+use std::marker::PhantomData;
+
+/// Why bytes are not opened as a table whose lengths are known at run time alone.
+#[derive(Debug, PartialEq, Eq)]
+#[non_exhaustive]
+pub enum DynError {
+    /// The keys are shorter than the hash function needs.
+    KeyTooShort {
+        /// The length of a key, in bytes.
+        key_len: u8,
+        /// How many bytes the hash function needs at least.
+        least: usize,
+    },
+    /// The error of a table of a configuration with these lengths.
+    Rejected(Error),
+}
+
+/// A table in the bytes of a store, of keys and values of the lengths that were given when it was opened. It cannot grow.
+///
+/// A contract speaks of it as of these lengths and the store.
+pub struct DynTable<H: HashFn, D: ByteStore> {
+    store: D,
+    layout: Layout,
+    hash: PhantomData<H>,
+}
+
+impl<H: HashFn, D: ByteStore> DynTable<H, D> {
+    /// Opens bytes as a table of these lengths, or returns the first error: `KeyTooShort` where the hash function needs
+    /// longer keys; then `Rejected` with that of too few bytes, of the header, of the length, of the first ten slots, as
+    /// [`HashTable::from_raw_bytes`](crate::proved::tables::hash_table::HashTable::from_raw_bytes) returns it. On an error the store is
+    /// dropped.
+    ///
+    /// Nothing else is checked. A table of bytes that are accepted and not valid is safe to use, but its calls keep only
+    /// what their clauses say of any bytes.
+    pub fn open(layout: Layout, data: D) -> Result<Self, DynError> {
+        if (layout.key_len as usize) < H::MIN_LEN {
+            return Err(DynError::KeyTooShort { key_len: layout.key_len, least: H::MIN_LEN });
+        }
+        match check_opening::<H>(data.bytes(), layout) {
+            Ok(()) => Ok(DynTable { store: data, layout, hash: PhantomData }),
+            Err(rejected) => Err(DynError::Rejected(rejected)),
+        }
+    }
+
+    /// [`DynTable::open`] with the lengths that the header states; [`DynTable::layout`] tells them.
+    ///
+    /// The first error: `Rejected` with that of too few bytes, of the header, of the length; then `KeyTooShort`; then
+    /// `Rejected` with that of the first ten slots. On an error the store is dropped. A header states no hash function:
+    /// a table of another one is rejected where one of the first ten slots is occupied and has another tag.
+    pub fn open_as_stated(data: D) -> Result<Self, DynError> {
+        let bytes = data.bytes();
+        let found = bytes.len();
+        if found < HEADER_SIZE {
+            return Err(DynError::Rejected(Error::TooShort { found }));
+        }
+        let header = Header::of(bytes);
+        let layout = Layout { key_len: header.key_size(), value_len: header.value_size() };
+        match check_by_header(bytes, layout) {
+            Ok(()) => DynTable::open(layout, data),
+            Err(rejected) => Err(DynError::Rejected(rejected)),
+        }
+    }
+
+    /// The lengths of keys and values.
+    #[inline]
+    pub fn layout(&self) -> Layout {
+        self.layout
+    }
+
+    /// The value of a key, or None. On valid bytes it is the value of the key's last insert; on any bytes it is one
+    /// that is stored with this very key. A key of another length has no value. [`DynTable::get_counted`] says how many
+    /// groups the search reads.
+    pub fn get(&self, key: &[u8]) -> Option<&[u8]> {
+        if !self.takes(key) {
+            return None;
+        }
+        self.as_sized().find(key)
+    }
+
+    /// `get`, and how many groups of control bytes it read: on valid bytes those up to the first slot of the key's
+    /// probe order that is free or holds the key, and on any bytes at most one for sixteen slots. docs/FORMAT.md,
+    /// "Search", counts them. For a key of another length no group is read.
+    pub fn get_counted(&self, key: &[u8]) -> (Option<&[u8]>, usize) {
+        if !self.takes(key) {
+            return (None, 0);
+        }
+        self.as_sized().find_counted(key)
+    }
+
+    // Whether the key has the length of the table's keys.
+    #[inline]
+    fn takes(&self, key: &[u8]) -> bool {
+        key.len() == self.layout.key_len as usize
+    }
+
+    /// Whether the key has a value. On any bytes it is true only where the entry of some slot holds this very key.
+    pub fn contains_key(&self, key: &[u8]) -> bool {
+        self.get(key).is_some()
+    }
+
+    /// The keys and values of the slots whose own control byte is below 128, in slot order: on valid bytes each pair of
+    /// the table once.
+    pub fn iter(&self) -> SizedIter<'_, H> {
+        self.as_sized().iter()
+    }
+
+    /// The slots from slot `from` on whose own control byte is below 128, in slot order, each with its key and value:
+    /// on valid bytes each pair in these slots once. Nothing where `from` is past the last slot.
+    pub fn iter_from(&self, from: usize) -> SizedSlots<'_, H> {
+        self.as_sized().iter_from(from)
+    }
+
+    /// The item count of the header. On valid bytes it is the number of items.
+    #[inline]
+    pub fn len(&self) -> usize {
+        Header::of(self.raw_bytes()).item_count()
+    }
+
+    /// All bytes. Their header and length fit.
+    #[inline]
+    pub fn raw_bytes(&self) -> &[u8] {
+        self.store.bytes()
+    }
+
+    /// The store, with the bytes as they are now. Their header and length fit.
+    #[inline]
+    pub fn into_data(self) -> D {
+        let DynTable { store, layout: _, hash: _ } = self;
+        store
+    }
+
+    /// The parts of the table. A caller that looks up many keys calls this once.
+    #[inline]
+    pub fn as_sized(&self) -> SizedTable<'_, H> {
+        sized_parts::<H>(self.store.bytes(), self.layout)
+    }
+}
