@@ -8,6 +8,7 @@ mod check;
 mod new_tables;
 mod prefix;
 mod sized;
+mod sized_check;
 
 pub use crate::proved::header::header::{
     is_accepted, write_header, Header, HEADER_SIZE, LEAST_FACTOR,
@@ -19,3 +20,4 @@ pub use check::{check_all, check_all_within, DEFAULT_GROUPS};
 pub use new_tables::{allocate, clear_entries, init_in_place, write_empty};
 pub use prefix::table_len;
 pub use sized::{check_by_header, check_opening, sized_parts};
+pub use sized_check::check_sized;

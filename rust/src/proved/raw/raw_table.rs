@@ -27,6 +27,7 @@ mod runs;
 mod scan;
 mod search_result;
 mod sized;
+mod sized_check;
 mod sized_walk;
 mod slot_keys;
 mod table_mut;

@@ -166,7 +166,7 @@ impl<'a, H: HashFn> SizedTable<'a, H> {
 
     // What opening checks of one slot. Answers the hash of the key where the slot does not count as free.
     #[inline(always)]
-    fn check_slot(&self, slot: usize) -> Result<Option<u32>, Error> {
+    pub(super) fn check_slot(&self, slot: usize) -> Result<Option<u32>, Error> {
         let found = self.control(slot);
         if is_empty_or_deleted(found) {
             if is_all_zeros(self.entry(slot)) {

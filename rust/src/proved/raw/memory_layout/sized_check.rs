@@ -1,0 +1,41 @@
+// Made by `make rust` of crates/odht_raw/src/memory_layout/sized_check.rt.
+//! The whole check of the bytes of a table whose lengths of keys and values are numbers.
+
+use super::allocation::hold_bytes;
+use super::{sized_parts, Header};
+use crate::proved::raw::error::Error;
+use crate::proved::raw::hash::HashFn;
+use crate::proved::raw::layout::Layout;
+use crate::proved::raw::raw_table::SizedTable;
+
+/// Checks what [`check_opening`](super::check_opening) leaves out, and answers the first error, as
+/// [`Allocation::check_rest`](super::Allocation::check_rest) does. Ok exactly for valid bytes.
+///
+/// Each slot is read once, in slot order, and for each occupied slot the control bytes of its key's probe order up to
+/// it, sixteen at a time. A key is compared only with keys at earlier positions that have its tag.
+pub fn check_sized<H: HashFn>(bytes: &[u8], layout: Layout) -> Result<(), Error> {
+    hold_bytes(bytes);
+    check_late_sized::<H>(bytes, layout)
+}
+
+// `check_sized`; its contract gives the first error alone.
+fn check_late_sized<H: HashFn>(bytes: &[u8], layout: Layout) -> Result<(), Error> {
+    let table = sized_parts::<H>(bytes, layout);
+    check_late_parts(&Header::of(bytes), &table)
+}
+
+// What the whole check adds to opening a view, of a header and the parts behind it: the first error alone.
+fn check_late_parts<H: HashFn>(
+    header: &Header<'_>,
+    table: &SizedTable<'_, H>,
+) -> Result<(), Error> {
+    header.check_load_factor()?;
+    header.check_padding()?;
+    let summary = table.check_slots(true)?;
+    table.check_mirror()?;
+    header.check_item_count(summary.occupied)?;
+    match summary.unreachable {
+        Some(slot) => Err(Error::Unreachable { slot }),
+        None => Ok(()),
+    }
+}
