@@ -21,7 +21,8 @@ use crate::config::{Config, Hash, HashFn};
 use crate::opened::Opened;
 use crate::proved::base::bytes::{Borrowed, ByteArray};
 use crate::proved::header::layout;
-use crate::proved::raw::memory_layout::{sized_parts, Header};
+use crate::proved::header::error::Error;
+use crate::proved::raw::memory_layout::{check_sized, sized_parts, Header};
 use crate::proved::raw::raw_table::SizedTable;
 use crate::proved::tables::dynamic;
 use std::borrow::Borrow;
@@ -218,6 +219,30 @@ impl<H: HashFn, D: Borrow<[u8]>> DynTable<H, D> {
     #[must_use]
     pub fn is_empty(&self) -> bool {
         self.len() == 0
+    }
+
+    /// Checks what opening leaves out: whether all of the bytes are those of a table. It costs what
+    /// [`check_all`](crate::check_all) does.
+    ///
+    /// # Errors
+    ///
+    /// The first that `check_all` finds behind those of opening.
+    pub fn check_rest(&self) -> Result<(), Error> {
+        check_sized::<Hash<H>>(self.bytes(), self.layout.proved())
+    }
+
+    /// Whether all of the bytes are those of a table: whether [`check_rest`](DynTable::check_rest) finds no error.
+    ///
+    /// ```
+    /// # use odht::{configs::U64ToU32, dynamic::DynTable, FxHashFn, HashTableOwned};
+    /// # let table = HashTableOwned::<U64ToU32>::default();
+    /// let view = DynTable::<FxHashFn, _>::open_as_stated(table.raw_bytes())?;
+    /// assert!(view.verify());
+    /// # Ok::<(), odht::dynamic::DynError>(())
+    /// ```
+    #[must_use]
+    pub fn verify(&self) -> bool {
+        self.check_rest().is_ok()
     }
 
     /// All bytes.

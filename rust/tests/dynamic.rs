@@ -44,6 +44,7 @@ fn compare<H: HashFn>(table: &DynTable<H, &[u8]>, reading: &Reading<'_>, random:
     assert_eq!(table.layout(), Layout { key_len: key as u8, value_len: value as u8 });
     assert_eq!((table.len(), table.is_empty()), (reading.count(), reading.count() == 0));
     assert_eq!(table.raw_bytes(), reading.bytes);
+    assert_eq!(table.check_rest().err().map(|error| error.to_string()), reading.check_error());
     let pair = |slot| (slot, (reading.key(slot), reading.value(slot)));
     let walk: Vec<_> = reading.occupied().map(pair).collect();
     assert!(table.iter().eq(walk.iter().map(|(_, pair)| *pair)));

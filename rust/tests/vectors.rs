@@ -79,6 +79,7 @@ fn make<const K: usize, const V: usize, H: HashFn>(case: &Case<'_>) -> Option<An
 // check finds nothing, or finds what comes after the bound.
 fn check<const K: usize, const V: usize, H: HashFn>(table: &View<K, V, H>) -> Answer {
     let found = table.check_all();
+    assert_eq!(by_numbers(table).check_rest(), found);
     let within = |groups| check_all_within::<Plain<K, V, H>>(table.raw_bytes(), groups);
     assert_eq!(within(usize::MAX), found);
     let without_groups = match found {

@@ -8,7 +8,7 @@ ghost use Rattle.odht_base.specs.Decoded.{decoded_pairs, decoded_table};
 ghost use Rattle.odht_base.specs.Format.{format_of, IsFormat};
 ghost use Rattle.odht_base.specs.SlotWalks.{slots_from};
 ghost use Rattle.odht_base.specs.Table.{Table, count, walk};
-ghost use Rattle.odht_base.specs.Valid.{IsImage, IsPartsOf};
+ghost use Rattle.odht_base.specs.Valid.{IsImage, IsPartsOf, IsValidBytes};
 ghost use Rattle.odht_raw.specs.Dumps.{parts_of};
 ghost use Rattle.odht_raw.specs.Frame.{IsAccepted};
 ghost use Rattle.odht_raw.specs.Sized.{HasLengthsOf};
@@ -19,7 +19,8 @@ use crate::bytes::ByteStore;
 use crate::error::Error;
 use crate::hash::HashFn;
 pub use crate::layout::Layout;
-use crate::memory_layout::{HEADER_SIZE, Header, check_by_header, check_opening, sized_parts};
+use crate::memory_layout::{HEADER_SIZE, Header};
+use crate::memory_layout::{check_by_header, check_opening, check_sized, sized_parts};
 use crate::raw_table::{SizedIter, SizedSlots, SizedTable};
 use std::marker::{Model, PhantomData};
 
@@ -223,6 +224,18 @@ impl<H: HashFn, D: ByteStore> DynTable<H, D> {
             → result ≡ count P }
     {
         Header::of(self.raw_bytes()).item_count()
+    }
+
+    /// Whether the bytes are valid: those of a table that the format allows, to the last byte (docs/FORMAT.md, "Valid
+    /// bytes"). On valid bytes each lookup returns what a map would.
+    ///
+    /// All of the bytes are checked. It takes no memory, and costs what [`crate::memory_layout::check_all`] does.
+    /// [`crate::memory_layout::check_sized`] returns the error.
+    pub fn verify(&self) -> bool
+        ensures { IsTrue result
+            ↔ IsValidBytes (dyn_format self.now H.hash) (D.bytes self.now.store) }
+    {
+        check_sized::<H>(self.store.bytes(), self.layout).is_ok()
     }
 
     /// All bytes. Their header and length fit.

@@ -80,6 +80,8 @@ fn lengths_as_numbers<const K: usize, const V: usize, H: Named>(
     };
     assert_eq!(stated.unwrap().layout(), layout);
     assert_eq!(table.len(), view.len());
+    assert_eq!(table.check_rest(), view.check_all());
+    assert_eq!(table.verify(), view.verify());
     let typed: Vec<_> = view.iter_from(0).collect();
     let typed = typed.iter().map(|(slot, (key, value))| (*slot, (&key[..], &value[..])));
     assert!(table.iter_from(0).eq(typed));

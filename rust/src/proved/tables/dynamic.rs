@@ -6,8 +6,9 @@ use crate::proved::tables::error::Error;
 use crate::proved::tables::hash::HashFn;
 pub use crate::proved::tables::layout::Layout;
 use crate::proved::tables::memory_layout::{
-    check_by_header, check_opening, sized_parts, Header, HEADER_SIZE,
+    check_by_header, check_opening, check_sized, sized_parts,
 };
+use crate::proved::tables::memory_layout::{Header, HEADER_SIZE};
 use crate::proved::tables::raw_table::{SizedIter, SizedSlots, SizedTable};
 use std::marker::PhantomData;
 
@@ -125,6 +126,15 @@ impl<H: HashFn, D: ByteStore> DynTable<H, D> {
     #[inline]
     pub fn len(&self) -> usize {
         Header::of(self.raw_bytes()).item_count()
+    }
+
+    /// Whether the bytes are valid: those of a table that the format allows, to the last byte (docs/FORMAT.md, "Valid
+    /// bytes"). On valid bytes each lookup returns what a map would.
+    ///
+    /// All of the bytes are checked. It takes no memory, and costs what [`crate::proved::tables::memory_layout::check_all`] does.
+    /// [`crate::proved::tables::memory_layout::check_sized`] returns the error.
+    pub fn verify(&self) -> bool {
+        check_sized::<H>(self.store.bytes(), self.layout).is_ok()
     }
 
     /// All bytes. Their header and length fit.
