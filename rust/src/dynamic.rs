@@ -20,8 +20,8 @@
 use crate::config::{Config, Hash, HashFn};
 use crate::opened::Opened;
 use crate::proved::base::bytes::{Borrowed, ByteArray};
-use crate::proved::header::layout;
 use crate::proved::header::error::Error;
+use crate::proved::header::layout;
 use crate::proved::raw::memory_layout::{check_sized, sized_parts, Header};
 use crate::proved::raw::raw_table::SizedTable;
 use crate::proved::tables::dynamic;

@@ -31,6 +31,7 @@ mod view;
 // written as it could be proved.
 #[allow(dead_code, unused_imports, unused_variables, missing_docs)]
 #[allow(
+    clippy::borrow_deref_ref,
     clippy::collapsible_if,
     clippy::manual_find,
     clippy::manual_map,

@@ -54,7 +54,10 @@ fn compare<H: HashFn>(table: &DynTable<H, &[u8]>, reading: &Reading<'_>, random:
         assert_eq!(table.get_counted(key), (Some(value), groups_of(reading, key)));
         assert!(table.contains_key(key));
         assert_eq!(table.get(&[key, &[0]].concat()), None);
-        assert_eq!(table.get_counted(&key[..key.len().saturating_sub(1)]).0.is_some(), key.is_empty());
+        assert_eq!(
+            table.get_counted(&key[..key.len().saturating_sub(1)]).0.is_some(),
+            key.is_empty()
+        );
     }
     for _ in 0..8 {
         let key = some_bytes(random, key);

@@ -40,7 +40,7 @@ pub fn layout_for<C: Config>(
 
 impl Layout {
     /// [`bytes_needed`] of a table of these lengths.
-    #[inline]
+    #[inline(always)]
     pub fn bytes_needed(self, slot_count: usize) -> Option<usize>
         ensures len { (hash : List ℕ → ℕ)
             → (let len = image_len (format_of self.key_len self.value_len hash) slot_count
@@ -55,6 +55,7 @@ impl Layout {
     }
 
     /// [`layout_for`] of a table of these lengths.
+    #[inline(always)]
     pub fn table_for(self, max_item_count: usize, max_load_factor: Factor) -> Option<(usize, usize)>
         requires { 1 ≤ max_load_factor.0 }
         ensures some { (hash : List ℕ → ℕ)

@@ -271,6 +271,7 @@ pub fn write_header<C: Config>(
 
 impl Layout {
     /// [`write_header`] of a table of these lengths.
+    #[inline(always)]
     pub fn write_header(
         self,
         header: &mut [u8],

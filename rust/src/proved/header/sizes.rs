@@ -25,7 +25,7 @@ pub fn layout_for<C: Config>(
 
 impl Layout {
     /// [`bytes_needed`] of a table of these lengths.
-    #[inline]
+    #[inline(always)]
     pub fn bytes_needed(self, slot_count: usize) -> Option<usize> {
         let len = self.len_of_slots(slot_count);
         if len > usize::MAX as u128 {
@@ -35,6 +35,7 @@ impl Layout {
     }
 
     /// [`layout_for`] of a table of these lengths.
+    #[inline(always)]
     pub fn table_for(
         self,
         max_item_count: usize,
