@@ -122,7 +122,7 @@ UNDONE = {
     "a list of C": (r"let (\w+) = unsafe \{ crate :: lists :: (?:list|list_mut) \( \1 , \1_len \) \} ; ", ""),
     "a list for C": (r"(\w+) : \* const ([\w() ]+?|\[ u8 ; \d+ \]) , \1_len : usize", r"\1 : & [ \2 ]"),
     "a written list for C": (r"(\w+) : \* mut ([\w() ]+?|\[ u8 ; \d+ \]) , \1_len : usize", r"\1 : & mut [ \2 ]"),
-    "an open enum": (r"# \[ non_exhaustive \] (?=pub enum Error\b)", ""),
+    "an open enum": (r"# \[ non_exhaustive \] (?=pub enum (?:Dyn)?Error\b)", ""),
     "an export": (r"\bunsafe extern \"C\" fn", 'extern "C" fn'),
     "an import of the host": (r"^use crate :: host :: prelude :: \* ; ", ""),
     "a use of the host": (r"(?<=\buse )crate :: host(?= ::)", "std"),

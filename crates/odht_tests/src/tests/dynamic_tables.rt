@@ -21,12 +21,7 @@ fn ready(rt: &impl Abort, alloc: Global) -> HashTableOwned<U64ToU32> {
 }
 
 // Asserts the same value of the key in both tables.
-fn same_value(
-    rt: &impl Abort,
-    table: &HashTableOwned<U64ToU32>,
-    view: &View<'_>,
-    key: u64,
-) {
+fn same_value(rt: &impl Abort, table: &HashTableOwned<U64ToU32>, view: &View<'_>, key: u64) {
     let found = view.get(&key.to_le_bytes());
     match table.get(&key) {
         Some(value) => same_at(rt, "key", key, found, Some(&value.to_le_bytes())),
