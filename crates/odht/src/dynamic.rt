@@ -19,8 +19,9 @@ use crate::bytes::ByteStore;
 use crate::error::Error;
 use crate::hash::HashFn;
 pub use crate::layout::Layout;
-use crate::memory_layout::{HEADER_SIZE, Header};
-use crate::memory_layout::{check_by_header, check_opening, check_sized, sized_parts};
+use crate::memory_layout::{
+    HEADER_SIZE, Header, check_by_header, check_opening, check_sized, sized_parts,
+};
 use crate::raw_table::{SizedIter, SizedSlots, SizedTable};
 use std::marker::{Model, PhantomData};
 

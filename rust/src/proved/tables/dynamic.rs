@@ -6,9 +6,8 @@ use crate::proved::tables::error::Error;
 use crate::proved::tables::hash::HashFn;
 pub use crate::proved::tables::layout::Layout;
 use crate::proved::tables::memory_layout::{
-    check_by_header, check_opening, check_sized, sized_parts,
+    check_by_header, check_opening, check_sized, sized_parts, Header, HEADER_SIZE,
 };
-use crate::proved::tables::memory_layout::{Header, HEADER_SIZE};
 use crate::proved::tables::raw_table::{SizedIter, SizedSlots, SizedTable};
 use std::marker::PhantomData;
 
