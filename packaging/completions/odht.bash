@@ -21,11 +21,11 @@ _odht() {
     case ${COMP_WORDS[1]}:$word in
         info:-*) COMPREPLY=($(compgen -W '--help --whole --at' -- "$word"));;
         check:-*) COMPREPLY=($(compgen -W '--help --whole --hash --at' -- "$word"));;
-        get:-*) COMPREPLY=($(compgen -W '--help --key --value --hash --at' -- "$word"));;
-        dump:-*) COMPREPLY=($(compgen -W '--help --slots --key --value --hash --at' -- "$word"));;
+        get:-*) COMPREPLY=($(compgen -W '--help --hash --at' -- "$word"));;
+        dump:-*) COMPREPLY=($(compgen -W '--help --slots --hash --at' -- "$word"));;
         find:-*) COMPREPLY=($(compgen -W '--help --whole' -- "$word"));;
         build:-*) COMPREPLY=($(compgen -W '--help --key --value --hash --percent --capacity --progress --break-links' -- "$word"));;
-        put:-*) COMPREPLY=($(compgen -W '--help --whole --key --value --hash --progress --break-links' -- "$word"));;
+        put:-*) COMPREPLY=($(compgen -W '--help --whole --hash --progress --break-links' -- "$word"));;
         *) mapfile -t COMPREPLY < <(compgen -f -- "$word");;
     esac
 }

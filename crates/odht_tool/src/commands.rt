@@ -81,24 +81,13 @@ where
         Command::Build(options) => build::build(rt, file, options, input, output, errors),
         Command::Put {
             hash,
-            kinds,
             bound,
             breaks_links,
             has_progress,
         } => {
             let target = Target::find(rt, file, breaks_links)?;
             let bytes = read_file(rt, target.path())?;
-            build::put(
-                rt,
-                target,
-                bytes,
-                hash,
-                kinds,
-                bound,
-                has_progress,
-                input,
-                errors,
-            )
+            build::put(rt, target, bytes, hash, bound, has_progress, input, errors)
         }
     }
 }
@@ -159,14 +148,12 @@ fn run_reading<I: BufRead, O: Write, E: Write>(
         }
         Reading::Get {
             hash,
-            kinds,
             keys: Keys::Words(words),
-        } => get::get_file_words(alloc, bytes, hash, kinds, words.as_slice(), output),
+        } => get::get_file_words(alloc, bytes, hash, words.as_slice(), output),
         Reading::Get {
             hash,
-            kinds,
             keys: Keys::Lines,
-        } => get::get_file_lines(alloc, bytes, hash, kinds, input, output),
+        } => get::get_file_lines(alloc, bytes, hash, input, output),
         Reading::Find { bound } => {
             let status = find::find_file(alloc, bytes, bound, output)?;
             if !status.is_done() {
@@ -175,11 +162,7 @@ fn run_reading<I: BufRead, O: Write, E: Write>(
             }
             Ok(status)
         }
-        Reading::Dump {
-            hash,
-            kinds,
-            is_slots,
-        } => dump::dump_file(bytes, hash, kinds, is_slots, output),
+        Reading::Dump { hash, is_slots } => dump::dump_file(bytes, hash, is_slots, output),
     }
 }
 

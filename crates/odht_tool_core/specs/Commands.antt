@@ -37,8 +37,8 @@ option_name Capacity = codes "--capacity"
 abbrev pub options_of : Topic → List Setting
 options_of Info = Help ∷ Whole ∷ At ∷ []
 options_of Check = Help ∷ Whole ∷ Hash ∷ At ∷ []
-options_of Get = Help ∷ Key ∷ Value ∷ Hash ∷ At ∷ []
-options_of Dump = Help ∷ Slots ∷ Key ∷ Value ∷ Hash ∷ At ∷ []
+options_of Get = Help ∷ Hash ∷ At ∷ []
+options_of Dump = Help ∷ Slots ∷ Hash ∷ At ∷ []
 options_of Find = Help ∷ Whole ∷ []
 options_of Build = Help ∷ Key ∷ Value ∷ Hash ∷ Percent ∷ Capacity ∷ Progress ∷ BreakLinks ∷ []
-options_of Put = Help ∷ Whole ∷ Key ∷ Value ∷ Hash ∷ Progress ∷ BreakLinks ∷ []
+options_of Put = Help ∷ Whole ∷ Hash ∷ Progress ∷ BreakLinks ∷ []

@@ -1,6 +1,5 @@
 //! The arguments that the program is called with.
 
-use crate::forms::{GivenForms, Kinds};
 use crate::shapes::{Hash, Shape};
 use odht_base::load::Percent;
 use std::alloc::Global;
@@ -17,7 +16,6 @@ pub use topics::{Setting, Topic};
 #[derive(Clone, Copy)]
 pub struct BuildOptions {
     pub shape: Shape,
-    pub forms: GivenForms,
     /// For how many items room is made at first.
     pub capacity: usize,
     pub percent: Percent,
@@ -62,7 +60,6 @@ pub enum Command {
     Build(BuildOptions),
     Put {
         hash: Option<Hash>,
-        kinds: Kinds,
         bound: Option<usize>,
         breaks_links: bool,
         has_progress: bool,
@@ -81,12 +78,10 @@ pub enum Reading {
     },
     Get {
         hash: Option<Hash>,
-        kinds: Kinds,
         keys: Keys,
     },
     Dump {
         hash: Option<Hash>,
-        kinds: Kinds,
         is_slots: bool,
     },
     Find {

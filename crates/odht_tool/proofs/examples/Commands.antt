@@ -15,7 +15,6 @@ use Rattle.odht_tool_core.specs.declared.failure.Failure.TheVariants.{Refused, N
 use Rattle.odht_tool_core.specs.declared.shapes.Hash.TheVariants.{Fx, Unhash}
 use Rattle.odht_tool_core.specs.declared.shapes.ready.Shape.TheVariants.{DirectU32ToU32}
 use Rattle.odht_tool_core.specs.declared.status.Status.TheVariants.{Done, NotDone}
-use Rattle.odht_tool_core.proofs.examples.Forms.{unsaid}
 use Rattle.odht_tool_core.proofs.examples.Shapes.{one_bytes}
 
 -- ---- check
@@ -59,16 +58,16 @@ unfolding opened first_longer
 words = (refl, refl, refl, refl)
 
 -- ---- dump
-pub pairs : dump_outcome one_bytes (Some Unhash) unsaid false ≡ writes (codes "5\t7\n") Done
+pub pairs : dump_outcome one_bytes (Some Unhash) false ≡ writes (codes "5\t7\n") Done
 unfolding opened digits
 pairs = refl
 
-pub slots : dump_outcome one_bytes (Some Unhash) unsaid true ≡ writes (codes "5\t0\t1\t5\t7\n") Done
+pub slots : dump_outcome one_bytes (Some Unhash) true ≡ writes (codes "5\t0\t1\t5\t7\n") Done
 unfolding opened digits groups_to
 slots = refl
 
 -- the hash function is found, where none is named; with another control byte none fits
-pub found : (dump_outcome one_bytes None unsaid false ≡ writes (codes "5\t7\n") Done) × (dump_outcome (overwritten_at one_bytes 165 (1 ∷ [])) None unsaid false ≡ fails (NoHash 4 4))
+pub found : (dump_outcome one_bytes None false ≡ writes (codes "5\t7\n") Done) × (dump_outcome (overwritten_at one_bytes 165 (1 ∷ [])) None false ≡ fails (NoHash 4 4))
 unfolding opened digits
 found = (refl, refl)
 
@@ -80,8 +79,8 @@ hinted = (refl, refl, refl)
 pub hint_line : hint_text (codes "a.odht") Unhash ≡ codes "odht: a.odht: all control bytes fit unhash: try --hash unhash, or `odht info`\n"
 hint_line = refl
 
-pub refused : (dump_outcome (79 ∷ 68 ∷ []) None unsaid false ≡ fails (Refused (TooShort 2)))
-    × (dump_outcome (79 ∷ 68 ∷ []) None unsaid true ≡ fails (Refused (TooShort 2)))
+pub refused : (dump_outcome (79 ∷ 68 ∷ []) None false ≡ fails (Refused (TooShort 2)))
+    × (dump_outcome (79 ∷ 68 ∷ []) None true ≡ fails (Refused (TooShort 2)))
 unfolding opened
 refused = (refl, refl)
 
@@ -101,7 +100,7 @@ other_text h = unequal_lists (codes "a") (codes "ab") refl h.1
 pub no_memory : IsDone (writes (codes "b") Done) (Some (codes "a")) (Some (codes "a")) (Err Memory) → ⊥
 no_memory h = h
 
--- of a failure unsaid is written, and it is returned
+-- of a failure nothing is written, and it is returned
 pub failed : IsDone (fails Memory) (Some (codes "a")) (Some (codes "a")) (Err Memory)
 failed = (refl, refl)
 

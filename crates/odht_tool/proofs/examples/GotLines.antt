@@ -26,7 +26,6 @@ use Rattle.odht_tool_core.specs.Misreads.{misread_text, typed_wanted}
 use Rattle.odht_tool_core.specs.ReadyShapes.{shape_coding, typed_text}
 use Rattle.odht_tool_core.specs.declared.misread.Wanted.{Wanted}
 use Rattle.odht_tool_core.specs.Texts.{answers_text}
-use Rattle.odht_tool_core.specs.declared.forms.Form.TheVariants.{Own}
 use Rattle.odht_tool_core.specs.declared.failure.Failure.TheVariants.{Refused, NoShape, Input, Misread, Output, Memory}
 use Rattle.odht_tool_core.specs.declared.failure.LineFault.TheVariants.{Key}
 use Rattle.odht_tool_core.specs.declared.shapes.Hash.TheVariants.{Unhash}
@@ -43,7 +42,7 @@ abbrev C : Coding ℕ ℕ
 C = shape_coding DirectU32ToU32
 
 abbrev f : ℕ → List ℕ
-f = typed_text Own U32
+f = typed_text U32
 
 abbrev R : List ℕ → ℕ → Type 0
 R = IsTextOf U32

@@ -72,21 +72,8 @@ impl Topic {
         match self {
             Topic::Info => &[Setting::Help, Setting::Whole, Setting::At],
             Topic::Check => &[Setting::Help, Setting::Whole, Setting::Hash, Setting::At],
-            Topic::Get => &[
-                Setting::Help,
-                Setting::Key,
-                Setting::Value,
-                Setting::Hash,
-                Setting::At,
-            ],
-            Topic::Dump => &[
-                Setting::Help,
-                Setting::Slots,
-                Setting::Key,
-                Setting::Value,
-                Setting::Hash,
-                Setting::At,
-            ],
+            Topic::Get => &[Setting::Help, Setting::Hash, Setting::At],
+            Topic::Dump => &[Setting::Help, Setting::Slots, Setting::Hash, Setting::At],
             Topic::Find => &[Setting::Help, Setting::Whole],
             Topic::Build => &[
                 Setting::Help,
@@ -101,8 +88,6 @@ impl Topic {
             Topic::Put => &[
                 Setting::Help,
                 Setting::Whole,
-                Setting::Key,
-                Setting::Value,
                 Setting::Hash,
                 Setting::Progress,
                 Setting::BreakLinks,
@@ -186,8 +171,8 @@ impl Setting {
             | Setting::BreakLinks => None,
             Setting::At | Setting::Capacity => Some("a number below 2^64"),
             Setting::Hash => Some("fx or unhash"),
-            Setting::Key => Some("u32, u64, i32, i64, u32be, u64be or hexN"),
-            Setting::Value => Some("u32, u64, i32, i64, u32be, u64be, none or hexN"),
+            Setting::Key => Some("u32, u64 or hexN"),
+            Setting::Value => Some("u32, u64, none or hexN"),
             Setting::Percent => Some("a number from 1 to 100"),
         }
     }

@@ -1,7 +1,6 @@
 // Made by `make rust` of crates/odht_tool_core/src/answers.rt.
 //! The lines in which pairs and answers are printed.
 
-use crate::erased::core::forms::Forms;
 use crate::erased::core::text::Text;
 use crate::host::prelude::*;
 use crate::shim::{AllocError, Global};
@@ -10,27 +9,25 @@ use std::io::{self, Write};
 /// Writes a line of a key, a tab and a value, each part by itself: a buffer behind `output` that becomes full is passed
 /// on with as many parts as fit.
 #[inline(always)]
-pub fn write_pair<K: Text, V: Text, F: Forms, O: Write>(
+pub fn write_pair<K: Text, V: Text, O: Write>(
     key: &K,
     value: &V,
-    forms: F,
     output: &mut O,
 ) -> io::Result<()> {
-    key.write(forms.key(), output)?;
+    key.write(output)?;
     output.write_all(b"\t")?;
-    value.write(forms.value(), output)?;
+    value.write(output)?;
     output.write_all(b"\n")
 }
 
 /// Writes a line for each key: with its value, or the key alone where it has none.
-pub fn write_answers<K: Text, V: Text, F: Forms, O: Write>(
+pub fn write_answers<K: Text, V: Text, O: Write>(
     keys: &[K],
     values: &[Option<V>],
-    forms: F,
     output: &mut O,
 ) -> io::Result<()> {
     for at in 0..keys.len() {
-        write_answer(&keys[at], &values[at], forms, output)?;
+        write_answer(&keys[at], &values[at], output)?;
     }
     Ok(())
 }
@@ -46,16 +43,15 @@ pub fn are_found<V>(values: &[Option<V>]) -> bool {
 }
 
 // Writes the line of a key with its value, or of the key alone.
-fn write_answer<K: Text, V: Text, F: Forms, O: Write>(
+fn write_answer<K: Text, V: Text, O: Write>(
     key: &K,
     value: &Option<V>,
-    forms: F,
     output: &mut O,
 ) -> io::Result<()> {
     match value {
-        Some(value) => write_pair(key, value, forms, output),
+        Some(value) => write_pair(key, value, output),
         None => {
-            key.write(forms.key(), output)?;
+            key.write(output)?;
             output.write_all(b"\n")
         }
     }

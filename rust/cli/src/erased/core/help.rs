@@ -113,23 +113,19 @@ odht check FILE [--whole] [--hash fx|unhash] [--at OFFSET]
 ";
 
 const GET: &str = "\
-odht get FILE KEY.. [--key SHAPE] [--value SHAPE]
-                    [--hash fx|unhash] [--at OFFSET]
+odht get FILE KEY.. [--hash fx|unhash] [--at OFFSET]
     Writes a line for each key, in their order: KEY, a tab and VALUE; or KEY alone
     where it is absent, and then ends with status 1. With the one word - the keys
     are the lines of standard input. The hash function is the one that all control
-    bytes fit, unless --hash names it. Keys and values have the texts of the ready
-    shape, unless --key and --value name others, as in `odht build`.
+    bytes fit, unless --hash names it.
 ";
 
 const DUMP: &str = "\
-odht dump FILE [--slots] [--key SHAPE] [--value SHAPE]
-               [--hash fx|unhash] [--at OFFSET]
+odht dump FILE [--slots] [--hash fx|unhash] [--at OFFSET]
     Writes a line for each pair, in slot order: KEY, a tab and VALUE. With --slots
     the slot, the control byte and the number of groups that a search for the key
     looks at stand before them, with tabs too. The hash function is the one that
-    all control bytes fit, unless --hash names it. Keys and values have the texts
-    of the ready shape, unless --key and --value name others, as in `odht build`.
+    all control bytes fit, unless --hash names it.
 ";
 
 const FIND: &str = "\
@@ -149,8 +145,7 @@ odht build FILE --key SHAPE --value SHAPE [--hash fx|unhash]
     it as FILE, in the place of an older one, which stays where something fails;
     with - as FILE it goes to standard output. The last line of a key wins. Owner, group, permissions and symbolic links of an
     older file are kept; one with hard links is not replaced without --break-links.
-    SHAPE          u32, u64, none (a value only), or hexN: N bytes as 2 N digits;
-                   i32 and i64 with a sign; u32be and u64be, the highest byte first
+    SHAPE          u32, u64, none (a value only), or hexN: N bytes as 2 N digits
     --percent      the load factor, 1 to 100, else 87
     --capacity     the number of items for which room is made at first, else 12
     --progress     a line on standard error each second
@@ -158,14 +153,12 @@ odht build FILE --key SHAPE --value SHAPE [--hash fx|unhash]
 ";
 
 const PUT: &str = "\
-odht put FILE [--key SHAPE] [--value SHAPE] [--whole] [--hash fx|unhash]
-              [--progress] [--break-links]
+odht put FILE [--whole] [--hash fx|unhash] [--progress] [--break-links]
     Adds the lines of standard input, KEY, a tab and VALUE, to the table in FILE,
     which grows as needed, and stores it in the place of the older one, which
     stays where something fails. The last line of a key wins. The file is checked
     before, as by `odht check`; --whole is as there. The hash function is the one
-    that all control bytes fit, unless --hash names it; --key and --value name
-    texts other than those of the ready shape, as in `odht build`. Owner, group,
-    permissions and symbolic links of the file are kept; one with hard links is not
-    replaced without --break-links, with which its other names keep the old file.
+    that all control bytes fit, unless --hash names it. Owner, group, permissions
+    and symbolic links of the file are kept; one with hard links is not replaced
+    without --break-links, with which its other names keep the old file.
 ";

@@ -81,10 +81,10 @@ where
             }
         }
         Command::Build(options) => build::build(rt, file, options, input, output, errors),
-        Command::Put { hash, kinds, bound, breaks_links, has_progress } => {
+        Command::Put { hash, bound, breaks_links, has_progress } => {
             let target = Target::find(rt, file, breaks_links)?;
             let bytes = read_file(rt, target.path())?;
-            build::put(rt, target, bytes, hash, kinds, bound, has_progress, input, errors)
+            build::put(rt, target, bytes, hash, bound, has_progress, input, errors)
         }
     }
 }
@@ -143,11 +143,11 @@ fn run_reading<I: BufRead, O: Write, E: Write>(
             }
             Ok(status)
         }
-        Reading::Get { hash, kinds, keys: Keys::Words(words) } => {
-            get::get_file_words(alloc, bytes, hash, kinds, words.as_slice(), output)
+        Reading::Get { hash, keys: Keys::Words(words) } => {
+            get::get_file_words(alloc, bytes, hash, words.as_slice(), output)
         }
-        Reading::Get { hash, kinds, keys: Keys::Lines } => {
-            get::get_file_lines(alloc, bytes, hash, kinds, input, output)
+        Reading::Get { hash, keys: Keys::Lines } => {
+            get::get_file_lines(alloc, bytes, hash, input, output)
         }
         Reading::Find { bound } => {
             let status = find::find_file(alloc, bytes, bound, output)?;
@@ -157,9 +157,7 @@ fn run_reading<I: BufRead, O: Write, E: Write>(
             }
             Ok(status)
         }
-        Reading::Dump { hash, kinds, is_slots } => {
-            dump::dump_file(bytes, hash, kinds, is_slots, output)
-        }
+        Reading::Dump { hash, is_slots } => dump::dump_file(bytes, hash, is_slots, output),
     }
 }
 

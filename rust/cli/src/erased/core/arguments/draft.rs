@@ -3,8 +3,7 @@
 use super::topics::{Setting, Topic};
 use super::{is_stream, BuildOptions, Command, CommandMisuse, Keys, Misuse, Reading, Request};
 use crate::erased::core::digits::parse_number;
-use crate::erased::core::forms::{GivenForms, Kind, Kinds};
-use crate::erased::core::shapes::{Hash, Shape};
+use crate::erased::core::shapes::{Hash, Part, Shape};
 use crate::host::prelude::*;
 use crate::proved::base::load::Percent;
 use crate::proved::raw::memory_layout::DEFAULT_GROUPS;
@@ -22,7 +21,8 @@ pub(super) struct Draft {
     is_ended: bool,
     at: Option<usize>,
     hash: Option<Hash>,
-    kinds: Kinds,
+    key: Option<Part>,
+    value: Option<Part>,
     percent: Percent,
     capacity: usize,
     is_help: bool,
@@ -42,7 +42,8 @@ impl Draft {
             is_ended: false,
             at: None,
             hash: None,
-            kinds: Kinds { key: None, value: None },
+            key: None,
+            value: None,
             percent: Percent::new(87).unwrap(),
             capacity: 12,
             is_help: false,
@@ -118,8 +119,8 @@ impl Draft {
         match setting {
             Setting::At => self.at = Some(parse_number(value.as_bytes())? as usize),
             Setting::Hash => self.hash = Some(Hash::named(value)?),
-            Setting::Key => self.kinds.key = Some(Kind::named(value)?),
-            Setting::Value => self.kinds.value = Some(Kind::named(value)?),
+            Setting::Key => self.key = Some(Part::named(value)?),
+            Setting::Value => self.value = Some(Part::named(value)?),
             Setting::Percent => self.percent = parse_percent(value)?,
             Setting::Capacity => self.capacity = parse_number(value.as_bytes())? as usize,
             _ => return None,
@@ -161,7 +162,6 @@ impl Draft {
             Topic::Put if is_stream => Err(CommandMisuse::Replaced),
             Topic::Put => Ok(Command::Put {
                 hash: self.hash,
-                kinds: self.kinds,
                 bound: bound_of(self.is_whole),
                 breaks_links: self.breaks_links,
                 has_progress: self.has_progress,
@@ -175,11 +175,11 @@ impl Draft {
     }
 
     fn reading(self, is_stream: bool) -> Result<Reading, CommandMisuse> {
-        let (hash, kinds, bound) = (self.hash, self.kinds, bound_of(self.is_whole));
+        let (hash, bound) = (self.hash, bound_of(self.is_whole));
         match self.topic {
             Topic::Info => Ok(Reading::Info { bound }),
             Topic::Check => Ok(Reading::Check { hash, bound }),
-            Topic::Dump => Ok(Reading::Dump { hash, kinds, is_slots: self.is_slots }),
+            Topic::Dump => Ok(Reading::Dump { hash, is_slots: self.is_slots }),
             Topic::Get => {
                 if self.words.is_empty() {
                     return Err(CommandMisuse::Missing("KEY"));
@@ -188,25 +188,24 @@ impl Draft {
                 if is_stream && keys.are_lines() {
                     return Err(CommandMisuse::BothInput);
                 }
-                Ok(Reading::Get { hash, kinds, keys })
+                Ok(Reading::Get { hash, keys })
             }
             _ => Ok(Reading::Find { bound }),
         }
     }
 
     fn build(self) -> Result<Command, CommandMisuse> {
-        let Some(key) = self.kinds.key else {
+        let Some(key) = self.key else {
             return Err(CommandMisuse::Missing("--key"));
         };
-        let Some(value) = self.kinds.value else {
+        let Some(value) = self.value else {
             return Err(CommandMisuse::Missing("--value"));
         };
-        let Some(shape) = Shape::of_parts(key.part, value.part, self.hash) else {
+        let Some(shape) = Shape::of_parts(key, value, self.hash) else {
             return Err(CommandMisuse::NoShape);
         };
         Ok(Command::Build(BuildOptions {
             shape,
-            forms: GivenForms { key: key.form, value: value.form },
             capacity: self.capacity,
             percent: self.percent,
             breaks_links: self.breaks_links,

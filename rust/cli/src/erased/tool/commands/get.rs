@@ -3,7 +3,7 @@
 
 use crate::erased::core::answers::{absent_values, are_found, write_answers};
 use crate::erased::core::failure::{Failure, LineFault};
-use crate::erased::core::forms::{read_as, Form, Forms, Kinds, OwnForms};
+use crate::erased::core::found::found_shape;
 use crate::erased::core::keys::{next_key, parse_keys, push_key, NextKey};
 use crate::erased::core::misread::Misread;
 use crate::erased::core::shapes::{Hash, Shape};
@@ -26,28 +26,21 @@ pub fn get_file_words<O: Write>(
     alloc: Global,
     bytes: &[u8],
     hash: Option<Hash>,
-    kinds: Kinds,
     words: &[String],
     output: &mut O,
 ) -> Result<Status, Failure> {
-    let found = read_as(bytes, hash, kinds)?;
-    let (shape, forms) = found;
-    if forms.are_own() {
-        get_words_of(alloc, shape, OwnForms, bytes, words, output)
-    } else {
-        get_words_of(alloc, shape, forms, bytes, words, output)
-    }
+    let shape = found_shape(bytes, hash)?;
+    get_words_of(alloc, shape, bytes, words, output)
 }
 
-fn get_words_of<F: Forms, O: Write>(
+fn get_words_of<O: Write>(
     alloc: Global,
     shape: Shape,
-    forms: F,
     bytes: &[u8],
     words: &[String],
     output: &mut O,
 ) -> Result<Status, Failure> {
-    for_shape!(shape, get_words[F, O](alloc, bytes, forms, words, output))
+    for_shape!(shape, get_words[O](alloc, bytes, words, output))
 }
 
 /// `odht get` of the bytes of a file, for the lines of an input.
@@ -55,35 +48,27 @@ pub fn get_file_lines<I: BufRead, O: Write>(
     alloc: Global,
     bytes: &[u8],
     hash: Option<Hash>,
-    kinds: Kinds,
     input: &mut I,
     output: &mut O,
 ) -> Result<Status, Failure> {
-    let found = read_as(bytes, hash, kinds)?;
-    let (shape, forms) = found;
-    if forms.are_own() {
-        get_lines_of(alloc, shape, OwnForms, bytes, input, output)
-    } else {
-        get_lines_of(alloc, shape, forms, bytes, input, output)
-    }
+    let shape = found_shape(bytes, hash)?;
+    get_lines_of(alloc, shape, bytes, input, output)
 }
 
-fn get_lines_of<F: Forms, I: BufRead, O: Write>(
+fn get_lines_of<I: BufRead, O: Write>(
     alloc: Global,
     shape: Shape,
-    forms: F,
     bytes: &[u8],
     input: &mut I,
     output: &mut O,
 ) -> Result<Status, Failure> {
-    for_shape!(shape, get_lines[F, I, O](alloc, bytes, forms, input, output))
+    for_shape!(shape, get_lines[I, O](alloc, bytes, input, output))
 }
 
 // Looks up the keys of the words.
-fn get_words<C: Config, F: Forms, O: Write>(
+fn get_words<C: Config, O: Write>(
     alloc: Global,
     bytes: &[u8],
-    forms: F,
     words: &[String],
     output: &mut O,
 ) -> Result<Status, Failure>
@@ -92,16 +77,15 @@ where
     C::Value: Text,
 {
     let table = open::<C>(bytes)?;
-    let keys = parse_keys::<C::Key>(alloc, words, forms.key())?;
-    let is_all_found = answer_keys(alloc, &table, keys.as_slice(), forms, output)?;
+    let keys = parse_keys::<C::Key>(alloc, words)?;
+    let is_all_found = answer_keys(alloc, &table, keys.as_slice(), output)?;
     Ok(Status::of(is_all_found))
 }
 
 // Looks up the keys of the lines, a batch at a time.
-fn get_lines<C: Config, F: Forms, I: BufRead, O: Write>(
+fn get_lines<C: Config, I: BufRead, O: Write>(
     alloc: Global,
     bytes: &[u8],
-    forms: F,
     input: &mut I,
     output: &mut O,
 ) -> Result<Status, Failure>
@@ -110,13 +94,12 @@ where
     C::Value: Text,
 {
     let table = open::<C>(bytes)?;
-    answer_lines(alloc, &table, forms, input, output)
+    answer_lines(alloc, &table, input, output)
 }
 
-fn answer_lines<C: Config, F: Forms, I: BufRead, O: Write>(
+fn answer_lines<C: Config, I: BufRead, O: Write>(
     alloc: Global,
     table: &HashTable<C, Borrowed<'_>>,
-    forms: F,
     input: &mut I,
     output: &mut O,
 ) -> Result<Status, Failure>
@@ -128,41 +111,39 @@ where
     let mut line = crate::host::lists::empty(alloc);
     let mut is_all_found = true;
     for number in 1..u64::MAX {
-        let read =
-            read_key(alloc, table, number, input, &mut line, keys.as_slice(), forms, output)?;
+        let read = read_key(alloc, table, number, input, &mut line, keys.as_slice(), output)?;
         match read {
             Some(key) => {
-                is_all_found = take_key(alloc, table, &mut keys, key, is_all_found, forms, output)?;
+                is_all_found = take_key(alloc, table, &mut keys, key, is_all_found, output)?;
             }
             None => break,
         }
     }
-    let is_last_found = answer_keys(alloc, table, keys.as_slice(), forms, output)?;
+    let is_last_found = answer_keys(alloc, table, keys.as_slice(), output)?;
     Ok(Status::of(is_last_found && is_all_found))
 }
 
 // Reads the key of the line of this number, if there is such a line. Where it is no key, the keys before it are
 // answered first.
-fn read_key<C: Config, F: Forms, I: BufRead, O: Write>(
+fn read_key<C: Config, I: BufRead, O: Write>(
     alloc: Global,
     table: &HashTable<C, Borrowed<'_>>,
     number: u64,
     input: &mut I,
     line: &mut Vec<u8>,
     keys: &[C::Key],
-    forms: F,
     output: &mut O,
 ) -> Result<Option<C::Key>, Failure>
 where
     C::Key: Text,
     C::Value: Text,
 {
-    match next_key(input, line, forms.key()) {
+    match next_key(input, line) {
         Ok(NextKey::Key(key)) => Ok(Some(key)),
         Ok(NextKey::End) => Ok(None),
         Ok(NextKey::NoKey) => {
-            let message = wrong_line::<C::Key>(alloc, number, line.as_slice(), forms.key())?;
-            answer_keys(alloc, table, keys, forms, output)?;
+            let message = wrong_line::<C::Key>(alloc, number, line.as_slice())?;
+            answer_keys(alloc, table, keys, output)?;
             Err(Failure::Misread(message))
         }
         Err(error) => Err(Failure::Input(error)),
@@ -170,25 +151,19 @@ where
 }
 
 // What is said of a line that is no key.
-fn wrong_line<K: Text>(
-    alloc: Global,
-    number: u64,
-    line: &[u8],
-    form: Form,
-) -> Result<String, AllocError> {
+fn wrong_line<K: Text>(alloc: Global, number: u64, line: &[u8]) -> Result<String, AllocError> {
     let misread =
-        Misread { line: Some(number), fault: LineFault::Key, wanted: K::wanted(form), text: line };
+        Misread { line: Some(number), fault: LineFault::Key, wanted: K::wanted(), text: line };
     misread.message(alloc)
 }
 
 // Adds a key, and answers all where they are a batch. Returns whether each was found, and those before.
-fn take_key<C: Config, F: Forms, O: Write>(
+fn take_key<C: Config, O: Write>(
     alloc: Global,
     table: &HashTable<C, Borrowed<'_>>,
     keys: &mut Vec<C::Key>,
     key: C::Key,
     is_all_found: bool,
-    forms: F,
     output: &mut O,
 ) -> Result<bool, Failure>
 where
@@ -196,17 +171,16 @@ where
     C::Value: Text,
 {
     push_key(keys, key)?;
-    answer_batch(alloc, table, keys, is_all_found, forms, output)
+    answer_batch(alloc, table, keys, is_all_found, output)
 }
 
 // Answers the keys where they are a batch, and drops them. Returns whether each was found, and
 // those before.
-fn answer_batch<C: Config, F: Forms, O: Write>(
+fn answer_batch<C: Config, O: Write>(
     alloc: Global,
     table: &HashTable<C, Borrowed<'_>>,
     keys: &mut Vec<C::Key>,
     is_all_found: bool,
-    forms: F,
     output: &mut O,
 ) -> Result<bool, Failure>
 where
@@ -216,7 +190,7 @@ where
     if keys.len() < BATCH {
         return Ok(is_all_found);
     }
-    let is_found = answer_keys(alloc, table, keys.as_slice(), forms, output)?;
+    let is_found = answer_keys(alloc, table, keys.as_slice(), output)?;
     keys.clear();
     Ok(is_found && is_all_found)
 }
@@ -226,11 +200,10 @@ fn open<C: Config>(bytes: &[u8]) -> Result<HashTable<C, Borrowed<'_>>, Failure> 
 }
 
 // Looks the keys up, and writes a line for each. Returns whether each was found.
-fn answer_keys<C: Config, F: Forms, O: Write>(
+fn answer_keys<C: Config, O: Write>(
     alloc: Global,
     table: &HashTable<C, Borrowed<'_>>,
     keys: &[C::Key],
-    forms: F,
     output: &mut O,
 ) -> Result<bool, Failure>
 where
@@ -239,12 +212,11 @@ where
 {
     let values = look_up::<C>(alloc, table, keys)?;
     let values = values.as_slice();
-    write_answers(keys, values, forms, output).map_err(Failure::Output)?;
+    write_answers(keys, values, output).map_err(Failure::Output)?;
     Ok(are_found(values))
 }
 
 // The value of each key.
-#[inline(always)]
 fn look_up<C: Config>(
     alloc: Global,
     table: &HashTable<C, Borrowed<'_>>,
