@@ -79,8 +79,8 @@ impl<const LEN: usize> ByteArray for [u8; LEN] {
         as_bytes(self)
     }
 
-    // Arrays of one to four words are compared a word at a time, with no loop. Those of 20 bytes, and of lengths that
-    // are not multiples of four, are compared as the compiler does it, which takes fewer instructions there: up to 7
+    // Arrays of one to four words are compared a word at a time, with no loop. Those of 20 and 28 bytes, and of lengths
+    // that are not multiples of four, are compared as the compiler does it, which takes fewer instructions there: up to 7
     // bytes as arrays, which it keeps in registers; longer ones as lists of a known length, by loads that overlap.
     #[inline]
     fn equals(&self, other: &Self) -> bool {
@@ -90,7 +90,7 @@ impl<const LEN: usize> ByteArray for [u8; LEN] {
             16 => is_same_pair(left, right, 0),
             24 => is_same_pair(left, right, 0) && is_same_word(left, right, 16),
             32 => is_same_pair(left, right, 0) && is_same_pair(left, right, 16),
-            20 => is_same_list(left, right),
+            20 | 28 => is_same_list(left, right),
             _ if LEN % 4 == 0 => is_same_bytes(left, right),
             _ if LEN < 8 => *self == *other,
             _ => is_same_list(left, right),
