@@ -17,6 +17,7 @@ mod host;
 // The modules of the crate `odht`. They are whole, also where nothing here uses them.
 #[allow(dead_code, unused_imports, unused_variables)]
 #[allow(
+    clippy::borrow_deref_ref,
     clippy::collapsible_if,
     clippy::manual_find,
     clippy::manual_map,
