@@ -31,6 +31,8 @@ COMMANDS = [
     (["check", "table"], b""),
     (["dump", "table"], b""),
     (["dump", "-"], None),
+    (["keys", "table"], b""),
+    (["count", "table", "-"], None),
     (["get", "table", "3", "7"], b""),
     (["get", "table", "x"], b""),
     (["get", "table", "-"], LINES.replace(b"\t", b"\n")),

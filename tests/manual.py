@@ -19,6 +19,8 @@ ASKED = [
     (["ch"], ["check"], ["info"]),
     (["help", "bu"], ["build"], ["put"]),
     (["check", "x", "--wh"], ["--whole"], ["--slots"]),
+    (["cou"], ["count"], ["check"]),
+    (["keys", "--"], ["--hash"], ["--slots"]),
     (["dump", "--sl"], ["--slots"], ["--whole"]),
     (["get", "--hash", ""], ["fx", "unhash"], ["--at"]),
     (["info", "a ta"], ["a table.odht"], ["--whole"]),

@@ -6,11 +6,11 @@ _odht() {
         before=${COMP_WORDS[COMP_CWORD-2]}
     fi
     if [ "$COMP_CWORD" = 1 ]; then
-        COMPREPLY=($(compgen -W 'info check get dump find build put help --help --version' -- "$word"))
+        COMPREPLY=($(compgen -W 'info check count get dump keys find build put help --help --version' -- "$word"))
         return
     fi
     case $before in
-        help) COMPREPLY=($(compgen -W 'info check get dump find build put' -- "$word")); return;;
+        help) COMPREPLY=($(compgen -W 'info check count get dump keys find build put' -- "$word")); return;;
         --at) COMPREPLY=(); return;;
         --capacity) COMPREPLY=(); return;;
         --hash) COMPREPLY=($(compgen -W 'fx unhash' -- "$word")); return;;
@@ -21,8 +21,10 @@ _odht() {
     case ${COMP_WORDS[1]}:$word in
         info:-*) COMPREPLY=($(compgen -W '--help --whole --at' -- "$word"));;
         check:-*) COMPREPLY=($(compgen -W '--help --whole --hash --at' -- "$word"));;
+        count:-*) COMPREPLY=($(compgen -W '--help --whole --hash --at' -- "$word"));;
         get:-*) COMPREPLY=($(compgen -W '--help --hash --at' -- "$word"));;
         dump:-*) COMPREPLY=($(compgen -W '--help --slots --hash --at' -- "$word"));;
+        keys:-*) COMPREPLY=($(compgen -W '--help --hash --at' -- "$word"));;
         find:-*) COMPREPLY=($(compgen -W '--help --whole' -- "$word"));;
         build:-*) COMPREPLY=($(compgen -W '--help --key --value --hash --percent --capacity --progress --break-links' -- "$word"));;
         put:-*) COMPREPLY=($(compgen -W '--help --whole --hash --progress --break-links' -- "$word"));;

@@ -1,13 +1,15 @@
 # made by tools/manual.py of the program's help texts
 complete -c odht -n __fish_use_subcommand -f -a info -d 'tells what a table file holds, of any key and value sizes'
-complete -c odht -n __fish_use_subcommand -f -a check -d 'tells whether a file is a valid table'
+complete -c odht -n __fish_use_subcommand -f -a check -d 'tells whether each file is a valid table'
+complete -c odht -n __fish_use_subcommand -f -a count -d 'tells how many items each table has'
 complete -c odht -n __fish_use_subcommand -f -a get -d 'looks keys up; with - instead of keys, those of standard input'
 complete -c odht -n __fish_use_subcommand -f -a dump -d 'tells each pair'
+complete -c odht -n __fish_use_subcommand -f -a keys -d 'tells each key'
 complete -c odht -n __fish_use_subcommand -f -a find -d 'tells each table that is inside a file'
 complete -c odht -n __fish_use_subcommand -f -a build -d 'makes a table file of the lines of standard input'
 complete -c odht -n __fish_use_subcommand -f -a put -d 'adds the lines of standard input to a table file'
 complete -c odht -n __fish_use_subcommand -f -a help -d 'is the help of a command'
-complete -c odht -n '__fish_seen_subcommand_from help' -f -a 'info check get dump find build put'
+complete -c odht -n '__fish_seen_subcommand_from help' -f -a 'info check count get dump keys find build put'
 complete -c odht -n '__fish_seen_subcommand_from info' -l help
 complete -c odht -n '__fish_seen_subcommand_from info' -l whole
 complete -c odht -n '__fish_seen_subcommand_from info' -l at -x -d 'a number below 2^64'
@@ -15,6 +17,10 @@ complete -c odht -n '__fish_seen_subcommand_from check' -l help
 complete -c odht -n '__fish_seen_subcommand_from check' -l whole
 complete -c odht -n '__fish_seen_subcommand_from check' -l hash -x -a 'fx unhash' -d 'fx or unhash'
 complete -c odht -n '__fish_seen_subcommand_from check' -l at -x -d 'a number below 2^64'
+complete -c odht -n '__fish_seen_subcommand_from count' -l help
+complete -c odht -n '__fish_seen_subcommand_from count' -l whole
+complete -c odht -n '__fish_seen_subcommand_from count' -l hash -x -a 'fx unhash' -d 'fx or unhash'
+complete -c odht -n '__fish_seen_subcommand_from count' -l at -x -d 'a number below 2^64'
 complete -c odht -n '__fish_seen_subcommand_from get' -l help
 complete -c odht -n '__fish_seen_subcommand_from get' -l hash -x -a 'fx unhash' -d 'fx or unhash'
 complete -c odht -n '__fish_seen_subcommand_from get' -l at -x -d 'a number below 2^64'
@@ -22,6 +28,9 @@ complete -c odht -n '__fish_seen_subcommand_from dump' -l help
 complete -c odht -n '__fish_seen_subcommand_from dump' -l slots
 complete -c odht -n '__fish_seen_subcommand_from dump' -l hash -x -a 'fx unhash' -d 'fx or unhash'
 complete -c odht -n '__fish_seen_subcommand_from dump' -l at -x -d 'a number below 2^64'
+complete -c odht -n '__fish_seen_subcommand_from keys' -l help
+complete -c odht -n '__fish_seen_subcommand_from keys' -l hash -x -a 'fx unhash' -d 'fx or unhash'
+complete -c odht -n '__fish_seen_subcommand_from keys' -l at -x -d 'a number below 2^64'
 complete -c odht -n '__fish_seen_subcommand_from find' -l help
 complete -c odht -n '__fish_seen_subcommand_from find' -l whole
 complete -c odht -n '__fish_seen_subcommand_from build' -l help

@@ -165,6 +165,7 @@ class Case:
         self.dump = dump_text(self.table, key_text, value_text)
         self.slots = slots_text(self.table, key_text, value_text)
         self.keys = "".join(key_text(cell[0]) + "\r\n" for cell in filter(None, self.table.cells))
+        self.key_lines = "".join(key_text(cell[0]) + "\n" for cell in filter(None, self.table.cells))
         self.pairs = "".join(f"{key_text(k)}\t{value_text(v)}\n" for k, v in pairs)
 
     def write_file(self):
@@ -198,6 +199,8 @@ class Case:
             if hash:
                 text += self.rejected_text(fx, "fx", "unhash")
             text += self.run_text("dump", f"dump {file}", "", self.dump)
+            text += self.run_text("keys", f"keys {file}", "", self.key_lines)
+            text += self.run_text("count", f"count {file}", "", f"{self.table.count()}\n")
             text += self.run_text("dump --slots", f"dump --slots {file}", "", self.slots)
             text += self.run_text("get all keys, in lines that end with \\r\\n", f"get {file} -", self.keys, self.dump)
             text += self.run_text("build", f"build {file} {self.words}", self.pairs, "", "after")

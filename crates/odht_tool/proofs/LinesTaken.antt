@@ -9,10 +9,10 @@ use Rattle.std.proofs.Math.Nat.{eq-or-lt_of_le}
 use Rattle.std.proofs.Math.Seq.{take-append_seam}
 use Rattle.std.proofs.lemmas.List.{append_assoc, append-nil}
 use Rattle.odht_header.specs.Coding.{Coding}
-use Rattle.odht_tool.specs.GetLines.{lines_read, AreFirstAnswered, IsLineFault, AreLinesAnswered}
+use Rattle.odht_tool.specs.GetLines.{lines_read, AreAllAnswered, AreFirstAnswered, IsLineFault, AreLinesAnswered}
 use Rattle.odht_tool.specs.GetParts.{AreKeysAnswered, AreFaultAnswered, IsKeysFailure, IsFlushed, IsLineFailure}
 use Rattle.odht_tool.specs.Gets.{AreAnswers, IsAnswered, answered_status, found_status}
-use Rattle.odht_tool_core.specs.InputLines.{IsNextLine}
+use Rattle.odht_tool_core.specs.InputLines.{AreLeft, IsNextLine}
 use Rattle.odht_tool_core.specs.Misreads.{misread_text}
 use Rattle.odht_tool_core.specs.Texts.{answers_text}
 use Rattle.odht_tool_core.specs.declared.misread.Wanted.{Wanted}
@@ -24,7 +24,7 @@ use Rattle.odht_tool_core.specs.declared.failure.LineFault.TheVariants.{Key}
 use Rattle.odht_tool.proofs.AnswerLists.{AllZip-length, IsFront, front_of, appended_kept, are_answers_append, written_append, found_append}
 use Rattle.odht_tool.proofs.KeyAnswers.{no_answers}
 use Rattle.odht_tool_core.proofs.KeyWords.{AllZip-one_more}
-use Rattle.odht_tool_core.specs.Keys.{IsNextKey}
+use Rattle.odht_tool_core.specs.Keys.{IsLeftOut, IsNextKey}
 
 -- the lines before the one of this number were read as these keys, and the input has the bytes of the others left
 pub record AreRead {K : Type 0} (R : List ℕ → K → Type 0) (bytes : List ℕ) (input : Option (List ℕ)) (number : ℕ) (keys : List K) : Type 0 where
@@ -55,6 +55,10 @@ if_some (Some x) P Q f h = f x h
 -- of known bytes that are left the next line is known
 next_of : (old new : Option (List ℕ)) (rest line : List ℕ) → old ≡ Some rest → IsNextLine old new line → (more : List ℕ) × (new ≡ Some more) × (lines rest ≡ line ∷ lines more)
 next_of old new rest line e h = subst (λ o. IsNextLine o new line) e h
+
+-- of known bytes that are left as an empty line alone the lines are known
+only_of : {K : Type 0} (R : List ℕ → K → Type 0) (old : Option (List ℕ)) (rest : List ℕ) → old ≡ Some rest → IsLeftOut R old → lines rest ≡ [] ∷ []
+only_of R old rest e h = (subst (IsLeftOut R) e h).0
 
 -- and at the end there is none
 end_of : (old : Option (List ℕ)) (rest : List ℕ) → old ≡ Some rest → IsAtEnd old → rest ≡ []
@@ -162,16 +166,30 @@ module _ {K V : Type 0} (c : Coding K V) (f : K → List ℕ) (g : V → List �
     limit : {n : ℕ} → number ≡ n + 1 → number ≡ 2 ^ 64 - 1 → 2 ^ 64 - 2 ≡ n
     limit {n} p q = omega (arith, p, q)
 
-    pub lines_answered : (every : Bool) → (IsAtEnd now × (number ≤ 2 ^ 64 - 1)) ⊎ (number ≡ 2 ^ 64 - 1) → AreKeysAnswered c f g B pending new last every
-        → IfSome input (λ bytes. IsAnswered c f g R B (lines_read bytes) old last (found_status (every && all)))
-    lines_answered every end s = if_some input _ _ (λ bytes r. subst (λ ws. IsAnswered c f g R B ws old last (found_status (every && all))) (sym (whole bytes r end)) (all_answered every r.words r.texts s)) h.read
+    pub lines_answered : (every : Bool) → ((IsAtEnd now ⊎ IsLeftOut R now) × (number ≤ 2 ^ 64 - 1)) ⊎ (number ≡ 2 ^ 64 - 1) → AreKeysAnswered c f g B pending new last every
+        → IfSome input (λ bytes. AreAllAnswered c f g R B bytes old last (found_status (every && all)))
+    lines_answered every end s = if_some input _ _ (λ bytes r. whole bytes r end) h.read
       where
-        whole : (bytes : List ℕ) (r : AreRead R bytes now number (h.done ++ pending)) → (IsAtEnd now × (number ≤ 2 ^ 64 - 1)) ⊎ (number ≡ 2 ^ 64 - 1) → lines_read bytes ≡ r.words
-        whole bytes r (inl e) =
-            ap (take (2 ^ 64 - 2)) (r.place ∙ ap (λ rest. r.words ++ lines rest) (end_of now r.rest r.left e.0) ∙ append-nil r.words)
-            ∙ take_all (2 ^ 64 - 2) r.words (omega (arith, r.counted, e.1))
-        whole bytes r (inr e) =
-            ap (take (2 ^ 64 - 2)) r.place ∙ ap (λ n. take n (r.words ++ lines r.rest)) (limit r.counted e) ∙ take-append_seam r.words (lines r.rest)
+        these : (bytes : List ℕ) (r : AreRead R bytes now number (h.done ++ pending)) (ws : List (List ℕ)) → lines_read ws ≡ r.words → IsAnswered c f g R B (lines_read ws) old last (found_status (every && all))
+        these bytes r ws e = subst (λ ws. IsAnswered c f g R B ws old last (found_status (every && all))) (sym e) (all_answered every r.words r.texts s)
+
+        few : (bytes : List ℕ) (r : AreRead R bytes now number (h.done ++ pending)) → number ≤ 2 ^ 64 - 1 → lines_read r.words ≡ r.words
+        few bytes r n = take_all (2 ^ 64 - 2) r.words (omega (arith, r.counted, n))
+
+        whole : (bytes : List ℕ) (r : AreRead R bytes now number (h.done ++ pending)) → ((IsAtEnd now ⊎ IsLeftOut R now) × (number ≤ 2 ^ 64 - 1)) ⊎ (number ≡ 2 ^ 64 - 1) → AreAllAnswered c f g R B bytes old last (found_status (every && all))
+        whole bytes r (inl e) = record {
+          words = r.words;
+          place = elim e.0 [
+            | inl none ↦ inl (r.place ∙ ap (λ rest. r.words ++ lines rest) (end_of now r.rest r.left none) ∙ append-nil r.words)
+            | inr out ↦ inr (r.place ∙ ap (λ ls. r.words ++ ls) (only_of R now r.rest r.left out), out.1)
+          ];
+          answered = these bytes r r.words (few bytes r e.1);
+        }
+        whole bytes r (inr e) = record {
+          words = lines bytes;
+          place = inl refl;
+          answered = these bytes r (lines bytes) (ap (take (2 ^ 64 - 2)) r.place ∙ ap (λ n. take n (r.words ++ lines r.rest)) (limit r.counted e) ∙ take-append_seam r.words (lines r.rest));
+        }
 
     -- where the next line is no key, these are the answers to all before it
     line_fault : (p : Wanted) (text : List ℕ) → AreFaultAnswered c f g R p B pending number now new last text
@@ -187,6 +205,7 @@ module _ {K V : Type 0} (c : Coding K V) (f : K → List ℕ) (g : V → List �
               after = lines n.0;
               place = r.place ∙ ap (λ ls. r.words ++ ls) n.2;
               fault = a.fault;
+              more = λ e. subst AreLeft n.1 (a.more e);
               told = a.told ∙ ap (λ k. misread_text (Some k) Key p a.line) r.counted;
               status = found_status (a.every && all);
               answered = all_answered a.every r.words r.texts a.answered;

@@ -1,17 +1,21 @@
 -- What `get -` does with the bytes B of a file and the lines of an input. R says which line is a text of which key.
---     lines_read bytes     the lines that are read of an input with these bytes: all, unless there are 2^64 - 1 or more
+--     lines_read ws        those of the lines ws of an input that are read: all, unless there are 2^64 - 1 or more
+--     AreLinesOf R bytes ws    ws are the lines of an input with these bytes; a last one that is empty and a text of no key
+--                          may be left out
 --     AreFirstAnswered c f g R B ws old new   the answers to some first lines of ws, as many as some batches have and all
 --                          of them texts of keys, were written, which took the writer from the bytes old to new; f and g
 --                          are the texts of keys and of values
 --     IsLineFault c f g R p B ws t old new    one of the lines ws is the first that is a text of no key, where p is wanted,
---                          the text t tells it with its number, counted from 1, and the answers to those before it were
---                          written
+--                          and no empty last one; the text t tells it with its number, counted from 1, and the answers to
+--                          those before it were written
+--     AreAllAnswered c f g R B bytes old new status   the answers to the lines of an input with these bytes were written,
+--                          but for an empty last one that is a text of no key
 --     AreLinesAnswered c f g R p B input old new r   what is returned, r, and written once the table is opened, where the
 --                          input has these bytes, which may be known
 --     AreLinesGot c f g R p B input old new r the same of opening too
 --     AreFileLinesGot B h input old new r     the same of the bytes of a file, where the hash function h, or none, is named
 -- Nothing is said of answers where the bytes of the input are not known.
-use Rattle.std.specs.Prelude.{◌≡◌, ℕ, ◌+◌, ◌-◌, ◌*◌, ◌^◌, List, ◌∷◌, ◌++◌, length, take, Option, None, Some, IfSome, Result, Ok, Err, string_bytes, ⊤}
+use Rattle.std.specs.Prelude.{◌≡◌, ◌≢◌, ◌⊎◌, ℕ, ◌+◌, ◌-◌, ◌*◌, ◌^◌, List, [], ◌∷◌, ◌++◌, length, take, Option, None, Some, IfSome, Result, Ok, Err, string_bytes, ⊤}
 use Rattle.std.specs.Io.KnownBytes.{Keeps}
 use Rattle.std.specs.Str.Lines.{lines}
 use Rattle.odht_header.specs.Coding.{Coding}
@@ -30,8 +34,16 @@ use Rattle.odht_tool_core.specs.declared.shapes.Hash.{Hash}
 use Rattle.odht_tool_core.specs.declared.shapes.ready.Shape.{Shape}
 use Rattle.odht_tool_core.specs.declared.status.Status.{Status}
 
-abbrev pub lines_read : List ℕ → List (List ℕ)
-lines_read bytes = take (2 ^ 64 - 2) (lines bytes)
+abbrev pub lines_read : List (List ℕ) → List (List ℕ)
+lines_read ws = take (2 ^ 64 - 2) ws
+
+abbrev pub AreLinesOf : {K : Type 0} → (List ℕ → K → Type 0) → List ℕ → List (List ℕ) → Type 0
+AreLinesOf R bytes ws = (lines bytes ≡ ws) ⊎ ((lines bytes ≡ ws ++ ([] ∷ [])) × IsTextOfNone R [])
+
+pub record AreAllAnswered {K V : Type 0} (c : Coding K V) (f : K → List ℕ) (g : V → List ℕ) (R : List ℕ → K → Type 0) (B : List ℕ) (bytes : List ℕ) (old new : Option (List ℕ)) (status : Status) : Type 0 where
+  pub words : List (List ℕ)
+  pub place : AreLinesOf R bytes words
+  pub answered : IsAnswered c f g R B (lines_read words) old new status
 
 pub record AreFirstAnswered {K V : Type 0} (c : Coding K V) (f : K → List ℕ) (g : V → List ℕ) (R : List ℕ → K → Type 0) (B : List ℕ) (ws : List (List ℕ)) (old new : Option (List ℕ)) : Type 0 where
   pub before : List (List ℕ)
@@ -48,13 +60,14 @@ pub record IsLineFault {K V : Type 0} (c : Coding K V) (f : K → List ℕ) (g :
   pub after : List (List ℕ)
   pub place : ws ≡ before ++ (word ∷ after)
   pub fault : IsTextOfNone R word
+  pub more : word ≡ [] → after ≢ []
   pub told : text ≡ misread_text (Some (length before + 1)) Key p word
   pub status : Status
   pub answered : IsAnswered c f g R B before old new status
 
 module _ {K V : Type 0} (c : Coding K V) (f : K → List ℕ) (g : V → List ℕ) (R : List ℕ → K → Type 0) (p : Wanted) (B : List ℕ) where
   abbrev pub AreLinesAnswered : Option (List ℕ) → Option (List ℕ) → Option (List ℕ) → Result Status Failure → Type 0
-  AreLinesAnswered input old new (Ok status) = IfSome input (λ bytes. IsAnswered c f g R B (lines_read bytes) old new status)
+  AreLinesAnswered input old new (Ok status) = IfSome input (λ bytes. AreAllAnswered c f g R B bytes old new status)
   AreLinesAnswered input old new (Err (Misread message)) = IfSome input (λ bytes. IsLineFault c f g R p B (lines bytes) (string_bytes message) old new)
   AreLinesAnswered input old new (Err Memory) = IfSome input (λ bytes. AreFirstAnswered c f g R B (lines bytes) old new)
   AreLinesAnswered input old new (Err (Input error)) = IfSome input (λ bytes. AreFirstAnswered c f g R B (lines bytes) old new)

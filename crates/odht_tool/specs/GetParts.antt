@@ -6,9 +6,11 @@
 --     IsFlushed c f g B before after old new was all   of the keys `before` those that are not left in `after` were
 --                          answered: all where they are a batch, and else none; `all` says whether each has a value, and
 --                          `was` holds
---     IsReadKey R o o' k   k is the key of the next line of the bytes o, and o' are those after it; or there is no line
+--     IsReadKey R o o' k   k is the key of the next line of the bytes o, and o' are those after it; or there is no line, or
+--                          an empty last one that is a text of no key
 --     AreFaultAnswered c f g R p B ks n o old new t   the next line of the bytes o, which is line n, is a text of no key,
---                          where p is wanted, the text t tells that, and the answers to the keys ks were written
+--                          where p is wanted, and no empty last one; the text t tells that, and the answers to the keys ks
+--                          were written
 --     IsLineFailure c f g R p B ks n o old new f   f tells this fault of line n, with these answers; or no memory, or the
 --                          reader failed, and nothing was written; or the writer failed
 use Rattle.std.specs.Prelude.{◌≡◌, ⊤, ℕ, ◌<◌, ◌≤◌, Bool, ◌&&◌, List, [], ◌++◌, length, is_some, Option, Some, None, string_bytes}
@@ -17,7 +19,7 @@ use Rattle.std.specs.List.{list_all}
 use Rattle.odht_header.specs.Coding.{Coding}
 use Rattle.odht_header.specs.declared.error.Error.{Error}
 use Rattle.odht_tool.specs.Gets.{AreAnswers}
-use Rattle.odht_tool_core.specs.InputLines.{IsNextLine}
+use Rattle.odht_tool_core.specs.InputLines.{AreLeft, IsNextLine}
 use Rattle.odht_tool_core.specs.Keys.{IsNextKey, IsTextOfNone}
 use Rattle.odht_tool_core.specs.Misreads.{misread_text}
 use Rattle.odht_tool_core.specs.Texts.{answers_text}
@@ -64,6 +66,7 @@ module _ {K V : Type 0} (c : Coding K V) (f : K → List ℕ) (g : V → List �
     pub line : List ℕ
     pub next : IsNextLine bytes then line
     pub fault : IsTextOfNone R line
+    pub more : line ≡ [] → AreLeft then
     pub told : text ≡ misread_text (Some number) Key p line
     pub every : Bool
     pub answered : AreKeysAnswered c f g B ks old new every

@@ -11,3 +11,5 @@ pub mod GetLines
 pub mod FindLines
 -- lines of which no pair is read
 pub mod Faults
+-- what `keys` and `count` do
+pub mod Listings

@@ -6,6 +6,7 @@ use odht_tool_core::front::table_at;
 use odht_tool_core::help::{write_help, write_version};
 use odht_tool_core::info::info_file;
 use odht_tool_core::inside::{first_inside, write_inside};
+use odht_tool_core::shapes::Hash;
 use odht_tool_core::status::{Status, of_output};
 use odht_tool_core::targets::Target;
 use std::alloc::Global;
@@ -15,9 +16,11 @@ use std::rt::{Clock, Files};
 
 mod build;
 mod check;
+mod count;
 mod dump;
 mod find;
 mod get;
+mod keys;
 
 /// Does what the words ask for. Each failure is reported by a line on `errors`; where that cannot
 /// be written either, the status alone reports it. Where nobody reads `output` any more, nothing is
@@ -64,19 +67,13 @@ where
     R::File: AsFd,
 {
     match command {
-        Command::Read { at, reading } => {
-            let bytes = read_bytes(rt, file, input)?;
-            let (table, offset) = match at {
-                Some(offset) => (table_at(bytes.as_slice(), offset)?, offset),
-                None => (bytes.as_slice(), 0),
-            };
-            let is_search = reading.is_search();
-            let done = run_reading(rt.alloc(), file, table, reading, input, output, errors);
-            if is_search {
-                done
-            } else {
-                with_hint(rt.alloc(), file, table, offset, done, errors)
-            }
+        Command::Read {
+            others,
+            at,
+            reading,
+        } => {
+            let others = others.as_slice();
+            read_files(rt, file, others, at, &reading, input, output, errors)
         }
         Command::Build(options) => build::build(rt, file, options, input, output, errors),
         Command::Put {
@@ -89,6 +86,76 @@ where
             let bytes = read_file(rt, target.path())?;
             build::put(rt, target, bytes, hash, bound, has_progress, input, errors)
         }
+    }
+}
+
+// Runs a command that reads its file alone, on this file and on others. Where there are others, each failure is
+// reported, and the next one is read; but where the output cannot be written, no more is.
+fn read_files<R: Files + AllocGlobal, I: BufRead, O: Write, E: Write>(
+    rt: &R,
+    file: &str,
+    others: &[String],
+    at: Option<usize>,
+    reading: &Reading,
+    input: &mut I,
+    output: &mut O,
+    errors: &mut E,
+) -> Result<Status, Failure> {
+    let is_one = others.is_empty();
+    let done = read_one(rt, file, is_one, at, reading, input, output, errors);
+    if is_one {
+        return done;
+    }
+    let mut is_done = is_read(file, done, errors)?;
+    for other in others {
+        let file = other.as_str();
+        let done = read_one(rt, file, is_one, at, reading, input, output, errors);
+        is_done = is_read(file, done, errors)? && is_done;
+    }
+    Ok(Status::of(is_done))
+}
+
+// Reports the failure of a file, but one of the output. Returns whether all was done.
+fn is_read<E: Write>(
+    file: &str,
+    done: Result<Status, Failure>,
+    errors: &mut E,
+) -> Result<bool, Failure> {
+    match done {
+        Err(Failure::Output(error)) => Err(Failure::Output(error)),
+        done => Ok(finish(file, done, errors).is_done()),
+    }
+}
+
+fn read_one<R: Files + AllocGlobal, I: BufRead, O: Write, E: Write>(
+    rt: &R,
+    file: &str,
+    is_one: bool,
+    at: Option<usize>,
+    reading: &Reading,
+    input: &mut I,
+    output: &mut O,
+    errors: &mut E,
+) -> Result<Status, Failure> {
+    let bytes = read_bytes(rt, file, input)?;
+    let (table, offset) = match at {
+        Some(offset) => (table_at(bytes.as_slice(), offset)?, offset),
+        None => (bytes.as_slice(), 0),
+    };
+    let done = run_reading(
+        rt.alloc(),
+        file,
+        is_one,
+        table,
+        reading,
+        input,
+        output,
+        errors,
+    );
+    if reading.is_search() {
+        done
+    } else {
+        with_hint(rt.alloc(), file, table, offset, done, errors)
     }
 }
 
@@ -124,46 +191,88 @@ fn read_bytes<R: Files + AllocGlobal, I: BufRead>(
     }
 }
 
-// Runs a command that reads its file alone, which has these bytes.
+// Runs a command that reads its file alone, which has these bytes, and may be the only one.
 fn run_reading<I: BufRead, O: Write, E: Write>(
     alloc: Global,
     file: &str,
+    is_one: bool,
     bytes: &[u8],
-    reading: Reading,
+    reading: &Reading,
     input: &mut I,
     output: &mut O,
     errors: &mut E,
 ) -> Result<Status, Failure> {
     match reading {
-        Reading::Info { bound } => info_file(alloc, bytes, bound, output),
-        Reading::Check { hash, bound } => {
-            let status = check::check_file(file, bytes, hash, bound, output)?;
-            if !status.is_done()
-                && let Some(other) = check::hint_of(bytes, hash)
-            {
-                // A hint that cannot be written is no failure.
-                let _ = check::write_hint(file, other, errors);
-            }
-            Ok(status)
+        Reading::Info { bound } => info_file(alloc, bytes, *bound, output),
+        Reading::Check { hash, bound } => { check_one(file, bytes, *hash, *bound, output, errors) }
+        Reading::Count { hash, bound } => {
+            let name = if is_one { None } else { Some(file) };
+            count_one(alloc, name, bytes, *hash, *bound, output)
         }
         Reading::Get {
             hash,
             keys: Keys::Words(words),
-        } => get::get_file_words(alloc, bytes, hash, words.as_slice(), output),
+        } => get::get_file_words(alloc, bytes, *hash, words.as_slice(), output),
         Reading::Get {
             hash,
             keys: Keys::Lines,
-        } => get::get_file_lines(alloc, bytes, hash, input, output),
-        Reading::Find { bound } => {
-            let status = find::find_file(alloc, bytes, bound, output)?;
-            if !status.is_done() {
-                // A line that cannot be written is no failure.
-                let _ = find::write_none(file, errors);
-            }
-            Ok(status)
-        }
-        Reading::Dump { hash, is_slots } => dump::dump_file(bytes, hash, is_slots, output),
+        } => get::get_file_lines(alloc, bytes, *hash, input, output),
+        Reading::Find { bound } => find_in(alloc, file, bytes, *bound, output, errors),
+        Reading::Dump { hash, is_slots } => dump::dump_file(bytes, *hash, *is_slots, output),
+        Reading::Keys { hash } => keys::keys_file(bytes, *hash, output),
     }
+}
+
+// Checks a file. Where another hash function fits, a line on `errors` names it.
+fn check_one<O: Write, E: Write>(
+    file: &str,
+    bytes: &[u8],
+    hash: Option<Hash>,
+    bound: Option<usize>,
+    output: &mut O,
+    errors: &mut E,
+) -> Result<Status, Failure> {
+    let status = check::check_file(file, bytes, hash, bound, output)?;
+    if !status.is_done()
+        && let Some(other) = check::hint_of(bytes, hash)
+    {
+        // A hint that cannot be written is no failure.
+        let _ = check::write_hint(file, other, errors);
+    }
+    Ok(status)
+}
+
+// Counts the items of a file, with its name where there are more files.
+fn count_one<O: Write>(
+    alloc: Global,
+    name: Option<&str>,
+    bytes: &[u8],
+    hash: Option<Hash>,
+    bound: Option<usize>,
+    output: &mut O,
+) -> Result<Status, Failure> {
+    let Some(file) = name else {
+        return count::count_file("", bytes, hash, bound, output);
+    };
+    let label = format!(in alloc; "{file}\t")?;
+    count::count_file(label.as_str(), bytes, hash, bound, output)
+}
+
+// Finds the tables in a file. Where there is none, a line on `errors` says so.
+fn find_in<O: Write, E: Write>(
+    alloc: Global,
+    file: &str,
+    bytes: &[u8],
+    bound: Option<usize>,
+    output: &mut O,
+    errors: &mut E,
+) -> Result<Status, Failure> {
+    let status = find::find_file(alloc, bytes, bound, output)?;
+    if !status.is_done() {
+        // A line that cannot be written is no failure.
+        let _ = find::write_none(file, errors);
+    }
+    Ok(status)
 }
 
 // Reports a failure, after the file's name.

@@ -7,19 +7,21 @@ use Rattle.std.specs.Prelude.{ℕ, List, [], ◌∷◌, codes}
 use Rattle.odht_tool_core.specs.declared.arguments.topics.Setting.{Setting}
 use Rattle.odht_tool_core.specs.declared.arguments.topics.Setting.TheVariants.{Help, Slots, Whole, Progress, BreakLinks, At, Hash, Key, Value, Percent, Capacity}
 use Rattle.odht_tool_core.specs.declared.arguments.topics.Topic.{Topic}
-use Rattle.odht_tool_core.specs.declared.arguments.topics.Topic.TheVariants.{Info, Check, Get, Dump, Find, Build, Put}
+use Rattle.odht_tool_core.specs.declared.arguments.topics.Topic.TheVariants.{Info, Check, Count, Get, Dump, Keys, Find, Build, Put}
 
 abbrev pub command_name : Topic → List ℕ
 command_name Info = codes "info"
 command_name Check = codes "check"
+command_name Count = codes "count"
 command_name Get = codes "get"
 command_name Dump = codes "dump"
+command_name Keys = codes "keys"
 command_name Find = codes "find"
 command_name Build = codes "build"
 command_name Put = codes "put"
 
 abbrev pub commands : List Topic
-commands = Info ∷ Check ∷ Get ∷ Dump ∷ Find ∷ Build ∷ Put ∷ []
+commands = Info ∷ Check ∷ Count ∷ Get ∷ Dump ∷ Keys ∷ Find ∷ Build ∷ Put ∷ []
 
 abbrev pub option_name : Setting → List ℕ
 option_name Help = codes "--help"
@@ -37,8 +39,10 @@ option_name Capacity = codes "--capacity"
 abbrev pub options_of : Topic → List Setting
 options_of Info = Help ∷ Whole ∷ At ∷ []
 options_of Check = Help ∷ Whole ∷ Hash ∷ At ∷ []
+options_of Count = Help ∷ Whole ∷ Hash ∷ At ∷ []
 options_of Get = Help ∷ Hash ∷ At ∷ []
 options_of Dump = Help ∷ Slots ∷ Hash ∷ At ∷ []
+options_of Keys = Help ∷ Hash ∷ At ∷ []
 options_of Find = Help ∷ Whole ∷ []
 options_of Build = Help ∷ Key ∷ Value ∷ Hash ∷ Percent ∷ Capacity ∷ Progress ∷ BreakLinks ∷ []
 options_of Put = Help ∷ Whole ∷ Hash ∷ Progress ∷ BreakLinks ∷ []

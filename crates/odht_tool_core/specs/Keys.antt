@@ -4,11 +4,16 @@
 --     IsFirstFault R ws w  the word w is one of ws, and the first that is a text of no key
 --     TellsWord p w f      the failure f tells that the word w is no key, where p is wanted, or there was no memory for it
 --     TellsFault R p ws f  f tells so of the first of the words ws that is a text of no key, or there was no memory
---     IsNextKey R o o' n   n is what the next line of the bytes o is, and o' are those after it
-use Rattle.std.specs.Prelude.{◌≡◌, ⊤, ℕ, List, ◌∷◌, ◌++◌, Option, None, string_bytes}
+--     IsLeftOut R o        the bytes o, where they are known, are one line, which is empty, and that is a text of no key
+--     IsNoKeyLine R o o' line  this is the next line of the bytes o, and a text of no key; another one comes after it where
+--                          it is empty, and else o' are the bytes after it
+--     IsNextKey R o o' n   n is what the next line of the bytes o is, and o' are those after it, but for an empty line that
+--                          is no key; at the end there is none, nor is there where an empty last line is no key
+use Rattle.std.specs.Prelude.{◌≡◌, ◌⊎◌, ⊤, ℕ, List, [], ◌∷◌, ◌++◌, Option, None, IfSome, string_bytes}
 use Rattle.std.specs.Io.KnownBytes.{IsAtEnd}
 use Rattle.std.specs.List.{AllZip}
-use Rattle.odht_tool_core.specs.InputLines.{IsNextLine}
+use Rattle.std.specs.Str.Lines.{lines}
+use Rattle.odht_tool_core.specs.InputLines.{IsBehind, IsNextLine}
 use Rattle.odht_tool_core.specs.declared.failure.Failure.{Failure}
 use Rattle.odht_tool_core.specs.declared.failure.Failure.TheVariants.{Memory, Misread}
 use Rattle.odht_tool_core.specs.declared.failure.LineFault.TheVariants.{Key}
@@ -41,7 +46,13 @@ TellsFault R p ws (Misread message) = (word : List ℕ) × IsFirstFault R ws wor
 TellsFault R p ws Memory = ⊤
 TellsFault R p ws _ = ⊥
 
+abbrev pub IsLeftOut : {K : Type 0} → (List ℕ → K → Type 0) → Option (List ℕ) → Type 0
+IsLeftOut R old = IfSome old (λ bytes. lines bytes ≡ [] ∷ []) × IsTextOfNone R []
+
+abbrev pub IsNoKeyLine : {K : Type 0} → (List ℕ → K → Type 0) → Option (List ℕ) → Option (List ℕ) → List ℕ → Type 0
+IsNoKeyLine R old new line = (then : Option (List ℕ)) × IsNextLine old then line × IsTextOfNone R line × IsBehind then new line
+
 abbrev pub IsNextKey : {K : Type 0} → (List ℕ → K → Type 0) → Option (List ℕ) → Option (List ℕ) → NextKey K → Type 0
 IsNextKey R old new (is_key key) = (line : List ℕ) × IsNextLine old new line × R line key
-IsNextKey R old new NoKey = (line : List ℕ) × IsNextLine old new line × IsTextOfNone R line
-IsNextKey R old new End = IsAtEnd old
+IsNextKey R old new NoKey = (line : List ℕ) × IsNoKeyLine R old new line
+IsNextKey R old new End = IsAtEnd old ⊎ IsLeftOut R old

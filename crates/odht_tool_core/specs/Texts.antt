@@ -9,14 +9,11 @@
 --     answer_line f g x       the same of a value that may be absent: then the key alone
 --     answers_text f g ks os  the line of each key and its value in turn
 -- A tab is the byte 9, the end of a line the byte 10. A sign is no digit; digits may begin with zeros.
-use Rattle.std.specs.Prelude.{Result, Ok, Err, codes, decimal, ◌≡◌, ℕ, ◌*◌, ◌/◌, ◌%◌, ◌<◌, false, List, [], ◌∷◌, ◌++◌, Option, Some, None, length}
+use Rattle.std.specs.Prelude.{◌≡◌, ℕ, ◌*◌, ◌/◌, ◌%◌, ◌<◌, false, List, [], ◌∷◌, ◌++◌, Option, Some, None, length}
 use Rattle.std.specs.Char.{is_ascii_hexdigit}
 use Rattle.std.specs.Fmt.{digit_glyph}
 use Rattle.std.specs.List.{AllPass, flat_map}
 use Rattle.std.specs.Str.{str_to_ascii_lowercase}
-use Rattle.odht_header.specs.ErrorTexts.{error_text}
-use Rattle.odht_header.specs.declared.error.Error.{Error}
-use Rattle.odht_header.specs.declared.error.Error.TheVariants.{SearchTooLong}
 use Rattle.std.specs.Str.Parse.{IsNumeral, digits_value}
 
 abbrev pub IsNumberWord : ℕ → List ℕ → Type 0

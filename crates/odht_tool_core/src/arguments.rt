@@ -52,8 +52,9 @@ impl Keys {
 /// A command, with all that it needs to know beside its file.
 #[derive(Drop)]
 pub enum Command {
-    /// One that reads the file alone, from the given byte on where there is one.
+    /// One that reads the file alone, from the given byte on where there is one, and then others so.
     Read {
+        others: Vec<String>,
         at: Option<usize>,
         reading: Reading,
     },
@@ -76,6 +77,10 @@ pub enum Reading {
         hash: Option<Hash>,
         bound: Option<usize>,
     },
+    Count {
+        hash: Option<Hash>,
+        bound: Option<usize>,
+    },
     Get {
         hash: Option<Hash>,
         keys: Keys,
@@ -83,6 +88,9 @@ pub enum Reading {
     Dump {
         hash: Option<Hash>,
         is_slots: bool,
+    },
+    Keys {
+        hash: Option<Hash>,
     },
     Find {
         bound: Option<usize>,

@@ -1,11 +1,10 @@
 //! Words of the command line, and lines of an input, that are read as keys.
 ghost use Rattle.std.specs.Prelude.{◌≡◌, [], ◌∷◌, ◌++◌, Ok, IfOk, IfErr, OnOk, map, string_bytes};
 ghost use Rattle.std.specs.List.{AllZip};
-ghost use Rattle.odht_tool_core.specs.Keys.{IsReadAs, IsTextOfNone, TellsWord, TellsFault, IsNextKey};
-ghost use Rattle.odht_tool_core.specs.InputLines.{IsNextLine};
+ghost use Rattle.odht_tool_core.specs.Keys.{IsReadAs, IsNoKeyLine, TellsWord, TellsFault, IsNextKey};
 
 use crate::failure::{Failure, LineFault};
-use crate::lines::read_line;
+use crate::lines::{is_left_out, read_line};
 use crate::misread::Misread;
 use crate::text::Text;
 use std::alloc::Global;
@@ -58,24 +57,29 @@ pub enum NextKey<K> {
     Key(K),
     /// The text of no key.
     NoKey,
-    /// There is no line.
+    /// There is no line, or an empty last one that is no key.
     End,
 }
 
-/// Reads the next line, and parses its key. The bytes of `line` are replaced.
+/// Reads the next line, and parses its key. The bytes of `line` are replaced. Where an empty line is no key, a line after
+/// it is taken too.
 pub fn next_key<K: Text, I: BufRead>(input: &mut I, line: &mut Vec<u8>) -> io::Result<NextKey<K>>
     ensures next { IfOk result (IsNextKey (IsReadAs K.is_word K.stands_for)
         (I.remaining input.old) (I.remaining input.new)) }
-    ensures line { result ≡ Ok NextKey.NoKey
-        → IsNextLine (I.remaining input.old) (I.remaining input.new) line.new.items }
-    ensures none { result ≡ Ok NextKey.NoKey
-        → IsTextOfNone (IsReadAs K.is_word K.stands_for) line.new.items }
+    ensures fault { result ≡ Ok NextKey.NoKey → IsNoKeyLine (IsReadAs K.is_word K.stands_for)
+        (I.remaining input.old) (I.remaining input.new) line.new.items }
 {
     if !read_line(input, line)? {
         return Ok(NextKey::End);
     }
     match K::parse(line.as_slice()) {
         Some(key) => Ok(NextKey::Key(key)),
-        None => Ok(NextKey::NoKey),
+        None => {
+            if is_left_out(input, line)? {
+                Ok(NextKey::End)
+            } else {
+                Ok(NextKey::NoKey)
+            }
+        }
     }
 }

@@ -1,9 +1,10 @@
 //! The lines of standard input.
-ghost use Rattle.std.specs.Prelude.{◌≡◌, ◌≢◌, [], Ok, IfErr, IfOk, IsTrue, IsFalse};
+ghost use Rattle.std.specs.Prelude.{◌≡◌, ◌≢◌, [], Ok, IfErr, IfOk, IsTrue, IsFalse, OnOk};
 ghost use Rattle.std.specs.Io.BufRead.{ends_with_byte, strip_last};
 ghost use Rattle.std.specs.Io.KnownBytes.{IsAtEnd, Keeps};
 ghost use Rattle.std.specs.IoError.{error_kind};
-ghost use Rattle.odht_tool_core.specs.InputLines.{IsNextLine, IsTakenThrough, without_end};
+ghost use Rattle.odht_tool_core.specs.InputLines.{IsBehind, IsEnding, IsNextLine};
+ghost use Rattle.odht_tool_core.specs.InputLines.{IsTakenThrough, without_end};
 
 use crate::failure::{Failure, LineFault};
 use crate::places::{cut_at, place_of};
@@ -125,8 +126,50 @@ pub fn read_pair<K: Text, V: Text, I: BufRead>(
     }
     match parse_pair(line.as_slice()) {
         Ok(pair) => Ok(Some(pair)),
-        Err(fault) => Err(Failure::Line { number, fault }),
+        Err(fault) => {
+            left_out(input, line, number, fault)?;
+            Ok(None)
+        }
     }
+}
+
+// Nothing where this line, of which no pair is read, is left out: it is empty, and no line comes after it. Else what is
+// returned for it; then the line is as it was.
+#[cold]
+#[inline(never)]
+fn left_out<I: BufRead>(
+    input: &mut I,
+    line: &mut Vec<u8>,
+    number: u64,
+    fault: LineFault,
+) -> Result<(), Failure>
+    ensures { IsEnding (I.remaining input.old) line.old.items line.new.items number fault result }
+{
+    if is_left_out(input, line).map_err(Failure::Input)? {
+        Ok(())
+    } else {
+        Err(Failure::Line { number, fault })
+    }
+}
+
+/// Whether a line that was read, of which nothing is parsed, is left out: it is empty, and no line comes after it. A line
+/// that comes after an empty one is taken from the input; `line` stays as it was.
+#[cold]
+#[inline(never)]
+pub(crate) fn is_left_out<I: BufRead>(input: &mut I, line: &mut Vec<u8>) -> io::Result<bool>
+    ensures last { IfOk result (λ last. IsTrue last
+        → (line.old.items ≡ []) × IsAtEnd (I.remaining input.old)) }
+    ensures more { IfOk result (λ last. IsFalse last
+        → IsBehind (I.remaining input.old) (I.remaining input.new) line.old.items) }
+    ensures kept { OnOk result (line.new.items ≡ line.old.items) }
+    ensures err { IfErr result (λ _. line.old.items ≡ []) }
+{
+    if !line.is_empty() {
+        return Ok(false);
+    }
+    let is_next = read_line(input, line)?;
+    line.clear();
+    Ok(!is_next)
 }
 
 // The key and the value of a line: on either side of its first tab, or, where the text of a value is empty, of a line

@@ -1,11 +1,12 @@
 -- Worked examples: what `get -` writes and returns.
 --     C, f              the coding of the direct shape, and the text of its keys and values
 --     R, a_number       which word is a text of which key, and what is wanted of keys
-use Rattle.std.proofs.Common.{◌≡◌, ◌∙◌, Bool, true, ◌+◌, ◌*◌, ◌≤◌, ℕ, zero, suc, refl, sym, ap, subst, arith, lit<, lit≤, map, length, length-append, List, [], ◌∷◌, ◌++◌, Option, Some, None, Ok, Err, slice_get}
+use Rattle.std.proofs.Common.{◌≡◌, ◌∙◌, ◌⊎◌, inl, inr, Bool, true, ◌+◌, ◌*◌, ◌≤◌, ℕ, zero, suc, refl, sym, ap, subst, arith, lit<, lit≤, map, length, length-append, List, [], ◌∷◌, ◌++◌, Option, Some, None, Ok, Err, slice_get}
 use Rattle.std.specs.Prelude.{codes, string_bytes}
 use Rattle.std.specs.Fmt.{digits}
 use Rattle.std.specs.Io.KnownBytes.{Appends}
 use Rattle.std.specs.List.{AllZip}
+use Rattle.std.specs.Str.Lines.{lines}
 use Rattle.odht_base.specs.Bytes.{overwritten_at}
 use Rattle.odht_base.specs.Format.{IsFormat}
 use Rattle.odht_base.specs.HashLaws.{un-lt}
@@ -19,7 +20,7 @@ use Rattle.odht_header.specs.Coding.{Coding, HasStored, value_for}
 use Rattle.odht_header.specs.declared.error.Error.TheVariants.{TooShort}
 use Rattle.odht_header.proofs.examples.Apart.{unequal_lists}
 use Rattle.odht_header.proofs.examples.Opened.{opened}
-use Rattle.odht_tool.specs.GetLines.{lines_read, AreFirstAnswered, IsLineFault, AreFileLinesGot, lines_of_shape}
+use Rattle.odht_tool.specs.GetLines.{lines_read, AreLinesOf, AreAllAnswered, AreFirstAnswered, IsLineFault, AreFileLinesGot, lines_of_shape}
 use Rattle.odht_tool.specs.GetParts.{IsFlushed, IsLineFailure}
 use Rattle.odht_tool.specs.Gets.{AreAnswers, IsAnswered, IsTextOf, answered_status}
 use Rattle.odht_tool_core.specs.Misreads.{misread_text, typed_wanted}
@@ -113,8 +114,11 @@ six = (((lit< tt, (lit< tt, tt)), lit< tt), refl)
 no_key : (k : ℕ) → R (codes "x") k → ⊥
 no_key k r = omega (arith, r.0.0.1.0)
 
+no_empty_key : (k : ℕ) → R [] k → ⊥
+no_empty_key k r = omega (arith, r.0.0.0)
+
 -- ---- each line a key
-pub read : lines_read (codes "5\r\n6") ≡ codes "5" ∷ codes "6" ∷ []
+pub read : lines_read (lines (codes "5\r\n6")) ≡ codes "5" ∷ codes "6" ∷ []
 read = refl
 
 both_answered : IsAnswered C f f R one_bytes (codes "5" ∷ codes "6" ∷ []) (Some (codes "a")) (Some (codes "a5\t7\n6\n")) NotDone
@@ -129,7 +133,7 @@ both_answered = record {
 }
 
 pub both : lines_of_shape one_bytes (Some (codes "5\n6\n")) (Some (codes "a")) (Some (codes "a5\t7\n6\n")) (Ok NotDone) DirectU32ToU32
-both = (no_refusal, both_answered)
+both = (no_refusal, record { words = codes "5" ∷ codes "6" ∷ []; place = inl refl; answered = both_answered })
 
 -- of these lines there are no other answers
 of_keys : (ks : List ℕ) (vs : List (Option ℕ)) → AreAnswers C one_bytes ks vs → vs ≡ map (value_for C one_item) ks
@@ -155,23 +159,72 @@ only_both old new status h =
       subst (Appends old new) (ap (λ ks. answers_text f f ks h.values) keys ∙ ap (answers_text f f (5 ∷ 6 ∷ [])) values) h.written,
     )
 
+-- of these lines none is empty
+none_empty : (ws : List (List ℕ)) → codes "5" ∷ codes "6" ∷ [] ≡ ws ++ ([] ∷ []) → ⊥
+none_empty [] e = cc
+none_empty (a ∷ []) e = cc
+none_empty (a ∷ b ∷ []) e = cc
+none_empty (a ∷ b ∷ d ∷ rest) e = cc
+
+all_both : (old new : Option (List ℕ)) (status : Status) → AreAllAnswered C f f R one_bytes (codes "5\n6\n") old new status → (status ≡ NotDone) × Appends old new (codes "5\t7\n6\n")
+all_both old new status h = only_both old new status (go h.words h.place h.answered)
+  where
+    go : (ws : List (List ℕ)) → AreLinesOf R (codes "5\n6\n") ws → IsAnswered C f f R one_bytes (lines_read ws) old new status → IsAnswered C f f R one_bytes (codes "5" ∷ codes "6" ∷ []) old new status
+    go ws (inl e) a = subst (λ ws. IsAnswered C f f R one_bytes (lines_read ws) old new status) (sym e) a
+    go ws (inr e) a = absurd (none_empty ws e.0)
+
 -- the other status; an answer left out; one written twice
 pub other_status : (new : Option (List ℕ)) → lines_of_shape one_bytes (Some (codes "5\n6\n")) (Some []) new (Ok Done) DirectU32ToU32 → ⊥
-other_status new h = let other = (only_both (Some []) new Done h.1).0 in cc
+other_status new h = let other = (all_both (Some []) new Done h.1).0 in cc
 
 pub left_out : lines_of_shape one_bytes (Some (codes "5\n6\n")) (Some (codes "a")) (Some (codes "a5\t7\n")) (Ok NotDone) DirectU32ToU32 → ⊥
-left_out h = unequal_lists (codes "a5\t7\n") (codes "a5\t7\n6\n") refl (only_both (Some (codes "a")) (Some (codes "a5\t7\n")) NotDone h.1).1
+left_out h = unequal_lists (codes "a5\t7\n") (codes "a5\t7\n6\n") refl (all_both (Some (codes "a")) (Some (codes "a5\t7\n")) NotDone h.1).1
 
 pub twice : lines_of_shape one_bytes (Some (codes "5\n6\n")) (Some []) (Some (codes "5\t7\n5\t7\n6\n")) (Ok NotDone) DirectU32ToU32 → ⊥
-twice h = unequal_lists (codes "5\t7\n5\t7\n6\n") (codes "5\t7\n6\n") refl (only_both (Some []) (Some (codes "5\t7\n5\t7\n6\n")) NotDone h.1).1
+twice h = unequal_lists (codes "5\t7\n5\t7\n6\n") (codes "5\t7\n6\n") refl (all_both (Some []) (Some (codes "5\t7\n5\t7\n6\n")) NotDone h.1).1
 
 -- a status where a line is no key
 pub done_at_fault : (old new : Option (List ℕ)) (status : Status) → lines_of_shape one_bytes (Some (codes "x\n")) old new (Ok status) DirectU32ToU32 → ⊥
-done_at_fault old new status h = go h.1.keys h.1.texts
+done_at_fault old new status h = whole h.1.words h.1.place h.1.answered
   where
+    none : (ws : List (List ℕ)) → codes "x" ∷ [] ≡ ws ++ ([] ∷ []) → ⊥
+    none [] e = cc
+    none (a ∷ []) e = cc
+    none (a ∷ b ∷ rest) e = cc
+
     go : (ks : List ℕ) → AllZip R (codes "x" ∷ []) ks → ⊥
     go [] t = t
     go (k ∷ ks) t = no_key k t.0
+
+    whole : (ws : List (List ℕ)) → AreLinesOf R (codes "x\n") ws → IsAnswered C f f R one_bytes (lines_read ws) old new status → ⊥
+    whole ws (inl e) a = go a.keys (subst (λ ws. AllZip R (lines_read ws) a.keys) (sym e) a.texts)
+    whole ws (inr e) a = none ws e.0
+
+-- an empty last line is left out, and no other one
+pub empty_last : lines_of_shape one_bytes (Some (codes "5\n\n")) (Some (codes "a")) (Some (codes "a5\t7\n")) (Ok Done) DirectU32ToU32
+unfolding digits
+empty_last = (
+  no_refusal,
+  record {
+    words = codes "5" ∷ [];
+    place = inr (refl, no_empty_key);
+    answered = record { keys = 5 ∷ []; texts = (five, tt); values = Some 7 ∷ []; answers = five_answered; written = refl; status = refl };
+  },
+)
+
+pub empty_first : AreLinesOf R (codes "\n5\n") (codes "5" ∷ []) → ⊥
+empty_first (inl e) = cc
+empty_first (inr e) = cc
+
+-- and it is no fault
+pub empty_last_told : (old new : Option (List ℕ)) (text : List ℕ) → IsLineFault C f f R a_number one_bytes ([] ∷ []) text old new → ⊥
+empty_last_told old new text h = go h.before h.after h.place h.more
+  where
+    go : (before after : List (List ℕ)) → [] ∷ [] ≡ before ++ (h.word ∷ after) → (h.word ≡ [] → after ≡ [] → ⊥) → ⊥
+    go [] [] place more = let word : h.word ≡ [] = cc in more word refl
+    go [] (a ∷ after) place more = cc
+    go (a ∷ []) after place more = cc
+    go (a ∷ b ∷ before) after place more = cc
 
 -- nothing is said where the bytes of the input are not known
 pub unknown : lines_of_shape one_bytes None (Some []) (Some (codes "b")) (Ok Done) DirectU32ToU32
@@ -192,6 +245,7 @@ second message told = (
     after = codes "6" ∷ [];
     place = refl;
     fault = no_key;
+    more = λ e q. cc;
     told = told;
     status = Done;
     answered = record { keys = 5 ∷ []; texts = (five, tt); values = Some 7 ∷ []; answers = five_answered; written = refl; status = refl };
@@ -312,6 +366,7 @@ faulty message told = record {
   line = codes "x";
   next = (codes "6", refl, refl);
   fault = no_key;
+  more = λ e q. cc;
   told = told;
   every = true;
   answered = record { values = Some 7 ∷ []; answers = five_answered; written = refl; found = refl };

@@ -1,10 +1,12 @@
 -- Worked examples: lines of an input.
 use Rattle.std.proofs.Common.{◌≡◌, ℕ, zero, suc, refl, ◌<◌, get_or, List, [], ◌∷◌, Some, None, arith, lit<}
-use Rattle.std.specs.Prelude.{codes}
+use Rattle.std.specs.Prelude.{codes, Ok, Err}
 use Rattle.std.specs.Str.Lines.{lines}
 use Rattle.odht_header.proofs.examples.Apart.{unequal_lists, some_unequal_lists}
 use Rattle.odht_tool_core.specs.Cuts.{IsCutAt}
-use Rattle.odht_tool_core.specs.InputLines.{without_end, IsNextLine, IsTakenThrough}
+use Rattle.odht_tool_core.specs.InputLines.{without_end, IsBehind, IsEnding, IsNextLine, IsTakenThrough}
+use Rattle.odht_tool_core.specs.declared.failure.Failure.TheVariants.{Line}
+use Rattle.odht_tool_core.specs.declared.failure.LineFault.TheVariants.{NoTab}
 
 -- an end is a line feed, with a carriage return before it or without; a last line needs none
 pub ends : (without_end (codes "a\r\n") ≡ codes "a") × (without_end (codes "a\n") ≡ codes "a") × (without_end (codes "a\r") ≡ codes "a\r")
@@ -69,3 +71,27 @@ cut_later h = h.1 1 0 (omega arith) refl
 -- nor is a part left out
 pub cut_short : IsCutAt 9 (codes "a\tb") (codes "a") [] → ⊥
 cut_short h = unequal_lists (codes "a\tb") (codes "a\t") refl h.0
+
+-- a line of which no pair is read ends the input where it is empty and the last one
+pub ending : IsEnding {X = Unit {0}} (Some []) [] [] 2 NoTab (Ok tt)
+ending = (refl, refl)
+
+-- where it is not empty, or another one comes after it, it is an error
+pub not_empty : IsEnding {X = Unit {0}} (Some []) (codes "a") [] 2 NoTab (Ok tt) → ⊥
+not_empty h = let e = h.0 in cc
+
+pub not_last : IsEnding {X = Unit {0}} (Some (codes "a")) [] [] 2 NoTab (Ok tt) → ⊥
+not_last h = let e = h.1 in cc
+
+pub told : IsEnding {X = Unit {0}} (Some (codes "a")) [] [] 2 NoTab (Err (Line 2 NoTab))
+told = (refl, refl, λ e q. cc)
+
+pub last_told : IsEnding {X = Unit {0}} (Some []) [] [] 2 NoTab (Err (Line 2 NoTab)) → ⊥
+last_told h = h.2 refl refl
+
+-- a line that is not empty leaves the bytes behind it
+pub behind : IsBehind (Some (codes "b")) (Some (codes "b")) (codes "a")
+behind = (λ e. cc, λ e. refl)
+
+pub taken_behind : IsBehind (Some (codes "b")) (Some []) (codes "a") → ⊥
+taken_behind h = some_unequal_lists [] (codes "b") refl (h.1 (λ e. cc))

@@ -1,5 +1,5 @@
 -- Words that one slip makes of each other, and commands and options that are found by their names.
-use Rattle.std.proofs.Common.{◌≡◌, true, false, [], ◌∷◌, refl}
+use Rattle.std.proofs.Common.{◌≡◌, true, false, [], refl}
 use Rattle.std.specs.Prelude.{Some, None, codes, find, bytes_eq}
 use Rattle.odht_tool_core.specs.Commands.{command_name, commands, option_name, options_of}
 use Rattle.odht_tool_core.specs.Near.{is_near, is_without, is_replaced, is_swapped}

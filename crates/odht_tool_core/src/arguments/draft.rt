@@ -127,7 +127,7 @@ impl Draft {
         Some(())
     }
 
-    /// What all the words ask for. For `get`, and for no other command, some come after the file.
+    /// What all the words ask for. After the file more files may come, or for `get` keys.
     pub(super) fn finish(self) -> Result<Request, Misuse> {
         let topic = self.topic;
         if self.is_help {
@@ -147,7 +147,7 @@ impl Draft {
             return Err(CommandMisuse::Missing("FILE"));
         }
         let file = self.words.remove(0);
-        if self.topic != Topic::Get && !self.words.is_empty() {
+        if !self.topic.takes_words() && !self.words.is_empty() {
             return Err(CommandMisuse::ExtraWord(self.words.remove(0)));
         }
         let command = self.command(is_stream(file.as_str()))?;
@@ -165,35 +165,66 @@ impl Draft {
                 breaks_links: self.breaks_links,
                 has_progress: self.has_progress,
             }),
+            Topic::Get => self.get(is_stream),
+            _ if self.has_second_stream(is_stream) => Err(CommandMisuse::TwiceInput),
             _ => {
-                let at = self.at;
-                let reading = self.reading(is_stream)?;
-                Ok(Command::Read { at, reading })
+                let reading = self.reading();
+                Ok(Command::Read {
+                    others: self.words,
+                    at: self.at,
+                    reading,
+                })
             }
         }
     }
 
-    fn reading(self, is_stream: bool) -> Result<Reading, CommandMisuse> {
+    // Whether more than one file is standard input, of these words and the file before them.
+    fn has_second_stream(&self, is_stream_first: bool) -> bool {
+        let mut is_read = is_stream_first;
+        for word in &self.words {
+            if is_stream(word.as_str()) {
+                if is_read {
+                    return true;
+                }
+                is_read = true;
+            }
+        }
+        false
+    }
+
+    // What is read of each file, where all words name files.
+    fn reading(&self) -> Reading {
         let (hash, bound) = (self.hash, bound_of(self.is_whole));
         match self.topic {
-            Topic::Info => Ok(Reading::Info { bound }),
-            Topic::Check => Ok(Reading::Check { hash, bound }),
-            Topic::Dump => Ok(Reading::Dump {
+            Topic::Info => Reading::Info { bound },
+            Topic::Check => Reading::Check { hash, bound },
+            Topic::Count => Reading::Count { hash, bound },
+            Topic::Dump => Reading::Dump {
                 hash,
                 is_slots: self.is_slots,
-            }),
-            Topic::Get => {
-                if self.words.is_empty() {
-                    return Err(CommandMisuse::Missing("KEY"));
-                }
-                let keys = Keys::of_words(self.words);
-                if is_stream && keys.are_lines() {
-                    return Err(CommandMisuse::BothInput);
-                }
-                Ok(Reading::Get { hash, keys })
-            }
-            _ => Ok(Reading::Find { bound }),
+            },
+            Topic::Keys => Reading::Keys { hash },
+            _ => Reading::Find { bound },
         }
+    }
+
+    // `get`, of which the words are keys.
+    fn get(self, is_stream: bool) -> Result<Command, CommandMisuse> {
+        if self.words.is_empty() {
+            return Err(CommandMisuse::Missing("KEY"));
+        }
+        let keys = Keys::of_words(self.words);
+        if is_stream && keys.are_lines() {
+            return Err(CommandMisuse::BothInput);
+        }
+        Ok(Command::Read {
+            others: Vec::new(self.alloc),
+            at: self.at,
+            reading: Reading::Get {
+                hash: self.hash,
+                keys,
+            },
+        })
     }
 
     fn build(self) -> Result<Command, CommandMisuse> {

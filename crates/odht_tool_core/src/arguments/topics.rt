@@ -11,19 +11,23 @@ use std::fmt;
 pub enum Topic {
     Info,
     Check,
+    Count,
     Get,
     Dump,
+    Keys,
     Find,
     Build,
     Put,
 }
 
 /// All commands, in the order of the help text.
-pub(crate) const TOPICS: [Topic; 7] = [
+pub(crate) const TOPICS: [Topic; 9] = [
     Topic::Info,
     Topic::Check,
+    Topic::Count,
     Topic::Get,
     Topic::Dump,
+    Topic::Keys,
     Topic::Find,
     Topic::Build,
     Topic::Put,
@@ -57,11 +61,21 @@ impl Topic {
         match self {
             Topic::Info => "info",
             Topic::Check => "check",
+            Topic::Count => "count",
             Topic::Get => "get",
             Topic::Dump => "dump",
+            Topic::Keys => "keys",
             Topic::Find => "find",
             Topic::Build => "build",
             Topic::Put => "put",
+        }
+    }
+
+    /// Whether words may come after the file: more files, or keys.
+    pub(crate) fn takes_words(self) -> bool {
+        match self {
+            Topic::Check | Topic::Count | Topic::Get => true,
+            _ => false,
         }
     }
 
@@ -72,8 +86,10 @@ impl Topic {
         match self {
             Topic::Info => &[Setting::Help, Setting::Whole, Setting::At],
             Topic::Check => &[Setting::Help, Setting::Whole, Setting::Hash, Setting::At],
+            Topic::Count => &[Setting::Help, Setting::Whole, Setting::Hash, Setting::At],
             Topic::Get => &[Setting::Help, Setting::Hash, Setting::At],
             Topic::Dump => &[Setting::Help, Setting::Slots, Setting::Hash, Setting::At],
+            Topic::Keys => &[Setting::Help, Setting::Hash, Setting::At],
             Topic::Find => &[Setting::Help, Setting::Whole],
             Topic::Build => &[
                 Setting::Help,

@@ -6,7 +6,7 @@ use Rattle.odht_base.specs.Groups.{first_free}
 use Rattle.odht_base.specs.Probe.{probe_slot}
 use Rattle.odht_tool_core.specs.GroupNumbers.{capped, groups_to_free, most_groups}
 use Rattle.odht_tool_core.proofs.GroupBounds.{is_free, free_at, free_past, capped_within, capped_past, most_within}
-use Rattle.odht_tool_core.proofs.groups.groups_to_free.Goals.{After-index, After-has_free, then-group-groups, else-group-groups}
+use Rattle.odht_tool_core.proofs.groups.groups_to_free.Goals.{After-index, then-group-groups, else-group-groups}
 use Rattle.odht_tool_core.proofs.groups.groups_to_free.Goals as goal
 
 -- as many groups as sixteens of slots

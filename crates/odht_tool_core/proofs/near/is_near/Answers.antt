@@ -1,4 +1,4 @@
-use Rattle.std.proofs.Common.{◌≡◌, ◌∙◌, ℕ, ◌+◌, ◌-◌, ◌<◌, Bool, true, false, ◌||◌, suc, sym, ap, refl, length, arith}
+use Rattle.std.proofs.Common.{◌≡◌, ◌∙◌, ℕ, ◌+◌, ◌-◌, ◌<◌, Bool, true, false, ◌||◌, suc, sym, ap, length, arith}
 use Rattle.std.specs.List.{list_any, range_with_len}
 use Rattle.odht_tool_core.specs.Near.{is_slip}
 use Rattle.odht_tool_core.proofs.near.is_near.Goals as goal

@@ -43,11 +43,13 @@ fn summary_of(topic: Topic) -> &'static str {
         Topic::Info => {
             "odht info FILE       tells what a table file holds, of any key and value sizes\n"
         }
-        Topic::Check => "odht check FILE      tells whether a file is a valid table\n",
+        Topic::Check => "odht check FILE..    tells whether each file is a valid table\n",
+        Topic::Count => "odht count FILE..    tells how many items each table has\n",
         Topic::Get => {
             "odht get FILE KEY..  looks keys up; with - instead of keys, those of standard input\n"
         }
         Topic::Dump => "odht dump FILE       tells each pair\n",
+        Topic::Keys => "odht keys FILE       tells each key\n",
         Topic::Find => "odht find FILE       tells each table that is inside a file\n",
         Topic::Build => {
             "odht build FILE --key SHAPE --value SHAPE
@@ -70,8 +72,10 @@ fn text_of(topic: Topic) -> &'static str {
     match topic {
         Topic::Info => INFO,
         Topic::Check => CHECK,
+        Topic::Count => COUNT,
         Topic::Get => GET,
         Topic::Dump => DUMP,
+        Topic::Keys => KEYS,
         Topic::Find => FIND,
         Topic::Build => BUILD,
         Topic::Put => PUT,
@@ -103,21 +107,29 @@ odht info FILE [--whole] [--at OFFSET]
 ";
 
 const CHECK: &str = "\
-odht check FILE [--whole] [--hash fx|unhash] [--at OFFSET]
-    Prints the file's name, and that it is valid, or the first rule of the format
-    that it breaks, and then ends with status 1. A search that may read more than
-    128 groups of control bytes breaks a rule too, so that no file takes long to
-    check; with --whole it does not. The shape is the first of the file's key and
-    value sizes, and of the hash function that --hash names; `odht build --help`
-    lists them.
+odht check FILE.. [--whole] [--hash fx|unhash] [--at OFFSET]
+    Prints the name of each file, and that it is valid, or the first rule of the
+    format that it breaks, and then ends with status 1. A search that may read
+    more than 128 groups of control bytes breaks a rule too, so that no file takes
+    long to check; with --whole it does not. The shape is the first of the file's
+    key and value sizes, and of the hash function that --hash names; `odht build
+    --help` lists them.
+";
+
+const COUNT: &str = "\
+odht count FILE.. [--whole] [--hash fx|unhash] [--at OFFSET]
+    Prints how many items the table in the file has, after the file's name and a tab
+    where there are more files. Each is checked before, as by `odht check`; where
+    one is not valid the others are still counted, and the status is 1. The hash
+    function is the one that all control bytes fit, unless --hash names it.
 ";
 
 const GET: &str = "\
 odht get FILE KEY.. [--hash fx|unhash] [--at OFFSET]
     Writes a line for each key, in their order: KEY, a tab and VALUE; or KEY alone
     where it is absent, and then ends with status 1. With the one word - the keys
-    are the lines of standard input. The hash function is the one that all control
-    bytes fit, unless --hash names it.
+    are the lines of standard input, but for an empty last one. The hash function is
+    the one that all control bytes fit, unless --hash names it.
 ";
 
 const DUMP: &str = "\
@@ -126,6 +138,12 @@ odht dump FILE [--slots] [--hash fx|unhash] [--at OFFSET]
     the slot, the control byte and the number of groups that a search for the key
     looks at stand before them, with tabs too. The hash function is the one that
     all control bytes fit, unless --hash names it.
+";
+
+const KEYS: &str = "\
+odht keys FILE [--hash fx|unhash] [--at OFFSET]
+    Writes each key on a line, in slot order. The hash function is the one that all
+    control bytes fit, unless --hash names it.
 ";
 
 const FIND: &str = "\
@@ -143,7 +161,8 @@ odht build FILE --key SHAPE --value SHAPE [--hash fx|unhash]
                 [--percent P] [--capacity N] [--progress] [--break-links]
     Makes a table of the lines of standard input, KEY, a tab and VALUE, and stores
     it as FILE, in the place of an older one, which stays where something fails;
-    with - as FILE it goes to standard output. The last line of a key wins. Owner, group, permissions and symbolic links of an
+    with - as FILE it goes to standard output. The last line of a key wins; an
+    empty last line is left out. Owner, group, permissions and symbolic links of an
     older file are kept; one with hard links is not replaced without --break-links.
     SHAPE          u32, u64, none (a value only), or hexN: N bytes as 2 N digits
     --percent      the load factor, 1 to 100, else 87
@@ -156,9 +175,10 @@ const PUT: &str = "\
 odht put FILE [--whole] [--hash fx|unhash] [--progress] [--break-links]
     Adds the lines of standard input, KEY, a tab and VALUE, to the table in FILE,
     which grows as needed, and stores it in the place of the older one, which
-    stays where something fails. The last line of a key wins. The file is checked
-    before, as by `odht check`; --whole is as there. The hash function is the one
-    that all control bytes fit, unless --hash names it. Owner, group, permissions
-    and symbolic links of the file are kept; one with hard links is not replaced
-    without --break-links, with which its other names keep the old file.
+    stays where something fails. The last line of a key wins; an empty last line
+    is left out. The file is checked before, as by `odht check`; --whole is as
+    there. The hash function is the one that all control bytes fit, unless --hash
+    names it. Owner, group, permissions and symbolic links of the file are kept;
+    one with hard links is not replaced without --break-links, with which its other
+    names keep the old file.
 ";

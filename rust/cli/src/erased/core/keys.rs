@@ -2,7 +2,7 @@
 //! Words of the command line, and lines of an input, that are read as keys.
 
 use crate::erased::core::failure::{Failure, LineFault};
-use crate::erased::core::lines::read_line;
+use crate::erased::core::lines::{is_left_out, read_line};
 use crate::erased::core::misread::Misread;
 use crate::erased::core::text::Text;
 use crate::host::prelude::*;
@@ -41,17 +41,24 @@ pub enum NextKey<K> {
     Key(K),
     /// The text of no key.
     NoKey,
-    /// There is no line.
+    /// There is no line, or an empty last one that is no key.
     End,
 }
 
-/// Reads the next line, and parses its key. The bytes of `line` are replaced.
+/// Reads the next line, and parses its key. The bytes of `line` are replaced. Where an empty line is no key, a line after
+/// it is taken too.
 pub fn next_key<K: Text, I: BufRead>(input: &mut I, line: &mut Vec<u8>) -> io::Result<NextKey<K>> {
     if !read_line(input, line)? {
         return Ok(NextKey::End);
     }
     match K::parse(line.as_slice()) {
         Some(key) => Ok(NextKey::Key(key)),
-        None => Ok(NextKey::NoKey),
+        None => {
+            if is_left_out(input, line)? {
+                Ok(NextKey::End)
+            } else {
+                Ok(NextKey::NoKey)
+            }
+        }
     }
 }

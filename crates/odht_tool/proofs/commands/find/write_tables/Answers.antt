@@ -4,7 +4,7 @@ use Rattle.std.specs.List.{flat_map}
 use Rattle.std.proofs.KnownBytes.{Appends-trans}
 use Rattle.std.proofs.lemmas.List.{take_more}
 use Rattle.std.proofs.lemmas.List.Concat.{flat_map-append}
-use Rattle.odht_tool.specs.FindLines.{table_text, tables_text}
+use Rattle.odht_tool.specs.FindLines.{table_text}
 use Rattle.odht_tool_core.proofs.Finds.{each_table}
 use Rattle.odht_tool.proofs.commands.find.write_tables.Goals as goal
 

@@ -1,6 +1,5 @@
-use Rattle.std.proofs.Common.{◌++◌, codes, take, flat_map, rules}
+use Rattle.std.proofs.Common.{codes, rules}
 use Rattle.std.proofs.Output.{has_written_append}
-use Rattle.odht_tool_core.specs.Shown.{shown_byte, more_text}
 use Rattle.odht_tool_core.proofs.shown.ShownDisplay.fmt.Goals as goal
 
 pub returns-clause-writes : goal.returns-clause-writes

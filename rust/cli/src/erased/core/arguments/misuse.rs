@@ -36,6 +36,8 @@ pub enum CommandMisuse {
     ExtraWord(String),
     /// The table and the keys are both to be read from standard input.
     BothInput,
+    /// More than one file is to be read from standard input.
+    TwiceInput,
     /// The file that is to be replaced would be a stream.
     Replaced,
     /// No shape is ready with these keys, values and hash function.
@@ -66,6 +68,7 @@ impl CommandMisuse {
             CommandMisuse::BothInput => {
                 write!(f, "FILE and the keys cannot both be standard input")
             }
+            CommandMisuse::TwiceInput => write!(f, "only one FILE can be standard input"),
             CommandMisuse::Replaced => write!(f, "FILE is replaced, and so cannot be -"),
             CommandMisuse::NoShape => {
                 write!(f, "no ready shape has such keys and values under this hash")

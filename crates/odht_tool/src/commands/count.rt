@@ -1,0 +1,66 @@
+//! `odht count`: how many items a table file has.
+ghost use Rattle.std.specs.Prelude.{◌≡◌, OnOk};
+ghost use Rattle.std.specs.Io.KnownBytes.{Appends};
+ghost use Rattle.odht_base.specs.Decoded.{header_count};
+ghost use Rattle.odht_base.specs.Valid.{IsValidBytes};
+ghost use Rattle.odht_tool.specs.Listings.{counted, count_line, count_outcome};
+ghost use Rattle.odht_tool_core.specs.Endings.{IsDone};
+ghost use Rattle.odht_tool_core.specs.ReadyShapes.{shape_format};
+
+use crate::commands::check::check_bytes;
+use crate::shapes::for_shape;
+use odht::HashTable;
+use odht::bytes::Borrowed;
+use odht::config::{Coded, Config};
+use odht_tool_core::failure::Failure;
+use odht_tool_core::found::found_shape;
+use odht_tool_core::shapes::{Hash, Shape};
+use odht_tool_core::status::{Status, of_output};
+use std::io::{self, Write};
+
+/// `odht count` of the bytes of a file: writes the label, and how many items the table has; or fails with the first
+/// rule that the bytes break, as `check` finds it.
+pub fn count_file<O: Write>(
+    label: &str,
+    bytes: &[u8],
+    hash: Option<Hash>,
+    bound: Option<usize>,
+    output: &mut O,
+) -> Result<Status, Failure>
+    ensures { IsDone (count_outcome label.now bytes.now hash bound)
+        (O.contents output.old) (O.contents output.new) result }
+{
+    let shape = found_shape(bytes, hash)?;
+    let count = count_of(shape, bytes, bound)?;
+    of_output(write_count(label, count, output))
+}
+
+// How many items a table of this shape has, or the first rule that it breaks.
+fn count_of(shape: Shape, bytes: &[u8], bound: Option<usize>) -> Result<usize, Failure>
+    ensures { result ≡ counted (shape_format shape) bound bytes.now }
+{
+    for_shape!(shape, count_items[](bytes, bound))
+}
+
+fn count_items<C: Config>(bytes: &[u8], bound: Option<usize>) -> Result<usize, Failure>
+    ensures { result ≡ counted ⟦<C as Coded>⟧.coding.format bound bytes.now }
+{
+    match check_bytes::<C>(bytes, bound) {
+        Ok(()) => Ok(stated_count::<C>(bytes)),
+        Err(error) => Err(Failure::Refused(error)),
+    }
+}
+
+fn stated_count<C: Config>(bytes: &[u8]) -> usize
+    requires { IsValidBytes ⟦<C as Coded>⟧.coding.format bytes.now }
+    ensures { result ≡ header_count bytes.now }
+{
+    HashTable::<C, Borrowed<'_>>::from_raw_bytes_unchecked(Borrowed::new(bytes)).len()
+}
+
+fn write_count<O: Write>(label: &str, count: usize, output: &mut O) -> io::Result<()>
+    ensures { OnOk result (Appends (O.contents output.old) (O.contents output.new)
+        (count_line label.now count)) }
+{
+    writeln!(output, "{label}{count}")
+}

@@ -1,0 +1,48 @@
+// Made by `make rust` of crates/odht_tool/src/commands/count.rt.
+//! `odht count`: how many items a table file has.
+
+use crate::erased::core::failure::Failure;
+use crate::erased::core::found::found_shape;
+use crate::erased::core::shapes::{Hash, Shape};
+use crate::erased::core::status::{of_output, Status};
+use crate::erased::tool::commands::check::check_bytes;
+use crate::erased::tool::shapes::for_shape;
+use crate::host::prelude::*;
+use crate::proved::tables::bytes::Borrowed;
+use crate::proved::tables::config::Config;
+use crate::proved::tables::HashTable;
+use std::io::{self, Write};
+
+/// `odht count` of the bytes of a file: writes the label, and how many items the table has; or fails with the first
+/// rule that the bytes break, as `check` finds it.
+pub fn count_file<O: Write>(
+    label: &str,
+    bytes: &[u8],
+    hash: Option<Hash>,
+    bound: Option<usize>,
+    output: &mut O,
+) -> Result<Status, Failure> {
+    let shape = found_shape(bytes, hash)?;
+    let count = count_of(shape, bytes, bound)?;
+    of_output(write_count(label, count, output))
+}
+
+// How many items a table of this shape has, or the first rule that it breaks.
+fn count_of(shape: Shape, bytes: &[u8], bound: Option<usize>) -> Result<usize, Failure> {
+    for_shape!(shape, count_items[](bytes, bound))
+}
+
+fn count_items<C: Config>(bytes: &[u8], bound: Option<usize>) -> Result<usize, Failure> {
+    match check_bytes::<C>(bytes, bound) {
+        Ok(()) => Ok(stated_count::<C>(bytes)),
+        Err(error) => Err(Failure::Refused(error)),
+    }
+}
+
+fn stated_count<C: Config>(bytes: &[u8]) -> usize {
+    HashTable::<C, Borrowed<'_>>::from_raw_bytes_unchecked(Borrowed::new(bytes)).len()
+}
+
+fn write_count<O: Write>(label: &str, count: usize, output: &mut O) -> io::Result<()> {
+    writeln!(output, "{label}{count}")
+}
