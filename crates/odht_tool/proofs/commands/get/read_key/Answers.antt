@@ -10,7 +10,9 @@ returns-in_ok-answer_keys-in-Ok-NoKey-clause-err g c = record {
   line = c.next_key.new.line.items;
   next = search rules;
   fault = search rules;
-  told = c.in_ok-message-in-Ok-NoKey.ensures ∙ ap (misread_text (Some c.args.number) Key (g.C.Key.Text.wants (g.F.Forms.pair c.args.forms).0)) c.as_slice.ensures.value;
+  told = c.in_ok-message-in-Ok-NoKey.ensures
+      ∙ ap (λ form. misread_text (Some c.args.number) Key (g.C.Key.Text.wants form) c.as_slice.result.now) c.key-in-Ok-NoKey.ensures
+      ∙ ap (misread_text (Some c.args.number) Key (g.C.Key.Text.wants (g.F.Forms.pair c.args.forms).0)) c.as_slice.ensures.value;
   every = c.in_ok-answer_keys-in-Ok-NoKey.field-0;
   answered = c.in_ok-answer_keys-in-Ok-NoKey.ensures.ok;
 }
