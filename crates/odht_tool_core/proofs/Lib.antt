@@ -36,5 +36,7 @@ pub mod Refusals
 pub mod Fronts
 -- the search for tables inside some bytes
 pub mod Finds
+-- texts of numbers, read again
+pub mod TextsBack
 -- worked examples of the definitions
 pub mod examples
