@@ -2,11 +2,18 @@
 --     IsFresh F n p B      B are the bytes of the fresh table for n items at p percent
 --     IsInserted F insert P p B   an insert of the pair p into P, by `insert`, leaves the bytes B of a table whose map
 --                          is that of P, except that the key of p has its value
-use Rattle.std.specs.Prelude.{◌≡◌, ℕ, List, Option, Some, bytes_eq, if◌then◌else◌}
+--     IsInsertInto c P k v r B    an insert of the key k with the value v into P, in bytes that cannot grow, returns r and
+--                          leaves the bytes B. Where it succeeds it returns the former value (`former`), and the key has
+--                          the new one (`inserted`). It is full exactly where P is at its maximum and has no such key
+use Rattle.std.specs.Prelude.{◌≡◌, ◌↔◌, ℕ, List, Option, Some, Result, Err, bytes_eq, if◌then◌else◌, IfOk, OnOk}
 use Rattle.odht_base.specs.Format.{Format}
+use Rattle.odht_base.specs.Insert.{insert_view, IsFullFor}
 use Rattle.odht_base.specs.Map.{map_of}
 use Rattle.odht_base.specs.Table.{Pair, Table, fresh}
 use Rattle.odht_base.specs.Valid.{IsImage}
+use Rattle.odht_header.specs.Coding.{Coding, encoded, value_for}
+use Rattle.odht_header.specs.declared.error.Error.{Error}
+use Rattle.odht_header.specs.declared.error.Error.TheVariants.{Full}
 
 pub record IsFresh (F : Format) (n percent : ℕ) (B : List ℕ) : Type 0 where
   pub table : Table
@@ -18,3 +25,8 @@ pub record IsInserted (F : Format) (insert : Table → Pair → Option Table) (P
   pub inserted : insert P p ≡ Some table
   pub image : IsImage F table B
   pub maps : (q : List ℕ) → map_of table q ≡ (if bytes_eq q p.key then Some p.value else map_of P q)
+
+pub record IsInsertInto {K V : Type 0} (c : Coding K V) (P : Table) (k : K) (v : V) (r : Result (Option V) Error) (B : List ℕ) : Type 0 where
+  pub former : IfOk r (λ former. former ≡ value_for c P k)
+  pub inserted : OnOk r (IsInserted c.format (insert_view c.format) P (encoded c k v) B)
+  pub full : (r ≡ Err Full) ↔ IsFullFor P (c.key_bytes k)

@@ -1,4 +1,5 @@
 //! Tables whose lengths of keys and values are known at run time alone, such as those of a file.
+ghost use Rattle.odht.specs.Tables.{OfTable};
 ghost use Rattle.std.specs.Prelude.{◌≡◌, ◌≢◌, ◌≤◌, ◌↔◌, ℕ, None, All, length, slice_index};
 ghost use Rattle.std.specs.Prelude.{IfOk, IsOk, IsTrue};
 ghost use Rattle.std.specs.Option.{option_copied};
@@ -7,8 +8,8 @@ ghost use Rattle.odht_base.specs.Decoded.{header_count, entries_of, controls_of}
 ghost use Rattle.odht_base.specs.Decoded.{decoded_pairs, decoded_table};
 ghost use Rattle.odht_base.specs.Format.{format_of, IsFormat};
 ghost use Rattle.odht_base.specs.SlotWalks.{slots_from};
-ghost use Rattle.odht_base.specs.Table.{Table, count, walk};
-ghost use Rattle.odht_base.specs.Valid.{IsImage, IsPartsOf, IsValidBytes};
+ghost use Rattle.odht_base.specs.Table.{count, walk};
+ghost use Rattle.odht_base.specs.Valid.{IsPartsOf, IsValidBytes};
 ghost use Rattle.odht_raw.specs.Dumps.{parts_of};
 ghost use Rattle.odht_raw.specs.Frame.{IsAccepted};
 ghost use Rattle.odht_raw.specs.Sized.{HasLengthsOf};
@@ -85,8 +86,7 @@ impl<H: HashFn, D: ByteStore> DynTable<H, D> {
         ensures err { let F = format_of layout.key_len layout.value_len H.hash
             in result_err result ≡ dyn_refusal H.MIN_LEN F (D.bytes «data») }
         ensures valid { let F = format_of layout.key_len layout.value_len H.hash
-            in (P : Table) → H.MIN_LEN ≤ layout.key_len → IsImage F P (D.bytes «data»)
-            → IsOk result }
+            in H.MIN_LEN ≤ layout.key_len → OfTable F (D.bytes «data») (λ _. IsOk result) }
     {
         if (layout.key_len as usize) < H::MIN_LEN {
             return Err(DynError::KeyTooShort {
@@ -116,9 +116,8 @@ impl<H: HashFn, D: ByteStore> DynTable<H, D> {
           store = «data»;
         }) }
         ensures err { result_err result ≡ stated_refusal H.MIN_LEN H.hash (D.bytes «data») }
-        ensures valid { (key_len value_len : ℕ) (P : Table) → H.MIN_LEN ≤ key_len
-            → IsImage (format_of key_len value_len H.hash) P (D.bytes «data»)
-            → IsOk result }
+        ensures valid { (key_len value_len : ℕ) → H.MIN_LEN ≤ key_len
+            → OfTable (format_of key_len value_len H.hash) (D.bytes «data») (λ _. IsOk result) }
     {
         let bytes = data.bytes();
         let found = bytes.len();
@@ -192,9 +191,8 @@ impl<H: HashFn, D: ByteStore> DynTable<H, D> {
     /// The keys and values of the slots whose own control byte is below 128, in slot order: on valid bytes each pair of
     /// the table once.
     pub fn iter(&self) -> SizedIter<'_, H>
-        ensures on_valid { (P : Table)
-            → IsImage (dyn_format self.now H.hash) P (D.bytes self.now.store)
-            → result ≡ walk P }
+        ensures on_valid { OfTable (dyn_format self.now H.hash) (D.bytes self.now.store)
+            (λ P. result ≡ walk P) }
         ensures on_any { result
             ≡ decoded_pairs (dyn_format self.now H.hash) (D.bytes self.now.store) }
         ensures lengths { All (HasLengthsOf self.now.key_len self.now.value_len) result }
@@ -206,9 +204,8 @@ impl<H: HashFn, D: ByteStore> DynTable<H, D> {
     /// The slots from slot `from` on whose own control byte is below 128, in slot order, each with its key and value:
     /// on valid bytes each pair in these slots once. Nothing where `from` is past the last slot.
     pub fn iter_from(&self, from: usize) -> SizedSlots<'_, H>
-        ensures on_valid { (P : Table)
-            → IsImage (dyn_format self.now H.hash) P (D.bytes self.now.store)
-            → result ≡ slots_from P from }
+        ensures on_valid { OfTable (dyn_format self.now H.hash) (D.bytes self.now.store)
+            (λ P. result ≡ slots_from P from) }
         ensures on_any { result
             ≡ slots_from (decoded_table (dyn_format self.now H.hash) (D.bytes self.now.store)) from }
         ensures few { length result ≤ usize.MAX }
@@ -220,9 +217,8 @@ impl<H: HashFn, D: ByteStore> DynTable<H, D> {
     #[inline]
     pub fn len(&self) -> usize
         ensures by_header { result ≡ header_count (D.bytes self.now.store) }
-        ensures on_valid { (P : Table)
-            → IsImage (dyn_format self.now H.hash) P (D.bytes self.now.store)
-            → result ≡ count P }
+        ensures on_valid { OfTable (dyn_format self.now H.hash) (D.bytes self.now.store)
+            (λ P. result ≡ count P) }
     {
         Header::of(self.raw_bytes()).item_count()
     }
@@ -273,8 +269,7 @@ impl<H: HashFn, D: ByteStore> DynTable<H, D> {
             } }
         ensures on_valid { let F = dyn_format self.now H.hash
             in let B = D.bytes self.now.store
-            in (P : Table) → IsImage F P B
-            → IsPartsOf F P (entries_of F B) (controls_of F B) }
+            in OfTable F B (λ P. IsPartsOf F P (entries_of F B) (controls_of F B)) }
         ensures format { IsFormat (dyn_format self.now H.hash) }
         ensures few { result.parts.entries.slots ≤ usize.MAX }
     {

@@ -1,8 +1,9 @@
 //! Whether two tables are the same map, and whether they have the same bytes.
+ghost use Rattle.odht.specs.Tables.{OfTable, InTable};
 ghost use Rattle.std.specs.Prelude.{◌≡◌, ◌↔◌, IsTrue, map};
 ghost use Rattle.odht_base.specs.Format.{format_of};
 ghost use Rattle.odht_base.specs.Table.{Table};
-ghost use Rattle.odht_base.specs.Valid.{IsImage, IsPartsOf};
+ghost use Rattle.odht_base.specs.Valid.{IsPartsOf};
 ghost use Rattle.odht_raw.specs.Walks.{stored};
 ghost use Rattle.odht.specs.Equality.{HasAll, IsSameMap};
 
@@ -20,11 +21,9 @@ impl<C: Config, D: ByteStore> HashTable<C, D> {
     /// Where the item counts differ no key is looked up. Otherwise each key of this table is looked up in the other, up
     /// to the first that is absent there or has another value.
     pub fn is_same_map<E: ByteStore>(&self, other: &HashTable<C, E>) -> bool
-        ensures { let F = ⟦<C as Coded>⟧.coding.format
-            in (P Q : Table)
-            → IsImage F P (D.bytes self.now)
-            → IsImage F Q (E.bytes other.now)
-            → IsTrue result ↔ IsSameMap P Q }
+        ensures { InTable ⟦<C as Coded>⟧.coding (D.bytes self.now)
+            (λ c P. OfTable c.format (E.bytes other.now)
+            (λ Q. IsTrue result ↔ IsSameMap P Q)) }
     {
         if self.len() != other.len() {
             return false;
@@ -47,11 +46,8 @@ impl<C: Config> HashTableOwned<C> {
     /// Whether this table and another have the same keys with the same values, as bytes, whatever their slot counts,
     /// their load factors and the order of their inserts. It costs what [`HashTable::is_same_map`] does.
     pub fn is_same_map(&self, other: &HashTableOwned<C>) -> bool
-        ensures { let F = ⟦<C as Coded>⟧.coding.format
-            in (P Q : Table)
-            → IsImage F P self.now
-            → IsImage F Q other.now
-            → IsTrue result ↔ IsSameMap P Q }
+        ensures { InTable ⟦<C as Coded>⟧.coding self.now
+            (λ c P. OfTable c.format other.now (λ Q. IsTrue result ↔ IsSameMap P Q)) }
     {
         self.table.is_same_map(&other.table)
     }

@@ -1,4 +1,5 @@
 //! Growth: a table with the slots for twice as many items, written into larger bytes.
+ghost use Rattle.odht.specs.Tables.{InTable};
 ghost use Rattle.std.specs.Prelude.{◌≡◌, ◌-◌, ◌*◌, max, All, Some, None};
 ghost use Rattle.std.specs.Prelude.{MatchOption, length, map};
 ghost use Rattle.odht_base.specs.Bytes.{bytes_at};
@@ -9,7 +10,7 @@ ghost use Rattle.odht_base.specs.Load.{IsSlotCount};
 ghost use Rattle.odht_base.specs.Map.{KeysApart};
 ghost use Rattle.odht_base.specs.Decoded.{header_count, header_factor};
 ghost use Rattle.odht_base.specs.Table.{Table};
-ghost use Rattle.odht_base.specs.Valid.{IsImage, IsPartsOf};
+ghost use Rattle.odht_base.specs.Valid.{IsPartsOf};
 ghost use Rattle.odht_raw.specs.Frame.{IsAccepted};
 ghost use Rattle.odht_header.specs.Layouts.{IsLayout};
 ghost use Rattle.odht_raw.specs.PartsPlacings.{IsNewTo};
@@ -36,10 +37,8 @@ impl<C: Config, D: ByteStore> HashTable<C, D> {
     /// taken as it is: for 0 no slot count is enough, so the result is None.
     pub fn grown_len(&self) -> Option<usize>
         ensures by_header { result ≡ grown_len ⟦<C as Coded>⟧.coding.format (D.bytes self.now) }
-        ensures on_valid { let F = ⟦<C as Coded>⟧.coding.format
-            in (P : Table)
-            → IsImage F P (D.bytes self.now)
-            → result ≡ table_len F (grown_slots P) }
+        ensures on_valid { InTable ⟦<C as Coded>⟧.coding (D.bytes self.now)
+            (λ c P. result ≡ table_len c.format (grown_slots P)) }
     {
         match grown_layout::<C>(&self.allocation.header()) {
             Some((_, len)) => Some(len),
@@ -58,10 +57,8 @@ impl<C: Config, D: ByteStore> HashTable<C, D> {
     pub fn grow_into(&self, out: &mut [u8])
         requires { grown_len ⟦<C as Coded>⟧.coding.format (D.bytes self.now)
             ≡ Some (length out.old) }
-        ensures on_valid { let F = ⟦<C as Coded>⟧.coding.format
-            in (P : Table)
-            → IsImage F P (D.bytes self.now)
-            → IsGrownImage F P out.new }
+        ensures on_valid { InTable ⟦<C as Coded>⟧.coding (D.bytes self.now)
+            (λ c P. IsGrownImage c.format P out.new) }
         ensures accepted { IsAccepted ⟦<C as Coded>⟧.coding.format out.new }
         ensures count { header_count out.new ≡ header_count (D.bytes self.now) }
         ensures factor { header_factor out.new ≡ header_factor (D.bytes self.now) }
@@ -103,10 +100,8 @@ pub(crate) fn write_grown<C: Config, D: ByteStore>(
     requires len { length out.old ≡ image_len ⟦<C as Coded>⟧.coding.format slot_count }
     requires zeros { IsZeros (slot_count * entry_len ⟦<C as Coded>⟧.coding.format)
         (bytes_at out.old 32 (slot_count * entry_len ⟦<C as Coded>⟧.coding.format)) }
-    ensures on_valid { let F = ⟦<C as Coded>⟧.coding.format
-        in (P : Table)
-        → IsImage F P (D.bytes table.now)
-        → IsGrownImage F P out.new }
+    ensures on_valid { InTable ⟦<C as Coded>⟧.coding (D.bytes table.now)
+        (λ c P. IsGrownImage c.format P out.new) }
     ensures accepted { IsAccepted ⟦<C as Coded>⟧.coding.format out.new }
     ensures count { header_count out.new ≡ header_count (D.bytes table.now) }
     ensures factor { header_factor out.new ≡ header_factor (D.bytes table.now) }

@@ -4,16 +4,15 @@ ghost use Rattle.std.specs.Prelude.{IsNone, IsTrue, OnErr, OnOk};
 ghost use Rattle.std.specs.Result.{result_err};
 ghost use Rattle.odht_base.specs.Load.{factor_of, slots_for, IsPercent};
 ghost use Rattle.odht_base.specs.Image.{image_len};
-ghost use Rattle.odht_base.specs.Table.{Table, walk, count};
+ghost use Rattle.odht_base.specs.Table.{walk, count};
 ghost use Rattle.odht_base.specs.Decoded.{header_count, header_slots, entries_of, controls_of};
 ghost use Rattle.odht_base.specs.Decoded.{decoded_pairs};
-ghost use Rattle.odht_base.specs.Insert.{insert_view, IsFullFor};
-ghost use Rattle.odht_base.specs.Valid.{IsImage, IsPartsOf, IsValidBytes};
+ghost use Rattle.odht_base.specs.Valid.{IsPartsOf, IsValidBytes};
 ghost use Rattle.odht_header.specs.Coding.{encoded, value_for};
 ghost use Rattle.odht.specs.Gets.{IsGet, IsCountedGet, IsKnown};
-ghost use Rattle.odht.specs.Inserts.{IsFresh, IsInserted};
+ghost use Rattle.odht.specs.Inserts.{IsFresh, IsInsertInto};
 ghost use Rattle.odht.specs.Lookups.{HaveStored};
-ghost use Rattle.odht.specs.Tables.{OfTable};
+ghost use Rattle.odht.specs.Tables.{OfTable, InTable};
 ghost use Rattle.odht_raw.specs.Frame.{IsAccepted, IsFramed};
 ghost use Rattle.odht_raw.specs.Walks.{decoded_all};
 ghost use Rattle.odht_header.specs.Refusals.{IsTooLarge, new_refusal, opening_refusal};
@@ -78,8 +77,7 @@ impl<C: Config, D: ByteStore> HashTable<C, D> {
         ensures ok { IfOk result (λ t. t ≡ «data») }
         ensures err { result_err result
             ≡ view_refusal ⟦<C as Coded>⟧.coding.format (D.bytes «data») }
-        ensures valid { (P : Table) → IsImage ⟦<C as Coded>⟧.coding.format P (D.bytes «data»)
-            → IsOk result }
+        ensures valid { OfTable ⟦<C as Coded>⟧.coding.format (D.bytes «data») (λ _. IsOk result) }
     {
         match Allocation::from_raw_bytes(data) {
             Ok(allocation) => Ok(HashTable { allocation }),
@@ -132,9 +130,8 @@ impl<C: Config, D: ByteStore> HashTable<C, D> {
     #[inline]
     pub fn get_all(&self, keys: &[C::Key], values: &mut [Option<C::Value>])
         requires { length values.old ≡ length keys.now }
-        ensures on_valid { let c = ⟦<C as Coded>⟧.coding
-            in OfTable c.format (D.bytes self.now)
-            (λ P. values.new ≡ map (value_for c P) keys.now) }
+        ensures on_valid { InTable ⟦<C as Coded>⟧.coding (D.bytes self.now)
+            (λ c P. values.new ≡ map (value_for c P) keys.now) }
         ensures on_any { HaveStored ⟦<C as Coded>⟧.coding (D.bytes self.now) keys.now values.new }
     {
         let mut answers = InSlice { answers: values };
@@ -163,8 +160,8 @@ impl<C: Config, D: ByteStore> HashTable<C, D> {
     /// the table once.
     #[inline]
     pub fn iter(&self) -> Iter<'_, C>
-        ensures on_valid { let c = ⟦<C as Coded>⟧.coding
-            in OfTable c.format (D.bytes self.now) (λ P. result ≡ decoded_all c (walk P)) }
+        ensures on_valid { InTable ⟦<C as Coded>⟧.coding (D.bytes self.now)
+            (λ c P. result ≡ decoded_all c (walk P)) }
         ensures on_any { let c = ⟦<C as Coded>⟧.coding
             in result ≡ decoded_all c (decoded_pairs c.format (D.bytes self.now)) }
         ensures few { length result ≤ usize.MAX }
@@ -179,8 +176,8 @@ impl<C: Config, D: ByteStore> HashTable<C, D> {
     #[inline]
     pub fn len(&self) -> usize
         ensures by_header { result ≡ header_count (D.bytes self.now) }
-        ensures on_valid { let F = ⟦<C as Coded>⟧.coding.format
-            in OfTable F (D.bytes self.now) (λ P. result ≡ count P) }
+        ensures on_valid { InTable ⟦<C as Coded>⟧.coding (D.bytes self.now)
+            (λ _ P. result ≡ count P) }
     {
         self.allocation.header().item_count()
     }
@@ -225,9 +222,8 @@ impl<C: Config, D: ByteStore> HashTable<C, D> {
         ensures entries { result.entries.bytes
             ≡ entries_of ⟦<C as Coded>⟧.coding.format (D.bytes self.now) }
         ensures slots { result.entries.slots ≡ header_slots (D.bytes self.now) }
-        ensures parts { (P : Table)
-            → IsImage ⟦<C as Coded>⟧.coding.format P (D.bytes self.now)
-            → IsPartsOf ⟦<C as Coded>⟧.coding.format P result.entries.bytes result.control }
+        ensures parts { InTable ⟦<C as Coded>⟧.coding (D.bytes self.now)
+            (λ c P. IsPartsOf c.format P result.entries.bytes result.control) }
     {
         let (control, entries) = self.allocation.data_slices();
         RawTable::new(control, entries)
@@ -309,18 +305,10 @@ impl<C: Config, D: ByteStoreMut> HashTable<C, D> {
     /// The key is hashed once. [`HashTable::get_counted`] says how many groups the search reads.
     #[inline(always)]
     pub fn insert(&mut self, key: &C::Key, value: &C::Value) -> Result<Option<C::Value>, Error>
-        // On success, on the bytes of a valid table.
-        ensures former { let c = ⟦<C as Coded>⟧.coding
-            in OfTable c.format (D.bytes self.old)
-            (λ P. IfOk result (λ former. former ≡ value_for c P key.now)) }
-        ensures inserted { let c = ⟦<C as Coded>⟧.coding
-            in let p = encoded c key.now value.now
-            in OfTable c.format (D.bytes self.old) (λ P. OnOk result
-            (IsInserted c.format (insert_view c.format) P p (D.bytes self.new))) }
+        // On the bytes of a valid table.
+        ensures on_valid { InTable ⟦<C as Coded>⟧.coding (D.bytes self.old)
+            (λ c P. IsInsertInto c P key.now value.now result (D.bytes self.new)) }
         // On failure.
-        ensures full { let c = ⟦<C as Coded>⟧.coding
-            in OfTable c.format (D.bytes self.old)
-            (λ P. (result ≡ Err Error.Full) ↔ IsFullFor P (c.key_bytes key.now)) }
         ensures only_full { OnErr result (result ≡ Err Error.Full) }
         ensures refused { OnErr result (self.new ≡ self.old) }
         // On any bytes.

@@ -2,7 +2,7 @@
 ghost use Rattle.std.specs.Prelude.{◌≡◌, ℕ, List, ◌≤◌, ◌↔◌, ◌⊎◌, None, Some, length, IfOk, IsSome};
 ghost use Rattle.std.specs.Prelude.{IsTrue, IsErrOf, OnErr, OnOk};
 ghost use Rattle.odht_base.specs.Load.{factor_of, slots_for, IsPercent};
-ghost use Rattle.odht_base.specs.Table.{Table, walk, count, empty};
+ghost use Rattle.odht_base.specs.Table.{walk, count, empty};
 ghost use Rattle.odht_base.specs.Map.{map_of};
 ghost use Rattle.odht_base.specs.Search.{groups_read};
 ghost use Rattle.odht_base.specs.Insert.{insert_owned, IsFullFor};
@@ -11,7 +11,7 @@ ghost use Rattle.odht_header.specs.Coding.{encoded, value_for};
 ghost use Rattle.odht.specs.Growths.{IsGrownImage};
 ghost use Rattle.odht.specs.Lists.{EndsAfter, IsFreshAfterInserts};
 ghost use Rattle.odht.specs.Inserts.{IsFresh, IsInserted};
-ghost use Rattle.odht.specs.Tables.{OfTable};
+ghost use Rattle.odht.specs.Tables.{OfTable, InTable};
 ghost use Rattle.odht_raw.specs.Walks.{decoded_all};
 ghost use Rattle.std.specs.Iterator.{IsFinite};
 ghost use Rattle.odht_header.specs.Refusals.{IsTooLarge, check_refusal, check_refusal_by};
@@ -123,8 +123,8 @@ impl<C: Config> HashTableOwned<C> {
     /// search reads.
     #[inline]
     pub fn get(&self, key: &C::Key) -> Option<C::Value>
-        ensures { let c = ⟦<C as Coded>⟧.coding
-            in OfTable c.format self.now (λ P. result ≡ value_for c P key.now) }
+        ensures { InTable ⟦<C as Coded>⟧.coding self.now
+            (λ c P. result ≡ value_for c P key.now) }
     {
         self.table.get(key)
     }
@@ -133,11 +133,10 @@ impl<C: Config> HashTableOwned<C> {
     /// free or holds the key. docs/FORMAT.md, "Search", counts them.
     #[inline]
     pub fn get_counted(&self, key: &C::Key) -> (Option<C::Value>, usize)
-        ensures value { let c = ⟦<C as Coded>⟧.coding
-            in OfTable c.format self.now (λ P. result.0 ≡ value_for c P key.now) }
-        ensures groups { let c = ⟦<C as Coded>⟧.coding
-            in OfTable c.format self.now
-            (λ P. result.1 ≡ groups_read c.format P.cells (c.key_bytes key.now)) }
+        ensures value { InTable ⟦<C as Coded>⟧.coding self.now
+            (λ c P. result.0 ≡ value_for c P key.now) }
+        ensures groups { InTable ⟦<C as Coded>⟧.coding self.now
+            (λ c P. result.1 ≡ groups_read c.format P.cells (c.key_bytes key.now)) }
     {
         self.table.get_counted(key)
     }
@@ -145,9 +144,8 @@ impl<C: Config> HashTableOwned<C> {
     /// Whether the key has a value.
     #[inline]
     pub fn contains_key(&self, key: &C::Key) -> bool
-        ensures { let c = ⟦<C as Coded>⟧.coding
-            in OfTable c.format self.now
-            (λ P. IsTrue result ↔ IsSome (map_of P (c.key_bytes key.now))) }
+        ensures { InTable ⟦<C as Coded>⟧.coding self.now
+            (λ c P. IsTrue result ↔ IsSome (map_of P (c.key_bytes key.now))) }
     {
         self.table.contains_key(key)
     }
@@ -155,8 +153,8 @@ impl<C: Config> HashTableOwned<C> {
     /// The keys and values, each pair once, in slot order.
     #[inline]
     pub fn iter(&self) -> Iter<'_, C>
-        ensures pairs { let c = ⟦<C as Coded>⟧.coding
-            in OfTable c.format self.now (λ P. result ≡ decoded_all c (walk P)) }
+        ensures pairs { InTable ⟦<C as Coded>⟧.coding self.now
+            (λ c P. result ≡ decoded_all c (walk P)) }
         ensures few { length result ≤ usize.MAX }
     {
         self.table.iter()
@@ -265,17 +263,14 @@ impl<C: Config> HashTableOwned<C> {
     #[inline(always)]
     pub fn insert(&mut self, key: &C::Key, value: &C::Value) -> Result<Option<C::Value>, Error>
         // On success.
-        ensures former { let c = ⟦<C as Coded>⟧.coding
-            in OfTable c.format self.old
-            (λ P. IfOk result (λ former. former ≡ value_for c P key.now)) }
-        ensures inserted { let c = ⟦<C as Coded>⟧.coding
-            in let p = encoded c key.now value.now
-            in OfTable c.format self.old
-            (λ P. OnOk result (IsInserted c.format (insert_owned c.format) P p self.new)) }
+        ensures former { InTable ⟦<C as Coded>⟧.coding self.old
+            (λ c P. IfOk result (λ former. former ≡ value_for c P key.now)) }
+        ensures inserted { let p = encoded ⟦<C as Coded>⟧.coding key.now value.now
+            in InTable ⟦<C as Coded>⟧.coding self.old (λ c P. OnOk result
+            (IsInserted c.format (insert_owned c.format) P p self.new)) }
         // On failure.
-        ensures at_maximum { let c = ⟦<C as Coded>⟧.coding
-            in OfTable c.format self.old
-            (λ P. OnErr result (IsFullFor P (c.key_bytes key.now))) }
+        ensures at_maximum { InTable ⟦<C as Coded>⟧.coding self.old
+            (λ c P. OnErr result (IsFullFor P (c.key_bytes key.now))) }
         ensures memory { OnErr result (result ≡ Err Error.Memory) }
         ensures refused { OnErr result (self.new ≡ self.old) }
     {
@@ -289,12 +284,11 @@ impl<C: Config> HashTableOwned<C> {
     // `insert` of an absent key at the maximum: into the grown table.
     #[inline(never)]
     fn insert_grown(&mut self, key: &C::Key, value: &C::Value) -> Result<Option<C::Value>, Error>
-        ensures former { let c = ⟦<C as Coded>⟧.coding
-            in OfTable c.format self.old (λ P. IsFullFor P (c.key_bytes key.now)
+        ensures former { InTable ⟦<C as Coded>⟧.coding self.old (λ c P.
+            IsFullFor P (c.key_bytes key.now)
             → IfOk result (λ former. former ≡ value_for c P key.now)) }
-        ensures inserted { let c = ⟦<C as Coded>⟧.coding
-            in let p = encoded c key.now value.now
-            in OfTable c.format self.old (λ P. IsFullFor P p.key
+        ensures inserted { let p = encoded ⟦<C as Coded>⟧.coding key.now value.now
+            in InTable ⟦<C as Coded>⟧.coding self.old (λ c P. IsFullFor P p.key
             → OnOk result (IsInserted c.format (insert_owned c.format) P p self.new)) }
         ensures memory { OnErr result (result ≡ Err Error.Memory) }
         ensures refused { OnErr result (self.new ≡ self.old) }
@@ -314,10 +308,8 @@ impl<C: Config> HashTableOwned<C> {
     // least.
     #[inline(never)]
     fn grown_table(&self) -> Result<HashTable<C, OwnedBytes>, Error>
-        ensures ok { let F = ⟦<C as Coded>⟧.coding.format
-            in (P : Table)
-            → IsImage F P self.now
-            → IfOk result (IsGrownImage F P) }
+        ensures ok { InTable ⟦<C as Coded>⟧.coding self.now
+            (λ c P. IfOk result (IsGrownImage c.format P)) }
         ensures memory { OnErr result (result ≡ Err Error.Memory) }
     {
         let Some((slot_count, len)) = grown_layout::<C>(&self.table.allocation.header()) else {

@@ -1,5 +1,5 @@
 -- Worked examples: what a new table is, and what an insert leaves.
-use Rattle.std.proofs.Common.{◌≡◌, ◌∙◌, ℕ, Bool, true, false, refl, sym, ap, arith, List, [], Option, Some, None, option_map, if◌then◌else◌, bytes_eq}
+use Rattle.std.proofs.Common.{◌≡◌, ◌∙◌, ℕ, Bool, true, false, refl, sym, ap, arith, List, [], Option, Some, None, Ok, Err, option_map, if◌then◌else◌, bytes_eq}
 use Rattle.std.proofs.lemmas.Option.{none-some}
 use Rattle.odht_base.specs.Insert.{insert_owned}
 use Rattle.odht_base.specs.Load.{factor_of}
@@ -9,10 +9,11 @@ use Rattle.odht_base.specs.Table.{Pair, Table, empty}
 use Rattle.odht_base.proofs.lemmas.Options.{some_same}
 use Rattle.odht_base.proofs.examples.Configs.{my_config, pair64}
 use Rattle.odht_header.specs.Coding.{value_for}
+use Rattle.odht_header.specs.declared.error.Error.TheVariants.{Full}
 use Rattle.odht_header.proofs.examples.Opened.{opened}
-use Rattle.odht.specs.Inserts.{IsFresh, IsInserted}
+use Rattle.odht.specs.Inserts.{IsFresh, IsInserted, IsInsertInto}
 use Rattle.odht_header.proofs.examples.Apart.{unequal_lists, some_unequal_lists}
-use Rattle.odht.proofs.examples.SmallTables.{number_coding, no_pairs, one_pair, other_pair, one_of_32, bytes_of, no_pairs_image, one_pair_image}
+use Rattle.odht.proofs.examples.SmallTables.{number_coding, no_pairs, one_pair, other_pair, full_of_none, one_of_32, bytes_of, no_pairs_image, one_pair_image}
 
 -- ---- new tables
 -- sixteen slots at 87 percent
@@ -109,3 +110,51 @@ other_value h =
 pub other_key_lost : IsInserted my_config (λ P p. Some other_pair) (one_pair 2) (pair64 3 4) (bytes_of other_pair) → ⊥
 other_key_lost h =
     none-some _ (ap (λ T. map_of T (le_bytes 8 1)) (some_same other_pair h.table h.inserted) ∙ h.maps (le_bytes 8 1))
+
+-- ---- inserts into bytes that cannot grow
+-- a new key
+pub into_none : IsInsertInto number_coding no_pairs 1 2 (Ok None) (bytes_of (one_pair 2))
+unfolding opened a_new_key
+into_none = record {
+  former = refl;
+  inserted = record { table = one_pair 2; inserted = refl; image = one_pair_image.0; maps = a_new_key.maps };
+  full = (λ e. absurd cc, λ full. absurd (omega (arith, full.0)));
+}
+
+-- a present key
+pub into_one : IsInsertInto number_coding (one_pair 2) 1 3 (Ok (Some 2)) (bytes_of (one_pair 3))
+unfolding opened an_old_key
+into_one = record {
+  former = refl;
+  inserted = record { table = one_pair 3; inserted = refl; image = one_pair_image.1; maps = an_old_key.maps };
+  full = (λ e. absurd cc, λ full. absurd (omega (arith, full.0)));
+}
+
+-- a table at its maximum
+pub into_full : IsInsertInto number_coding full_of_none 1 2 (Err Full) (bytes_of full_of_none)
+unfolding opened
+into_full = record { former = tt; inserted = tt; full = (λ e. (refl, refl), λ full. refl) }
+
+-- another former value
+pub into_other_former : IsInsertInto number_coding (one_pair 2) 1 3 (Ok None) (bytes_of (one_pair 3)) → ⊥
+into_other_former h = no_former h.former
+
+-- no bytes of a table
+pub into_no_image : IsInsertInto number_coding no_pairs 1 2 (Ok None) [] → ⊥
+unfolding opened
+into_no_image h =
+    unequal_lists _ _ refl (h.inserted.image.bytes ∙ ap bytes_of (sym (some_same (one_pair 2) h.inserted.table h.inserted.inserted)))
+
+-- full below the maximum
+pub into_full_early : IsInsertInto number_coding no_pairs 1 2 (Err Full) (bytes_of no_pairs) → ⊥
+unfolding opened
+into_full_early h =
+    let full = h.full.0 refl in
+    omega (arith, full.0)
+
+-- one more than the maximum
+pub into_full_late : IsInsertInto number_coding full_of_none 1 2 (Ok None) (bytes_of (one_pair 2)) → ⊥
+unfolding opened
+into_full_late h =
+    let full = h.full.1 (refl, refl) in
+    absurd cc

@@ -1,5 +1,5 @@
 -- Worked examples: tables that are the same map, whatever their slots.
-use Rattle.std.proofs.Common.{◌≡◌, Bool, true, false, refl, sym, List, ℕ, [], ◌∷◌, Option, Some, None, option_map, if◌then◌else◌, bytes_eq}
+use Rattle.std.proofs.Common.{◌≡◌, Bool, refl, sym, Some, None, option_map, if◌then◌else◌, bytes_eq}
 use Rattle.std.proofs.lemmas.Option.{none-some}
 use Rattle.odht_base.specs.Numbers.{le_bytes}
 use Rattle.odht_base.specs.Table.{Pair}

@@ -1,10 +1,10 @@
 //! Views whose searches end in time: the whole check with a bound, and the bound alone.
+ghost use Rattle.odht.specs.Tables.{InTable};
 ghost use Rattle.std.specs.Prelude.{◌≡◌, ℕ, List, ◌≤◌, ◌↔◌, IsTrue, None};
 ghost use Rattle.odht_base.specs.Bounds.{first_longer};
 ghost use Rattle.odht_base.specs.Decoded.{controls_of};
 ghost use Rattle.odht_base.specs.Search.{groups_read};
-ghost use Rattle.odht_base.specs.Table.{Table};
-ghost use Rattle.odht_base.specs.Valid.{IsImage, IsValidBytes};
+ghost use Rattle.odht_base.specs.Valid.{IsValidBytes};
 
 use super::HashTable;
 use crate::bytes::ByteStore;
@@ -31,9 +31,8 @@ impl<C: Config, D: ByteStore> HashTable<C, D> {
     pub fn searches_within(&self, groups: usize) -> bool
         ensures bytes { let F = ⟦<C as Coded>⟧.coding.format
             in IsTrue result ↔ (first_longer (controls_of F (D.bytes self.now)) groups ≡ None) }
-        ensures bound { let F = ⟦<C as Coded>⟧.coding.format
-            in (P : Table) (key : List ℕ) → IsImage F P (D.bytes self.now)
-            → IsTrue result → groups_read F P.cells key ≤ groups }
+        ensures bound { IsTrue result → InTable ⟦<C as Coded>⟧.coding (D.bytes self.now)
+            (λ c P. (key : List ℕ) → groups_read c.format P.cells key ≤ groups) }
     {
         self.as_raw().searches_within(groups)
     }

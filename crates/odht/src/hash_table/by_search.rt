@@ -1,12 +1,10 @@
 //! Lookups and inserts by a group search of the caller's choice. The calls without `_by` take the one that is compiled
 //! in.
-ghost use Rattle.std.specs.Prelude.{◌≡◌, ◌↔◌, IfOk, OnErr, OnOk};
-ghost use Rattle.odht_base.specs.Insert.{insert_view, IsFullFor};
-ghost use Rattle.odht_header.specs.Coding.{encoded, value_for};
+ghost use Rattle.std.specs.Prelude.{◌≡◌, OnErr};
 ghost use Rattle.odht_raw.specs.Frame.{IsAccepted, IsFramed};
 ghost use Rattle.odht.specs.Gets.{IsGet, IsCountedGet, IsKnown};
-ghost use Rattle.odht.specs.Inserts.{IsInserted};
-ghost use Rattle.odht.specs.Tables.{OfTable};
+ghost use Rattle.odht.specs.Inserts.{IsInsertInto};
+ghost use Rattle.odht.specs.Tables.{InTable};
 
 use super::HashTable;
 use crate::bytes::{ByteStore, ByteStoreMut};
@@ -61,18 +59,10 @@ impl<C: Config, D: ByteStoreMut> HashTable<C, D> {
         key: &C::Key,
         value: &C::Value,
     ) -> Result<Option<C::Value>, Error>
-        // On success, on the bytes of a valid table.
-        ensures former { let c = ⟦<C as Coded>⟧.coding
-            in OfTable c.format (D.bytes self.old)
-            (λ P. IfOk result (λ former. former ≡ value_for c P key.now)) }
-        ensures inserted { let c = ⟦<C as Coded>⟧.coding
-            in let p = encoded c key.now value.now
-            in OfTable c.format (D.bytes self.old) (λ P. OnOk result
-            (IsInserted c.format (insert_view c.format) P p (D.bytes self.new))) }
+        // On the bytes of a valid table.
+        ensures on_valid { InTable ⟦<C as Coded>⟧.coding (D.bytes self.old)
+            (λ c P. IsInsertInto c P key.now value.now result (D.bytes self.new)) }
         // On failure.
-        ensures full { let c = ⟦<C as Coded>⟧.coding
-            in OfTable c.format (D.bytes self.old)
-            (λ P. (result ≡ Err Error.Full) ↔ IsFullFor P (c.key_bytes key.now)) }
         ensures only_full { OnErr result (result ≡ Err Error.Full) }
         ensures refused { OnErr result (self.new ≡ self.old) }
         // On any bytes.

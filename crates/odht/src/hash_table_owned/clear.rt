@@ -1,5 +1,6 @@
 //! A table that is emptied and keeps its memory.
-ghost use Rattle.odht_base.specs.Table.{Table, empty, slot_count};
+ghost use Rattle.odht.specs.Tables.{InTable};
+ghost use Rattle.odht_base.specs.Table.{empty, slot_count};
 ghost use Rattle.odht_base.specs.Valid.{IsImage};
 
 use super::HashTableOwned;
@@ -11,10 +12,8 @@ impl<C: Config> HashTableOwned<C> {
     ///
     /// It takes no memory and gives none back. Each byte is written once.
     pub fn clear(&mut self)
-        ensures { let F = ⟦<C as Coded>⟧.coding.format
-            in (P : Table)
-            → IsImage F P self.old
-            → IsImage F (empty (slot_count P) P.factor) self.new }
+        ensures { InTable ⟦<C as Coded>⟧.coding self.old
+            (λ c P. IsImage c.format (empty (slot_count P) P.factor) self.new) }
     {
         self.table.allocation.clear();
     }

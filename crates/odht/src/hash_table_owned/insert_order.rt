@@ -1,8 +1,8 @@
 //! An order of inserts that makes a table.
+ghost use Rattle.odht.specs.Tables.{InTable};
 ghost use Rattle.std.specs.Prelude.{◌≡◌, ◌↔◌, length, IsTrue};
 ghost use Rattle.odht_base.specs.Made.{IsMade, IsInsertOrder};
-ghost use Rattle.odht_base.specs.Table.{Table, count};
-ghost use Rattle.odht_base.specs.Valid.{IsImage};
+ghost use Rattle.odht_base.specs.Table.{count};
 
 use super::HashTableOwned;
 use crate::config::{Coded, Config};
@@ -20,17 +20,11 @@ impl<C: Config> HashTableOwned<C> {
     /// before from the same home, as far as that is kept, for 64 homes. Then the slots that still wait are sorted.
     /// docs/PERF.md has what an item costs.
     pub fn insert_order(&self, out: &mut [usize]) -> bool
-        requires { (P : Table) → IsImage ⟦<C as Coded>⟧.coding.format P self.now
-            → length out.old ≡ count P }
-        ensures order { let F = ⟦<C as Coded>⟧.coding.format
-            in (P : Table)
-            → IsImage F P self.now
-            → IsTrue result
-            → IsInsertOrder F P out.new }
-        ensures made { let F = ⟦<C as Coded>⟧.coding.format
-            in (P : Table)
-            → IsImage F P self.now
-            → (IsTrue result ↔ IsMade F P) }
+        requires { InTable ⟦<C as Coded>⟧.coding self.now (λ _ P. length out.old ≡ count P) }
+        ensures order { InTable ⟦<C as Coded>⟧.coding self.now
+            (λ c P. IsTrue result → IsInsertOrder c.format P out.new) }
+        ensures made { InTable ⟦<C as Coded>⟧.coding self.now
+            (λ c P. IsTrue result ↔ IsMade c.format P) }
     {
         self.table.as_raw().insert_order(out)
     }

@@ -21,7 +21,7 @@ invariant_of-result g c =
     }
 
 pub returns-in-Err-clause-valid : goal.returns-in-Err-clause-valid
-returns-in-Err-clause-valid g c P long is =
+returns-in-Err-clause-valid g c long P is =
     let F : Format = format_of c.args.layout.key_len c.args.layout.value_len g.H.HashFn.hash in
     let B = g.D.ByteStore.bytes c.args.data in
     let key : c.args.layout.key_len ≤ 255 = search rules in

@@ -23,7 +23,7 @@ returns-then-found-lt-HEADER_SIZE-clause-err g c =
     ap (λ n. Some (Rejected (TooShort n))) found ∙ sym (refused_first g.H.HashFn.MIN_LEN g.H.HashFn.hash B _ short)
 
 pub returns-then-found-lt-HEADER_SIZE-clause-valid : goal.returns-then-found-lt-HEADER_SIZE-clause-valid
-returns-then-found-lt-HEADER_SIZE-clause-valid g c key_len value_len P long is =
+returns-then-found-lt-HEADER_SIZE-clause-valid g c key_len value_len long P is =
     let B = g.D.ByteStore.bytes c.args.data in
     let found = ap length c.bytes-bytes.ensures in
     absurd (accepted_only g.H.HashFn.hash key_len value_len P B is _ (opening_refusal-short (stated_format g.H.HashFn.hash B) B (omega (arith, found, c.if-found-lt-HEADER_SIZE.true))))
@@ -48,7 +48,7 @@ returns-in-Err-clause-err g c =
     sym (refused_first g.H.HashFn.MIN_LEN g.H.HashFn.hash (bytes g at) _ (Err-checked _ c.in-Err.rejected (sym c.in-Err.is ∙ by_header g at)))
 
 pub returns-in-Err-clause-valid : goal.returns-in-Err-clause-valid
-returns-in-Err-clause-valid g c key_len value_len P long is =
+returns-in-Err-clause-valid g c key_len value_len long P is =
     let at = (goal.at.returns-in-Err-clause-valid g c).After-check_by_header in
     absurd (accepted_only g.H.HashFn.hash key_len value_len P (bytes g at) is _ (Err-checked _ c.in-Err.rejected (sym c.in-Err.is ∙ by_header g at)))
 
@@ -66,9 +66,9 @@ returns-in-Ok-clause-err g c =
     ∙ sym (ap (λ o. option_or (option_map Rejected o) (dyn_refusal g.H.HashFn.MIN_LEN F (bytes g at))) (Ok-checked _ (sym c.in-Ok.is ∙ by_header g at)))
 
 pub returns-in-Ok-clause-valid : goal.returns-in-Ok-clause-valid
-returns-in-Ok-clause-valid g c key_len value_len P long is =
+returns-in-Ok-clause-valid g c key_len value_len long P is =
     let at = (goal.at.returns-in-Ok-clause-valid g c).After-check_by_header in
     let hash = g.H.HashFn.hash in
     let states = stated_key hash key_len value_len P (bytes g at) is in
-    c.open.ensures.valid P (omega (arith, long, states, key g at))
+    c.open.ensures.valid (omega (arith, long, states, key g at)) P
     (subst (λ (F : Format). IsImage F P (bytes g at)) (λ i. format_of (sym (key g at) i) (sym (value g at) i) hash) (stated_image hash key_len value_len P (bytes g at) is))

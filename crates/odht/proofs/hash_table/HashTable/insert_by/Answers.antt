@@ -35,25 +35,19 @@ framed : (g : Over) (c : After-insert_by g) → IsFramed (coding g) (g.D.ByteSto
 framed g c =
     subst (λ s. IsFramed (coding g) (g.D.ByteStore.bytes s) c.args.key.now c.args.value.now c.insert_by.result (g.D.ByteStore.bytes c.insert_by.new.self)) c.self.view_is c.insert_by.ensures.framed
 
-pub returns-clause-former : goal.returns-clause-former
-returns-clause-former g c P is =
-    let at = (goal.at.returns-clause-former g c).After-insert_by in
-    if_former (coding g) P c.args.key.now c.args.value.now c.insert_by.result _ (placed g at P is)
-
-pub returns-clause-inserted : goal.returns-clause-inserted
-returns-clause-inserted g c P is =
-    let at = (goal.at.returns-clause-inserted g c).After-insert_by in
-    if_inserted (coding g) P _ c.args.key.now c.args.value.now c.insert_by.result _ is (placed g at P is)
-
-pub returns-clause-full : goal.returns-clause-full
-returns-clause-full g c P is =
+pub returns-clause-on_valid : goal.returns-clause-on_valid
+returns-clause-on_valid g c P is =
     let K = coding g in
     let k = c.args.key.now in
     let v = c.args.value.now in
     let r = c.insert_by.result in
-    let at = (goal.at.returns-clause-full g c).After-insert_by in
+    let at = (goal.at.returns-clause-on_valid g c).After-insert_by in
     let one = framed g at in
-    (λ e. framed-full K _ k v (fits g) P is r _ e one, λ full. full-framed K _ k v (fits g) P is r _ (placed g at P is) one full)
+    record {
+      former = if_former K P k v r _ (placed g at P is);
+      inserted = if_inserted K P _ k v r _ is (placed g at P is);
+      full = (λ e. framed-full K _ k v (fits g) P is r _ e one, λ full. full-framed K _ k v (fits g) P is r _ (placed g at P is) one full);
+    }
 
 pub returns-clause-frame : goal.returns-clause-frame
 returns-clause-frame g c = framed g (goal.at.returns-clause-frame g c).After-insert_by

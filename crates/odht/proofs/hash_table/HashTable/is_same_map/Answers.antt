@@ -10,12 +10,12 @@ use Rattle.odht.proofs.lemmas.SameMaps.{not_true, all-same, same-all, same-count
 use Rattle.odht.proofs.hash_table.HashTable.is_same_map.Goals as goal
 
 pub returns-then-len : goal.returns-then-len
-returns-then-len g c P Q is_P is_Q =
+returns-then-len g c P is_P Q is_Q =
     let F : Format = format_of g.C.EncodedKey.ByteArray.LEN g.C.EncodedValue.ByteArray.LEN g.C.H.HashFn.hash in
     (λ t. absurd (not_true t), λ same. absurd (c.if-len.true (c.len.ensures.on_valid P is_P ∙ same-count F P Q is_P.valid.placed is_Q.valid.placed same ∙ sym (c.len-2.ensures.on_valid Q is_Q))))
 
 pub returns : goal.returns
-returns g c P Q is_P is_Q =
+returns g c P is_P Q is_Q =
     let key = g.C.EncodedKey.ByteArray in
     let value = g.C.EncodedValue.ByteArray in
     let F : Format = format_of key.LEN value.LEN g.C.H.HashFn.hash in

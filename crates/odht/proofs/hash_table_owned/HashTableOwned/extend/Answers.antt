@@ -1,4 +1,4 @@
-use Rattle.std.proofs.Common.{◌≡◌, ◌∙◌, subst, inr, List, Result, Ok, Err, OnErr}
+use Rattle.std.proofs.Common.{◌≡◌, ◌∙◌, subst, inr, List, Result, Ok, Err}
 use Rattle.std.specs.Prelude.{OnOk}
 use Rattle.odht_header.specs.Coding.{coding_of}
 use Rattle.odht.specs.ListResults.{IsOwnedList}

@@ -11,7 +11,7 @@ unreachable-requires g c =
     let P = c.self.invariant.0 in
     let is = c.self.invariant.1 in
     let grown = c.in-Ok.ensures.ok P (record { valid = is.valid; bytes = sym c.self.view_is ∙ is.bytes }) in
-    grown_below F P (record { key = []; value = [] }) is.valid grown.0 grown.1 _ ((c.in_default-insert.ensures.full grown.0 grown.2).0 c.in_default-insert.ensures.only_full)
+    grown_below F P (record { key = []; value = [] }) is.valid grown.0 grown.1 _ ((c.in_default-insert.ensures.on_valid grown.0 grown.2).full.0 c.in_default-insert.ensures.only_full)
 
 pub invariant_of-self : goal.invariant_of-self
 invariant_of-self g c =
@@ -19,7 +19,7 @@ invariant_of-self g c =
     let P = c.self.invariant.0 in
     let is = c.self.invariant.1 in
     let grown = c.in-Ok.ensures.ok P (record { valid = is.valid; bytes = sym c.self.view_is ∙ is.bytes }) in
-    let insert = c.in-Ok-insert.ensures.inserted grown.0 grown.2 in
+    let insert = (c.in-Ok-insert.ensures.on_valid grown.0 grown.2).inserted in
     (insert.table, insert.image)
 
 pub returns-clause-former : goal.returns-clause-former
@@ -28,14 +28,14 @@ returns-clause-former g c P is full =
     let p : Pair = record { key = g.C.EncodedKey.ByteArray.bytes (g.C.Config.encode_key c.args.key.now); value = g.C.EncodedValue.ByteArray.bytes (g.C.Config.encode_value c.args.value.now) } in
     let grown = c.in-Ok.ensures.ok P is in
     let maps = grown_maps F P p is.valid grown.0 grown.1 in
-    c.in-Ok-insert.ensures.former grown.0 grown.2 ∙ ap (option_map (λ b. g.C.Config.decode_value (g.C.EncodedValue.ByteArray.of_bytes b))) (maps p.key)
+    (c.in-Ok-insert.ensures.on_valid grown.0 grown.2).former ∙ ap (option_map (λ b. g.C.Config.decode_value (g.C.EncodedValue.ByteArray.of_bytes b))) (maps p.key)
 
 pub returns-clause-inserted : goal.returns-clause-inserted
 returns-clause-inserted g c P is full =
     let F : Format = format_of g.C.EncodedKey.ByteArray.LEN g.C.EncodedValue.ByteArray.LEN g.C.H.HashFn.hash in
     let p : Pair = record { key = g.C.EncodedKey.ByteArray.bytes (g.C.Config.encode_key c.args.key.now); value = g.C.EncodedValue.ByteArray.bytes (g.C.Config.encode_value c.args.value.now) } in
     let grown = c.in-Ok.ensures.ok P is in
-    let insert = c.in-Ok-insert.ensures.inserted grown.0 grown.2 in
+    let insert = (c.in-Ok-insert.ensures.on_valid grown.0 grown.2).inserted in
     let maps = grown_maps F P p is.valid grown.0 grown.1 in
     record {
       table = insert.table;
