@@ -207,7 +207,7 @@ static uint8_t *table_at_maximum(size_t *len, size_t items, uint8_t percent)
     return bytes;
 }
 
-/* The rows of docs/FORMAT.md, "Growth", where another key comes: items, percent, slots, and slots after the growth. */
+/* Columns of docs/FORMAT.md, "Growth": items, percent, slots, and slots after the growth. */
 static void slots_before_and_after_a_growth(void)
 {
     static const struct {

@@ -10,7 +10,7 @@
 
 enum { LEN = 192, NO_LEN = 99 };
 
-/* The rows of docs/FORMAT.md, "Load factors": items, percent and slots. Entries have twelve bytes. */
+/* Columns of docs/FORMAT.md, "Load factors": items, percent and slots. Entries have twelve bytes. */
 static void lengths_by_items_and_percent(void)
 {
     static const struct {

@@ -133,7 +133,7 @@ static void tables_of_other_sizes(void)
     }
 }
 
-/* The lines of docs/USING.md, "A table inside a larger file": the table of 1 to 2, 5 to 6 and 3 to 4 behind a mark. */
+/* The calls of docs/USING.md, "A table inside a larger file": the table of 1 to 2, 5 to 6 and 3 to 4 behind a mark. */
 static void a_table_behind_a_mark(void)
 {
     size_t file_len = 4 + 256 + 9;
