@@ -18,7 +18,8 @@ import tempfile
 
 HERE = os.path.dirname(os.path.realpath(__file__))
 TOP = os.path.dirname(HERE)
-sys.path.insert(0, f"{TOP}/tools")
+sys.path[:0] = [f"{TOP}/tools", f"{TOP}/tools/commands"]
+import command_list
 import watched
 
 TABLES = f"{TOP}/crates/odht_tool/data"
@@ -116,7 +117,10 @@ def run_failing(words, given, request, preloaded):
 
 
 def memory(program, room):
-    """Returns how many requests failed as they must."""
+    """Returns how many requests failed as they must, of all commands."""
+    missing = {it.name for it in command_list.read()[0]} - {words[0] for words, _ in COMMANDS}
+    if missing:
+        raise Failed(f"no request for memory fails of {', '.join(sorted(missing))}")
     if not shutil.which("cc"):
         print("SKIPPED there is no cc here, so no request for memory fails")
         return 0

@@ -10,7 +10,10 @@ FILE = "commands.txt"
 USAGE_WIDTH = 73
 HELP = "--help"
 INDENT = "    "
-COMMAND = re.compile(r"([a-z]+)((?: [A-Z]+(?:\.\.)?)*)((?: --[a-z-]+ [A-Z]+| \[--[a-z-]+(?: [^] ]+)?\])*)")
+COMMAND = re.compile(
+    r"([a-z]+)( FILE(?:\.\.)?(?: [A-Z]+(?:\.\.)?)*)"
+    r"((?: --[a-z-]+ [A-Z]+| \[--[a-z-]+(?: [^] ]+)?\])*)"
+)
 OPTION = re.compile(r"(--[a-z-]+)(?: +(\S.*))?")
 
 
@@ -28,7 +31,7 @@ class Option:
 
 @dataclasses.dataclass(frozen=True)
 class Command:
-    """A command: the words after its name, and the options behind these, as they are written; what it does; its help."""
+    """A command: the words after its name, the options behind these as they are written, what it does, and its help."""
     name: str
     words: list[str]
     written: list[str]
@@ -64,17 +67,18 @@ class Command:
         return lines
 
     @property
-    def takes_keys(self):
-        return "KEY.." in self.words
-
-    @property
     def takes_words(self):
         """Whether words may come after the file."""
-        return self.takes_keys or "FILE.." in self.words
+        return self.words != ["FILE"]
+
+    @property
+    def is_of_files(self):
+        """Whether all its words are files."""
+        return self.words in (["FILE"], ["FILE.."])
 
     @property
     def is_reading(self):
-        """Whether it reads its file alone: what makes or replaces a file has the option that tells of its other names."""
+        """Whether it reads its file alone. What makes or replaces a file has an option for its other names."""
         return not self.has("--break-links")
 
     @property

@@ -1,5 +1,5 @@
-"""What the program `odht` has of the list: the commands and their options with their definitions, the texts of its help,
-and what is known of a command that reads its file alone.
+"""What the program `odht` has of the list: the commands and their options with their definitions, the texts of its
+help, and what is known of a command that reads its file alone.
 
 topics.rt.in beside this file is the file of the commands and options: a mark @NAME@ in it is replaced by its text."""
 import sys
@@ -133,10 +133,11 @@ def help_regions(commands):
 
 def fields(command):
     """The fields of a command that reads its file alone."""
-    unknown = [it.name for it in command.options if it.name not in [*FIELDS, *NO_FIELDS]]
+    names = [it for it in [*command.words[1:], *(it.name for it in command.options)] if it not in NO_FIELDS]
+    unknown = [it for it in names if it not in FIELDS]
     if unknown:
         sys.exit(f"tools/commands/program.py: FIELDS does not say what {unknown[0]} of {command.name} becomes")
-    return [field for name, field in FIELDS.items() if command.has(name) or name in command.words]
+    return [field for name, field in FIELDS.items() if name in names]
 
 
 def variant(command):
@@ -164,7 +165,7 @@ def files(commands, options):
     """The texts by path."""
     readings = [it for it in commands if it.is_reading]
     # `get` is made elsewhere, since its words are no files
-    of_files = [it for it in readings if not it.takes_keys]
+    of_files = [it for it in readings if it.is_of_files]
     source = f"{CORE}/src"
     arguments, draft, helps = f"{source}/arguments.rt", f"{source}/arguments/draft.rt", f"{source}/help.rt"
     return {

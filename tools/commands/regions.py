@@ -1,5 +1,5 @@
-"""What is made inside of a file that is written by hand otherwise: all lines between two marks, comments with the name of
-the region, `begin NAME: made of commands.txt by tools/commands` and `end NAME`."""
+"""What is made inside of a file that is written by hand otherwise: all lines between two comments, which name the
+region: `begin NAME: made of commands.txt by tools/commands` and `end NAME`."""
 import re
 import sys
 
