@@ -12,7 +12,8 @@
 # make exports: include/odht.h and the exports of each shape of tables, of what is written once for all shapes
 # make rust: what is generated of the crate for Rust, rust/src/proved, rust/c/src/erased and rust/cli/src/erased, of the
 # proved crates, and its copies of documents
-# make manual: the manual page of the program `odht` and what completes its words, of its help texts
+# make manual: of commands.txt, what is the same for each command of the program `odht`: its code and definitions, help,
+# cases and table in docs/TOOL.md, the manual page, and what completes its words
 # make documents: docs/PROOFS.md, of its text in docs/parts and the contracts and definitions, and docs/FILES.md
 # make cli: the program for table files, `odht`, of erased source, by cargo alone
 # make install-tool, make uninstall-tool: this program below PREFIX, and below DESTDIR before it: with its proofs, where
@@ -111,6 +112,7 @@ documents:
 
 .PHONY: manual
 manual:
+	@python3 tools/commands
 	@python3 tools/manual.py
 
 # the program for table files: with its proofs, or of erased source

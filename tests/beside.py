@@ -17,8 +17,13 @@ import sys
 import tempfile
 
 TOP = os.path.dirname(os.path.dirname(os.path.realpath(__file__)))
+sys.path.insert(0, f"{TOP}/tools/commands")
+import command_list
+
 TABLES = f"{TOP}/crates/odht_tool/data"
-COMMANDS = "info check count count get get dump keys find build build put put help --version -V inof chek buid".split() + [""]
+COMMANDS = [it.name for it in command_list.read()[0]]
+# more of these, and words that are no command
+COMMANDS += "count get build put help --version -V inof chek buid".split() + [""]
 FILES = "table table table table - none folder link dangling loop odd".split()
 WORDS = """--hash fx unhash --at 0 7 99999999999999999999 --whole --slots -- - -h --help --key u64 u32 hex16 hex8 none
     hex0 --value --percent 87 0 100 101 --capacity 5 1000 18446744073709551615 --break-links --progress x -x --hsah

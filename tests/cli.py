@@ -4,7 +4,7 @@
   tests/cli.py [PROGRAM]     PROGRAM is one that is built already
 
 It has no warning and passes its own tests; `make install-tool` puts a program in place and `make uninstall-tool`
-removes it; all cases of tests/tool go on it; and each request for memory of some commands fails in turn, from the first
+removes it; all cases of tests/tool go on it; and each request for memory of each command fails in turn, from the first
 buffer on: the program then says that it is out of memory, and returns 1, and the file is as it was. Where ODHT_TOOL
 names the program as the kit compiles it, tests/beside.py runs both. The last line counts.
 """
@@ -18,20 +18,18 @@ import tempfile
 
 HERE = os.path.dirname(os.path.realpath(__file__))
 TOP = os.path.dirname(HERE)
-sys.path.insert(0, f"{TOP}/tools")
+sys.path[:0] = [f"{TOP}/tools", f"{TOP}/tools/commands"]
+import command_list
 import watched
 
 TABLES = f"{TOP}/crates/odht_tool/data"
 # lines of a table that grows twice, the keys in an order of their own
 LINES = "".join(f"{key * 7919 % 100003}\t{key}\n" for key in range(2000)).encode()
-# each command, and its input; the file is the table of two pairs, or is made
-COMMANDS = [
-    (["info", "table"], b""),
-    (["find", "table"], b""),
-    (["check", "table"], b""),
-    (["dump", "table"], b""),
+LISTED = command_list.read()[0]
+# each command, and its input, which is the table where it is None; the file is the table of two pairs, or is made
+COMMANDS = [([it.name, "table"], b"") for it in LISTED if it.is_reading and it.is_of_files]
+COMMANDS += [
     (["dump", "-"], None),
-    (["keys", "table"], b""),
     (["count", "table", "-"], None),
     (["get", "table", "3", "7"], b""),
     (["get", "table", "x"], b""),
@@ -116,7 +114,10 @@ def run_failing(words, given, request, preloaded):
 
 
 def memory(program, room):
-    """Returns how many requests failed as they must."""
+    """Returns how many requests failed as they must, of all commands."""
+    missing = {it.name for it in LISTED} - {words[0] for words, _ in COMMANDS}
+    if missing:
+        raise Failed(f"no request for memory fails of {', '.join(sorted(missing))}")
     if not shutil.which("cc"):
         print("SKIPPED there is no cc here, so no request for memory fails")
         return 0

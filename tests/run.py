@@ -103,6 +103,7 @@ def limited(seconds, *words):
 def generated(part):
     ran = [
         part.run(sys.executable, "tools/shapes", "--check"),
+        part.run(sys.executable, "tools/commands", "--check"),
         part.run(sys.executable, "tools/manual.py", "--check"),
         part.run(sys.executable, "tools/proofs", "--check"),
         part.run(sys.executable, "tools/map.py", "--check"),

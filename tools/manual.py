@@ -1,6 +1,6 @@
 #!/usr/bin/env python3
-"""The manual page of the program `odht`, and what completes its words in bash, zsh and fish, made of its help texts and
-of its table of commands (crates/odht_tool_core/src/help.rt and arguments/topics.rt).
+"""The manual page of the program `odht`, and what completes its words in bash, zsh and fish, made of the list of its
+commands (commands.txt) and of the end of its help of all commands (crates/odht_tool_core/src/help.rt).
 
   tools/manual.py           writes packaging/odht.1 and packaging/completions/
   tools/manual.py --check   that these are current; status 1 where one is not
@@ -10,10 +10,11 @@ import re
 import sys
 
 TOP = os.path.dirname(os.path.dirname(os.path.realpath(__file__)))
-CORE = f"{TOP}/crates/odht_tool_core/src"
+sys.path.insert(0, f"{TOP}/tools/commands")
+import command_list
+
+HELP = f"{TOP}/crates/odht_tool_core/src/help.rt"
 MADE = "made by tools/manual.py of the program's help texts"
-# how the values of an option are completed; of other options they are not
-VALUES = {"--hash": "fx unhash", "--duplicates": "error first last"}
 
 
 def read(path):
@@ -21,20 +22,13 @@ def read(path):
         return it.read()
 
 
-def body_of(text, name):
-    """Returns the lines of the arms of the function of this name."""
-    found = re.search(rf"fn {name}\(.*?\n    \}}\n|fn {name}\(.*?\n}}\n", text, re.S)
-    return found.group(0)
-
-
 class Command:
     """A command: its name, its line in the general help, its usage, its text, and its options."""
 
-    def __init__(self, name, summary, text, options):
-        self.name, self.summary, self.options = name, summary, options
-        lines = text.rstrip("\n").split("\n")
-        end = next(at for at, line in enumerate(lines) if at and not line.startswith("     ") and line.startswith("    "))
-        self.usage, self.text = lines[:end], [line[4:] for line in lines[end:]]
+    def __init__(self, listed):
+        self.name, self.summary, self.usage = listed.name, listed.summary, listed.usage
+        self.text = [line[len(command_list.INDENT):] for line in listed.text]
+        self.options = [it.name for it in listed.options]
 
     def paragraph(self):
         """Returns the words of the text, without the lines that describe an option or a word each."""
@@ -50,46 +44,14 @@ def described(line):
     return found and found.groups()
 
 
-def constants(text):
-    """Returns the texts of help.rt by the names of their constants."""
-    return dict(re.findall(r'^const ([A-Z]+): &str = "\\\n(.*?)";', text, re.S | re.M))
-
-
-def strings(text):
-    """Returns the text of each arm of a match by its variant."""
-    arms = re.findall(r"(?:Topic|Setting)::(\w+)\s*=>\s*\{?\s*\"(.*?)\"", text, re.S)
-    return {name: value.replace("\\n", "\n") for name, value in arms}
-
-
-def commands():
-    """Returns all commands, and the general text of the help."""
-    topics, helps = read(f"{CORE}/arguments/topics.rt"), read(f"{CORE}/help.rt")
-    order = re.findall(r"Topic::(\w+)", re.search(r"const TOPICS.*?\];", topics, re.S).group(0))
-    topic_part, setting_part = topics.split("pub enum Setting", 1)
-    names = strings(body_of(topic_part[topic_part.index("impl Topic"):], "name"))
-    settings = strings(body_of(setting_part, "name"))
-    wanted = strings_wanted(body_of(setting_part, "wanted"))
-    lists = re.findall(r"Topic::(\w+) => &\[(.*?)\]", body_of(topic_part, "options"), re.S)
-    options = {name: [settings[it] for it in re.findall(r"Setting::(\w+)", listed)] for name, listed in lists}
-    summaries = strings(body_of(helps, "summary_of"))
-    texts = constants(helps)
-    named = dict(re.findall(r"Topic::(\w+) => ([A-Z]+),", body_of(helps, "text_of")))
-    valued = {settings[it]: text for it, text in wanted.items()}
-    made = [Command(names[it], short(summaries[it]), texts[named[it]], options[it]) for it in order]
-    return made, texts["GENERAL"], valued
-
-
-def strings_wanted(text):
-    """Returns what the value of each option is that takes one."""
-    found = {}
-    for names, value in re.findall(r"((?:\s*\|?\s*Setting::\w+)+)\s*=>\s*Some\(\"(.*?)\"\)", text):
-        found |= {name: value for name in re.findall(r"Setting::(\w+)", names)}
-    return found
-
-
-def short(summary):
-    """Returns what a command does, of its lines in the general help."""
-    return re.split(r" {2,}|\n +", summary.strip(), maxsplit=1)[1]
+def listed():
+    """Returns all commands, the general text of the help, and of each option that takes a value what that is, in words,
+    and the words that complete it, if any do."""
+    commands, options = command_list.read()
+    values = command_list.values(commands)
+    general = re.search(r'^const GENERAL: &str = "\\\n(.*?)";', read(HELP), re.S | re.M)
+    valued = {it.name: (it.wanted, " ".join(values.get(it.name, []))) for it in options if it.wanted}
+    return list(map(Command, commands)), general[1], valued
 
 
 def roff(text):
@@ -134,8 +96,8 @@ def bash(made, _, valued):
     lines += [f"        COMPREPLY=($(compgen -W '{names} help --help --version' -- \"$word\"))", "        return", "    fi"]
     lines += ["    case $before in"]
     lines += [f"        help) COMPREPLY=($(compgen -W '{names}' -- \"$word\")); return;;"]
-    for option in valued:
-        values = f"($(compgen -W '{VALUES[option]}' -- \"$word\"))" if option in VALUES else "()"
+    for option, (_, words) in valued.items():
+        values = f"($(compgen -W '{words}' -- \"$word\"))" if words else "()"
         lines += [f"        {option}) COMPREPLY={values}; return;;"]
     lines += ["    esac", "    case ${COMP_WORDS[1]}:$word in"]
     for it in made:
@@ -161,11 +123,10 @@ def zsh(made, _, valued):
 
 
 def option_in_zsh(option, valued):
-    if option in VALUES:
-        return f"{option}=:{quoted(valued.get(option, 'value'))}:({VALUES[option]})"
-    if option in valued:
-        return f"{option}=:{quoted(valued[option])}: "
-    return option
+    if option not in valued:
+        return option
+    wanted, words = valued[option]
+    return f"{option}=:{quoted(wanted)}:({words})" if words else f"{option}=:{quoted(wanted)}: "
 
 
 def fish(made, _, valued):
@@ -179,8 +140,9 @@ def fish(made, _, valued):
         for option in it.options:
             line = f"complete -c odht -n '__fish_seen_subcommand_from {it.name}' -l {option[2:]}"
             if option in valued:
-                line += f" -x -a '{VALUES[option]}'" if option in VALUES else " -x"
-                line += f" -d '{quoted(valued[option])}'"
+                wanted, words = valued[option]
+                line += f" -x -a '{words}'" if words else " -x"
+                line += f" -d '{quoted(wanted)}'"
             lines += [line]
     return "\n".join(lines) + "\n"
 
@@ -201,7 +163,7 @@ MADE_FILES = {
 def main(words):
     if words not in ([], ["--check"]):
         sys.exit(__doc__)
-    read_commands = commands()
+    read_commands = listed()
     stale = []
     for name, make in MADE_FILES.items():
         path, text = f"{TOP}/{name}", make(*read_commands)
@@ -212,7 +174,7 @@ def main(words):
         elif not os.path.exists(path) or read(path) != text:
             stale.append(name)
     if stale:
-        print(f"not current, make them by tools/manual.py: {', '.join(stale)}")
+        print(f"not current: run make manual: {', '.join(stale)}")
     return 1 if stale else 0
 
 

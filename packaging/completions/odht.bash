@@ -12,11 +12,11 @@ _odht() {
     case $before in
         help) COMPREPLY=($(compgen -W 'info check count get dump keys find build put' -- "$word")); return;;
         --at) COMPREPLY=(); return;;
-        --capacity) COMPREPLY=(); return;;
         --hash) COMPREPLY=($(compgen -W 'fx unhash' -- "$word")); return;;
         --key) COMPREPLY=(); return;;
         --value) COMPREPLY=(); return;;
         --percent) COMPREPLY=(); return;;
+        --capacity) COMPREPLY=(); return;;
     esac
     case ${COMP_WORDS[1]}:$word in
         info:-*) COMPREPLY=($(compgen -W '--help --whole --at' -- "$word"));;

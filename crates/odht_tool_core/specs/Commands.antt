@@ -1,4 +1,4 @@
--- The commands of the program and their options.
+-- The commands of the program and their options: made of commands.txt by tools/commands; `make manual` makes it anew.
 --     command_name t       the name of the command t
 --     commands             all commands, in the order of the help text
 --     option_name s        the name of the option s

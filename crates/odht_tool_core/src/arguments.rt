@@ -70,6 +70,7 @@ pub enum Command {
 /// A command that reads its file alone. A bound is one of searches, in groups; none with `--whole`.
 #[derive(Drop)]
 pub enum Reading {
+    // begin readings: made of commands.txt by tools/commands; `make manual` makes it anew
     Info {
         bound: Option<usize>,
     },
@@ -95,6 +96,7 @@ pub enum Reading {
     Find {
         bound: Option<usize>,
     },
+    // end readings
 }
 
 impl Reading {

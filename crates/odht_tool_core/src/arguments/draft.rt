@@ -196,6 +196,7 @@ impl Draft {
     fn reading(&self) -> Reading {
         let (hash, bound) = (self.hash, bound_of(self.is_whole));
         match self.topic {
+            // begin readings: made of commands.txt by tools/commands; `make manual` makes it anew
             Topic::Info => Reading::Info { bound },
             Topic::Check => Reading::Check { hash, bound },
             Topic::Count => Reading::Count { hash, bound },
@@ -205,6 +206,7 @@ impl Draft {
             },
             Topic::Keys => Reading::Keys { hash },
             _ => Reading::Find { bound },
+            // end readings
         }
     }
 

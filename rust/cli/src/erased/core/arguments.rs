@@ -69,6 +69,7 @@ pub enum Command {
 
 /// A command that reads its file alone. A bound is one of searches, in groups; none with `--whole`.
 pub enum Reading {
+    // begin readings: made of commands.txt by tools/commands; `make manual` makes it anew
     Info { bound: Option<usize> },
     Check { hash: Option<Hash>, bound: Option<usize> },
     Count { hash: Option<Hash>, bound: Option<usize> },
@@ -76,6 +77,7 @@ pub enum Reading {
     Dump { hash: Option<Hash>, is_slots: bool },
     Keys { hash: Option<Hash> },
     Find { bound: Option<usize> },
+    // end readings
 }
 
 impl Reading {

@@ -40,6 +40,7 @@ fn write_general<W: Write>(output: &mut W) -> io::Result<()> {
 // The lines of a command in the help text of all.
 fn summary_of(topic: Topic) -> &'static str {
     match topic {
+        // begin summaries: made of commands.txt by tools/commands; `make manual` makes it anew
         Topic::Info => {
             "odht info FILE       tells what a table file holds, of any key and value sizes\n"
         }
@@ -56,6 +57,7 @@ fn summary_of(topic: Topic) -> &'static str {
                      makes a table file of the lines of standard input\n"
         }
         Topic::Put => "odht put FILE        adds the lines of standard input to a table file\n",
+        // end summaries
     }
 }
 
@@ -70,6 +72,7 @@ fn end_of(topic: Topic) -> &'static str {
 // The help text of a command.
 fn text_of(topic: Topic) -> &'static str {
     match topic {
+        // begin names: made of commands.txt by tools/commands; `make manual` makes it anew
         Topic::Info => INFO,
         Topic::Check => CHECK,
         Topic::Count => COUNT,
@@ -79,6 +82,7 @@ fn text_of(topic: Topic) -> &'static str {
         Topic::Find => FIND,
         Topic::Build => BUILD,
         Topic::Put => PUT,
+        // end names
     }
 }
 
@@ -94,6 +98,7 @@ Status 0: done; 1: rejected, failed, or a key is absent; 2: the words are not
 understood.
 ";
 
+// begin texts: made of commands.txt by tools/commands; `make manual` makes it anew
 const INFO: &str = "\
 odht info FILE [--whole] [--at OFFSET]
     Prints sizes, item and slot count, load factors, the hash function that the
@@ -182,3 +187,4 @@ odht put FILE [--whole] [--hash fx|unhash] [--progress] [--break-links]
     one with hard links is not replaced without --break-links, with which its other
     names keep the old file.
 ";
+// end texts
