@@ -22,7 +22,7 @@ use crate::opened::Opened;
 use crate::proved::base::bytes::{Borrowed, ByteArray};
 use crate::proved::header::error::Error;
 use crate::proved::header::layout;
-use crate::proved::raw::memory_layout::{check_sized, sized_parts, Header};
+use crate::proved::raw::memory_layout::{check_sized, check_sized_within, sized_parts, Header};
 use crate::proved::raw::raw_table::SizedTable;
 use crate::proved::tables::dynamic;
 use std::borrow::Borrow;
@@ -243,6 +243,37 @@ impl<H: HashFn, D: Borrow<[u8]>> DynTable<H, D> {
     #[must_use]
     pub fn verify(&self) -> bool {
         self.check_rest().is_ok()
+    }
+
+    /// [`check_rest`](DynTable::check_rest) for bytes of strangers, whose time nobody can make long: it also returns an
+    /// error where a search, of a present or an absent key, may read more than `groups` groups of sixteen control bytes.
+    ///
+    /// # Errors
+    ///
+    /// The first that [`check_all_within`](crate::check_all_within) finds behind those of opening.
+    pub fn check_rest_within(&self, groups: usize) -> Result<(), Error> {
+        check_sized_within::<Hash<H>>(self.bytes(), self.layout.proved(), groups)
+    }
+
+    /// [`verify`](DynTable::verify) for bytes of strangers: whether
+    /// [`check_rest_within`](DynTable::check_rest_within) finds no error.
+    ///
+    /// ```
+    /// # use odht::{configs::U64ToU32, dynamic::DynTable, FxHashFn, HashTableOwned, DEFAULT_GROUPS};
+    /// # let table = HashTableOwned::<U64ToU32>::default();
+    /// let view = DynTable::<FxHashFn, _>::open_as_stated(table.raw_bytes())?;
+    /// assert!(view.verify_within(DEFAULT_GROUPS));
+    /// # Ok::<(), odht::dynamic::DynError>(())
+    /// ```
+    #[must_use]
+    pub fn verify_within(&self, groups: usize) -> bool {
+        self.check_rest_within(groups).is_ok()
+    }
+
+    /// Whether no search reads more than `groups` groups of sixteen control bytes. It reads control bytes alone.
+    #[must_use]
+    pub fn searches_within(&self, groups: usize) -> bool {
+        self.parts().searches_within(groups)
     }
 
     /// All bytes.

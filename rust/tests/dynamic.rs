@@ -38,6 +38,15 @@ fn groups_of(reading: &Reading<'_>, key: &[u8]) -> usize {
     (passed / 16 + 1).min(reading.slots() / 16)
 }
 
+// Compares what the calls with a bound of searches say with the second reading.
+fn bound_is_kept<H: HashFn>(table: &DynTable<H, &[u8]>, reading: &Reading<'_>, groups: usize) {
+    let expected = reading.error_within(&reading.check_error(), groups);
+    let found = table.check_rest_within(groups).err().map(|error| error.to_string());
+    assert_eq!(found, expected);
+    assert_eq!(table.verify_within(groups), expected.is_none());
+    assert_eq!(table.searches_within(groups), reading.first_longer(groups).is_none());
+}
+
 // Compares each call with the second reading.
 fn compare<H: HashFn>(table: &DynTable<H, &[u8]>, reading: &Reading<'_>, random: &mut Random) {
     let Format { key, value, .. } = reading.format;
@@ -45,6 +54,9 @@ fn compare<H: HashFn>(table: &DynTable<H, &[u8]>, reading: &Reading<'_>, random:
     assert_eq!((table.len(), table.is_empty()), (reading.count(), reading.count() == 0));
     assert_eq!(table.raw_bytes(), reading.bytes);
     assert_eq!(table.check_rest().err().map(|error| error.to_string()), reading.check_error());
+    for groups in [0, 1, 2, random.below(reading.slots() / 16 + 2)] {
+        bound_is_kept(table, reading, groups);
+    }
     let pair = |slot| (slot, (reading.key(slot), reading.value(slot)));
     let walk: Vec<_> = reading.occupied().map(pair).collect();
     assert!(table.iter().eq(walk.iter().map(|(_, pair)| *pair)));

@@ -1,9 +1,11 @@
 //! Tables whose lengths of keys and values are known at run time alone, such as those of a file.
 ghost use Rattle.odht.specs.Tables.{OfTable};
-ghost use Rattle.std.specs.Prelude.{◌≡◌, ◌≢◌, ◌≤◌, ◌↔◌, ℕ, None, All, length, slice_index};
+ghost use Rattle.std.specs.Prelude.{◌≡◌, ◌≢◌, ◌≤◌, ◌↔◌, ℕ, List, None, All, length, slice_index};
 ghost use Rattle.std.specs.Prelude.{IfOk, IsOk, IsTrue};
 ghost use Rattle.std.specs.Option.{option_copied};
 ghost use Rattle.std.specs.Result.{result_err};
+ghost use Rattle.odht_base.specs.Bounds.{first_longer};
+ghost use Rattle.odht_base.specs.Search.{groups_read};
 ghost use Rattle.odht_base.specs.Decoded.{header_count, entries_of, controls_of};
 ghost use Rattle.odht_base.specs.Decoded.{decoded_pairs, decoded_table};
 ghost use Rattle.odht_base.specs.Format.{format_of, IsFormat};
@@ -21,7 +23,8 @@ use crate::error::Error;
 use crate::hash::HashFn;
 pub use crate::layout::Layout;
 use crate::memory_layout::{
-    HEADER_SIZE, Header, check_by_header, check_opening, check_sized, sized_parts,
+    HEADER_SIZE, Header, check_by_header, check_opening, check_sized, check_sized_within,
+    sized_parts,
 };
 use crate::raw_table::{SizedIter, SizedSlots, SizedTable};
 use std::marker::{Model, PhantomData};
@@ -233,6 +236,32 @@ impl<H: HashFn, D: ByteStore> DynTable<H, D> {
             ↔ IsValidBytes (dyn_format self.now H.hash) (D.bytes self.now.store) }
     {
         check_sized::<H>(self.store.bytes(), self.layout).is_ok()
+    }
+
+    /// Whether the bytes are valid and no search in them, of a present or an absent key, reads more than `groups`
+    /// groups of control bytes. [`DEFAULT_GROUPS`](crate::memory_layout::DEFAULT_GROUPS) is a bound that tables of
+    /// hashes that vary keep.
+    ///
+    /// It is for bytes of strangers: whatever they are it costs no more than
+    /// [`crate::memory_layout::check_all_within`]. [`crate::memory_layout::check_sized_within`] returns the error.
+    pub fn verify_within(&self, groups: usize) -> bool
+        ensures { let F = dyn_format self.now H.hash
+            in IsTrue result ↔ (IsValidBytes F (D.bytes self.now.store)
+            × (first_longer (controls_of F (D.bytes self.now.store)) groups ≡ None)) }
+    {
+        check_sized_within::<H>(self.store.bytes(), self.layout, groups).is_ok()
+    }
+
+    /// Whether no search, of a present or an absent key, reads more than `groups` groups of control bytes. It reads
+    /// control bytes alone: for `s` slots at most `s * groups` groups.
+    pub fn searches_within(&self, groups: usize) -> bool
+        ensures bytes { let B = controls_of (dyn_format self.now H.hash) (D.bytes self.now.store)
+            in IsTrue result ↔ (first_longer B groups ≡ None) }
+        ensures bound { let F = dyn_format self.now H.hash
+            in IsTrue result → OfTable F (D.bytes self.now.store)
+            (λ P. (key : List ℕ) → groups_read F P.cells key ≤ groups) }
+    {
+        self.as_sized().searches_within(groups)
     }
 
     /// All bytes. Their header and length fit.

@@ -17,4 +17,4 @@ pub use odht_header::header::{HEADER_SIZE, Header, LEAST_FACTOR, is_accepted, wr
 pub use odht_header::sizes::{bytes_needed, entry_at, layout_for};
 pub use prefix::table_len;
 pub use sized::{check_by_header, check_opening, sized_parts};
-pub use sized_check::check_sized;
+pub use sized_check::{check_sized, check_sized_within};

@@ -82,6 +82,10 @@ fn lengths_as_numbers<const K: usize, const V: usize, H: Named>(
     assert_eq!(table.len(), view.len());
     assert_eq!(table.check_rest(), view.check_all());
     assert_eq!(table.verify(), view.verify());
+    let groups = random.below(reading.slots() / 16 + 2);
+    assert_eq!(table.searches_within(groups), reading.first_longer(groups).is_none());
+    let typed = check_all_within::<Plain<K, V, H>>(reading.bytes, groups);
+    assert_eq!(table.check_rest_within(groups), typed);
     let typed: Vec<_> = view.iter_from(0).collect();
     let typed = typed.iter().map(|(slot, (key, value))| (*slot, (&key[..], &value[..])));
     assert!(table.iter_from(0).eq(typed));

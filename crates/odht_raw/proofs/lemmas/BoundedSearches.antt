@@ -93,3 +93,8 @@ module _ (F : Format) (P : Table) (E : EntryBytes) (ctrl k : List ℕ) (f : IsFo
         absurd (true≢false (sym ends ∙ longer (passes more)))
     | inr few ↦ few
   ]
+
+-- what is not there is none
+pub is_none : (o : Option ℕ) → is_some o ≡ false → o ≡ None
+is_none None e = refl
+is_none (Some i) e = absurd (true≢false e)

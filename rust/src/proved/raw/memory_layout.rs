@@ -20,4 +20,4 @@ pub use check::{check_all, check_all_within, DEFAULT_GROUPS};
 pub use new_tables::{allocate, clear_entries, init_in_place, write_empty};
 pub use prefix::table_len;
 pub use sized::{check_by_header, check_opening, sized_parts};
-pub use sized_check::check_sized;
+pub use sized_check::{check_sized, check_sized_within};

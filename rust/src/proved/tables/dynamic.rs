@@ -6,7 +6,8 @@ use crate::proved::tables::error::Error;
 use crate::proved::tables::hash::HashFn;
 pub use crate::proved::tables::layout::Layout;
 use crate::proved::tables::memory_layout::{
-    check_by_header, check_opening, check_sized, sized_parts, Header, HEADER_SIZE,
+    check_by_header, check_opening, check_sized, check_sized_within, sized_parts, Header,
+    HEADER_SIZE,
 };
 use crate::proved::tables::raw_table::{SizedIter, SizedSlots, SizedTable};
 use std::marker::PhantomData;
@@ -134,6 +135,22 @@ impl<H: HashFn, D: ByteStore> DynTable<H, D> {
     /// [`crate::proved::tables::memory_layout::check_sized`] returns the error.
     pub fn verify(&self) -> bool {
         check_sized::<H>(self.store.bytes(), self.layout).is_ok()
+    }
+
+    /// Whether the bytes are valid and no search in them, of a present or an absent key, reads more than `groups`
+    /// groups of control bytes. [`DEFAULT_GROUPS`](crate::proved::tables::memory_layout::DEFAULT_GROUPS) is a bound that tables of
+    /// hashes that vary keep.
+    ///
+    /// It is for bytes of strangers: whatever they are it costs no more than
+    /// [`crate::proved::tables::memory_layout::check_all_within`]. [`crate::proved::tables::memory_layout::check_sized_within`] returns the error.
+    pub fn verify_within(&self, groups: usize) -> bool {
+        check_sized_within::<H>(self.store.bytes(), self.layout, groups).is_ok()
+    }
+
+    /// Whether no search, of a present or an absent key, reads more than `groups` groups of control bytes. It reads
+    /// control bytes alone: for `s` slots at most `s * groups` groups.
+    pub fn searches_within(&self, groups: usize) -> bool {
+        self.as_sized().searches_within(groups)
     }
 
     /// All bytes. Their header and length fit.

@@ -15,25 +15,50 @@ use crate::proved::raw::raw_table::SizedTable;
 /// it, sixteen at a time. A key is compared only with keys at earlier positions that have its tag.
 pub fn check_sized<H: HashFn>(bytes: &[u8], layout: Layout) -> Result<(), Error> {
     hold_bytes(bytes);
-    check_late_sized::<H>(bytes, layout)
+    check_late_sized::<H>(bytes, layout, None)
 }
 
-// `check_sized`; its contract gives the first error alone.
-fn check_late_sized<H: HashFn>(bytes: &[u8], layout: Layout) -> Result<(), Error> {
+/// `check_sized` with a bound of searches, as in [`check_all_within`](super::check_all_within): after the maximum item
+/// count, and before any search for a key, `SearchTooLong` of the least home from which a search may read more than
+/// `groups` groups. Ok exactly for valid bytes of which no search, of a present or an absent key, reads more.
+///
+/// For bytes of strangers: whatever they are, for `s` slots it reads at most `2 * s * groups` groups and makes at most
+/// `16 * s * groups` comparisons of keys. It allocates nothing.
+pub fn check_sized_within<H: HashFn>(
+    bytes: &[u8],
+    layout: Layout,
+    groups: usize,
+) -> Result<(), Error> {
+    hold_bytes(bytes);
+    check_late_sized::<H>(bytes, layout, Some(groups))
+}
+
+// `check_sized` with a bound of searches, where there is one; its contract gives the first error alone.
+fn check_late_sized<H: HashFn>(
+    bytes: &[u8],
+    layout: Layout,
+    groups: Option<usize>,
+) -> Result<(), Error> {
     let table = sized_parts::<H>(bytes, layout);
-    check_late_parts(&Header::of(bytes), &table)
+    check_late_parts(&Header::of(bytes), &table, groups)
 }
 
 // What the whole check adds to opening a view, of a header and the parts behind it: the first error alone.
 fn check_late_parts<H: HashFn>(
     header: &Header<'_>,
     table: &SizedTable<'_, H>,
+    groups: Option<usize>,
 ) -> Result<(), Error> {
     header.check_load_factor()?;
     header.check_padding()?;
-    let summary = table.check_slots(true)?;
+    // From control bytes alone, before anything is searched for.
+    let longer = table.longer_refusal(groups);
+    let summary = table.check_slots(longer.is_none())?;
     table.check_mirror()?;
     header.check_item_count(summary.occupied)?;
+    if let Some(error) = longer {
+        return Err(error);
+    }
     match summary.unreachable {
         Some(slot) => Err(Error::Unreachable { slot }),
         None => Ok(()),
