@@ -12,7 +12,7 @@ NAMED = [
     ("docs/USING.md", "\n| error | when |", "\n\n", r"`{}`", KINDS),
     ("crates/odht_interface/src/errors.rt", "\nconst OPENING", "\nfn kind_of", r"Error::{}\b", WITHOUT_BOUND),
     ("crates/odht_calls/proofs/examples/Statuses.antt", "\npub opening_statuses", "\npub other_statuses",
-     r"status_of \(?{}\b", WITHOUT_BOUND),
+     r"status_of \(?{}\b", KINDS),
 ]
 # files that tell the numbers of errors from 1 on
 NUMBERED = ["bindings/rust/src/error.rs", "bindings/rust/src/table.rs", "bindings/rust/src/table_mut.rs"]
