@@ -14,6 +14,7 @@ TEXTS = ["fields", "text", "error.rt", "odht.h", "odht-ffi"]
 ROW = re.compile(r"(\S+) +(\d+) +(\S+) +(\S+) +(\S+) +(\S.*)")
 LINE = re.compile(r" {4}(\S+) +(\S.*)")
 MORE = re.compile(r" {8,}(\S.*)")
+FIELDS = re.compile(r"(\w+: [^,:]+(, \w+: [^,:]+)*)?")
 
 
 @dataclasses.dataclass(frozen=True)
@@ -28,15 +29,19 @@ class Status:
     texts: dict
 
     @property
+    def listed(self):
+        """The line of its fields."""
+        return " ".join(self.texts.get("fields", []))
+
+    @property
     def fields(self):
         """The names of its fields, each with its type."""
-        listed = self.texts.get("fields", [""])[0]
-        return dict(it.split(": ") for it in listed.split(", ") if it)
+        return dict(it.split(": ") for it in self.listed.split(", ") if it)
 
     @property
     def text(self):
         """What is written of the error."""
-        return self.texts["text"][0]
+        return " ".join(self.texts.get("text", []))
 
 
 def of_kinds(statuses, *kinds):
@@ -96,12 +101,15 @@ def faults_of(status):
         yield f"the kind is {status.kind}"
     if status.kind in KINDS and status.number not in NUMBERS:
         yield f"its number is {status.number}"
+    if not FIELDS.fullmatch(status.listed):
+        yield f"its fields are {status.listed}"
+        return
     if not status.name:
         return
     yield from (f"it has no line {it}" for it in ("text", "error.rt", "odht-ffi") if it not in status.texts)
     if status.slot and status.slot not in status.fields:
         yield f"it has no field {status.slot}"
-    named = re.findall(r"\{(\w+)\}", status.texts.get("text", [""])[0])
+    named = re.findall(r"\{(\w+)\}", status.text)
     yield from (f"its text names {it}, which is no field" for it in named if it not in status.fields)
 
 

@@ -32,12 +32,20 @@ def shorter(function, error, value):
     return f"{function} {pattern(error, names)} = {value}\n"
 
 
+def written(error, field):
+    """What is written of a field."""
+    type_name = error.fields[field]
+    function = "bytes_text" if is_bytes(type_name) else "part_text" if type_name == "Part" else "decimal"
+    return f"{function} {field}"
+
+
 def pieces(error):
     """What the text of an error is joined of: each is a text, and the field behind it."""
-    for text, name in re.findall(r"([^{]+)(?:\{(\w+)\})?", error.text):
-        type_name = error.fields.get(name, "")
-        function = "bytes_text" if is_bytes(type_name) else "part_text" if type_name == "Part" else "decimal"
-        yield f'codes "{text}"' + (f" ++ {function} {name}" if name else "")
+    for text, field in re.findall(r"([^{]*)(?:\{(\w+)\})?", error.text):
+        parts = [f'codes "{text}"'] if text else []
+        parts += [written(error, field)] if field else []
+        if parts:
+            yield " ++ ".join(parts)
 
 
 def parted(parts):
