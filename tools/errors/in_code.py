@@ -85,8 +85,12 @@ def with_slot(error):
 
 def arm(patterns, value):
     """An arm with these patterns."""
-    line = f"{ARM}{' | '.join(patterns)} => {value},"
-    return (line if len(line) <= LINE else line.replace(" | ", f"\n{ARM}| ")) + "\n"
+    head = f"{ARM}{' | '.join(patterns)} =>"
+    if len(f"{head} {value},") <= LINE:
+        return f"{head} {value},\n"
+    if len(head) <= LINE:
+        return f"{head}\n{ARM}    {value},\n"
+    return f"{head} {value},\n".replace(" | ", f"\n{ARM}| ")
 
 
 def grouped(some, key, pattern, value):
