@@ -9,6 +9,17 @@ GROUPS["OTHER"] = ["other"]
 RANGES = {"HEADER": ["header"], "OPENING": ["header", "slots"], "CHECK": ["header", "slots", "check"]}
 
 
+def in_order(statuses):
+    """The numbers of errors that the whole check looks for behind all slots, before the bound, and behind it."""
+    some = of_kinds(statuses, "header", "slots", "check", "bound")
+    kinds = [it.kind for it in some]
+    bound = kinds.index("bound")
+    last_slot = len(kinds) - 1 - kinds[::-1].index("slots")
+    behind = [it for it in some[last_slot + 1:] if it.kind != "bound"]
+    found = {"BEHIND_SLOTS": behind, "BEFORE_BOUND": some[:bound], "BEHIND_BOUND": some[bound + 1:]}
+    return {name: ranges(part) for name, part in found.items()}
+
+
 def enumerated(status, comma):
     """The line of a status in `enum odht_status`."""
     lines = status.texts.get("odht.h", [])
@@ -25,4 +36,4 @@ def marks(statuses):
         some = by_number(of_kinds(statuses, *kinds))
         found[f"STATUS_{name}"] = "\n".join(enumerated(it, "" if it.number == last else ",") for it in some)
     cases = (f'    case ODHT_{it.constant}: return "{it.short}";' for it in by_number(statuses))
-    return found | {"STATUS_NAMES": "\n".join(cases)}
+    return found | in_order(statuses) | {"STATUS_NAMES": "\n".join(cases)}

@@ -45,7 +45,7 @@
  *     control bytes. ODHT_DEFAULT_GROUPS is a bound that tables of keys whose hashes vary
  *     keep.
  *     OK: they are valid, and searches end in time. An error, @CHECK@, as of odht_S_check,
- *     or SEARCH_TOO_LONG, which comes after 1 to 15 and before 16.
+ *     or SEARCH_TOO_LONG, which comes after @BEFORE_BOUND@ and before @BEHIND_BOUND@.
  *     For s slots it reads at most 2 * s * groups groups, and compares at most
  *     16 * s * groups keys. With s / 16 groups or more it answers as odht_S_check. It
  *     allocates nothing.

@@ -131,13 +131,13 @@ enum odht_status {
     /* Errors of the whole check: of odht_*_check, and of odht_*_insert_order,
        which makes it first. After @OPENING@ as above it checks the load factor and
        the padding, then all slots in turn, where the first bad one gives 8, 12 or
-       9, and then 13 to 16. odht_*_grow answers 10 too. */
+       9, and then @BEHIND_SLOTS@. odht_*_grow answers 10 too. */
 @STATUS_CHECK@
 
     /* Errors of making tables and of inserts. */
 @STATUS_CALL@
 
-    /* The error of odht_*_check_within, after 1 to 15 and before 16. */
+    /* The error of odht_*_check_within, after @BEFORE_BOUND@ and before @BEHIND_BOUND@. */
 @STATUS_BOUND@
 
     /* Answers that are no error of the library. */
