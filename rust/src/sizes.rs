@@ -97,9 +97,11 @@ pub fn table_len<C: Config>(bytes: &[u8]) -> Result<usize, Error> {
 ///
 /// # Errors
 ///
+// order: made of errors.txt by make exports
 /// The first of the errors that [`HashTable::try_from_raw_bytes`] returns, then of `LoadFactorTooSmall`,
 /// `NonZeroPadding`, `NonZeroEmpty`, `BadFreeControl`, `ControlMismatch`, `MirrorMismatch`, `WrongItemCount`,
 /// `TooManyItems` and `Unreachable`.
+// order: up to here
 ///
 /// [`HashTable::try_from_raw_bytes`]: crate::HashTable::try_from_raw_bytes
 pub fn check_all<C: Config>(bytes: &[u8]) -> Result<(), Error> {

@@ -13,12 +13,14 @@ pub const NO_SLOT: usize = usize::MAX;
 // The slot that an error names, the index of a mirror byte, or the home of searches that are too long; else NO_SLOT.
 fn slot_of(error: &Error) -> usize {
     match *error {
+        // slot_of: made of errors.txt by make exports
         Error::NonZeroEmpty { slot }
         | Error::BadFreeControl { slot, .. }
         | Error::ControlMismatch { slot, .. }
         | Error::Unreachable { slot } => slot,
         Error::MirrorMismatch { index } => index,
         Error::SearchTooLong { home, .. } => home,
+        // slot_of: up to here
         _ => NO_SLOT,
     }
 }
