@@ -277,7 +277,8 @@ impl<H: HashFn, D: ByteStore> DynTable<H, D> {
     /// The store, with the bytes as they are now. Their header and length fit.
     #[inline]
     pub fn into_data(self) -> D
-        ensures { result ≡ self.store }
+        ensures store { result ≡ self.store }
+        ensures accepted { IsAccepted (dyn_format self H.hash) (D.bytes result) }
     {
         let DynTable {
             store,
