@@ -27,6 +27,7 @@ TOP = os.path.dirname(os.path.dirname(os.path.realpath(__file__)))
 PART = 12
 LOG = f"{TOP}/build/logs/edits.log"
 FUNCTION = re.compile(r"^\s*(?:pub(?:\([\w ]+\))? )?(?:const )?fn (\w+)", re.M)
+IMPL = re.compile(r"^impl(?:<.*?>)? (\w+)(?:<[^{]*)? \{$", re.M)
 ONLY = re.compile(r"only=(\d+) proved=(\d+)")
 # an edit that does not read shows nothing of a contract
 UNREAD = re.compile(r"is not in scope|has no field|is no name|operand is missing|expected the end|cannot continue")
@@ -147,6 +148,16 @@ def parts_of(crate):
     return [(crate, edits[at::count]) for at in range(count)]
 
 
+def name_at(before):
+    """Returns the name of the function in which the text before a place ends, with its type where it is a method."""
+    found = [*FUNCTION.finditer(before)]
+    if not found:
+        return None
+    types = IMPL.findall(before[: found[-1].start()])
+    is_method = found[-1][0].lstrip("\n").startswith(" ")
+    return f"{types[-1]}::{found[-1][1]}" if is_method and types else found[-1][1]
+
+
 def functions_of(edit, folder):
     """Returns the names of the functions whose text an edit of the crate in this folder changes."""
     path, names = "", set()
@@ -157,8 +168,8 @@ def functions_of(edit, folder):
             elif word == "old":
                 with open(f"{folder}/{path}", encoding="utf-8") as it:
                     before, found, _ = it.read().partition(text)
-                names.update(FUNCTION.findall(before + found)[-1:])
-    return sorted(names)
+                names.add(name_at(before + found))
+    return sorted(names - {None})
 
 
 def errors_of(lines):
