@@ -1,7 +1,11 @@
 //! Laws of whole tables that are the contract of no single call: a table of a `Lossless` configuration is a map of the
 //! keys to the values themselves, valid bytes are accepted, and an order of inserts makes its table again. Each
 //! function is a few calls at most, and its contract is the law. docs/PROOFS.md lists them in "Laws of whole tables".
-ghost use Rattle.std.specs.Prelude.{◌≡◌, ℕ, List, ◌↔◌, ◌⊎◌, length, IfOk, OnErr};
+ghost use Rattle.std.specs.Prelude.{◌≡◌, ◌≤◌, ℕ, List, None, ◌↔◌, ◌⊎◌, length, IfOk, OnErr};
+ghost use Rattle.odht_base.specs.Bounds.{first_longer};
+ghost use Rattle.odht_base.specs.Decoded.{controls_of};
+ghost use Rattle.odht_base.specs.Search.{groups_read};
+ghost use Rattle.odht.specs.Tables.{OfTable};
 ghost use Rattle.odht_base.specs.Load.{factor_of, IsPercent};
 ghost use Rattle.odht.specs.LastValues.{IsLastValue, HasLastValues};
 ghost use Rattle.odht.specs.Rebuilds.{IsNewSizeOf, AreInOrder};
@@ -21,6 +25,15 @@ use std::alloc::Global;
 pub fn valid_bytes_are_accepted<C: Config>()
     ensures { let F = ⟦<C as Coded>⟧.coding.format
         in (B : List ℕ) → IsValidBytes F B → IsAccepted F B }
+{}
+
+/// In a valid table whose bytes a bound of searches accepts ([`check_all_within`](crate::memory_layout::check_all_within)
+/// and the other calls with a bound say when), no search reads more groups than the bound, whether its key is present
+/// or absent.
+pub fn bounded_searches_end_in_time<C: Config>()
+    ensures { let F = ⟦<C as Coded>⟧.coding.format
+        in (B : List ℕ) (groups : ℕ) → first_longer (controls_of F B) groups ≡ None
+        → OfTable F B (λ P. (key : List ℕ) → groups_read F P.cells key ≤ groups) }
 {}
 
 /// A table that has the last values of the items has for a key the value of the last item with this very key, and no
