@@ -70,8 +70,8 @@ pub fn last_value<C: Lossless>(
 /// The value of a key in the table that is built from empty by inserting the items in turn: that of the last item with
 /// this very key, and None where no item has it. The load factor is in percent of the slots.
 ///
-/// `Capacity` exactly where no slot count is enough for so many items, or its length passes `usize`; `Memory` when
-/// memory is exhausted.
+/// `Capacity` exactly where no slot count is enough for so many items, or its length passes `usize`; `Memory` where the
+/// allocator gives none.
 pub fn built_from_empty<C: Lossless>(
     alloc: Global,
     items: &[(C::Key, C::Value)],
@@ -94,12 +94,12 @@ pub fn built_from_empty<C: Lossless>(
     Ok(last_value(&table, items, key))
 }
 
-/// A table made again: its pairs, in an order that [`HashTableOwned::insert_order`] finds, are inserted in turn into
-/// a new table, and leave the bytes of this very table. This holds of each valid table `P` of which the items are the
-/// pairs in an insert order, and whose slot count and load factor are those of the new table.
+/// Inserts the items in turn into a new table. Where they are the pairs of a valid table `P` in an insert order, such
+/// as [`HashTableOwned::insert_order`] finds, and the new table has the slot count and load factor of `P`, the bytes
+/// are those of `P`; of other items only the errors are said.
 ///
-/// `Capacity` exactly where no slot count is enough for `max_item_count`, or its length passes `usize`; `Memory` when
-/// memory is exhausted.
+/// `Capacity` exactly where no slot count is enough for `max_item_count`, or its length passes `usize`; `Memory` where
+/// the allocator gives none.
 pub fn rebuilt<C: Config>(
     alloc: Global,
     items: &[(C::Key, C::Value)],

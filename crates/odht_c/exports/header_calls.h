@@ -41,14 +41,15 @@
  *
  * odht_S_check_within(bytes, bytes_len, groups)
  *     odht_S_check for bytes of strangers, whose time nobody can make long: also whether
- *     no search, of a present or an absent key, reads more than so many groups of sixteen
- *     control bytes. ODHT_DEFAULT_GROUPS is a bound that tables of keys whose hashes vary
- *     keep.
+ *     in the probe order from each slot a free slot comes within so many groups of sixteen
+ *     control bytes. Then no search, of a present or an absent key, reads more groups.
+ *     ODHT_DEFAULT_GROUPS is a bound that tables of keys whose hashes vary keep.
  *     OK: they are valid, and searches end in time. An error, @CHECK@, as of odht_S_check,
- *     or SEARCH_TOO_LONG, which comes after @BEFORE_BOUND@ and before @BEHIND_BOUND@.
+ *     or SEARCH_TOO_LONG, which comes after @BEFORE_BOUND@ and before @BEHIND_BOUND@; it may come also where
+ *     the search for each key of the table reads no more groups.
  *     For s slots it reads at most 2 * s * groups groups, and compares at most
- *     16 * s * groups keys. With s / 16 groups or more it answers as odht_S_check. It
- *     allocates nothing.
+ *     16 * s * groups keys. With s / 16 groups or more it answers as odht_S_check (no
+ *     contract says it). It allocates nothing.
  *
  * odht_S_open_at(bytes, bytes_len, *slot)
  * odht_S_check_at(bytes, bytes_len, *slot)

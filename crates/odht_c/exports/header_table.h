@@ -21,8 +21,9 @@
     ODHT_CALL(uint32_t, P##check, (const uint8_t *bytes, size_t bytes_len), \
         return odht_symbol_##P##check(odht_read_uint8_t(bytes, bytes_len), bytes_len);) \
 \
-    /* OK: they are, and no search reads more than so many groups. An error, @CHECK@, or \
-       SEARCH_TOO_LONG. Its time is bounded by slots times groups, whatever the bytes are. */ \
+    /* OK: they are, and from each slot a free one comes within so many groups, so that no search \
+       reads more. An error, @CHECK@, or SEARCH_TOO_LONG. Its time is bounded by slots times \
+       groups, whatever the bytes are. */ \
     ODHT_CALL(uint32_t, P##check_within, (const uint8_t *bytes, size_t bytes_len, size_t groups), \
         return odht_symbol_##P##check_within( \
             odht_read_uint8_t(bytes, bytes_len), bytes_len, groups);) \
