@@ -126,7 +126,7 @@ pub enum Error {
     },
     /// No room for a new key: the view is at its maximum item count, or the search met no free slot.
     Full,
-    /// Out of memory: an allocation failed.
+    /// Out of memory: an allocation failed; or an owned table cannot grow, since no slot count or no length is enough.
     Memory,
     /// No slot count is large enough, or the length of the table in bytes passes `usize::MAX`.
     Capacity,
