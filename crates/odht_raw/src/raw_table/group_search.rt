@@ -145,16 +145,12 @@ fn look_at_group<E: SlotKeys, H: HashFn, Q: Group>(
     requires start { start < (E.entries keys.now).slots }
     requires tag { IsTag (hashed_by H.hash (E.format keys.now)) (E.key_bytes key.now) tag }
     requires format { IsFormat (hashed_by H.hash (E.format keys.now)) }
-    ensures slot { let F = hashed_by H.hash (E.format keys.now)
-        in let k = E.key_bytes key.now
-        in IfSome result (IsEndAmong F (E.entries keys.now) bytes.now start 16 k) }
-    ensures none { let F = hashed_by H.hash (E.format keys.now)
-        in let k = E.key_bytes key.now
-        in IsNone result → GoesOnAmong F (E.entries keys.now) bytes.now start k 16 }
-    ensures on_placed { let F = hashed_by H.hash (E.format keys.now)
-        in let k = E.key_bytes key.now
-        in (P : Table) (p : ℕ)
-        → IsGroupAt F P (E.entries keys.now) k p start bytes.now
+    ensures slot { IfSome result (IsEndAmong (hashed_by H.hash (E.format keys.now))
+        (E.entries keys.now) bytes.now start 16 (E.key_bytes key.now)) }
+    ensures none { IsNone result → GoesOnAmong (hashed_by H.hash (E.format keys.now))
+        (E.entries keys.now) bytes.now start (E.key_bytes key.now) 16 }
+    ensures on_placed { let F = hashed_by H.hash (E.format keys.now) in let k = E.key_bytes key.now
+        in (P : Table) (p : ℕ) → IsGroupAt F P (E.entries keys.now) k p start bytes.now
         → IsLook F P k p 16 result }
 {
     // One piece is told apart here, not by a loop of one turn: so the compiler knows early that a match ends the search.
@@ -185,16 +181,12 @@ fn look_at_piece<E: SlotKeys, H: HashFn, Q: Group>(
     requires start { start + Q.SIZE ≤ (E.entries keys.now).slots + 16 }
     requires tag { IsTag (hashed_by H.hash (E.format keys.now)) (E.key_bytes key.now) tag }
     requires format { IsFormat (hashed_by H.hash (E.format keys.now)) }
-    ensures slot { let F = hashed_by H.hash (E.format keys.now)
-        in let k = E.key_bytes key.now
-        in IfSome result (IsEndAmong F (E.entries keys.now) bytes.now start Q.SIZE k) }
-    ensures none { let F = hashed_by H.hash (E.format keys.now)
-        in let k = E.key_bytes key.now
-        in IsNone result → GoesOnAmong F (E.entries keys.now) bytes.now start k Q.SIZE }
-    ensures on_placed { let F = hashed_by H.hash (E.format keys.now)
-        in let k = E.key_bytes key.now
-        in (P : Table) (p : ℕ)
-        → IsGroupAt F P (E.entries keys.now) k p start bytes.now
+    ensures slot { IfSome result (IsEndAmong (hashed_by H.hash (E.format keys.now))
+        (E.entries keys.now) bytes.now start Q.SIZE (E.key_bytes key.now)) }
+    ensures none { IsNone result → GoesOnAmong (hashed_by H.hash (E.format keys.now))
+        (E.entries keys.now) bytes.now start (E.key_bytes key.now) Q.SIZE }
+    ensures on_placed { let F = hashed_by H.hash (E.format keys.now) in let k = E.key_bytes key.now
+        in (P : Table) (p : ℕ) → IsGroupAt F P (E.entries keys.now) k p start bytes.now
         → IsLook F P k p Q.SIZE result }
 {
     let mask = keys.slots() - 1;
