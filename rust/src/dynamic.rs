@@ -163,8 +163,10 @@ impl<H: HashFn, D: Borrow<[u8]>> DynTable<H, D> {
     #[inline]
     #[must_use]
     pub fn get(&self, key: &[u8]) -> Option<&[u8]> {
-        let (value, _) = self.get_counted(key);
-        value
+        if key.len() != usize::from(self.layout.key_len) {
+            return None;
+        }
+        self.parts().find(key)
     }
 
     /// `get`, and how many groups of sixteen control bytes it read: in a table those up to the first slot that is free
