@@ -10,6 +10,7 @@
 # before it; where there is no kit, the library of erased source that cargo makes, as in rust/c
 # make archive: what `make lib` needs, over the libraries that `make prove` has just proved: `rt lib` would prove them again
 # make exports: include/odht.h and the exports of each shape of tables, of what is written once for all shapes
+# (shapes.txt), and what is written once for all errors (errors.txt)
 # make rust: what is generated of the crate for Rust, rust/src/proved, rust/c/src/erased and rust/cli/src/erased, of the
 # proved crates, and its copies of documents
 # make manual: of commands.txt, what is the same for each command of the program `odht`: its code and definitions, help,

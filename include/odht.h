@@ -308,14 +308,15 @@ typedef struct odht_view {
  *
  * odht_S_check_within(bytes, bytes_len, groups)
  *     odht_S_check for bytes of strangers, whose time nobody can make long: also whether
- *     no search, of a present or an absent key, reads more than so many groups of sixteen
- *     control bytes. ODHT_DEFAULT_GROUPS is a bound that tables of keys whose hashes vary
- *     keep.
+ *     in the probe order from each slot a free slot comes within so many groups of sixteen
+ *     control bytes. Then no search, of a present or an absent key, reads more groups.
+ *     ODHT_DEFAULT_GROUPS is a bound that tables of keys whose hashes vary keep.
  *     OK: they are valid, and searches end in time. An error, 1 to 16, as of odht_S_check,
- *     or SEARCH_TOO_LONG, which comes after 1 to 15 and before 16.
+ *     or SEARCH_TOO_LONG, which comes after 1 to 15 and before 16; it may come also where
+ *     the search for each key of the table reads no more groups.
  *     For s slots it reads at most 2 * s * groups groups, and compares at most
- *     16 * s * groups keys. With s / 16 groups or more it answers as odht_S_check. It
- *     allocates nothing.
+ *     16 * s * groups keys. With s / 16 groups or more it answers as odht_S_check (no
+ *     contract says it). It allocates nothing.
  *
  * odht_S_open_at(bytes, bytes_len, *slot)
  * odht_S_check_at(bytes, bytes_len, *slot)
@@ -542,8 +543,9 @@ ODHT_NODISCARD extern uint32_t odht_version(void);
     ODHT_CALL(uint32_t, P##check, (const uint8_t *bytes, size_t bytes_len), \
         return odht_symbol_##P##check(odht_read_uint8_t(bytes, bytes_len), bytes_len);) \
 \
-    /* OK: they are, and no search reads more than so many groups. An error, 1 to 16, or \
-       SEARCH_TOO_LONG. Its time is bounded by slots times groups, whatever the bytes are. */ \
+    /* OK: they are, and from each slot a free one comes within so many groups, so that no search \
+       reads more. An error, 1 to 16, or SEARCH_TOO_LONG. Its time is bounded by slots times \
+       groups, whatever the bytes are. */ \
     ODHT_CALL(uint32_t, P##check_within, (const uint8_t *bytes, size_t bytes_len, size_t groups), \
         return odht_symbol_##P##check_within( \
             odht_read_uint8_t(bytes, bytes_len), bytes_len, groups);) \

@@ -240,8 +240,8 @@ public:
     }
 #endif
 
-    /* Whether bytes are valid to the last one; check_within also whether no search reads more than so many groups, and
-       for bytes of strangers. ODHT_OK, or an error. */
+    /* Whether bytes are valid to the last one; check_within also whether from each slot a free one comes within so many
+       groups, so that no search reads more. It is for bytes of strangers. ODHT_OK, or an error. */
     [[nodiscard]] static status check(const void *data, std::size_t len) noexcept
     {
         return as_status(calls::check(static_cast<const std::uint8_t *>(data), len));

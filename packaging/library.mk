@@ -39,8 +39,10 @@ build/$(SHARED): build/libodht.a packaging/odht.map
 	@$(NAME_SHARED)
 
 exports:
+	@python3 tools/errors
 	@python3 tools/shapes
 
 exports_are_current:
+	@python3 tools/errors --check
 	@python3 tools/shapes --check
 	@sh crates/odht_c/exports/statuses.sh > /dev/null

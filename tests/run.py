@@ -102,6 +102,7 @@ def limited(seconds, *words):
 
 def generated(part):
     ran = [
+        part.run(sys.executable, "tools/errors", "--check"),
         part.run(sys.executable, "tools/shapes", "--check"),
         part.run(sys.executable, "tools/commands", "--check"),
         part.run(sys.executable, "tools/manual.py", "--check"),

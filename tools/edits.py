@@ -5,7 +5,9 @@
   tools/edits.py run [NAME..]   has the prover try each edit, of all crates or of these, on copies
 
 What earlier checks of the repository proved is kept, as `rt check` keeps it: an edit costs what the prover does
-anew for it. As many are tried at once as there are processors. build/logs/edits.log says of each by which line it is refused.
+anew for it. The function whose text an edit changes is checked first, by its name alone: where that is not proved, the
+crate is not. Where it is, all of the crate is checked. As many are tried at once as there are processors.
+build/logs/edits.log says of each by which line it is refused.
 """
 import os
 import re
@@ -24,6 +26,9 @@ TOP = os.path.dirname(os.path.dirname(os.path.realpath(__file__)))
 # the most edits that are tried in one copy
 PART = 12
 LOG = f"{TOP}/build/logs/edits.log"
+FUNCTION = re.compile(r"^\s*(?:pub(?:\([\w ]+\))? )?(?:const )?fn (\w+)", re.M)
+IMPL = re.compile(r"^impl(?:<.*?>)? (\w+)(?:<[^{]*)? \{$", re.M)
+ONLY = re.compile(r"only=(\d+) proved=(\d+)")
 # an edit that does not read shows nothing of a contract
 UNREAD = re.compile(r"is not in scope|has no field|is no name|operand is missing|expected the end|cannot continue")
 
@@ -143,11 +148,61 @@ def parts_of(crate):
     return [(crate, edits[at::count]) for at in range(count)]
 
 
-def verdict(status, lines):
-    """Returns whether the prover refused an edited crate, and by which line it says so."""
+def name_at(before):
+    """Returns the name of the function in which the text before a place ends, with its type where it is a method."""
+    found = [*FUNCTION.finditer(before)]
+    if not found:
+        return None
+    types = IMPL.findall(before[: found[-1].start()])
+    is_method = found[-1][0].lstrip("\n").startswith(" ")
+    return f"{types[-1]}::{found[-1][1]}" if is_method and types else found[-1][1]
+
+
+def functions_of(edit, folder):
+    """Returns the names of the functions whose text an edit of the crate in this folder changes."""
+    path, names = "", set()
+    with open(edit, encoding="utf-8") as lines:
+        for word, _, text in (line.partition(": ") for line in lines.read().split("\n")):
+            if word == "file":
+                path = text.strip()
+            elif word == "old":
+                with open(f"{folder}/{path}", encoding="utf-8") as it:
+                    before, found, _ = it.read().partition(text)
+                names.add(name_at(before + found))
+    return sorted(names - {None})
+
+
+def errors_of(lines):
+    """Returns the errors of a check, the goals that it leaves open, and the errors of texts that it cannot read."""
     errors = [it for it in lines if re.match(r"\S+:\d+:\d+: error", it)]
     open_goals = [it for it in lines if re.match(r"(fn|impl) .*: not proved", it)]
     unread = [it for it in errors if it.removeprefix("./").startswith(("src/", "specs/")) and UNREAD.search(it)]
+    return errors, open_goals, unread
+
+
+def refusal_of(name, tree, crate):
+    """Returns the line by which the prover refuses a function of an edited crate, or what that calls. None where it does
+    not, and where it knows more than one of this name."""
+    status, lines = rt(["check", "--jobs", "1", "--only", name], tree, crate)
+    errors, open_goals, unread = errors_of(lines)
+    counts = [it.groups() for it in map(ONLY.match, lines) if it]
+    if unread or status != 1 or not open_goals or not counts or counts[-1][0] == counts[-1][1]:
+        return None
+    return [*errors, *open_goals][0]
+
+
+def judged(names, tree, crate):
+    """Has the prover try an edited crate, the functions of these names first. Returns whether it refused it, and how."""
+    for name in names:
+        line = refusal_of(name, tree, crate)
+        if line:
+            return True, line
+    return verdict(*rt(["check", "--jobs", "1"], tree, crate))
+
+
+def verdict(status, lines):
+    """Returns whether the prover refused an edited crate, and by which line it says so."""
+    errors, open_goals, unread = errors_of(lines)
     if unread:
         return False, f"the prover cannot read it: {unread[0]}"
     if status == 1 and any(it.startswith("logic=not-proved") for it in lines):
@@ -166,8 +221,9 @@ def tried(room, number, crate, edits):
     for edit in edits:
         texts, why = texts_of(edit, folder)
         former = {path: open(f"{folder}/{path}", encoding="utf-8").read() for path in texts}
+        names = [] if why else functions_of(edit, folder)
         write(folder, texts)
-        is_refused, line = (False, why) if why else verdict(*rt(["check", "--jobs", "1"], tree, crate))
+        is_refused, line = (False, why) if why else judged(names, tree, crate)
         write(folder, former)
         verdicts.append((os.path.basename(edit), is_refused, line[:300]))
     shutil.rmtree(tree)

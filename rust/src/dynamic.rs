@@ -163,8 +163,10 @@ impl<H: HashFn, D: Borrow<[u8]>> DynTable<H, D> {
     #[inline]
     #[must_use]
     pub fn get(&self, key: &[u8]) -> Option<&[u8]> {
-        let (value, _) = self.get_counted(key);
-        value
+        if key.len() != usize::from(self.layout.key_len) {
+            return None;
+        }
+        self.parts().find(key)
     }
 
     /// `get`, and how many groups of sixteen control bytes it read: in a table those up to the first slot that is free
@@ -246,7 +248,8 @@ impl<H: HashFn, D: Borrow<[u8]>> DynTable<H, D> {
     }
 
     /// [`check_rest`](DynTable::check_rest) for bytes of strangers, whose time nobody can make long: it also returns an
-    /// error where a search, of a present or an absent key, may read more than `groups` groups of sixteen control bytes.
+    /// error where a home has, among the first `groups` groups of sixteen of its probe order, no control byte that
+    /// counts as free. Where there is no error, no search, of a present or an absent key, reads more.
     ///
     /// # Errors
     ///
@@ -270,7 +273,8 @@ impl<H: HashFn, D: Borrow<[u8]>> DynTable<H, D> {
         self.check_rest_within(groups).is_ok()
     }
 
-    /// Whether no search reads more than `groups` groups of sixteen control bytes. It reads control bytes alone.
+    /// Whether each home has, among the first `groups` groups of sixteen of its probe order, a control byte that counts
+    /// as free. Then no search in valid bytes reads more. It reads control bytes alone.
     #[must_use]
     pub fn searches_within(&self, groups: usize) -> bool {
         self.parts().searches_within(groups)

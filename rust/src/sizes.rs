@@ -97,9 +97,11 @@ pub fn table_len<C: Config>(bytes: &[u8]) -> Result<usize, Error> {
 ///
 /// # Errors
 ///
+// order: made of errors.txt by make exports
 /// The first of the errors that [`HashTable::try_from_raw_bytes`] returns, then of `LoadFactorTooSmall`,
 /// `NonZeroPadding`, `NonZeroEmpty`, `BadFreeControl`, `ControlMismatch`, `MirrorMismatch`, `WrongItemCount`,
 /// `TooManyItems` and `Unreachable`.
+// order: up to here
 ///
 /// [`HashTable::try_from_raw_bytes`]: crate::HashTable::try_from_raw_bytes
 pub fn check_all<C: Config>(bytes: &[u8]) -> Result<(), Error> {
@@ -107,9 +109,10 @@ pub fn check_all<C: Config>(bytes: &[u8]) -> Result<(), Error> {
     raw::memory_layout::check_all::<Proved<C>>(bytes)
 }
 
-/// [`check_all`] with a bound of searches, for bytes of strangers: also checks that no search, of a present or an absent
-/// key, reads more than `groups` groups of sixteen control bytes. For `s` slots it reads at most `2 * s * groups` groups
-/// and compares at most `16 * s * groups` keys, whatever the bytes are.
+/// [`check_all`] with a bound of searches, for bytes of strangers: also checks that each home has, among the first
+/// `groups` groups of sixteen of its probe order, a control byte that counts as free. Then no search, of a present or
+/// an absent key, reads more. For `s` slots it reads at most `2 * s * groups` groups and compares at most
+/// `16 * s * groups` keys, whatever the bytes are.
 ///
 /// ```
 /// use odht::{check_all_within, configs::U64ToU32, HashTableOwned, DEFAULT_GROUPS};

@@ -300,8 +300,9 @@ impl<C: Config, D: Borrow<[u8]>> HashTable<C, D> {
         self.view().verify()
     }
 
-    /// [`verify`](HashTable::verify) for bytes of strangers, whose time nobody can make long: also whether no search, of
-    /// a present or an absent key, reads more than `groups` groups of sixteen control bytes.
+    /// [`verify`](HashTable::verify) for bytes of strangers, whose time nobody can make long: also whether each home
+    /// has, among the first `groups` groups of sixteen of its probe order, a control byte that counts as free. Then no
+    /// search, of a present or an absent key, reads more.
     ///
     /// ```
     /// # use odht::{configs::U64ToU32, HashTable, HashTableOwned, DEFAULT_GROUPS};
@@ -316,7 +317,8 @@ impl<C: Config, D: Borrow<[u8]>> HashTable<C, D> {
         self.view().verify_within(groups)
     }
 
-    /// Whether no search reads more than `groups` groups of sixteen control bytes. It reads control bytes alone.
+    /// Whether each home has, among the first `groups` groups of sixteen of its probe order, a control byte that counts
+    /// as free. Then no search in valid bytes reads more. It reads control bytes alone.
     ///
     /// ```
     /// # use odht::{configs::U64ToU32, HashTable, HashTableOwned};

@@ -1,8 +1,15 @@
 """What C and C++ have of each shape: its exports, the list of their modules, include/odht.h, and include/odht.hpp.
 
 The parts are in crates/odht_c/exports: shape.rt.in is the exports of one shape, header_*.h are the header in this order
-of PARTS, header.hpp.in is that for C++. A mark @NAME@ in a part is replaced by its text."""
+of PARTS, header.hpp.in is that for C++. A mark @NAME@ in a part is replaced by its text; those of errors and statuses
+are in tools/errors/header_marks.py."""
+import sys
+
 import shape_list
+
+sys.path.append(str(shape_list.ROOT / "tools/errors"))
+import error_list
+import header_marks
 
 FOLDERS = ["crates/odht_c/src/shapes"]
 EXPORTS = shape_list.ROOT / "crates/odht_c/exports"
@@ -16,6 +23,11 @@ def filled(text, marks):
     for name, value in marks.items():
         text = text.replace(f"@{name}@", value)
     return text
+
+
+def part(name):
+    """A part, with the marks of errors and statuses replaced."""
+    return filled((EXPORTS / name).read_text(), header_marks.marks(error_list.read()))
 
 
 def is_bytes(type_name):
@@ -104,9 +116,9 @@ def header(shapes):
     major, minor, patch = version.split(".")
     marks = {"SHAPES": "\n".join(map(listed, shapes)), "VERSION": version}
     marks |= {"MAJOR": major, "MINOR": minor, "PATCH": patch}
-    parts = "".join((EXPORTS / f"header_{it}.h").read_text() for it in PARTS)
+    parts = "".join(part(f"header_{it}.h") for it in PARTS)
     lines = "".join(map(declared, shapes))
-    return f"{filled(parts, marks)}\n/* Each shape. */\n{lines}{(EXPORTS / 'header_tail.h').read_text()}"
+    return f"{filled(parts, marks)}\n/* Each shape. */\n{lines}{part('header_tail.h')}"
 
 
 def typed(type_name):
@@ -119,13 +131,13 @@ def header_for_cpp(shapes):
     """include/odht.hpp."""
     maps = (f"ODHT_HPP_MAP({it.calls}, {typed(it.key)}, {typed(it.value)})\n" for it in shapes if not it.is_set)
     sets = (f"ODHT_HPP_SET({it.calls}, {typed(it.key)})\n" for it in shapes if it.is_set)
-    return filled((EXPORTS / "header.hpp.in").read_text(), {"MAPS": "".join(maps), "SETS": "".join(sets)})
+    return filled(part("header.hpp.in"), {"MAPS": "".join(maps), "SETS": "".join(sets)})
 
 
 def files(shapes):
     """The texts of these files by path."""
     with_calls = [shape for shape in shapes if shape.calls]
-    template = (EXPORTS / "shape.rt.in").read_text()
+    template = part("shape.rt.in")
     texts = {f"{FOLDERS[0]}/{shape.calls}.rt": exports(shape, template) for shape in with_calls}
     texts[f"{FOLDERS[0]}.rt"] = modules(with_calls)
     texts["include/odht.h"] = header(with_calls)

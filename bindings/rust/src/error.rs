@@ -54,6 +54,7 @@ macro_rules! errors {
 }
 
 errors! {
+    // errors: made of errors.txt by make exports
     /// There are fewer than 32 bytes.
     TooShort = 1 "too short",
     /// The first four bytes are not `ODHT`.
@@ -102,6 +103,7 @@ errors! {
     BadLengths = 35 "bad lengths",
     /// An output buffer is too short for the result.
     TooSmall = 36 "too small",
+    // errors: up to here
 }
 
 impl Error {

@@ -6,6 +6,7 @@ use common::{changed, worked_example};
 use odht_ffi::{bytes_needed, Builder, Error, Table, TableMut, B16, B16U32, U64U32, U64U64};
 
 /// The numbers and texts of include/odht.h.
+// ERRORS: made of errors.txt by make exports
 const ERRORS: [(u32, Error, &str); 24] = [
     (1, Error::TooShort, "too short"),
     (2, Error::WrongTag, "wrong tag"),
@@ -32,6 +33,7 @@ const ERRORS: [(u32, Error, &str); 24] = [
     (35, Error::BadLengths, "bad lengths"),
     (36, Error::TooSmall, "too small"),
 ];
+// ERRORS: up to here
 
 #[test]
 fn numbers_and_texts() {

@@ -1,6 +1,6 @@
 -- A table that is given room for more items.
 --     has_room_for P n     P takes n more items below its maximum
---     LacksRoom P n        it does not
+--     LacksRoom P n        n more items than P has are above its maximum
 --     moved F P s          the pairs of P, placed in slot order into s free slots at its load factor
 --     reserved F P n       P where it has room for n more items; otherwise its pairs in the slots for as many as it
 --                          has and n more

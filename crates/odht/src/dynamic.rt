@@ -238,9 +238,9 @@ impl<H: HashFn, D: ByteStore> DynTable<H, D> {
         check_sized::<H>(self.store.bytes(), self.layout).is_ok()
     }
 
-    /// Whether the bytes are valid and no search in them, of a present or an absent key, reads more than `groups`
-    /// groups of control bytes. [`DEFAULT_GROUPS`](crate::memory_layout::DEFAULT_GROUPS) is a bound that tables of
-    /// hashes that vary keep.
+    /// Whether the bytes are valid and each home has, among the first `groups` groups of its probe order, a control
+    /// byte that counts as free. Then no search, of a present or an absent key, reads more.
+    /// [`DEFAULT_GROUPS`](crate::memory_layout::DEFAULT_GROUPS) is a bound that tables of hashes that vary keep.
     ///
     /// It is for bytes of strangers: whatever they are it costs no more than
     /// [`crate::memory_layout::check_all_within`]. [`crate::memory_layout::check_sized_within`] returns the error.
@@ -252,8 +252,9 @@ impl<H: HashFn, D: ByteStore> DynTable<H, D> {
         check_sized_within::<H>(self.store.bytes(), self.layout, groups).is_ok()
     }
 
-    /// Whether no search, of a present or an absent key, reads more than `groups` groups of control bytes. It reads
-    /// control bytes alone: for `s` slots at most `s * groups` groups.
+    /// Whether each home has, among the first `groups` groups of its probe order, a control byte that counts as free.
+    /// Then no search in valid bytes, of a present or an absent key, reads more. It reads control bytes alone: for `s`
+    /// slots at most `s * groups` groups.
     pub fn searches_within(&self, groups: usize) -> bool
         ensures bytes { let B = controls_of (dyn_format self.now H.hash) (D.bytes self.now.store)
             in IsTrue result ↔ (first_longer B groups ≡ None) }
@@ -277,7 +278,8 @@ impl<H: HashFn, D: ByteStore> DynTable<H, D> {
     /// The store, with the bytes as they are now. Their header and length fit.
     #[inline]
     pub fn into_data(self) -> D
-        ensures { result ≡ self.store }
+        ensures store { result ≡ self.store }
+        ensures accepted { IsAccepted (dyn_format self H.hash) (D.bytes result) }
     {
         let DynTable {
             store,

@@ -35,6 +35,9 @@ impl<C: Config, D: ByteStore> HashTable<C, D> {
     ///
     /// The load factor of valid bytes is at least 655 65536ths of the slots, one percent rounded down. A smaller one is
     /// taken as it is: for 0 no slot count is enough, so the result is None.
+    ///
+    /// The count is the header's. Of bytes that were not checked it may be any number: check them, or bound the length,
+    /// before you allocate.
     pub fn grown_len(&self) -> Option<usize>
         ensures by_header { result ≡ grown_len ⟦<C as Coded>⟧.coding.format (D.bytes self.now) }
         ensures on_valid { InTable ⟦<C as Coded>⟧.coding (D.bytes self.now)

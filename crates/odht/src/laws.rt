@@ -1,7 +1,11 @@
 //! Laws of whole tables that are the contract of no single call: a table of a `Lossless` configuration is a map of the
 //! keys to the values themselves, valid bytes are accepted, and an order of inserts makes its table again. Each
 //! function is a few calls at most, and its contract is the law. docs/PROOFS.md lists them in "Laws of whole tables".
-ghost use Rattle.std.specs.Prelude.{◌≡◌, ℕ, List, ◌↔◌, ◌⊎◌, length, IfOk, OnErr};
+ghost use Rattle.std.specs.Prelude.{◌≡◌, ◌≤◌, ℕ, List, None, ◌↔◌, ◌⊎◌, length, IfOk, OnErr};
+ghost use Rattle.odht_base.specs.Bounds.{first_longer};
+ghost use Rattle.odht_base.specs.Decoded.{controls_of};
+ghost use Rattle.odht_base.specs.Search.{groups_read};
+ghost use Rattle.odht.specs.Tables.{OfTable};
 ghost use Rattle.odht_base.specs.Load.{factor_of, IsPercent};
 ghost use Rattle.odht.specs.LastValues.{IsLastValue, HasLastValues};
 ghost use Rattle.odht.specs.Rebuilds.{IsNewSizeOf, AreInOrder};
@@ -21,6 +25,15 @@ use std::alloc::Global;
 pub fn valid_bytes_are_accepted<C: Config>()
     ensures { let F = ⟦<C as Coded>⟧.coding.format
         in (B : List ℕ) → IsValidBytes F B → IsAccepted F B }
+{}
+
+/// In a valid table whose bytes a bound of searches accepts ([`check_all_within`](crate::memory_layout::check_all_within)
+/// and the other calls with a bound say when), no search reads more groups than the bound, whether its key is present
+/// or absent.
+pub fn bounded_searches_end_in_time<C: Config>()
+    ensures { let F = ⟦<C as Coded>⟧.coding.format
+        in (B : List ℕ) (groups : ℕ) → first_longer (controls_of F B) groups ≡ None
+        → OfTable F B (λ P. (key : List ℕ) → groups_read F P.cells key ≤ groups) }
 {}
 
 /// A table that has the last values of the items has for a key the value of the last item with this very key, and no
@@ -57,8 +70,8 @@ pub fn last_value<C: Lossless>(
 /// The value of a key in the table that is built from empty by inserting the items in turn: that of the last item with
 /// this very key, and None where no item has it. The load factor is in percent of the slots.
 ///
-/// `Capacity` exactly where no slot count is enough for so many items, or its length passes `usize`; `Memory` when
-/// memory is exhausted.
+/// `Capacity` exactly where no slot count is enough for so many items, or its length passes `usize`; `Memory` where the
+/// allocator gives none.
 pub fn built_from_empty<C: Lossless>(
     alloc: Global,
     items: &[(C::Key, C::Value)],
@@ -81,12 +94,12 @@ pub fn built_from_empty<C: Lossless>(
     Ok(last_value(&table, items, key))
 }
 
-/// A table made again: its pairs, in an order that [`HashTableOwned::insert_order`] finds, are inserted in turn into
-/// a new table, and leave the bytes of this very table. This holds of each valid table `P` of which the items are the
-/// pairs in an insert order, and whose slot count and load factor are those of the new table.
+/// Inserts the items in turn into a new table. Where they are the pairs of a valid table `P` in an insert order, such
+/// as [`HashTableOwned::insert_order`] finds, and the new table has the slot count and load factor of `P`, the bytes
+/// are those of `P`; of other items only the errors are said.
 ///
-/// `Capacity` exactly where no slot count is enough for `max_item_count`, or its length passes `usize`; `Memory` when
-/// memory is exhausted.
+/// `Capacity` exactly where no slot count is enough for `max_item_count`, or its length passes `usize`; `Memory` where
+/// the allocator gives none.
 pub fn rebuilt<C: Config>(
     alloc: Global,
     items: &[(C::Key, C::Value)],

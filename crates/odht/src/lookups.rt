@@ -44,7 +44,9 @@ impl<'a, T: Drop> Answers<T> for InSlice<'a, T> {
     }
 }
 
-/// Looks up the keys, eight at a time and then the rest one by one, and puts the result of each key at its index.
+/// Puts the result of each key at its index: on the parts of a placed table the value for the key, on any parts None or
+/// a value stored with this very key. There are at least as many places as keys. Eight keys are taken at a time, then
+/// the rest one by one.
 ///
 /// Each key is encoded twice, and hashed once. No group is read twice.
 #[inline(always)]

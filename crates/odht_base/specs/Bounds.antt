@@ -3,9 +3,9 @@
 --     group_of ctrl b j      the sixteen control bytes that a search from the home b reads as its group j
 --     ends_within ctrl g b   one of the first g of these groups, and of those that there are, has a byte that counts as
 --                            free, so that no search from b reads more than g
---     AreWithin ctrl g b n   n is from 1 up to the slot count, and that is so of the n homes from b on, as far as there
---                            are any
---     first_longer ctrl g    the least home of which that is not so, if there is one
+--     AreWithin ctrl g b n   n is from 1 up to the slot count, and `ends_within` is true of the n homes from b on, as
+--                            far as there are any
+--     first_longer ctrl g    the least home from which `ends_within` is false, if there is one
 use Rattle.std.specs.Prelude.{◌≡◌, ℕ, ◌+◌, ◌<◌, ◌≤◌, true, ◌-◌, ◌*◌, ◌/◌, min, Bool, not, is_some, List, length, find, Option}
 use Rattle.std.specs.List.{list_any, range_with_len}
 use Rattle.odht_base.specs.Bytes.{bytes_at}

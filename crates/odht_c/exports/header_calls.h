@@ -22,12 +22,12 @@
  *     required: each call below checks the header and the length itself, except for
  *     the lookups in a view.
  *     OK: calls can be made on them; slots from the eleventh on were not checked.
- *     An error, 1 to 9.
+ *     An error, @OPENING@.
  *
  * odht_S_check(bytes, bytes_len)
  *     Whether bytes are valid, to the last one: those of a table that the format
  *     allows. Then all comments on answers here hold for them.
- *     OK: they are valid. An error, 1 to 16: the first in the order that is described
+ *     OK: they are valid. An error, @CHECK@: the first in the order that is described
  *     above. odht_S_check_at says in which slot.
  *     It goes over the slots, up to 64 at a time, and for each occupied slot reads the
  *     control bytes of its key's probe order up to it, sixteen at a time; a key is
@@ -41,14 +41,15 @@
  *
  * odht_S_check_within(bytes, bytes_len, groups)
  *     odht_S_check for bytes of strangers, whose time nobody can make long: also whether
- *     no search, of a present or an absent key, reads more than so many groups of sixteen
- *     control bytes. ODHT_DEFAULT_GROUPS is a bound that tables of keys whose hashes vary
- *     keep.
- *     OK: they are valid, and searches end in time. An error, 1 to 16, as of odht_S_check,
- *     or SEARCH_TOO_LONG, which comes after 1 to 15 and before 16.
+ *     in the probe order from each slot a free slot comes within so many groups of sixteen
+ *     control bytes. Then no search, of a present or an absent key, reads more groups.
+ *     ODHT_DEFAULT_GROUPS is a bound that tables of keys whose hashes vary keep.
+ *     OK: they are valid, and searches end in time. An error, @CHECK@, as of odht_S_check,
+ *     or SEARCH_TOO_LONG, which comes after @BEFORE_BOUND@ and before @BEHIND_BOUND@; it may come also where
+ *     the search for each key of the table reads no more groups.
  *     For s slots it reads at most 2 * s * groups groups, and compares at most
- *     16 * s * groups keys. With s / 16 groups or more it answers as odht_S_check. It
- *     allocates nothing.
+ *     16 * s * groups keys. With s / 16 groups or more it answers as odht_S_check (no
+ *     contract says it). It allocates nothing.
  *
  * odht_S_open_at(bytes, bytes_len, *slot)
  * odht_S_check_at(bytes, bytes_len, *slot)
@@ -63,34 +64,34 @@
  * odht_S_len(bytes, bytes_len, *count)
  *     OK: *count is the header's count of items. It may be untrue: before odht_S_check
  *     has accepted the bytes, allocate nothing by it. No table holds more items than
- *     bytes. An error, 1 to 7.
+ *     bytes. An error, @HEADER@.
  *
  * odht_S_sizes(bytes, bytes_len, *slots, *max_item_count, *percent)
  *     OK: the header's slot count, how many items these slots take at the most, and the
  *     header's load factor in percent. It is rounded down, so it may be one below that
- *     which the table was made with. An error, 1 to 7.
+ *     which the table was made with. An error, @HEADER@.
  *
  * odht_S_table_len(bytes, bytes_len, *len)
  *     How many bytes the table at the front of longer bytes has, by its header. So a
  *     table inside a file is found without a length of one's own: the other calls take
  *     exactly these bytes, and what follows them is not the table's. Slots are not read.
- *     OK: *len is its length in bytes, which is not above bytes_len. An error, 1 to 7;
+ *     OK: *len is its length in bytes, which is not above bytes_len. An error, @HEADER@;
  *     WRONG_LENGTH only where bytes_len is below the length of the table.
  *
  * odht_S_get(bytes, bytes_len, key, *value)
  *     OK: the key is there, and *value is its value. ABSENT: it is not there.
- *     An error, 1 to 7.
+ *     An error, @HEADER@.
  *
  * odht_S_get_all(bytes, bytes_len, keys, keys_len, values, values_len, found, found_len)
  *     Looks keys_len keys up; the header and the length are checked once.
  *     OK: for each i, either found[i] is 1 and values[i] is the value of keys[i],
  *     or found[i] is 0 and values[i] is unchanged. BAD_LENGTHS: the three lengths
- *     are not equal. An error, 1 to 7.
+ *     are not equal. An error, @HEADER@.
  *
  * odht_S_insert(bytes, bytes_len, key, value, *former)
  *     Inserts a key with its value, or gives a key that is there another value.
  *     OK: the key was new. REPLACED: the key was there, and *former is its former
- *     value. FULL: the key is new, and the table is at its maximum. An error, 1 to 7.
+ *     value. FULL: the key is new, and the table is at its maximum. An error, @HEADER@.
  *     With FULL and the errors nothing changes.
  *
  * odht_S_insert_all(bytes, bytes_len, keys, keys_len, values, values_len, *accepted)
@@ -98,7 +99,7 @@
  *     and stops at the first that is answered FULL.
  *     OK: all are inserted, and *accepted is keys_len. FULL: *accepted of them are
  *     inserted, and the next one is not: its key is new. BAD_LENGTHS: keys_len is not
- *     values_len. An error, 1 to 7. With the last two nothing changes.
+ *     values_len. An error, @HEADER@. With the last two nothing changes.
  *
  * odht_S_walk(bytes, bytes_len, *cursor, keys, keys_len, values, values_len, *count)
  *     Writes pairs into the front of two arrays, in the order of the slots: those at
@@ -114,10 +115,10 @@
  *
  *     OK: these *count pairs are the last ones. TOO_SMALL: the arrays are full, and
  *     there are more. With both the rest of the arrays is unchanged. BAD_LENGTHS:
- *     keys_len is not values_len. An error, 1 to 7. With the last two the arrays,
+ *     keys_len is not values_len. An error, @HEADER@. With the last two the arrays,
  *     *cursor and *count are unchanged.
  *     A walk writes the pairs of the occupied slots, whatever the header's count: on any
- *     bytes without the errors 1 to 7 at most one pair for each slot, and bytes_len is
+ *     bytes without the errors @HEADER@ at most one pair for each slot, and bytes_len is
  *     more than the number of slots times the length of a pair.
  *
  * odht_S_insert_order(bytes, bytes_len, slots, slots_len)
@@ -126,7 +127,7 @@
  *     exactly these bytes. Not every valid table has been made by inserts.
  *     OK: slots holds the occupied slots, each once, in such an order. Slots count from
  *     0. UNMADE: no list of inserts makes the table, growths included, and what slots
- *     holds is unspecified. An error of the whole check, 1 to 16. BAD_LENGTHS: the
+ *     holds is unspecified. An error of the whole check, @CHECK@. BAD_LENGTHS: the
  *     bytes are valid, and slots_len is not the number of items.
  *     It makes the whole check first, as odht_S_check does. Then it goes over the items
  *     in passes: at most one more than there are items whose insert has to wait for
@@ -145,7 +146,7 @@
  *     OK: the first *len bytes of out are the grown table, and the rest of out is
  *     unchanged. TOO_SMALL: out_len is below *len, the length in bytes of the grown
  *     table, and out is unchanged; so a call with out_len 0 reports how much memory is
- *     needed. An error, 1 to 7. LOAD_FACTOR_TOO_SMALL: the header has less than 1
+ *     needed. An error, @HEADER@. LOAD_FACTOR_TOO_SMALL: the header has less than 1
  *     percent, as no valid table does. CAPACITY: no slot count is enough, or the length
  *     does not fit size_t.
  *     It reads each slot once and hashes each key once; no keys are compared. It
@@ -169,13 +170,13 @@
  * odht_S_open_view(bytes, bytes_len, *view)
  *     Opens bytes as odht_S_open does, to look up in them often: "Opened tables"
  *     above says what to ensure for a view.
- *     OK: *view is the view of the bytes. An error, 1 to 9.
+ *     OK: *view is the view of the bytes. An error, @OPENING@.
  *
  * odht_S_view_get(view, key, *value)
  * odht_S_view_get_all(view, keys, keys_len, values, values_len, found, found_len)
  * odht_S_view_len(view)
  *     As odht_S_get, odht_S_get_all and odht_S_len, in an opened table and without the
- *     errors 1 to 7. The last returns the number itself.
+ *     errors @HEADER@. The last returns the number itself.
  *
  * Sets have no values. In place of get and get_all they have contains and
  * contains_all, also in a view, and their other calls have no parameters for values.

@@ -41,7 +41,7 @@
  * The comments on the answers hold for valid bytes: those that these calls have
  * made, and all others that odht_*_check accepts. It reads every byte. odht_*_open
  * does not find out whether bytes are valid, since it reads ten slots. On other
- * bytes in which errors 1 to 7 do not occur no call reads or writes outside of the
+ * bytes in which errors @HEADER@ do not occur no call reads or writes outside of the
  * slices and out-parameters it was given. But there get and get_all may miss a key,
  * or find a value that is stored beside it in a slot whose control byte says free;
  * len answers the header's count; an insert, alone or of many, changes one value
@@ -120,86 +120,35 @@ extern "C" {
 /* What a call answers. Beside each number: Error::Name is the name of the library's error in
    Rattle, and then when it occurs. docs/FORMAT.md, "Numbers for C", has the same table. */
 enum odht_status {
-    ODHT_OK = 0,                          /* success */
+@STATUS_OK@
 
     /* Errors of bytes that are not a table of this kind. A call checks in this order,
-       1 to 7, and answers the first that applies; nothing is changed then. After
+       @HEADER@, and answers the first that applies; nothing is changed then. After
        these odht_*_open checks slots 0 to 9 in turn, and the first bad one gives 8
        or 9. So does odht_*_check, which then continues as described below. */
-    ODHT_TOO_SHORT = 1,                   /* Error::TooShort: fewer than 32 bytes */
-    ODHT_WRONG_TAG = 2,                   /* Error::WrongTag: the first four bytes are not ODHT */
-    ODHT_WRONG_VERSION = 3,               /* Error::WrongVersion: not version 2 of the format */
-    ODHT_WRONG_SIZE = 4,                  /* Error::WrongSizeOf: other lengths of keys, values or header */
-    ODHT_SLOT_COUNT_NOT_POWER_OF_TWO = 5, /* Error::SlotCountNotPowerOfTwo */
-    ODHT_SLOT_COUNT_TOO_SMALL = 6,        /* Error::SlotCountTooSmall: fewer than 16 slots */
-    ODHT_WRONG_LENGTH = 7,                /* Error::WrongLength: not as many bytes as the slots need */
-    ODHT_NON_ZERO_EMPTY = 8,              /* Error::NonZeroEmpty: a free slot's entry is not zero */
-    ODHT_CONTROL_MISMATCH = 9,            /* Error::ControlMismatch: a control byte is not its key's tag */
+@STATUS_OPENING@
 
     /* Errors of the whole check: of odht_*_check, and of odht_*_insert_order,
-       which makes it first. After 1 to 9 as above it checks the load factor and
+       which makes it first. After @OPENING@ as above it checks the load factor and
        the padding, then all slots in turn, where the first bad one gives 8, 12 or
-       9, and then 13 to 16. odht_*_grow answers 10 too. */
-    ODHT_LOAD_FACTOR_TOO_SMALL = 10,      /* Error::LoadFactorTooSmall: below 1 percent */
-    ODHT_NON_ZERO_PADDING = 11,           /* Error::NonZeroPadding: bytes 30 and 31 are not zero */
-    ODHT_BAD_FREE_CONTROL = 12,           /* Error::BadFreeControl: a free slot's control byte is not 255 */
-    ODHT_MIRROR_MISMATCH = 13,            /* Error::MirrorMismatch: the last 16 bytes do not repeat the first
-                                             control bytes */
-    ODHT_WRONG_ITEM_COUNT = 14,           /* Error::WrongItemCount: not as many items as the header says */
-    ODHT_TOO_MANY_ITEMS = 15,             /* Error::TooManyItems: more than the load factor allows */
-    ODHT_UNREACHABLE = 16,                /* Error::Unreachable: a key after a free slot of its probe order,
-                                             or stored a second time */
+       9, and then @BEHIND_SLOTS@. odht_*_grow answers 10 too. */
+@STATUS_CHECK@
 
     /* Errors of making tables and of inserts. */
-    ODHT_INIT_LENGTH = 17,                /* Error::InitLength: not the length that the table needs */
-    ODHT_FULL = 18,                       /* Error::Full: the table is at its maximum, and the key is new */
-    ODHT_MEMORY = 19,                     /* Error::Memory: malloc has failed */
-    ODHT_CAPACITY = 20,                   /* Error::Capacity: more items than any table takes */
+@STATUS_CALL@
 
-    /* The error of odht_*_check_within, after 1 to 15 and before 16. */
-    ODHT_SEARCH_TOO_LONG = 21,            /* Error::SearchTooLong: a search may read more groups than the bound */
+    /* The error of odht_*_check_within, after @BEFORE_BOUND@ and before @BEHIND_BOUND@. */
+@STATUS_BOUND@
 
     /* Answers that are no error of the library. */
-    ODHT_ABSENT = 32,                     /* the key is not in the table */
-    ODHT_REPLACED = 33,                   /* the key was there with a value */
-    ODHT_BAD_PERCENT = 34,                /* 0 percent, or more than 100 */
-    ODHT_BAD_LENGTHS = 35,                /* arrays of different lengths, or not of one element for each item */
-    ODHT_TOO_SMALL = 36,                  /* an output buffer is too short for the result */
-    ODHT_UNMADE = 37                      /* no list of inserts makes the table */
+@STATUS_OTHER@
 };
 
 /* A short text for a status, such as "wrong length". */
 static inline const char *odht_status_name(uint32_t status)
 {
     switch (status) {
-    case ODHT_OK: return "ok";
-    case ODHT_TOO_SHORT: return "too short";
-    case ODHT_WRONG_TAG: return "wrong tag";
-    case ODHT_WRONG_VERSION: return "wrong version";
-    case ODHT_WRONG_SIZE: return "wrong size";
-    case ODHT_SLOT_COUNT_NOT_POWER_OF_TWO: return "slot count not a power of two";
-    case ODHT_SLOT_COUNT_TOO_SMALL: return "slot count too small";
-    case ODHT_WRONG_LENGTH: return "wrong length";
-    case ODHT_NON_ZERO_EMPTY: return "non-zero empty slot";
-    case ODHT_CONTROL_MISMATCH: return "control mismatch";
-    case ODHT_LOAD_FACTOR_TOO_SMALL: return "load factor too small";
-    case ODHT_NON_ZERO_PADDING: return "non-zero padding";
-    case ODHT_BAD_FREE_CONTROL: return "bad free control";
-    case ODHT_MIRROR_MISMATCH: return "mirror mismatch";
-    case ODHT_WRONG_ITEM_COUNT: return "wrong item count";
-    case ODHT_TOO_MANY_ITEMS: return "too many items";
-    case ODHT_UNREACHABLE: return "unreachable";
-    case ODHT_INIT_LENGTH: return "wrong length to initialize";
-    case ODHT_FULL: return "full";
-    case ODHT_MEMORY: return "no memory";
-    case ODHT_CAPACITY: return "capacity";
-    case ODHT_SEARCH_TOO_LONG: return "search too long";
-    case ODHT_ABSENT: return "absent";
-    case ODHT_REPLACED: return "replaced";
-    case ODHT_BAD_PERCENT: return "bad percent";
-    case ODHT_BAD_LENGTHS: return "bad lengths";
-    case ODHT_TOO_SMALL: return "too small";
-    case ODHT_UNMADE: return "unmade";
+@STATUS_NAMES@
     default: return "unknown status";
     }
 }
@@ -209,7 +158,7 @@ static inline const char *odht_status_name(uint32_t status)
  * Each other call on the bytes of a table checks their header and their length
  * first. A caller with many lookups can open the bytes once, keep the view, and
  * look up in it: odht_*_view_get, odht_*_view_get_all and odht_*_view_len do not
- * check the header, and answer none of the errors 1 to 16.
+ * check the header, and answer none of the errors @CHECK@.
  *
  * A view is the pointer and the length of the bytes; both may be read. It copies
  * nothing, and there is nothing to close; it may be copied, and any number of

@@ -3,7 +3,7 @@
 #define ODHT_DECLARE_MAP(S, K, k, V, v) \
     ODHT_TABLE_CALLS(S##_) \
 \
-    /* OK: *value is the value. ABSENT, or an error, 1 to 7: *value is unchanged. */ \
+    /* OK: *value is the value. ABSENT, or an error, @HEADER@: *value is unchanged. */ \
     ODHT_CALL(uint32_t, S##_get, \
         (const uint8_t *bytes, size_t bytes_len, K##_GIVEN(k, key), V##_WANTED(v, value)), \
         V##_UNWANTED(v) \
@@ -11,7 +11,7 @@
             odht_read_uint8_t(bytes, bytes_len), bytes_len, key, value ? value : unwanted);) \
 \
     /* OK: found[i] is 1 and values[i] the value, or found[i] is 0 and values[i] unchanged. \
-       BAD_LENGTHS, or an error, 1 to 7: both arrays are unchanged. */ \
+       BAD_LENGTHS, or an error, @HEADER@: both arrays are unchanged. */ \
     ODHT_CALL(uint32_t, S##_get_all, \
         (const uint8_t *bytes, size_t bytes_len, const K##_ITEM(k) *keys, size_t keys_len, \
             V##_ITEM(v) *values, size_t values_len, uint8_t *found, size_t found_len), \
@@ -20,7 +20,7 @@
             V##_WRITE(v, values, values_len), values_len, \
             odht_write_uint8_t(found, found_len), found_len);) \
 \
-    /* OK: the key was new. REPLACED: *former is the former value. FULL, or an error, 1 to 7: \
+    /* OK: the key was new. REPLACED: *former is the former value. FULL, or an error, @HEADER@: \
        nothing changes. */ \
     ODHT_CALL(uint32_t, S##_insert, \
         (uint8_t *bytes, size_t bytes_len, K##_GIVEN(k, key), V##_GIVEN(v, value), \
@@ -30,7 +30,7 @@
             odht_write_uint8_t(bytes, bytes_len), bytes_len, key, value, \
             former ? former : unwanted);) \
 \
-    /* OK or FULL: *accepted pairs are inserted. BAD_LENGTHS, or an error, 1 to 7: nothing \
+    /* OK or FULL: *accepted pairs are inserted. BAD_LENGTHS, or an error, @HEADER@: nothing \
        changes. */ \
     ODHT_CALL(uint32_t, S##_insert_all, \
         (uint8_t *bytes, size_t bytes_len, const K##_ITEM(k) *keys, size_t keys_len, \
@@ -42,7 +42,7 @@
             accepted ? accepted : &unwanted);) \
 \
     /* OK: the last *count pairs, from slot *cursor on. TOO_SMALL: the arrays are full, there are \
-       more, and *cursor is where to continue. BAD_LENGTHS, or an error, 1 to 7: nothing is \
+       more, and *cursor is where to continue. BAD_LENGTHS, or an error, @HEADER@: nothing is \
        written. */ \
     ODHT_CALL(uint32_t, S##_walk, \
         (const uint8_t *bytes, size_t bytes_len, size_t *cursor, K##_ITEM(k) *keys, \

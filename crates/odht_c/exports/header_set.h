@@ -29,14 +29,14 @@
         (const K##_ITEM(k) *keys, size_t keys_len, const void *values, size_t values_len, \
             uint8_t *out, size_t out_len, size_t *len)) \
 \
-    /* OK: the key is there. ABSENT, or an error, 1 to 7. */ \
+    /* OK: the key is there. ABSENT, or an error, @HEADER@. */ \
     ODHT_FUNCTION(uint32_t, S##_contains, \
         (const uint8_t *bytes, size_t bytes_len, K##_GIVEN(k, key)), \
         uint8_t nothing = 0; \
         return odht_symbol_##S##_get( \
             odht_read_uint8_t(bytes, bytes_len), bytes_len, key, &nothing);) \
 \
-    /* OK: found[i] is 1 where keys[i] is there, else 0. BAD_LENGTHS, or an error, 1 to 7: found \
+    /* OK: found[i] is 1 where keys[i] is there, else 0. BAD_LENGTHS, or an error, @HEADER@: found \
        is unchanged. */ \
     ODHT_FUNCTION(uint32_t, S##_contains_all, \
         (const uint8_t *bytes, size_t bytes_len, const K##_ITEM(k) *keys, size_t keys_len, \
@@ -46,13 +46,13 @@
             odht_read_uint8_t(bytes, bytes_len), bytes_len, K##_READ(k, keys, keys_len), keys_len, \
             &nothing, keys_len, odht_write_uint8_t(found, found_len), found_len);) \
 \
-    /* OK: the key was new. REPLACED: it was there. FULL, or an error, 1 to 7: nothing changes. */ \
+    /* OK: the key was new. REPLACED: it was there. FULL, or an error, @HEADER@: nothing changes. */ \
     ODHT_FUNCTION(uint32_t, S##_insert, (uint8_t *bytes, size_t bytes_len, K##_GIVEN(k, key)), \
         uint8_t nothing = 0; \
         return odht_symbol_##S##_insert( \
             odht_write_uint8_t(bytes, bytes_len), bytes_len, key, &nothing);) \
 \
-    /* OK or FULL: *accepted keys are inserted. An error, 1 to 7: nothing changes. */ \
+    /* OK or FULL: *accepted keys are inserted. An error, @HEADER@: nothing changes. */ \
     ODHT_FUNCTION(uint32_t, S##_insert_all, \
         (uint8_t *bytes, size_t bytes_len, const K##_ITEM(k) *keys, size_t keys_len, \
             size_t *accepted), \
@@ -63,7 +63,7 @@
             keys_len, &nothing, keys_len, accepted ? accepted : &unwanted);) \
 \
     /* OK: the last *count keys, from slot *cursor on. TOO_SMALL: the array is full, there are \
-       more, and *cursor is where to continue. An error, 1 to 7: nothing is written. */ \
+       more, and *cursor is where to continue. An error, @HEADER@: nothing is written. */ \
     ODHT_FUNCTION(uint32_t, S##_walk, \
         (const uint8_t *bytes, size_t bytes_len, size_t *cursor, K##_ITEM(k) *keys, \
             size_t keys_len, size_t *count), \

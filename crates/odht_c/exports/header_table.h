@@ -13,16 +13,17 @@
         return odht_symbol_##P##init( \
             odht_write_uint8_t(bytes, bytes_len), bytes_len, max_item_count, percent);) \
 \
-    /* OK: calls can be made on the bytes. An error, 1 to 9. As fast for every table. */ \
+    /* OK: calls can be made on the bytes. An error, @OPENING@. As fast for every table. */ \
     ODHT_CALL(uint32_t, P##open, (const uint8_t *bytes, size_t bytes_len), \
         return odht_symbol_##P##open(odht_read_uint8_t(bytes, bytes_len), bytes_len);) \
 \
-    /* OK: the bytes are valid to the last one. An error, 1 to 16. Goes over all slots. */ \
+    /* OK: the bytes are valid to the last one. An error, @CHECK@. Goes over all slots. */ \
     ODHT_CALL(uint32_t, P##check, (const uint8_t *bytes, size_t bytes_len), \
         return odht_symbol_##P##check(odht_read_uint8_t(bytes, bytes_len), bytes_len);) \
 \
-    /* OK: they are, and no search reads more than so many groups. An error, 1 to 16, or \
-       SEARCH_TOO_LONG. Its time is bounded by slots times groups, whatever the bytes are. */ \
+    /* OK: they are, and from each slot a free one comes within so many groups, so that no search \
+       reads more. An error, @CHECK@, or SEARCH_TOO_LONG. Its time is bounded by slots times \
+       groups, whatever the bytes are. */ \
     ODHT_CALL(uint32_t, P##check_within, (const uint8_t *bytes, size_t bytes_len, size_t groups), \
         return odht_symbol_##P##check_within( \
             odht_read_uint8_t(bytes, bytes_len), bytes_len, groups);) \
@@ -43,14 +44,14 @@
         return odht_symbol_##P##check_within_at( \
             odht_read_uint8_t(bytes, bytes_len), bytes_len, groups, slot ? slot : &unwanted);) \
 \
-    /* OK: *count is the header's count of items. An error, 1 to 7: it is unchanged. */ \
+    /* OK: *count is the header's count of items. An error, @HEADER@: it is unchanged. */ \
     ODHT_CALL(uint32_t, P##len, (const uint8_t *bytes, size_t bytes_len, size_t *count), \
         size_t unwanted = 0; \
         return odht_symbol_##P##len( \
             odht_read_uint8_t(bytes, bytes_len), bytes_len, count ? count : &unwanted);) \
 \
     /* OK: the numbers of the header: how many slots, how many items these take at most, and the \
-       load factor in percent, rounded down. An error, 1 to 7: they are unchanged. */ \
+       load factor in percent, rounded down. An error, @HEADER@: they are unchanged. */ \
     ODHT_CALL(uint32_t, P##sizes, \
         (const uint8_t *bytes, size_t bytes_len, size_t *slots, size_t *max_item_count, \
             uint8_t *percent), \
@@ -62,7 +63,7 @@
             max_item_count ? max_item_count : &unwanted_count, \
             percent ? percent : &unwanted_percent);) \
 \
-    /* OK: *len is how many bytes the table at the front of the bytes has. An error, 1 to 7: it is \
+    /* OK: *len is how many bytes the table at the front of the bytes has. An error, @HEADER@: it is \
        unchanged. */ \
     ODHT_CALL(uint32_t, P##table_len, (const uint8_t *bytes, size_t bytes_len, size_t *len), \
         size_t unwanted = 0; \
@@ -70,7 +71,7 @@
             odht_read_uint8_t(bytes, bytes_len), bytes_len, len ? len : &unwanted);) \
 \
     /* OK: the occupied slots, in an order of inserts. UNMADE: no inserts make the table, and what \
-       slots holds is unspecified. BAD_LENGTHS, or an error, 1 to 16: slots is unchanged. */ \
+       slots holds is unspecified. BAD_LENGTHS, or an error, @CHECK@: slots is unchanged. */ \
     ODHT_CALL(uint32_t, P##insert_order, \
         (const uint8_t *bytes, size_t bytes_len, size_t *slots, size_t slots_len), \
         return odht_symbol_##P##insert_order( \
@@ -78,7 +79,7 @@
             slots_len);) \
 \
     /* OK: the first *len bytes of out are the grown table. TOO_SMALL: out_len is below *len, and \
-       out is unchanged. An error, 1 to 7, LOAD_FACTOR_TOO_SMALL, CAPACITY: *len is unchanged \
+       out is unchanged. An error, @HEADER@, LOAD_FACTOR_TOO_SMALL, CAPACITY: *len is unchanged \
        too. */ \
     ODHT_CALL(uint32_t, P##grow, \
         (const uint8_t *bytes, size_t bytes_len, uint8_t *out, size_t out_len, size_t *len), \
@@ -87,7 +88,7 @@
             odht_read_uint8_t(bytes, bytes_len), bytes_len, odht_write_uint8_t(out, out_len), \
             out_len, len ? len : &unwanted);) \
 \
-    /* OK: *view is the view of the bytes. An error, 1 to 9: it is unchanged. */ \
+    /* OK: *view is the view of the bytes. An error, @OPENING@: it is unchanged. */ \
     ODHT_CALL(uint32_t, P##open_view, (const uint8_t *bytes, size_t bytes_len, odht_view *view), \
         odht_view opened = ODHT_NO_VIEW; \
         uint32_t status = odht_symbol_##P##open_view( \

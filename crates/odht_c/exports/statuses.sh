@@ -8,7 +8,7 @@ trap 'exit 1' HUP INT TERM
 
 # lines "number NAME Error", and with the texts "number NAME Error text"
 sed -n 's|^ *\(ODHT_[A-Z_]*\) = \([0-9]*\),\{0,1\} *\(/\* Error::\([A-Za-z]*\)\)\{0,1\}.*|\2 \1 \4|p' \
-    "$top/include/odht.h" > "$room/header"
+    "$top/include/odht.h" | sort -n > "$room/header"
 sed -n 's/^| \([0-9]*\) | `\(ODHT_[A-Z_]*\)` | `\{0,1\}\([A-Za-z]*\)`\{0,1\} *| \(.*\) |$/\1 \2 \3/p' \
     "$top/docs/FORMAT.md" > "$room/format"
 diff "$room/header" "$room/format" >&2 || { echo "statuses: odht.h and docs/FORMAT.md differ" >&2; exit 1; }

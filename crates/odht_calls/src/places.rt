@@ -17,12 +17,14 @@ fn slot_of(error: &Error) -> usize
     ensures { result ≡ slot_of error.now }
 {
     match *error {
+        // slot_of: made of errors.txt by make exports
         Error::NonZeroEmpty { slot }
         | Error::BadFreeControl { slot, .. }
         | Error::ControlMismatch { slot, .. }
         | Error::Unreachable { slot } => slot,
         Error::MirrorMismatch { index } => index,
         Error::SearchTooLong { home, .. } => home,
+        // slot_of: up to here
         _ => NO_SLOT,
     }
 }
@@ -69,9 +71,9 @@ pub fn check_at<C: Config>(bytes: &[u8], slot: &mut usize) -> u32
     }
 }
 
-/// OK where the bytes are valid and no search in them reads more than `groups` groups, else the number of the first
-/// error of the whole check with this bound; and writes to `slot` where that is, as `check_at` does, and of
-/// `SearchTooLong` the slot where the searches begin.
+/// OK where the bytes are valid and each home has a control byte that counts as free among the first `groups` groups of
+/// its probe order, so that no search reads more; else the number of the first error of the whole check with this
+/// bound. Writes to `slot` where that is, as `check_at` does, and of `SearchTooLong` the slot where the searches begin.
 #[inline]
 pub fn check_within_at<C: Config>(bytes: &[u8], groups: usize, slot: &mut usize) -> u32
     ensures { let F = ⟦<C as Coded>⟧.coding.format

@@ -39,6 +39,7 @@ impl fmt::Display for Part {
 /// slot. `found` is what the bytes have, `expected` what they need to have.
 #[derive(Clone, Copy, PartialEq, Eq, Debug)]
 pub enum Error {
+    // variants: made of errors.txt by make exports
     /// There are fewer bytes than the 32 of a header.
     TooShort {
         found: usize,
@@ -125,10 +126,11 @@ pub enum Error {
     },
     /// No room for a new key: the view is at its maximum item count, or the search met no free slot.
     Full,
-    /// Out of memory: an allocation failed.
+    /// Out of memory: an allocation failed; or an owned table cannot grow, since no slot count or no length is enough.
     Memory,
     /// No slot count is large enough, or the length of the table in bytes passes `usize::MAX`.
     Capacity,
+    // variants: up to here
 }
 
 impl From<AllocError> for Error {
@@ -144,6 +146,7 @@ impl fmt::Display for Error {
 
     fn fmt<W: fmt::Write>(&self, f: &mut fmt::Formatter<W>) -> fmt::Result {
         match *self {
+            // fmt: made of errors.txt by make exports
             Error::TooShort { found } => {
                 write!(f, "Provided data has {found} bytes but the header needs 32")
             }
@@ -179,6 +182,7 @@ impl fmt::Display for Error {
                 f,
                 "Provided allocation has wrong size for slot count {slot_count}. The allocation's size is {found} but the expected size is {expected}."
             ),
+            // fmt: up to here
             _ => write_contents_error(self, f),
         }
     }
@@ -192,6 +196,7 @@ fn write_contents_error<W: fmt::Write>(error: &Error, f: &mut fmt::Formatter<W>)
     ensures { WritesOnOk W.write_str_gives f.old result (error_text error.now) f.new }
 {
     match *error {
+        // write_contents_error: made of errors.txt by make exports
         Error::NonZeroEmpty { slot } => {
             write!(f, "Found empty entry with non-zero contents at {slot}")
         }
@@ -230,6 +235,7 @@ fn write_contents_error<W: fmt::Write>(error: &Error, f: &mut fmt::Formatter<W>)
             f,
             "Searches from slot {home} may read more than {groups} groups"
         ),
+        // write_contents_error: up to here
         _ => write_call_error(error, f),
     }
 }
@@ -240,6 +246,7 @@ fn write_call_error<W: fmt::Write>(error: &Error, f: &mut fmt::Formatter<W>) -> 
     ensures { WritesOnOk W.write_str_gives f.old result (error_text error.now) f.new }
 {
     match *error {
+        // write_call_error: made of errors.txt by make exports
         Error::InitLength { found, expected } => write!(
             f,
             "byte slice to initialize has wrong length ({found} instead of {expected})"
@@ -247,6 +254,7 @@ fn write_call_error<W: fmt::Write>(error: &Error, f: &mut fmt::Formatter<W>) -> 
         Error::Full => write!(f, "Table is full"),
         Error::Memory => write!(f, "Memory was refused"),
         Error::Capacity => write!(f, "Capacity is too large"),
+        // write_call_error: up to here
         _ => unreachable!(),
     }
 }

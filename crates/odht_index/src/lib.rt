@@ -91,8 +91,8 @@ impl Lossless for IndexConfig {
 /// The bytes of an index of the pairs, to be stored. The load factor is 87 percent of the slots. A path that comes
 /// again gets its later number.
 ///
-/// `Capacity` exactly where no slot count is enough for so many pairs, or its length passes `usize`; `Memory` when
-/// memory is exhausted. Each pair is hashed once, the table never grows, and its bytes are copied once.
+/// `Capacity` exactly where no slot count is enough for so many pairs, or its length passes `usize`; `Memory` where the
+/// allocator gives none. Each pair is hashed once, the table never grows, and its bytes are copied once.
 pub fn build(alloc: Global, pairs: &[([u8; 16], u32)]) -> Result<Vec<u8>, Error>
     ensures inserted { let c = ⟦<IndexConfig as Coded>⟧.coding
         in IfOk result (λ bytes. IsFreshAfterInserts c 87 pairs.now bytes.items) }

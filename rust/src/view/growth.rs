@@ -8,6 +8,9 @@ impl<C: Config, D: Borrow<[u8]>> HashTable<C, D> {
     /// The length in bytes of the table that this one grows into: with the slots for twice its items, and for one at
     /// least. `None` where no table is that large.
     ///
+    /// The count is the header's. Of bytes that were not checked it may be any number: check them, or bound the length,
+    /// before you allocate.
+    ///
     /// ```
     /// # use odht::{configs::U64ToU32, HashTable, HashTableOwned};
     /// # let mut table = HashTableOwned::<U64ToU32>::default();

@@ -11,9 +11,9 @@ use crate::bytes::ByteStore;
 use crate::config::{Coded, Config};
 
 impl<C: Config, D: ByteStore> HashTable<C, D> {
-    /// Whether the bytes are valid and no search in them, of a present or an absent key, reads more than `groups`
-    /// groups of control bytes. [`DEFAULT_GROUPS`](crate::memory_layout::DEFAULT_GROUPS) is a bound that tables of
-    /// hashes that vary keep.
+    /// Whether the bytes are valid and each home has, among the first `groups` groups of its probe order, a control
+    /// byte that counts as free. Then no search, of a present or an absent key, reads more.
+    /// [`DEFAULT_GROUPS`](crate::memory_layout::DEFAULT_GROUPS) is a bound that tables of hashes that vary keep.
     ///
     /// It is for bytes of strangers: whatever they are it costs no more than
     /// [`memory_layout::check_all_within`](crate::memory_layout::check_all_within), which returns the error.
@@ -25,9 +25,10 @@ impl<C: Config, D: ByteStore> HashTable<C, D> {
         self.allocation.check_rest_within(groups).is_ok()
     }
 
-    /// Whether no search, of a present or an absent key, reads more than `groups` groups of control bytes. It reads
-    /// control bytes alone: for `s` slots at most `s * groups` groups. An insert may lengthen searches, so what holds
-    /// before inserts need not hold after them.
+    /// Whether each home has, among the first `groups` groups of its probe order, a control byte that counts as free.
+    /// Then no search in valid bytes, of a present or an absent key, reads more. It reads control bytes alone: for `s`
+    /// slots at most `s * groups` groups. An insert may lengthen searches, so what holds before inserts need not hold
+    /// after them.
     pub fn searches_within(&self, groups: usize) -> bool
         ensures bytes { let F = ⟦<C as Coded>⟧.coding.format
             in IsTrue result ↔ (first_longer (controls_of F (D.bytes self.now)) groups ≡ None) }

@@ -28,7 +28,7 @@ impl<C: Config> HashTableOwned<C> {
     /// as at a growth.
     ///
     /// Where the room is lacking, `Capacity` exactly where no slot count is enough, or the length passes `usize`;
-    /// otherwise `Memory` when memory is exhausted. On an error nothing changes.
+    /// otherwise `Memory` where the allocator gives none. On an error nothing changes.
     ///
     /// Where it moves, one pass over the slots; each item is hashed once. No key is compared.
     pub fn reserve(&mut self, additional: usize) -> Result<(), Error>

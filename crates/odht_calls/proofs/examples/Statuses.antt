@@ -1,6 +1,6 @@
 -- Worked examples: the number of each status, as include/odht.h has it, and what calls require of their arguments.
 use Rattle.std.proofs.Common.{◌≡◌, ℕ, refl, arith, List, Some, None}
-use Rattle.odht_header.specs.declared.error.Error.TheVariants.{TooShort, WrongTag, WrongVersion, WrongSizeOf, SlotCountNotPowerOfTwo, SlotCountTooSmall, WrongLength, NonZeroEmpty, ControlMismatch, LoadFactorTooSmall, NonZeroPadding, BadFreeControl, MirrorMismatch, WrongItemCount, TooManyItems, Unreachable, InitLength, Full, Memory, Capacity}
+use Rattle.odht_header.specs.declared.error.Error.TheVariants.{TooShort, WrongTag, WrongVersion, WrongSizeOf, SlotCountNotPowerOfTwo, SlotCountTooSmall, WrongLength, NonZeroEmpty, ControlMismatch, LoadFactorTooSmall, NonZeroPadding, BadFreeControl, MirrorMismatch, WrongItemCount, TooManyItems, Unreachable, SearchTooLong, InitLength, Full, Memory, Capacity}
 use Rattle.odht_header.specs.declared.error.Part.{Part}
 use Rattle.odht_calls.specs.Statuses.{status_of, done, absent, replaced, bad_percent, bad_lengths, too_small, unmade, status_or_ok, AreAsLong}
 
@@ -29,6 +29,10 @@ pub check_statuses : (a b : ℕ) (bs : List ℕ)
     × (status_of (TooManyItems a b) ≡ 15)
     × (status_of (Unreachable a) ≡ 16)
 check_statuses a b bs = (refl, refl, refl, refl, refl, refl, refl)
+
+-- ODHT_SEARCH_TOO_LONG, which the whole check with a bound alone finds
+pub bound_statuses : (a b : ℕ) → status_of (SearchTooLong a b) ≡ 21
+bound_statuses a b = refl
 
 -- ODHT_INIT_LENGTH to ODHT_CAPACITY, which are about a call
 pub call_statuses : (a b : ℕ)

@@ -9,16 +9,19 @@ use Rattle.std.proofs.lemmas.List.FromFn.{length-range_with_len, get_or-range_wi
 use Rattle.std.proofs.lemmas.List.Quantifiers.{position-Some}
 use Rattle.odht_base.specs.Bounds.{group_of, ends_within, first_longer}
 use Rattle.odht_base.specs.Bytes.{bytes_at}
-use Rattle.odht_base.specs.Decoded.{counts_as_free}
+use Rattle.odht_base.specs.Decoded.{counts_as_free, entries_of, controls_of}
 use Rattle.odht_base.specs.Format.{Format, IsFormat, home}
 use Rattle.odht_base.specs.Groups.{first_free}
 use Rattle.odht_base.specs.Probe.{probe_slot}
 use Rattle.odht_base.specs.Search.{stops_at, reach, groups_read, search_order}
 use Rattle.odht_base.specs.Table.{Table, slot_count}
-use Rattle.odht_base.specs.Valid.{IsPartsOf}
+use Rattle.odht_base.specs.Image.{entries, controls}
+use Rattle.odht_base.specs.Valid.{IsImage, IsPartsOf}
 use Rattle.odht_base.proofs.lemmas.ByteRanges.{length-bytes_at}
 use Rattle.odht_base.proofs.lemmas.FirstMatch.{find-None, position_none}
-use Rattle.odht_base.proofs.lemmas.Parts.{counts_as_free-control_byte}
+use Rattle.odht_base.proofs.lemmas.Fits.{IsSized-IsPlaced}
+use Rattle.odht_base.proofs.lemmas.Image.{entries_of-image, controls_of-image}
+use Rattle.odht_base.proofs.lemmas.Parts.{counts_as_free-control_byte, length-controls}
 use Rattle.odht_base.proofs.lemmas.Orders.{length-order, get_or-order, probe_slot-lt}
 use Rattle.odht_header.proofs.lemmas.FirstErrors.{not-false}
 use Rattle.odht_raw.specs.Parts.{EntryBytes}
@@ -93,6 +96,16 @@ module _ (F : Format) (P : Table) (E : EntryBytes) (ctrl k : List ℕ) (f : IsFo
         absurd (true≢false (sym ends ∙ longer (passes more)))
     | inr few ↦ few
   ]
+
+-- nor in the table whose image the bytes B are
+pub image_bounded : (F : Format) (P : Table) (B k : List ℕ) (g : ℕ) → IsFormat F → IsImage F P B → first_longer (controls_of F B) g ≡ None → groups_read F P.cells k ≤ g
+image_bounded F P B k g f is none =
+    let sized = IsSized-IsPlaced F P is.valid.placed in
+    let entries_are : entries_of F B ≡ entries F P.cells = ap (entries_of F) is.bytes ∙ entries_of-image F P sized in
+    let controls_are : controls_of F B ≡ controls F P.cells = ap (controls_of F) is.bytes ∙ controls_of-image F P sized in
+    bounded F P (record { slots = slot_count P; bytes = entries_of F B }) (controls_of F B) k f
+    (record { placed = is.valid.placed; entries_are = entries_are; controls_are = controls_are })
+    (ap length controls_are ∙ length-controls F P.cells is.valid.placed.slots.least) g none
 
 -- what is not there is none
 pub is_none : (o : Option ℕ) → is_some o ≡ false → o ≡ None

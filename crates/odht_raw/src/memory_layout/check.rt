@@ -34,11 +34,13 @@ pub fn check_all<C: Config>(bytes: &[u8]) -> Result<(), Error>
 
 /// `check_all` with a bound of searches: after the maximum item count, and before any search for a key,
 /// `SearchTooLong` of the least home from which a search may read more than `groups` groups. Ok exactly for valid bytes
-/// of which no search, of a present or an absent key, reads more.
+/// in which each home has, among the first `groups` groups of its probe order, a control byte that counts as free. Then
+/// no search, of a present or an absent key, reads more. A table in which a home has none is rejected, also where the
+/// search for each of its keys ends within the bound.
 ///
 /// For bytes of strangers: whatever they are, for `s` slots it reads at most `2 * s * groups` groups and makes at most
 /// `16 * s * groups` comparisons of keys. It allocates nothing. With `groups` of `s / 16` or more it returns what
-/// `check_all` returns.
+/// `check_all` returns (no clause says it).
 pub fn check_all_within<C: Config>(bytes: &[u8], groups: usize) -> Result<(), Error>
     ensures first { let F = ⟦<C as Coded>⟧.coding.format
         in result ≡ checked (check_refusal_by F (Some groups) bytes.now) }
@@ -56,9 +58,9 @@ impl<C: Config, M: ByteStore> Allocation<C, M> {
     /// `TooManyItems`; and `Unreachable` of the first occupied slot at which a search slot by slot for its key does not
     /// end. Ok exactly for valid bytes.
     ///
-    /// Slots are read in their order, up to 64 together and of these the free ones first, once where no free one is
-    /// rejected; and for each occupied slot the control bytes of its key's probe order up to it, sixteen at a time. A
-    /// key is compared only with keys at earlier positions that have its tag.
+    /// Slots are read up to 64 at a time, the free ones of these first. Where a free one has an error, these are read
+    /// again, in order. For each occupied slot the control bytes of its key's probe order up to it are read, sixteen at
+    /// a time. A key is compared only with keys at earlier positions that have its tag.
     pub fn check_rest(&self) -> Result<(), Error>
         ensures first { result
             ≡ checked (late_refusal ⟦<C as Coded>⟧.coding.format (M.bytes self.now)) }
@@ -68,7 +70,8 @@ impl<C: Config, M: ByteStore> Allocation<C, M> {
         self.check_late(None)
     }
 
-    /// `check_rest` with a bound of searches, as in [`check_all_within`].
+    /// `check_rest` with a bound of searches, as in [`check_all_within`]. Ok exactly for valid bytes in which each home
+    /// has, among the first `groups` groups of its probe order, a control byte that counts as free.
     pub fn check_rest_within(&self, groups: usize) -> Result<(), Error>
         ensures first { let F = ⟦<C as Coded>⟧.coding.format
             in result ≡ checked (late_refusal_by F (Some groups) (M.bytes self.now)) }

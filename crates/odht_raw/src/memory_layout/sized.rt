@@ -44,7 +44,7 @@ pub fn check_opening<H: HashFn>(bytes: &[u8], layout: Layout) -> Result<(), Erro
 }
 
 /// The parts of bytes whose header and length fit. Of the bytes of a valid table they are its parts.
-#[inline]
+#[inline(always)]
 pub fn sized_parts<H: HashFn>(bytes: &[u8], layout: Layout) -> SizedTable<'_, H>
     requires accepted { IsAccepted (format_of layout.key_len layout.value_len H.hash) bytes.now }
     requires hashes { H.MIN_LEN ≤ layout.key_len }
@@ -62,7 +62,7 @@ pub fn sized_parts<H: HashFn>(bytes: &[u8], layout: Layout) -> SizedTable<'_, H>
 }
 
 // `sized_parts` of bytes that are as long as their header says.
-#[inline]
+#[inline(always)]
 fn cut<H: HashFn>(bytes: &[u8], layout: Layout) -> SizedTable<'_, H>
     requires slots { IsSlotCount (header_slots bytes.now) }
     requires long { let F = format_of layout.key_len layout.value_len H.hash

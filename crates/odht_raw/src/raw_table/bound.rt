@@ -23,8 +23,8 @@ impl<'a, K: ByteArray, V: ByteArray, H: HashFn> RawTable<'a, K, V, H> {
         longer_refusal(self.control, self.entries.len(), groups)
     }
 
-    /// Whether no search, of a present or an absent key, reads more than `groups` groups: each home has a group, among
-    /// the first `groups` of its probe order, with a byte that counts as free. It reads control bytes alone.
+    /// Whether each home has, among the first `groups` groups of its probe order, a control byte that counts as free.
+    /// Then no search in a placed table, of a present or an absent key, reads more. It reads control bytes alone.
     pub fn searches_within(&self, groups: usize) -> bool
         ensures bytes { IsTrue result ↔ (first_longer self.now.control groups ≡ None) }
         ensures bound { let F = format_of K.LEN V.LEN H.hash
@@ -77,8 +77,8 @@ pub(crate) fn longer_refusal(
 }
 
 /// The least home from which a search may read more than `groups` groups: none of the control bytes in these counts as
-/// free. None where no search reads more. At most `groups` reads of sixteen bytes a slot, and few where most groups
-/// have a free byte.
+/// free. None where there is no such home: then no search reads more. At most `groups` reads of sixteen bytes a slot,
+/// and few where most groups have a free byte.
 #[inline(never)]
 fn first_longer(control: &[EntryMetadata], slots: usize, groups: usize) -> Option<usize>
     requires slots { IsSlotCount slots }

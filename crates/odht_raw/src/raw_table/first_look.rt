@@ -45,7 +45,7 @@ impl<'a, K: ByteArray, V: ByteArray, H: HashFn> RawTable<'a, K, V, H> {
         }
     }
 
-    /// `find` of a key whose first look was taken.
+    /// What `find` returns for the key, from its first look in this very table.
     ///
     /// The matches of the look are compared in turn. Where none holds the key and the group has no free byte, the
     /// search goes on with the second group.

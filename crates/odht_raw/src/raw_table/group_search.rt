@@ -16,13 +16,15 @@ use crate::swisstable_group_query::{Group, GroupQuery, REFERENCE_GROUP_SIZE};
 
 /// Searches for the key group by group along its probe order, and stops at the first slot that is free or holds it.
 ///
-/// On the parts of a table whose keys are all reached the result is the slot where a search slot by slot ends, which is
-/// where a pair with the key is placed, and exactly the groups up to this slot are read. On any parts `Found` is a slot
-/// whose entry has an equal key, `Free` is a slot that counts as free, `Neither` is returned only where each slot
-/// counts as occupied, by its control byte or its mirror. No slot before it in the probe order has this key with its
-/// tag; and none before a `Free`, none in a group before that of a `Found`, and none at all on `Neither`, counts as
-/// free: each by its control byte or its mirror. No more groups are read than there are. All this holds for every group
-/// search. The rules are those of docs/FORMAT.md, "Search".
+/// On the parts of a placed table the result is the slot where a search slot by slot ends, which is where a pair with
+/// the key is placed, and exactly the groups up to this slot are read.
+///
+/// On any parts the key may be found behind a free byte of the same group. `Found(i)`: the entry of i has the key, and
+/// no slot of an earlier group counts as free. `Free(i)`: i counts as free, and none before it. `Neither`: none counts
+/// as free. In each case no earlier slot has this key with its tag. Earlier means earlier in the probe order; a slot
+/// counts as free, or has a tag, by its control byte or by its mirror. No more groups are read than there are.
+///
+/// All this holds for every group search. The rules are those of docs/FORMAT.md, "Search".
 #[inline(always)]
 pub fn search<K: ByteArray, V: ByteArray, H: HashFn, Q: Group>(
     scan: &mut Scan<'_>,
@@ -143,16 +145,12 @@ fn look_at_group<E: SlotKeys, H: HashFn, Q: Group>(
     requires start { start < (E.entries keys.now).slots }
     requires tag { IsTag (hashed_by H.hash (E.format keys.now)) (E.key_bytes key.now) tag }
     requires format { IsFormat (hashed_by H.hash (E.format keys.now)) }
-    ensures slot { let F = hashed_by H.hash (E.format keys.now)
-        in let k = E.key_bytes key.now
-        in IfSome result (IsEndAmong F (E.entries keys.now) bytes.now start 16 k) }
-    ensures none { let F = hashed_by H.hash (E.format keys.now)
-        in let k = E.key_bytes key.now
-        in IsNone result → GoesOnAmong F (E.entries keys.now) bytes.now start k 16 }
-    ensures on_placed { let F = hashed_by H.hash (E.format keys.now)
-        in let k = E.key_bytes key.now
-        in (P : Table) (p : ℕ)
-        → IsGroupAt F P (E.entries keys.now) k p start bytes.now
+    ensures slot { IfSome result (IsEndAmong (hashed_by H.hash (E.format keys.now))
+        (E.entries keys.now) bytes.now start 16 (E.key_bytes key.now)) }
+    ensures none { IsNone result → GoesOnAmong (hashed_by H.hash (E.format keys.now))
+        (E.entries keys.now) bytes.now start (E.key_bytes key.now) 16 }
+    ensures on_placed { let F = hashed_by H.hash (E.format keys.now) in let k = E.key_bytes key.now
+        in (P : Table) (p : ℕ) → IsGroupAt F P (E.entries keys.now) k p start bytes.now
         → IsLook F P k p 16 result }
 {
     // One piece is told apart here, not by a loop of one turn: so the compiler knows early that a match ends the search.
@@ -183,16 +181,12 @@ fn look_at_piece<E: SlotKeys, H: HashFn, Q: Group>(
     requires start { start + Q.SIZE ≤ (E.entries keys.now).slots + 16 }
     requires tag { IsTag (hashed_by H.hash (E.format keys.now)) (E.key_bytes key.now) tag }
     requires format { IsFormat (hashed_by H.hash (E.format keys.now)) }
-    ensures slot { let F = hashed_by H.hash (E.format keys.now)
-        in let k = E.key_bytes key.now
-        in IfSome result (IsEndAmong F (E.entries keys.now) bytes.now start Q.SIZE k) }
-    ensures none { let F = hashed_by H.hash (E.format keys.now)
-        in let k = E.key_bytes key.now
-        in IsNone result → GoesOnAmong F (E.entries keys.now) bytes.now start k Q.SIZE }
-    ensures on_placed { let F = hashed_by H.hash (E.format keys.now)
-        in let k = E.key_bytes key.now
-        in (P : Table) (p : ℕ)
-        → IsGroupAt F P (E.entries keys.now) k p start bytes.now
+    ensures slot { IfSome result (IsEndAmong (hashed_by H.hash (E.format keys.now))
+        (E.entries keys.now) bytes.now start Q.SIZE (E.key_bytes key.now)) }
+    ensures none { IsNone result → GoesOnAmong (hashed_by H.hash (E.format keys.now))
+        (E.entries keys.now) bytes.now start (E.key_bytes key.now) Q.SIZE }
+    ensures on_placed { let F = hashed_by H.hash (E.format keys.now) in let k = E.key_bytes key.now
+        in (P : Table) (p : ℕ) → IsGroupAt F P (E.entries keys.now) k p start bytes.now
         → IsLook F P k p Q.SIZE result }
 {
     let mask = keys.slots() - 1;

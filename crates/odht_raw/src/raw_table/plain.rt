@@ -1,5 +1,5 @@
 //! The search slot by slot along the probe order, and find and insert by it: the reference forms of the searches by
-//! groups.
+//! groups. They are the reference of the tests; no call of the library uses them.
 ghost use Rattle.std.specs.Prelude.{◌≡◌, ◌%◌, ◌<◌, length};
 ghost use Rattle.odht_base.specs.Load.{IsSlotCount};
 ghost use Rattle.odht_base.specs.Format.{format_of};
@@ -43,7 +43,8 @@ pub fn plain_find<K: ByteArray, V: ByteArray, H: HashFn>(
 }
 
 /// Overwrites the value stored with the key, or writes the pair into the first free slot of the key's probe order:
-/// entry, tag, and for a slot below 16 the mirror. Returns the former value.
+/// entry, tag, and for a slot below 16 the mirror. Returns the former value. There is no maximum here: the item count
+/// is not in the parts.
 ///
 /// On the parts of a table whose keys are all reached it leaves the parts of the table with the pair placed, and
 /// returns `Full`, with nothing changed, exactly where each slot is occupied and none has the key. On any parts either

@@ -17,6 +17,7 @@ use super::group_search::search_keys;
 use super::{
     EntryMetadata, Scan, Search, SizedIter, SizedSlots, SlotKeys, is_empty_or_deleted, tag_of,
 };
+use crate::bytes::is_same_word;
 use crate::error::Error;
 use crate::hash::HashFn;
 use crate::layout::Layout;
@@ -215,14 +216,17 @@ impl<'a, H: HashFn> SizedTable<'a, H> {
         ensures { let F = entry_format self.now.key_len self.now.value_len
             in IsTrue result ↔ (slot_key F self.now.parts.entries.bytes slot ≡ key.now) }
     {
-        self.key(slot) == key
+        if key.len() != self.layout.key_len as usize {
+            return false;
+        }
+        is_same_key(self.key(slot), key)
     }
 
     /// The value stored with the key, searched for group by group along the probe order (docs/FORMAT.md, "Search").
     ///
     /// On the parts of a table whose keys are all reached it is the map's result. On any parts it is a value that is
     /// stored with an equal key. `find_counted` says how many groups that takes.
-    #[inline]
+    #[inline(always)]
     pub fn find(&self, key: &[u8]) -> Option<&'a [u8]>
         requires { length key.now ≡ self.now.key_len }
         ensures { IsFind (sized_format self.now H.hash) (λ b. b) self.now.parts key.now
@@ -235,8 +239,26 @@ impl<'a, H: HashFn> SizedTable<'a, H> {
     /// `find`, and how many groups were read: on the parts of a table whose keys are all reached those up to the first
     /// slot that is free or holds the key, and on any parts at most all groups. How they are counted: docs/FORMAT.md,
     /// "Search".
-    #[inline]
+    #[inline(always)]
     pub fn find_counted(&self, key: &[u8]) -> (Option<&'a [u8]>, usize)
+        requires { length key.now ≡ self.now.key_len }
+        ensures { IsCountedFind (sized_format self.now H.hash) (λ b. b) self.now.parts key.now
+            (option_copied result.0, result.1) }
+    {
+        match key.len() {
+            4 => self.find_of(&key[..4]),
+            8 => self.find_of(&key[..8]),
+            16 => self.find_of(&key[..16]),
+            20 => self.find_of(&key[..20]),
+            32 => self.find_of(&key[..32]),
+            _ => self.find_of(key),
+        }
+    }
+
+    // `find_counted`. It is inlined where the compiler knows the length of the key, and so hashes and compares it with
+    // no loop.
+    #[inline(always)]
+    fn find_of(&self, key: &[u8]) -> (Option<&'a [u8]>, usize)
         requires { length key.now ≡ self.now.key_len }
         ensures { IsCountedFind (sized_format self.now H.hash) (λ b. b) self.now.parts key.now
             (option_copied result.0, result.1) }
@@ -305,4 +327,25 @@ fn is_all_zeros(bytes: &[u8]) -> bool
     ensures { result ≡ list_all (λ byte. byte == 0) bytes.now }
 {
     bytes.iter().all(|byte| *byte == 0)
+}
+
+// Whether two lists of the same length are equal. From 8 to 64 bytes are compared where they are, by words with no call;
+// the last word may overlap the one before it.
+#[inline(always)]
+fn is_same_key(left: &[u8], right: &[u8]) -> bool
+    requires { length left.now ≡ length right.now }
+    ensures { IsTrue result ↔ (left.now ≡ right.now) }
+{
+    let len = right.len();
+    if len < 8 || len > 64 {
+        return left == right;
+    }
+    let mut at = 0;
+    'words: while at + 8 < len {
+        if !is_same_word(left, right, at) {
+            return false;
+        }
+        at += 8;
+    }
+    is_same_word(left, right, len - 8)
 }

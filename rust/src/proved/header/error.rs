@@ -35,6 +35,7 @@ impl fmt::Display for Part {
 #[derive(Clone, Copy, PartialEq, Eq, Debug)]
 #[non_exhaustive]
 pub enum Error {
+    // variants: made of errors.txt by make exports
     /// There are fewer bytes than the 32 of a header.
     TooShort { found: usize },
     /// The first four bytes are not `ODHT`.
@@ -74,10 +75,11 @@ pub enum Error {
     InitLength { found: usize, expected: usize },
     /// No room for a new key: the view is at its maximum item count, or the search met no free slot.
     Full,
-    /// Out of memory: an allocation failed.
+    /// Out of memory: an allocation failed; or an owned table cannot grow, since no slot count or no length is enough.
     Memory,
     /// No slot count is large enough, or the length of the table in bytes passes `usize::MAX`.
     Capacity,
+    // variants: up to here
 }
 
 impl From<AllocError> for Error {
@@ -89,6 +91,7 @@ impl From<AllocError> for Error {
 impl fmt::Display for Error {
     fn fmt(&self, f: &mut fmt::Formatter<'_>) -> fmt::Result {
         match *self {
+            // fmt: made of errors.txt by make exports
             Error::TooShort { found } => {
                 write!(f, "Provided data has {found} bytes but the header needs 32")
             }
@@ -124,6 +127,7 @@ impl fmt::Display for Error {
                 f,
                 "Provided allocation has wrong size for slot count {slot_count}. The allocation's size is {found} but the expected size is {expected}."
             ),
+            // fmt: up to here
             _ => write_contents_error(self, f),
         }
     }
@@ -134,6 +138,7 @@ impl std::error::Error for Error {}
 // Writes any error but those of opening bytes by their header and length.
 fn write_contents_error(error: &Error, f: &mut fmt::Formatter<'_>) -> fmt::Result {
     match *error {
+        // write_contents_error: made of errors.txt by make exports
         Error::NonZeroEmpty { slot } => {
             write!(f, "Found empty entry with non-zero contents at {slot}")
         }
@@ -172,6 +177,7 @@ fn write_contents_error(error: &Error, f: &mut fmt::Formatter<'_>) -> fmt::Resul
             f,
             "Searches from slot {home} may read more than {groups} groups"
         ),
+        // write_contents_error: up to here
         _ => write_call_error(error, f),
     }
 }
@@ -179,12 +185,14 @@ fn write_contents_error(error: &Error, f: &mut fmt::Formatter<'_>) -> fmt::Resul
 // Writes an error of a new table or of an insert, or that memory is exhausted.
 fn write_call_error(error: &Error, f: &mut fmt::Formatter<'_>) -> fmt::Result {
     match *error {
+        // write_call_error: made of errors.txt by make exports
         Error::InitLength { found, expected } => {
             write!(f, "byte slice to initialize has wrong length ({found} instead of {expected})")
         }
         Error::Full => write!(f, "Table is full"),
         Error::Memory => write!(f, "Memory was refused"),
         Error::Capacity => write!(f, "Capacity is too large"),
+        // write_call_error: up to here
         _ => unreachable!(),
     }
 }

@@ -137,9 +137,9 @@ impl<H: HashFn, D: ByteStore> DynTable<H, D> {
         check_sized::<H>(self.store.bytes(), self.layout).is_ok()
     }
 
-    /// Whether the bytes are valid and no search in them, of a present or an absent key, reads more than `groups`
-    /// groups of control bytes. [`DEFAULT_GROUPS`](crate::proved::tables::memory_layout::DEFAULT_GROUPS) is a bound that tables of
-    /// hashes that vary keep.
+    /// Whether the bytes are valid and each home has, among the first `groups` groups of its probe order, a control
+    /// byte that counts as free. Then no search, of a present or an absent key, reads more.
+    /// [`DEFAULT_GROUPS`](crate::proved::tables::memory_layout::DEFAULT_GROUPS) is a bound that tables of hashes that vary keep.
     ///
     /// It is for bytes of strangers: whatever they are it costs no more than
     /// [`crate::proved::tables::memory_layout::check_all_within`]. [`crate::proved::tables::memory_layout::check_sized_within`] returns the error.
@@ -147,8 +147,9 @@ impl<H: HashFn, D: ByteStore> DynTable<H, D> {
         check_sized_within::<H>(self.store.bytes(), self.layout, groups).is_ok()
     }
 
-    /// Whether no search, of a present or an absent key, reads more than `groups` groups of control bytes. It reads
-    /// control bytes alone: for `s` slots at most `s * groups` groups.
+    /// Whether each home has, among the first `groups` groups of its probe order, a control byte that counts as free.
+    /// Then no search in valid bytes, of a present or an absent key, reads more. It reads control bytes alone: for `s`
+    /// slots at most `s * groups` groups.
     pub fn searches_within(&self, groups: usize) -> bool {
         self.as_sized().searches_within(groups)
     }

@@ -10,7 +10,8 @@ use crate::proved::tables::raw_table::{RawIter, RawTable};
 
 impl<C: Config, D: ByteStore> HashTable<C, D> {
     /// Whether this table and another have the same keys with the same values, as bytes, whatever their slot counts,
-    /// their load factors and the order of their inserts. This is said of valid bytes.
+    /// their load factors and the order of their inserts. Of bytes that are not valid nothing is said: it may be true
+    /// of any two.
     ///
     /// Where the item counts differ no key is looked up. Otherwise each key of this table is looked up in the other, up
     /// to the first that is absent there or has another value.

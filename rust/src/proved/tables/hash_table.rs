@@ -196,9 +196,9 @@ impl<C: Config, D: ByteStoreMut> HashTable<C, D> {
     /// "At the maximum", has the rules.
     ///
     /// On any bytes either one value that is stored with an equal key changes; or, where the header's count is below
-    /// its maximum, one entry and its tag are written to a slot that counted as free and the count rises by one. No
-    /// other byte changes. `Full` comes only where a search slot by slot can end without the key, and the header's
-    /// count is its maximum or more, or each slot counts as occupied.
+    /// its maximum, one entry, its tag and, below slot 16, the tag's mirror are written to a slot that counted as free,
+    /// and the count rises by one. No other byte changes. `Full` comes only where a search slot by slot can end without
+    /// the key, and the header's count is its maximum or more, or each slot counts as occupied.
     ///
     /// The key is hashed once. [`HashTable::get_counted`] says how many groups the search reads.
     #[inline(always)]

@@ -31,8 +31,8 @@ impl<C: Config> HashTableOwned<C> {
     /// An empty table that takes at least `max_item_count` items before it grows. The load factor is in percent of the
     /// slots; docs/FORMAT.md, "Load factors", has the rule.
     ///
-    /// `Capacity` exactly where no slot count is enough, or its length passes `usize`; `Memory` when memory is
-    /// exhausted.
+    /// `Capacity` exactly where no slot count is enough, or its length passes `usize`; `Memory` where the allocator
+    /// gives none.
     pub fn with_capacity(
         alloc: Global,
         max_item_count: usize,
@@ -46,7 +46,7 @@ impl<C: Config> HashTableOwned<C> {
     /// An empty table made for twelve items: sixteen slots at a load factor of 87 percent, whose maximum is thirteen
     /// items.
     ///
-    /// `Memory` when memory is exhausted.
+    /// `Memory` where the allocator gives none.
     pub fn default(alloc: Global) -> Result<Self, Error> {
         Self::with_capacity(alloc, 12, 87)
     }
@@ -54,8 +54,11 @@ impl<C: Config> HashTableOwned<C> {
     /// A table of the items, which are collected first: made for as many as there are, so it never grows. An item with
     /// the key of an earlier one overwrites its value. The load factor is in percent of the slots.
     ///
-    /// `Capacity` only where no slot count is enough for so many items, or its length passes `usize`; `Memory` when
-    /// memory is exhausted.
+    /// `items` has to end (`ends`), and its `next` may be called (`can`). The clauses speak of the list `xs` that it
+    /// gives until then (`EndsAfter`).
+    ///
+    /// `Capacity` only where no slot count is enough for so many items, or its length passes `usize`; `Memory` where
+    /// the allocator gives none.
     pub fn from_iterator<I: Iterator<Item = (C::Key, C::Value)>>(
         alloc: Global,
         items: I,
@@ -115,7 +118,7 @@ impl<C: Config> HashTableOwned<C> {
     /// A copy of the bytes, after all of them were checked. The error that [`memory_layout::check_all`] returns comes
     /// before memory is requested; valid bytes are never rejected. The check costs what that call does.
     ///
-    /// `Memory` when memory is exhausted.
+    /// `Memory` where the allocator gives none.
     pub fn from_raw_bytes(alloc: Global, raw_bytes: &[u8]) -> Result<Self, Error> {
         if let Err(refused) = memory_layout::check_all::<C>(raw_bytes) {
             return Err(refused);
@@ -126,7 +129,7 @@ impl<C: Config> HashTableOwned<C> {
     /// `from_raw_bytes` for bytes of strangers: also rejected, as by [`memory_layout::check_all_within`], are bytes in
     /// which a search may read more than `groups` groups of control bytes. The check costs what that call does.
     ///
-    /// `Memory` when memory is exhausted.
+    /// `Memory` where the allocator gives none.
     pub fn from_raw_bytes_within(
         alloc: Global,
         raw_bytes: &[u8],
@@ -140,7 +143,7 @@ impl<C: Config> HashTableOwned<C> {
 
     /// A copy of the bytes without a check: the caller knows that they are valid.
     ///
-    /// `Memory` when memory is exhausted.
+    /// `Memory` where the allocator gives none.
     pub fn from_raw_bytes_unchecked(alloc: Global, raw_bytes: &[u8]) -> Result<Self, Error> {
         let Ok(bytes) = crate::shim::to_vec(raw_bytes, alloc) else {
             return Err(Error::Memory);
@@ -151,7 +154,7 @@ impl<C: Config> HashTableOwned<C> {
 
     /// A table of the same bytes.
     ///
-    /// `Memory` when memory is exhausted.
+    /// `Memory` where the allocator gives none.
     pub fn clone(&self) -> Result<Self, Error> {
         Self::from_raw_bytes_unchecked(self.alloc, self.table.raw_bytes())
     }
@@ -160,8 +163,8 @@ impl<C: Config> HashTableOwned<C> {
     /// for an absent key; a present key is given its value in place, which takes no memory. docs/FORMAT.md, "Insert"
     /// and "Growth", has the rules.
     ///
-    /// `Memory` only at the maximum and for an absent key, when memory is exhausted, or no slot count or no length in
-    /// `usize` is enough for the grown table. Then nothing changes.
+    /// `Memory` only at the maximum and for an absent key, where the allocator gives none, or the grown table would
+    /// need more than 2^63 slots, or more bytes than a `usize` counts. Then nothing changes.
     ///
     /// The key is hashed once, and once more at a growth, which hashes and places each item again.
     #[inline(always)]

@@ -1,4 +1,6 @@
-//! The writes of an insert to the bytes of a table: an entry with its tag, a value alone, and the item count.
+//! Single writes to the bytes of a table, for callers who search themselves: an entry with its tag, a value alone, and
+//! the item count. No insert of the library calls them: it writes the parts (`fill_slot`) and the count
+//! (`write_count`).
 ghost use Rattle.std.specs.Prelude.{◌≡◌, ◌<◌};
 ghost use Rattle.odht_base.specs.Numbers.{IsBytes};
 ghost use Rattle.odht_base.specs.Table.{Pair};

@@ -59,8 +59,9 @@ pub fn check<C: Config>(bytes: &[u8]) -> u32 {
     }
 }
 
-/// OK where the bytes are valid and no search in them reads more than `groups` groups, else the number of the first
-/// error of the whole check with this bound.
+/// OK where the bytes are valid and each home has a control byte that counts as free among the first `groups` groups of
+/// its probe order, so that no search reads more; else the number of the first error of the whole check with this
+/// bound.
 #[inline]
 pub fn check_within<C: Config>(bytes: &[u8], groups: usize) -> u32 {
     match memory_layout::check_all_within::<C>(bytes, groups) {

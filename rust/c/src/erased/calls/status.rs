@@ -37,6 +37,7 @@ pub const UNMADE: u32 = 37;
 /// The status of an error.
 pub(crate) fn status_of(error: &Error) -> u32 {
     match error {
+        // status_of: made of errors.txt by make exports
         Error::TooShort { .. } => 1,
         Error::WrongTag { .. } => 2,
         Error::WrongVersion { .. } => 3,
@@ -58,5 +59,6 @@ pub(crate) fn status_of(error: &Error) -> u32 {
         Error::Memory => 19,
         Error::Capacity => 20,
         Error::SearchTooLong { .. } => 21,
+        // status_of: up to here
     }
 }

@@ -27,15 +27,20 @@ pub fn check_opening<H: HashFn>(bytes: &[u8], layout: Layout) -> Result<(), Erro
 }
 
 /// The parts of bytes whose header and length fit. Of the bytes of a valid table they are its parts.
-#[inline]
+#[inline(always)]
 pub fn sized_parts<H: HashFn>(bytes: &[u8], layout: Layout) -> SizedTable<'_, H> {
     cut::<H>(bytes, layout)
 }
 
 // `sized_parts` of bytes that are as long as their header says.
-#[inline]
+#[inline(always)]
 fn cut<H: HashFn>(bytes: &[u8], layout: Layout) -> SizedTable<'_, H> {
     let slots = Header::of(bytes).slot_count();
     let control_at = HEADER_SIZE + slots * layout.entry_len();
-    SizedTable::new(&bytes[control_at..], &bytes[HEADER_SIZE..control_at], slots, layout)
+    SizedTable::new(
+        &index!(bytes[control_at..]),
+        &index!(bytes[HEADER_SIZE..control_at]),
+        slots,
+        layout,
+    )
 }

@@ -20,7 +20,8 @@ pub fn check_sized<H: HashFn>(bytes: &[u8], layout: Layout) -> Result<(), Error>
 
 /// `check_sized` with a bound of searches, as in [`check_all_within`](super::check_all_within): after the maximum item
 /// count, and before any search for a key, `SearchTooLong` of the least home from which a search may read more than
-/// `groups` groups. Ok exactly for valid bytes of which no search, of a present or an absent key, reads more.
+/// `groups` groups. Ok exactly for valid bytes in which each home has, among the first `groups` groups of its probe
+/// order, a control byte that counts as free. Then no search, of a present or an absent key, reads more.
 ///
 /// For bytes of strangers: whatever they are, for `s` slots it reads at most `2 * s * groups` groups and makes at most
 /// `16 * s * groups` comparisons of keys. It allocates nothing.

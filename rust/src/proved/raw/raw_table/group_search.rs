@@ -8,13 +8,15 @@ use crate::proved::raw::swisstable_group_query::{Group, GroupQuery, REFERENCE_GR
 
 /// Searches for the key group by group along its probe order, and stops at the first slot that is free or holds it.
 ///
-/// On the parts of a table whose keys are all reached the result is the slot where a search slot by slot ends, which is
-/// where a pair with the key is placed, and exactly the groups up to this slot are read. On any parts `Found` is a slot
-/// whose entry has an equal key, `Free` is a slot that counts as free, `Neither` is returned only where each slot
-/// counts as occupied, by its control byte or its mirror. No slot before it in the probe order has this key with its
-/// tag; and none before a `Free`, none in a group before that of a `Found`, and none at all on `Neither`, counts as
-/// free: each by its control byte or its mirror. No more groups are read than there are. All this holds for every group
-/// search. The rules are those of docs/FORMAT.md, "Search".
+/// On the parts of a placed table the result is the slot where a search slot by slot ends, which is where a pair with
+/// the key is placed, and exactly the groups up to this slot are read.
+///
+/// On any parts the key may be found behind a free byte of the same group. `Found(i)`: the entry of i has the key, and
+/// no slot of an earlier group counts as free. `Free(i)`: i counts as free, and none before it. `Neither`: none counts
+/// as free. In each case no earlier slot has this key with its tag. Earlier means earlier in the probe order; a slot
+/// counts as free, or has a tag, by its control byte or by its mirror. No more groups are read than there are.
+///
+/// All this holds for every group search. The rules are those of docs/FORMAT.md, "Search".
 #[inline(always)]
 pub fn search<K: ByteArray, V: ByteArray, H: HashFn, Q: Group>(
     scan: &mut Scan<'_>,

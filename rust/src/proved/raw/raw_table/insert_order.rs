@@ -24,10 +24,10 @@ struct Frontier {
 }
 
 impl<'a, K: ByteArray, V: ByteArray, H: HashFn> RawTable<'a, K, V, H> {
-    /// Whether inserts can make the table. Where they can, `out` is an order of its occupied slots in which they do:
-    /// their pairs, inserted in this order into an empty table of as many slots, make exactly this table. Otherwise the
-    /// numbers in `out` have no meaning. The parts are those of a valid table, and `out` has as many items as the table
-    /// has pairs.
+    /// Whether some list of inserts, growths included, makes the table (`IsMade`). Where one does, `out` lists its
+    /// occupied slots so that their pairs, inserted in this order into an empty table of as many slots and the same
+    /// load factor, make exactly this table. Otherwise the numbers in `out` have no meaning. The parts are those of a
+    /// valid table, and `out` has as many items as the table has pairs.
     ///
     /// A pass goes through the waiting slots in slot order, and places each whose earlier slots in the probe order of
     /// its key are all placed. Passes are made until no slot waits, or a pass places none: at most one pass more than

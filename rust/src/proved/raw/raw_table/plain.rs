@@ -1,6 +1,6 @@
 // Made by `make rust` of crates/odht_raw/src/raw_table/plain.rt.
 //! The search slot by slot along the probe order, and find and insert by it: the reference forms of the searches by
-//! groups.
+//! groups. They are the reference of the tests; no call of the library uses them.
 
 use super::insert::insert_at;
 use super::{is_empty_or_deleted, tag_of, Entries, EntryMetadata, Search};
@@ -27,7 +27,8 @@ pub fn plain_find<K: ByteArray, V: ByteArray, H: HashFn>(
 }
 
 /// Overwrites the value stored with the key, or writes the pair into the first free slot of the key's probe order:
-/// entry, tag, and for a slot below 16 the mirror. Returns the former value.
+/// entry, tag, and for a slot below 16 the mirror. Returns the former value. There is no maximum here: the item count
+/// is not in the parts.
 ///
 /// On the parts of a table whose keys are all reached it leaves the parts of the table with the pair placed, and
 /// returns `Full`, with nothing changed, exactly where each slot is occupied and none has the key. On any parts either

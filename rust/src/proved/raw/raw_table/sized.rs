@@ -5,6 +5,7 @@ use super::group_search::search_keys;
 use super::{
     is_empty_or_deleted, tag_of, EntryMetadata, Scan, Search, SizedIter, SizedSlots, SlotKeys,
 };
+use crate::proved::raw::bytes::is_same_word;
 use crate::proved::raw::error::Error;
 use crate::proved::raw::hash::HashFn;
 use crate::proved::raw::layout::Layout;
@@ -92,7 +93,7 @@ impl<'a, H: HashFn> SizedTable<'a, H> {
     /// The control byte of a slot, or for an index from the slot count on of its mirror.
     #[inline(always)]
     pub fn control(&self, index: usize) -> EntryMetadata {
-        self.control[index]
+        index!(self.control[index])
     }
 
     /// The entry of a slot: key, then value.
@@ -101,34 +102,37 @@ impl<'a, H: HashFn> SizedTable<'a, H> {
         let entries = self.entries;
         let entry_len = self.layout.entry_len();
         let at = slot * entry_len;
-        &entries[at..at + entry_len]
+        &index!(entries[at..at + entry_len])
     }
 
     /// The key of a slot.
     #[inline(always)]
     pub fn key(&self, slot: usize) -> &'a [u8] {
         let entry = self.entry(slot);
-        &entry[..self.layout.key_len as usize]
+        &index!(entry[..self.layout.key_len as usize])
     }
 
     /// The value of a slot.
     #[inline(always)]
     pub fn value(&self, slot: usize) -> &'a [u8] {
         let entry = self.entry(slot);
-        &entry[self.layout.key_len as usize..]
+        &index!(entry[self.layout.key_len as usize..])
     }
 
     /// Whether the entry of a slot has this key.
     #[inline(always)]
     pub(super) fn has_key(&self, slot: usize, key: &[u8]) -> bool {
-        self.key(slot) == key
+        if key.len() != self.layout.key_len as usize {
+            return false;
+        }
+        is_same_key(self.key(slot), key)
     }
 
     /// The value stored with the key, searched for group by group along the probe order (docs/FORMAT.md, "Search").
     ///
     /// On the parts of a table whose keys are all reached it is the map's result. On any parts it is a value that is
     /// stored with an equal key. `find_counted` says how many groups that takes.
-    #[inline]
+    #[inline(always)]
     pub fn find(&self, key: &[u8]) -> Option<&'a [u8]> {
         let (value, _) = self.find_counted(key);
         value
@@ -137,8 +141,22 @@ impl<'a, H: HashFn> SizedTable<'a, H> {
     /// `find`, and how many groups were read: on the parts of a table whose keys are all reached those up to the first
     /// slot that is free or holds the key, and on any parts at most all groups. How they are counted: docs/FORMAT.md,
     /// "Search".
-    #[inline]
+    #[inline(always)]
     pub fn find_counted(&self, key: &[u8]) -> (Option<&'a [u8]>, usize) {
+        match key.len() {
+            4 => self.find_of(&index!(key[..4])),
+            8 => self.find_of(&index!(key[..8])),
+            16 => self.find_of(&index!(key[..16])),
+            20 => self.find_of(&index!(key[..20])),
+            32 => self.find_of(&index!(key[..32])),
+            _ => self.find_of(key),
+        }
+    }
+
+    // `find_counted`. It is inlined where the compiler knows the length of the key, and so hashes and compares it with
+    // no loop.
+    #[inline(always)]
+    fn find_of(&self, key: &[u8]) -> (Option<&'a [u8]>, usize) {
         let mut scan = Scan::new(self.controls(), self.len());
         let sought = SoughtBytes { bytes: &*key };
         let hash = H::hash(key);
@@ -187,4 +205,22 @@ impl<'a, H: HashFn> SizedTable<'a, H> {
 #[inline(always)]
 fn is_all_zeros(bytes: &[u8]) -> bool {
     bytes.iter().all(|byte| *byte == 0)
+}
+
+// Whether two lists of the same length are equal. From 8 to 64 bytes are compared where they are, by words with no call;
+// the last word may overlap the one before it.
+#[inline(always)]
+fn is_same_key(left: &[u8], right: &[u8]) -> bool {
+    let len = right.len();
+    if len < 8 || len > 64 {
+        return left == right;
+    }
+    let mut at = 0;
+    while at + 8 < len {
+        if !is_same_word(left, right, at) {
+            return false;
+        }
+        at += 8;
+    }
+    is_same_word(left, right, len - 8)
 }

@@ -56,9 +56,10 @@ pub unsafe extern "C" fn odht_b20_check(bytes: *const u8, bytes_len: usize) -> u
     read::check::<Shape>(bytes)
 }
 
-/// `check` with a bound of searches: 0 exactly where the bytes are valid and no search reads more than `groups` groups;
-/// else the first error of the whole check, or `SEARCH_TOO_LONG`, which comes before `UNREACHABLE`. At most `groups`
-/// reads of sixteen control bytes a slot for the bound, and as many for the searches.
+/// `check` with a bound of searches: 0 exactly where the bytes are valid and each home has a free slot in the first
+/// `groups` groups of its probe order, so that no search reads more; else the first error of the whole check, or
+/// `SEARCH_TOO_LONG`, which comes before `UNREACHABLE`. At most `groups` reads of sixteen control bytes a slot for the
+/// bound, and as many for the searches.
 #[unsafe(no_mangle)]
 pub unsafe extern "C" fn odht_b20_check_within(
     bytes: *const u8,

@@ -1,5 +1,7 @@
 // Made by `make rust` of crates/odht_raw/src/memory_layout/allocation/writing.rt.
-//! The writes of an insert to the bytes of a table: an entry with its tag, a value alone, and the item count.
+//! Single writes to the bytes of a table, for callers who search themselves: an entry with its tag, a value alone, and
+//! the item count. No insert of the library calls them: it writes the parts (`fill_slot`) and the count
+//! (`write_count`).
 
 use super::Allocation;
 use crate::proved::header::header::ITEM_COUNT_AT;
