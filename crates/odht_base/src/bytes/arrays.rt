@@ -79,14 +79,17 @@ impl<const LEN: usize> ByteArray for [u8; LEN] {
         as_bytes(self)
     }
 
-    // Arrays of one to four words are compared a word at a time, with no loop. Those of 20 and 28 bytes, and of lengths
-    // that are not multiples of four, are compared as the compiler does it, which takes fewer instructions there: up to 7
-    // bytes as arrays, which it keeps in registers; longer ones as lists of a known length, by loads that overlap.
+    // Arrays of one to four words, and of 9 and 10 bytes, are compared a word at a time, with no loop. Those of 20 and 28
+    // bytes, and of other lengths that are not multiples of four, are compared as the compiler does it, which takes fewer
+    // instructions there: up to 7 bytes as arrays, which it keeps in registers; longer ones as lists of a known length, by
+    // loads that overlap.
     #[inline]
     fn equals(&self, other: &Self) -> bool {
         let (left, right): (&[u8], &[u8]) = (self, other);
         match LEN {
             8 => is_same_word(left, right, 0),
+            9 => is_same_bytes(left, right),
+            10 => is_same_word(left, right, 0) && is_same_quarter(left, right, 8),
             16 => is_same_pair(left, right, 0),
             24 => is_same_pair(left, right, 0) && is_same_word(left, right, 16),
             32 => is_same_pair(left, right, 0) && is_same_pair(left, right, 16),
@@ -105,6 +108,18 @@ fn as_bytes(slice: &[u8]) -> &[u8]
     ensures each { All (λ x. x < 256) slice.now }
 {
     slice
+}
+
+// The number of the two bytes from `at` on, lowest byte first, at any alignment.
+#[inline]
+fn read_u16(bytes: &[u8], at: usize) -> u16
+    requires { at + 2 ≤ length bytes.now }
+    ensures { result ≡ num (bytes_at bytes.now at 2) }
+{
+    let Some(chunk) = bytes[at..at + 2].first_chunk::<2>() else {
+        unreachable!()
+    };
+    u16::from_le_bytes(*chunk)
 }
 
 /// The number of the four bytes from `at` on, lowest byte first, at any alignment.
@@ -192,6 +207,16 @@ fn is_same_list(left: &[u8], right: &[u8]) -> bool
     ensures { IsTrue result ↔ (left.now ≡ right.now) }
 {
     left == right
+}
+
+// Whether the two bytes from `at` on are equal.
+#[inline]
+fn is_same_quarter(left: &[u8], right: &[u8], at: usize) -> bool
+    requires left { at + 2 ≤ length left.now }
+    requires right { at + 2 ≤ length right.now }
+    ensures { IsTrue result ↔ (bytes_at left.now at 2 ≡ bytes_at right.now at 2) }
+{
+    read_u16(left, at) == read_u16(right, at)
 }
 
 // Whether the four bytes from `at` on are equal.

@@ -46,14 +46,17 @@ impl<const LEN: usize> ByteArray for [u8; LEN] {
         as_bytes(self)
     }
 
-    // Arrays of one to four words are compared a word at a time, with no loop. Those of 20 and 28 bytes, and of lengths
-    // that are not multiples of four, are compared as the compiler does it, which takes fewer instructions there: up to 7
-    // bytes as arrays, which it keeps in registers; longer ones as lists of a known length, by loads that overlap.
+    // Arrays of one to four words, and of 9 and 10 bytes, are compared a word at a time, with no loop. Those of 20 and 28
+    // bytes, and of other lengths that are not multiples of four, are compared as the compiler does it, which takes fewer
+    // instructions there: up to 7 bytes as arrays, which it keeps in registers; longer ones as lists of a known length, by
+    // loads that overlap.
     #[inline]
     fn equals(&self, other: &Self) -> bool {
         let (left, right): (&[u8], &[u8]) = (self, other);
         match LEN {
             8 => is_same_word(left, right, 0),
+            9 => is_same_bytes(left, right),
+            10 => is_same_word(left, right, 0) && is_same_quarter(left, right, 8),
             16 => is_same_pair(left, right, 0),
             24 => is_same_pair(left, right, 0) && is_same_word(left, right, 16),
             32 => is_same_pair(left, right, 0) && is_same_pair(left, right, 16),
@@ -69,6 +72,13 @@ impl<const LEN: usize> ByteArray for [u8; LEN] {
 #[inline]
 fn as_bytes(slice: &[u8]) -> &[u8] {
     slice
+}
+
+// The number of the two bytes from `at` on, lowest byte first, at any alignment.
+#[inline]
+fn read_u16(bytes: &[u8], at: usize) -> u16 {
+    let Some(chunk) = index!(bytes[at..at + 2]).first_chunk::<2>() else { unreachable!() };
+    u16::from_le_bytes(*chunk)
 }
 
 /// The number of the four bytes from `at` on, lowest byte first, at any alignment.
@@ -135,6 +145,12 @@ pub fn is_zeros(bytes: &[u8]) -> bool {
 #[inline(always)]
 fn is_same_list(left: &[u8], right: &[u8]) -> bool {
     left == right
+}
+
+// Whether the two bytes from `at` on are equal.
+#[inline]
+fn is_same_quarter(left: &[u8], right: &[u8], at: usize) -> bool {
+    read_u16(left, at) == read_u16(right, at)
 }
 
 // Whether the four bytes from `at` on are equal.
