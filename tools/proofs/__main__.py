@@ -3,7 +3,8 @@
 crates/*/src and the definitions in crates/*/specs.
 
   tools/proofs            makes it
-  tools/proofs --check    sees that it is current; status 1 where it is not
+  tools/proofs --check    sees that it is current, and that each public function of the library is in a group of
+                          calls; status 1 where not
 """
 import os
 import re
@@ -26,25 +27,28 @@ GROUPS = [
     ("Laws of plain tables and their bytes", ["odht_base/src/laws.rt"]),
     ("Configurations", ["odht_header/src/config.rt", "odht/src/configs"]),
     ("Errors", ["odht_header/src/error.rt"]),
-    ("Headers and lengths", ["odht_header/src/header", "odht_header/src/sizes.rt"]),
+    ("Headers and lengths", ["odht_header/src/header", "odht_header/src/sizes.rt", "odht_header/src/layout.rt"]),
     ("The bytes of a table", ["odht_raw/src/memory_layout", "odht_raw/src/items.rt"]),
     ("The parts of a table", ["odht_raw/src/raw_table"]),
     ("The view", ["odht/src/hash_table.rt", "odht/src/hash_table/"]),
     ("The table that grows", ["odht/src/hash_table_owned"]),
     ("Growth into other bytes, equality, walks", ["odht/src/growth.rt", "odht/src/equality.rt", "odht/src/iter.rt"]),
     ("Lookups of many keys", ["odht/src/lookups.rt"]),
+    ("Tables of any lengths", ["odht/src/dynamic.rt"]),
     ("Laws of whole tables", ["odht/src/laws.rt"]),
     ("Calls for C", ["odht_c/src/shapes/u64_u32.rt"]),
     ("The index", ["odht_index/src"]),
     ("The script program", ["odht_table/src"]),
     ("The program for table files", ["odht_tool_core/src", "odht_tool/src"]),
 ]
+# each public function of these crates is in a group
+LIBRARY = ["odht_base", "odht_header", "odht_raw", "odht"]
 # of these the calls whose clauses cite a definition, so what they write and return
 PROGRAMS = ("The script program", "The program for table files")
 # types and numbers that nearly each clause speaks of
 PLAIN = {"Table", "Pair", "Cells", "Values", "Format", "Coding", "slot_count", "TableParts", "Error", "EntryBytes"}
 # a clause that cites no definition is shown, where it is no longer than this
-SHOWN = 72
+SHOWN = 140
 
 
 class Proofs:
@@ -55,6 +59,7 @@ class Proofs:
         files = [it for crate in crates for it in source.files_below(f"crates/{crate}/specs", ".antt")]
         self.specs = {it.name: it for it in map(SpecFile, files)}
         self.reached = set()
+        self.hidden = set().union(*map(source.hidden_in, library_files()))
 
     def home_of(self, place):
         """Returns where a name is defined, since a file may hand on what another one has; None where nowhere."""
@@ -101,13 +106,15 @@ class Proofs:
     def has_answer(self, call):
         return any(self.homes_of(it.cites) for it in call.clauses if it.kind == "ensures")
 
+    def is_public(self, call):
+        return not self.hidden.intersection(source.WORD.findall(f"{call.owner} {call.name}"))
+
     def calls(self):
         """Returns the tables of the calls."""
         text = []
         for title, parts in GROUPS:
             calls = [it for file in files_of(parts) for it in source.calls_of(file)]
-            if title in PROGRAMS:
-                calls = list(filter(self.has_answer, calls))
+            calls = list(filter(self.has_answer if title in PROGRAMS else self.is_public, calls))
             places = ", ".join(f"`crates/{it.removesuffix('/')}`" for it in parts)
             rows = "\n".join(map(self.row, calls))
             head = "| call | its comment | its clauses |\n|---|---|---|"
@@ -175,6 +182,17 @@ def files_of(parts):
     return found
 
 
+def library_files():
+    return files_of([f"{crate}/src" for crate in LIBRARY])
+
+
+def in_no_group():
+    """Returns the public functions of the library that are in no group of calls, each with its file."""
+    grouped = {file for _, parts in GROUPS for file in files_of(parts)}
+    left = [(os.path.relpath(file, source.TOP), file) for file in library_files() if file not in grouped]
+    return [f"{name}: {it.name}" for name, file in left for it in source.calls_of(file)]
+
+
 def made():
     """Returns the document: the calls first, since they say which definitions are needed."""
     proofs = Proofs()
@@ -192,11 +210,12 @@ def main(*words):
         with open(MADE, "w", encoding="utf-8") as it:
             it.write(text)
         return 0
+    wrong = [f"in no group of tools/proofs: {it}" for it in in_no_group()]
     with open(MADE, encoding="utf-8") as it:
-        if it.read() == text:
-            return 0
-    print("not current: docs/PROOFS.md: run `make documents`")
-    return 1
+        if it.read() != text:
+            wrong.append("not current: docs/PROOFS.md: run `make documents`")
+    print(*wrong, sep="\n", end="\n" * bool(wrong))
+    return int(bool(wrong))
 
 
 if __name__ == "__main__":

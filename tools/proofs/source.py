@@ -4,6 +4,8 @@ import re
 
 TOP = os.path.dirname(os.path.dirname(os.path.dirname(os.path.realpath(__file__))))
 CALL = re.compile(r"^( *)(pub )?(?:const )?(?:final )?(?:unsafe )?(extern \"C\" )?fn (\w+)")
+# a type or a trait that other crates do not see
+HIDDEN = re.compile(r"^(?:pub\([\w ]+\) )?(?:struct|enum|trait) (\w+)")
 OWNER = re.compile(r"^(pub )?(impl|trait|struct|enum)\b")
 CLAUSE = re.compile(r"^(requires|ensures)\*? *(\w*) *\{(.*)", re.S)
 GHOST = re.compile(r"^    ghost (\w+)( =|:) (\{.*)")
@@ -75,14 +77,17 @@ def comment_above(lines, at):
 
 def head_from(lines, at, indent):
     """Returns the lines of a call from `at` on that come before its body; a call of a trait ends with a semicolon."""
-    head = []
+    head, is_open = [], 0
     for line in lines[at:]:
         if line in (f"{indent}{{", f"{indent}{{}}", f"{indent}}}"):
             break
         head.append(line)
+        # within braces a semicolon ends the field of a record
+        is_open += line.count("{") - line.count("}")
         is_clause = line.strip().startswith(("ensures", "requires"))
         is_outer = line.startswith(indent) and not line.startswith(f"{indent}    ")
-        if line.endswith(";") or is_outer and not is_clause and line.endswith((" {", " {}")):
+        is_end = line.endswith(";") and is_open == 0
+        if is_end or is_outer and not is_clause and line.endswith((" {", " {}")):
             break
     return head
 
@@ -178,6 +183,11 @@ def as_a_whole(lines, at, owner, names):
     given = [it for it in ghosts_of(lines, at, " =", names) if it.cites and "-" not in it.text] if trait else []
     words = "The ghost members of this trait for this type."
     return Call("", f"`{name}` as `{trait}`", words, given) if given else None
+
+
+def hidden_in(file):
+    """Returns the types and traits of a file that other crates do not see."""
+    return {it[1] for it in map(HIDDEN.match, lines_of(file)) if it}
 
 
 def told_apart(owner, file):
