@@ -40,18 +40,20 @@
  * - Nobody writes a table's bytes while a call reads them, and nobody reads
  *   them while a call writes them. The library keeps nothing between calls, so
  *   any number of threads may read one table.
- * - Every call answers a status, an enum odht_status, but odht_*_view_len and
- *   odht_version. Out-parameters are written only where the comment says so.
- *   Compilers warn where a status is ignored.
+ * - Every call but odht_*_view_len, odht_version and odht_status_name returns a
+ *   uint32_t, one of the numbers of enum odht_status; C++ needs a cast to that type.
+ *   Out-parameters are written only where the comment says so. Compilers warn where a
+ *   status is ignored.
  * - Where arrays of different lengths are given that should be equally long,
  *   the answer is ODHT_BAD_LENGTHS, and nothing else is checked.
  * - size_t has 64 bits. Arrays of numbers and out-parameters are aligned as C
  *   requires; a table's bytes alone may begin at any address.
- * - Where ODHT_TAKES_NULL is 1, that is with GCC and Clang, NULL may be passed for a
- *   slice of length 0, and for an out-parameter of a single number or value that the
- *   caller does not want (former, value, accepted, count, len, slot), which is then not
- *   written. A key and a view are never NULL. Where ODHT_TAKES_NULL is 0 no pointer is NULL,
- *   also where the length beside it is 0.
+ * - Where ODHT_TAKES_NULL is 1, that is with GCC and Clang for ELF, NULL may be passed
+ *   for a slice of length 0, and for an out-parameter of a single number or value that
+ *   the caller does not want (former, value, accepted, count, len, slot, and the three of
+ *   odht_*_sizes), which is then not written. A key, a view and cursor are never NULL.
+ *   Where it is 0 no pointer is NULL, also where the length beside it is 0, and sets have
+ *   no calls with keys.
  *
  * The comments on the answers hold for valid bytes: those that these calls have
  * made, and all others that odht_*_check accepts. It reads every byte. odht_*_open
@@ -67,8 +69,8 @@
  * load factor. docs/FORMAT.md has the details.
  *
  * odht_*_build_growing alone allocates memory, by malloc, and frees it before it
- * returns. libodht.a and libodht.so need the C library and nothing else. This header
- * needs C99 or later, or C++11 or later.
+ * returns. The libraries that the kit makes need the C library and nothing else; those
+ * that cargo makes need libgcc_s too. This header needs C99 or later, or C++11 or later.
  */
 #ifndef ODHT_H
 #define ODHT_H
@@ -108,7 +110,7 @@
 #endif
 
 /*
- * How the calls below are declared. With GCC and Clang each is a small inline
+ * How the calls below are declared. With GCC and Clang for ELF each is a small inline
  * function, which passes a variable of its own where a pointer may be NULL, and calls
  * the symbol of the library; both have the same name in C, so the function has
  * another one in the object file. Other compilers get the symbols themselves, and
@@ -144,7 +146,8 @@ enum odht_status {
     ODHT_TOO_SHORT = 1,                   /* Error::TooShort: fewer than 32 bytes */
     ODHT_WRONG_TAG = 2,                   /* Error::WrongTag: the first four bytes are not ODHT */
     ODHT_WRONG_VERSION = 3,               /* Error::WrongVersion: not version 2 of the format */
-    ODHT_WRONG_SIZE = 4,                  /* Error::WrongSizeOf: other lengths of keys, values or header */
+    ODHT_WRONG_SIZE = 4,                  /* Error::WrongSizeOf: other lengths of control bytes,
+                                             keys, values or header */
     ODHT_SLOT_COUNT_NOT_POWER_OF_TWO = 5, /* Error::SlotCountNotPowerOfTwo */
     ODHT_SLOT_COUNT_TOO_SMALL = 6,        /* Error::SlotCountTooSmall: fewer than 16 slots */
     ODHT_WRONG_LENGTH = 7,                /* Error::WrongLength: not as many bytes as the slots need */
@@ -271,6 +274,43 @@ typedef struct odht_view {
  * pointer to these; *value and *former are the number, or the N bytes. An out-parameter is written with the answers that
  * name it, and otherwise is unchanged.
  *
+ * The prototypes of odht_u64_u32_*, as ODHT_PLAIN leaves them:
+ *
+ *     uint32_t odht_u64_u32_bytes_needed(size_t max_item_count, uint8_t percent, size_t *len);
+ *     uint32_t odht_u64_u32_init(uint8_t *bytes, size_t bytes_len, size_t max_item_count, uint8_t percent);
+ *     uint32_t odht_u64_u32_open(const uint8_t *bytes, size_t bytes_len);
+ *     uint32_t odht_u64_u32_check(const uint8_t *bytes, size_t bytes_len);
+ *     uint32_t odht_u64_u32_check_within(const uint8_t *bytes, size_t bytes_len, size_t groups);
+ *     uint32_t odht_u64_u32_open_at(const uint8_t *bytes, size_t bytes_len, size_t *slot);
+ *     uint32_t odht_u64_u32_check_at(const uint8_t *bytes, size_t bytes_len, size_t *slot);
+ *     uint32_t odht_u64_u32_check_within_at(const uint8_t *bytes, size_t bytes_len, size_t groups, size_t *slot);
+ *     uint32_t odht_u64_u32_len(const uint8_t *bytes, size_t bytes_len, size_t *count);
+ *     uint32_t odht_u64_u32_sizes(const uint8_t *bytes, size_t bytes_len, size_t *slots, size_t *max_item_count,
+ *         uint8_t *percent);
+ *     uint32_t odht_u64_u32_table_len(const uint8_t *bytes, size_t bytes_len, size_t *len);
+ *     uint32_t odht_u64_u32_get(const uint8_t *bytes, size_t bytes_len, uint64_t key, uint32_t *value);
+ *     uint32_t odht_u64_u32_get_all(const uint8_t *bytes, size_t bytes_len, const uint64_t *keys, size_t keys_len,
+ *         uint32_t *values, size_t values_len, uint8_t *found, size_t found_len);
+ *     uint32_t odht_u64_u32_insert(uint8_t *bytes, size_t bytes_len, uint64_t key, uint32_t value, uint32_t *former);
+ *     uint32_t odht_u64_u32_insert_all(uint8_t *bytes, size_t bytes_len, const uint64_t *keys, size_t keys_len,
+ *         const uint32_t *values, size_t values_len, size_t *accepted);
+ *     uint32_t odht_u64_u32_walk(const uint8_t *bytes, size_t bytes_len, size_t *cursor, uint64_t *keys,
+ *         size_t keys_len, uint32_t *values, size_t values_len, size_t *count);
+ *     uint32_t odht_u64_u32_insert_order(const uint8_t *bytes, size_t bytes_len, size_t *slots, size_t slots_len);
+ *     uint32_t odht_u64_u32_grow(const uint8_t *bytes, size_t bytes_len, uint8_t *out, size_t out_len, size_t *len);
+ *     uint32_t odht_u64_u32_build(const uint64_t *keys, size_t keys_len, const uint32_t *values, size_t values_len,
+ *         uint8_t percent, uint8_t *out, size_t out_len, size_t *len);
+ *     uint32_t odht_u64_u32_build_growing(const uint64_t *keys, size_t keys_len, const uint32_t *values,
+ *         size_t values_len, uint8_t *out, size_t out_len, size_t *len);
+ *     uint32_t odht_u64_u32_open_view(const uint8_t *bytes, size_t bytes_len, odht_view *view);
+ *     uint32_t odht_u64_u32_view_get(const odht_view *view, uint64_t key, uint32_t *value);
+ *     uint32_t odht_u64_u32_view_get_all(const odht_view *view, const uint64_t *keys, size_t keys_len,
+ *         uint32_t *values, size_t values_len, uint8_t *found, size_t found_len);
+ *     size_t odht_u64_u32_view_len(const odht_view *view);
+ *
+ * Those of another kind have other types of keys and values. For a set, as odht_u64_*, the end of this comment says
+ * what differs.
+ *
  * odht_S_bytes_needed(max_item_count, percent, *len)
  *     How many bytes a table for max_item_count items has in which at most percent
  *     (1 to 100) of the slots may be occupied.
@@ -282,6 +322,7 @@ typedef struct odht_view {
  *     many as odht_S_bytes_needed answers for the same count and percentage.
  *     OK: the bytes are the empty table. BAD_PERCENT. CAPACITY. INIT_LENGTH: there
  *     are more or fewer bytes. With all but OK the bytes are unchanged.
+ *     One pass over the bytes.
  *
  * odht_S_open(bytes, bytes_len)
  *     Whether bytes can be used as a table: checks the header, the length and the
@@ -299,8 +340,8 @@ typedef struct odht_view {
  *     It goes over the slots, up to 64 at a time, and for each occupied slot reads the
  *     control bytes of its key's probe order up to it, sixteen at a time; a key is
  *     compared only where an earlier slot of that order has its tag. It allocates
- *     nothing. For a table of keys whose hashes vary this takes at most two and a half
- *     times as long as looking up each key once.
+ *     nothing. For a table of keys whose hashes vary this takes up to three times as
+ *     long as looking up each key once.
  *     Where many keys have one hash, by chance or since somebody has forged them, it
  *     takes far longer: up to one comparison for each pair of keys, so the time grows
  *     as the square of the number of slots. bench/README.md has times. For untrusted
@@ -310,7 +351,8 @@ typedef struct odht_view {
  *     odht_S_check for bytes of strangers, whose time nobody can make long: also whether
  *     in the probe order from each slot a free slot comes within so many groups of sixteen
  *     control bytes. Then no search, of a present or an absent key, reads more groups.
- *     ODHT_DEFAULT_GROUPS is a bound that tables of keys whose hashes vary keep.
+ *     ODHT_DEFAULT_GROUPS is a bound that tables of keys whose hashes vary keep. A bound
+ *     of 0 groups rejects every table.
  *     OK: they are valid, and searches end in time. An error, 1 to 16, as of odht_S_check,
  *     or SEARCH_TOO_LONG, which comes after 1 to 15 and before 16; it may come also where
  *     the search for each key of the table reads no more groups.
@@ -331,23 +373,24 @@ typedef struct odht_view {
  * odht_S_len(bytes, bytes_len, *count)
  *     OK: *count is the header's count of items. It may be untrue: before odht_S_check
  *     has accepted the bytes, allocate nothing by it. No table holds more items than
- *     bytes. An error, 1 to 7.
+ *     bytes. An error, 1 to 7. Constant time.
  *
  * odht_S_sizes(bytes, bytes_len, *slots, *max_item_count, *percent)
  *     OK: the header's slot count, how many items these slots take at the most, and the
  *     header's load factor in percent. It is rounded down, so it may be one below that
- *     which the table was made with. An error, 1 to 7.
+ *     which the table was made with. An error, 1 to 7. Constant time.
  *
  * odht_S_table_len(bytes, bytes_len, *len)
  *     How many bytes the table at the front of longer bytes has, by its header. So a
  *     table inside a file is found without a length of one's own: the other calls take
  *     exactly these bytes, and what follows them is not the table's. Slots are not read.
  *     OK: *len is its length in bytes, which is not above bytes_len. An error, 1 to 7;
- *     WRONG_LENGTH only where bytes_len is below the length of the table.
+ *     WRONG_LENGTH only where bytes_len is below the length of the table. Constant time.
  *
  * odht_S_get(bytes, bytes_len, key, *value)
  *     OK: the key is there, and *value is its value. ABSENT: it is not there.
- *     An error, 1 to 7.
+ *     An error, 1 to 7. It reads one group of sixteen control bytes for most keys where
+ *     hashes vary, and at worst slots / 16.
  *
  * odht_S_get_all(bytes, bytes_len, keys, keys_len, values, values_len, found, found_len)
  *     Looks keys_len keys up; the header and the length are checked once.
@@ -359,7 +402,7 @@ typedef struct odht_view {
  *     Inserts a key with its value, or gives a key that is there another value.
  *     OK: the key was new. REPLACED: the key was there, and *former is its former
  *     value. FULL: the key is new, and the table is at its maximum. An error, 1 to 7.
- *     With FULL and the errors nothing changes.
+ *     With FULL and the errors nothing changes. It reads as many groups as odht_S_get.
  *
  * odht_S_insert_all(bytes, bytes_len, keys, keys_len, values, values_len, *accepted)
  *     Inserts keys[i] with values[i], for each i from 0 on, as odht_S_insert does,
@@ -380,13 +423,15 @@ typedef struct odht_view {
  *             use the first count pairs
  *         } while (status == ODHT_TOO_SMALL);
  *
- *     OK: these *count pairs are the last ones. TOO_SMALL: the arrays are full, and
- *     there are more. With both the rest of the arrays is unchanged. BAD_LENGTHS:
+ *     OK: these *count pairs are the last ones, and *cursor is the slot count. A *cursor
+ *     at or above it gives OK and no pairs, and is set to it. TOO_SMALL: the arrays are
+ *     full, and there are more. With both the rest of the arrays is unchanged. BAD_LENGTHS:
  *     keys_len is not values_len. An error, 1 to 7. With the last two the arrays,
  *     *cursor and *count are unchanged.
  *     A walk writes the pairs of the occupied slots, whatever the header's count: on any
  *     bytes without the errors 1 to 7 at most one pair for each slot, and bytes_len is
- *     more than the number of slots times the length of a pair.
+ *     more than the number of slots times the length of a pair. It reads the control bytes
+ *     from the old *cursor to the new one, and the entries of the pairs.
  *
  * odht_S_insert_order(bytes, bytes_len, slots, slots_len)
  *     Whether inserts can make the table, and in which order. Its pairs, inserted in
@@ -409,7 +454,9 @@ typedef struct odht_view {
  *     Writes the table that this one grows into to out: with slots for twice as many
  *     items, and for one at least, and the same load factor. A caller whose insert was
  *     answered FULL continues so: it grows the table into larger memory and inserts
- *     there. The bytes are those that a table has which grows by itself.
+ *     there. At the maximum the bytes are those that a table has which grows by itself. It
+ *     does not look at the maximum: where the table is not full, *len may be no more than
+ *     bytes_len.
  *     OK: the first *len bytes of out are the grown table, and the rest of out is
  *     unchanged. TOO_SMALL: out_len is below *len, the length in bytes of the grown
  *     table, and out is unchanged; so a call with out_len 0 reports how much memory is
@@ -421,7 +468,8 @@ typedef struct odht_view {
  *
  * odht_S_build(keys, keys_len, values, values_len, percent, out, out_len, *len)
  *     Makes a table for as many items as there are pairs in out, and inserts the pairs
- *     one after the other. Of equal keys the last value counts. It allocates nothing.
+ *     one after the other. Of equal keys the last value counts. It allocates nothing, and
+ *     hashes and inserts each pair once.
  *     OK: the table is the first *len bytes of out. TOO_SMALL: out_len is below
  *     *len, the length in bytes that the table has. CAPACITY. BAD_PERCENT.
  *     BAD_LENGTHS: keys_len is not values_len. out is written with OK alone.
@@ -446,7 +494,18 @@ typedef struct odht_view {
  *     errors 1 to 7. The last returns the number itself.
  *
  * Sets have no values. In place of get and get_all they have contains and
- * contains_all, also in a view, and their other calls have no parameters for values.
+ * contains_all, also in a view, and their other calls have no parameters for values. The
+ * calls with keys of the set odht_u64_*, with uint64_t key and const uint64_t *keys:
+ *
+ *     odht_u64_contains(bytes, bytes_len, key)
+ *     odht_u64_contains_all(bytes, bytes_len, keys, keys_len, found, found_len)
+ *     odht_u64_insert(bytes, bytes_len, key)
+ *     odht_u64_insert_all(bytes, bytes_len, keys, keys_len, *accepted)
+ *     odht_u64_walk(bytes, bytes_len, *cursor, keys, keys_len, *count)
+ *     odht_u64_build(keys, keys_len, percent, out, out_len, *len)
+ *     odht_u64_build_growing(keys, keys_len, out, out_len, *len)
+ *     odht_u64_view_contains(view, key)
+ *     odht_u64_view_contains_all(view, keys, keys_len, found, found_len)
  */
 
 #if ODHT_TAKES_NULL

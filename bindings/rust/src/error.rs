@@ -61,7 +61,7 @@ errors! {
     WrongTag = 2 "wrong tag",
     /// The bytes are not of version 2 of the format.
     WrongVersion = 3 "wrong version",
-    /// Keys, values or the header have other lengths: it is a table of another shape.
+    /// Control bytes, keys, values or the header have other lengths: it is a table of another shape.
     WrongSize = 4 "wrong size",
     /// The slot count is not a power of two.
     SlotCountNotPowerOfTwo = 5 "slot count not a power of two",

@@ -4,6 +4,43 @@
  * pointer to these; *value and *former are the number, or the N bytes. An out-parameter is written with the answers that
  * name it, and otherwise is unchanged.
  *
+ * The prototypes of odht_u64_u32_*, as ODHT_PLAIN leaves them:
+ *
+ *     uint32_t odht_u64_u32_bytes_needed(size_t max_item_count, uint8_t percent, size_t *len);
+ *     uint32_t odht_u64_u32_init(uint8_t *bytes, size_t bytes_len, size_t max_item_count, uint8_t percent);
+ *     uint32_t odht_u64_u32_open(const uint8_t *bytes, size_t bytes_len);
+ *     uint32_t odht_u64_u32_check(const uint8_t *bytes, size_t bytes_len);
+ *     uint32_t odht_u64_u32_check_within(const uint8_t *bytes, size_t bytes_len, size_t groups);
+ *     uint32_t odht_u64_u32_open_at(const uint8_t *bytes, size_t bytes_len, size_t *slot);
+ *     uint32_t odht_u64_u32_check_at(const uint8_t *bytes, size_t bytes_len, size_t *slot);
+ *     uint32_t odht_u64_u32_check_within_at(const uint8_t *bytes, size_t bytes_len, size_t groups, size_t *slot);
+ *     uint32_t odht_u64_u32_len(const uint8_t *bytes, size_t bytes_len, size_t *count);
+ *     uint32_t odht_u64_u32_sizes(const uint8_t *bytes, size_t bytes_len, size_t *slots, size_t *max_item_count,
+ *         uint8_t *percent);
+ *     uint32_t odht_u64_u32_table_len(const uint8_t *bytes, size_t bytes_len, size_t *len);
+ *     uint32_t odht_u64_u32_get(const uint8_t *bytes, size_t bytes_len, uint64_t key, uint32_t *value);
+ *     uint32_t odht_u64_u32_get_all(const uint8_t *bytes, size_t bytes_len, const uint64_t *keys, size_t keys_len,
+ *         uint32_t *values, size_t values_len, uint8_t *found, size_t found_len);
+ *     uint32_t odht_u64_u32_insert(uint8_t *bytes, size_t bytes_len, uint64_t key, uint32_t value, uint32_t *former);
+ *     uint32_t odht_u64_u32_insert_all(uint8_t *bytes, size_t bytes_len, const uint64_t *keys, size_t keys_len,
+ *         const uint32_t *values, size_t values_len, size_t *accepted);
+ *     uint32_t odht_u64_u32_walk(const uint8_t *bytes, size_t bytes_len, size_t *cursor, uint64_t *keys,
+ *         size_t keys_len, uint32_t *values, size_t values_len, size_t *count);
+ *     uint32_t odht_u64_u32_insert_order(const uint8_t *bytes, size_t bytes_len, size_t *slots, size_t slots_len);
+ *     uint32_t odht_u64_u32_grow(const uint8_t *bytes, size_t bytes_len, uint8_t *out, size_t out_len, size_t *len);
+ *     uint32_t odht_u64_u32_build(const uint64_t *keys, size_t keys_len, const uint32_t *values, size_t values_len,
+ *         uint8_t percent, uint8_t *out, size_t out_len, size_t *len);
+ *     uint32_t odht_u64_u32_build_growing(const uint64_t *keys, size_t keys_len, const uint32_t *values,
+ *         size_t values_len, uint8_t *out, size_t out_len, size_t *len);
+ *     uint32_t odht_u64_u32_open_view(const uint8_t *bytes, size_t bytes_len, odht_view *view);
+ *     uint32_t odht_u64_u32_view_get(const odht_view *view, uint64_t key, uint32_t *value);
+ *     uint32_t odht_u64_u32_view_get_all(const odht_view *view, const uint64_t *keys, size_t keys_len,
+ *         uint32_t *values, size_t values_len, uint8_t *found, size_t found_len);
+ *     size_t odht_u64_u32_view_len(const odht_view *view);
+ *
+ * Those of another kind have other types of keys and values. For a set, as odht_u64_*, the end of this comment says
+ * what differs.
+ *
  * odht_S_bytes_needed(max_item_count, percent, *len)
  *     How many bytes a table for max_item_count items has in which at most percent
  *     (1 to 100) of the slots may be occupied.
@@ -15,6 +52,7 @@
  *     many as odht_S_bytes_needed answers for the same count and percentage.
  *     OK: the bytes are the empty table. BAD_PERCENT. CAPACITY. INIT_LENGTH: there
  *     are more or fewer bytes. With all but OK the bytes are unchanged.
+ *     One pass over the bytes.
  *
  * odht_S_open(bytes, bytes_len)
  *     Whether bytes can be used as a table: checks the header, the length and the
@@ -32,8 +70,8 @@
  *     It goes over the slots, up to 64 at a time, and for each occupied slot reads the
  *     control bytes of its key's probe order up to it, sixteen at a time; a key is
  *     compared only where an earlier slot of that order has its tag. It allocates
- *     nothing. For a table of keys whose hashes vary this takes at most two and a half
- *     times as long as looking up each key once.
+ *     nothing. For a table of keys whose hashes vary this takes up to three times as
+ *     long as looking up each key once.
  *     Where many keys have one hash, by chance or since somebody has forged them, it
  *     takes far longer: up to one comparison for each pair of keys, so the time grows
  *     as the square of the number of slots. bench/README.md has times. For untrusted
@@ -43,7 +81,8 @@
  *     odht_S_check for bytes of strangers, whose time nobody can make long: also whether
  *     in the probe order from each slot a free slot comes within so many groups of sixteen
  *     control bytes. Then no search, of a present or an absent key, reads more groups.
- *     ODHT_DEFAULT_GROUPS is a bound that tables of keys whose hashes vary keep.
+ *     ODHT_DEFAULT_GROUPS is a bound that tables of keys whose hashes vary keep. A bound
+ *     of 0 groups rejects every table.
  *     OK: they are valid, and searches end in time. An error, @CHECK@, as of odht_S_check,
  *     or SEARCH_TOO_LONG, which comes after @BEFORE_BOUND@ and before @BEHIND_BOUND@; it may come also where
  *     the search for each key of the table reads no more groups.
@@ -64,23 +103,24 @@
  * odht_S_len(bytes, bytes_len, *count)
  *     OK: *count is the header's count of items. It may be untrue: before odht_S_check
  *     has accepted the bytes, allocate nothing by it. No table holds more items than
- *     bytes. An error, @HEADER@.
+ *     bytes. An error, @HEADER@. Constant time.
  *
  * odht_S_sizes(bytes, bytes_len, *slots, *max_item_count, *percent)
  *     OK: the header's slot count, how many items these slots take at the most, and the
  *     header's load factor in percent. It is rounded down, so it may be one below that
- *     which the table was made with. An error, @HEADER@.
+ *     which the table was made with. An error, @HEADER@. Constant time.
  *
  * odht_S_table_len(bytes, bytes_len, *len)
  *     How many bytes the table at the front of longer bytes has, by its header. So a
  *     table inside a file is found without a length of one's own: the other calls take
  *     exactly these bytes, and what follows them is not the table's. Slots are not read.
  *     OK: *len is its length in bytes, which is not above bytes_len. An error, @HEADER@;
- *     WRONG_LENGTH only where bytes_len is below the length of the table.
+ *     WRONG_LENGTH only where bytes_len is below the length of the table. Constant time.
  *
  * odht_S_get(bytes, bytes_len, key, *value)
  *     OK: the key is there, and *value is its value. ABSENT: it is not there.
- *     An error, @HEADER@.
+ *     An error, @HEADER@. It reads one group of sixteen control bytes for most keys where
+ *     hashes vary, and at worst slots / 16.
  *
  * odht_S_get_all(bytes, bytes_len, keys, keys_len, values, values_len, found, found_len)
  *     Looks keys_len keys up; the header and the length are checked once.
@@ -92,7 +132,7 @@
  *     Inserts a key with its value, or gives a key that is there another value.
  *     OK: the key was new. REPLACED: the key was there, and *former is its former
  *     value. FULL: the key is new, and the table is at its maximum. An error, @HEADER@.
- *     With FULL and the errors nothing changes.
+ *     With FULL and the errors nothing changes. It reads as many groups as odht_S_get.
  *
  * odht_S_insert_all(bytes, bytes_len, keys, keys_len, values, values_len, *accepted)
  *     Inserts keys[i] with values[i], for each i from 0 on, as odht_S_insert does,
@@ -113,13 +153,15 @@
  *             use the first count pairs
  *         } while (status == ODHT_TOO_SMALL);
  *
- *     OK: these *count pairs are the last ones. TOO_SMALL: the arrays are full, and
- *     there are more. With both the rest of the arrays is unchanged. BAD_LENGTHS:
+ *     OK: these *count pairs are the last ones, and *cursor is the slot count. A *cursor
+ *     at or above it gives OK and no pairs, and is set to it. TOO_SMALL: the arrays are
+ *     full, and there are more. With both the rest of the arrays is unchanged. BAD_LENGTHS:
  *     keys_len is not values_len. An error, @HEADER@. With the last two the arrays,
  *     *cursor and *count are unchanged.
  *     A walk writes the pairs of the occupied slots, whatever the header's count: on any
  *     bytes without the errors @HEADER@ at most one pair for each slot, and bytes_len is
- *     more than the number of slots times the length of a pair.
+ *     more than the number of slots times the length of a pair. It reads the control bytes
+ *     from the old *cursor to the new one, and the entries of the pairs.
  *
  * odht_S_insert_order(bytes, bytes_len, slots, slots_len)
  *     Whether inserts can make the table, and in which order. Its pairs, inserted in
@@ -142,7 +184,9 @@
  *     Writes the table that this one grows into to out: with slots for twice as many
  *     items, and for one at least, and the same load factor. A caller whose insert was
  *     answered FULL continues so: it grows the table into larger memory and inserts
- *     there. The bytes are those that a table has which grows by itself.
+ *     there. At the maximum the bytes are those that a table has which grows by itself. It
+ *     does not look at the maximum: where the table is not full, *len may be no more than
+ *     bytes_len.
  *     OK: the first *len bytes of out are the grown table, and the rest of out is
  *     unchanged. TOO_SMALL: out_len is below *len, the length in bytes of the grown
  *     table, and out is unchanged; so a call with out_len 0 reports how much memory is
@@ -154,7 +198,8 @@
  *
  * odht_S_build(keys, keys_len, values, values_len, percent, out, out_len, *len)
  *     Makes a table for as many items as there are pairs in out, and inserts the pairs
- *     one after the other. Of equal keys the last value counts. It allocates nothing.
+ *     one after the other. Of equal keys the last value counts. It allocates nothing, and
+ *     hashes and inserts each pair once.
  *     OK: the table is the first *len bytes of out. TOO_SMALL: out_len is below
  *     *len, the length in bytes that the table has. CAPACITY. BAD_PERCENT.
  *     BAD_LENGTHS: keys_len is not values_len. out is written with OK alone.
@@ -179,7 +224,18 @@
  *     errors @HEADER@. The last returns the number itself.
  *
  * Sets have no values. In place of get and get_all they have contains and
- * contains_all, also in a view, and their other calls have no parameters for values.
+ * contains_all, also in a view, and their other calls have no parameters for values. The
+ * calls with keys of the set odht_u64_*, with uint64_t key and const uint64_t *keys:
+ *
+ *     odht_u64_contains(bytes, bytes_len, key)
+ *     odht_u64_contains_all(bytes, bytes_len, keys, keys_len, found, found_len)
+ *     odht_u64_insert(bytes, bytes_len, key)
+ *     odht_u64_insert_all(bytes, bytes_len, keys, keys_len, *accepted)
+ *     odht_u64_walk(bytes, bytes_len, *cursor, keys, keys_len, *count)
+ *     odht_u64_build(keys, keys_len, percent, out, out_len, *len)
+ *     odht_u64_build_growing(keys, keys_len, out, out_len, *len)
+ *     odht_u64_view_contains(view, key)
+ *     odht_u64_view_contains_all(view, keys, keys_len, found, found_len)
  */
 
 #if ODHT_TAKES_NULL

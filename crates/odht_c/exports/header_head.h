@@ -25,18 +25,20 @@
  * - Nobody writes a table's bytes while a call reads them, and nobody reads
  *   them while a call writes them. The library keeps nothing between calls, so
  *   any number of threads may read one table.
- * - Every call answers a status, an enum odht_status, but odht_*_view_len and
- *   odht_version. Out-parameters are written only where the comment says so.
- *   Compilers warn where a status is ignored.
+ * - Every call but odht_*_view_len, odht_version and odht_status_name returns a
+ *   uint32_t, one of the numbers of enum odht_status; C++ needs a cast to that type.
+ *   Out-parameters are written only where the comment says so. Compilers warn where a
+ *   status is ignored.
  * - Where arrays of different lengths are given that should be equally long,
  *   the answer is ODHT_BAD_LENGTHS, and nothing else is checked.
  * - size_t has 64 bits. Arrays of numbers and out-parameters are aligned as C
  *   requires; a table's bytes alone may begin at any address.
- * - Where ODHT_TAKES_NULL is 1, that is with GCC and Clang, NULL may be passed for a
- *   slice of length 0, and for an out-parameter of a single number or value that the
- *   caller does not want (former, value, accepted, count, len, slot), which is then not
- *   written. A key and a view are never NULL. Where ODHT_TAKES_NULL is 0 no pointer is NULL,
- *   also where the length beside it is 0.
+ * - Where ODHT_TAKES_NULL is 1, that is with GCC and Clang for ELF, NULL may be passed
+ *   for a slice of length 0, and for an out-parameter of a single number or value that
+ *   the caller does not want (former, value, accepted, count, len, slot, and the three of
+ *   odht_*_sizes), which is then not written. A key, a view and cursor are never NULL.
+ *   Where it is 0 no pointer is NULL, also where the length beside it is 0, and sets have
+ *   no calls with keys.
  *
  * The comments on the answers hold for valid bytes: those that these calls have
  * made, and all others that odht_*_check accepts. It reads every byte. odht_*_open
@@ -52,8 +54,8 @@
  * load factor. docs/FORMAT.md has the details.
  *
  * odht_*_build_growing alone allocates memory, by malloc, and frees it before it
- * returns. libodht.a and libodht.so need the C library and nothing else. This header
- * needs C99 or later, or C++11 or later.
+ * returns. The libraries that the kit makes need the C library and nothing else; those
+ * that cargo makes need libgcc_s too. This header needs C99 or later, or C++11 or later.
  */
 #ifndef ODHT_H
 #define ODHT_H
@@ -93,7 +95,7 @@
 #endif
 
 /*
- * How the calls below are declared. With GCC and Clang each is a small inline
+ * How the calls below are declared. With GCC and Clang for ELF each is a small inline
  * function, which passes a variable of its own where a pointer may be NULL, and calls
  * the symbol of the library; both have the same name in C, so the function has
  * another one in the object file. Other compilers get the symbols themselves, and
