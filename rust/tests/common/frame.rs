@@ -221,8 +221,12 @@ fn is_framed_insert<const V: usize>(
 ) -> bool {
     let reading = Reading::new(format, before);
     let slots = reading.slots();
+    // Of a slot whose control byte and mirror differ both are so: a search may read either.
     let is_open = |slot: usize| {
         reading.control(slot) >= 128 || slot < 16 && reading.control(slots + slot) >= 128
+    };
+    let is_taken = |slot: usize| {
+        reading.control(slot) < 128 || slot < 16 && reading.control(slots + slot) < 128
     };
     match result {
         Ok(Some(former)) => (0..slots).any(|slot| {
@@ -238,7 +242,7 @@ fn is_framed_insert<const V: usize>(
                 && places.any(|slot| after == with_pair(&reading, slot, key, value))
         }
         Err(error) => {
-            let is_refused = reading.count() >= reading.maximum() || !(0..slots).any(is_open);
+            let is_refused = reading.count() >= reading.maximum() || (0..slots).all(is_taken);
             error == Error::Full && before == after && is_refused
         }
     }
