@@ -40,8 +40,10 @@ fn a_ready_shape(rt: HostRuntime) {
     };
     same(&rt, "lengths", view.layout(), layout);
     same(&rt, "items", view.len(), 3);
-    same(&rt, "valid", (view.verify(), view.verify_within(1)), (true, true));
-    same(&rt, "within", (view.searches_within(1), view.searches_within(0)), (true, false));
+    same(&rt, "valid", view.verify(), true);
+    same(&rt, "valid within a group", view.verify_within(1), true);
+    same(&rt, "within a group", view.searches_within(1), true);
+    same(&rt, "within none", view.searches_within(0), false);
     for key in 0..8 {
         same_value(&rt, &table, &view, key);
     }
