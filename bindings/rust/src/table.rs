@@ -100,8 +100,8 @@ impl<'a, S: Shape> Table<'a, S> {
 
     /// [`Table::checked`] for bytes of strangers, whose time nobody can make long: also checks that in the probe order
     /// from each slot a free one comes within `groups` groups of sixteen control bytes. Then no search, of a present or
-    /// an absent key, reads more. [`DEFAULT_GROUPS`] is a bound that tables of keys whose hashes vary keep. For `s` slots
-    /// it reads at most `2 * s * groups` groups.
+    /// an absent key, reads more. [`DEFAULT_GROUPS`] is a bound that tables of keys whose hashes vary keep. For `s`
+    /// slots it reads at most `2 * s * groups` groups.
     ///
     /// # Errors
     ///
