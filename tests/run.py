@@ -108,6 +108,7 @@ def generated(part):
         part.run(sys.executable, "tools/manual.py", "--check"),
         part.run(sys.executable, "tools/proofs", "--check"),
         part.run(sys.executable, "tools/map.py", "--check"),
+        part.run(sys.executable, "tools/speeds.py", "--check"),
         part.run(sys.executable, "tools/prose.py", "--check"),
         part.run("sh", "crates/odht_c/exports/statuses.sh"),
         part.run("sh", "examples/quoted.sh"),

@@ -1,0 +1,73 @@
+#!/usr/bin/env python3
+"""The speeds in README.md, of the tables of bench/RESULTS.md.
+
+  tools/speeds.py            writes them between the two comments in README.md
+  tools/speeds.py --check    sees that they are current; status 1 where they are not
+"""
+import os
+import re
+import sys
+import textwrap
+
+TOP = os.path.dirname(os.path.dirname(os.path.realpath(__file__)))
+BEGIN, END = "<!-- Made by `make documents` of bench/RESULTS.md. -->\n", "<!-- The end of what is made. -->\n"
+WIDTH = 120
+SIZES = ["10^5", "10^6"]
+# the text of a row, and the line of the table of the calls for C
+ROWS = [
+    ("`insert_all` into a table that is large enough", "presized, insert_all"),
+    ("`get_all`, present keys, beside a `get` of each", "hits, get_all"),
+    ("walk", "walk"),
+    ("from C a call of `view_get` for each present key", "hits, view_get"),
+    ("from C a call of `get`, which looks at the header, for each present key", "hits, get from C"),
+]
+# the same of the table of the crate for Rust
+CRATE_SIZE = "10^5"
+CRATE_ROWS = [("`insert`", "insert"), ("`get` of a present key", "get, present"), ("walk", "walk")]
+
+
+def read(file):
+    with open(file, encoding="utf-8") as it:
+        return it.read()
+
+
+def cells(results, part, name, sizes):
+    """Returns the ratios of a line, of the first table with keys of 64 bits behind the heading `part`."""
+    table = results[results.index(part) :]
+    table = table[table.index("| 64-bit keys |") :].split("\n\n")[0].split("\n")
+    columns = [it.strip() for it in table[0].split("|")]
+    line = next(it for it in table if it.startswith(f"| {name} |")).split("|")
+    return [re.sub(r"<br>.*|\*", "", line[columns.index(size)]).strip() for size in sizes]
+
+
+def made(results):
+    rows = [f"| {text} | " + " | ".join(cells(results, "# A run", name, SIZES)) + " |" for text, name in ROWS]
+    crate = []
+    for text, name in CRATE_ROWS:
+        plain, fast = cells(results, "## The crate for Rust", name, [CRATE_SIZE])[0].split(" / ")
+        crate.append(f"{text} {plain} and {fast}")
+    head = ["| | " + " | ".join(SIZES) + " |", "|---|" + "---|" * len(SIZES)]
+    told = (
+        "Our crate, as it is and with the feature `fast`, which checks no index that is proved to be in bounds, "
+        f"at {CRATE_SIZE}: " + ", ".join(crate) + "."
+    )
+    return "\n".join(head + rows) + "\n\n" + textwrap.fill(told, WIDTH) + "\n"
+
+
+def main(*words):
+    if words not in ((), ("--check",)):
+        sys.exit(__doc__)
+    readme = read(f"{TOP}/README.md")
+    before, rest = readme.split(BEGIN)
+    current = before + BEGIN + made(read(f"{TOP}/bench/RESULTS.md")) + END + rest.split(END)[1]
+    if words and current != readme:
+        print("not current: the speeds in README.md: run `make documents`")
+        return 1
+    if not words:
+        with open(f"{TOP}/README.md", "w", encoding="utf-8") as it:
+            it.write(current)
+    return 0
+
+
+if __name__ == "__main__":
+    sys.exit(main(*sys.argv[1:]))
