@@ -79,10 +79,10 @@ impl<const LEN: usize> ByteArray for [u8; LEN] {
         as_bytes(self)
     }
 
-    // Arrays of one to four words, and of 9 and 10 bytes, are compared a word at a time, with no loop. Those of 20 and 28
+    // Arrays of one to four words, and of 9, 10 and 20 bytes, are compared a word at a time, with no loop. Those of 28
     // bytes, and of other lengths that are not multiples of four, are compared as the compiler does it, which takes fewer
     // instructions there: up to 7 bytes as arrays, which it keeps in registers; longer ones as lists of a known length, by
-    // loads that overlap.
+    // loads that overlap. For the calls for C it calls a routine for such a list, which takes some thirty instructions.
     #[inline]
     fn equals(&self, other: &Self) -> bool {
         let (left, right): (&[u8], &[u8]) = (self, other);
@@ -91,9 +91,10 @@ impl<const LEN: usize> ByteArray for [u8; LEN] {
             9 => is_same_bytes(left, right),
             10 => is_same_word(left, right, 0) && is_same_quarter(left, right, 8),
             16 => is_same_pair(left, right, 0),
+            20 => is_same_pair(left, right, 0) && is_same_half(left, right, 16),
             24 => is_same_pair(left, right, 0) && is_same_word(left, right, 16),
             32 => is_same_pair(left, right, 0) && is_same_pair(left, right, 16),
-            20 | 28 => is_same_list(left, right),
+            28 => is_same_list(left, right),
             _ if LEN % 4 == 0 => is_same_bytes(left, right),
             _ if LEN < 8 => *self == *other,
             _ => is_same_list(left, right),

@@ -56,7 +56,9 @@ pub fn get<C: Config>(
 
 /// Looks up many keys in an opened table: at the index of a key that is found, its value is written to `values` and 1
 /// to `found`; at any other index 0 is written to `found`.
-#[inline(always)]
+// Not inlined, so that what it calls has one caller for each configuration: only then does the compiler keep the first
+// looks of eight keys in one function with their searches, which takes a quarter fewer instructions.
+#[inline(never)]
 pub fn get_all<C: Config>(
     table: &HashTable<C, Borrowed<'_>>,
     keys: &[C::Key],
