@@ -3,6 +3,8 @@
 pub mod SmallTables
 -- what a new table is, and what an insert leaves
 pub mod Inserts
+-- how long new tables are, and why there is none
+pub mod NewTables
 -- lists of items that are inserted in turn
 pub mod ListInserts
 -- the last value of a key in a list of items

@@ -56,8 +56,7 @@ pub fn get_all<C: Config, A: Answers<Option<C::Value>>>(
     answers: &mut A,
 )
     requires { length keys.now ≤ A.places answers.old }
-    ensures { let c = ⟦<C as Coded>⟧.coding
-        in let all = lookups_of c raw.now keys.now A.after_put
+    ensures { let all = lookups_of ⟦<C as Coded>⟧.coding raw.now keys.now A.after_put
         in ArePut all answers.old answers.new (length keys.now) }
 {
     let from = get_batches::<C, A>(raw, keys, answers);
@@ -76,8 +75,7 @@ fn get_batches<C: Config, A: Answers<Option<C::Value>>>(
 ) -> usize
     requires { length keys.now ≤ A.places answers.old }
     ensures within { result ≤ length keys.now }
-    ensures answers { let c = ⟦<C as Coded>⟧.coding
-        in let all = lookups_of c raw.now keys.now A.after_put
+    ensures answers { let all = lookups_of ⟦<C as Coded>⟧.coding raw.now keys.now A.after_put
         in ArePut all answers.old answers.new result }
     ensures places { A.places answers.new ≡ A.places answers.old }
 {
@@ -98,8 +96,7 @@ fn get_eight<C: Config, A: Answers<Option<C::Value>>>(
 )
     requires within { from + 8 ≤ length keys.now }
     requires places { length keys.now ≤ A.places answers.old }
-    ensures answers { let c = ⟦<C as Coded>⟧.coding
-        in let all = lookups_of c raw.now keys.now A.after_put
+    ensures answers { let all = lookups_of ⟦<C as Coded>⟧.coding raw.now keys.now A.after_put
         in (first : A)
         → ArePut all first answers.old from
         → ArePut all first answers.new (from + 8) }
@@ -135,8 +132,7 @@ fn get_one<C: Config, A: Answers<Option<C::Value>>>(
     requires index { index < length keys.now }
     requires places { length keys.now ≤ A.places answers.old }
     requires look { IsLookAt ⟦<C as Coded>⟧.coding raw.now keys.now index look }
-    ensures answers { let c = ⟦<C as Coded>⟧.coding
-        in let all = lookups_of c raw.now keys.now A.after_put
+    ensures answers { let all = lookups_of ⟦<C as Coded>⟧.coding raw.now keys.now A.after_put
         in (first : A)
         → ArePut all first answers.old index
         → ArePut all first answers.new (index + 1) }

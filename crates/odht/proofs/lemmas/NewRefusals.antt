@@ -1,14 +1,16 @@
 -- The errors of a new table, case by case.
-use Rattle.std.proofs.Common.{◌≡◌, ◌≢◌, ◌≤◌, ◌<◌, ◌^◌, ◌∙◌, ℕ, Bool, true, false, not, nat_le, ap, refl, [], ◌∷◌, Option, Some, None, Result, Ok, Err, OnErr, ◌⊎◌, inl, inr, arith, leb-true, le-leb, ne_eqb}
+use Rattle.std.proofs.Common.{◌≡◌, ◌≢◌, ◌≤◌, ◌<◌, ◌^◌, ◌∙◌, ℕ, Bool, true, false, not, nat_le, ap, sym, subst, refl, [], ◌∷◌, Option, Some, None, Result, Ok, Err, OnErr, ◌⊎◌, inl, inr, arith, leb-true, le-leb, ne_eqb}
 use Rattle.std.proofs.lemmas.Result.{IfErr-at_err}
 use Rattle.odht_base.specs.Format.{Format}
 use Rattle.odht_base.specs.Load.{slots_for, factor_of}
 use Rattle.odht_base.specs.Image.{image_len}
 use Rattle.std.specs.Option.{option_map_or}
+use Rattle.odht_header.specs.Coding.{Coding}
 use Rattle.odht_header.specs.Refusals.{IsTooLarge, new_refusal, slots_new_refusal, first_of, differs, ◌gives◌}
 use Rattle.odht_header.specs.declared.error.Error.TheVariants.{Capacity, InitLength, Memory}
 use Rattle.odht_header.specs.declared.error.Error.{Error}
 use Rattle.odht_header.proofs.lemmas.FirstErrors.{false-differs}
+use Rattle.odht.specs.NewTables.{FailsAsNew}
 
 -- what is not below is no less
 not_le : (a b : ℕ) → b < a → nat_le a b ≡ false
@@ -95,3 +97,28 @@ either r {s = s} {y = y} a b h = on_err r (go (IfErr-at_err (λ _. (s ≡ Err Ca
     go : (s ≡ Err Capacity) ⊎ (s ≡ Err Memory) → (r ≡ Err Capacity) ⊎ (r ≡ Err Memory)
     go (inl large) = inl (passed_on r s a refl b large)
     go (inr memory) = inr (passed_on r s a refl b memory)
+
+-- ---- the errors of a new table
+module _ {K V : Type 0} (c : Coding K V) (n : ℕ) where
+  -- at the same load factor they are the same
+  pub fails-factor : {T : Type 0} (f f' : ℕ) (r : Result T Error) → f ≡ f' → FailsAsNew c n f r → FailsAsNew c n f' r
+  fails-factor f f' r same fails = subst (λ x. FailsAsNew c n x r) same fails
+
+  module _ (f : ℕ) {U : Type 0} (s : Result U Error) (fails : FailsAsNew c n f s) where
+    -- an error that is passed on is as it was
+    pub fails-passed : {T : Type 0} (r : Result T Error) {x y : Error} → r ≡ Err x → x ≡ y → s ≡ Err y → FailsAsNew c n f r
+    fails-passed r a same b = record {
+      capacity = (λ e. fails.capacity.0 (passed_on s r b (sym same) a e), λ large. passed_on r s a same b (fails.capacity.1 large));
+      memory = either r (a ∙ ap Err same) b fails.memory;
+    }
+
+    -- a table that was made is not too large
+    pub fails-made : {T : Type 0} {u : U} (t : T) → s ≡ Ok u → FailsAsNew c n f (Ok t)
+    fails-made t made = record { capacity = (λ e. absurd (not_ok (Ok t) refl e), λ large. absurd (not_ok s made (fails.capacity.1 large))); memory = tt }
+
+    -- nor is one for whose items there was no memory
+    pub fails-later : {T : Type 0} {u : U} (r : Result T Error) → s ≡ Ok u → r ≡ Err Memory → FailsAsNew c n f r
+    fails-later r made memory = record {
+      capacity = (λ e. absurd (not_both r e memory), λ large. absurd (not_ok s made (fails.capacity.1 large)));
+      memory = on_err r (inr memory);
+    }
