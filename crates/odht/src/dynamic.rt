@@ -4,16 +4,13 @@ ghost use Rattle.std.specs.Prelude.{◌≡◌, ◌≢◌, ◌≤◌, ◌↔◌, 
 ghost use Rattle.std.specs.Prelude.{IfOk, IsOk, IsTrue};
 ghost use Rattle.std.specs.Option.{option_copied};
 ghost use Rattle.std.specs.Result.{result_err};
-ghost use Rattle.odht_base.specs.Decoded.{decoded_pairs, decoded_table};
 ghost use Rattle.odht_base.specs.Format.{format_of, IsFormat};
-ghost use Rattle.odht_base.specs.SlotWalks.{slots_from};
-ghost use Rattle.odht_base.specs.Table.{walk};
 ghost use Rattle.odht_base.specs.Valid.{IsValidBytes};
 ghost use Rattle.odht_raw.specs.Frame.{IsAccepted};
 ghost use Rattle.odht_raw.specs.Sized.{HasLengthsOf};
 ghost use Rattle.odht.specs.Dynamic.{dyn_coding, dyn_format, dyn_refusal, stated_refusal};
 ghost use Rattle.odht.specs.Gets.{IsGet, IsCountedGet, IsKnown};
-ghost use Rattle.odht.specs.Walks.{IsItemCount};
+ghost use Rattle.odht.specs.Walks.{IsItemCount, ArePairs, AreSlots};
 ghost use Rattle.odht.specs.SearchBounds.{IsValidWithin, IsBound};
 ghost use Rattle.odht.specs.Dynamic.{dyn_store, dyn_parts};
 
@@ -186,10 +183,7 @@ impl<H: HashFn, D: ByteStore> DynTable<H, D> {
     /// The keys and values of the slots whose own control byte is below 128, in slot order: on valid bytes each pair of
     /// the table once.
     pub fn iter(&self) -> SizedIter<'_, H>
-        ensures on_valid { OfTable (dyn_format self.now H.hash) (D.bytes self.now.store)
-            (λ P. result ≡ walk P) }
-        ensures on_any { result
-            ≡ decoded_pairs (dyn_format self.now H.hash) (D.bytes self.now.store) }
+        ensures pairs { ArePairs (dyn_format self.now H.hash) (D.bytes self.now.store) result }
         ensures lengths { All (HasLengthsOf self.now.key_len self.now.value_len) result }
         ensures few { length result ≤ usize.MAX }
     {
@@ -199,10 +193,7 @@ impl<H: HashFn, D: ByteStore> DynTable<H, D> {
     /// The slots from slot `from` on whose own control byte is below 128, in slot order, each with its key and value:
     /// on valid bytes each pair in these slots once. Nothing where `from` is past the last slot.
     pub fn iter_from(&self, from: usize) -> SizedSlots<'_, H>
-        ensures on_valid { OfTable (dyn_format self.now H.hash) (D.bytes self.now.store)
-            (λ P. result ≡ slots_from P from) }
-        ensures on_any { result
-            ≡ slots_from (decoded_table (dyn_format self.now H.hash) (D.bytes self.now.store)) from }
+        ensures slots { AreSlots (dyn_format self.now H.hash) (D.bytes self.now.store) from result }
         ensures few { length result ≤ usize.MAX }
     {
         self.as_sized().iter_from(from)

@@ -3,7 +3,6 @@ ghost use Rattle.std.specs.Prelude.{◌≡◌, ◌≤◌, ◌↔◌, length, IfO
 ghost use Rattle.std.specs.Prelude.{IsTrue, OnErr, OnOk};
 ghost use Rattle.std.specs.Result.{result_err};
 ghost use Rattle.odht_base.specs.Load.{IsPercent};
-ghost use Rattle.odht_base.specs.Decoded.{header_slots, entries_of, controls_of};
 ghost use Rattle.odht_base.specs.Valid.{IsPartsOf, IsValidBytes};
 ghost use Rattle.odht.specs.Gets.{IsGet, IsCountedGet, IsKnown, AreGot};
 ghost use Rattle.odht.specs.Inserts.{IsFresh, IsInsertInto};
@@ -13,6 +12,7 @@ ghost use Rattle.odht_header.specs.Refusals.{opening_refusal};
 ghost use Rattle.odht_header.specs.Refusals.{view_refusal};
 ghost use Rattle.odht.specs.NewTables.{new_len, init_refusal};
 ghost use Rattle.odht.specs.Walks.{IsWalk, IsItemCount};
+ghost use Rattle.odht_raw.specs.Dumps.{parts_of};
 
 use crate::bytes::{ByteStore, ByteStoreMut};
 use crate::config::{Coded, Config};
@@ -201,11 +201,7 @@ impl<C: Config, D: ByteStore> HashTable<C, D> {
     /// The raw table of these bytes. A caller that looks up many keys calls this once.
     #[inline]
     pub fn as_raw(&self) -> RawTable<'_, C::EncodedKey, C::EncodedValue, C::H>
-        ensures control { result.control
-            ≡ controls_of ⟦<C as Coded>⟧.coding.format (D.bytes self.now) }
-        ensures entries { result.entries.bytes
-            ≡ entries_of ⟦<C as Coded>⟧.coding.format (D.bytes self.now) }
-        ensures slots { result.entries.slots ≡ header_slots (D.bytes self.now) }
+        ensures bytes { result ≡ parts_of ⟦<C as Coded>⟧.coding.format (D.bytes self.now) }
         ensures parts { InTable ⟦<C as Coded>⟧.coding (D.bytes self.now)
             (λ c P. IsPartsOf c.format P result.entries.bytes result.control) }
     {

@@ -80,9 +80,12 @@ module _ (F : Format) (n f : ℕ) where
 
   -- there is none exactly where the table is too large
   pub new_len-none : (None ≡ table_len F (slots_for n f)) ↔ IsTooLarge F n f
-  new_len-none = (λ e s is. (
-    let none : None ≡ table_len F (Some s) = e ∙ ap (table_len F) is in
-    not_lt (image_len F s) none), λ large. go (slots_for n f) refl large)
+  new_len-none = (
+    λ e s is. (
+        let none : None ≡ table_len F (Some s) = e ∙ ap (table_len F) is in
+        not_lt (image_len F s) none),
+    λ large. go (slots_for n f) refl large,
+  )
     where
       not_lt : (l : ℕ) → None ≡ then_some (nat_lt l (2 ^ 64)) l → 2 ^ 64 ≤ l
       not_lt l e = by (nat_lt l (2 ^ 64)) refl e

@@ -1,4 +1,5 @@
-use Rattle.std.proofs.Common.{rules}
+use Rattle.std.proofs.Common.{rules, ap}
+use Rattle.odht_raw.specs.Parts.{TableParts}
 use Rattle.odht_header.specs.Coding.{Coding, coding_of}
 use Rattle.odht.proofs.lemmas.Lookups.{puts-answered}
 use Rattle.odht.proofs.hash_table.HashTable.get_all.Given.{Over}
@@ -18,5 +19,5 @@ returns g c =
     let loan = all.loan in
     record {
       on_valid = λ P is. let values = all.values P (c.as_raw.ensures.parts P is) in search (rules, loan, values);
-      on_any = let stored = all.stored (g.D.ByteStore.bytes c.args.self.now) c.as_raw.ensures.entries c.as_raw.ensures.slots in search (rules, loan, stored);
+      on_any = let stored = all.stored (g.D.ByteStore.bytes c.args.self.now) (ap (λ (T : TableParts). T.entries.bytes) c.as_raw.ensures.bytes) (ap (λ (T : TableParts). T.entries.slots) c.as_raw.ensures.bytes) in search (rules, loan, stored);
     }
