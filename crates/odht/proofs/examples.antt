@@ -13,5 +13,7 @@ pub mod LastValues
 pub mod Rebuilds
 -- a table that is given room for more items
 pub mod RoomForMore
+-- what walks give, and bounds of searches
+pub mod Walks
 -- tables that are the same map
 pub mod SameMaps

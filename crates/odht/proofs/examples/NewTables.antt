@@ -1,11 +1,14 @@
--- Worked examples: how long new tables are, and why there is none. A slot of number_coding takes thirteen bytes.
-use Rattle.std.proofs.Common.{◌≡◌, ◌^◌, ℕ, refl, arith, replicate, Some, None, Ok, Err, inl, inr}
+-- Worked examples: how long new tables are, why there is none, and what is written into their bytes. A slot of number_coding takes thirteen bytes.
+use Rattle.std.proofs.Common.{◌≡◌, ◌^◌, ℕ, refl, arith, replicate, get_or, [], ◌∷◌, Some, None, Ok, Err, inl, inr}
 use Rattle.odht_base.specs.Load.{factor_of, slots_for}
+use Rattle.odht_base.proofs.examples.Configs.{my_config, pair64}
+use Rattle.odht_base.proofs.lemmas.FreeSlots.{map_of-empty}
 use Rattle.odht_header.specs.declared.error.Error.TheVariants.{Capacity, InitLength, Memory, TooShort}
 use Rattle.odht_header.specs.Refusals.{new_refusal}
 use Rattle.odht_header.proofs.examples.Opened.{opened}
+use Rattle.odht.specs.Growths.{IsRoomFor, IsPlacing}
 use Rattle.odht.specs.NewTables.{new_len, init_refusal, IsEmptyFor, IsCapacityOrMemory, FailsAsNew, FailsBy}
-use Rattle.odht.proofs.examples.SmallTables.{number_coding, no_pairs, bytes_of, no_pairs_image}
+use Rattle.odht.proofs.examples.SmallTables.{number_coding, no_pairs, one_pair, bytes_of, no_pairs_image}
 
 -- sixteen slots for thirteen items, 32 for fourteen, and none for 2^63
 pub lengths : (new_len number_coding 13 87 ≡ Some 256) × (new_len number_coding 14 87 ≡ Some 464) × (new_len number_coding (2 ^ 63) 87 ≡ None)
@@ -46,3 +49,18 @@ checked = (record { refused = λ e is. cc; memory = λ none. absurd cc }, record
 
 pub not_checked : (FailsBy {T = ℕ} (Some (TooShort 1)) (Err Memory) → ⊥) × (FailsBy {T = ℕ} None (Err Capacity) → ⊥)
 not_checked = (λ h. let is = h.refused (TooShort 1) refl in cc, λ h. let is = h.memory refl in cc)
+
+-- ---- room for the slots, and placing
+-- 256 zeros have room for sixteen slots, and 255 have not
+pub zeros : IsRoomFor number_coding 16 (replicate 256 0) × (IsRoomFor number_coding 16 (replicate 255 0) → ⊥)
+unfolding opened
+zeros = (record { len = refl; zeros = refl }, λ h. let long : 255 ≡ 256 = h.len in omega (arith, long))
+
+-- the pair 1 to 2 goes to slot 5, and not twice
+pub placed : IsPlacing my_config no_pairs (pair64 1 2 ∷ []) (one_pair 2)
+unfolding opened
+placed = record { apart = (refl, tt); new = λ i d low. map_of-empty 16 (factor_of 87) (get_or (pair64 1 2 ∷ []) i d).key; placed = refl }
+
+pub placed_twice : IsPlacing my_config no_pairs (pair64 1 2 ∷ pair64 1 3 ∷ []) (one_pair 3) → ⊥
+unfolding opened
+placed_twice h = let one = h.apart.0 in cc
