@@ -3,6 +3,8 @@
 pub mod SmallTables
 -- what a new table is, and what an insert leaves
 pub mod Inserts
+-- how long new tables are, and why there is none
+pub mod NewTables
 -- lists of items that are inserted in turn
 pub mod ListInserts
 -- the last value of a key in a list of items
@@ -11,5 +13,7 @@ pub mod LastValues
 pub mod Rebuilds
 -- a table that is given room for more items
 pub mod RoomForMore
+-- what walks give, and bounds of searches
+pub mod Walks
 -- tables that are the same map
 pub mod SameMaps

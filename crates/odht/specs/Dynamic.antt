@@ -1,7 +1,9 @@
 -- Tables whose lengths of keys and values are known at run time alone. Their keys and values are lists of bytes.
 --     DynStore D           a table's lengths, and its store
+--     dyn_store kl vl s    the table of these lengths in the store s
 --     dyn_format t h       the format of these lengths and of the hash h
 --     dyn_coding t h       the coding of this format that leaves lists of bytes as they are
+--     dyn_parts t h B      the lengths of t, and the parts of the bytes B
 --     IsOpened ml h bytes t  header and length of the table's bytes fit, and its keys are long enough for the hash h, which
 --                          needs ml bytes; `bytes` has the bytes of a store
 --     dyn_refusal ml F B   the error of opening: a key length below ml, then those of opening a view
@@ -14,8 +16,9 @@ use Rattle.std.specs.Option.{option_or}
 use Rattle.odht_base.specs.Format.{Format, format_of}
 use Rattle.odht_header.specs.Coding.{Coding}
 use Rattle.odht_header.specs.Refusals.{opening_refusal, view_refusal}
+use Rattle.odht_raw.specs.Dumps.{parts_of}
 use Rattle.odht_raw.specs.Frame.{IsAccepted}
-use Rattle.odht_raw.specs.Sized.{bytes_coding}
+use Rattle.odht_raw.specs.Sized.{SizedParts, bytes_coding}
 use Rattle.odht.specs.declared.dynamic.DynError.{DynError}
 use Rattle.odht.specs.declared.dynamic.DynError.TheVariants.{KeyTooShort, Rejected}
 
@@ -24,11 +27,17 @@ pub record DynStore (D : Type 0) : Type 0 where
   pub value_len : ℕ
   pub store : D
 
+abbrev pub dyn_store : {D : Type 0} → ℕ → ℕ → D → DynStore D
+dyn_store key_len value_len store = record { key_len = key_len; value_len = value_len; store = store }
+
 abbrev pub dyn_format : {D : Type 0} → DynStore D → (List ℕ → ℕ) → Format
 dyn_format t h = format_of t.key_len t.value_len h
 
 abbrev pub dyn_coding : {D : Type 0} → DynStore D → (List ℕ → ℕ) → Coding (List ℕ) (List ℕ)
 dyn_coding t h = bytes_coding (dyn_format t h)
+
+abbrev pub dyn_parts : {D : Type 0} → DynStore D → (List ℕ → ℕ) → List ℕ → SizedParts
+dyn_parts t h B = record { key_len = t.key_len; value_len = t.value_len; parts = parts_of (dyn_format t h) B }
 
 pub record IsOpened {D : Type 0} (ml : ℕ) (h : List ℕ → ℕ) (bytes : D → List ℕ) (t : DynStore D) : Type 0 where
   pub hashes : ml ≤ t.key_len

@@ -4,11 +4,13 @@
 --     IsCountedGet c B k r  r is that value, and how many groups were read: on valid bytes those up to the end of the search
 --                           (`groups`), on any bytes no more than there are (`few`)
 --     IsKnown c B k b       b is whether the key has a value; on any bytes it is true only where a slot holds this key
-use Rattle.std.specs.Prelude.{◌≡◌, ℕ, ◌/◌, ◌≤◌, ◌↔◌, Bool, List, Option, IfSome, IsSome, IsTrue}
+--     AreGot c B ks os      os are those values for the keys ks, in this order
+use Rattle.std.specs.Prelude.{◌≡◌, ℕ, ◌/◌, ◌≤◌, ◌↔◌, Bool, List, map, Option, IfSome, IsSome, IsTrue}
 use Rattle.odht_base.specs.Decoded.{header_slots, HoldsKey}
 use Rattle.odht_base.specs.Map.{map_of}
 use Rattle.odht_base.specs.Search.{groups_read}
 use Rattle.odht_header.specs.Coding.{Coding, value_for, HasStored}
+use Rattle.odht.specs.Lookups.{HaveStored}
 use Rattle.odht.specs.Tables.{OfTable}
 
 pub record IsGet {K V : Type 0} (c : Coding K V) (B : List ℕ) (k : K) (o : Option V) : Type 0 where
@@ -24,3 +26,7 @@ pub record IsCountedGet {K V : Type 0} (c : Coding K V) (B : List ℕ) (k : K) (
 pub record IsKnown {K V : Type 0} (c : Coding K V) (B : List ℕ) (k : K) (b : Bool) : Type 0 where
   pub on_valid : OfTable c.format B (λ P. IsTrue b ↔ IsSome (map_of P (c.key_bytes k)))
   pub on_any : IsTrue b → HoldsKey c.format B (c.key_bytes k)
+
+pub record AreGot {K V : Type 0} (c : Coding K V) (B : List ℕ) (ks : List K) (os : List (Option V)) : Type 0 where
+  pub on_valid : OfTable c.format B (λ P. os ≡ map (value_for c P) ks)
+  pub on_any : HaveStored c B ks os

@@ -4,11 +4,16 @@
 --                          header's load factor
 --     grown_len F B        how many bytes the table has that the bytes B grow into
 --     IsGrownImage F P T   T is the image of the grown table of P
+--     IsRoomFor c s B      the bytes B are as many as a table of s slots has, and zeros where its entries are
+--     IsGrownFrom F B T    T are accepted bytes whose header has the item count and the load factor of B; and where B
+--                          is the image of a table, T is the image of the one that it grows into
+--     IsPlacing F P ps Q   placing the pairs ps into P gives Q; their keys are pairwise distinct and new to P
 --     IsWritten F s c f ps T   T has the header of s slots, the item count c and the load factor f; where the keys of
 --                          the pairs ps are pairwise distinct, and all are placed into the empty table, it is this table
-use Rattle.std.specs.Prelude.{◌≡◌, ℕ, ◌*◌, ◌^◌, ◌++◌, max, nat_lt, take, List, Option, Some, option_and_then}
+use Rattle.std.specs.Prelude.{◌≡◌, ℕ, ◌*◌, ◌^◌, ◌++◌, max, nat_lt, take, length, List, All, Option, Some, option_and_then}
 use Rattle.std.specs.Bool.{then_some}
-use Rattle.odht_base.specs.Format.{Format}
+use Rattle.odht_base.specs.Bytes.{bytes_at}
+use Rattle.odht_base.specs.Format.{Format, entry_len}
 use Rattle.odht_base.specs.Image.{header_bytes, image_len, parts}
 use Rattle.odht_base.specs.Insert.{grown, place_all}
 use Rattle.odht_base.specs.Load.{slots_for}
@@ -16,6 +21,11 @@ use Rattle.odht_base.specs.Decoded.{header_count, header_factor}
 use Rattle.odht_base.specs.Map.{KeysApart}
 use Rattle.odht_base.specs.Table.{Pair, Table, empty}
 use Rattle.odht_base.specs.Valid.{IsImage}
+use Rattle.odht_header.specs.Coding.{Coding}
+use Rattle.odht_raw.specs.Frame.{IsAccepted}
+use Rattle.odht_raw.specs.Parts.{IsZeros}
+use Rattle.odht_raw.specs.PartsPlacings.{IsNewTo}
+use Rattle.odht.specs.Tables.{OfTable}
 
 abbrev pub table_len : Format → Option ℕ → Option ℕ
 table_len F o = option_and_then (λ s. then_some (nat_lt (image_len F s) (2 ^ 64)) (image_len F s)) o
@@ -28,6 +38,21 @@ grown_len F B = table_len F (grown_slots_of B)
 
 abbrev pub IsGrownImage : Format → Table → List ℕ → Type 0
 IsGrownImage F P T = (Q : Table) × (grown F P ≡ Some Q) × IsImage F Q T
+
+pub record IsRoomFor {K V : Type 0} (c : Coding K V) (s : ℕ) (B : List ℕ) : Type 0 where
+  pub len : length B ≡ image_len c.format s
+  pub zeros : IsZeros (s * entry_len c.format) (bytes_at B 32 (s * entry_len c.format))
+
+pub record IsGrownFrom (F : Format) (B T : List ℕ) : Type 0 where
+  pub accepted : IsAccepted F T
+  pub count : header_count T ≡ header_count B
+  pub factor : header_factor T ≡ header_factor B
+  pub on_valid : OfTable F B (λ P. IsGrownImage F P T)
+
+pub record IsPlacing (F : Format) (P : Table) (ps : List Pair) (Q : Table) : Type 0 where
+  pub apart : KeysApart ps
+  pub new : All (IsNewTo P) ps
+  pub placed : place_all F P ps ≡ Some Q
 
 pub record IsWritten (F : Format) (s c f : ℕ) (ps : List Pair) (T : List ℕ) : Type 0 where
   pub placed : (Q : Table) → KeysApart ps → place_all F (empty s f) ps ≡ Some Q → T ≡ header_bytes F s c f ++ parts F Q.cells

@@ -5,9 +5,11 @@
 --     IsInsertInto c P k v r B    an insert of the key k with the value v into P, in bytes that cannot grow, returns r and
 --                          leaves the bytes B. Where it succeeds it returns the former value (`former`), and the key has
 --                          the new one (`inserted`). It is full exactly where P is at its maximum and has no such key
-use Rattle.std.specs.Prelude.{◌≡◌, ◌↔◌, ℕ, List, Option, Some, Result, Err, bytes_eq, if◌then◌else◌, IfOk, OnOk}
+--     IsInsertOwned c P k v r B    the same in a table that grows: it fails at most where P is at its maximum and has no
+--                          such key (`at_maximum`)
+use Rattle.std.specs.Prelude.{◌≡◌, ◌↔◌, ℕ, List, Option, Some, Result, Err, bytes_eq, if◌then◌else◌, IfOk, OnOk, OnErr}
 use Rattle.odht_base.specs.Format.{Format}
-use Rattle.odht_base.specs.Insert.{insert_view, IsFullFor}
+use Rattle.odht_base.specs.Insert.{insert_owned, insert_view, IsFullFor}
 use Rattle.odht_base.specs.Map.{map_of}
 use Rattle.odht_base.specs.Table.{Pair, Table, fresh}
 use Rattle.odht_base.specs.Valid.{IsImage}
@@ -30,3 +32,8 @@ pub record IsInsertInto {K V : Type 0} (c : Coding K V) (P : Table) (k : K) (v :
   pub former : IfOk r (λ former. former ≡ value_for c P k)
   pub inserted : OnOk r (IsInserted c.format (insert_view c.format) P (encoded c k v) B)
   pub full : (r ≡ Err Full) ↔ IsFullFor P (c.key_bytes k)
+
+pub record IsInsertOwned {K V : Type 0} (c : Coding K V) (P : Table) (k : K) (v : V) (r : Result (Option V) Error) (B : List ℕ) : Type 0 where
+  pub former : IfOk r (λ former. former ≡ value_for c P k)
+  pub inserted : OnOk r (IsInserted c.format (insert_owned c.format) P (encoded c k v) B)
+  pub at_maximum : OnErr r (IsFullFor P (c.key_bytes k))

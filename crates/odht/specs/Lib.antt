@@ -3,6 +3,8 @@
 pub mod Tables
 -- what a new table is, and what an insert leaves
 pub mod Inserts
+-- new tables, and their errors
+pub mod NewTables
 -- lists of keys and values that are inserted in turn
 pub mod Lists
 -- what a list of inserts answers and leaves
@@ -17,6 +19,10 @@ pub mod Growths
 pub mod Lookups
 -- what a lookup answers
 pub mod Gets
+-- what a walk gives
+pub mod Walks
+-- bounds of searches
+pub mod SearchBounds
 -- a table that is given room for more items
 pub mod Reserves
 -- tables that are the same map

@@ -1,9 +1,12 @@
 -- Making a table again by inserts.
 --     IsNewSizeOf P n p    a new table for n items at p percent has the slots of P, and its load factor
 --     AreInOrder c P items the items, encoded, are the pairs of the slots `order`, an insert order of P
+--     IsRebuilding c items n p P   P is valid, the items are in an insert order of it, and a new table for n items at p
+--                          percent has its size
 use Rattle.std.specs.Prelude.{◌≡◌, ℕ, List, Some}
 use Rattle.odht_base.specs.Made.{IsInsertOrder, pairs_of}
 use Rattle.odht_base.specs.Table.{Table, slot_count, empty, fresh}
+use Rattle.odht_base.specs.Valid.{IsValid}
 use Rattle.odht_header.specs.Coding.{Coding}
 use Rattle.odht.specs.Lists.{encoded_all}
 
@@ -14,3 +17,8 @@ pub record AreInOrder {K V : Type 0} (c : Coding K V) (P : Table) (items : List 
   pub order : List ℕ
   pub is_order : IsInsertOrder c.format P order
   pub pairs : encoded_all c items ≡ pairs_of P order
+
+pub record IsRebuilding {K V : Type 0} (c : Coding K V) (items : List (K × V)) (n percent : ℕ) (P : Table) : Type 0 where
+  pub valid : IsValid c.format P
+  pub in_order : AreInOrder c P items
+  pub size : IsNewSizeOf P n percent

@@ -6,13 +6,24 @@
 --                          has and n more
 --     IsMovedImage F P s B    B is the image of moved F P s
 --     IsReserved F P n B   B is the image of reserved F P n, a table with the map of P and with room for n more items
-use Rattle.std.specs.Prelude.{◌≡◌, ℕ, ◌+◌, ◌<◌, ◌≤◌, nat_le, Bool, List, Option, Some, option_and_then, if◌then◌else◌}
+--     IsMove c B s T       T has the pairs of the table of the bytes B in s slots: of a valid table that has room there they
+--                          are placed (`on_valid`), and header and length fit (`accepted`)
+--     IsReserve c P n r B    room for n more items in P is made, with the result r, and leaves the bytes B: on success
+--                          there is room; it is `Capacity` exactly where no table is that large, and an error only
+--                          where the room is lacking
+use Rattle.std.specs.Prelude.{◌≡◌, ℕ, ◌+◌, ◌<◌, ◌≤◌, ◌↔◌, nat_le, Bool, List, Option, Some, Result, Err, OnOk, OnErr, option_and_then, if◌then◌else◌}
 use Rattle.odht_base.specs.Format.{Format}
 use Rattle.odht_base.specs.Insert.{place_all}
 use Rattle.odht_base.specs.Load.{max_items, slots_for}
 use Rattle.odht_base.specs.Map.{map_of}
 use Rattle.odht_base.specs.Table.{Table, slot_count, count, walk, empty}
 use Rattle.odht_base.specs.Valid.{IsImage}
+use Rattle.odht_header.specs.Coding.{Coding}
+use Rattle.odht_header.specs.Refusals.{IsTooLarge}
+use Rattle.odht_header.specs.declared.error.Error.{Error}
+use Rattle.odht_header.specs.declared.error.Error.TheVariants.{Capacity}
+use Rattle.odht_raw.specs.Frame.{IsAccepted}
+use Rattle.odht.specs.Tables.{OfTable}
 
 abbrev pub has_room_for : Table → ℕ → Bool
 has_room_for P n = nat_le (count P + n) (max_items (slot_count P) P.factor)
@@ -35,3 +46,12 @@ pub record IsReserved (F : Format) (P : Table) (n : ℕ) (B : List ℕ) : Type 0
   pub image : IsImage F table B
   pub maps : (k : List ℕ) → map_of table k ≡ map_of P k
   pub room : count table + n ≤ max_items (slot_count table) table.factor
+
+pub record IsMove {K V : Type 0} (c : Coding K V) (B : List ℕ) (s : ℕ) (T : List ℕ) : Type 0 where
+  pub on_valid : OfTable c.format B (λ P. count P ≤ max_items s P.factor → IsMovedImage c.format P s T)
+  pub accepted : IsAccepted c.format T
+
+pub record IsReserve {K V : Type 0} (c : Coding K V) (P : Table) (n : ℕ) (r : Result Unit Error) (B : List ℕ) : Type 0 where
+  pub ok : OnOk r (IsReserved c.format P n B)
+  pub capacity : (r ≡ Err Capacity) ↔ (LacksRoom P n × IsTooLarge c.format (count P + n) P.factor)
+  pub lacking : OnErr r (LacksRoom P n)

@@ -1,22 +1,18 @@
 //! Tables whose lengths of keys and values are known at run time alone, such as those of a file.
-ghost use Rattle.odht.specs.Tables.{OfTable};
-ghost use Rattle.std.specs.Prelude.{◌≡◌, ◌≢◌, ◌≤◌, ◌↔◌, ℕ, List, None, All, length, slice_index};
+ghost use Rattle.odht.specs.Tables.{OfTable, HasParts};
+ghost use Rattle.std.specs.Prelude.{◌≡◌, ◌≢◌, ◌≤◌, ◌↔◌, ℕ, None, All, length, slice_index};
 ghost use Rattle.std.specs.Prelude.{IfOk, IsOk, IsTrue};
 ghost use Rattle.std.specs.Option.{option_copied};
 ghost use Rattle.std.specs.Result.{result_err};
-ghost use Rattle.odht_base.specs.Bounds.{first_longer};
-ghost use Rattle.odht_base.specs.Search.{groups_read};
-ghost use Rattle.odht_base.specs.Decoded.{header_count, entries_of, controls_of};
-ghost use Rattle.odht_base.specs.Decoded.{decoded_pairs, decoded_table};
 ghost use Rattle.odht_base.specs.Format.{format_of, IsFormat};
-ghost use Rattle.odht_base.specs.SlotWalks.{slots_from};
-ghost use Rattle.odht_base.specs.Table.{count, walk};
-ghost use Rattle.odht_base.specs.Valid.{IsPartsOf, IsValidBytes};
-ghost use Rattle.odht_raw.specs.Dumps.{parts_of};
+ghost use Rattle.odht_base.specs.Valid.{IsValidBytes};
 ghost use Rattle.odht_raw.specs.Frame.{IsAccepted};
 ghost use Rattle.odht_raw.specs.Sized.{HasLengthsOf};
 ghost use Rattle.odht.specs.Dynamic.{dyn_coding, dyn_format, dyn_refusal, stated_refusal};
 ghost use Rattle.odht.specs.Gets.{IsGet, IsCountedGet, IsKnown};
+ghost use Rattle.odht.specs.Walks.{IsItemCount, ArePairs, AreSlots};
+ghost use Rattle.odht.specs.SearchBounds.{IsValidWithin, IsBound};
+ghost use Rattle.odht.specs.Dynamic.{dyn_store, dyn_parts};
 
 use crate::bytes::ByteStore;
 use crate::error::Error;
@@ -81,11 +77,7 @@ impl<H: HashFn, D: ByteStore> DynTable<H, D> {
     /// Nothing else is checked. A table of bytes that are accepted and not valid is safe to use, but its calls keep only
     /// what their clauses say of any bytes.
     pub fn open(layout: Layout, data: D) -> Result<Self, DynError>
-        ensures ok { IfOk result (λ t. t ≡ record {
-          key_len = layout.key_len;
-          value_len = layout.value_len;
-          store = «data»;
-        }) }
+        ensures ok { IfOk result (λ t. t ≡ dyn_store layout.key_len layout.value_len «data») }
         ensures err { let F = format_of layout.key_len layout.value_len H.hash
             in result_err result ≡ dyn_refusal H.MIN_LEN F (D.bytes «data») }
         ensures valid { let F = format_of layout.key_len layout.value_len H.hash
@@ -113,11 +105,8 @@ impl<H: HashFn, D: ByteStore> DynTable<H, D> {
     /// `Rejected` with that of the first ten slots. On an error the store is dropped. A header states no hash function:
     /// a table of another one is rejected where one of the first ten slots is occupied and has another tag.
     pub fn open_as_stated(data: D) -> Result<Self, DynError>
-        ensures ok { IfOk result (λ t. t ≡ record {
-          key_len = slice_index (D.bytes «data») 5;
-          value_len = slice_index (D.bytes «data») 6;
-          store = «data»;
-        }) }
+        ensures ok { let B = D.bytes «data»
+            in IfOk result (λ t. t ≡ dyn_store (slice_index B 5) (slice_index B 6) «data») }
         ensures err { result_err result ≡ stated_refusal H.MIN_LEN H.hash (D.bytes «data») }
         ensures valid { (key_len value_len : ℕ) → H.MIN_LEN ≤ key_len
             → OfTable (format_of key_len value_len H.hash) (D.bytes «data») (λ _. IsOk result) }
@@ -194,10 +183,7 @@ impl<H: HashFn, D: ByteStore> DynTable<H, D> {
     /// The keys and values of the slots whose own control byte is below 128, in slot order: on valid bytes each pair of
     /// the table once.
     pub fn iter(&self) -> SizedIter<'_, H>
-        ensures on_valid { OfTable (dyn_format self.now H.hash) (D.bytes self.now.store)
-            (λ P. result ≡ walk P) }
-        ensures on_any { result
-            ≡ decoded_pairs (dyn_format self.now H.hash) (D.bytes self.now.store) }
+        ensures pairs { ArePairs (dyn_format self.now H.hash) (D.bytes self.now.store) result }
         ensures lengths { All (HasLengthsOf self.now.key_len self.now.value_len) result }
         ensures few { length result ≤ usize.MAX }
     {
@@ -207,10 +193,7 @@ impl<H: HashFn, D: ByteStore> DynTable<H, D> {
     /// The slots from slot `from` on whose own control byte is below 128, in slot order, each with its key and value:
     /// on valid bytes each pair in these slots once. Nothing where `from` is past the last slot.
     pub fn iter_from(&self, from: usize) -> SizedSlots<'_, H>
-        ensures on_valid { OfTable (dyn_format self.now H.hash) (D.bytes self.now.store)
-            (λ P. result ≡ slots_from P from) }
-        ensures on_any { result
-            ≡ slots_from (decoded_table (dyn_format self.now H.hash) (D.bytes self.now.store)) from }
+        ensures slots { AreSlots (dyn_format self.now H.hash) (D.bytes self.now.store) from result }
         ensures few { length result ≤ usize.MAX }
     {
         self.as_sized().iter_from(from)
@@ -219,9 +202,7 @@ impl<H: HashFn, D: ByteStore> DynTable<H, D> {
     /// The item count of the header. On valid bytes it is the number of items.
     #[inline]
     pub fn len(&self) -> usize
-        ensures by_header { result ≡ header_count (D.bytes self.now.store) }
-        ensures on_valid { OfTable (dyn_format self.now H.hash) (D.bytes self.now.store)
-            (λ P. result ≡ count P) }
+        ensures { IsItemCount (dyn_format self.now H.hash) (D.bytes self.now.store) result }
     {
         Header::of(self.raw_bytes()).item_count()
     }
@@ -245,9 +226,8 @@ impl<H: HashFn, D: ByteStore> DynTable<H, D> {
     /// It is for bytes of strangers: whatever they are it costs no more than
     /// [`crate::memory_layout::check_all_within`]. [`crate::memory_layout::check_sized_within`] returns the error.
     pub fn verify_within(&self, groups: usize) -> bool
-        ensures { let F = dyn_format self.now H.hash
-            in IsTrue result ↔ (IsValidBytes F (D.bytes self.now.store)
-            × (first_longer (controls_of F (D.bytes self.now.store)) groups ≡ None)) }
+        ensures { IsTrue result
+            ↔ IsValidWithin (dyn_coding self.now H.hash) (D.bytes self.now.store) groups }
     {
         check_sized_within::<H>(self.store.bytes(), self.layout, groups).is_ok()
     }
@@ -256,11 +236,7 @@ impl<H: HashFn, D: ByteStore> DynTable<H, D> {
     /// Then no search in valid bytes, of a present or an absent key, reads more. It reads control bytes alone: for `s`
     /// slots at most `s * groups` groups.
     pub fn searches_within(&self, groups: usize) -> bool
-        ensures bytes { let B = controls_of (dyn_format self.now H.hash) (D.bytes self.now.store)
-            in IsTrue result ↔ (first_longer B groups ≡ None) }
-        ensures bound { let F = dyn_format self.now H.hash
-            in IsTrue result → OfTable F (D.bytes self.now.store)
-            (λ P. (key : List ℕ) → groups_read F P.cells key ≤ groups) }
+        ensures { IsBound (dyn_coding self.now H.hash) (D.bytes self.now.store) groups result }
     {
         self.as_sized().searches_within(groups)
     }
@@ -292,15 +268,8 @@ impl<H: HashFn, D: ByteStore> DynTable<H, D> {
     /// The parts of the table. A caller that looks up many keys calls this once.
     #[inline]
     pub fn as_sized(&self) -> SizedTable<'_, H>
-        ensures parts { let F = dyn_format self.now H.hash
-            in result ≡ record {
-              key_len = self.now.key_len;
-              value_len = self.now.value_len;
-              parts = parts_of F (D.bytes self.now.store);
-            } }
-        ensures on_valid { let F = dyn_format self.now H.hash
-            in let B = D.bytes self.now.store
-            in OfTable F B (λ P. IsPartsOf F P (entries_of F B) (controls_of F B)) }
+        ensures parts { result ≡ dyn_parts self.now H.hash (D.bytes self.now.store) }
+        ensures on_valid { HasParts (dyn_format self.now H.hash) (D.bytes self.now.store) }
         ensures format { IsFormat (dyn_format self.now H.hash) }
         ensures few { result.parts.entries.slots ≤ usize.MAX }
     {

@@ -1,24 +1,18 @@
 //! Growth: a table with the slots for twice as many items, written into larger bytes.
 ghost use Rattle.odht.specs.Tables.{InTable};
-ghost use Rattle.std.specs.Prelude.{◌≡◌, ◌-◌, ◌*◌, max, All, Some, None};
+ghost use Rattle.std.specs.Prelude.{◌≡◌, ◌*◌, max, Some, None};
 ghost use Rattle.std.specs.Prelude.{MatchOption, length, map};
-ghost use Rattle.odht_base.specs.Bytes.{bytes_at};
-ghost use Rattle.odht_base.specs.Format.{entry_len, format_of};
-ghost use Rattle.odht_base.specs.Image.{image_len};
-ghost use Rattle.odht_base.specs.Insert.{grown_slots, place_all};
+ghost use Rattle.odht_base.specs.Format.{format_of};
+ghost use Rattle.odht_base.specs.Insert.{grown_slots};
 ghost use Rattle.odht_base.specs.Load.{IsSlotCount};
-ghost use Rattle.odht_base.specs.Map.{KeysApart};
 ghost use Rattle.odht_base.specs.Decoded.{header_count, header_factor};
 ghost use Rattle.odht_base.specs.Table.{Table};
 ghost use Rattle.odht_base.specs.Valid.{IsPartsOf};
-ghost use Rattle.odht_raw.specs.Frame.{IsAccepted};
 ghost use Rattle.odht_header.specs.Layouts.{IsLayout};
-ghost use Rattle.odht_raw.specs.PartsPlacings.{IsNewTo};
 ghost use Rattle.odht_raw.specs.PartLengths.{ArePartLengths};
-ghost use Rattle.odht_raw.specs.Parts.{IsZeros};
 ghost use Rattle.odht_raw.specs.Walks.{stored};
 ghost use Rattle.odht.specs.Growths.{grown_len, grown_slots_of, table_len};
-ghost use Rattle.odht.specs.Growths.{IsGrownImage, IsWritten};
+ghost use Rattle.odht.specs.Growths.{IsWritten, IsGrownFrom, IsRoomFor, IsPlacing};
 
 use crate::bytes::{ByteArray, ByteStore};
 use crate::config::{Coded, Config};
@@ -60,11 +54,7 @@ impl<C: Config, D: ByteStore> HashTable<C, D> {
     pub fn grow_into(&self, out: &mut [u8])
         requires { grown_len ⟦<C as Coded>⟧.coding.format (D.bytes self.now)
             ≡ Some (length out.old) }
-        ensures on_valid { InTable ⟦<C as Coded>⟧.coding (D.bytes self.now)
-            (λ c P. IsGrownImage c.format P out.new) }
-        ensures accepted { IsAccepted ⟦<C as Coded>⟧.coding.format out.new }
-        ensures count { header_count out.new ≡ header_count (D.bytes self.now) }
-        ensures factor { header_factor out.new ≡ header_factor (D.bytes self.now) }
+        ensures { IsGrownFrom ⟦<C as Coded>⟧.coding.format (D.bytes self.now) out.new }
     {
         let Some((slot_count, _)) = grown_layout::<C>(&self.allocation.header()) else {
             // `out` has the length of the grown table.
@@ -100,14 +90,8 @@ pub(crate) fn write_grown<C: Config, D: ByteStore>(
     out: &mut [u8],
 )
     requires slots { grown_slots_of (D.bytes table.now) ≡ Some slot_count }
-    requires len { length out.old ≡ image_len ⟦<C as Coded>⟧.coding.format slot_count }
-    requires zeros { IsZeros (slot_count * entry_len ⟦<C as Coded>⟧.coding.format)
-        (bytes_at out.old 32 (slot_count * entry_len ⟦<C as Coded>⟧.coding.format)) }
-    ensures on_valid { InTable ⟦<C as Coded>⟧.coding (D.bytes table.now)
-        (λ c P. IsGrownImage c.format P out.new) }
-    ensures accepted { IsAccepted ⟦<C as Coded>⟧.coding.format out.new }
-    ensures count { header_count out.new ≡ header_count (D.bytes table.now) }
-    ensures factor { header_factor out.new ≡ header_factor (D.bytes table.now) }
+    requires room { IsRoomFor ⟦<C as Coded>⟧.coding slot_count out.old }
+    ensures { IsGrownFrom ⟦<C as Coded>⟧.coding.format (D.bytes table.now) out.new }
 {
     let header = table.allocation.header();
     let item_count = header.item_count();
@@ -127,9 +111,7 @@ pub(crate) fn write_walked<C: Config>(
     walk: RawIter<'_, C::EncodedKey, C::EncodedValue>,
 )
     requires slots { IsSlotCount slot_count }
-    requires len { length bytes.old ≡ image_len ⟦<C as Coded>⟧.coding.format slot_count }
-    requires zeros { IsZeros (slot_count * entry_len ⟦<C as Coded>⟧.coding.format)
-        (bytes_at bytes.old 32 (slot_count * entry_len ⟦<C as Coded>⟧.coding.format)) }
+    requires room { IsRoomFor ⟦<C as Coded>⟧.coding slot_count bytes.old }
     ensures { IsWritten ⟦<C as Coded>⟧.coding.format slot_count item_count max_load_factor.0
         (map (stored C.EncodedKey.bytes C.EncodedValue.bytes) walk.entry) bytes.new }
 {
@@ -149,12 +131,8 @@ fn insert_walk<K: ByteArray, V: ByteArray, H: HashFn>(
     requires { ArePartLengths H.MIN_LEN K.LEN V.LEN (length entries.old) (length control.old) }
     ensures { let F = format_of K.LEN V.LEN H.hash
         in let pairs = map (stored K.bytes V.bytes) walk.entry
-        in (P Q : Table)
-        → IsPartsOf F P entries.old control.old
-        → KeysApart pairs
-        → All (IsNewTo P) pairs
-        → place_all F P pairs ≡ Some Q
-        → IsPartsOf F Q entries.new control.new }
+        in (P Q : Table) → IsPlacing F P pairs Q
+        → IsPartsOf F P entries.old control.old → IsPartsOf F Q entries.new control.new }
 {
     let mut table: RawTableMut<'_, '_, K, V, H> = RawTableMut::new(control, entries);
     for (_, entry) in walk {

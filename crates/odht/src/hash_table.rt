@@ -1,22 +1,18 @@
 //! The table over bytes of any kind.
-ghost use Rattle.std.specs.Prelude.{◌≡◌, ℕ, ◌≤◌, ◌↔◌, length, map, IfOk, IfSome, IsOk};
-ghost use Rattle.std.specs.Prelude.{IsNone, IsTrue, OnErr, OnOk};
+ghost use Rattle.std.specs.Prelude.{◌≡◌, ◌≤◌, ◌↔◌, length, IfOk, IsOk};
+ghost use Rattle.std.specs.Prelude.{IsTrue, OnErr, OnOk};
 ghost use Rattle.std.specs.Result.{result_err};
-ghost use Rattle.odht_base.specs.Load.{factor_of, slots_for, IsPercent};
-ghost use Rattle.odht_base.specs.Image.{image_len};
-ghost use Rattle.odht_base.specs.Table.{walk, count};
-ghost use Rattle.odht_base.specs.Decoded.{header_count, header_slots, entries_of, controls_of};
-ghost use Rattle.odht_base.specs.Decoded.{decoded_pairs};
+ghost use Rattle.odht_base.specs.Load.{IsPercent};
 ghost use Rattle.odht_base.specs.Valid.{IsPartsOf, IsValidBytes};
-ghost use Rattle.odht_header.specs.Coding.{encoded, value_for};
-ghost use Rattle.odht.specs.Gets.{IsGet, IsCountedGet, IsKnown};
+ghost use Rattle.odht.specs.Gets.{IsGet, IsCountedGet, IsKnown, AreGot};
 ghost use Rattle.odht.specs.Inserts.{IsFresh, IsInsertInto};
-ghost use Rattle.odht.specs.Lookups.{HaveStored};
 ghost use Rattle.odht.specs.Tables.{OfTable, InTable};
 ghost use Rattle.odht_raw.specs.Frame.{IsAccepted, IsFramed};
-ghost use Rattle.odht_raw.specs.Walks.{decoded_all};
-ghost use Rattle.odht_header.specs.Refusals.{IsTooLarge, new_refusal, opening_refusal};
+ghost use Rattle.odht_header.specs.Refusals.{opening_refusal};
 ghost use Rattle.odht_header.specs.Refusals.{view_refusal};
+ghost use Rattle.odht.specs.NewTables.{new_len, init_refusal};
+ghost use Rattle.odht.specs.Walks.{IsWalk, IsItemCount};
+ghost use Rattle.odht_raw.specs.Dumps.{parts_of};
 
 use crate::bytes::{ByteStore, ByteStoreMut};
 use crate::config::{Coded, Config};
@@ -39,12 +35,7 @@ mod walks;
 /// exactly where no slot count is enough, or the length passes `usize`. docs/FORMAT.md, "Load factors", has the rule.
 pub fn bytes_needed<C: Config>(max_item_count: usize, max_load_factor_percent: u8) -> Option<usize>
     requires percent { IsPercent max_load_factor_percent }
-    ensures len { let F = ⟦<C as Coded>⟧.coding.format
-        in let f = factor_of max_load_factor_percent
-        in IfSome result
-        (λ len. (s : ℕ) × (slots_for max_item_count f ≡ Some s) × (len ≡ image_len F s)) }
-    ensures none { let F = ⟦<C as Coded>⟧.coding.format
-        in IsNone result ↔ IsTooLarge F max_item_count (factor_of max_load_factor_percent) }
+    ensures { result ≡ new_len ⟦<C as Coded>⟧.coding max_item_count max_load_factor_percent }
 {
     let factor = Factor::from_percent(max_load_factor_percent);
     let (_, len) = memory_layout::layout_for::<C>(max_item_count, factor)?;
@@ -130,9 +121,7 @@ impl<C: Config, D: ByteStore> HashTable<C, D> {
     #[inline]
     pub fn get_all(&self, keys: &[C::Key], values: &mut [Option<C::Value>])
         requires { length values.old ≡ length keys.now }
-        ensures on_valid { InTable ⟦<C as Coded>⟧.coding (D.bytes self.now)
-            (λ c P. values.new ≡ map (value_for c P) keys.now) }
-        ensures on_any { HaveStored ⟦<C as Coded>⟧.coding (D.bytes self.now) keys.now values.new }
+        ensures { AreGot ⟦<C as Coded>⟧.coding (D.bytes self.now) keys.now values.new }
     {
         let mut answers = InSlice { answers: values };
         lookups::get_all::<C, InSlice<'_, Option<C::Value>>>(&self.as_raw(), keys, &mut answers);
@@ -160,10 +149,7 @@ impl<C: Config, D: ByteStore> HashTable<C, D> {
     /// the table once.
     #[inline]
     pub fn iter(&self) -> Iter<'_, C>
-        ensures on_valid { InTable ⟦<C as Coded>⟧.coding (D.bytes self.now)
-            (λ c P. result ≡ decoded_all c (walk P)) }
-        ensures on_any { let c = ⟦<C as Coded>⟧.coding
-            in result ≡ decoded_all c (decoded_pairs c.format (D.bytes self.now)) }
+        ensures pairs { IsWalk ⟦<C as Coded>⟧.coding (D.bytes self.now) result }
         ensures few { length result ≤ usize.MAX }
     {
         let (control, entries) = self.allocation.data_slices();
@@ -175,9 +161,7 @@ impl<C: Config, D: ByteStore> HashTable<C, D> {
     /// The item count of the header. On valid bytes it is the number of items.
     #[inline]
     pub fn len(&self) -> usize
-        ensures by_header { result ≡ header_count (D.bytes self.now) }
-        ensures on_valid { InTable ⟦<C as Coded>⟧.coding (D.bytes self.now)
-            (λ _ P. result ≡ count P) }
+        ensures { IsItemCount ⟦<C as Coded>⟧.coding.format (D.bytes self.now) result }
     {
         self.allocation.header().item_count()
     }
@@ -217,11 +201,7 @@ impl<C: Config, D: ByteStore> HashTable<C, D> {
     /// The raw table of these bytes. A caller that looks up many keys calls this once.
     #[inline]
     pub fn as_raw(&self) -> RawTable<'_, C::EncodedKey, C::EncodedValue, C::H>
-        ensures control { result.control
-            ≡ controls_of ⟦<C as Coded>⟧.coding.format (D.bytes self.now) }
-        ensures entries { result.entries.bytes
-            ≡ entries_of ⟦<C as Coded>⟧.coding.format (D.bytes self.now) }
-        ensures slots { result.entries.slots ≡ header_slots (D.bytes self.now) }
+        ensures bytes { result ≡ parts_of ⟦<C as Coded>⟧.coding.format (D.bytes self.now) }
         ensures parts { InTable ⟦<C as Coded>⟧.coding (D.bytes self.now)
             (λ c P. IsPartsOf c.format P result.entries.bytes result.control) }
     {
@@ -246,9 +226,8 @@ impl<C: Config, D: ByteStoreMut> HashTable<C, D> {
         ensures ok { let F = ⟦<C as Coded>⟧.coding.format
             in IfOk result (λ t. IsFresh F max_item_count max_load_factor_percent (D.bytes t)) }
         ensures same_store { IfOk result (λ t. t ≡ D.holding «data» (D.bytes t)) }
-        ensures err { let F = ⟦<C as Coded>⟧.coding.format
-            in let f = factor_of max_load_factor_percent
-            in result_err result ≡ new_refusal F max_item_count f (length (D.bytes «data»)) }
+        ensures err { let c = ⟦<C as Coded>⟧.coding in result_err result
+            ≡ init_refusal c max_item_count max_load_factor_percent (D.bytes «data») }
     {
         let mut store = data;
         HashTable::<C, D>::init_store(&mut store, max_item_count, max_load_factor_percent)?;
@@ -270,9 +249,8 @@ impl<C: Config, D: ByteStoreMut> HashTable<C, D> {
             in OnOk result (IsFresh F max_item_count max_load_factor_percent (D.bytes store.new)) }
         ensures accepted { let F = ⟦<C as Coded>⟧.coding.format
             in OnOk result (IsAccepted F (D.bytes store.new)) }
-        ensures err { let F = ⟦<C as Coded>⟧.coding.format
-            in let f = factor_of max_load_factor_percent
-            in result_err result ≡ new_refusal F max_item_count f (length (D.bytes store.old)) }
+        ensures err { let c = ⟦<C as Coded>⟧.coding in result_err result
+            ≡ init_refusal c max_item_count max_load_factor_percent (D.bytes store.old) }
         ensures refused { OnErr result (store.new ≡ store.old) }
         ensures same_store { store.new ≡ D.holding store.old (D.bytes store.new) }
     {

@@ -1,20 +1,19 @@
 //! The table that owns its bytes, and grows.
-ghost use Rattle.std.specs.Prelude.{◌≡◌, ℕ, List, ◌≤◌, ◌↔◌, ◌⊎◌, None, Some, length, IfOk, IsSome};
-ghost use Rattle.std.specs.Prelude.{IsTrue, IsErrOf, OnErr, OnOk};
-ghost use Rattle.odht_base.specs.Load.{factor_of, slots_for, IsPercent};
-ghost use Rattle.odht_base.specs.Table.{walk, count, empty};
-ghost use Rattle.odht_base.specs.Map.{map_of};
-ghost use Rattle.odht_base.specs.Search.{groups_read};
-ghost use Rattle.odht_base.specs.Insert.{insert_owned, IsFullFor};
-ghost use Rattle.odht_base.specs.Valid.{IsImage, IsValidBytes};
-ghost use Rattle.odht_header.specs.Coding.{encoded, value_for};
-ghost use Rattle.odht.specs.Growths.{IsGrownImage};
+ghost use Rattle.std.specs.Prelude.{◌≡◌, ℕ, List, ◌≤◌, Some, length, IfOk};
+ghost use Rattle.std.specs.Prelude.{IsErrOf, OnErr};
+ghost use Rattle.odht_base.specs.Load.{factor_of, IsPercent};
+ghost use Rattle.odht_base.specs.Table.{count};
+ghost use Rattle.odht_base.specs.Insert.{IsFullFor};
+ghost use Rattle.odht_base.specs.Valid.{IsValidBytes};
 ghost use Rattle.odht.specs.Lists.{EndsAfter, IsFreshAfterInserts};
-ghost use Rattle.odht.specs.Inserts.{IsFresh, IsInserted};
+ghost use Rattle.odht.specs.Inserts.{IsFresh, IsInsertOwned};
 ghost use Rattle.odht.specs.Tables.{OfTable, InTable};
-ghost use Rattle.odht_raw.specs.Walks.{decoded_all};
 ghost use Rattle.std.specs.Iterator.{IsFinite};
 ghost use Rattle.odht_header.specs.Refusals.{IsTooLarge, check_refusal, check_refusal_by};
+ghost use Rattle.odht.specs.Gets.{IsGet, IsCountedGet, IsKnown};
+ghost use Rattle.odht.specs.Growths.{IsGrownFrom};
+ghost use Rattle.odht.specs.NewTables.{IsEmptyFor, IsCapacityOrMemory, FailsAsNew, FailsBy};
+ghost use Rattle.odht.specs.Walks.{IsWalk};
 
 use crate::bytes::OwnedBytes;
 use crate::config::{Coded, Config};
@@ -70,11 +69,8 @@ impl<C: Config> HashTableOwned<C> {
         requires percent { IsPercent max_load_factor_percent }
         ensures ok { IfOk result
             (IsFresh ⟦<C as Coded>⟧.coding.format max_item_count max_load_factor_percent) }
-        ensures capacity { let F = ⟦<C as Coded>⟧.coding.format
-            in (result ≡ Err Error.Capacity)
-            ↔ IsTooLarge F max_item_count (factor_of max_load_factor_percent) }
-        ensures memory { OnErr result
-            ((result ≡ Err Error.Capacity) ⊎ (result ≡ Err Error.Memory)) }
+        ensures err { let f = factor_of max_load_factor_percent
+            in FailsAsNew ⟦<C as Coded>⟧.coding max_item_count f result }
     {
         let factor = Factor::from_percent(max_load_factor_percent);
         let table = empty_table(alloc, max_item_count, factor)?;
@@ -113,8 +109,7 @@ impl<C: Config> HashTableOwned<C> {
         ensures capacity { let F = ⟦<C as Coded>⟧.coding.format
             in IsErrOf result Error.Capacity → EndsAfter I.next_gives items
             (λ xs. IsTooLarge F (length xs) (factor_of max_load_factor_percent)) }
-        ensures memory { OnErr result
-            ((result ≡ Err Error.Capacity) ⊎ (result ≡ Err Error.Memory)) }
+        ensures memory { OnErr result (IsCapacityOrMemory result) }
     {
         let items: Vec<(C::Key, C::Value)> = items.collect(alloc)?;
         let mut table = Self::with_capacity(alloc, items.len(), max_load_factor_percent)?;
@@ -126,8 +121,7 @@ impl<C: Config> HashTableOwned<C> {
     /// search reads.
     #[inline]
     pub fn get(&self, key: &C::Key) -> Option<C::Value>
-        ensures { InTable ⟦<C as Coded>⟧.coding self.now
-            (λ c P. result ≡ value_for c P key.now) }
+        ensures { IsGet ⟦<C as Coded>⟧.coding self.now key.now result }
     {
         self.table.get(key)
     }
@@ -136,10 +130,7 @@ impl<C: Config> HashTableOwned<C> {
     /// free or holds the key. docs/FORMAT.md, "Search", counts them.
     #[inline]
     pub fn get_counted(&self, key: &C::Key) -> (Option<C::Value>, usize)
-        ensures value { InTable ⟦<C as Coded>⟧.coding self.now
-            (λ c P. result.0 ≡ value_for c P key.now) }
-        ensures groups { InTable ⟦<C as Coded>⟧.coding self.now
-            (λ c P. result.1 ≡ groups_read c.format P.cells (c.key_bytes key.now)) }
+        ensures { IsCountedGet ⟦<C as Coded>⟧.coding self.now key.now result }
     {
         self.table.get_counted(key)
     }
@@ -147,8 +138,7 @@ impl<C: Config> HashTableOwned<C> {
     /// Whether the key has a value.
     #[inline]
     pub fn contains_key(&self, key: &C::Key) -> bool
-        ensures { InTable ⟦<C as Coded>⟧.coding self.now
-            (λ c P. IsTrue result ↔ IsSome (map_of P (c.key_bytes key.now))) }
+        ensures { IsKnown ⟦<C as Coded>⟧.coding self.now key.now result }
     {
         self.table.contains_key(key)
     }
@@ -156,8 +146,7 @@ impl<C: Config> HashTableOwned<C> {
     /// The keys and values, each pair once, in slot order.
     #[inline]
     pub fn iter(&self) -> Iter<'_, C>
-        ensures pairs { InTable ⟦<C as Coded>⟧.coding self.now
-            (λ c P. result ≡ decoded_all c (walk P)) }
+        ensures pairs { IsWalk ⟦<C as Coded>⟧.coding self.now result }
         ensures few { length result ≤ usize.MAX }
     {
         self.table.iter()
@@ -196,11 +185,8 @@ impl<C: Config> HashTableOwned<C> {
     /// `Memory` where the allocator gives none.
     pub fn from_raw_bytes(alloc: Global, raw_bytes: &[u8]) -> Result<Self, Error>
         ensures ok { IfOk result (λ t. t ≡ raw_bytes.now) }
-        ensures refused { (e : Error)
-            → check_refusal ⟦<C as Coded>⟧.coding.format raw_bytes.now ≡ Some e
-            → result ≡ Err e }
-        ensures memory { IsValidBytes ⟦<C as Coded>⟧.coding.format raw_bytes.now
-            → OnErr result (result ≡ Err Error.Memory) }
+        ensures err { let refusal = check_refusal ⟦<C as Coded>⟧.coding.format raw_bytes.now
+            in FailsBy refusal result }
     {
         if let Err(refused) = memory_layout::check_all::<C>(raw_bytes) {
             return Err(refused);
@@ -218,11 +204,8 @@ impl<C: Config> HashTableOwned<C> {
         groups: usize,
     ) -> Result<Self, Error>
         ensures ok { IfOk result (λ t. t ≡ raw_bytes.now) }
-        ensures refused { (e : Error)
-            → check_refusal_by ⟦<C as Coded>⟧.coding.format (Some groups) raw_bytes.now ≡ Some e
-            → result ≡ Err e }
-        ensures memory { check_refusal_by ⟦<C as Coded>⟧.coding.format (Some groups) raw_bytes.now
-            ≡ None → OnErr result (result ≡ Err Error.Memory) }
+        ensures err { let F = ⟦<C as Coded>⟧.coding.format
+            in FailsBy (check_refusal_by F (Some groups) raw_bytes.now) result }
     {
         if let Err(refused) = memory_layout::check_all_within::<C>(raw_bytes, groups) {
             return Err(refused);
@@ -265,15 +248,9 @@ impl<C: Config> HashTableOwned<C> {
     /// The key is hashed once, and once more at a growth, which hashes and places each item again.
     #[inline(always)]
     pub fn insert(&mut self, key: &C::Key, value: &C::Value) -> Result<Option<C::Value>, Error>
-        // On success.
-        ensures former { InTable ⟦<C as Coded>⟧.coding self.old
-            (λ c P. IfOk result (λ former. former ≡ value_for c P key.now)) }
-        ensures inserted { let p = encoded ⟦<C as Coded>⟧.coding key.now value.now
-            in InTable ⟦<C as Coded>⟧.coding self.old (λ c P. OnOk result
-            (IsInserted c.format (insert_owned c.format) P p self.new)) }
+        ensures in_table { InTable ⟦<C as Coded>⟧.coding self.old
+            (λ c P. IsInsertOwned c P key.now value.now result self.new) }
         // On failure.
-        ensures at_maximum { InTable ⟦<C as Coded>⟧.coding self.old
-            (λ c P. OnErr result (IsFullFor P (c.key_bytes key.now))) }
         ensures memory { OnErr result (result ≡ Err Error.Memory) }
         ensures refused { OnErr result (self.new ≡ self.old) }
     {
@@ -287,12 +264,9 @@ impl<C: Config> HashTableOwned<C> {
     // `insert` of an absent key at the maximum: into the grown table.
     #[inline(never)]
     fn insert_grown(&mut self, key: &C::Key, value: &C::Value) -> Result<Option<C::Value>, Error>
-        ensures former { InTable ⟦<C as Coded>⟧.coding self.old (λ c P.
-            IsFullFor P (c.key_bytes key.now)
-            → IfOk result (λ former. former ≡ value_for c P key.now)) }
-        ensures inserted { let p = encoded ⟦<C as Coded>⟧.coding key.now value.now
-            in InTable ⟦<C as Coded>⟧.coding self.old (λ c P. IsFullFor P p.key
-            → OnOk result (IsInserted c.format (insert_owned c.format) P p self.new)) }
+        ensures in_table { InTable ⟦<C as Coded>⟧.coding self.old
+            (λ c P. IsFullFor P (c.key_bytes key.now)
+            → IsInsertOwned c P key.now value.now result self.new) }
         ensures memory { OnErr result (result ≡ Err Error.Memory) }
         ensures refused { OnErr result (self.new ≡ self.old) }
     {
@@ -311,8 +285,7 @@ impl<C: Config> HashTableOwned<C> {
     // least.
     #[inline(never)]
     fn grown_table(&self) -> Result<HashTable<C, OwnedBytes>, Error>
-        ensures ok { InTable ⟦<C as Coded>⟧.coding self.now
-            (λ c P. IfOk result (IsGrownImage c.format P)) }
+        ensures ok { IfOk result (IsGrownFrom ⟦<C as Coded>⟧.coding.format self.now) }
         ensures memory { OnErr result (result ≡ Err Error.Memory) }
     {
         let Some((slot_count, len)) = grown_layout::<C>(&self.table.allocation.header()) else {
@@ -333,13 +306,8 @@ fn empty_table<C: Config>(
     max_load_factor: Factor,
 ) -> Result<HashTable<C, OwnedBytes>, Error>
     requires low { 655 ≤ max_load_factor.0 }
-    ensures ok { let F = ⟦<C as Coded>⟧.coding.format
-        in let f = max_load_factor.0
-        in IfOk result
-        (λ t. (s : ℕ) × (slots_for max_item_count f ≡ Some s) × IsImage F (empty s f) t) }
-    ensures capacity { let F = ⟦<C as Coded>⟧.coding.format
-        in (result ≡ Err Error.Capacity) ↔ IsTooLarge F max_item_count max_load_factor.0 }
-    ensures memory { OnErr result ((result ≡ Err Error.Capacity) ⊎ (result ≡ Err Error.Memory)) }
+    ensures ok { IfOk result (IsEmptyFor ⟦<C as Coded>⟧.coding max_item_count max_load_factor.0) }
+    ensures err { FailsAsNew ⟦<C as Coded>⟧.coding max_item_count max_load_factor.0 result }
 {
     let Some(slot_count) = slots_needed(max_item_count, max_load_factor) else {
         return Err(Error::Capacity);

@@ -1,19 +1,19 @@
 //! Laws of whole tables that are the contract of no single call: a table of a `Lossless` configuration is a map of the
 //! keys to the values themselves, valid bytes are accepted, and an order of inserts makes its table again. Each
 //! function is a few calls at most, and its contract is the law. docs/PROOFS.md lists them in "Laws of whole tables".
-ghost use Rattle.std.specs.Prelude.{◌≡◌, ◌≤◌, ℕ, List, None, ◌↔◌, ◌⊎◌, length, IfOk, OnErr};
+ghost use Rattle.std.specs.Prelude.{◌≡◌, ◌≤◌, ℕ, List, None, length, IfOk};
 ghost use Rattle.odht_base.specs.Bounds.{first_longer};
 ghost use Rattle.odht_base.specs.Decoded.{controls_of};
 ghost use Rattle.odht_base.specs.Search.{groups_read};
 ghost use Rattle.odht.specs.Tables.{OfTable};
 ghost use Rattle.odht_base.specs.Load.{factor_of, IsPercent};
 ghost use Rattle.odht.specs.LastValues.{IsLastValue, HasLastValues};
-ghost use Rattle.odht.specs.Rebuilds.{IsNewSizeOf, AreInOrder};
 ghost use Rattle.odht_base.specs.Table.{Table};
-ghost use Rattle.odht_base.specs.Valid.{IsImage, IsValid, IsValidBytes};
+ghost use Rattle.odht_base.specs.Valid.{IsImage, IsValidBytes};
 ghost use Rattle.odht_header.specs.Coding.{value_for};
 ghost use Rattle.odht_raw.specs.Frame.{IsAccepted};
-ghost use Rattle.odht_header.specs.Refusals.{IsTooLarge};
+ghost use Rattle.odht.specs.NewTables.{FailsAsNew};
+ghost use Rattle.odht.specs.Rebuilds.{IsRebuilding};
 
 use crate::config::{Coded, Config, Lossless};
 use crate::error::Error;
@@ -41,8 +41,7 @@ pub fn bounded_searches_end_in_time<C: Config>()
 ///
 /// It has no effect, but costs a pass over the items.
 pub fn keys_have_last_values<C: Lossless>(items: &[(C::Key, C::Value)], key: &C::Key)
-    ensures { let c = ⟦<C as Coded>⟧.coding
-        in (B : List ℕ) (h : HasLastValues c items.now B)
+    ensures { let c = ⟦<C as Coded>⟧.coding in (B : List ℕ) (h : HasLastValues c items.now B)
         → IsLastValue items.now key.now (value_for c h.table key.now) }
 {
     for (k, v) in items {
@@ -80,10 +79,8 @@ pub fn built_from_empty<C: Lossless>(
 ) -> Result<Option<C::Value>, Error>
     requires percent { IsPercent max_load_factor_percent }
     ensures ok { IfOk result (λ value. IsLastValue items.now key.now value) }
-    ensures capacity { let F = ⟦<C as Coded>⟧.coding.format
-        in (result ≡ Err Error.Capacity)
-        ↔ IsTooLarge F (length items.now) (factor_of max_load_factor_percent) }
-    ensures memory { OnErr result ((result ≡ Err Error.Capacity) ⊎ (result ≡ Err Error.Memory)) }
+    ensures err { let f = factor_of max_load_factor_percent
+        in FailsAsNew ⟦<C as Coded>⟧.coding (length items.now) f result }
 {
     let mut table: HashTableOwned<C> = HashTableOwned::with_capacity(
         alloc,
@@ -108,15 +105,10 @@ pub fn rebuilt<C: Config>(
 ) -> Result<HashTableOwned<C>, Error>
     requires percent { IsPercent max_load_factor_percent }
     ensures ok { let c = ⟦<C as Coded>⟧.coding
-        in (P : Table)
-        → IsValid c.format P
-        → AreInOrder c P items.now
-        → IsNewSizeOf P max_item_count max_load_factor_percent
+        in (P : Table) → IsRebuilding c items.now max_item_count max_load_factor_percent P
         → IfOk result (IsImage c.format P) }
-    ensures capacity { let F = ⟦<C as Coded>⟧.coding.format
-        in (result ≡ Err Error.Capacity)
-        ↔ IsTooLarge F max_item_count (factor_of max_load_factor_percent) }
-    ensures memory { OnErr result ((result ≡ Err Error.Capacity) ⊎ (result ≡ Err Error.Memory)) }
+    ensures err { let f = factor_of max_load_factor_percent
+        in FailsAsNew ⟦<C as Coded>⟧.coding max_item_count f result }
 {
     let mut rebuilt: HashTableOwned<C> = HashTableOwned::with_capacity(
         alloc,

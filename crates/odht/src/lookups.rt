@@ -1,7 +1,7 @@
 //! Lookups of many keys. A first look hashes a key and reads the group of control bytes at its home. The first looks of
 //! eight keys are taken before any of their searches goes on, so that the loads from memory overlap.
-ghost use Rattle.std.specs.Prelude.{◌≡◌, ◌+◌, ◌≤◌, ◌<◌, ℕ, length, set, slice_get, Some};
-ghost use Rattle.odht.specs.Lookups.{IsLookAt, IsLookup, lookups_of, ArePut};
+ghost use Rattle.std.specs.Prelude.{◌≡◌, ◌+◌, ◌≤◌, ◌<◌, ℕ, length, set, Some};
+ghost use Rattle.odht.specs.Lookups.{IsLookAt, lookups_of, ArePut, PutsOn, IsLookupAt};
 
 use crate::config::{Coded, Config};
 use crate::raw_table::{FirstLook, RawTable};
@@ -56,8 +56,7 @@ pub fn get_all<C: Config, A: Answers<Option<C::Value>>>(
     answers: &mut A,
 )
     requires { length keys.now ≤ A.places answers.old }
-    ensures { let c = ⟦<C as Coded>⟧.coding
-        in let all = lookups_of c raw.now keys.now A.after_put
+    ensures { let all = lookups_of ⟦<C as Coded>⟧.coding raw.now keys.now A.after_put
         in ArePut all answers.old answers.new (length keys.now) }
 {
     let from = get_batches::<C, A>(raw, keys, answers);
@@ -76,8 +75,7 @@ fn get_batches<C: Config, A: Answers<Option<C::Value>>>(
 ) -> usize
     requires { length keys.now ≤ A.places answers.old }
     ensures within { result ≤ length keys.now }
-    ensures answers { let c = ⟦<C as Coded>⟧.coding
-        in let all = lookups_of c raw.now keys.now A.after_put
+    ensures answers { let all = lookups_of ⟦<C as Coded>⟧.coding raw.now keys.now A.after_put
         in ArePut all answers.old answers.new result }
     ensures places { A.places answers.new ≡ A.places answers.old }
 {
@@ -98,11 +96,8 @@ fn get_eight<C: Config, A: Answers<Option<C::Value>>>(
 )
     requires within { from + 8 ≤ length keys.now }
     requires places { length keys.now ≤ A.places answers.old }
-    ensures answers { let c = ⟦<C as Coded>⟧.coding
-        in let all = lookups_of c raw.now keys.now A.after_put
-        in (first : A)
-        → ArePut all first answers.old from
-        → ArePut all first answers.new (from + 8) }
+    ensures answers { let all = lookups_of ⟦<C as Coded>⟧.coding raw.now keys.now A.after_put
+        in PutsOn all answers.old answers.new from (from + 8) }
     ensures places { A.places answers.new ≡ A.places answers.old }
 {
     let first = first_look_at::<C>(raw, keys, from);
@@ -135,11 +130,8 @@ fn get_one<C: Config, A: Answers<Option<C::Value>>>(
     requires index { index < length keys.now }
     requires places { length keys.now ≤ A.places answers.old }
     requires look { IsLookAt ⟦<C as Coded>⟧.coding raw.now keys.now index look }
-    ensures answers { let c = ⟦<C as Coded>⟧.coding
-        in let all = lookups_of c raw.now keys.now A.after_put
-        in (first : A)
-        → ArePut all first answers.old index
-        → ArePut all first answers.new (index + 1) }
+    ensures answers { let all = lookups_of ⟦<C as Coded>⟧.coding raw.now keys.now A.after_put
+        in PutsOn all answers.old answers.new index (index + 1) }
     ensures places { A.places answers.new ≡ A.places answers.old }
 {
     answers.put(index, find_at::<C>(raw, look, keys, index));
@@ -168,8 +160,7 @@ fn find_at<C: Config>(
 ) -> Option<C::Value>
     requires index { index < length keys.now }
     requires look { IsLookAt ⟦<C as Coded>⟧.coding raw.now keys.now index look }
-    ensures { (k : C.Key) → slice_get keys.now index ≡ Some k
-        → IsLookup ⟦<C as Coded>⟧.coding raw.now k result }
+    ensures { IsLookupAt ⟦<C as Coded>⟧.coding raw.now keys.now index result }
 {
     let key = C::encode_key(&keys[index]);
     match raw.find_from(look, &key) {

@@ -2,31 +2,20 @@
 -- The status is s; the buffers hold `out` and `len` before the call, and out' and len' after it.
 --     growth_refusal F B   the error of a growth of the bytes B: that of their header or length, then of a load factor
 --                          below 1 percent, then that no slot count is enough or the length does not fit 64 bits
---     IsGrownFrom F B T    T are accepted bytes whose header has the item count and the load factor of B; and where B
---                          is the image of a table, T is the image of the one that it grows into
 --     IsGrownInto F B n out out'   the first n bytes of out' are grown from B, and those after them are as in out
 --     GrowAnswers c B out len s out' len'   the call, in bytes B that the coding c reads
 use Rattle.std.specs.Prelude.{◌≡◌, ◌≤◌, ◌<◌, ℕ, List, [], ◌∷◌, length, take, drop, Option, Some, None, is_none}
 use Rattle.odht_base.specs.Format.{Format}
-use Rattle.odht_base.specs.Decoded.{header_count, header_factor}
-use Rattle.odht_base.specs.Table.{Table}
-use Rattle.odht_base.specs.Valid.{IsImage}
 use Rattle.odht_header.specs.Coding.{Coding}
-use Rattle.odht_raw.specs.Frame.{IsAccepted}
 use Rattle.odht_header.specs.Refusals.{◌gives◌, first_of, factor_refusal, opening_refusal}
 use Rattle.odht_header.specs.declared.error.Error.{Error}
 use Rattle.odht_header.specs.declared.error.Error.TheVariants.{Capacity}
-use Rattle.odht.specs.Growths.{grown_len, IsGrownImage}
+use Rattle.odht.specs.Growths.{grown_len}
+pub use Rattle.odht.specs.Growths.{IsGrownFrom}
 use Rattle.odht_calls.specs.Statuses.{status_of, done, too_small}
 
 unfoldable pub growth_refusal : Format → List ℕ → Option Error
 growth_refusal F B = first_of (opening_refusal F B ∷ factor_refusal B ∷ (is_none (grown_len F B) gives Capacity) ∷ [])
-
-pub record IsGrownFrom (F : Format) (B T : List ℕ) : Type 0 where
-  pub accepted : IsAccepted F T
-  pub count : header_count T ≡ header_count B
-  pub factor : header_factor T ≡ header_factor B
-  pub on_valid : (P : Table) → IsImage F P B → IsGrownImage F P T
 
 pub record IsGrownInto (F : Format) (B : List ℕ) (n : ℕ) (out out' : List ℕ) : Type 0 where
   pub table : IsGrownFrom F B (take n out')

@@ -12,8 +12,8 @@ use Rattle.odht_base.proofs.lemmas.Options.{some_same}
 use Rattle.odht_header.proofs.examples.Apart.{some_unequal_lists}
 use Rattle.odht_header.proofs.examples.Opened.{opened}
 use Rattle.odht.specs.Lists.{encoded_all}
-use Rattle.odht.specs.Rebuilds.{IsNewSizeOf, AreInOrder}
-use Rattle.odht.proofs.examples.SmallTables.{number_coding, one_pair}
+use Rattle.odht.specs.Rebuilds.{IsNewSizeOf, AreInOrder, IsRebuilding}
+use Rattle.odht.proofs.examples.SmallTables.{number_coding, one_pair, one_pair_image}
 
 -- a new table for no item has sixteen slots
 pub new_size : IsNewSizeOf (one_pair 2) 0 87
@@ -29,6 +29,13 @@ larger_refused h = omega (arith, some_same 32 16 (ap (option_map slot_count) h))
 pub the_pair : AreInOrder number_coding (one_pair 2) ((1, 2) ∷ [])
 unfolding opened
 the_pair = record { order = 5 ∷ []; is_order = record { each_once = IsPermutation-refl (5 ∷ []); gives = refl }; pairs = refl }
+
+-- so they make it again in a new table of its size, and not in a larger one
+pub rebuilding : IsRebuilding number_coding ((1, 2) ∷ []) 0 87 (one_pair 2)
+rebuilding = record { valid = one_pair_image.0.valid; in_order = the_pair; size = new_size }
+
+pub not_rebuilding : IsRebuilding number_coding ((1, 2) ∷ []) 14 87 (one_pair 2) → ⊥
+not_rebuilding h = larger_refused h.size
 
 -- the items make the table
 made_of : (P : Table) (items : List (ℕ × ℕ)) → AreInOrder number_coding P items

@@ -1,5 +1,5 @@
 -- Worked examples: a table that is given room for more items. Sixteen slots at 87 percent take 13 items, 32 slots 27.
-use Rattle.std.proofs.Common.{◌≡◌, ◌∙◌, ◌^◌, Bool, true, false, refl, sym, ap, lit≤, lit<, Some, None, option_map, if◌then◌else◌, List, ℕ, bytes_eq}
+use Rattle.std.proofs.Common.{◌≡◌, ◌∙◌, ◌^◌, Bool, true, false, refl, sym, ap, lit≤, lit<, Some, None, option_map, if◌then◌else◌, List, ℕ, bytes_eq, subst, arith, Ok, Err}
 use Rattle.odht_base.specs.Map.{map_of}
 use Rattle.odht_base.specs.Numbers.{le_bytes}
 use Rattle.odht_base.specs.Table.{Pair}
@@ -7,8 +7,9 @@ use Rattle.odht_base.proofs.lemmas.Options.{some_same}
 use Rattle.odht_base.proofs.examples.Configs.{my_config, pair64}
 use Rattle.odht_header.proofs.examples.Apart.{unequal_lists}
 use Rattle.odht_header.proofs.examples.Opened.{opened}
-use Rattle.odht.specs.Reserves.{LacksRoom, has_room_for, moved, reserved, IsMovedImage, IsReserved}
-use Rattle.odht.proofs.examples.SmallTables.{one_pair, one_of_32, bytes_of, one_pair_image, wide_image}
+use Rattle.odht_header.specs.declared.error.Error.TheVariants.{Capacity, Memory}
+use Rattle.odht.specs.Reserves.{LacksRoom, has_room_for, moved, reserved, IsMovedImage, IsReserved, IsMove, IsReserve}
+use Rattle.odht.proofs.examples.SmallTables.{number_coding, one_pair, one_of_32, bytes_of, one_pair_image, wide_image, only_one_pair}
 
 -- with one pair twelve more have room, and thirteen have not
 pub rooms : (has_room_for (one_pair 2) 12 ≡ true) × (has_room_for (one_pair 2) 13 ≡ false) × LacksRoom (one_pair 2) 13
@@ -45,6 +46,11 @@ pub moved_image : IsMovedImage my_config (one_pair 2) 32 (bytes_of (one_of_32 87
 unfolding opened
 moved_image = (one_of_32 87 2, refl, wide_image)
 
+-- so are its bytes, of those of the table
+pub move : IsMove number_coding (bytes_of (one_pair 2)) 32 (bytes_of (one_of_32 87 2))
+unfolding opened moved_image
+move = record { on_valid = λ P is room. subst (λ T. IsMovedImage my_config T 32 (bytes_of (one_of_32 87 2))) (only_one_pair P is) moved_image; accepted = refl }
+
 -- no move where there is room
 pub too_wide : IsReserved my_config (one_pair 2) 12 (bytes_of (one_of_32 87 2)) → ⊥
 unfolding opened reserved
@@ -59,3 +65,19 @@ too_small h = unequal_lists _ _ refl (h.image.bytes ∙ ap bytes_of (sym (some_s
 pub not_moved : IsMovedImage my_config (one_pair 2) 32 (bytes_of (one_pair 2)) → ⊥
 unfolding opened
 not_moved h = unequal_lists _ _ refl (h.2.bytes ∙ ap bytes_of (sym (some_same (one_of_32 87 2) h.0 h.1)))
+
+-- ---- with the result of the call
+-- the pair has moved, and there is room
+pub reserve_moves : IsReserve number_coding (one_pair 2) 13 (Ok tt) (bytes_of (one_of_32 87 2))
+unfolding opened
+reserve_moves = record { ok = moves; capacity = (λ e. absurd cc, λ h. absurd (let long = h.1 32 refl in omega (arith, long))); lacking = tt }
+
+-- no failure where there is the room
+pub reserve_early : IsReserve number_coding (one_pair 2) 12 (Err Memory) (bytes_of (one_pair 2)) → ⊥
+unfolding opened
+reserve_early h = omega (arith, h.lacking)
+
+-- nor `Capacity` where some table is large enough
+pub reserve_large : IsReserve number_coding (one_pair 2) 13 (Err Capacity) (bytes_of (one_pair 2)) → ⊥
+unfolding opened
+reserve_large h = let long = (h.capacity.0 refl).1 32 refl in omega (arith, long)

@@ -96,8 +96,12 @@ unfolding opened
 wide_image = image_by (one_of_32 87 2) refl (lit≤ tt) refl refl (lit≤ tt) (lit≤ tt) (lit≤ tt)
 
 -- bytes are those of the one table that they decode to
-my_format : IsFormat my_config
+pub my_format : IsFormat my_config
 my_format = record { key_short = lit≤ tt; value_short = lit≤ tt; hash_small = λ b h. fx-lt b }
 
 pub the_table : (P : Table) (B : List ℕ) → IsImage my_config P B → decoded_table my_config B ≡ P
 the_table P B h = ap (decoded_table my_config) h.bytes ∙ decoded_table-image my_config P my_format h.valid
+
+pub only_one_pair : (P : Table) → IsImage my_config P (bytes_of (one_pair 2)) → one_pair 2 ≡ P
+unfolding opened
+only_one_pair P is = the_table P _ is

@@ -1,14 +1,21 @@
 -- The errors of a new table, case by case.
-use Rattle.std.proofs.Common.{◌≡◌, ◌≢◌, ◌≤◌, ◌<◌, ◌^◌, ◌∙◌, ℕ, Bool, true, false, not, nat_le, ap, refl, [], ◌∷◌, Option, Some, None, Result, Ok, Err, OnErr, ◌⊎◌, inl, inr, arith, leb-true, le-leb, ne_eqb}
+use Rattle.std.proofs.Common.{◌≡◌, ◌≢◌, ◌≤◌, ◌<◌, ◌^◌, ◌∙◌, ℕ, Bool, true, false, not, nat_le, ap, sym, subst, refl, [], ◌∷◌, Option, Some, None, Result, Ok, Err, OnErr, ◌⊎◌, inl, inr, arith, leb-true, le-leb, le-ltb, ltb-false, ne_eqb}
 use Rattle.std.proofs.lemmas.Result.{IfErr-at_err}
 use Rattle.odht_base.specs.Format.{Format}
 use Rattle.odht_base.specs.Load.{slots_for, factor_of}
 use Rattle.odht_base.specs.Image.{image_len}
 use Rattle.std.specs.Option.{option_map_or}
+use Rattle.std.specs.Bool.{then_some}
+use Rattle.std.specs.Prelude.{nat_lt, ◌↔◌}
+use Rattle.std.proofs.lemmas.Option.{none-some}
+use Rattle.odht_base.proofs.lemmas.Options.{some_same}
+use Rattle.odht_header.specs.Coding.{Coding}
 use Rattle.odht_header.specs.Refusals.{IsTooLarge, new_refusal, slots_new_refusal, first_of, differs, ◌gives◌}
 use Rattle.odht_header.specs.declared.error.Error.TheVariants.{Capacity, InitLength, Memory}
 use Rattle.odht_header.specs.declared.error.Error.{Error}
 use Rattle.odht_header.proofs.lemmas.FirstErrors.{false-differs}
+use Rattle.odht.specs.Growths.{table_len}
+use Rattle.odht.specs.NewTables.{FailsAsNew}
 
 -- what is not below is no less
 not_le : (a b : ℕ) → b < a → nat_le a b ≡ false
@@ -57,6 +64,40 @@ module _ (F : Format) (n f len : ℕ) where
       go None e = new_refusal-none e
       go (Some s) e = new_refusal-too_long s e (large s e)
 
+-- ---- the length of a new table
+module _ (F : Format) (n f : ℕ) where
+  -- a length is that of the slots for so many items
+  pub new_len-some : (len : ℕ) → Some len ≡ table_len F (slots_for n f) → (s : ℕ) × (slots_for n f ≡ Some s) × (len ≡ image_len F s)
+  new_len-some len e = go (slots_for n f) refl e
+    where
+      fits : (s : ℕ) (t : Bool) → Some len ≡ then_some t (image_len F s) → len ≡ image_len F s
+      fits s true e = some_same len (image_len F s) e
+      fits s false e = absurd (none-some len (sym e))
+
+      go : (o : Option ℕ) → slots_for n f ≡ o → Some len ≡ table_len F o → (s : ℕ) × (slots_for n f ≡ Some s) × (len ≡ image_len F s)
+      go None is e = absurd (none-some len (sym e))
+      go (Some s) is e = (s, is, fits s (nat_lt (image_len F s) (2 ^ 64)) e)
+
+  -- there is none exactly where the table is too large
+  pub new_len-none : (None ≡ table_len F (slots_for n f)) ↔ IsTooLarge F n f
+  new_len-none = (
+    λ e s is. (
+        let none : None ≡ table_len F (Some s) = e ∙ ap (table_len F) is in
+        not_lt (image_len F s) none),
+    λ large. go (slots_for n f) refl large,
+  )
+    where
+      not_lt : (l : ℕ) → None ≡ then_some (nat_lt l (2 ^ 64)) l → 2 ^ 64 ≤ l
+      not_lt l e = by (nat_lt l (2 ^ 64)) refl e
+        where
+          by : (t : Bool) → nat_lt l (2 ^ 64) ≡ t → None ≡ then_some t l → 2 ^ 64 ≤ l
+          by true is e = absurd (none-some l e)
+          by false is e = ltb-false l (2 ^ 64) is
+
+      go : (o : Option ℕ) → slots_for n f ≡ o → IsTooLarge F n f → None ≡ table_len F o
+      go None is large = refl
+      go (Some s) is large = sym (ap (λ t. then_some t (image_len F s)) (le-ltb (image_len F s) (2 ^ 64) (large s is)))
+
 -- ---- a new table in memory of its own
 -- the default table is not too large
 pub default_fits : (F : Format) → F.key_len ≤ 255 → F.value_len ≤ 255 → IsTooLarge F 12 (factor_of 87) → ⊥
@@ -95,3 +136,28 @@ either r {s = s} {y = y} a b h = on_err r (go (IfErr-at_err (λ _. (s ≡ Err Ca
     go : (s ≡ Err Capacity) ⊎ (s ≡ Err Memory) → (r ≡ Err Capacity) ⊎ (r ≡ Err Memory)
     go (inl large) = inl (passed_on r s a refl b large)
     go (inr memory) = inr (passed_on r s a refl b memory)
+
+-- ---- the errors of a new table
+module _ {K V : Type 0} (c : Coding K V) (n : ℕ) where
+  -- at the same load factor they are the same
+  pub fails-factor : {T : Type 0} (f f' : ℕ) (r : Result T Error) → f ≡ f' → FailsAsNew c n f r → FailsAsNew c n f' r
+  fails-factor f f' r same fails = subst (λ x. FailsAsNew c n x r) same fails
+
+  module _ (f : ℕ) {U : Type 0} (s : Result U Error) (fails : FailsAsNew c n f s) where
+    -- an error that is passed on is as it was
+    pub fails-passed : {T : Type 0} (r : Result T Error) {x y : Error} → r ≡ Err x → x ≡ y → s ≡ Err y → FailsAsNew c n f r
+    fails-passed r a same b = record {
+      capacity = (λ e. fails.capacity.0 (passed_on s r b (sym same) a e), λ large. passed_on r s a same b (fails.capacity.1 large));
+      memory = either r (a ∙ ap Err same) b fails.memory;
+    }
+
+    -- a table that was made is not too large
+    pub fails-made : {T : Type 0} {u : U} (t : T) → s ≡ Ok u → FailsAsNew c n f (Ok t)
+    fails-made t made = record { capacity = (λ e. absurd (not_ok (Ok t) refl e), λ large. absurd (not_ok s made (fails.capacity.1 large))); memory = tt }
+
+    -- nor is one for whose items there was no memory
+    pub fails-later : {T : Type 0} {u : U} (r : Result T Error) → s ≡ Ok u → r ≡ Err Memory → FailsAsNew c n f r
+    fails-later r made memory = record {
+      capacity = (λ e. absurd (not_both r e memory), λ large. absurd (not_ok s made (fails.capacity.1 large)));
+      memory = on_err r (inr memory);
+    }

@@ -44,7 +44,7 @@ module _ (F : Format) (P : Table) (B : List ℕ) (is : IsImage F P B) where
   max_header = λ i. max_items (slots_header i) (factor_header i)
 
   -- and its parts
-  parts_here : IsPartsOf F P (entries_of F B) (controls_of F B)
+  pub parts_here : IsPartsOf F P (entries_of F B) (controls_of F B)
   parts_here =
       let sized = IsSized-IsPlaced F P is.valid.placed in
       record { placed = is.valid.placed; entries_are = ap (entries_of F) is.bytes ∙ entries_of-image F P sized; controls_are = ap (controls_of F) is.bytes ∙ controls_of-image F P sized }

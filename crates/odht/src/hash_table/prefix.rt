@@ -20,8 +20,7 @@ impl<'a, C: Config> HashTable<C, Borrowed<'a>> {
     pub fn from_prefix(bytes: &'a [u8]) -> Result<(Self, &'a [u8]), Error>
         ensures ok { IfOk result
             (λ r. IsCut ⟦<C as Coded>⟧.coding.format bytes.now r.0.0.now r.1.now) }
-        ensures err { result_err result
-            ≡ front_refusal ⟦<C as Coded>⟧.coding.format bytes.now }
+        ensures err { result_err result ≡ front_refusal ⟦<C as Coded>⟧.coding.format bytes.now }
         ensures valid { (table rest : List ℕ)
             → IsValidBytes ⟦<C as Coded>⟧.coding.format table → bytes.now ≡ table ++ rest
             → IsOk result }

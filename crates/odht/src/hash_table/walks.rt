@@ -1,9 +1,6 @@
 //! Walks over the table that begin at a slot.
-ghost use Rattle.odht.specs.Tables.{InTable};
-ghost use Rattle.std.specs.Prelude.{◌≡◌, ◌≤◌, length};
-ghost use Rattle.odht_base.specs.Decoded.{decoded_table};
-ghost use Rattle.odht_base.specs.SlotWalks.{slots_from};
-ghost use Rattle.odht_raw.specs.Walks.{decoded_slots};
+ghost use Rattle.std.specs.Prelude.{◌≤◌, length};
+ghost use Rattle.odht.specs.Walks.{IsWalkFrom};
 
 use super::HashTable;
 use crate::bytes::ByteStore;
@@ -16,11 +13,7 @@ impl<C: Config, D: ByteStore> HashTable<C, D> {
     /// on valid bytes each pair in these slots once. Nothing where `from` is past the last slot.
     #[inline]
     pub fn iter_from(&self, from: usize) -> Slots<'_, C>
-        ensures on_valid { InTable ⟦<C as Coded>⟧.coding (D.bytes self.now)
-            (λ c P. result ≡ decoded_slots c (slots_from P from)) }
-        ensures on_any { let c = ⟦<C as Coded>⟧.coding
-            in result
-            ≡ decoded_slots c (slots_from (decoded_table c.format (D.bytes self.now)) from) }
+        ensures slots { IsWalkFrom ⟦<C as Coded>⟧.coding (D.bytes self.now) from result }
         ensures few { length result ≤ usize.MAX }
     {
         let (control, entries) = self.allocation.data_slices();

@@ -1,7 +1,6 @@
 //! Lookups of many keys in a table that grows.
-ghost use Rattle.std.specs.Prelude.{◌≡◌, length, map};
-ghost use Rattle.odht_header.specs.Coding.{value_for};
-ghost use Rattle.odht.specs.Tables.{InTable};
+ghost use Rattle.std.specs.Prelude.{◌≡◌, length};
+ghost use Rattle.odht.specs.Gets.{AreGot};
 
 use super::HashTableOwned;
 use crate::config::{Coded, Config};
@@ -12,8 +11,7 @@ impl<C: Config> HashTableOwned<C> {
     #[inline]
     pub fn get_all(&self, keys: &[C::Key], values: &mut [Option<C::Value>])
         requires { length values.old ≡ length keys.now }
-        ensures { InTable ⟦<C as Coded>⟧.coding self.now
-            (λ c P. values.new ≡ map (value_for c P) keys.now) }
+        ensures { AreGot ⟦<C as Coded>⟧.coding self.now keys.now values.new }
     {
         self.table.get_all(keys, values);
     }

@@ -1,15 +1,11 @@
 //! Room for items that are still to come.
 ghost use Rattle.odht.specs.Tables.{InTable};
-ghost use Rattle.std.specs.Prelude.{◌≡◌, ◌+◌, ◌≤◌, ◌<◌, ◌↔◌, ◌⊎◌, ◌*◌, length, IfOk, OnErr, OnOk};
-ghost use Rattle.odht_base.specs.Bytes.{bytes_at};
-ghost use Rattle.odht_base.specs.Format.{entry_len};
+ghost use Rattle.std.specs.Prelude.{◌≡◌, IfOk, OnErr};
 ghost use Rattle.odht_base.specs.Image.{image_len};
-ghost use Rattle.odht_base.specs.Load.{max_items, IsSlotCount};
-ghost use Rattle.odht_base.specs.Table.{count};
-ghost use Rattle.odht_header.specs.Refusals.{IsTooLarge};
-ghost use Rattle.odht_raw.specs.Frame.{IsAccepted};
-ghost use Rattle.odht_raw.specs.Parts.{IsZeros};
-ghost use Rattle.odht.specs.Reserves.{IsMovedImage, IsReserved, LacksRoom};
+ghost use Rattle.odht_base.specs.Load.{IsSlotCount};
+ghost use Rattle.odht.specs.Growths.{IsRoomFor};
+ghost use Rattle.odht.specs.Reserves.{IsMove, IsReserve};
+ghost use Rattle.odht.specs.NewTables.{IsCapacityOrMemory};
 
 use super::HashTableOwned;
 use crate::bytes::{ByteStore, OwnedBytes};
@@ -32,15 +28,10 @@ impl<C: Config> HashTableOwned<C> {
     ///
     /// Where it moves, one pass over the slots; each item is hashed once. No key is compared.
     pub fn reserve(&mut self, additional: usize) -> Result<(), Error>
-        ensures ok { InTable ⟦<C as Coded>⟧.coding self.old
-            (λ c P. OnOk result (IsReserved c.format P additional self.new)) }
-        ensures capacity { InTable ⟦<C as Coded>⟧.coding self.old
-            (λ c P. (result ≡ Err Error.Capacity)
-            ↔ (LacksRoom P additional × IsTooLarge c.format (count P + additional) P.factor)) }
-        ensures lacking { InTable ⟦<C as Coded>⟧.coding self.old
-            (λ _ P. OnErr result (LacksRoom P additional)) }
-        ensures memory { OnErr result
-            ((result ≡ Err Error.Capacity) ⊎ (result ≡ Err Error.Memory)) }
+        ensures in_table { InTable ⟦<C as Coded>⟧.coding self.old
+            (λ c P. IsReserve c P additional result self.new) }
+        // On failure.
+        ensures memory { OnErr result (IsCapacityOrMemory result) }
         ensures refused { OnErr result (self.new ≡ self.old) }
     {
         let header = self.table.allocation.header();
@@ -68,9 +59,7 @@ impl<C: Config> HashTableOwned<C> {
     fn moved(&self, slot_count: usize, len: usize) -> Result<HashTable<C, OwnedBytes>, Error>
         requires slots { IsSlotCount slot_count }
         requires len { len ≡ image_len ⟦<C as Coded>⟧.coding.format slot_count }
-        ensures ok { InTable ⟦<C as Coded>⟧.coding self.now
-            (λ c P. count P ≤ max_items slot_count P.factor
-            → IfOk result (IsMovedImage c.format P slot_count)) }
+        ensures ok { IfOk result (IsMove ⟦<C as Coded>⟧.coding self.now slot_count) }
         ensures memory { OnErr result (result ≡ Err Error.Memory) }
     {
         let Ok(mut bytes) = vec![in self.alloc; 0; len] else {
@@ -84,13 +73,8 @@ impl<C: Config> HashTableOwned<C> {
 // Writes the pairs of a table, placed in slot order into so many slots, into bytes whose entries are zeros.
 fn write_moved<C: Config, D: ByteStore>(table: &HashTable<C, D>, slot_count: usize, out: &mut [u8])
     requires slots { IsSlotCount slot_count }
-    requires len { length out.old ≡ image_len ⟦<C as Coded>⟧.coding.format slot_count }
-    requires zeros { IsZeros (slot_count * entry_len ⟦<C as Coded>⟧.coding.format)
-        (bytes_at out.old 32 (slot_count * entry_len ⟦<C as Coded>⟧.coding.format)) }
-    ensures on_valid { InTable ⟦<C as Coded>⟧.coding (D.bytes table.now)
-        (λ c P. count P ≤ max_items slot_count P.factor
-        → IsMovedImage c.format P slot_count out.new) }
-    ensures accepted { IsAccepted ⟦<C as Coded>⟧.coding.format out.new }
+    requires room { IsRoomFor ⟦<C as Coded>⟧.coding slot_count out.old }
+    ensures { IsMove ⟦<C as Coded>⟧.coding (D.bytes table.now) slot_count out.new }
 {
     let header = table.allocation.header();
     let item_count = header.item_count();

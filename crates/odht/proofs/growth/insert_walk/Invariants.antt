@@ -1,11 +1,9 @@
-use Rattle.std.proofs.Common.{◌≡◌, Some, All, map}
+use Rattle.std.proofs.Common.{◌≡◌, map}
 use Rattle.odht_base.specs.Format.{format_of}
-use Rattle.odht_base.specs.Insert.{place_all}
-use Rattle.odht_base.specs.Map.{KeysApart}
 use Rattle.odht_base.specs.Table.{Table}
 use Rattle.odht_base.specs.Valid.{IsPartsOf}
-use Rattle.odht_raw.specs.PartsPlacings.{IsNewTo}
 use Rattle.odht_raw.specs.Walks.{stored}
+use Rattle.odht.specs.Growths.{IsPlacing}
 use Rattle.odht.proofs.lemmas.Growths.{LeadsTo}
 use Rattle.odht.proofs.growth.insert_walk.Given as goal
 
@@ -17,7 +15,6 @@ invariant-loop-entry g l =
     record {
       control_loan : l.table.control.ghost_name ≡ l.initial.table.control.ghost_name;
       entries_loan : l.table.entries.ghost_name ≡ l.initial.table.entries.ghost_name;
-      placed : (P Q : Table) → IsPartsOf F P l.initial.table.entries.now l.initial.table.control.now → KeysApart (pairs l.initial.entry-iterator) → All (IsNewTo P) (pairs l.initial.entry-iterator)
-          → place_all F P (pairs l.initial.entry-iterator) ≡ Some Q
+      placed : (P Q : Table) → IsPlacing F P (pairs l.initial.entry-iterator) Q → IsPartsOf F P l.initial.table.entries.now l.initial.table.control.now
           → LeadsTo F Q (pairs l.entry-iterator) l.table.entries.now l.table.control.now;
     }

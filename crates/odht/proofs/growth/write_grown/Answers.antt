@@ -13,14 +13,21 @@ use Rattle.odht_raw.proofs.lemmas.Walks.{stored-walk, decoded_pairs-image}
 use Rattle.odht.proofs.lemmas.GrownBytes.{grown_header, headed_accepted, headed_count, headed_factor}
 use Rattle.odht.proofs.lemmas.Growths.{grown_placed, grown_image}
 use Rattle.odht.proofs.lemmas.ViewInserts.{count_header, factor_header}
+use Rattle.odht.specs.Growths.{IsGrownImage}
+use Rattle.odht.specs.Tables.{OfTable}
+use Rattle.odht.proofs.growth.write_grown.Given.{Over}
+use Rattle.odht.proofs.growth.write_grown.Goals.{After-write_walked}
 use Rattle.odht.proofs.growth.write_grown.Goals as goal
+
+abbrev format : Over → Format
+format g = format_of g.C.EncodedKey.ByteArray.LEN g.C.EncodedValue.ByteArray.LEN g.C.H.HashFn.hash
 
 pub write_walked-requires-clause-slots : goal.write_walked-requires-clause-slots
 write_walked-requires-clause-slots g c κs within = (slots_for-IsLeastSlots _ _ _ c.requires.slots).is_count
 
 -- the written bytes are those of the grown table
-pub returns-clause-on_valid : goal.returns-clause-on_valid
-returns-clause-on_valid g c P is =
+written : (g : Over) (c : After-write_walked g) → OfTable (format g) (g.D.ByteStore.bytes c.args.table.now) (λ P. IsGrownImage (format g) P c.write_walked.new.bytes)
+written g c P is =
     let key = g.C.EncodedKey.ByteArray in
     let value = g.C.EncodedValue.ByteArray in
     let F : Format = format_of key.LEN value.LEN g.C.H.HashFn.hash in
@@ -47,22 +54,18 @@ returns-clause-on_valid g c P is =
     (q.0, is_grown.0, is_grown.1)
 
 -- the new header has the item count and the load factor of the old one
-pub returns-clause-accepted : goal.returns-clause-accepted
-returns-clause-accepted g c =
-    let F : Format = format_of g.C.EncodedKey.ByteArray.LEN g.C.EncodedValue.ByteArray.LEN g.C.H.HashFn.hash in
-    headed_accepted F c.write_walked.new.bytes c.args.slot_count c.item_count-item_count.result c.max_load_factor-factor.result.0 c.write_walked.ensures.header
-    (slots_for-IsLeastSlots _ _ _ c.requires.slots).is_count (omega (arith, c.write_walked.auto.bytes, c.requires.len))
-
-pub returns-clause-count : goal.returns-clause-count
-returns-clause-count g c =
-    let F : Format = format_of g.C.EncodedKey.ByteArray.LEN g.C.EncodedValue.ByteArray.LEN g.C.H.HashFn.hash in
+pub returns : goal.returns
+returns g c =
+    let F = format g in
+    let T = c.write_walked.new.bytes in
+    let s = c.args.slot_count in
+    let items = c.item_count-item_count in
+    let factor = c.max_load_factor-factor in
+    let front = c.write_walked.ensures.header in
     let header = c.header-header.ensures.bytes ∙ ap g.D.ByteStore.bytes c.table.view_is in
-    headed_count F c.write_walked.new.bytes c.args.slot_count c.item_count-item_count.result c.max_load_factor-factor.result.0 c.write_walked.ensures.header c.item_count-item_count.type_inv
-    ∙ c.item_count-item_count.ensures ∙ ap header_count header
-
-pub returns-clause-factor : goal.returns-clause-factor
-returns-clause-factor g c =
-    let F : Format = format_of g.C.EncodedKey.ByteArray.LEN g.C.EncodedValue.ByteArray.LEN g.C.H.HashFn.hash in
-    let header = c.header-header.ensures.bytes ∙ ap g.D.ByteStore.bytes c.table.view_is in
-    headed_factor F c.write_walked.new.bytes c.args.slot_count c.item_count-item_count.result c.max_load_factor-factor.result.0 c.write_walked.ensures.header c.max_load_factor-factor.type_inv.1.1.0.1
-    ∙ c.max_load_factor-factor.ensures ∙ ap header_factor header
+    record {
+      on_valid = written g (goal.at.returns g c).After-write_walked;
+      accepted = headed_accepted F T s items.result factor.result.0 front (slots_for-IsLeastSlots _ _ _ c.requires.slots).is_count (omega (arith, c.write_walked.auto.bytes, c.requires.room.len));
+      count = headed_count F T s items.result factor.result.0 front items.type_inv ∙ items.ensures ∙ ap header_count header;
+      factor = headed_factor F T s items.result factor.result.0 front factor.type_inv.1.1.0.1 ∙ factor.ensures ∙ ap header_factor header;
+    }

@@ -55,7 +55,7 @@ returns g c =
     let long : length header ≡ 32 = ap length are.header ∙ length-header_bytes F s c.args.item_count f in
     record {
       placed = λ Q apart placed.
-          let left = c.insert_walk.ensures (empty s f) Q are.parts apart (λ i d l. map_of-empty s f _) placed in
+          let left = c.insert_walk.ensures (empty s f) Q (record { apart = apart; new = λ i d l. map_of-empty s f _; placed = placed }) are.parts in
           split ∙ (λ i. are.header i ++ (left.entries_are i ++ left.controls_are i));
       header = ap (take 32) split ∙ take_at header (c.insert_walk.new.entries ++ c.insert_walk.new.control) 32 long ∙ are.header;
     }

@@ -3,7 +3,7 @@ use Rattle.std.proofs.lemmas.Result.{IfOk-from_err, IfErr-at_err, err_from_is_er
 use Rattle.std.specs.Prelude.{OnOk}
 use Rattle.odht_header.specs.Coding.{coding_of}
 use Rattle.odht.specs.LastValues.{HasLastValues}
-use Rattle.odht.proofs.lemmas.NewRefusals.{not_both, not_ok, passed_on, either, on_err}
+use Rattle.odht.proofs.lemmas.NewRefusals.{passed_on, fails-passed, fails-made, fails-later}
 use Rattle.odht.proofs.laws.built_from_empty.Goals as goal
 
 pub last_value-requires-after_bounds : goal.last_value-requires-after_bounds
@@ -18,44 +18,22 @@ with_capacity-requires-clause-percent g c κs within = c.requires.percent
 pub returns-in_err-table-clause-ok : goal.returns-in_err-table-clause-ok
 returns-in_err-table-clause-ok g c = IfOk-from_err c.from_residual.result _ c.from_residual.ensures.0
 
-pub returns-in_err-table-clause-capacity : goal.returns-in_err-table-clause-capacity
-returns-in_err-table-clause-capacity g c =
-    let r = c.from_residual.result in
-    let made = c.with_capacity.result in
-    let h = err_from_is_err_and r c.from_residual.ensures.1 in
-    let was = c.in_err-table.was in (
-      λ e. c.with_capacity.ensures.capacity.0 (passed_on made r was (sym h.2) h.1 e),
-      λ large. passed_on r made h.1 h.2 was (c.with_capacity.ensures.capacity.1 large),
-    )
-
-pub returns-in_err-table-clause-memory : goal.returns-in_err-table-clause-memory
-returns-in_err-table-clause-memory g c =
+pub returns-in_err-table-clause-err : goal.returns-in_err-table-clause-err
+returns-in_err-table-clause-err g c =
     let h = err_from_is_err_and c.from_residual.result c.from_residual.ensures.1 in
-    either c.from_residual.result (h.1 ∙ ap Err h.2) c.in_err-table.was c.with_capacity.ensures.memory
+    fails-passed _ _ _ c.with_capacity.result c.with_capacity.ensures.err c.from_residual.result h.1 h.2 c.in_err-table.was
 
 pub returns-in_err-insert_all-clause-ok : goal.returns-in_err-insert_all-clause-ok
 returns-in_err-insert_all-clause-ok g c =
     IfOk-from_err c.from_residual-in_err-insert_all.result _ c.from_residual-in_err-insert_all.ensures.0
 
-pub returns-in_err-insert_all-clause-capacity : goal.returns-in_err-insert_all-clause-capacity
-returns-in_err-insert_all-clause-capacity g c =
+pub returns-in_err-insert_all-clause-err : goal.returns-in_err-insert_all-clause-err
+returns-in_err-insert_all-clause-err g c =
     let r = c.from_residual-in_err-insert_all.result in
     let h = err_from_is_err_and r c.from_residual-in_err-insert_all.ensures.1 in
     let was = c.in_err-insert_all.was in
-    let memory = passed_on r c.insert_all.result.1 h.1 h.2 was (IfErr-at_err _ was c.insert_all.ensures.memory) in (
-      λ e. absurd (not_both r e memory),
-      λ large. absurd (not_ok c.with_capacity.result c.in_ok-table.was (c.with_capacity.ensures.capacity.1 large)),
-    )
+    let memory = passed_on r c.insert_all.result.1 h.1 h.2 was (IfErr-at_err _ was c.insert_all.ensures.memory) in
+    fails-later _ _ _ c.with_capacity.result c.with_capacity.ensures.err r c.in_ok-table.was memory
 
-pub returns-in_err-insert_all-clause-memory : goal.returns-in_err-insert_all-clause-memory
-returns-in_err-insert_all-clause-memory g c =
-    let r = c.from_residual-in_err-insert_all.result in
-    let h = err_from_is_err_and r c.from_residual-in_err-insert_all.ensures.1 in
-    let was = c.in_err-insert_all.was in
-    on_err r (inr (passed_on r c.insert_all.result.1 h.1 h.2 was (IfErr-at_err _ was c.insert_all.ensures.memory)))
-
-pub returns-clause-capacity : goal.returns-clause-capacity
-returns-clause-capacity g c = (
-  λ e. absurd (not_ok _ refl e),
-  λ large. absurd (not_ok c.with_capacity.result c.in_ok-table.was (c.with_capacity.ensures.capacity.1 large)),
-)
+pub returns-clause-err : goal.returns-clause-err
+returns-clause-err g c = fails-made _ _ _ c.with_capacity.result c.with_capacity.ensures.err _ c.in_ok-table.was

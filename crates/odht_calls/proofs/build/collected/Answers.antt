@@ -9,7 +9,7 @@ use Rattle.odht_base.proofs.lemmas.FreeSlots.{slot_count-empty}
 use Rattle.odht_header.specs.Coding.{Coding, coding_of}
 use Rattle.odht_header.specs.Refusals.{IsTooLarge}
 use Rattle.odht.specs.Lists.{IsFreshAfterInserts}
-use Rattle.odht.proofs.lemmas.NewRefusals.{new_refusal-fits}
+use Rattle.odht.proofs.lemmas.NewRefusals.{new_refusal-fits, new_len-some, new_len-none}
 use Rattle.odht_calls.proofs.lemmas.HandedOut.{bad_build, large_build, short_build, done_build}
 use Rattle.odht_calls.proofs.lemmas.NewBuilds.{fresh_empty, new_exists}
 use Rattle.odht_calls.proofs.build.collected.Given.{Over}
@@ -30,7 +30,7 @@ returns-then-out-needed g c =
     let items = zip c.args.keys.now c.args.values.now in
     let long : length items ≡ length c.args.keys.now = omega (arith, length-zip c.args.keys.now c.args.values.now, c.requires) in
     let same : c.value.result ≡ p = c.value.ensures.value ∙ c.in-Some.ensures.value in
-    let layout = c.in-Some-bytes_needed.ensures.len in
+    let layout = new_len-some (coding g).format (length c.args.keys.now) (factor_of c.value.result) c.in-Some-bytes_needed.needed c.in-Some-bytes_needed.ensures in
     let slots : slots_for (length items) (factor_of p) ≡ Some layout.0 =
     ap (λ n. slots_for n (factor_of p)) long ∙ ap (λ q. slots_for (length c.args.keys.now) (factor_of q)) (sym same) ∙ layout.1 in
     let new = fresh_empty (length items) p layout.0 slots in
@@ -44,7 +44,7 @@ insert_into_new-requires-clause-fits g c κs within =
     let F = (coding g).format in
     let n = length c.args.keys.now in
     let needed = c.in-Some-bytes_needed.needed in
-    let layout = c.in-Some-bytes_needed.ensures.len in
+    let layout = new_len-some (coding g).format (length c.args.keys.now) (factor_of c.value.result) c.in-Some-bytes_needed.needed c.in-Some-bytes_needed.ensures in
     let slots : slots_for n (factor_of c.in-Some.percent) ≡ Some layout.0 = ap (λ q. slots_for n (factor_of q)) (sym c.value.ensures.value) ∙ layout.1 in
     let low : image_len F layout.0 < 2 ^ 64 = omega (arith, layout.2, c.if-out-needed.false) in
     let long : length (take needed c.args.out.now) ≡ needed = length-take-le needed c.args.out.now c.if-out-needed.false in
@@ -59,7 +59,7 @@ returns-in_default-bytes_needed g c =
     let K = coding g in
     let p = c.args.max_load_factor_percent in
     let same : c.value.result ≡ p = c.value.ensures.value ∙ c.in-Some.ensures.value in
-    let large : IsTooLarge K.format (length c.args.keys.now) (factor_of p) = subst (λ q. IsTooLarge K.format (length c.args.keys.now) (factor_of q)) same (c.in_default-bytes_needed.ensures.none.0 refl) in
+    let large : IsTooLarge K.format (length c.args.keys.now) (factor_of p) = subst (λ q. IsTooLarge K.format (length c.args.keys.now) (factor_of q)) same ((new_len-none K.format (length c.args.keys.now) (factor_of c.value.result)).0 c.in_default-bytes_needed.ensures) in
     large_build K c.args.keys.now c.args.values.now p c.requires c.args.out.now c.args.len.now (c.in-Some.ensures.some.0 refl) large
 
 pub returns : goal.returns

@@ -1,4 +1,5 @@
-use Rattle.std.proofs.Common.{rules, length, refl}
+use Rattle.std.proofs.Common.{rules, ap, length, refl}
+use Rattle.odht_raw.specs.Parts.{TableParts}
 use Rattle.odht.proofs.lemmas.Lookups.{puts-same}
 use Rattle.odht_header.specs.Coding.{Coding, coding_of}
 use Rattle.odht_calls.proofs.lemmas.Got.{put, got_all}
@@ -21,5 +22,5 @@ returns g c =
     let last = c.get_all.new.answers in
     let values = puts-same K T keys put (λ s. s.values.ghost_name) (λ s i o. refl) _ last (length keys) c.get_all.ensures in
     let found = puts-same K T keys put (λ s. s.found.ghost_name) (λ s i o. refl) _ last (length keys) c.get_all.ensures in
-    let answers = got_all K c.args.table.now.0.now T keys _ last c.get_all.ensures c.requires.values c.requires.found c.as_raw-raw.ensures.parts c.as_raw-raw.ensures.entries c.as_raw-raw.ensures.slots in
+    let answers = got_all K c.args.table.now.0.now T keys _ last c.get_all.ensures c.requires.values c.requires.found c.as_raw-raw.ensures.parts (ap (λ (T : TableParts). T.entries.bytes) c.as_raw-raw.ensures.bytes) (ap (λ (T : TableParts). T.entries.slots) c.as_raw-raw.ensures.bytes) in
     search (rules, values, found, answers)

@@ -26,7 +26,7 @@ returns-in-Err g c = refused_walk _ _ c.in-Err.refused _ c.in-Err.ensures.err c.
 pub returns-then-written-keys : goal.returns-then-written-keys
 returns-then-written-keys g c =
     let v = c.loop-slot.invariant in
-    accepted_walk _ _ _ _ _ _ _ _ _ _ _ _ _ c.requires c.in-Ok.ensures.err c.in-Ok.ensures.ok c.iter_from-slot-items.ensures.on_valid c.iter_from-slot-items.ensures.on_any
+    accepted_walk _ _ _ _ _ _ _ _ _ _ _ _ _ c.requires c.in-Ok.ensures.err c.in-Ok.ensures.ok c.iter_from-slot-items.ensures.slots.on_valid c.iter_from-slot-items.ensures.slots.on_any
     (λ P is slots. walked_full _ P _ _ _ _ _ _ _ _ _ is (sym c.into_iter-slot-iterator.ensures.into_iter_gives ∙ v.walk) v.written v.within v.keys v.values
     c.in-Some.slot (c.in-Some.key, c.in-Some.value) c.next.new.self c.in-Some.ensures.steps (omega (arith, c.if-written-keys.true, c.loop-slot.auto.keys)))
 
@@ -37,6 +37,6 @@ of-requires g c =
 pub returns : goal.returns
 returns g c =
     let v = c.loop-slot.invariant in
-    accepted_walk _ _ _ _ _ _ _ _ _ _ _ _ _ c.requires c.in-Ok.ensures.err c.in-Ok.ensures.ok c.iter_from-slot-items.ensures.on_valid c.iter_from-slot-items.ensures.on_any
+    accepted_walk _ _ _ _ _ _ _ _ _ _ _ _ _ c.requires c.in-Ok.ensures.err c.in-Ok.ensures.ok c.iter_from-slot-items.ensures.slots.on_valid c.iter_from-slot-items.ensures.slots.on_any
     (λ P is slots. walked_all _ P _ _ _ _ _ _ _ _ _ is (sym c.into_iter-slot-iterator.ensures.into_iter_gives ∙ v.walk) v.written v.within v.keys v.values
     c.in-None.ensures.steps.0 c.slot_count.result (c.slot_count.ensures ∙ ap header_slots c.of.ensures ∙ sym slots))

@@ -6,11 +6,13 @@ use Rattle.odht_raw.proofs.lemmas.Walks.{decoded_pairs-image}
 use Rattle.odht.specs.Dynamic.{dyn_format}
 use Rattle.odht.proofs.dynamic.DynTable.iter.Goals as goal
 
-pub returns-clause-on_any : goal.returns-clause-on_any
-returns-clause-on_any g c = c.iter.ensures.items ∙ ap (λ (S : SizedParts). filter_map (λ x. x) (cells_of (sized_format S g.H.HashFn.hash) S.parts)) c.as_sized.ensures.parts
-
-pub returns-clause-on_valid : goal.returns-clause-on_valid
-returns-clause-on_valid g c P is = returns-clause-on_any g c ∙ decoded_pairs-image (dyn_format c.args.self.now g.H.HashFn.hash) P _ c.as_sized.ensures.format is
+pub returns-clause-pairs : goal.returns-clause-pairs
+returns-clause-pairs g c =
+    let pairs = c.iter.ensures.items ∙ ap (λ (S : SizedParts). filter_map (λ x. x) (cells_of (sized_format S g.H.HashFn.hash) S.parts)) c.as_sized.ensures.parts in
+    record {
+      on_valid = λ P is. pairs ∙ decoded_pairs-image (dyn_format c.args.self.now g.H.HashFn.hash) P _ c.as_sized.ensures.format is;
+      on_any = pairs;
+    }
 
 pub returns-clause-lengths : goal.returns-clause-lengths
 returns-clause-lengths g c = subst (λ (S : SizedParts). All (HasLengthsOf S.key_len S.value_len) c.iter.result) c.as_sized.ensures.parts c.iter.ensures.lengths

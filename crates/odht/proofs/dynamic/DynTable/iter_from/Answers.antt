@@ -6,9 +6,10 @@ use Rattle.odht_raw.proofs.lemmas.Walks.{slots-image}
 use Rattle.odht.specs.Dynamic.{dyn_format}
 use Rattle.odht.proofs.dynamic.DynTable.iter_from.Goals as goal
 
-pub returns-clause-on_any : goal.returns-clause-on_any
-returns-clause-on_any g c =
-    c.iter_from.ensures.items ∙ ap (λ (S : SizedParts). numbered c.args.from (drop c.args.from (cells_of (sized_format S g.H.HashFn.hash) S.parts))) c.as_sized.ensures.parts
-
-pub returns-clause-on_valid : goal.returns-clause-on_valid
-returns-clause-on_valid g c P is = returns-clause-on_any g c ∙ slots-image (dyn_format c.args.self.now g.H.HashFn.hash) P _ c.args.from c.as_sized.ensures.format is
+pub returns-clause-slots : goal.returns-clause-slots
+returns-clause-slots g c =
+    let slots = c.iter_from.ensures.items ∙ ap (λ (S : SizedParts). numbered c.args.from (drop c.args.from (cells_of (sized_format S g.H.HashFn.hash) S.parts))) c.as_sized.ensures.parts in
+    record {
+      on_valid = λ P is. slots ∙ slots-image (dyn_format c.args.self.now g.H.HashFn.hash) P _ c.args.from c.as_sized.ensures.format is;
+      on_any = slots;
+    }

@@ -1,6 +1,7 @@
 use Rattle.std.proofs.Common.{◌≡◌, ◌∙◌, ◌<◌, ℕ, List, Option, Some, None, sym, ap, subst, true≢false}
 use Rattle.std.specs.Prelude.{◌↔◌, option_map, IfSome, IsSome, IsTrue}
 use Rattle.std.specs.Option.{is_some}
+use Rattle.odht_raw.specs.Parts.{TableParts}
 use Rattle.odht_base.specs.Format.{Format, format_of}
 use Rattle.odht_base.specs.Map.{map_of}
 use Rattle.odht_base.specs.Decoded.{header_slots, entries_of, slot_key, HoldsKey}
@@ -35,5 +36,5 @@ returns g c =
           subst (λ b. IsTrue b ↔ IsSome m) (sym (c.is_some.ensures ∙ ap is_some same)) (there f m);
       on_any = λ t.
           subst (λ a. HoldsKey F B (key.bytes a)) c.encode_key-key.ensures
-          (held F B f _ _ c.find_counted_by-value.result.0 c.as_raw-table.ensures.entries c.as_raw-table.ensures.slots found.on_any (subst IsTrue c.is_some.ensures t));
+          (held F B f _ _ c.find_counted_by-value.result.0 (ap (λ (T : TableParts). T.entries.bytes) c.as_raw-table.ensures.bytes) (ap (λ (T : TableParts). T.entries.slots) c.as_raw-table.ensures.bytes) found.on_any (subst IsTrue c.is_some.ensures t));
     }

@@ -1,5 +1,6 @@
 use Rattle.std.proofs.Common.{◌∙◌, ap}
 use Rattle.std.specs.Prelude.{option_map}
+use Rattle.odht_raw.specs.Parts.{TableParts}
 use Rattle.odht_base.specs.Format.{format_of}
 use Rattle.odht_base.specs.Map.{map_of}
 use Rattle.odht.proofs.lemmas.Lookups.{decoded_value, decoded_none, decoded_stored}
@@ -20,7 +21,7 @@ returns-in-Some-default g c =
       on_valid = λ P is.
           decoded_value of g.C.Config.decode_value r (map_of P k) c.in-Some-default.value v (found.on_placed P (table.ensures.parts P is) ∙ ap (λ b. option_map of (map_of P b)) key) c.in-Some-default.is-0 c.decode_value.ensures;
       on_any =
-          decoded_stored of g.C.Config.decode_value r F (g.D.ByteStore.bytes c.args.self.now) (bytes c.encode_key-key.result) k table.result.entries c.in-Some-default.value v table.ensures.entries table.ensures.slots found.on_any key c.in-Some-default.is-0 c.decode_value.ensures;
+          decoded_stored of g.C.Config.decode_value r F (g.D.ByteStore.bytes c.args.self.now) (bytes c.encode_key-key.result) k table.result.entries c.in-Some-default.value v (ap (λ (T : TableParts). T.entries.bytes) table.ensures.bytes) (ap (λ (T : TableParts). T.entries.slots) table.ensures.bytes) found.on_any key c.in-Some-default.is-0 c.decode_value.ensures;
     }
 
 pub returns-in-None-default : goal.returns-in-None-default

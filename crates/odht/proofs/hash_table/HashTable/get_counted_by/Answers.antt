@@ -1,5 +1,6 @@
 use Rattle.std.proofs.Common.{◌∙◌, ◌≤◌, ◌/◌, ap, subst}
 use Rattle.std.specs.Prelude.{option_map}
+use Rattle.odht_raw.specs.Parts.{TableParts}
 use Rattle.odht_base.specs.Format.{format_of}
 use Rattle.odht_base.specs.Map.{map_of}
 use Rattle.odht_base.specs.Search.{groups_read}
@@ -21,9 +22,9 @@ returns-in-Some-default g c =
       on_valid = λ P is.
           decoded_value of g.C.Config.decode_value r (map_of P k) c.in-Some-default.value v (found.on_placed P (table.ensures.parts P is) ∙ ap (λ b. option_map of (map_of P b)) key) c.in-Some-default.is-0 c.decode_value.ensures;
       on_any =
-          decoded_stored of g.C.Config.decode_value r F (g.D.ByteStore.bytes c.args.self.now) (bytes c.encode_key-key.result) k table.result.entries c.in-Some-default.value v table.ensures.entries table.ensures.slots found.on_any key c.in-Some-default.is-0 c.decode_value.ensures;
+          decoded_stored of g.C.Config.decode_value r F (g.D.ByteStore.bytes c.args.self.now) (bytes c.encode_key-key.result) k table.result.entries c.in-Some-default.value v (ap (λ (T : TableParts). T.entries.bytes) table.ensures.bytes) (ap (λ (T : TableParts). T.entries.slots) table.ensures.bytes) found.on_any key c.in-Some-default.is-0 c.decode_value.ensures;
       groups = λ P is. found.groups P (c.as_raw-table.ensures.parts P is) ∙ ap (λ b. groups_read F P.cells b) key;
-      few = subst (λ n. c.find_counted_by.result.1 ≤ n / 16) c.as_raw-table.ensures.slots c.find_counted_by.ensures.few;
+      few = subst (λ n. c.find_counted_by.result.1 ≤ n / 16) (ap (λ (T : TableParts). T.entries.slots) c.as_raw-table.ensures.bytes) c.find_counted_by.ensures.few;
     }
 
 pub returns-in-None-default : goal.returns-in-None-default
@@ -38,5 +39,5 @@ returns-in-None-default g c =
           decoded_none of g.C.Config.decode_value c.find_counted_by.result.0 (map_of P k) (c.find_counted_by.ensures.on_placed P (c.as_raw-table.ensures.parts P is) ∙ ap (λ b. option_map of (map_of P b)) key) c.in-None-default.is-0;
       on_any = tt;
       groups = λ P is. c.find_counted_by.ensures.groups P (c.as_raw-table.ensures.parts P is) ∙ ap (λ b. groups_read F P.cells b) key;
-      few = subst (λ n. c.find_counted_by.result.1 ≤ n / 16) c.as_raw-table.ensures.slots c.find_counted_by.ensures.few;
+      few = subst (λ n. c.find_counted_by.result.1 ≤ n / 16) (ap (λ (T : TableParts). T.entries.slots) c.as_raw-table.ensures.bytes) c.find_counted_by.ensures.few;
     }

@@ -17,10 +17,11 @@ long g c =
 pub clear_entries-requires-after_bounds : goal.clear_entries-requires-after_bounds
 clear_entries-requires-after_bounds g c κs within = long g (goal.at.clear_entries-requires-after_bounds g c).In-Some
 
-pub write_grown-requires-clause-len : goal.write_grown-requires-clause-len
-write_grown-requires-clause-len g c κs within = c.clear_entries.auto.bytes ∙ long g (goal.at.write_grown-requires-clause-len g c).In-Some
-
-pub write_grown-requires-clause-zeros : goal.write_grown-requires-clause-zeros
-write_grown-requires-clause-zeros g c κs within =
+pub write_grown-requires-clause-room : goal.write_grown-requires-clause-room
+write_grown-requires-clause-room g c κs within =
     let F : Format = format_of g.C.EncodedKey.ByteArray.LEN g.C.EncodedValue.ByteArray.LEN g.C.H.HashFn.hash in
-    zeros-cleared F c.in-Some.slot_count c.clear_entries.new.bytes c.args.out.now (long g (goal.at.write_grown-requires-clause-zeros g c).In-Some) c.clear_entries.ensures
+    let are = long g (goal.at.write_grown-requires-clause-room g c).In-Some in
+    record {
+      len = c.clear_entries.auto.bytes ∙ are;
+      zeros = zeros-cleared F c.in-Some.slot_count c.clear_entries.new.bytes c.args.out.now are c.clear_entries.ensures;
+    }

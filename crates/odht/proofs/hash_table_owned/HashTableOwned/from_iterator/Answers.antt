@@ -56,7 +56,7 @@ returns-in_err-table-clause-capacity g c e =
     let h = err_from_is_err_and c.from_residual-in_err-table.result c.from_residual-in_err-table.ensures.1 in
     let ran = c.in_ok-items.ensures.ran in
     let after = ran.1.2 tt in
-    let large = c.in_err-table.ensures.capacity.0 (ap Err (sym h.2) ∙ sym h.1 ∙ e) in
+    let large = c.in_err-table.ensures.err.capacity.0 (ap Err (sym h.2) ∙ sym h.1 ∙ e) in
     let long = c.len.ensures ∙ ran.2.1 in
     let f = factor_of c.args.max_load_factor_percent in
     (ran.0, (after.0, (ran.1.0, ran.1.1, after.1)), λ s fits. large s (ap (λ n. slots_for n f) long ∙ fits))
@@ -65,7 +65,7 @@ pub returns-in_err-table-clause-memory : goal.returns-in_err-table-clause-memory
 returns-in_err-table-clause-memory g c =
     let r = c.from_residual-in_err-table.result in
     let h = err_from_is_err_and r c.from_residual-in_err-table.ensures.1 in
-    either r (h.1 ∙ ap Err h.2) c.in_err-table.was c.with_capacity.ensures.memory
+    either r (h.1 ∙ ap Err h.2) c.in_err-table.was c.with_capacity.ensures.err.memory
 
 pub returns-in_err-insert_all-clause-capacity : goal.returns-in_err-insert_all-clause-capacity
 returns-in_err-insert_all-clause-capacity g c e =

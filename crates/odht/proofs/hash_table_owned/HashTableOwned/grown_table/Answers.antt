@@ -1,5 +1,7 @@
 use Rattle.std.proofs.Common.{◌≡◌, ◌*◌, ◌∙◌, sym, ap, subst, arith, length, replicate, take_at}
+use Rattle.std.proofs.lemmas.List.{length-replicate}
 use Rattle.odht_base.specs.Bytes.{bytes_at}
+use Rattle.odht_base.specs.Decoded.{header_count, header_factor}
 use Rattle.odht_base.specs.Format.{Format, format_of, entry_len}
 use Rattle.odht_raw.specs.Frame.{IsAccepted}
 use Rattle.odht_raw.proofs.lemmas.NewTables.{bytes_at-zeros}
@@ -7,12 +9,15 @@ use Rattle.odht.proofs.hash_table_owned.HashTableOwned.grown_table.Given.{Over}
 use Rattle.odht.proofs.hash_table_owned.HashTableOwned.grown_table.Goals as goal
 use Rattle.odht.proofs.hash_table_owned.HashTableOwned.grown_table.Goals.{After-new}
 
-pub write_grown-requires-clause-zeros : goal.write_grown-requires-clause-zeros
-write_grown-requires-clause-zeros g c κs within =
+pub write_grown-requires-clause-room : goal.write_grown-requires-clause-room
+write_grown-requires-clause-room g c κs within =
     let F : Format = format_of g.C.EncodedKey.ByteArray.LEN g.C.EncodedValue.ByteArray.LEN g.C.H.HashFn.hash in
     let n = c.in-Some.slot_count * entry_len F in
     let zeros : c.as_mut_slice.result.now ≡ replicate c.in-Some.len 0 = c.as_mut_slice.ensures.value ∙ c.in-Ok.ensures.items_if_clones_equal (λ y e. e) in
-    ap (λ B. bytes_at B 32 n) zeros ∙ bytes_at-zeros c.in-Some.len 32 n (omega (arith, c.in-Some.ensures.long))
+    record {
+      len = ap length zeros ∙ length-replicate c.in-Some.len 0 ∙ c.in-Some.ensures.long;
+      zeros = ap (λ B. bytes_at B 32 n) zeros ∙ bytes_at-zeros c.in-Some.len 32 n (omega (arith, c.in-Some.ensures.long));
+    }
 
 -- the bytes are those that were written
 all : (g : Over) (c : goal.After-new g) → c.new.result ≡ c.write_grown.new.out
@@ -27,7 +32,15 @@ from_raw_bytes_unchecked-requires-after_bounds g c κs within =
     subst (IsAccepted F) (sym (all g c)) c.write_grown.ensures.accepted
 
 pub returns-clause-ok : goal.returns-clause-ok
-returns-clause-ok g c P is =
+returns-clause-ok g c =
     let F : Format = format_of g.C.EncodedKey.ByteArray.LEN g.C.EncodedValue.ByteArray.LEN g.C.H.HashFn.hash in
-    let q = c.write_grown.ensures.on_valid P (record { valid = is.valid; bytes = c.self.view_is ∙ is.bytes }) in
-    (q.0, q.1, record { valid = q.2.valid; bytes = c.from_raw_bytes_unchecked.ensures ∙ all g (goal.at.returns-clause-ok g c).After-new ∙ q.2.bytes })
+    let same = c.from_raw_bytes_unchecked.ensures ∙ all g (goal.at.returns-clause-ok g c).After-new in
+    let grown = c.write_grown.ensures in
+    record {
+      on_valid = λ P is.
+          let q = grown.on_valid P (record { valid = is.valid; bytes = c.self.view_is ∙ is.bytes }) in
+          (q.0, q.1, record { valid = q.2.valid; bytes = same ∙ q.2.bytes });
+      accepted = subst (IsAccepted F) (sym same) grown.accepted;
+      count = ap header_count same ∙ grown.count ∙ ap header_count c.self.view_is;
+      factor = ap header_factor same ∙ grown.factor ∙ ap header_factor c.self.view_is;
+    }

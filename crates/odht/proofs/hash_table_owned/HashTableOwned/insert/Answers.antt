@@ -11,22 +11,22 @@ use Rattle.odht.proofs.hash_table_owned.HashTableOwned.insert.Goals as goal
 abbrev format : Over → Format
 format g = format_of g.C.EncodedKey.ByteArray.LEN g.C.EncodedValue.ByteArray.LEN g.C.H.HashFn.hash
 
-pub returns-in-Ok-clause-former : goal.returns-in-Ok-clause-former
-returns-in-Ok-clause-former g c P is =
-    (c.in-Ok.ensures.on_valid P (record { valid = is.valid; bytes = c.self.view_is ∙ is.bytes })).former
-
-pub returns-in-Ok-clause-inserted : goal.returns-in-Ok-clause-inserted
-returns-in-Ok-clause-inserted g c P is =
+pub returns-in-Ok-clause-in_table : goal.returns-in-Ok-clause-in_table
+returns-in-Ok-clause-in_table g c P is =
     let F : Format = format_of g.C.EncodedKey.ByteArray.LEN g.C.EncodedValue.ByteArray.LEN g.C.H.HashFn.hash in
     let p : Pair = record { key = g.C.EncodedKey.ByteArray.bytes (g.C.Config.encode_key c.args.key.now); value = g.C.EncodedValue.ByteArray.bytes (g.C.Config.encode_value c.args.value.now) } in
     let here : IsImage F P c.self.inside.table = record { valid = is.valid; bytes = c.self.view_is ∙ is.bytes } in
     let into = c.in-Ok.ensures.on_valid P here in
     let insert = into.inserted in
     record {
-      table = insert.table;
-      inserted = insert_owned-view F P p (λ e. let no = into.full.1 e in cc) ∙ insert.inserted;
-      image = insert.image;
-      maps = insert.maps;
+      former = into.former;
+      inserted = record {
+        table = insert.table;
+        inserted = insert_owned-view F P p (λ e. let no = into.full.1 e in cc) ∙ insert.inserted;
+        image = insert.image;
+        maps = insert.maps;
+      };
+      at_maximum = tt;
     }
 
 -- the bytes that were not changed are those of the table
@@ -42,20 +42,10 @@ pub invariant_of-self-in-Err : goal.invariant_of-self-in-Err
 invariant_of-self-in-Err g c =
     (c.self.invariant.0, here g _ _ _ _ c.in-Err.ensures.refused refl c.self.invariant.1)
 
-pub returns-in-Err-clause-former : goal.returns-in-Err-clause-former
-returns-in-Err-clause-former g c P is =
-    c.insert_grown.ensures.former P (here g _ _ _ _ c.in-Err.ensures.refused c.self.view_is is)
+pub returns-in-Err-clause-in_table : goal.returns-in-Err-clause-in_table
+returns-in-Err-clause-in_table g c P is =
+    c.insert_grown.ensures.in_table P (here g _ _ _ _ c.in-Err.ensures.refused c.self.view_is is)
     ((c.in-Err.ensures.on_valid P (here g _ _ _ _ refl c.self.view_is is)).full.0 c.in-Err.ensures.only_full)
-
-pub returns-in-Err-clause-inserted : goal.returns-in-Err-clause-inserted
-returns-in-Err-clause-inserted g c P is =
-    c.insert_grown.ensures.inserted P (here g _ _ _ _ c.in-Err.ensures.refused c.self.view_is is)
-    ((c.in-Err.ensures.on_valid P (here g _ _ _ _ refl c.self.view_is is)).full.0 c.in-Err.ensures.only_full)
-
-pub returns-in-Err-clause-at_maximum : goal.returns-in-Err-clause-at_maximum
-returns-in-Err-clause-at_maximum g c P is =
-    let full = (c.in-Err.ensures.on_valid P (here g _ _ _ _ refl c.self.view_is is)).full.0 c.in-Err.ensures.only_full in
-    on_err_weaker c.insert_grown.result (λ _. full) c.insert_grown.ensures.memory
 
 pub returns-in-Err-clause-memory : goal.returns-in-Err-clause-memory
 returns-in-Err-clause-memory g c = c.insert_grown.ensures.memory

@@ -118,7 +118,7 @@ growths-preserved g c =
           let stopped = stopped_here g here low in
           let full = framed-full K _ stopped.item.0 stopped.item.1 (fits g) h.table h.image (Err Full) _ refl stopped.framed in
           let same : stopped.item ≡ item = some_same _ _ (sym stopped.at ∙ c.at.ensures) in
-          let done = c.in_default.ensures.inserted h.table h.image (subst (λ (x : g.row.C-Key.Denot × g.row.C-Value.Denot). IsFullFor h.table (K.key_bytes x.0)) same full) in
+          let done = (c.in_default.ensures.in_table h.table h.image (subst (λ (x : g.row.C-Key.Denot × g.row.C-Value.Denot). IsFullFor h.table (K.key_bytes x.0)) same full)).inserted in
           subst (λ (ps : List Pair). IsAfterInserts K.format insert P ps c.insert_grown.new.self) (sym (encoded_all-more K items n item low at))
           (inserted_more K.format insert (insert_owned-IsInsert K.format) (insert_owned-PlacesBelow K.format) P (encoded_all K (take n items)) _ _ c.insert_grown.new.self h done.table done.inserted done.image));
     }

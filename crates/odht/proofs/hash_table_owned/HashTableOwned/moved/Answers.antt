@@ -1,4 +1,5 @@
 use Rattle.std.proofs.Common.{◌≡◌, ◌*◌, ◌∙◌, sym, ap, subst, arith, length, replicate, take_at}
+use Rattle.std.proofs.lemmas.List.{length-replicate}
 use Rattle.odht_base.specs.Bytes.{bytes_at}
 use Rattle.odht_base.specs.Format.{Format, format_of, entry_len}
 use Rattle.odht_raw.specs.Frame.{IsAccepted}
@@ -7,12 +8,15 @@ use Rattle.odht.proofs.hash_table_owned.HashTableOwned.moved.Given.{Over}
 use Rattle.odht.proofs.hash_table_owned.HashTableOwned.moved.Goals as goal
 use Rattle.odht.proofs.hash_table_owned.HashTableOwned.moved.Goals.{After-new}
 
-pub write_moved-requires-clause-zeros : goal.write_moved-requires-clause-zeros
-write_moved-requires-clause-zeros g c κs within =
+pub write_moved-requires-clause-room : goal.write_moved-requires-clause-room
+write_moved-requires-clause-room g c κs within =
     let F : Format = format_of g.C.EncodedKey.ByteArray.LEN g.C.EncodedValue.ByteArray.LEN g.C.H.HashFn.hash in
     let n = c.args.slot_count * entry_len F in
     let zeros : c.as_mut_slice.result.now ≡ replicate c.args.len 0 = c.as_mut_slice.ensures.value ∙ c.in-Ok.ensures.items_if_clones_equal (λ y e. e) in
-    ap (λ B. bytes_at B 32 n) zeros ∙ bytes_at-zeros c.args.len 32 n (omega (arith, c.requires.len))
+    record {
+      len = ap length zeros ∙ length-replicate c.args.len 0 ∙ c.requires.len;
+      zeros = ap (λ B. bytes_at B 32 n) zeros ∙ bytes_at-zeros c.args.len 32 n (omega (arith, c.requires.len));
+    }
 
 -- the bytes are those that were written
 all : (g : Over) (c : goal.After-new g) → c.new.result ≡ c.write_moved.new.out
@@ -27,7 +31,12 @@ from_raw_bytes_unchecked-requires-after_bounds g c κs within =
     subst (IsAccepted F) (sym (all g c)) c.write_moved.ensures.accepted
 
 pub returns-clause-ok : goal.returns-clause-ok
-returns-clause-ok g c P is room =
+returns-clause-ok g c =
     let F : Format = format_of g.C.EncodedKey.ByteArray.LEN g.C.EncodedValue.ByteArray.LEN g.C.H.HashFn.hash in
-    let q = c.write_moved.ensures.on_valid P (record { valid = is.valid; bytes = c.self.view_is ∙ is.bytes }) room in
-    (q.0, q.1, record { valid = q.2.valid; bytes = c.from_raw_bytes_unchecked.ensures ∙ all g (goal.at.returns-clause-ok g c).After-new ∙ q.2.bytes })
+    let same = c.from_raw_bytes_unchecked.ensures ∙ all g (goal.at.returns-clause-ok g c).After-new in
+    record {
+      on_valid = λ P is room.
+          let q = c.write_moved.ensures.on_valid P (record { valid = is.valid; bytes = c.self.view_is ∙ is.bytes }) room in
+          (q.0, q.1, record { valid = q.2.valid; bytes = same ∙ q.2.bytes });
+      accepted = subst (IsAccepted F) (sym same) c.write_moved.ensures.accepted;
+    }

@@ -36,30 +36,26 @@ read g c P is =
       most = c.max_item_count_for-most.ensures.value ∙ (λ i. max_items (slots i) (factor i));
     }
 
-pub returns-then-additional-saturating_sub-clause-ok : goal.returns-then-additional-saturating_sub-clause-ok
-returns-then-additional-saturating_sub-clause-ok g c P is =
-    let at = read g (goal.at.returns-then-additional-saturating_sub-clause-ok g c).After-saturating_sub P is in
-    reserved-stays (format g) P is.valid c.args.additional c.args.self.now is (omega (arith, at.items, at.most, is.valid.room, c.saturating_sub.ensures, c.if-additional-saturating_sub.true))
-
-pub returns-then-additional-saturating_sub-clause-capacity : goal.returns-then-additional-saturating_sub-clause-capacity
-returns-then-additional-saturating_sub-clause-capacity g c P is =
-    let at = read g (goal.at.returns-then-additional-saturating_sub-clause-capacity g c).After-saturating_sub P is in
-    (λ e. absurd (not_ok _ refl e), λ h. absurd (omega (arith, h.0, at.items, at.most, is.valid.room, c.saturating_sub.ensures, c.if-additional-saturating_sub.true)))
+pub returns-then-additional-saturating_sub-clause-in_table : goal.returns-then-additional-saturating_sub-clause-in_table
+returns-then-additional-saturating_sub-clause-in_table g c P is =
+    let at = read g (goal.at.returns-then-additional-saturating_sub-clause-in_table g c).After-saturating_sub P is in
+    record {
+      ok = reserved-stays (format g) P is.valid c.args.additional c.args.self.now is (omega (arith, at.items, at.most, is.valid.room, c.saturating_sub.ensures, c.if-additional-saturating_sub.true));
+      capacity = (λ e. absurd (not_ok _ refl e), λ h. absurd (omega (arith, h.0, at.items, at.most, is.valid.room, c.saturating_sub.ensures, c.if-additional-saturating_sub.true)));
+      lacking = tt;
+    }
 
 -- the room is lacking
 lacks : (g : Over) (c : After-saturating_sub g) (P : Table) → IsImage (format g) P c.args.self.now → c.saturating_sub.result < c.args.additional → LacksRoom P c.args.additional
 lacks g c P is more = let at = read g c P is in omega (arith, at.items, at.most, is.valid.room, c.saturating_sub.ensures, more)
 
-pub returns-in_default-clause-capacity : goal.returns-in_default-clause-capacity
-returns-in_default-clause-capacity g c P is =
-    let after = (goal.at.returns-in_default-clause-capacity g c).After-saturating_sub in
+pub returns-in_default-clause-in_table : goal.returns-in_default-clause-in_table
+returns-in_default-clause-in_table g c P is =
+    let after = (goal.at.returns-in_default-clause-in_table g c).After-saturating_sub in
     let at = read g after P is in
     let many : c.item_count-item_count.result + c.args.additional < 2 ^ 64 → ⊥ = c.in_default.ensures in
-    (λ e. (lacks g after P is c.if-additional-saturating_sub.false, reserved-many (format g) P is.valid c.args.additional (omega (arith, at.items, many))), λ h. refl)
-
-pub returns-in_default-clause-lacking : goal.returns-in_default-clause-lacking
-returns-in_default-clause-lacking g c P is =
-    lacks g (goal.at.returns-in_default-clause-lacking g c).After-saturating_sub P is c.if-additional-saturating_sub.false
+    let few = lacks g after P is c.if-additional-saturating_sub.false in
+    record { ok = tt; capacity = (λ e. (few, reserved-many (format g) P is.valid c.args.additional (omega (arith, at.items, many))), λ h. refl); lacking = few }
 
 pub layout_for-requires-after_bounds : goal.layout_for-requires-after_bounds
 layout_for-requires-after_bounds g c κs within =
@@ -68,17 +64,18 @@ layout_for-requires-after_bounds g c κs within =
     let at = read g (goal.at.layout_for-requires-after_bounds g c).After-saturating_sub P (record { valid = is.valid; bytes = sym c.self.view_is ∙ is.bytes }) in
     omega (arith, at.factor, is.valid.factor_low)
 
-pub returns-in_default-layout_for-clause-capacity : goal.returns-in_default-layout_for-clause-capacity
-returns-in_default-layout_for-clause-capacity g c P is =
-    let after = (goal.at.returns-in_default-layout_for-clause-capacity g c).After-saturating_sub in
+pub returns-in_default-layout_for-clause-in_table : goal.returns-in_default-layout_for-clause-in_table
+returns-in_default-layout_for-clause-in_table g c P is =
+    let after = (goal.at.returns-in_default-layout_for-clause-in_table g c).After-saturating_sub in
     let at = read g after P is in
     let wanted : c.in-Some.wanted ≡ count P + c.args.additional = omega (arith, c.in-Some.ensures.1, at.items) in
     let large : IsTooLarge (format g) c.in-Some.wanted c.max_load_factor-factor.result.0 = c.in_default-layout_for.ensures.none.0 refl in
-    (λ e. (lacks g after P is c.if-additional-saturating_sub.false, subst (λ n. IsTooLarge (format g) n P.factor) wanted (subst (IsTooLarge (format g) c.in-Some.wanted) at.factor large)), λ h. refl)
-
-pub returns-in_default-layout_for-clause-lacking : goal.returns-in_default-layout_for-clause-lacking
-returns-in_default-layout_for-clause-lacking g c P is =
-    lacks g (goal.at.returns-in_default-layout_for-clause-lacking g c).After-saturating_sub P is c.if-additional-saturating_sub.false
+    let few = lacks g after P is c.if-additional-saturating_sub.false in
+    record {
+      ok = tt;
+      capacity = (λ e. (few, subst (λ n. IsTooLarge (format g) n P.factor) wanted (subst (IsTooLarge (format g) c.in-Some.wanted) at.factor large)), λ h. refl);
+      lacking = few;
+    }
 
 -- the layout is that for as many items as P has and so many more
 layout : (g : Over) (c : After-saturating_sub g) (P : Table) → IsImage (format g) P c.args.self.now → (n s len : ℕ) → n ≡ c.item_count-item_count.result + c.args.additional
@@ -88,27 +85,27 @@ layout g c P is n s len sum there =
     let wanted : n ≡ count P + c.args.additional = omega (arith, sum, at.items) in
     subst (λ m. IsLayout (format g) m P.factor s len) wanted (subst (λ f. IsLayout (format g) n f s len) at.factor there)
 
-pub returns-in_default-moved-clause-capacity : goal.returns-in_default-moved-clause-capacity
-returns-in_default-moved-clause-capacity g c P is =
-    let there = layout g (goal.at.returns-in_default-moved-clause-capacity g c).After-saturating_sub P is c.in-Some.wanted c.in-Some-layout_for.slot_count c.in-Some-layout_for.len c.in-Some.ensures.1 c.in-Some-layout_for.ensures.some in
-    (λ e. absurd (not_both _ e refl), λ h. absurd (omega (arith, h.1 c.in-Some-layout_for.slot_count there.slots, there.long, there.fits)))
+pub returns-in_default-moved-clause-in_table : goal.returns-in_default-moved-clause-in_table
+returns-in_default-moved-clause-in_table g c P is =
+    let after = (goal.at.returns-in_default-moved-clause-in_table g c).After-saturating_sub in
+    let there = layout g after P is c.in-Some.wanted c.in-Some-layout_for.slot_count c.in-Some-layout_for.len c.in-Some.ensures.1 c.in-Some-layout_for.ensures.some in
+    record {
+      ok = tt;
+      capacity = (λ e. absurd (not_both _ e refl), λ h. absurd (omega (arith, h.1 c.in-Some-layout_for.slot_count there.slots, there.long, there.fits)));
+      lacking = lacks g after P is c.if-additional-saturating_sub.false;
+    }
 
-pub returns-in_default-moved-clause-lacking : goal.returns-in_default-moved-clause-lacking
-returns-in_default-moved-clause-lacking g c P is =
-    lacks g (goal.at.returns-in_default-moved-clause-lacking g c).After-saturating_sub P is c.if-additional-saturating_sub.false
-
-pub returns-clause-ok : goal.returns-clause-ok
-returns-clause-ok g c P is =
-    let after = (goal.at.returns-clause-ok g c).After-saturating_sub in
+pub returns-clause-in_table : goal.returns-clause-in_table
+returns-clause-in_table g c P is =
+    let after = (goal.at.returns-clause-in_table g c).After-saturating_sub in
     let s = c.in-Some-layout_for.slot_count in
     let there = layout g after P is c.in-Some.wanted s c.in-Some-layout_for.len c.in-Some.ensures.1 c.in-Some-layout_for.ensures.some in
-    let moved = c.in-Ok.ensures.ok P is (reserved-room P c.args.additional s there.slots) in
-    reserved-moves (format g) P is.valid c.args.additional s c.in-Ok.moved (lacks g after P is c.if-additional-saturating_sub.false) there.slots moved
-
-pub returns-clause-capacity : goal.returns-clause-capacity
-returns-clause-capacity g c P is =
-    let there = layout g (goal.at.returns-clause-capacity g c).After-saturating_sub P is c.in-Some.wanted c.in-Some-layout_for.slot_count c.in-Some-layout_for.len c.in-Some.ensures.1 c.in-Some-layout_for.ensures.some in
-    (λ e. absurd (not_ok _ refl e), λ h. absurd (omega (arith, h.1 c.in-Some-layout_for.slot_count there.slots, there.long, there.fits)))
+    let moved = c.in-Ok.ensures.ok.on_valid P is (reserved-room P c.args.additional s there.slots) in
+    record {
+      ok = reserved-moves (format g) P is.valid c.args.additional s c.in-Ok.moved (lacks g after P is c.if-additional-saturating_sub.false) there.slots moved;
+      capacity = (λ e. absurd (not_ok _ refl e), λ h. absurd (omega (arith, h.1 s there.slots, there.long, there.fits)));
+      lacking = tt;
+    }
 
 pub invariant_of-self : goal.invariant_of-self
 invariant_of-self g c =
@@ -116,5 +113,5 @@ invariant_of-self g c =
     let is : IsImage (format g) P c.args.self.now = record { valid = c.self.invariant.1.valid; bytes = sym c.self.view_is ∙ c.self.invariant.1.bytes } in
     let s = c.in-Some-layout_for.slot_count in
     let there = layout g (goal.at.invariant_of-self g c).After-saturating_sub P is c.in-Some.wanted s c.in-Some-layout_for.len c.in-Some.ensures.1 c.in-Some-layout_for.ensures.some in
-    let moved = c.in-Ok.ensures.ok P is (reserved-room P c.args.additional s there.slots) in
+    let moved = c.in-Ok.ensures.ok.on_valid P is (reserved-room P c.args.additional s there.slots) in
     (moved.0, moved.2)

@@ -1,7 +1,8 @@
-use Rattle.std.proofs.Common.{◌++◌, map, filter_map, ◌∙◌, ◌≡◌, Some, sym, ap, subst, arith}
+use Rattle.std.proofs.Common.{◌++◌, map, filter_map, ◌∙◌, ◌≡◌, ◌≤◌, Some, sym, ap, subst, arith}
 use Rattle.odht_base.specs.Format.{Format, format_of}
 use Rattle.odht_base.specs.Image.{header_bytes, parts}
 use Rattle.odht_base.specs.Insert.{place_all}
+use Rattle.odht_base.specs.Load.{max_items}
 use Rattle.odht_base.specs.Map.{KeysApart}
 use Rattle.odht_base.specs.Decoded.{decoded_cells, header_count, header_factor}
 use Rattle.odht_base.specs.Table.{walk, count, empty}
@@ -12,11 +13,18 @@ use Rattle.odht_raw.proofs.lemmas.Walks.{stored-walk, decoded_pairs-image}
 use Rattle.odht.proofs.lemmas.GrownBytes.{headed_accepted}
 use Rattle.odht.proofs.lemmas.Moves.{moved-fits, moved-image}
 use Rattle.odht.proofs.lemmas.ViewInserts.{count_header, factor_header}
+use Rattle.odht.specs.Reserves.{IsMovedImage}
+use Rattle.odht.specs.Tables.{OfTable}
+use Rattle.odht.proofs.hash_table_owned.reserve.write_moved.Given.{Over}
+use Rattle.odht.proofs.hash_table_owned.reserve.write_moved.Goals.{After-write_walked}
 use Rattle.odht.proofs.hash_table_owned.reserve.write_moved.Goals as goal
 
+abbrev format : Over → Format
+format g = format_of g.C.EncodedKey.ByteArray.LEN g.C.EncodedValue.ByteArray.LEN g.C.H.HashFn.hash
+
 -- the written bytes are those of the pairs in the other slots
-pub returns-clause-on_valid : goal.returns-clause-on_valid
-returns-clause-on_valid g c P is room =
+written : (g : Over) (c : After-write_walked g) → OfTable (format g) (g.D.ByteStore.bytes c.args.table.now) (λ P. count P ≤ max_items c.args.slot_count P.factor → IsMovedImage (format g) P c.args.slot_count c.write_walked.new.bytes)
+written g c P is room =
     let key = g.C.EncodedKey.ByteArray in
     let value = g.C.EncodedValue.ByteArray in
     let F : Format = format_of key.LEN value.LEN g.C.H.HashFn.hash in
@@ -40,8 +48,9 @@ returns-clause-on_valid g c P is room =
     c.write_walked.ensures.placed q.0 apart placed ∙ (λ i. header_bytes F s (items i) (factor i) ++ parts F q.0.cells) in
     moved-image F P is.valid s c.requires.slots room q.0 q.1 c.write_walked.new.bytes bytes
 
-pub returns-clause-accepted : goal.returns-clause-accepted
-returns-clause-accepted g c =
-    let F : Format = format_of g.C.EncodedKey.ByteArray.LEN g.C.EncodedValue.ByteArray.LEN g.C.H.HashFn.hash in
-    headed_accepted F c.write_walked.new.bytes c.args.slot_count c.item_count-item_count.result c.max_load_factor-factor.result.0 c.write_walked.ensures.header
-    c.requires.slots (omega (arith, c.write_walked.auto.bytes, c.requires.len))
+pub returns : goal.returns
+returns g c = record {
+  on_valid = written g (goal.at.returns g c).After-write_walked;
+  accepted = headed_accepted (format g) c.write_walked.new.bytes c.args.slot_count c.item_count-item_count.result c.max_load_factor-factor.result.0 c.write_walked.ensures.header
+      c.requires.slots (omega (arith, c.write_walked.auto.bytes, c.requires.room.len));
+}

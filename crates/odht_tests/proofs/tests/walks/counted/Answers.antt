@@ -7,4 +7,4 @@ use Rattle.odht_tests.proofs.tests.walks.counted.Goals as goal
 pub returns : goal.returns
 returns g c P is =
     let ran = c.count.ensures.ran in
-    ran.2 ∙ ap length (drained _ ran.0 (ran.1.1.0, ran.1.1.1, λ w. (ran.1.0, ran.1.1.2)) (tt {0})) ∙ ap length (c.iter.ensures.pairs P is) ∙ length-map (walk P) _
+    ran.2 ∙ ap length (drained _ ran.0 (ran.1.1.0, ran.1.1.1, λ w. (ran.1.0, ran.1.1.2)) (tt {0})) ∙ ap length (c.iter.ensures.pairs.on_valid P is) ∙ length-map (walk P) _

@@ -1,0 +1,67 @@
+-- Worked examples: how long new tables are, why there is none, and what is written into their bytes. A slot of
+-- number_coding takes thirteen bytes.
+use Rattle.std.proofs.Common.{◌≡◌, ◌^◌, ℕ, refl, arith, replicate, get_or, [], ◌∷◌, Some, None, Ok, Err, inl, inr}
+use Rattle.odht_base.specs.Load.{factor_of, slots_for}
+use Rattle.odht_base.proofs.examples.Configs.{my_config, pair64}
+use Rattle.odht_base.proofs.lemmas.FreeSlots.{map_of-empty}
+use Rattle.odht_header.specs.declared.error.Error.TheVariants.{Capacity, InitLength, Memory, TooShort}
+use Rattle.odht_header.specs.Refusals.{new_refusal}
+use Rattle.odht_header.proofs.examples.Opened.{opened}
+use Rattle.odht.specs.Growths.{IsRoomFor, IsPlacing}
+use Rattle.odht.specs.NewTables.{new_len, init_refusal, IsEmptyFor, IsCapacityOrMemory, FailsAsNew, FailsBy}
+use Rattle.odht.proofs.examples.SmallTables.{number_coding, no_pairs, one_pair, bytes_of, no_pairs_image}
+
+-- sixteen slots for thirteen items, 32 for fourteen, and none for 2^63
+pub lengths : (new_len number_coding 13 87 ≡ Some 256) × (new_len number_coding 14 87 ≡ Some 464) × (new_len number_coding (2 ^ 63) 87 ≡ None)
+unfolding opened slots_for
+lengths = (refl, refl, refl)
+
+-- so many bytes, one more, and any for 2^63 items
+pub refusals : (init_refusal number_coding 13 87 (replicate 256 0) ≡ None) × (init_refusal number_coding 13 87 (replicate 257 0) ≡ Some (InitLength 257 256))
+    × (init_refusal number_coding (2 ^ 63) 87 (replicate 256 0) ≡ Some Capacity)
+unfolding opened slots_for new_refusal
+refusals = (refl, refl, refl)
+
+-- the empty table
+pub empty_for : IsEmptyFor number_coding 13 (factor_of 87) (bytes_of no_pairs)
+unfolding opened slots_for
+empty_for = (16, refl, no_pairs_image)
+
+-- ---- errors
+pub either_error : IsCapacityOrMemory {T = ℕ} (Err Capacity) × IsCapacityOrMemory {T = ℕ} (Err Memory)
+either_error = (inl refl, inr refl)
+
+pub no_other : IsCapacityOrMemory {T = ℕ} (Err (TooShort 1)) → ⊥
+no_other (inl e) = absurd cc
+no_other (inr e) = absurd cc
+
+-- thirteen items are not too many, but there may be no memory
+pub no_memory : FailsAsNew {T = ℕ} number_coding 13 (factor_of 87) (Err Memory)
+unfolding opened slots_for
+no_memory = record { capacity = (λ e. absurd cc, λ large. absurd (let long = large 16 refl in omega (arith, long))); memory = inr refl }
+
+pub not_large : FailsAsNew {T = ℕ} number_coding 13 (factor_of 87) (Err Capacity) → ⊥
+unfolding opened slots_for
+not_large h = let long = h.capacity.0 refl 16 refl in omega (arith, long)
+
+-- the error of a check comes, and no other; without one there is `Memory` alone
+pub checked : FailsBy {T = ℕ} (Some (TooShort 1)) (Err (TooShort 1)) × FailsBy {T = ℕ} None (Err Memory)
+checked = (record { refused = λ e is. cc; memory = λ none. absurd cc }, record { refused = λ e is. absurd cc; memory = λ none. refl })
+
+pub not_checked : (FailsBy {T = ℕ} (Some (TooShort 1)) (Err Memory) → ⊥) × (FailsBy {T = ℕ} None (Err Capacity) → ⊥)
+not_checked = (λ h. let is = h.refused (TooShort 1) refl in cc, λ h. let is = h.memory refl in cc)
+
+-- ---- room for the slots, and placing
+-- 256 zeros have room for sixteen slots, and 255 have not
+pub zeros : IsRoomFor number_coding 16 (replicate 256 0) × (IsRoomFor number_coding 16 (replicate 255 0) → ⊥)
+unfolding opened
+zeros = (record { len = refl; zeros = refl }, λ h. let long : 255 ≡ 256 = h.len in omega (arith, long))
+
+-- the pair 1 to 2 goes to slot 5, and not twice
+pub placed : IsPlacing my_config no_pairs (pair64 1 2 ∷ []) (one_pair 2)
+unfolding opened
+placed = record { apart = (refl, tt); new = λ i d low. map_of-empty 16 (factor_of 87) (get_or (pair64 1 2 ∷ []) i d).key; placed = refl }
+
+pub placed_twice : IsPlacing my_config no_pairs (pair64 1 2 ∷ pair64 1 3 ∷ []) (one_pair 3) → ⊥
+unfolding opened
+placed_twice h = let one = h.apart.0 in cc
