@@ -26,10 +26,13 @@ use crate::memory_layout::{
     HEADER_SIZE, Header, check_by_header, check_opening, check_sized, check_sized_within,
     sized_parts,
 };
+pub use crate::raw_table::ShortBytes;
 use crate::raw_table::{SizedIter, SizedSlots, SizedTable};
 use std::marker::{Model, PhantomData};
 
-/// Why bytes are not opened as a table whose lengths are known at run time alone.
+mod inserts;
+
+/// Why bytes are not opened as a table whose lengths are known at run time alone, or such a table takes no pair.
 #[derive(Debug, PartialEq, Eq, Drop)]
 pub enum DynError {
     /// The keys are shorter than the hash function needs.
@@ -38,6 +41,20 @@ pub enum DynError {
         key_len: u8,
         /// How many bytes the hash function needs at least.
         least: usize,
+    },
+    /// The key has another length than the keys of the table.
+    WrongKeyLength {
+        /// The length of a key of the table, in bytes.
+        expected: u8,
+        /// The length of the key, in bytes.
+        found: usize,
+    },
+    /// The value has another length than the values of the table.
+    WrongValueLength {
+        /// The length of a value of the table, in bytes.
+        expected: u8,
+        /// The length of the value, in bytes.
+        found: usize,
     },
     /// The error of a table of a configuration with these lengths.
     Rejected(Error),

@@ -8,6 +8,7 @@ mod new_tables;
 mod prefix;
 mod sized;
 mod sized_check;
+mod sized_inserts;
 
 pub use crate::raw_table::{Entries, EntryMetadata};
 pub use allocation::Allocation;
@@ -18,3 +19,4 @@ pub use odht_header::sizes::{bytes_needed, entry_at, layout_for};
 pub use prefix::table_len;
 pub use sized::{check_by_header, check_opening, sized_parts};
 pub use sized_check::{check_sized, check_sized_within};
+pub use sized_inserts::insert_sized;

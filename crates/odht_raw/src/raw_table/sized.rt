@@ -11,6 +11,7 @@ ghost use Rattle.odht_header.specs.Refusals.{checked, hashes_refusal, hashes_ref
 ghost use Rattle.odht_raw.specs.Checks.{cells_of, IsSlotHash};
 ghost use Rattle.odht_raw.specs.Finds.{IsFind, IsCountedFind};
 ghost use Rattle.odht_raw.specs.Parts.{entry_format};
+ghost use Rattle.odht_raw.specs.Searches.{IsSearchEnd};
 ghost use Rattle.odht_raw.specs.Sized.{HasLengthsOf, sized_format, sized_parts, IsSized};
 
 use super::group_search::search_keys;
@@ -273,6 +274,19 @@ impl<'a, H: HashFn> SizedTable<'a, H> {
             Search::Free(_) => (None, groups),
             Search::Neither => (None, groups),
         }
+    }
+
+    // Where the search for a key ends whose hash is known, for a key that is inserted.
+    #[inline(always)]
+    pub(super) fn search_end(&self, key: &[u8], hash: u32) -> Search
+        requires key { length key.now ≡ self.now.key_len }
+        requires hash { hash ≡ H.hash key.now }
+        ensures { let F = sized_format self.now H.hash
+            in IsSearchEnd F self.now.parts.entries self.now.parts.control key.now result }
+    {
+        let mut scan = Scan::new(self.controls(), self.len());
+        let sought = SoughtBytes { bytes: key };
+        search_keys::<SizedTable<'_, H>, H, GroupQuery>(&mut scan, &*self, &sought, hash)
     }
 
     /// Checks the first `slots_to_check` slots, or all where there are fewer, and returns the first error:
