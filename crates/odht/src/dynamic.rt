@@ -30,7 +30,9 @@ pub use crate::raw_table::ShortBytes;
 use crate::raw_table::{SizedIter, SizedSlots, SizedTable};
 use std::marker::{Model, PhantomData};
 
+mod growth;
 mod inserts;
+mod new_tables;
 
 /// Why bytes are not opened as a table whose lengths are known at run time alone, or such a table takes no pair.
 #[derive(Debug, PartialEq, Eq, Drop)]
