@@ -12,14 +12,15 @@ ghost use Rattle.odht_raw.specs.SearchResults.{answer};
 ghost use Rattle.odht_raw.specs.Searches.{IsSearchEnd};
 ghost use Rattle.odht_raw.specs.Steps.{IsStepWhere, IsTaggedEnd};
 
-use super::{EntryMetadata, Search, ShortBytes, SizedTable, tag_of};
+use super::{EntryMetadata, Search, ShortBytes, SizedTable};
 use crate::bytes::write_slice;
 use crate::error::Error;
 use crate::hash::HashFn;
 use crate::layout::Layout;
 use crate::swisstable_group_query::REFERENCE_GROUP_SIZE;
 
-/// Where the search for a key that is inserted ends, and the key's tag.
+/// Where the search for a key that is inserted ends, and the key's tag. Keys of some lengths have a copy of the search
+/// each, as in [`SizedTable::find_counted`].
 #[inline(always)]
 pub(crate) fn sized_step_end<H: HashFn>(
     control: &[EntryMetadata],
@@ -37,8 +38,14 @@ pub(crate) fn sized_step_end<H: HashFn>(
 {
     let slots = control.len() - REFERENCE_GROUP_SIZE;
     let table: SizedTable<'_, H> = SizedTable::new(control, entries, slots, layout);
-    let hash = H::hash(key);
-    (table.search_end(key, hash), tag_of(hash))
+    match key.len() {
+        4 => table.search_end(&key[..4]),
+        8 => table.search_end(&key[..8]),
+        16 => table.search_end(&key[..16]),
+        20 => table.search_end(&key[..20]),
+        32 => table.search_end(&key[..32]),
+        _ => table.search_end(key),
+    }
 }
 
 /// Writes a pair where the search for its key ended, which comes with the key's tag: the value alone into the slot
