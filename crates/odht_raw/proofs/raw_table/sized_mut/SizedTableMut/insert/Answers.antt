@@ -1,4 +1,4 @@
-use Rattle.std.proofs.Common.{ℕ, List, ◌<◌, ◌≤◌, ◌-◌, arith, refl, length}
+use Rattle.std.proofs.Common.{ℕ, List, ◌<◌, ◌-◌, arith, refl, length}
 use Rattle.odht_base.specs.Format.{Format, format_of}
 use Rattle.odht_base.specs.Table.{Pair, Table}
 use Rattle.odht_base.specs.Valid.{IsPartsOf}

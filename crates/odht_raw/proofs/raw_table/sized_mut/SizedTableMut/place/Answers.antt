@@ -1,4 +1,4 @@
-use Rattle.std.proofs.Common.{arith, ◌-◌, ◌/◌, ◌^◌, ◌≤◌, ◌≡◌, ◌∙◌, ℕ, sym, ap, subst, refl, length, Ok, Err}
+use Rattle.std.proofs.Common.{arith, ◌-◌, ◌/◌, ◌^◌, ◌≡◌, ◌∙◌, ℕ, sym, ap, subst, refl, length, Ok, Err}
 use Rattle.std.proofs.lemmas.Option.{none-some}
 use Rattle.odht_base.specs.Format.{Format, format_of, tag as key_tag}
 use Rattle.odht_base.specs.Table.{Pair, Table}
