@@ -1,4 +1,4 @@
-use Rattle.std.proofs.Common.{rules, refl, List, ◌∷◌, All, ◌∙◌, ◌≡◌, sym, ap, subst, Some, length}
+use Rattle.std.proofs.Common.{rules, refl, List, ◌∷◌, All, ◌∙◌, ◌≡◌, sym, ap, subst, Some}
 use Rattle.std.proofs.lemmas.List.Elements.{All-head, All-tail}
 use Rattle.odht_base.specs.Format.{Format, format_of}
 use Rattle.odht_base.specs.Insert.{place_all}
