@@ -157,6 +157,28 @@ impl<H: HashFn, D: ByteStore> DynTable<H, D> {
         }
     }
 
+    /// Takes the bytes as those of a table of these lengths, without a check: the caller knows that their header and
+    /// length fit, and that keys are long enough for the hash function.
+    #[inline]
+    pub fn open_unchecked(layout: Layout, data: D) -> Self
+        requires accepted { IsAccepted (format_of layout.key_len layout.value_len H.hash)
+            (D.bytes «data») }
+        requires hashes { H.MIN_LEN ≤ layout.key_len }
+        ensures { result ≡ record {
+          key_len = layout.key_len;
+          value_len = layout.value_len;
+          store = «data»;
+        } }
+    {
+        // A slice's length is below 2^64, so that of the store's bytes is too.
+        let _ = data.bytes();
+        DynTable {
+            store: data,
+            layout,
+            hash: PhantomData,
+        }
+    }
+
     /// The lengths of keys and values.
     #[inline]
     pub fn layout(&self) -> Layout

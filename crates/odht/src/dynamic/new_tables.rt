@@ -46,7 +46,7 @@ impl<H: HashFn, D: ByteStoreMut> DynTable<H, D> {
     ///
     /// `KeyTooShort` where the hash function needs longer keys; then `Rejected` with `Capacity` or `InitLength`, as
     /// [`HashTable::init_store`](crate::hash_table::HashTable::init_store) returns them. An error leaves the store as it
-    /// was. Where there is none, [`DynTable::open`] opens the store. One pass over the bytes.
+    /// was. Where there is none, [`DynTable::open_unchecked`] accepts the store. One pass over the bytes.
     pub fn init_store(
         layout: Layout,
         store: &mut D,
