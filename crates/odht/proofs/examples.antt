@@ -13,3 +13,5 @@ pub mod Rebuilds
 pub mod RoomForMore
 -- tables that are the same map
 pub mod SameMaps
+-- what is rejected, and what an insert returns, where lengths are known at run time alone
+pub mod DynInserts
