@@ -1,5 +1,5 @@
 -- Worked examples: what is rejected, and what an insert returns, where lengths are known at run time alone.
-use Rattle.std.proofs.Common.{◌≡◌, ◌∙◌, ℕ, List, [], refl, Option, Some, Result, Ok, Err, sym}
+use Rattle.std.proofs.Common.{◌≡◌, ℕ, List, refl, Option, Some, Result, Ok, Err}
 use Rattle.std.specs.Prelude.{option_map, OnErr}
 use Rattle.std.specs.Result.{result_map_both}
 use Rattle.odht_base.specs.Format.{format_of}
@@ -12,7 +12,6 @@ use Rattle.odht.specs.Dynamic.{dyn_refusal, dyn_new_refusal}
 use Rattle.odht.specs.DynInserts.{IsDynInsert}
 use Rattle.odht.specs.Inserts.{IsInsertInto}
 use Rattle.odht.specs.Tables.{OfTable}
-use Rattle.odht.specs.declared.dynamic.DynError.{DynError}
 use Rattle.odht.specs.declared.dynamic.DynError.TheVariants.{KeyTooShort, WrongKeyLength, Rejected}
 
 -- ---- keys of three bytes, where the hash function needs four: before all other errors
